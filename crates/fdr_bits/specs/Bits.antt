@@ -1,0 +1,15 @@
+-- Bits and 12-bit words of a byte list. In a byte, and in a word, the least significant bit comes first.
+use Rattle.std.specs.Prelude.{ℕ, ◌+◌, ◌*◌, ◌/◌, ◌%◌, ◌^◌, List, length, slice_index, sum_by}
+use Rattle.std.specs.List.{range_with_len}
+
+-- how many bits the bytes have
+abbrev pub bits_in : List ℕ → ℕ
+bits_in b = 8 * length b
+
+-- bit p, 0 or 1: bit 0 is the least significant of the first byte
+unfoldable pub bit_at : List ℕ → ℕ → ℕ
+bit_at b p = slice_index b (p / 8) / 2 ^ (p % 8) % 2
+
+-- the word of 12 bits that begins at bit p, its least significant bit first
+unfoldable pub word_at : List ℕ → ℕ → ℕ
+word_at b p = sum_by (λ j. bit_at b (p + j) * 2 ^ j) (range_with_len 0 12)

@@ -1,0 +1,2 @@
+pub mod WordCount
+pub mod Slots

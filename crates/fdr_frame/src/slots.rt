@@ -1,0 +1,50 @@
+//! The place of a word slot within its frame.
+
+ghost use Rattle.std.specs.Prelude.{◌≡◌, ◌%◌};
+ghost use Rattle.fdr_frame.specs.WordCount.{IsWordCount};
+ghost use Rattle.fdr_frame.specs.Slots.{frame_of, subframe_of, word_of, kind_of};
+
+use crate::SlotKind;
+
+/// What stands in word slot `k`, where the frame counter has word `cword` of subframe `csub`.
+#[tactic(auto, using(crate::proofs::WordCounts::word_count_bounds))]
+pub fn slot_kind(k: u64, words: u32, cword: u32, csub: u8) -> SlotKind
+    requires { IsWordCount words }
+    ensures { result ≡ kind_of words cword csub k }
+{
+    let word = word_of(k, words);
+    if word == 1 {
+        SlotKind::Sync
+    } else if subframe_of(k, words) == csub && word == cword {
+        SlotKind::Counter
+    } else {
+        SlotKind::Plain
+    }
+}
+
+/// The frame counter of the frame that word slot `k` is in: the frame's number modulo 4096.
+#[tactic(auto, using(crate::proofs::WordCounts::word_count_bounds))]
+pub fn counter_of(k: u64, words: u32) -> u16
+    requires { IsWordCount words }
+    ensures { result ≡ frame_of words k % 4096 }
+{
+    (k / (4 * u64::from(words)) % 4096) as u16
+}
+
+/// The subframe of word slot `k`, from 1 to 4.
+#[tactic(auto, using(crate::proofs::WordCounts::word_count_bounds))]
+pub fn subframe_of(k: u64, words: u32) -> u8
+    requires { IsWordCount words }
+    ensures { result ≡ subframe_of words k }
+{
+    (k / u64::from(words) % 4) as u8 + 1
+}
+
+/// The word of word slot `k` within its subframe, from 1 to `words`.
+#[tactic(auto, using(crate::proofs::WordCounts::word_count_bounds))]
+pub fn word_of(k: u64, words: u32) -> u32
+    requires { IsWordCount words }
+    ensures { result ≡ word_of words k }
+{
+    (k % u64::from(words)) as u32 + 1
+}

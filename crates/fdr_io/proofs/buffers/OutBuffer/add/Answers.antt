@@ -1,0 +1,18 @@
+use Rattle.std.proofs.Common.{◌+◌, ◌++◌, take, length, ap, ◌∙◌}
+use Rattle.std.proofs.lemmas.List.{append-nil}
+use Rattle.std.proofs.lemmas.Result.{on_err_weaker, on_ok_weaker}
+use Rattle.fdr_io.specs.Told.{followed_by}
+use Rattle.fdr_io.proofs.Telling.{followed_by-append-take, followed_by-followed_by}
+use Rattle.fdr_io.proofs.buffers.OutBuffer.add.Goals as goal
+
+pub returns-then-bytes-gt-CAPACITY-clause-part : goal.returns-then-bytes-gt-CAPACITY-clause-part
+returns-then-bytes-gt-CAPACITY-clause-part g c =
+    on_err_weaker c.write_whole.result
+    (λ sent. (length c.args.self.now + sent.0, sent.1 ∙ ap (λ told. followed_by told (take sent.0 c.args.bytes.now)) c.in_ok-finish.ensures.all ∙ followed_by-append-take _ c.args.self.now c.args.bytes.now sent.0))
+    c.write_whole.ensures.part
+
+pub returns-then-bytes-gt-CAPACITY-clause-all : goal.returns-then-bytes-gt-CAPACITY-clause-all
+returns-then-bytes-gt-CAPACITY-clause-all g c =
+    on_ok_weaker c.write_whole.result
+    (λ sent. (c.args.self.now ++ c.args.bytes.now, sent ∙ ap (λ told. followed_by told c.args.bytes.now) c.in_ok-finish.ensures.all ∙ followed_by-followed_by _ c.args.self.now c.args.bytes.now, rw c.finish.ensures.empty (append-nil _)))
+    c.write_whole.ensures.whole

@@ -1,0 +1,29 @@
+//! Sources and sinks of bytes. Each counts its faults, and answers `Failed` only where that count
+//! rose. What stands on this crate is proved for every source and every sink, and its text is
+//! proved byte for byte over those that tell their bytes.
+#![tactic(auto)]
+
+mod buffers;
+mod failing;
+mod sinks;
+mod sources;
+#[cfg(test)]
+mod tests;
+
+pub use buffers::OutBuffer;
+pub use failing::FailingCalls;
+pub use sinks::{MemSink, NullSink, Sink, write_whole};
+pub use sources::{MemSource, Source, SureSource, copy_next};
+
+/// A read, a write or another call of the outside failed. The object's count of faults rose.
+#[derive(Clone, Copy, Debug, PartialEq, Eq)]
+pub struct Failed;
+
+/// The input that a fault of reading is about.
+#[derive(Clone, Copy, Debug, PartialEq, Eq)]
+pub enum Input {
+    /// The table of parameters.
+    Table,
+    /// The line from the aircraft: a trace, or the bits of a recording.
+    Line,
+}
