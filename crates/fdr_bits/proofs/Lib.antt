@@ -1,2 +1,4 @@
 pub mod WordLemmas
 pub mod PairLemmas
+pub mod FieldLemmas
+pub mod AppendLemmas

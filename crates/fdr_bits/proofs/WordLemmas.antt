@@ -114,3 +114,8 @@ word_at_below b p = rw word_at_is_value (bits_value-below (λ j. bit_at b (p + j
 -- bit j of a word is bit p + j of the list
 pub word_at_bit : (b : List ℕ) (p j : ℕ) → j < 12 → word_at b p / 2 ^ j % 2 ≡ bit_at b (p + j)
 word_at_bit b p j h = rw word_at_is_value (bits_value-bit (λ i. bit_at b (p + i)) (λ i. bit_at_below b (p + i)) 12 j h)
+
+-- words with the same bits are equal
+pub word_at_same : (b c : List ℕ) (p q : ℕ) → ((j : ℕ) → j < 12 → bit_at b (p + j) ≡ bit_at c (q + j)) → word_at b p ≡ word_at c q
+unfolding word_at
+word_at_same b c p q same = sum_agree (λ j. bit_at b (p + j) * 2 ^ j) (λ j. bit_at c (q + j) * 2 ^ j) 12 (λ j few. ap (λ x. x * 2 ^ j) (same j few))

@@ -13,7 +13,7 @@ pub fn bit(bytes: &[u8], p: u64) -> bool
     requires { p < bits_in bytes.now }
     ensures { IsTrue result ↔ (bit_at bytes.now p ≡ 1) }
 {
-    bytes[(p / 8) as usize] >> (p % 8) & 1 == 1
+    (bytes[(p / 8) as usize] >> (p % 8)) & 1 == 1
 }
 
 /// The word of 12 bits that begins at bit `p`, its least significant bit first.
@@ -27,7 +27,7 @@ pub fn word12(bytes: &[u8], p: u64) -> u16
     // Of the 12 bits some are in a third byte only where the word begins late in the first.
     let third = bytes.get(first + 2).copied().unwrap_or(0);
     let window = u32::from_le_bytes([bytes[first], bytes[first + 1], third, 0]);
-    (window >> (p % 8) & 0xfff) as u16
+    ((window >> (p % 8)) & 0xfff) as u16
 }
 
 /// The number in the `width` bits of a 12-bit word from bit `lsb` on, where bit 1 is the least significant.
@@ -39,7 +39,26 @@ pub fn get_bits(word: u16, lsb: u8, width: u8) -> u16
     ensures value { result ≡ field_of word (lsb - 1) width }
     ensures fits { result < 2 ^ width }
 {
-    word >> (lsb - 1) & ((1 << width) - 1)
+    (word >> (lsb - 1)) & ((1 << width) - 1)
+}
+
+/// The 12-bit word with `v` in its `width` bits from bit `lsb` on, and all its other bits kept. Bit 1 is the least
+/// significant.
+pub fn put_bits(word: u16, lsb: u8, width: u8, v: u16) -> u16
+    requires twelve_bits { word < 4096 }
+    requires from_first { 1 ≤ lsb }
+    requires some { 1 ≤ width }
+    requires within { lsb + width ≤ 13 }
+    requires fits { v < 2 ^ width }
+    ensures value { result ≡ with_field word (lsb - 1) width v }
+    ensures still_twelve_bits { result < 4096 }
+    ensures written { field_of result (lsb - 1) width ≡ v }
+    ensures kept_below { result % 2 ^ (lsb - 1) ≡ word % 2 ^ (lsb - 1) }
+    ensures kept_above { result / 2 ^ (lsb - 1 + width) ≡ word / 2 ^ (lsb - 1 + width) }
+{
+    let shift = lsb - 1;
+    let mask = (1 << (shift + width)) - (1 << shift);
+    (word & !mask) | (v << shift)
 }
 
 /// The three bytes of two 12-bit words, each with its least significant bit first.
@@ -52,7 +71,40 @@ pub fn pack_pair(a: u16, b: u16) -> [u8; 3]
 {
     [
         (a & 0xff) as u8,
-        (a >> 8 | (b & 0xf) << 4) as u8,
+        ((a >> 8) | ((b & 0xf) << 4)) as u8,
         (b >> 4) as u8,
     ]
+}
+
+#[cfg(test)]
+mod tests {
+    use super::*;
+
+    #[test]
+    fn packs_and_reads_words(rt: HostRuntime) {
+        let bytes = pack_pair(0x247, 0x123);
+        assert_eq!(rt; bytes, [0x47, 0x32, 0x12]);
+        assert_eq!(rt; word12(&bytes, 0), 0x247);
+        assert_eq!(rt; word12(&bytes, 12), 0x123);
+        assert_eq!(rt; word12(&bytes, 5), 0x192);
+        for (p, is_set) in [
+            (0, true),
+            (3, false),
+            (6, true),
+            (9, true),
+            (20, true),
+            (23, false),
+        ] {
+            assert_eq!(rt; bit(&bytes, p), is_set, "bit {p}");
+        }
+    }
+
+    #[test]
+    fn writes_and_reads_fields(rt: HostRuntime) {
+        assert_eq!(rt; put_bits(0xfff, 5, 4, 0x3), 0xf3f);
+        assert_eq!(rt; put_bits(0x000, 12, 1, 1), 0x800);
+        assert_eq!(rt; put_bits(0x123, 1, 12, 0xabc), 0xabc);
+        assert_eq!(rt; get_bits(0xf3f, 5, 4), 0x3);
+        assert_eq!(rt; get_bits(0xabc, 9, 4), 0xa);
+    }
 }

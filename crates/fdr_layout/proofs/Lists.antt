@@ -1,0 +1,100 @@
+-- One more element: of a range, a filter, a search, an enumeration.
+use Rattle.std.proofs.Common.{◌≡◌, ℕ, ◌+◌, ◌<◌, Bool, true, false, cond, List, [], ◌∷◌, ◌++◌, Option, Some, None, length, get_or, take, map, refl, subst, zero-add, lit≤, ◌≤◌, sym, ap, ◌∙◌, zero, suc, add-one, arith}
+use Rattle.std.specs.Option.{option_to_list}
+use Rattle.std.specs.List.{range_with_len, flat_map, filter_map, cons_option, find, enumerate_from, All, slice_get}
+use Rattle.std.proofs.lemmas.List.{take_more, append-nil, length-map, get_or-map, length-take-le}
+use Rattle.std.proofs.lemmas.List.FromFn.{map-range_with_len_more, length-map-range_with_len, get_or-map-range_with_len}
+use Rattle.std.proofs.lemmas.Option.{slice_get-get_or}
+use Rattle.std.proofs.lemmas.List.Concat.{flat_map-append}
+use Rattle.std.proofs.lemmas.List.Elements.{filter_map-append}
+
+range_suc : (a n : ℕ) → range_with_len a (suc n) ≡ range_with_len a n ++ (a + n) ∷ []
+range_suc a zero = ap (λ x. x ∷ []) (omega arith)
+range_suc a (suc n) =
+    let e : a + 1 + n ≡ a + suc n = omega arith in
+    ap (λ xs. a ∷ xs) (range_suc (a + 1) n ∙ ap (λ x. range_with_len (a + 1) n ++ x ∷ []) e)
+
+pub range_more : (a n : ℕ) → range_with_len a (n + 1) ≡ range_with_len a n ++ (a + n) ∷ []
+range_more a n = rw add-one (range_suc a n)
+
+pub flat_map-range_more : {A : Type 0} (f : ℕ → List A) (a n j : ℕ) → a + n ≡ j → flat_map f (range_with_len a (n + 1)) ≡ flat_map f (range_with_len a n) ++ f j
+flat_map-range_more f a n j e =
+    ap (flat_map f) (range_more a n) ∙ flat_map-append f (range_with_len a n) ((a + n) ∷ [])
+    ∙ ap (λ xs. flat_map f (range_with_len a n) ++ xs) (append-nil (f (a + n)) ∙ ap f e)
+
+-- a loop's step: it put f j to the end of what it had
+pub flat_map_step : {A : Type 0} (f : ℕ → List A) (old new : List A) (a n m j : ℕ) → old ≡ flat_map f (range_with_len a n) → new ≡ old ++ f j → a + n ≡ j → m ≡ n + 1 → new ≡ flat_map f (range_with_len a m)
+flat_map_step f old new a n m j so_far more e last =
+    more ∙ ap (λ xs. xs ++ f j) so_far ∙ sym (flat_map-range_more f a n j e) ∙ ap (λ k. flat_map f (range_with_len a k)) (sym last)
+
+pub map_step : {A : Type 0} (f : ℕ → A) (old new : List A) (a n m j : ℕ) → old ≡ map f (range_with_len a n) → new ≡ old ++ f j ∷ [] → a + n ≡ j → m ≡ n + 1 → new ≡ map f (range_with_len a m)
+map_step f old new a n m j so_far more e last =
+    more ∙ ap (λ xs. xs ++ f j ∷ []) so_far ∙ sym (map-range_with_len_more f a n j e) ∙ ap (λ k. map f (range_with_len a k)) (sym last)
+
+option_is : {Y : Type 0} (o : Option Y) → cons_option o [] ≡ option_to_list o
+option_is None = refl
+option_is (Some y) = refl
+
+pub filter_map_step : {X Y : Type 0} (h : X → Option Y) (xs : List X) (i : ℕ) (x : X) (old new : List Y) → i < length xs → x ≡ get_or xs i x → old ≡ filter_map h (take i xs) → new ≡ old ++ option_to_list (h x) → new ≡ filter_map h (take (i + 1) xs)
+filter_map_step h xs i x old new l is so_far more =
+    more ∙ ap (λ ys. ys ++ option_to_list (h x)) so_far ∙ ap (λ ys. filter_map h (take i xs) ++ ys) (sym (option_is (h x)))
+    ∙ ap (λ z. filter_map h (take i xs) ++ cons_option (h z) []) is
+    ∙ sym (ap (filter_map h) (take_more xs i x l) ∙ filter_map-append h (take i xs) (get_or xs i x ∷ []))
+
+pub length-option_to_list : {Y : Type 0} (o : Option Y) → length (option_to_list o) ≤ 1
+length-option_to_list None = lit≤ tt
+length-option_to_list (Some y) = lit≤ tt
+
+cond_none : {X : Type 0} (b : Bool) (x : X) (o : Option X) → cond b (Some x) o ≡ None → (b ≡ false) × (o ≡ None)
+cond_none true x o h = absurd (cc)
+cond_none false x o h = (refl, h)
+
+find_push : {X : Type 0} (p : X → Bool) (xs : List X) (y : X) → find p xs ≡ None → p y ≡ false → find p (xs ++ y ∷ []) ≡ None
+find_push p [] y none fails = rw fails refl
+find_push p (x ∷ xs) y none fails = let h = cond_none (p x) x (find p xs) none in rw (h.0) (find_push p xs y h.1 fails)
+
+-- a search that has found nothing so far
+pub find_more : {X : Type 0} (p : X → Bool) (xs : List X) (i : ℕ) (d : X) → i < length xs → find p (take i xs) ≡ None → p (get_or xs i d) ≡ false → find p (take (i + 1) xs) ≡ None
+find_more p xs i d l none fails = ap (find p) (take_more xs i d l) ∙ find_push p (take i xs) (get_or xs i d) none fails
+
+-- and that finds the next element
+pub find_here : {X : Type 0} (p : X → Bool) (xs : List X) (i : ℕ) (d : X) → i < length xs → find p (take i xs) ≡ None → p (get_or xs i d) ≡ true → find p xs ≡ Some (get_or xs i d)
+find_here p [] i d l none holds = absurd (omega arith)
+find_here p (x ∷ xs) zero d l none holds = rw holds refl
+find_here p (x ∷ xs) (suc i) d l none holds =
+    let h = cond_none (p x) x (find p (take i xs)) none in rw (h.0) (find_here p xs i d (omega arith) h.1 holds)
+
+enumerate_from_push : {X : Type 0} (n : ℕ) (xs : List X) (y : X) → enumerate_from n (xs ++ y ∷ []) ≡ enumerate_from n xs ++ (n + length xs, y) ∷ []
+enumerate_from_push n [] y = ap (λ k. (k, y) ∷ []) (omega arith)
+enumerate_from_push n (x ∷ xs) y =
+    let e : n + 1 + length xs ≡ n + suc (length xs) = omega arith in
+    ap (λ t. (n, x) ∷ t) (enumerate_from_push (n + 1) xs y ∙ ap (λ k. enumerate_from (n + 1) xs ++ (k, y) ∷ []) e)
+
+pub enumerate_from_more : {X : Type 0} (xs : List X) (i : ℕ) (d : X) → i < length xs → enumerate_from 0 (take (i + 1) xs) ≡ enumerate_from 0 (take i xs) ++ (i, get_or xs i d) ∷ []
+enumerate_from_more xs i d l =
+    let e : 0 + length (take i xs) ≡ i = omega (arith, length-take-le i xs) in
+    ap (enumerate_from 0) (take_more xs i d l) ∙ enumerate_from_push 0 (take i xs) (get_or xs i d)
+    ∙ ap (λ k. enumerate_from 0 (take i xs) ++ (k, get_or xs i d) ∷ []) e
+
+flat_map-enumerate_from_more : {X A : Type 0} (f : ℕ × X → List A) (xs : List X) (i : ℕ) (d : X) → i < length xs → flat_map f (enumerate_from 0 (take (i + 1) xs)) ≡ flat_map f (enumerate_from 0 (take i xs)) ++ f (i, get_or xs i d)
+flat_map-enumerate_from_more {X} f xs i d l =
+    let e : ℕ × X = (i, get_or xs i d) in
+    ap (flat_map f) (enumerate_from_more xs i d l) ∙ flat_map-append f (enumerate_from 0 (take i xs)) (e ∷ [])
+    ∙ ap (λ t. flat_map f (enumerate_from 0 (take i xs)) ++ t) (append-nil (f e))
+
+pub enumerate_from_step : {X A : Type 0} (f : ℕ × X → List A) (xs : List X) (i : ℕ) (x : X) (old new : List A) → i < length xs → x ≡ get_or xs i x → old ≡ flat_map f (enumerate_from 0 (take i xs)) → new ≡ old ++ f (i, x) → new ≡ flat_map f (enumerate_from 0 (take (i + 1) xs))
+enumerate_from_step f xs i x old new l is so_far more =
+    more ∙ ap (λ ys. ys ++ f (i, x)) so_far ∙ ap (λ z. flat_map f (enumerate_from 0 (take i xs)) ++ f (i, z)) is
+    ∙ sym (flat_map-enumerate_from_more f xs i x l)
+
+-- what holds of each list holds of the one at a place
+pub All_at : {V X : Type 0} (P : X → Type 0) (view : V → X) (xs : List V) (i : ℕ) (v : V) → All P (map view xs) → i < length xs → v ≡ get_or xs i v → P (view v)
+All_at P view xs i v all l is =
+    let within : i < length (map view xs) = rw length-map l in
+    let e : get_or (map view xs) i (view v) ≡ view v = get_or-map view xs i v (view v) l ∙ ap view (sym is) in
+    subst P e (all i (view v) within)
+
+pub slice_get-map-range_with_len : {A : Type 0} (f : ℕ → A) (n i : ℕ) → i < n → slice_get (map f (range_with_len 0 n)) i ≡ Some (f i)
+slice_get-map-range_with_len f n i l =
+    let within : i < length (map f (range_with_len 0 n)) = rw length-map-range_with_len l in
+    slice_get-get_or (map f (range_with_len 0 n)) i (f i) within ∙ ap Some (get_or-map-range_with_len f 0 n i i (f i) l (zero-add i))

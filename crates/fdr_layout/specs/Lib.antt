@@ -1,0 +1,4 @@
+pub mod Samples
+pub mod Ranges
+pub mod Cycles
+pub mod Ending

@@ -1,0 +1,15 @@
+//! Where the samples of a parameter table stand in a superframe, by the cycle in which they end.
+//!
+//! A superframe is 16 frames. A place of the table occurs in some of its word slots and puts some bits there; sample
+//! `i` of a parameter takes the `i`-th occurrence of each of the parameter's parts. A bit of the superframe is counted
+//! from 0 at its start, so that bit `12 k` is the least significant bit of word slot `k`.
+#![tactic(auto)]
+
+mod layout;
+mod memory;
+mod occurrences;
+mod parts;
+mod samples;
+
+pub use layout::Layout;
+pub use parts::{Part, Sample};

@@ -1,0 +1,92 @@
+-- The events of a bit list: its accepted frames, and the gaps, which are the longest stretches of bits outside them.
+use Rattle.std.specs.Prelude.{ℕ, ◌≡◌, ◌+◌, ◌-◌, ◌*◌, ◌<◌, nat_lt, if◌then◌else◌, List, [], ◌∷◌, ◌++◌, Option, Some, None, All}
+use Rattle.std.specs.List.{filter_map}
+use Rattle.fdr_bits.specs.Bits.{bits_in}
+use Rattle.fdr_sync.specs.Accepted.{accepted_from, AreAcceptedFrames}
+
+-- a frame that begins at a bit, or a gap that begins at a bit and has so many bits
+pub data Event : Type 0 where
+  Frame : ℕ → Event
+  Gap : ℕ → ℕ → Event
+
+-- what lies between two places: nothing, or one gap
+abbrev pub gap_between : ℕ → ℕ → List Event
+gap_between low high = if nat_lt low high then Gap low (high - low) ∷ [] else []
+
+-- the frames at these places with the gaps before them, from bit `free` to the end of the last frame
+unfoldable pub frames_and_gaps : ℕ → ℕ → List ℕ → List Event
+frames_and_gaps w free [] = []
+frames_and_gaps w free (a ∷ xs) = gap_between free a ++ Frame a ∷ frames_and_gaps w (a + 48 * w) xs
+
+-- where the last of the frames at these places ends, or `free` where there is none
+unfoldable pub end_of_frames : ℕ → ℕ → List ℕ → ℕ
+end_of_frames w free [] = free
+end_of_frames w free (a ∷ xs) = end_of_frames w (a + 48 * w) xs
+
+-- the events from bit `free` to the end of the last accepted frame
+unfoldable pub decided_from : List ℕ → ℕ → ℕ → List Event
+decided_from b w free = frames_and_gaps w free (accepted_from b w free)
+
+-- all events from bit `free` on
+unfoldable pub events_from : List ℕ → ℕ → ℕ → List Event
+events_from b w free = decided_from b w free ++ gap_between (end_of_frames w free (accepted_from b w free)) (bits_in b)
+
+-- all events
+abbrev pub events_of : List ℕ → ℕ → List Event
+events_of b w = events_from b w 0
+
+-- the events that no further bytes change: all but a last gap that ends where the bytes end
+abbrev pub decided_events : List ℕ → ℕ → List Event
+decided_events b w = decided_from b w 0
+
+-- the place of an event that is a frame
+abbrev pub frame_of_event : Event → Option ℕ
+frame_of_event (Frame a) = Some a
+frame_of_event (Gap a n) = None
+
+-- the place and the number of bits of an event that is a gap
+abbrev pub gap_of_event : Event → Option (ℕ × ℕ)
+gap_of_event (Frame a) = None
+gap_of_event (Gap a n) = Some (a, n)
+
+-- the gaps from bit `free` on, each with its place and its number of bits
+abbrev pub gaps_from : List ℕ → ℕ → ℕ → List (ℕ × ℕ)
+gaps_from b w free = filter_map gap_of_event (events_from b w free)
+
+-- the gaps
+abbrev pub gaps : List ℕ → ℕ → List (ℕ × ℕ)
+gaps b w = gaps_from b w 0
+
+-- how many bits an event has
+abbrev pub event_bits : ℕ → Event → ℕ
+event_bits w (Frame a) = 48 * w
+event_bits w (Gap a n) = n
+
+-- where an event begins
+abbrev pub event_place : Event → ℕ
+event_place (Frame a) = a
+event_place (Gap a n) = a
+
+-- The events follow one another from one place to another without a hole.
+abbrev pub Cover : ℕ → ℕ → ℕ → List Event → Type 0
+Cover w from end [] = from ≡ end
+Cover w from end (e ∷ es) = (event_place e ≡ from) × Cover w (from + event_bits w e) end es
+
+abbrev pub BeginsWithGap : List Event → Type 0
+BeginsWithGap [] = ⊥
+BeginsWithGap (Frame a ∷ es) = ⊥
+BeginsWithGap (Gap a n ∷ es) = Unit {0}
+
+-- no gap is next to another
+abbrev pub NoGapsMeet : List Event → Type 0
+NoGapsMeet [] = Unit {0}
+NoGapsMeet (Frame a ∷ es) = NoGapsMeet es
+NoGapsMeet (Gap a n ∷ es) = (¬ BeginsWithGap es) × NoGapsMeet es
+
+-- The events of a bit list cover it from its first bit to its last, each gap has a bit at least and none is next to
+-- another, and the frames among them are the accepted ones.
+pub record AreEvents (b : List ℕ) (w : ℕ) (es : List Event) : Type 0 where
+  pub cover : Cover w 0 (bits_in b) es
+  pub some : All (λ e. 0 < event_bits w e) es
+  pub apart : NoGapsMeet es
+  pub frames : AreAcceptedFrames b w (filter_map frame_of_event es)

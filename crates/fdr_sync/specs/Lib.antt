@@ -1,0 +1,3 @@
+pub mod Frames
+pub mod Accepted
+pub mod Events

@@ -1,0 +1,54 @@
+-- The faults of a table's rows, in the order of their numbers.
+use Rattle.std.specs.Prelude.{ℕ, ◌+◌, Bool, true, false, ◌&&◌, ◌||◌, not, nat_le, if◌then◌else◌, List, [], ◌∷◌, length, map, filter, take, bytes_eq, slice_index_or, Option, Some, None, option_map}
+use Rattle.std.specs.Option.{option_map_or}
+use Rattle.std.specs.List.{list_any, range_with_len}
+use Rattle.fdr_table.specs.Fields.{is_name}
+use Rattle.fdr_table.specs.Reading.{Row, field, kind_of, is_frame, is_param, is_place, first_some, frame_misread, param_misread, place_misread, misnamed, names_of}
+use Rattle.fdr_table.specs.declared.row.RowKind.{RowKind}
+use Rattle.fdr_table.specs.declared.row.RowKind.TheVariants as kind
+use Rattle.fdr_table.specs.declared.fault.TableFault.{TableFault}
+use Rattle.fdr_table.specs.declared.fault.TableFault.TheVariants as fault
+
+-- the fault, where the fact holds
+abbrev pub where_true : Bool → TableFault → Option TableFault
+where_true b f = if b then Some f else None
+
+abbrev pub has_frame : List Row → Bool
+has_frame rows = list_any (λ (row : Row). is_frame (kind_of row)) rows
+
+abbrev pub has_name : List Row → List ℕ → Bool
+has_name rows name = list_any (λ other. bytes_eq other name) (names_of rows)
+
+abbrev pub param_count : List Row → ℕ
+param_count rows = length (filter (λ (row : Row). is_param (kind_of row)) rows)
+
+abbrev pub place_count : List Row → ℕ
+place_count rows = length (filter (λ (row : Row). is_place (kind_of row)) rows)
+
+-- the fault of a row of each kind below the rows `above`
+abbrev pub kind_fault : List Row → Row → RowKind → Option TableFault
+kind_fault above row kind.Frame = first_some (
+    frame_misread row
+    ∷ where_true (has_frame above) fault.TwoFrames ∷ [])
+kind_fault above row kind.Param = first_some (
+    param_misread row
+    ∷ where_true (not (has_frame above)) fault.NoFrame
+    ∷ misnamed row
+    ∷ where_true (has_name above (field row 1)) fault.Twice
+    ∷ where_true (nat_le 2048 (param_count above)) fault.Size ∷ [])
+kind_fault above row kind.Place = first_some (
+    place_misread row
+    ∷ where_true (not (has_frame above)) fault.NoFrame
+    ∷ where_true (not (has_name above (field row 1))) fault.Unknown
+    ∷ where_true (nat_le 8192 (place_count above)) fault.Size ∷ [])
+
+-- the fault of a row below the rows `above`
+abbrev pub row_fault : List Row → Row → Option TableFault
+row_fault above row = option_map_or (kind_fault above row) (kind_of row) (Some fault.Shape)
+
+-- the first row with a fault, and its fault; a table with no row has no frame
+abbrev pub first_fault : List Row → Option (ℕ × TableFault)
+first_fault [] = Some (0, fault.NoFrame)
+first_fault (first ∷ rest) =
+    let rows = first ∷ rest in
+    first_some (map (λ i. option_map (λ f. (i, f)) (row_fault (take i rows) (slice_index_or rows i []))) (range_with_len 0 (length rows)))

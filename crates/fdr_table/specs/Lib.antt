@@ -1,0 +1,9 @@
+pub mod Rows
+pub mod Ranges
+pub mod Views
+pub mod Fields
+pub mod Reading
+pub mod Faults
+pub mod First
+pub mod Answers
+pub mod Value

@@ -1,0 +1,169 @@
+-- What the rows of a table say. Rows and fields are numbered from 0; field 0 is the letter.
+use Rattle.std.specs.Prelude.{◌≡◌, ℕ, ◌+◌, ◌-◌, ◌==◌, ◌&&◌, Bool, true, false, if◌then◌else◌, List, [], ◌∷◌, length, codes, bytes_eq, slice_index_or, map, filter, filter_map, pos, ℤ, Option, Some, None, is_some, is_none, unwrap_or, option_map, option_and_then, position}
+use Rattle.std.specs.Option.{option_map_or}
+use Rattle.std.specs.List.{enumerate_from}
+use Rattle.csv.specs.Reading.{default_config, records, strip_bom}
+use Rattle.fdr_table.specs.Rows.{FrameRow, ParamRow, PlaceRow, TableRows}
+use Rattle.fdr_table.specs.Ranges.{frame_sizes, periods}
+use Rattle.fdr_table.specs.Fields.{number_in, number_of, signed_within, label_of, sdi_of, subframes_of, sign_of, is_name}
+use Rattle.fdr_table.specs.declared.row.RowKind.{RowKind}
+use Rattle.fdr_table.specs.declared.row.RowKind.TheVariants as kind
+use Rattle.fdr_table.specs.declared.fault.TableFault.{TableFault}
+use Rattle.fdr_table.specs.declared.fault.TableFault.TheVariants as fault
+
+-- a row, as its fields
+abbrev pub Row : Type 0
+Row = List (List ℕ)
+
+-- the rows of a table's bytes: the records of CSV, with no header
+unfoldable pub records_of : List ℕ → List Row
+records_of bytes = records default_config (strip_bom bytes)
+
+-- a field, empty where the row has no such field
+unfoldable pub field : Row → ℕ → List ℕ
+field row i = slice_index_or row i []
+
+-- a row of each kind has its letter and its count of fields
+unfoldable pub kind_of : Row → Option RowKind
+kind_of row =
+    if bytes_eq (field row 0) (codes "F") && (length row == 4) then Some kind.Frame
+    else if bytes_eq (field row 0) (codes "P") && (length row == 13) then Some kind.Param
+    else if bytes_eq (field row 0) (codes "L") && (length row == 10) then Some kind.Place
+    else None
+
+abbrev pub is_frame : Option RowKind → Bool
+is_frame None = false
+is_frame (Some kind.Frame) = true
+is_frame (Some kind.Param) = false
+is_frame (Some kind.Place) = false
+
+abbrev pub is_param : Option RowKind → Bool
+is_param None = false
+is_param (Some kind.Frame) = false
+is_param (Some kind.Param) = true
+is_param (Some kind.Place) = false
+
+abbrev pub is_place : Option RowKind → Bool
+is_place None = false
+is_place (Some kind.Frame) = false
+is_place (Some kind.Param) = false
+is_place (Some kind.Place) = true
+
+-- the first of these that is there
+abbrev pub first_some : {A : Type 0} → List (Option A) → Option A
+first_some [] = None
+first_some (None ∷ rest) = first_some rest
+first_some (Some a ∷ rest) = Some a
+
+-- the fault of a field that doesn't read
+abbrev pub misread : {A : Type 0} → ℕ → Option A → Option TableFault
+misread i None = Some (fault.Number i)
+misread i (Some a) = None
+
+-- the highest cycle: below the period, or 15 where the period doesn't read
+abbrev pub last_cycle : Option ℕ → ℕ
+last_cycle None = 15
+last_cycle (Some period) = period - 1
+
+-- the bits of a word of `size` bits from the lowest bit on, or all of them where that doesn't read
+abbrev pub bits_from : ℕ → Option ℕ → ℕ
+bits_from size None = size
+bits_from size (Some lsb) = size + 1 - lsb
+
+-- the first field of a frame row that isn't right
+unfoldable pub frame_misread : Row → Option TableFault
+frame_misread row = first_some (
+    misread 1 (number_of frame_sizes (field row 1))
+    ∷ misread 2 (number_in 2 1024 (field row 2))
+    ∷ misread 3 (number_in 1 4 (field row 3)) ∷ [])
+
+-- the first field of a parameter's row that isn't right, the name aside
+unfoldable pub param_misread : Row → Option TableFault
+param_misread row = first_some (
+    misread 2 (number_in 0 255 (field row 2))
+    ∷ misread 3 (label_of (field row 3))
+    ∷ misread 4 (sdi_of (field row 4))
+    ∷ misread 5 (number_in 1 32 (field row 5))
+    ∷ misread 6 (number_in 1 (bits_from 32 (number_in 1 32 (field row 5))) (field row 6))
+    ∷ misread 7 (sign_of (field row 7))
+    ∷ misread 8 (signed_within 1000000000 (field row 8))
+    ∷ misread 9 (number_in 1 1000000000 (field row 9))
+    ∷ misread 10 (signed_within 1000000000000000 (field row 10))
+    ∷ misread 11 (number_in 0 9 (field row 11))
+    ∷ misread 12 (number_in 1 262144 (field row 12)) ∷ [])
+
+-- the first field of a place's row that isn't right, the name aside
+unfoldable pub place_misread : Row → Option TableFault
+place_misread row = first_some (
+    misread 2 (number_in 1 4 (field row 2))
+    ∷ misread 3 (subframes_of (field row 3))
+    ∷ misread 4 (number_in 1 1024 (field row 4))
+    ∷ misread 5 (number_in 0 1024 (field row 5))
+    ∷ misread 6 (number_in 1 12 (field row 6))
+    ∷ misread 7 (number_in 1 (bits_from 12 (number_in 1 12 (field row 6))) (field row 7))
+    ∷ misread 8 (number_in 0 (last_cycle (number_of periods (field row 9))) (field row 8))
+    ∷ misread 9 (number_of periods (field row 9)) ∷ [])
+
+unfoldable pub misnamed : Row → Option TableFault
+misnamed row = if is_name (field row 1) then None else Some fault.Name
+
+-- what a frame row says
+unfoldable pub frame_row : Row → Option FrameRow
+frame_row row =
+    if is_frame (kind_of row) && is_none (frame_misread row) then Some (record {
+      words = unwrap_or (number_of frame_sizes (field row 1)) 0;
+      cword = unwrap_or (number_in 2 1024 (field row 2)) 0;
+      csub = unwrap_or (number_in 1 4 (field row 3)) 0;
+    }) else None
+
+-- what a parameter's row says, as row `number` of its table
+unfoldable pub param_row : ℕ → Row → Option ParamRow
+param_row number row =
+    if is_param (kind_of row) && is_none (first_some (param_misread row ∷ misnamed row ∷ [])) then Some (record {
+      name = field row 1;
+      bus = unwrap_or (number_in 0 255 (field row 2)) 0;
+      label = unwrap_or (label_of (field row 3)) 0;
+      sdi = unwrap_or (sdi_of (field row 4)) None;
+      lsb = unwrap_or (number_in 1 32 (field row 5)) 0;
+      width = unwrap_or (number_in 1 (bits_from 32 (number_in 1 32 (field row 5))) (field row 6)) 0;
+      signed = unwrap_or (sign_of (field row 7)) false;
+      num = unwrap_or (signed_within 1000000000 (field row 8)) (pos 0);
+      den = pos (unwrap_or (number_in 1 1000000000 (field row 9)) 0);
+      offset = unwrap_or (signed_within 1000000000000000 (field row 10)) (pos 0);
+      decimals = unwrap_or (number_in 0 9 (field row 11)) 0;
+      rate = unwrap_or (number_in 1 262144 (field row 12)) 0;
+      row = number;
+    }) else None
+
+-- what a place's row says, as row `number` of its table, of the parameter with index `param`
+unfoldable pub place_row : ℕ → ℕ → Row → Option PlaceRow
+place_row param number row =
+    if is_place (kind_of row) && is_none (place_misread row) then Some (record {
+      param = param;
+      part = unwrap_or (number_in 1 4 (field row 2)) 0;
+      subs = unwrap_or (subframes_of (field row 3)) 0;
+      word = unwrap_or (number_in 1 1024 (field row 4)) 0;
+      step = unwrap_or (number_in 0 1024 (field row 5)) 0;
+      lsb = unwrap_or (number_in 1 12 (field row 6)) 0;
+      width = unwrap_or (number_in 1 (bits_from 12 (number_in 1 12 (field row 6))) (field row 7)) 0;
+      cycle = unwrap_or (number_in 0 (last_cycle (number_of periods (field row 9))) (field row 8)) 0;
+      period = unwrap_or (number_of periods (field row 9)) 0;
+      row = number;
+    }) else None
+
+-- the names of the parameters' rows, in order
+abbrev pub names_of : List Row → List (List ℕ)
+names_of rows = map (λ (row : Row). field row 1) (filter (λ (row : Row). is_param (kind_of row)) rows)
+
+-- the index of the parameter with this name
+abbrev pub param_named : List Row → List ℕ → ℕ
+param_named rows name = unwrap_or (position (λ other. bytes_eq other name) (names_of rows)) 0
+
+-- the table that rows say: the first frame row, the parameters and the places in order
+abbrev pub table_of : List Row → TableRows
+table_of rows = record {
+  frame = unwrap_or (first_some (map frame_row rows)) (record { words = 0; cword = 0; csub = 0 });
+  params = filter_map (λ (e : ℕ × Row). param_row e.0 e.1) (enumerate_from 0 rows);
+  places = filter_map (λ (e : ℕ × Row). place_row (param_named rows (field e.1 1)) e.0 e.1) (enumerate_from 0 rows);
+  rows = length rows;
+}

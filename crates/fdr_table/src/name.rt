@@ -1,0 +1,72 @@
+ghost use Rattle.std.specs.Prelude.{◌≡◌, ◌↔◌, IsTrue, IsSome, IfSome, ◌≤◌, length};
+ghost use Rattle.std.specs.List.{list_all};
+ghost use Rattle.fdr_table.specs.Fields.{is_name, is_name_byte};
+
+use std::marker::Model;
+
+/// A parameter's name: 1 to 16 bytes, letters A to Z and a to z, digits, `_`, `-` and `.`.
+#[derive(Debug, Drop)]
+pub struct Name {
+    bytes: [u8; 16],
+    len: usize,
+}
+
+impl Model for Name {
+    ghost use Rattle.std.specs.Prelude.{ℕ, List, ◌≤◌, take, IsTrue};
+    ghost use Rattle.fdr_table.specs.Fields.{is_name};
+
+    ghost Value = { List ℕ };
+
+    ghost view = { λ n. take n.len n.bytes };
+
+    ghost invariant = { λ n. (n.len ≤ 16) × IsTrue (is_name (take n.len n.bytes)) };
+}
+
+impl Name {
+    /// The name of these bytes, if they are one.
+    pub fn new(bytes: &[u8]) -> Option<Name>
+        ensures exactly { IsSome result ↔ IsTrue (is_name bytes.now) }
+        ensures bytes { IfSome result (λ name. name ≡ bytes.now) }
+    {
+        if !is_name(bytes) {
+            return None;
+        }
+        let mut stored = [0; 16];
+        stored[..bytes.len()].copy_from_slice(bytes);
+        Some(Name {
+            bytes: stored,
+            len: bytes.len(),
+        })
+    }
+
+    /// The name's bytes.
+    pub fn bytes(&self) -> &[u8]
+        ensures bytes { result.now ≡ self.now }
+        ensures few { length result.now ≤ 16 }
+    {
+        &self.bytes[..self.len]
+    }
+}
+
+fn is_name_byte(byte: u8) -> bool
+    ensures { result ≡ is_name_byte byte }
+{
+    byte.is_ascii_alphanumeric() || byte == b'_' || byte == b'-' || byte == b'.'
+}
+
+fn are_name_bytes(bytes: &[u8]) -> bool
+    ensures { result ≡ list_all is_name_byte bytes.now }
+{
+    bytes.iter().all(|byte| is_name_byte(*byte))
+}
+
+#[tactic(auto, using(crate::proofs::FieldFacts::names))]
+fn is_name(bytes: &[u8]) -> bool
+    ensures exactly { result ≡ is_name bytes.now }
+    ensures length { IsTrue result → length bytes.now ≤ 16 }
+{
+    if bytes.is_empty() || 16 < bytes.len() {
+        return false;
+    }
+    are_name_bytes(bytes)
+}
