@@ -92,4 +92,4 @@ unfolding preceded_by
 preceded_by-end all bytes None whole end = rw whole tt
 preceded_by-end all bytes (Some left) whole end = rw (whole, end) (append-nil bytes)
 
-pub ruleset telling = (followed_by-some, followed_by-none, followed_by-followed_by, followed_by-nil, followed_by-take, without_first-some, without_first-none, without_first-without_first)
+pub ruleset telling = (followed_by-some, followed_by-none, followed_by-followed_by, followed_by-nil, followed_by-take, without_first-some, without_first-none, without_first-without_first, preceded_by-some, preceded_by-none, preceded_by-nil, preceded_by-gives)

@@ -10,7 +10,7 @@ pub frame_within : (b : List ℕ) (w p : ℕ) → IsFramePosition b w p → p + 
 unfolding is_frame_position
 frame_within b w p h = leb-true (p + 48 * w) (bits_in b) (and_parts _ _ (and_parts _ _ (and_parts _ _ (and_parts _ _ h).0).0).0).0
 
--- where the bytes are too few, the four sync words alone decide
+-- where the frame lies within the bytes, its four sync words alone decide
 pub frame_by_syncs : (b : List ℕ) (w p : ℕ) → p + 48 * w ≤ bits_in b →
     is_frame_position b w p ≡ ((word_at b p == sync_word 1) && (word_at b (p + 12 * w) == sync_word 2) && (word_at b (p + 2 * (12 * w)) == sync_word 3) && (word_at b (p + 3 * (12 * w)) == sync_word 4))
 unfolding is_frame_position

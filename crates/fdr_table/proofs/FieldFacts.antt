@@ -1,5 +1,5 @@
 -- Facts about single fields.
-use Rattle.std.proofs.Common.{◌≡◌, ◌≢◌, ◌∙◌, sym, ap, subst, refl, ℕ, suc, ◌+◌, ◌-◌, ◌*◌, ◌^◌, ◌<◌, ◌≤◌, Bool, true, false, IsTrue, cond, ◌&&◌, nat_le, nat_lt, List, [], ◌∷◌, length, get_or, take, drop, Option, Some, None, arith, add-one, zero, zero-add, add_assoc, ◌⊎◌}
+use Rattle.std.proofs.Common.{◌≡◌, ◌∙◌, sym, ap, refl, ℕ, suc, ◌+◌, ◌-◌, ◌*◌, ◌^◌, ◌<◌, ◌≤◌, Bool, true, false, ◌&&◌, nat_le, nat_lt, List, [], ◌∷◌, length, get_or, take, drop, Option, Some, None, arith, add-one, zero, zero-add, add_assoc, ◌⊎◌}
 use Rattle.std.specs.Prelude.{if◌then◌else◌, sum_by}
 use Rattle.std.specs.List.{list_all}
 use Rattle.std.specs.Char.{digit_value}
@@ -11,7 +11,7 @@ use Rattle.std.proofs.lemmas.Str.Parse.{digits_value-take-le}
 use Rattle.std.proofs.Math.Nat.{pow-le-pow_right, one-le-pow, pow-suc}
 use Rattle.std.proofs.lemmas.List.Sums.{sum_by-cons}
 use Rattle.std.proofs.Math.Seq.{drop-cons}
-use Rattle.fdr_table.specs.Fields.{is_digit, is_octal_digit, decimal_of, label_of, passing, is_name, is_name_byte, subframes_of, is_subframe_digit, is_increasing, subframe_bit}
+use Rattle.fdr_table.specs.Fields.{is_digit, is_octal_digit, decimal_of, label_of, is_name, is_name_byte, subframes_of, is_subframe_digit, is_increasing, subframe_bit}
 
 -- both tests pass
 pub both-left : (a b : Bool) → (a && b) ≡ true → a ≡ true

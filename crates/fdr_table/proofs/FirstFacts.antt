@@ -1,16 +1,13 @@
 -- Facts about tables of a frame, a parameter and its place.
-use Rattle.std.proofs.Common.{◌≡◌, ◌∙◌, sym, ap, subst, refl, ℕ, ◌≤◌, All, get_or, zero, suc, ◌+◌, Bool, true, false, ◌&&◌, not, List, [], ◌∷◌, length, map, Option, Some, None, arith}
-use Rattle.std.specs.Prelude.{if◌then◌else◌, is_none, bytes_eq, filter, filter_map, position, unwrap_or}
-use Rattle.std.specs.List.{enumerate_from}
+use Rattle.std.proofs.Common.{◌≡◌, sym, ap, subst, refl, ℕ, ◌≤◌, All, get_or, Bool, true, false, ◌&&◌, List, [], ◌∷◌, length, map, Option, Some, None, arith}
+use Rattle.std.specs.Prelude.{if◌then◌else◌, is_none, bytes_eq}
 use Rattle.std.proofs.lemmas.List.Elements.{All-cons}
 use Rattle.fdr_table.specs.Rows.{FrameRow, ParamRow, PlaceRow, TableRows}
-use Rattle.fdr_table.specs.Reading.{Row, field, kind_of, is_frame, is_param, is_place, first_some, frame_misread, param_misread, place_misread, misnamed, frame_row, param_row, place_row, names_of, param_named, table_of}
-use Rattle.fdr_table.specs.Faults.{first_fault, row_fault, has_frame, has_name, where_true}
+use Rattle.fdr_table.specs.Reading.{Row, field, kind_of, is_frame, is_param, is_place, first_some, frame_misread, param_misread, place_misread, misnamed, frame_row, param_row, place_row, param_named, table_of}
+use Rattle.fdr_table.specs.Faults.{first_fault}
 use Rattle.fdr_table.specs.First.{ReadsAs, IsFirstTable, IsPlain, IsPlainParam, IsPlainPlace}
-use Rattle.fdr_table.specs.declared.row.RowKind.{RowKind}
 use Rattle.fdr_table.specs.declared.row.RowKind.TheVariants as kind
 use Rattle.fdr_table.specs.declared.fault.TableFault.{TableFault}
-use Rattle.fdr_table.specs.declared.fault.TableFault.TheVariants as fault
 
 kept : {A : Type 0} (k : Bool) (m : Option TableFault) (x y : A) → (if k && is_none m then Some x else None) ≡ Some y → m ≡ None
 kept true None x y e = refl

@@ -1,5 +1,5 @@
 -- Facts about the fields of a row.
-use Rattle.std.proofs.Common.{◌≡◌, ◌∙◌, sym, ap, refl, ℕ, zero, suc, ◌+◌, List, [], ◌∷◌, length, get_or, Option, Some, None, arith}
+use Rattle.std.proofs.Common.{◌≡◌, refl, ℕ, zero, suc, List, [], ◌∷◌, Some, None}
 use Rattle.csv.specs.Records.{field_at}
 use Rattle.fdr_table.specs.Reading.{Row, field}
 

@@ -1,10 +1,9 @@
 -- The faults of some small tables.
-use Rattle.std.proofs.Common.{◌≡◌, refl, ℕ, List, [], ◌∷◌, Option, Some, None}
+use Rattle.std.proofs.Common.{◌≡◌, refl, ℕ, List, [], ◌∷◌, Some, None}
 use Rattle.std.specs.Prelude.{codes}
 use Rattle.fdr_table.specs.Fields.{decimal_of, number_in, number_of, signed_within, label_of, sdi_of, subframes_of, sign_of, is_name}
 use Rattle.fdr_table.specs.Reading.{Row, field, kind_of, frame_misread, param_misread, place_misread, misnamed}
 use Rattle.fdr_table.specs.Faults.{first_fault}
-use Rattle.fdr_table.specs.declared.fault.TableFault.{TableFault}
 use Rattle.fdr_table.specs.declared.fault.TableFault.TheVariants as fault
 
 abbrev frame : Row

@@ -1,9 +1,7 @@
 -- The answers of reading a table.
-use Rattle.std.specs.Prelude.{◌≡◌, ℕ, ◌⊎◌}
-use Rattle.fdr_table.specs.declared.fault.Refusal.{Refusal}
+use Rattle.std.specs.Prelude.{ℕ}
 use Rattle.fdr_table.specs.declared.fault.TableError.{TableError}
 use Rattle.fdr_table.specs.declared.fault.TableError.TheVariants as error
-use Rattle.fdr_table.specs.declared.fault.NoMemory.{NoMemory}
 use Rattle.fdr_table.specs.declared.fault.TableFault.{TableFault}
 use Rattle.fdr_table.specs.declared.fault.TableFault.TheVariants as fault
 

@@ -1,8 +1,7 @@
 -- The faults of a table's rows, in the order of their numbers.
-use Rattle.std.specs.Prelude.{ℕ, ◌+◌, Bool, true, false, ◌&&◌, ◌||◌, not, nat_le, if◌then◌else◌, List, [], ◌∷◌, length, map, filter, take, bytes_eq, slice_index_or, Option, Some, None, option_map}
+use Rattle.std.specs.Prelude.{ℕ, Bool, not, nat_le, if◌then◌else◌, List, [], ◌∷◌, length, map, filter, take, bytes_eq, slice_index_or, Option, Some, None, option_map}
 use Rattle.std.specs.Option.{option_map_or}
 use Rattle.std.specs.List.{list_any, range_with_len}
-use Rattle.fdr_table.specs.Fields.{is_name}
 use Rattle.fdr_table.specs.Reading.{Row, field, kind_of, is_frame, is_param, is_place, first_some, frame_misread, param_misread, place_misread, misnamed, names_of}
 use Rattle.fdr_table.specs.declared.row.RowKind.{RowKind}
 use Rattle.fdr_table.specs.declared.row.RowKind.TheVariants as kind

@@ -1,11 +1,10 @@
 -- The tables that this version builds: one plain parameter in one place.
-use Rattle.std.specs.Prelude.{◌≡◌, ◌≢◌, ℕ, ◌-◌, ◌^◌, ◌≤◌, ◌⊎◌, pos, Bool, false, List, [], ◌∷◌, All, Option, Some, None, map}
-use Rattle.fdr_table.specs.Rows.{FrameRow, ParamRow, PlaceRow, TableRows}
+use Rattle.std.specs.Prelude.{◌≡◌, ◌≢◌, ◌-◌, ◌^◌, ◌≤◌, pos, false, List, [], ◌∷◌, All, Some, None, map}
+use Rattle.fdr_table.specs.Rows.{FrameRow, ParamRow, PlaceRow}
 use Rattle.fdr_table.specs.Fields.{is_among}
 use Rattle.std.specs.Prelude.{IsTrue}
 use Rattle.fdr_table.specs.Reading.{Row, kind_of, table_of}
 use Rattle.fdr_table.specs.Faults.{first_fault}
-use Rattle.fdr_table.specs.declared.row.RowKind.{RowKind}
 use Rattle.fdr_table.specs.declared.row.RowKind.TheVariants as kind
 
 -- one word a frame may carry it, and its value is its raw number

@@ -1,5 +1,5 @@
 -- The ranges that the fields of a table keep.
-use Rattle.std.specs.Prelude.{◌≡◌, ℕ, ◌+◌, ◌*◌, ◌<◌, ◌≤◌, pos, negsuc, ◌≤ℤ◌, IsTrue, ◌==◌, Bool, true, nat_le, List, [], ◌∷◌, Option, Some, None}
+use Rattle.std.specs.Prelude.{ℕ, ◌+◌, ◌<◌, ◌≤◌, pos, negsuc, ◌≤ℤ◌, IsTrue, true, nat_le, List, [], ◌∷◌}
 use Rattle.std.specs.Option.{option_map_or}
 use Rattle.fdr_table.specs.Fields.{is_among}
 use Rattle.fdr_table.specs.Rows.{FrameRow, ParamRow, PlaceRow}

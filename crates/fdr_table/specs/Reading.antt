@@ -1,6 +1,5 @@
 -- What the rows of a table say. Rows and fields are numbered from 0; field 0 is the letter.
-use Rattle.std.specs.Prelude.{◌≡◌, ℕ, ◌+◌, ◌-◌, ◌==◌, ◌&&◌, Bool, true, false, if◌then◌else◌, List, [], ◌∷◌, length, codes, bytes_eq, slice_index_or, map, filter, filter_map, pos, ℤ, Option, Some, None, is_some, is_none, unwrap_or, option_map, option_and_then, position}
-use Rattle.std.specs.Option.{option_map_or}
+use Rattle.std.specs.Prelude.{ℕ, ◌+◌, ◌-◌, ◌==◌, ◌&&◌, Bool, true, false, if◌then◌else◌, List, [], ◌∷◌, length, codes, bytes_eq, slice_index_or, map, filter, filter_map, pos, Option, Some, None, is_none, unwrap_or, position}
 use Rattle.std.specs.List.{enumerate_from}
 use Rattle.csv.specs.Reading.{default_config, records, strip_bom}
 use Rattle.fdr_table.specs.Rows.{FrameRow, ParamRow, PlaceRow, TableRows}

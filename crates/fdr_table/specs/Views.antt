@@ -1,5 +1,4 @@
 -- The rows that the values of the program stand for.
-use Rattle.std.specs.Prelude.{ℕ, List, take}
 use Rattle.fdr_table.specs.Rows.{FrameRow, ParamRow, PlaceRow}
 use Rattle.fdr_table.specs.declared.frame.Frame.TheInside.{Inside as FrameInside}
 use Rattle.fdr_table.specs.declared.param.Param.TheInside.{Inside as ParamInside}

@@ -1,5 +1,4 @@
 -- The form that a request stands for.
-use Rattle.std.specs.Prelude.{ℕ, List}
 use Rattle.fdr_words.specs.Forms.{Form, list_bits}
 use Rattle.fdr_words.specs.declared.Request.{Request}
 use Rattle.fdr_words.specs.declared.Request.TheVariants as request

@@ -109,3 +109,25 @@ fn a_sample_ends_in_the_cycle_of_its_last_part(rt: HostRuntime) -> Result<(), Fa
     assert_eq!(rt; layout.ending_in(15).len(), 1);
     Ok(())
 }
+
+// One altitude in every frame, in word 10 of the first subframe.
+#[test]
+fn a_sample_of_one_part_ends_in_each_cycle(rt: HostRuntime) -> Result<(), Fail> {
+    let alloc = rt.alloc();
+    let text = b"F,64,2,1\nP,ALT,0,203,,11,12,U,1,1,0,0,16\nL,ALT,1,1,10,0,1,12,0,1\n";
+    let table = Table::read(alloc, text).ok().ok_or("table")?;
+    let layout = Layout::make(alloc, &table).ok().ok_or("memory")?;
+    for cycle in 0..16u8 {
+        let samples = layout.ending_in(cycle);
+        assert_eq!(rt; samples.len(), 1);
+        let sample = &samples[0];
+        assert_eq!(rt; (sample.param(), sample.index()), (0, u32::from(cycle)));
+        let part = Part {
+            at: 108 + 3072 * u32::from(cycle),
+            width: 12,
+            shift: 0,
+        };
+        assert_eq!(rt; sample.parts(), [part].as_slice());
+    }
+    Ok(())
+}

@@ -1,4 +1,4 @@
-use Rattle.std.proofs.Common.{◌≡◌, ◌<◌, ◌≤◌, ◌+◌, ◌∙◌, ◌⊎◌, inl, inr, sym, ap, arith, rules, get_or, drop, length, ℕ}
+use Rattle.std.proofs.Common.{◌<◌, ◌≤◌, ◌+◌, ◌∙◌, ◌⊎◌, inl, inr, sym, arith, get_or, drop, length}
 use Rattle.fdr_table.proofs.FieldFacts.{left-start, left-at, left-stop, left-next, set-bound, set-high, bit-low, subframes-empty}
 use Rattle.fdr_table.proofs.field.subframes.Goals as goal
 use Rattle.fdr_table.proofs.field.subframes.Goals.{then-digit-last-via-then-digit-last, then-digit-last-via-else-digit-last+then-digit-gt52}

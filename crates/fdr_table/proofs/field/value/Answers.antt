@@ -1,4 +1,4 @@
-use Rattle.std.proofs.Common.{◌≡◌, ◌<◌, ◌+◌, ◌*◌, ◌-◌, ◌^◌, ◌∙◌, sym, ap, arith, get_or, ℕ}
+use Rattle.std.proofs.Common.{◌+◌, ◌*◌, ◌∙◌, ap, arith, ℕ}
 use Rattle.fdr_table.proofs.FieldFacts.{value-bound, value-step}
 use Rattle.fdr_table.proofs.field.value.Goals as goal
 

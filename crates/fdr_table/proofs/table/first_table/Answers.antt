@@ -1,4 +1,4 @@
-use Rattle.std.proofs.Common.{◌≡◌, ◌∷◌, [], List, ℕ, sym, ap, subst, map, arith, ◌∙◌, refl}
+use Rattle.std.proofs.Common.{List, sym, ap, subst, map, arith, ◌∙◌, refl}
 use Rattle.std.proofs.lemmas.Bool.{false≢true}
 use Rattle.csv.specs.Records.{fields_of}
 use Rattle.fdr_table.specs.Reading.{Row}

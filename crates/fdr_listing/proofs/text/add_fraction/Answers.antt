@@ -1,0 +1,26 @@
+use Rattle.std.proofs.Common.{rules, arith, ◌≤◌, ◌<◌, length}
+use Rattle.std.specs.Fmt.{decimal}
+use Rattle.std.proofs.lemmas.Fmt.{length-decimal-le}
+use Rattle.fdr_listing.specs.Text.{fraction_text}
+use Rattle.std.proofs.lemmas.Grind.{common_steps}
+use Rattle.fdr_listing.proofs.text.add_fraction.Goals as goal
+
+pub overflow_sub-zeros : goal.overflow_sub-zeros
+overflow_sub-zeros c =
+    let digits : length (decimal c.args.n) ≤ c.args.decimals = length-decimal-le c.args.decimals c.args.n (omega arith) c.requires.below (omega arith) in
+    omega arith
+
+pub add_number-requires : goal.add_number-requires
+add_number-requires c =
+    let digits : length (decimal c.args.n) ≤ c.args.decimals = length-decimal-le c.args.decimals c.args.n (omega arith) c.requires.below (omega arith) in
+    omega arith
+
+pub add-requires-2 : goal.add-requires-2
+add-requires-2 c =
+    let digits : length (decimal c.args.n) ≤ c.args.decimals = length-decimal-le c.args.decimals c.args.n (omega arith) c.requires.below (omega arith) in
+    grind (arith, common_steps)
+
+pub returns-clause-length : goal.returns-clause-length
+returns-clause-length c =
+    let digits : length (decimal c.args.n) ≤ c.args.decimals = length-decimal-le c.args.decimals c.args.n (omega arith) c.requires.below (omega arith) in
+    grind (arith, common_steps)

@@ -1,0 +1,29 @@
+-- The lines of a listing. Each ends with a line feed.
+use Rattle.std.specs.Prelude.{ℕ, ◌+◌, ◌-◌, ◌/◌, ◌%◌, ◌^◌, suc, ℤ, pos, negsuc, if◌then◌else◌, ◌==◌, List, [], ◌∷◌, ◌++◌, length, replicate, codes, decimal}
+use Rattle.fdr_recon.specs.declared.Row.{Row}
+
+-- n as d digits, with zeros in front
+abbrev pub digits_of : ℕ → ℕ → List ℕ
+digits_of d n = replicate (d - length (decimal n)) 48 ++ decimal n
+
+-- a point and d digits, or nothing for no digits
+unfoldable pub fraction_text : ℕ → ℕ → List ℕ
+fraction_text n d = if d == 0 then [] else (46 ∷ digits_of d n)
+
+-- n divided by 10^d: the whole part, then, where d isn't 0, a point and exactly d digits
+unfoldable pub size_text : ℕ → ℕ → List ℕ
+size_text n d = decimal (n / 10 ^ d) ++ fraction_text (n % 10 ^ d) d
+
+-- a value in units of 10^-d: `-` where it is below 0, then its size
+unfoldable pub value_text : ℤ → ℕ → List ℕ
+value_text (pos n) d = size_text n d
+value_text (negsuc n) d = 45 ∷ size_text (suc n) d
+
+-- `gap,AT,BITS`
+unfoldable pub gap_text : ℕ → ℕ → List ℕ
+gap_text at bits = codes "gap," ++ decimal at ++ codes "," ++ decimal bits ++ codes "\n"
+
+-- `row,COUNTER,SUBFRAME,WORD,NAME,VALUE`
+unfoldable pub row_text : Row → List ℕ → ℕ → List ℕ
+row_text r name decimals =
+    codes "row," ++ decimal r.counter ++ codes "," ++ decimal r.subframe ++ codes "," ++ decimal r.word ++ codes "," ++ name ++ codes "," ++ value_text r.value decimals ++ codes "\n"

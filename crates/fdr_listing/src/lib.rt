@@ -1,0 +1,8 @@
+//! The text of a listing's lines. No call here takes memory.
+#![tactic(auto)]
+
+mod line;
+mod text;
+
+pub use line::Line;
+pub use text::{gap_line, row_line, value_text};

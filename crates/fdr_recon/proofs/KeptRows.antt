@@ -1,0 +1,57 @@
+-- What is made of what is kept.
+use Rattle.std.proofs.Common.{◌≡◌, ℕ, ◌+◌, ◌-◌, ◌*◌, ◌/◌, ◌%◌, ◌<◌, ◌≤◌, Bool, true, false, List, [], length, ap, sym, ◌∙◌, ⊎_elim, ◌⊎◌, Some, None}
+use Rattle.std.specs.Prelude.{◌&&◌, ◌==◌, not, nat_le, slice_index, slice_get, pos, ℤ}
+use Rattle.std.proofs.lemmas.Bool.{and_left, and_right, and_from, le-leb, lt-leb, cond-true, cond-false}
+use Rattle.std.proofs.lemmas.Option.{get_or_from_slice_get}
+use Rattle.fdr_layout.specs.Samples.{Part, Sample, first_at, last_at}
+use Rattle.fdr_recon.specs.declared.Row.{Row}
+use Rattle.fdr_recon.specs.Rows.{counter_place, reach}
+use Rattle.fdr_recon.specs.Kept.{Kept, kept_counter, kept_cycle, kept_raw, kept_row, kept_samples, is_next}
+
+pub is_next-not : (k : Kept) (adjacent : Bool) (words : List ℕ) → (adjacent ≡ false) ⊎ ((length k.words == 0) ≡ true) → is_next k adjacent words ≡ false
+unfolding is_next
+is_next-not k adjacent words why =
+    and_left _ _
+    (⊎_elim (λ (apart : adjacent ≡ false). and_left _ _ apart) (λ (empty : (length k.words == 0) ≡ true). and_right adjacent _ (ap not empty)) why)
+
+pub is_next-counter : (k : Kept) (adjacent : Bool) (words : List ℕ) (counter before : ℕ) → adjacent ≡ true → (length k.words == 0) ≡ false →
+    counter ≡ slice_index words (counter_place k.frame) → before ≡ kept_counter k 0 → (counter == (before + 1) % 4096) ≡ is_next k adjacent words
+unfolding is_next
+is_next-counter k adjacent words counter before near more counter_is before_is =
+    ap (λ n. n == (before + 1) % 4096) counter_is
+    ∙ ap (λ n. slice_index words (counter_place k.frame) == (n + 1) % 4096) before_is
+    ∙ ap (λ b. b && (slice_index words (counter_place k.frame) == (kept_counter k 0 + 1) % 4096))
+    (sym (and_from adjacent (not (length k.words == 0)) near (ap not more)))
+
+pub kept_samples-empty : (k : Kept) → (length k.words == 0) ≡ true → kept_samples k ≡ []
+unfolding kept_samples
+kept_samples-empty k empty = cond-true _ _ _ empty
+
+pub kept_samples-cycle : (k : Kept) (cycle : ℕ) (xs : List Sample) → (length k.words == 0) ≡ false → cycle ≡ kept_cycle k → slice_get k.samples cycle ≡ Some xs →
+    kept_samples k ≡ xs
+unfolding kept_samples
+kept_samples-cycle k cycle xs more cycle_is read =
+    cond-false _ _ _ more ∙ get_or_from_slice_get k.samples (kept_cycle k) xs [] (ap (slice_get k.samples) (sym cycle_is) ∙ read)
+
+pub kept_row-none : (k : Kept) (s : Sample) (d : ℕ) → d ≡ reach k.frame.words s.parts → k.joined < d → kept_row k s ≡ None
+unfolding kept_row
+kept_row-none k s d d_is far =
+    cond-false _ _ _ (ap (λ n. nat_le n k.joined) (sym d_is) ∙ lt-leb d k.joined far)
+
+pub kept_row-some : (k : Kept) (s : Sample) (w first d counter param raw : ℕ) (value : ℤ) → w ≡ k.frame.words → first ≡ first_at s.parts → d ≡ reach k.frame.words s.parts →
+    d ≤ k.joined → counter ≡ kept_counter k d → param ≡ s.param → raw ≡ kept_raw k (kept_cycle k) s.parts → value ≡ pos raw →
+    kept_row k s ≡ Some (record { counter = counter; subframe = first / 12 / w % 4 + 1; word = first / 12 % w + 1; param = param; value = value })
+unfolding kept_row
+kept_row-some k s w first d counter param raw value w_is first_is d_is near counter_is param_is raw_is value_is =
+    let row : ℕ → ℕ → ℕ → ℕ → ℤ → Row = λ counter w first param value. record { counter = counter; subframe = first / 12 / w % 4 + 1; word = first / 12 % w + 1; param = param; value = value } in
+    cond-true _ _ _ (ap (λ n. nat_le n k.joined) (sym d_is) ∙ le-leb d k.joined near)
+    ∙ ap (λ n. Some (row n k.frame.words (first_at s.parts) s.param (pos (kept_raw k (kept_cycle k) s.parts)))) (sym (counter_is ∙ ap (kept_counter k) d_is))
+    ∙ ap (λ n. Some (row counter n (first_at s.parts) s.param (pos (kept_raw k (kept_cycle k) s.parts)))) (sym w_is)
+    ∙ ap (λ n. Some (row counter w n s.param (pos (kept_raw k (kept_cycle k) s.parts)))) (sym first_is)
+    ∙ ap (λ n. Some (row counter w first n (pos (kept_raw k (kept_cycle k) s.parts)))) (sym param_is)
+    ∙ ap (λ z. Some (row counter w first param z)) (sym (value_is ∙ ap pos raw_is))
+
+-- how far a sample reaches back, by where its last part and its earliest part begin
+pub reach_is : (parts : List Part) (w v last first d : ℕ) → w ≡ v → last ≡ last_at parts → first ≡ first_at parts → d ≡ last / (48 * w) - first / (48 * w) → d ≡ reach v parts
+reach_is parts w v last first d w_is last_is first_is d_is =
+    d_is ∙ ap (λ n. last / (48 * n) - first / (48 * n)) w_is ∙ ap (λ n. n / (48 * v) - first / (48 * v)) last_is ∙ ap (λ n. last_at parts / (48 * v) - n / (48 * v)) first_is

@@ -1,0 +1,82 @@
+-- The words that a value keeps.
+use Rattle.std.proofs.Common.{◌≡◌, ℕ, ◌+◌, ◌-◌, ◌*◌, ◌/◌, ◌%◌, ◌^◌, ◌<◌, ◌≤◌, true, false, length, None, ap, sym, ◌∙◌, subst, arith, ⊎_elim, lit≤}
+use Rattle.std.specs.Prelude.{◌&&◌, nat_lt, if◌then◌else◌, slice_get, unwrap_or, slice_index, bit_and}
+use Rattle.std.specs.List.{All}
+use Rattle.std.proofs.lemmas.Bool.{cases_Bool, lt-ltb, le-ltb, ltb-true, cond_both, cond-true, cond-false, and_parts, and_from, and_left, and_right}
+use Rattle.std.proofs.lemmas.Option.{unwrap_or-slice_get}
+use Rattle.std.proofs.lemmas.Nat.{and_mask, mod_below, pow_pos, shl_below}
+use Rattle.std.proofs.lemmas.Nat.{shl_whole, one_shl}
+use Rattle.std.proofs.Math.Nat.{pow-le-pow_right}
+use Rattle.fdr_layout.specs.Samples.{Part, cycle_of}
+use Rattle.fdr_recon.specs.Kept.{Kept, kept_word, kept_bits, from_end}
+
+pub kept_word-past : (k : Kept) (back place : ℕ) → 4 * k.frame.words ≤ place → kept_word k back place ≡ 0
+unfolding kept_word
+kept_word-past k back place past =
+    cond-false _ _ _ (and_left _ _ (le-ltb place (4 * k.frame.words) past))
+
+-- the word as it is counted from the end
+pub kept_word-from_end : (k : Kept) (back place n : ℕ) → place < 4 * k.frame.words → n ≡ from_end k.frame.words back place →
+    unwrap_or (if nat_lt n (length k.words) then slice_get k.words (length k.words - n - 1) else None) 0 ≡ kept_word k back place
+unfolding kept_word
+kept_word-from_end k back place n within e =
+    let P : ℕ → Type 0 = λ m. unwrap_or (if nat_lt m (length k.words) then slice_get k.words (length k.words - m - 1) else None) 0 ≡ kept_word k back place in
+    let j = from_end k.frame.words back place in
+    let inside = lt-ltb place (4 * k.frame.words) within in
+    subst P (sym e)
+    (⊎_elim
+    (λ (t : nat_lt j (length k.words) ≡ true).
+    ap (λ o. unwrap_or o 0) (cond-true _ _ _ t) ∙ unwrap_or-slice_get k.words (length k.words - j - 1) 0 ∙ sym (cond-true _ _ _ (and_from _ _ inside t)))
+    (λ (f : nat_lt j (length k.words) ≡ false).
+    ap (λ o. unwrap_or o 0) (cond-false _ _ _ f) ∙ sym (cond-false _ _ _ (and_right _ _ f)))
+    (cases_Bool (nat_lt j (length k.words))))
+
+pub kept_word-small : (k : Kept) (back place : ℕ) → All (λ word. word < 4096) k.words → kept_word k back place < 4096
+unfolding kept_word
+kept_word-small k back place small =
+    cond_both (nat_lt place (4 * k.frame.words) && nat_lt (from_end k.frame.words back place) (length k.words)) (slice_index k.words (length k.words - from_end k.frame.words back place - 1)) 0 (λ (word : ℕ). word < 4096)
+    (λ t. let below : from_end k.frame.words back place < length k.words = ltb-true _ _ (and_parts _ _ t).1 in
+    small (length k.words - from_end k.frame.words back place - 1) 0 (omega arith))
+    (λ _. omega arith)
+
+-- the bits of a part, as they are cut out of its word
+pub kept_bits-cut : (k : Kept) (cycle : ℕ) (p : Part) (word back len : ℕ) → p.width ≤ 12 → len ≡ 4 * k.frame.words →
+    back ≡ cycle - p.at / (12 * len) → word ≡ kept_word k back (p.at / 12 % len) →
+    bit_and (word / 2 ^ (p.at % 12)) (1 * 2 ^ p.width % 65536 - 1) ≡ kept_bits k cycle p
+unfolding kept_bits
+kept_bits-cut k cycle p word back len few len_is back_is word_is =
+    let w = k.frame.words in
+    let mask : 1 * 2 ^ p.width % 65536 ≡ 2 ^ p.width = one_shl p.width 16 (omega arith) in
+    let cut = ap (λ m. bit_and (word / 2 ^ (p.at % 12)) (m - 1)) mask ∙ and_mask (word / 2 ^ (p.at % 12)) p.width in
+    let bits : 12 * len ≡ 48 * w = omega arith in
+    let frames : back ≡ cycle - cycle_of w p.at = back_is ∙ ap (λ n. cycle - p.at / n) bits in
+    let read : word ≡ kept_word k (cycle - cycle_of w p.at) (p.at / 12 % (4 * w)) =
+    word_is ∙ ap (λ b. kept_word k b (p.at / 12 % len)) frames ∙ ap (λ n. kept_word k (cycle - cycle_of w p.at) (p.at / 12 % n)) len_is in
+    cut ∙ ap (λ n. n / 2 ^ (p.at % 12) % 2 ^ p.width) read
+
+-- at most 12 bits
+pub kept_bits-small : (k : Kept) (cycle : ℕ) (p : Part) → p.width ≤ 12 → kept_bits k cycle p < 2 ^ 12
+unfolding kept_bits
+kept_bits-small k cycle p few =
+    let word = kept_word k (cycle - cycle_of k.frame.words p.at) (p.at / 12 % (4 * k.frame.words)) / 2 ^ (p.at % 12) in
+    let below : word % 2 ^ p.width < 2 ^ p.width = mod_below word (2 ^ p.width) (pow_pos p.width) in
+    let power : 2 ^ p.width ≤ 2 ^ 12 = pow-le-pow_right {n = 2} (lit≤ tt) few in
+    omega (arith, below, power)
+
+-- 12 bits, shifted by at most 36 places
+pub shifted : (bits shift : ℕ) → bits < 2 ^ 12 → shift ≤ 36 → (bits * 2 ^ shift % 2 ^ 64 ≡ bits * 2 ^ shift) × (bits * 2 ^ shift < 2 ^ 48)
+shifted bits shift small few =
+    let within : 12 + shift ≤ 48 = omega arith in
+    let power : 2 ^ (12 + shift) ≤ 2 ^ 48 = pow-le-pow_right {n = 2} (lit≤ tt) within in
+    (shl_whole bits 12 shift 64 small (omega arith), omega (arith, shl_below bits 12 shift small, power))
+
+-- the bits of a part, as they are cut out of its word and shifted to their place in the raw value
+pub kept_bits-shifted : (k : Kept) (cycle : ℕ) (p : Part) (word back len bits : ℕ) → p.width ≤ 12 → p.shift ≤ 36 → len ≡ 4 * k.frame.words →
+    back ≡ cycle - p.at / (12 * len) → word ≡ kept_word k back (p.at / 12 % len) →
+    bits ≡ bit_and (word / 2 ^ (p.at % 12)) (1 * 2 ^ p.width % 65536 - 1) →
+    (bits * 2 ^ p.shift % 2 ^ 64 ≡ kept_bits k cycle p * 2 ^ p.shift) × (bits * 2 ^ p.shift % 2 ^ 64 < 2 ^ 48)
+kept_bits-shifted k cycle p word back len bits few low len_is back_is word_is bits_is =
+    let e : bits ≡ kept_bits k cycle p = bits_is ∙ kept_bits-cut k cycle p word back len few len_is back_is word_is in
+    let s = shifted (kept_bits k cycle p) p.shift (kept_bits-small k cycle p few) low in
+    let same : bits * 2 ^ p.shift % 2 ^ 64 ≡ kept_bits k cycle p * 2 ^ p.shift = ap (λ n. n * 2 ^ p.shift % 2 ^ 64) e ∙ s.0 in
+    (same, omega (arith, same, s.1))

@@ -1,0 +1,9 @@
+pub mod KeptWords
+pub mod JoinedFrames
+pub mod FrameWords
+pub mod Standing
+pub mod RawValues
+pub mod StandingRows
+pub mod StandingSteps
+pub mod KeptRows
+pub mod LastFrames

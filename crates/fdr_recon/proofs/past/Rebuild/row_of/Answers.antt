@@ -1,0 +1,29 @@
+use Rattle.std.proofs.Common.{◌≡◌, List, ◌<◌, ◌≤◌, sym, ◌∙◌, ap, arith}
+use Rattle.std.specs.Int.{w64}
+use Rattle.std.proofs.lemmas.Int.{to_z_pos}
+use Rattle.fdr_layout.specs.Samples.{Part}
+use Rattle.fdr_recon.specs.Kept.{Kept, kept_raw, kept_cycle}
+use Rattle.fdr_recon.proofs.KeptRows.{kept_row-none, kept_row-some, reach_is}
+use Rattle.fdr_recon.proofs.past.Rebuild.row_of.Goals as goal
+
+pub returns-then-reach-from-clause-row : goal.returns-then-reach-from-clause-row
+returns-then-reach-from-clause-row c =
+    let words : c.frame_words-words.result ≡ c.args.self.now.frame.words = c.frame_words-words.ensures.words ∙ ap (λ (k : Kept). k.frame.words) c.self.view_is in
+    let joined : c.self.inside.joined ≡ c.args.self.now.joined = ap (λ (k : Kept). k.joined) c.self.view_is in
+    let far : c.args.self.now.joined < c.saturating_sub-reach.result = omega arith in
+    let d = reach_is c.args.sample.now.parts c.frame_words-words.result c.args.self.now.frame.words c.last.result c.first.result c.saturating_sub-reach.result
+    words c.last.ensures c.first.ensures c.saturating_sub-reach.ensures in
+    sym (kept_row-none c.args.self.now c.args.sample.now c.saturating_sub-reach.result d far)
+
+pub returns-clause-row : goal.returns-clause-row
+returns-clause-row c =
+    let words : c.frame_words-words.result ≡ c.args.self.now.frame.words = c.frame_words-words.ensures.words ∙ ap (λ (k : Kept). k.frame.words) c.self.view_is in
+    let joined : c.self.inside.joined ≡ c.args.self.now.joined = ap (λ (k : Kept). k.joined) c.self.view_is in
+    let near : c.saturating_sub-reach.result ≤ c.args.self.now.joined = omega arith in
+    let d = reach_is c.args.sample.now.parts c.frame_words-words.result c.args.self.now.frame.words c.last.result c.first.result c.saturating_sub-reach.result
+    words c.last.ensures c.first.ensures c.saturating_sub-reach.ensures in
+    let raw : c.raw.result ≡ kept_raw c.args.self.now (kept_cycle c.args.self.now) c.args.sample.now.parts =
+    c.raw.ensures.raw ∙ ap (λ n. kept_raw c.args.self.now n c.parts.result.now) c.cycle.ensures.cycle
+    ∙ ap (λ (ps : List Part). kept_raw c.args.self.now (kept_cycle c.args.self.now) ps) c.parts.ensures.parts in
+    sym (kept_row-some c.args.self.now c.args.sample.now c.frame_words-words.result c.first-slot.result c.saturating_sub-reach.result c.counter.result c.param.result c.raw.result _
+    words c.first-slot.ensures d near c.counter.ensures.counter c.param.ensures raw (to_z_pos w64 c.raw.result (omega (arith, c.raw.ensures.small))))

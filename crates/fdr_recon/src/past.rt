@@ -1,0 +1,236 @@
+//! The frames that were read, as far as rows still need them.
+
+ghost use Rattle.std.specs.Prelude.{◌≡◌, ◌+◌, ◌-◌, ◌*◌, ◌^◌, ◌<◌, ◌≤◌, List, [], ◌∷◌, ◌++◌, Some, length, map, IfOk, IfSome, All, slice_get, unwrap_or};
+ghost use Rattle.std.specs.List.{range_with_len};
+ghost use Rattle.fdr_table.specs.Rows.{TableRows};
+ghost use Rattle.fdr_recon.specs.Rows.{ReadFrame, counter_place, rows_looked_at};
+ghost use Rattle.fdr_recon.specs.Kept.{kept_word, kept_counter, kept_cycle, kept_bits, kept_raw, kept_row, kept_samples, is_next, IsRow};
+ghost use Rattle.fdr_recon.specs.Past.{HasRawValues, Stands, read_frame};
+
+use crate::Row;
+use circular_buffer::HeapCircularBuffer;
+use fdr_layout::{Layout, Part, Sample};
+use fdr_table::{Frame, NoMemory, Param, Place, Table};
+use std::alloc::Global;
+use std::marker::Model;
+
+/// The most frames before the last that a sample may reach back to: a superframe has 16 frames.
+const MOST_JOINED: u8 = 15;
+
+/// Makes the rows of frames that are read one after another. It keeps the last sixteen frames.
+#[derive(Drop)]
+pub struct Rebuild {
+    frame: Frame,
+    params: usize,
+    layout: Layout,
+    words: HeapCircularBuffer<u16>,
+    joined: u8,
+}
+
+impl Model for Rebuild {
+    ghost use Rattle.fdr_recon.specs.Kept.{Kept, IsKept};
+
+    ghost Value = { Kept };
+
+    ghost use Rattle.fdr_recon.specs.View.{kept_of};
+
+    ghost view = { kept_of };
+
+    ghost invariant = { λ r. IsKept (kept_of r) r.words.capacity };
+}
+
+impl Rebuild {
+    /// Makes room for the last sixteen frames of a table whose values are raw numbers. Fails only where memory ends.
+    pub fn new(alloc: Global, table: &Table) -> Result<Rebuild, NoMemory>
+        requires { HasRawValues table.now.params }
+        ensures { IfOk result (λ r. Stands r table.now []) }
+    {
+        let layout = Layout::make(alloc, table)?;
+        Rebuild::with_layout(alloc, table.frame(), table.params().len(), layout)
+    }
+
+    /// Takes the next frame: whether it begins where the frame before ends, and its words. It is not adjacent where it
+    /// is the first of a bit list. Takes no memory.
+    pub fn frame(&mut self, adjacent: bool, words: &[u16])
+        requires whole { length words.now ≡ 4 * self.old.frame.words }
+        requires small { All (λ word. word < 4096) words.now }
+        ensures stands { (t : TableRows) (past : List ReadFrame) → Stands self.old t past
+            → Stands self.new t (past ++ read_frame adjacent words.now ∷ []) }
+        ensures frame { self.new.frame ≡ self.old.frame }
+        ensures params { self.new.params ≡ self.old.params }
+    {
+        self.joined = if self.is_linked(adjacent, words) {
+            (self.joined + 1).min(MOST_JOINED)
+        } else {
+            0
+        };
+        self.words.extend_from_slice(words);
+    }
+
+    /// How many samples end in the last frame's cycle; 0 before the first frame. Takes no memory.
+    pub fn rows(&self) -> u32
+        ensures samples { result ≡ length (kept_samples self.now) }
+        ensures before { (t : TableRows) → Stands self.now t [] → result ≡ 0 }
+        ensures rows { (t : TableRows) (past : List ReadFrame) → Stands self.now t past → 0 < length past
+            → result ≡ length (rows_looked_at t past (length past - 1)) }
+    {
+        self.samples().len() as u32
+    }
+
+    /// The row of a sample that ends in the last frame's cycle, in the order of last parts. There is none where the
+    /// frames back to the sample's earliest part are not joined. Takes no memory.
+    pub fn row(&self, i: u32) -> Option<Row>
+        requires { i < length (kept_samples self.now) }
+        ensures row { (t : TableRows) (past : List ReadFrame) → Stands self.now t past
+            → slice_get (rows_looked_at t past (length past - 1)) i ≡ Some result }
+        ensures range { IfSome result (IsRow self.now.params) }
+    {
+        self.row_of(&self.samples()[i as usize])
+    }
+
+    /// Whether a next frame is linked to the last one.
+    fn is_linked(&self, adjacent: bool, words: &[u16]) -> bool
+        ensures { result ≡ is_next self.now adjacent words.now }
+    {
+        if !adjacent || self.words.is_empty() {
+            return false;
+        }
+        let place = counter_place(self.frame);
+        let counter = words.get(place as usize).copied().unwrap_or(0);
+        counter == (self.counter(0) + 1) % 4096
+    }
+
+    /// The samples that end in the last frame's cycle, none before the first frame.
+    fn samples(&self) -> &[Sample]
+        ensures samples { result.now ≡ kept_samples self.now }
+        ensures few { length result.now < 2 ^ 32 }
+        ensures params { All (λ s. s.param < self.now.params) result.now }
+        ensures frame { 0 < self.now.frame.words }
+    {
+        if self.words.is_empty() {
+            &[]
+        } else {
+            self.layout.ending_in(self.cycle())
+        }
+    }
+
+    fn row_of(&self, sample: &Sample) -> Option<Row>
+        requires { sample.now.param < self.now.params }
+        ensures row { result ≡ kept_row self.now sample.now }
+        ensures range { IfSome result (IsRow self.now.params) }
+    {
+        let words = frame_words(self.frame);
+        let reach = (sample.last() / (48 * words)).saturating_sub(sample.first() / (48 * words));
+        if reach > u32::from(self.joined) {
+            return None;
+        }
+        let slot = sample.first() / 12;
+        Some(Row {
+            counter: self.counter(reach),
+            subframe: (slot / words % 4 + 1) as u8,
+            word: slot % words + 1,
+            param: sample.param(),
+            value: self.raw(self.cycle(), sample.parts()) as i64,
+        })
+    }
+
+    /// The raw value of the parts of a sample that ends in the last frame, which has this cycle.
+    #[tactic(auto, unfolding(crate::specs::Kept::kept_raw))]
+    fn raw(&self, cycle: u8, parts: &[Part]) -> u64
+        requires cycle { cycle < 16 }
+        requires few { length parts.now ≤ 4 }
+        ensures raw { result ≡ kept_raw self.now cycle parts.now }
+        ensures small { result ≤ 2 ^ 50 }
+    {
+        let mut raw = 0;
+        for part in parts {
+            raw += self.shifted_bits(cycle, part);
+        }
+        raw
+    }
+
+    /// The bits of a part of a sample that ends in the last frame, which has this cycle, at their place in the raw value.
+    fn shifted_bits(&self, cycle: u8, part: &Part) -> u64
+        requires { cycle < 16 }
+        ensures bits { result ≡ kept_bits self.now cycle part.now * 2 ^ part.now.shift }
+        ensures small { result < 2 ^ 48 }
+    {
+        let frame_len = 4 * frame_words(self.frame);
+        let back = u32::from(cycle).saturating_sub(part.at / (12 * frame_len));
+        let word = self.word(back, part.at / 12 % frame_len);
+        let bits = (word >> (part.at % 12)) & ((1 << part.width) - 1);
+        u64::from(bits) << part.shift
+    }
+
+    fn with_layout(
+        alloc: Global,
+        frame: Frame,
+        params: usize,
+        layout: Layout,
+    ) -> Result<Rebuild, NoMemory>
+        requires { All (λ samples. All (λ s. s.param < params) samples) layout }
+        ensures { IfOk result (λ r. r ≡ record { frame = frame; params = params; samples = layout; words = []; joined = 0 }) }
+    {
+        let words = HeapCircularBuffer::with_capacity(
+            alloc,
+            64 * frame_words(frame) as usize,
+        ).map_err(|_| NoMemory)?;
+        Ok(Rebuild {
+            frame,
+            params,
+            layout,
+            words,
+            joined: 0,
+        })
+    }
+
+    /// The word at a place of the frame that stands this many frames before the last, or 0 where there is none.
+    fn word(&self, back: u32, place: u32) -> u16
+        requires { back < 16 }
+        ensures word { result ≡ kept_word self.now back place }
+        ensures small { result < 4096 }
+    {
+        let len = 4 * frame_words(self.frame);
+        if place >= len {
+            return 0;
+        }
+        let from_end = len * back + (len - 1 - place);
+        self.words.nth_back(from_end as usize).copied().unwrap_or(0)
+    }
+
+    fn counter(&self, back: u32) -> u16
+        requires { back < 16 }
+        ensures counter { result ≡ kept_counter self.now back }
+        ensures small { result < 4096 }
+    {
+        self.word(back, counter_place(self.frame))
+    }
+
+    /// The last frame's cycle.
+    fn cycle(&self) -> u8
+        ensures cycle { result ≡ kept_cycle self.now }
+        ensures few { result < 16 }
+    {
+        (self.counter(0) % 16) as u8
+    }
+}
+
+/// How many words a subframe has.
+fn frame_words(frame: Frame) -> u32
+    ensures words { result ≡ frame.words }
+    ensures some { 0 < result }
+    ensures few { result ≤ 1024 }
+{
+    frame.words
+}
+
+/// Where the counter's word stands among the words of a frame.
+fn counter_place(frame: Frame) -> u32
+    ensures place { result ≡ counter_place frame }
+    ensures small { result < 4096 }
+{
+    frame_words(frame) * (u32::from(frame.csub) - 1) + (frame.cword - 1)
+}
+
+#[cfg(test)]
+mod tests;

@@ -1,0 +1,8 @@
+use Rattle.std.proofs.Common.{arith}
+use Rattle.std.proofs.lemmas.Grind.{common_steps}
+use Rattle.fdr_top.proofs.Lines.{take_shortest}
+use Rattle.fdr_top.proofs.list_bits.listed.Goals as goal
+
+pub returns-clause-bytes : goal.returns-clause-bytes
+returns-clause-bytes c =
+    rw (c.min-count.ensures, c.len.ensures, c.deref.ensures.value, c.args.line.now.bytes.ok.0) (take_shortest c.args.line.now.bytes.items _)

@@ -1,0 +1,17 @@
+use Rattle.std.proofs.Common.{◌≡◌, ℕ, List, take, Option, subst, arith, rules}
+use Rattle.std.proofs.lemmas.Result.{on_ok_weaker, on_err_weaker}
+use Rattle.fdr_io.specs.Told.{followed_by}
+use Rattle.fdr_top.specs.Listing.{listing_of}
+use Rattle.fdr_top.specs.Output.{Emits}
+use Rattle.fdr_top.proofs.OutputSteps.{written_at_end, part_at_end, finished_part}
+use Rattle.fdr_top.proofs.listing.write_listing.Goals as goal
+
+pub returns-clause-all : goal.returns-clause-all
+returns-clause-all g c =
+    let emits = rw c.requires.empty at c.in_ok-write_events.ensures.all in
+    on_ok_weaker c.finish.result (written_at_end _ _ _ _ _ emits) c.finish.ensures.all
+
+pub returns-clause-part : goal.returns-clause-part
+returns-clause-part g c =
+    let emits = rw c.requires.empty at c.in_ok-write_events.ensures.all in
+    finished_part _ _ _ _ _ c.finish.result emits c.finish.ensures.all c.finish.ensures.part

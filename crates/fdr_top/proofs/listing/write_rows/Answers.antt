@@ -1,0 +1,43 @@
+use Rattle.std.proofs.Common.{◌≡◌, ◌+◌, ◌-◌, ◌<◌, List, ◌++◌, length, take, drop, refl, sym, ap, ◌∙◌, subst, arith, Some}
+use Rattle.std.specs.Prelude.{slice_get, Option}
+use Rattle.std.specs.List.{flat_map}
+use Rattle.std.proofs.lemmas.List.{take_all}
+use Rattle.std.proofs.lemmas.Result.{err_from_is_err_and}
+use Rattle.fdr_recon.specs.declared.Row.{Row}
+use Rattle.fdr_recon.specs.Past.{Stands}
+use Rattle.fdr_recon.specs.Rows.{rows_looked_at}
+use Rattle.fdr_top.specs.Listing.{row_lines, last_frame_lines}
+use Rattle.fdr_top.specs.Output.{Emits, EmitsPart}
+use Rattle.fdr_top.proofs.OutputSteps.{Emits-nil, Emits-then, EmitsPart-then, EmitsPart-longer}
+use Rattle.fdr_top.proofs.Lines.{flat_map_next, flat_map_around}
+use Rattle.fdr_top.proofs.listing.write_rows.Goals as goal
+
+pub loop-i-init : goal.loop-i-init
+loop-i-init g c = record { emitted = λ past some stands. Emits-nil _ _; quiet = refl }
+
+pub loop-i-preserved : goal.loop-i-preserved
+loop-i-preserved g c = record {
+  emitted = λ past some stands.
+      let rows = rows_looked_at c.args.table.now past (length past - 1) in
+      let within : c.loop-i.i < length rows = omega (arith, c.rows-i-end.ensures.rows c.args.table.now past stands some) in
+      rw (flat_map_next (row_lines c.args.table.now) rows c.loop-i.i c.row.result (c.row.ensures.row c.args.table.now past stands))
+      (Emits-then _ _ _ _ _ _ _ _ (c.loop-i.invariant.emitted past some stands) c.in_ok-write_row.ensures.all);
+  quiet = c.in_ok-write_row.ensures.quiet ∙ c.loop-i.invariant.quiet;
+}
+
+pub returns-in_err-write_row-clause-part : goal.returns-in_err-write_row-clause-part
+unfolding last_frame_lines
+returns-in_err-write_row-clause-part g c = λ past some stands.
+    let rows = rows_looked_at c.args.table.now past (length past - 1) in
+    let f = row_lines c.args.table.now in
+    let within : c.loop-i.i < length rows = omega (arith, c.rows-i-end.ensures.rows c.args.table.now past stands some) in
+    let part = EmitsPart-longer _ _ _ _ (flat_map f (drop (c.loop-i.i + 1) rows)) (EmitsPart-then _ _ _ _ _ _ _ (c.loop-i.invariant.emitted past some stands) c.in_err-write_row.ensures.part) in
+    let p = err_from_is_err_and c.from_residual.result c.from_residual.ensures.1 in
+    rw p.1 (rw (flat_map_around f rows c.loop-i.i c.row.result (c.row.ensures.row c.args.table.now past stands)) part)
+
+pub returns-clause-all : goal.returns-clause-all
+unfolding last_frame_lines
+returns-clause-all g c = λ past some stands.
+    let rows = rows_looked_at c.args.table.now past (length past - 1) in
+    let all : take c.loop-i.i rows ≡ rows = take_all c.loop-i.i rows (omega (arith, c.rows-i-end.ensures.rows c.args.table.now past stands some)) in
+    rw all at (c.loop-i.invariant.emitted past some stands)

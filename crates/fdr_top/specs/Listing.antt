@@ -1,0 +1,52 @@
+-- The listing of a bit list: the text of its gaps and of the rows of its accepted frames, in bit order.
+use Rattle.std.specs.Prelude.{ℕ, ◌+◌, ◌-◌, ◌*◌, ◌==◌, nat_le, nat_lt, if◌then◌else◌, List, [], ◌++◌, length, map, filter, Option, Some, None}
+use Rattle.std.specs.List.{flat_map, range_with_len, list_any}
+use Rattle.fdr_bits.specs.Bits.{word_at}
+use Rattle.fdr_sync.specs.Accepted.{accepted_frames}
+use Rattle.fdr_sync.specs.Events.{Event, Frame, Gap, events_of}
+use Rattle.fdr_table.specs.Rows.{TableRows}
+use Rattle.fdr_recon.specs.declared.Row.{Row}
+use Rattle.fdr_recon.specs.Rows.{ReadFrame, rows_of_frame, rows_looked_at, param_at}
+use Rattle.fdr_listing.specs.Text.{gap_text, row_text}
+
+-- the words of the frame that begins at bit a
+unfoldable pub frame_words : List ℕ → ℕ → ℕ → List ℕ
+frame_words b w a = map (λ k. word_at b (a + 12 * k)) (range_with_len 0 (4 * w))
+
+-- The accepted frame at bit a, as it is read: whether another one ends where it begins, and its words.
+unfoldable pub frame_read : List ℕ → ℕ → ℕ → ReadFrame
+frame_read b w a = record { adjacent = list_any (λ x. x + 48 * w == a) (accepted_frames b w); words = frame_words b w a }
+
+-- the accepted frames up to the one at bit a
+abbrev pub accepted_to : List ℕ → ℕ → ℕ → List ℕ
+accepted_to b w a = filter (λ x. nat_le x a) (accepted_frames b w)
+
+-- the rows of the accepted frame at bit a
+unfoldable pub rows_at : TableRows → List ℕ → ℕ → List Row
+rows_at t b a = let before = accepted_to b t.frame.words a in rows_of_frame t (map (frame_read b t.frame.words) before) (length before - 1)
+
+-- the line of a row, with its parameter's name and number of decimals
+unfoldable pub row_line_of : TableRows → Row → List ℕ
+row_line_of t r = let p = param_at t r.param in row_text r p.name p.decimals
+
+-- the line of a row, where it is listed
+unfoldable pub row_lines : TableRows → Option Row → List ℕ
+row_lines t None = []
+row_lines t (Some r) = row_line_of t r
+
+-- the lines of the last of the frames that were read
+unfoldable pub last_frame_lines : TableRows → List ReadFrame → List ℕ
+last_frame_lines t frames = flat_map (row_lines t) (rows_looked_at t frames (length frames - 1))
+
+-- the line of the gap from one bit to another, if there is a bit between them
+unfoldable pub gap_lines : ℕ → ℕ → List ℕ
+gap_lines from end = if nat_lt from end then gap_text from (end - from) else []
+
+-- the lines of an event
+unfoldable pub lines_of : TableRows → List ℕ → Event → List ℕ
+lines_of t b (Frame a) = flat_map (row_line_of t) (rows_at t b a)
+lines_of t b (Gap a n) = gap_text a n
+
+-- the listing
+unfoldable pub listing_of : TableRows → List ℕ → List ℕ
+listing_of t b = flat_map (lines_of t b) (events_of b t.frame.words)

@@ -1,0 +1,16 @@
+//! The commands of the recorder.
+//!
+//! `run` carries out one command over a source that gives the table, a deck that gives the line of input, and a sink
+//! that takes the output.
+#![tactic(auto)]
+
+mod list_bits;
+mod listing;
+mod load;
+mod outcome;
+mod pulling;
+mod reading;
+mod top;
+
+pub use outcome::Outcome;
+pub use top::run;

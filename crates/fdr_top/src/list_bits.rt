@@ -1,0 +1,83 @@
+//! The listing of the bits of a deck's line.
+
+ghost use Rattle.std.specs.Prelude.{◌≡◌, ◌≢◌, ◌*◌, ◌≤◌, ◌<◌, ◌^◌, ℕ, List, [], length, take, vec_len, OnOk, OnErr, IfOk, ◌⊎◌};
+ghost use Rattle.fdr_io.specs.Faults.{Rose};
+ghost use Rattle.fdr_io.specs.Told.{followed_by};
+ghost use Rattle.fdr_frame.specs.WordCount.{IsWordCount};
+ghost use Rattle.fdr_recon.specs.Past.{HasRawValues, Stands};
+ghost use Rattle.fdr_top.specs.Answers.{IsOfLine, Lists, answer_of};
+ghost use Rattle.fdr_top.specs.Listing.{listing_of};
+
+use crate::listing::{Work, write_listing};
+use crate::outcome::Outcome;
+use crate::pulling::{LineEnd, MOST_LINE_BYTES, PulledLine, pull_line};
+use fdr_deck::Deck;
+use fdr_io::{Failed, Input, Sink};
+use fdr_table::Table;
+use std::alloc::Global;
+
+/// The bytes that are listed: as many as were pulled, or the most that are listed.
+fn listed(line: &PulledLine) -> &[u8]
+    ensures bytes { result.now ≡ take MOST_LINE_BYTES line.now.bytes.items }
+    ensures few { length result.now ≤ MOST_LINE_BYTES }
+{
+    let count = line.bytes.len().min(MOST_LINE_BYTES);
+    &line.bytes[..count]
+}
+
+/// The answer where all was written.
+fn answer_of(end: LineEnd) -> Outcome
+    ensures { result ≡ answer_of end }
+{
+    match end {
+        LineEnd::End => Outcome::Done,
+        LineEnd::Fault => Outcome::ReadFault(Input::Line),
+        LineEnd::TooLong => Outcome::TooLong,
+    }
+}
+
+/// Writes the listing of what was pulled of a line, and gives the answer.
+fn write_line<O: Sink>(work: &mut Work, table: &Table, line: &PulledLine, out: &mut O) -> Outcome
+    requires word_count { IsWordCount table.now.frame.words }
+    requires room { vec_len work.old.words ≡ 4 * table.now.frame.words }
+    requires fresh { Stands work.old.rebuild table.now [] }
+    requires empty { work.old.buffer ≡ [] }
+    ensures answer { (result ≡ Outcome.WriteFault) ⊎ (result ≡ answer_of line.now.end) }
+    ensures text { result ≢ Outcome.WriteFault
+        → O.written out.new ≡ followed_by (O.written out.old) (listing_of table.now (take MOST_LINE_BYTES line.now.bytes.items)) }
+    ensures part { (k : ℕ) × (O.written out.new
+        ≡ followed_by (O.written out.old) (take k (listing_of table.now (take MOST_LINE_BYTES line.now.bytes.items)))) }
+    ensures cause { result ≡ Outcome.WriteFault → Rose (O.faults out.old) (O.faults out.new) }
+    ensures monotone { O.faults out.old ≤ O.faults out.new }
+{
+    match write_listing(work, table, listed(line), out) {
+        Ok(()) => answer_of(line.end),
+        Err(Failed) => Outcome::WriteFault,
+    }
+}
+
+/// Lists the bits of the deck's line by a table whose values are raw numbers.
+pub fn list_line<D: Deck, O: Sink>(
+    alloc: Global,
+    table: &Table,
+    deck: &mut D,
+    out: &mut O,
+) -> Outcome
+    requires word_count { IsWordCount table.now.frame.words }
+    requires raw { HasRawValues table.now.params }
+    ensures answer { (result ≡ Outcome.NoMemory) ⊎ IsOfLine result }
+    ensures lists { result ≢ Outcome.NoMemory
+        → Lists table.now D.tells (D.state deck.old) (D.state deck.new) (O.written out.old) (O.written out.new) result }
+    ensures line_fault { result ≡ Outcome.ReadFault Input.Line → Rose (D.state deck.old).line_faults (D.state deck.new).line_faults }
+    ensures write_fault { result ≡ Outcome.WriteFault → Rose (O.faults out.old) (O.faults out.new) }
+    ensures no_memory { result ≡ Outcome.NoMemory → O.written out.new ≡ O.written out.old }
+    ensures no_memory_faults { result ≡ Outcome.NoMemory → O.faults out.new ≡ O.faults out.old }
+{
+    let Ok(mut work) = Work::new(alloc, table) else {
+        return Outcome::NoMemory;
+    };
+    let Ok(line) = pull_line(alloc, deck) else {
+        return Outcome::NoMemory;
+    };
+    write_line(&mut work, table, &line, out)
+}

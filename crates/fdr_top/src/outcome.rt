@@ -1,0 +1,108 @@
+//! What a command answers.
+
+ghost use Rattle.std.specs.Prelude.{◌≡◌, ◌≤◌, ◌++◌, length};
+ghost use Rattle.fdr_top.specs.Outcome.{status_of, text_of, fault_words, fault_field, input_text};
+
+use fdr_io::Input;
+use fdr_listing::Line;
+use fdr_table::TableFault;
+
+/// The answer of a command. Its number is the exit status of the program.
+#[derive(Clone, Copy, Debug, PartialEq, Eq)]
+pub enum Outcome {
+    /// The words are right, the input was read to its end, and all was written.
+    Done,
+    /// The words of the command line are none of the forms.
+    Usage,
+    /// The table has this fault, the first one, in this row.
+    TableRefused { row: u32, fault: TableFault },
+    /// The table or the line could not be read.
+    ReadFault(Input),
+    /// The output could not be written; a front part of it was.
+    WriteFault,
+    /// The line has more than 268,435,456 bytes; the listing of so many was written.
+    TooLong,
+    /// There was not enough memory.
+    NoMemory,
+}
+
+impl Outcome {
+    /// The exit status.
+    pub fn status(&self) -> u8
+        ensures { result ≡ status_of self.now }
+    {
+        match self {
+            Outcome::Done => 0,
+            Outcome::Usage => 1,
+            Outcome::TableRefused { .. } => 2,
+            Outcome::ReadFault(_) => 8,
+            Outcome::WriteFault => 9,
+            Outcome::TooLong => 11,
+            Outcome::NoMemory => 12,
+        }
+    }
+
+    #[tactic(auto, using(fdr_listing::proofs::Lengths::numbers))]
+    /// What to tell the user, without a line feed; nothing where all went well.
+    pub fn text(&self) -> Line
+        ensures { result ≡ text_of self.now }
+    {
+        let mut line = Line::new();
+        match self {
+            Outcome::Done => {}
+            Outcome::Usage => line.add(b"fdr: usage"),
+            Outcome::TableRefused { row, fault } => {
+                line.add(b"fdr: table row ");
+                line.add_number(u64::from(*row));
+                line.add(b": ");
+                line.add(fault_words(fault));
+                add_field(&mut line, fault);
+            }
+            Outcome::ReadFault(input) => line.add(input_text(input)),
+            Outcome::WriteFault => line.add(b"fdr: output cannot be written"),
+            Outcome::TooLong => line.add(b"fdr: input too long"),
+            Outcome::NoMemory => line.add(b"fdr: no memory"),
+        }
+        line
+    }
+}
+
+/// What is wrong with the table, in words.
+fn fault_words(fault: &TableFault) -> &'static [u8]
+    ensures words { result.now ≡ fault_words fault.now }
+    ensures short { length result.now ≤ 20 }
+{
+    match fault {
+        TableFault::Shape => b"shape",
+        TableFault::Number { .. } => b"number in field ",
+        TableFault::NoFrame => b"no frame row",
+        TableFault::TwoFrames => b"second frame row",
+        TableFault::Name => b"name",
+        TableFault::Twice => b"name used twice",
+        TableFault::Unknown => b"unknown name",
+        TableFault::Size => b"too large",
+        TableFault::NotBuilt => b"not built",
+    }
+}
+
+/// Adds the field that a fault names, if it names one.
+#[tactic(auto, using(fdr_listing::proofs::Lengths::numbers))]
+fn add_field(line: &mut Line, fault: &TableFault)
+    requires { length line.old ≤ 70 }
+    ensures { line.new ≡ line.old ++ fault_field fault.now }
+{
+    if let TableFault::Number { field } = fault {
+        line.add_number(u64::from(*field));
+    }
+}
+
+/// Which input could not be read, in words.
+fn input_text(input: &Input) -> &'static [u8]
+    ensures text { result.now ≡ input_text input.now }
+    ensures short { length result.now ≤ 40 }
+{
+    match input {
+        Input::Table => b"fdr: table cannot be read",
+        Input::Line => b"fdr: input cannot be read",
+    }
+}

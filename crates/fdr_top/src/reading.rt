@@ -1,0 +1,62 @@
+//! Reading the table's bytes from a source.
+
+ghost use Rattle.std.specs.Prelude.{◌≡◌, ◌+◌, ◌≤◌, ◌<◌, ◌≢◌, ◌^◌, ℕ, List, [], length, IsSome, IfSome, IfOk, IfErr, OnOk, OnErr, vec_len, IsErrOf, IsTrue};
+ghost use Rattle.fdr_io.specs.Faults.{Rose};
+ghost use Rattle.fdr_io.specs.Told.{preceded_by};
+
+use fdr_io::{Failed, Source};
+use fdr_table::NoMemory;
+use std::alloc::Global;
+
+/// The most bytes that a table has.
+pub const MOST_TABLE_BYTES: usize = 1048576;
+
+/// How many bytes are asked for at a time.
+const PIECE: usize = 4096;
+
+/// Why bytes weren't read.
+#[derive(Clone, Copy, Debug, PartialEq, Eq)]
+pub enum ReadError {
+    /// The source's count of faults rose.
+    Failed,
+    NoMemory,
+}
+
+/// Reads a piece of at most 4,096 bytes to the end of `bytes`, and answers how many; none only at the source's end.
+fn read_piece<T: Source>(source: &mut T, bytes: &mut Vec<u8>) -> Result<usize, ReadError>
+    ensures counted { IfOk result (λ n. vec_len bytes.new ≡ vec_len bytes.old + n) }
+    ensures moved { OnOk result (preceded_by bytes.new.items (T.rest source.new) ≡ preceded_by bytes.old.items (T.rest source.old)) }
+    ensures end { IfOk result (λ n. n ≡ 0 → IfSome (T.rest source.new) (λ left. left ≡ [])) }
+    ensures failed { IsErrOf result ReadError.Failed → Rose (T.faults source.old) (T.faults source.new) }
+    ensures kept { IsErrOf result ReadError.Failed → T.rest source.new ≡ T.rest source.old }
+    ensures same { IsErrOf result ReadError.Failed → bytes.new.items ≡ bytes.old.items }
+    ensures monotone { T.faults source.old ≤ T.faults source.new }
+{
+    let mut piece = [0; PIECE];
+    match source.read(&mut piece) {
+        Ok(n) => match bytes.extend_from_slice(&piece[..n]) {
+            Ok(()) => Ok(n),
+            Err(_) => Err(ReadError::NoMemory),
+        },
+        Err(Failed) => Err(ReadError::Failed),
+    }
+}
+
+/// Reads the source to its end, or until more than the most bytes of a table are read.
+pub fn read_table_bytes<T: Source>(alloc: Global, source: &mut T) -> Result<Vec<u8>, ReadError>
+    ensures taken { IfOk result (λ bytes. T.rest source.old ≡ preceded_by bytes.items (T.rest source.new)) }
+    ensures whole { IfOk result (λ bytes. vec_len bytes ≤ MOST_TABLE_BYTES → IfSome (T.rest source.new) (λ left. left ≡ [])) }
+    ensures failed { IsErrOf result ReadError.Failed → Rose (T.faults source.old) (T.faults source.new) }
+    ensures few { IsErrOf result ReadError.Failed → ((bytes : List ℕ) × (length bytes ≤ MOST_TABLE_BYTES) × (T.rest source.old ≡ preceded_by bytes (T.rest source.new))) }
+    ensures monotone { T.faults source.old ≤ T.faults source.new }
+{
+    let mut bytes = Vec::new(alloc);
+    while bytes.len() <= MOST_TABLE_BYTES {
+        match read_piece(source, &mut bytes) {
+            Ok(0) => break,
+            Ok(_) => {}
+            Err(error) => return Err(error),
+        }
+    }
+    Ok(bytes)
+}
