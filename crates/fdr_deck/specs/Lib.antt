@@ -1,3 +1,10 @@
 pub mod State
+pub mod Disk
+pub mod Moments
 pub mod Pull
-pub mod Fakes
+pub mod Calls
+pub mod Announced
+pub mod Sure
+pub mod Memory
+pub mod MemorySound
+pub mod Marked

@@ -1,0 +1,53 @@
+-- What calls leave besides the disk.
+use Rattle.std.specs.Prelude.{◌≡◌, ◌⊎◌, ℕ, ◌≤◌, List, min, max}
+use Rattle.fdr_deck.specs.State.{State, Tells, Moment}
+use Rattle.fdr_deck.specs.Disk.{KeepsDisk}
+use Rattle.fdr_deck.specs.Pull.{KeepsLine}
+use Rattle.fdr_deck.specs.Moments.{Elapses, EachMoment, HasPulled}
+
+-- The announced number stays, and it is the least and the greatest since the call, or both these numbers are as they were.
+pub record KeepsTold (old new : State) : Type 0 where
+  pub told : new.told ≡ old.told
+  pub numbers : ((new.least ≡ new.told) × (new.greatest ≡ new.told)) ⊎ ((new.least ≡ old.least) × (new.greatest ≡ old.greatest))
+
+-- what a call of the disk leaves, whatever it answers
+pub record Passes (tells : Tells) (old new : State) : Type 0 where
+  pub line : KeepsLine old new
+  pub line_faults : new.line_faults ≡ old.line_faults
+  pub told : KeepsTold old new
+  pub disk_faults : old.disk_faults ≤ new.disk_faults
+  pub time : Elapses tells old new
+
+-- after a call that did what it is for, the announced number is the least and the greatest
+pub record IsFresh (new : State) : Type 0 where
+  pub least : new.least ≡ new.told
+  pub greatest : new.greatest ≡ new.told
+
+-- a call of the disk that did what it is for
+pub record Succeeds (old new : State) : Type 0 where
+  pub fresh : IsFresh new
+  pub disk_faults : new.disk_faults ≡ old.disk_faults
+
+-- a call that has nothing to do with the disk
+pub record LeavesDisk (old new : State) : Type 0 where
+  pub disk : KeepsDisk old new
+  pub extent : new.extent ≡ old.extent
+  pub disk_faults : new.disk_faults ≡ old.disk_faults
+
+-- an announcement of this number
+pub record Announces (count : ℕ) (old new : State) : Type 0 where
+  pub told : new.told ≡ count
+  pub least : new.least ≡ min old.least count
+  pub greatest : new.greatest ≡ max old.greatest count
+
+-- A moment of a stretch of calls that announce nothing and pull nothing: its image has this property.
+pub record IsQuietMoment (P : List ℕ → Type 0) (old : State) (m : Moment) : Type 0 where
+  pub image : P m.image
+  pub least : old.least ≤ m.told
+  pub greatest : m.told ≤ old.greatest
+  pub pulled : HasPulled old m
+
+-- Calls of the disk, at each of whose moments the image has this property.
+pub record IsQuiet (tells : Tells) (P : List ℕ → Type 0) (old new : State) : Type 0 where
+  pub passes : Passes tells old new
+  pub moments : EachMoment tells old new (IsQuietMoment P old)

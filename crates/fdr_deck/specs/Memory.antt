@@ -1,0 +1,183 @@
+-- What is seen of the deck in memory that may fail: its first content, and all calls since.
+use Rattle.std.specs.Prelude.{◌≡◌, ◌⊎◌, ℕ, ◌+◌, ◌-◌, ◌≤◌, List, [], ◌∷◌, ◌++◌, length, take, replicate, slice_get, ⊤, true, Option, Some, None, Vec}
+use Rattle.std.specs.declared.alloc.Global.{Global}
+use Rattle.fdr_deck.specs.State.{State, Tells, Moment}
+use Rattle.fdr_deck.specs.Disk.{patched, Torn, IsZeros}
+use Rattle.fdr_deck.specs.Announced.{least_of, greatest_of}
+use Rattle.fdr_deck.specs.declared.calls.Call.{Call}
+use Rattle.fdr_deck.specs.declared.calls.Call.TheVariants.{Pass, Write, FailedWrite, Sync, Provide, FailedProvide}
+use Rattle.fdr_deck.specs.declared.calls.Numbers.{Numbers}
+use Rattle.fdr_deck.specs.declared.calls.Entry.{Entry}
+
+-- the calls in their order, each with the numbers as it began, and the numbers now
+pub record Memory : Type 0 where
+  pub first : List ℕ
+  pub entries : List Entry
+  pub numbers : Numbers
+  pub line : List ℕ
+  pub disk_faults : ℕ
+  pub line_faults : ℕ
+  pub failing : List ℕ
+
+-- it tells all
+abbrev pub memory_tells : Tells
+memory_tells = record { line = true; bytes = true; stops = true }
+
+-- what is held after a call
+abbrev pub held_by : Call → List ℕ → List ℕ
+held_by Pass held = held
+held_by (Write at bytes) held = patched at bytes.items held
+held_by (FailedWrite at bytes) held = held
+held_by Sync held = held
+held_by (Provide size) held = replicate size 0
+held_by (FailedProvide size) held = held
+
+-- one of these images, torn in a range of n
+abbrev pub IsTornFrom : ℕ → ℕ → (List ℕ → Type 0) → List ℕ → Type 0
+IsTornFrom at n leaves image = (from : List ℕ) × (leaves from × Torn at n from image)
+
+-- what a stop may leave after a call
+abbrev pub left_by : Call → List ℕ → (List ℕ → Type 0) → List ℕ → Type 0
+left_by Pass held leaves image = leaves image
+left_by (Write at bytes) held leaves image = (image ≡ patched at bytes.items held) ⊎ IsTornFrom at (length bytes.items) leaves image
+left_by (FailedWrite at bytes) held leaves image = IsTornFrom at (length bytes.items) leaves image
+left_by Sync held leaves image = image ≡ held
+left_by (Provide size) held leaves image = image ≡ replicate size 0
+left_by (FailedProvide size) held leaves image = leaves image ⊎ IsZeros size image
+
+-- what a stop within a call may leave: what one before it or after it may, and while the disk is provided some of its zeros
+abbrev pub left_within : Call → List ℕ → (List ℕ → Type 0) → List ℕ → Type 0
+left_within Pass held leaves image = leaves image
+left_within (Write at bytes) held leaves image = leaves image ⊎ left_by (Write at bytes) held leaves image
+left_within (FailedWrite at bytes) held leaves image = leaves image ⊎ left_by (FailedWrite at bytes) held leaves image
+left_within Sync held leaves image = leaves image ⊎ left_by Sync held leaves image
+left_within (Provide size) held leaves image = leaves image ⊎ IsZeros size image
+left_within (FailedProvide size) held leaves image = leaves image ⊎ IsZeros size image
+
+-- what is held after all these calls
+unfoldable pub held_after : List Entry → List ℕ → List ℕ
+held_after [] held = held
+held_after (e ∷ es) held = held_after es (held_by e.call held)
+
+-- what a stop may leave after all these calls
+unfoldable pub left_after : List Entry → List ℕ → (List ℕ → Type 0) → List ℕ → Type 0
+left_after [] held leaves image = leaves image
+left_after (e ∷ es) held leaves image = left_after es (held_by e.call held) (left_by e.call held leaves) image
+
+-- a moment between two calls: the image is one of these, and each number announced since the call before may be told
+pub record IsBetween (leaves : List ℕ → Type 0) (numbers : Numbers) (m : Moment) : Type 0 where
+  pub image : leaves m.image
+  pub least : least_of numbers.announced ≤ m.told
+  pub greatest : m.told ≤ greatest_of numbers.announced
+  pub taken : m.taken ≡ numbers.taken
+  pub before : m.before ≡ numbers.before
+
+-- a moment within a call that began with these numbers
+pub record IsAmid (leaves : List ℕ → Type 0) (numbers : Numbers) (m : Moment) : Type 0 where
+  pub image : leaves m.image
+  pub told : m.told ≡ numbers.announced.told
+  pub taken : m.taken ≡ numbers.taken
+  pub before : m.before ≡ numbers.before
+
+-- the moments since the call of number t began, or those now where there was none
+unfoldable pub moments_after : List Entry → Numbers → List ℕ → (List ℕ → Type 0) → ℕ → Moment → Type 0
+moments_after [] now held leaves t m = IsBetween leaves now m
+moments_after (e ∷ es) now held leaves t m = ((t ≡ 0) × (IsBetween leaves e.numbers m ⊎ IsAmid (left_within e.call held leaves) e.numbers m)) ⊎ moments_after es now (held_by e.call held) (left_by e.call held leaves) (t - 1) m
+
+abbrev pub held_in : Memory → List ℕ
+held_in m = held_after m.entries m.first
+
+-- the disk began settled
+abbrev pub left_in : Memory → List ℕ → Type 0
+left_in m = left_after m.entries m.first (λ image. image ≡ m.first)
+
+abbrev pub memory_state : Memory → State
+memory_state m = record {
+  extent = length (held_in m);
+  held = held_in m;
+  may_leave = left_in m;
+  clock = length m.entries;
+  since = moments_after m.entries m.numbers m.first (λ image. image ≡ m.first);
+  told = m.numbers.announced.told;
+  least = least_of m.numbers.announced;
+  greatest = greatest_of m.numbers.announced;
+  line = m.line;
+  taken = m.numbers.taken;
+  before = m.numbers.before;
+  disk_faults = m.disk_faults;
+  line_faults = m.line_faults;
+}
+
+-- one more call is entered, and no number was announced since
+pub record IsEntered (call : Call) (old new : Memory) : Type 0 where
+  pub entries : new.entries ≡ old.entries ++ (record { call = call; numbers = old.numbers } ∷ [])
+  pub told : new.numbers.announced.told ≡ old.numbers.announced.told
+  pub least : least_of new.numbers.announced ≡ old.numbers.announced.told
+  pub greatest : greatest_of new.numbers.announced ≡ old.numbers.announced.told
+  pub first : new.first ≡ old.first
+  pub failing : new.failing ≡ old.failing
+
+-- where nothing was pulled
+pub record KeepsPulled (old new : Memory) : Type 0 where
+  pub line : new.line ≡ old.line
+  pub taken : new.numbers.taken ≡ old.numbers.taken
+  pub before : new.numbers.before ≡ old.numbers.before
+  pub line_faults : new.line_faults ≡ old.line_faults
+
+-- no call was entered
+pub record IsUnentered (old new : Memory) : Type 0 where
+  pub entries : new.entries ≡ old.entries
+  pub numbers : new.numbers ≡ old.numbers
+  pub first : new.first ≡ old.first
+  pub failing : new.failing ≡ old.failing
+
+-- what is held, where the first content was kept and a changed one stands beside it
+abbrev pub current : List ℕ → Option (Vec ℕ Global) → List ℕ
+current first None = first
+current first (Some changed) = changed.items
+
+-- the range of a write lies in what is held, and only an empty disk is provided
+abbrev pub IsInside : Call → List ℕ → Type 0
+IsInside Pass held = ⊤
+IsInside (Write at bytes) held = at + length bytes.items ≤ length held
+IsInside (FailedWrite at bytes) held = at + length bytes.items ≤ length held
+IsInside Sync held = ⊤
+IsInside (Provide size) held = length held ≡ 0
+IsInside (FailedProvide size) held = length held ≡ 0
+
+-- the range of a write lies in an image of n bytes
+abbrev pub FitsIn : Call → ℕ → Type 0
+FitsIn Pass n = ⊤
+FitsIn (Write at bytes) n = at + length bytes.items ≤ n
+FitsIn (FailedWrite at bytes) n = at + length bytes.items ≤ n
+FitsIn Sync n = ⊤
+FitsIn (Provide size) n = ⊤
+FitsIn (FailedProvide size) n = ⊤
+
+-- so it is with each of these calls
+unfoldable pub AreInside : List Entry → List ℕ → Type 0
+AreInside [] held = ⊤
+AreInside (e ∷ es) held = IsInside e.call held × AreInside es (held_by e.call held)
+
+-- what one stop within a call leaves, where another that came before the call left an image
+abbrev pub IsStopped : Call → List ℕ → List ℕ → Type 0
+IsStopped Pass before image = image ≡ before
+IsStopped (Write at bytes) before image = Torn at (length bytes.items) before image
+IsStopped (FailedWrite at bytes) before image = Torn at (length bytes.items) before image
+IsStopped Sync before image = image ≡ before
+IsStopped (Provide size) before image = IsZeros size image
+IsStopped (FailedProvide size) before image = IsZeros size image
+
+-- what one stop after a call leaves
+abbrev pub IsStoppedAfter : Call → List ℕ → List ℕ → List ℕ → Type 0
+IsStoppedAfter Pass held before image = image ≡ before
+IsStoppedAfter (Write at bytes) held before image = Torn at (length bytes.items) before image
+IsStoppedAfter (FailedWrite at bytes) held before image = Torn at (length bytes.items) before image
+IsStoppedAfter Sync held before image = image ≡ held
+IsStoppedAfter (Provide size) held before image = image ≡ replicate size 0
+IsStoppedAfter (FailedProvide size) held before image = IsZeros size image
+
+-- the image is one that a stop within the call of this number may leave
+abbrev pub MayStopWithin : Memory → ℕ → List ℕ → Type 0
+MayStopWithin m n image = (e : Entry) → slice_get m.entries n ≡ Some e
+    → left_within e.call (held_after (take n m.entries) m.first) (left_after (take n m.entries) m.first (λ i. i ≡ m.first)) image

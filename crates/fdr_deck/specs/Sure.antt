@@ -1,0 +1,47 @@
+-- What is seen of the deck that never fails.
+use Rattle.std.specs.Prelude.{◌≡◌, ℕ, List, length, true, false}
+use Rattle.std.proofs.Common.{refl, arith}
+use Rattle.fdr_deck.specs.State.{State, Tells}
+use Rattle.fdr_deck.specs.Moments.{IsSound}
+use Rattle.fdr_deck.specs.Announced.{least_of, greatest_of}
+use Rattle.fdr_deck.specs.declared.announced.Announced.{Announced}
+
+pub record Sure : Type 0 where
+  pub image : List ℕ
+  pub line : List ℕ
+  pub taken : ℕ
+  pub before : ℕ
+  pub announced : Announced
+
+-- it tells its line and its bytes, and not its stops
+abbrev pub sure_tells : Tells
+sure_tells = record { line = true; bytes = true; stops = false }
+
+abbrev pub sure_state : Sure → State
+sure_state s = record {
+  extent = length s.image;
+  held = s.image;
+  may_leave = λ image. ⊥;
+  clock = 0;
+  since = λ t m. ⊥;
+  told = s.announced.told;
+  least = least_of s.announced;
+  greatest = greatest_of s.announced;
+  line = s.line;
+  taken = s.taken;
+  before = s.before;
+  disk_faults = 0;
+  line_faults = 0;
+}
+
+pub sure_is_sound : (s : Sure) → IsSound sure_tells (sure_state s)
+sure_is_sound s = record {
+  stops_need_bytes = λ told. cc;
+  size = λ told. refl;
+  held = λ told. cc;
+  least = omega arith;
+  greatest = omega arith;
+  only_now = λ told m since. cc;
+  counts_now = λ told m leaves same pulled. cc;
+  falls = λ told earlier t m le now since. cc;
+}

@@ -1,0 +1,34 @@
+// The calls that the deck in memory has seen.
+use crate::Announced;
+
+/// What a call did to the disk.
+#[derive(Drop)]
+pub enum Call {
+    /// It left the disk as it was: a size, a read, a pull, or a sync that failed.
+    Pass,
+    /// It wrote these bytes there.
+    Write { at: usize, bytes: Vec<u8> },
+    /// It was to write these bytes there, and failed.
+    FailedWrite { at: usize, bytes: Vec<u8> },
+    /// It made durable what was written.
+    Sync,
+    /// It gave an empty disk this many zeros.
+    Provide { size: usize },
+    /// It was to give an empty disk this many zeros, and failed.
+    FailedProvide { size: usize },
+}
+
+/// The numbers that stand at one moment.
+#[derive(Clone, Copy, Debug)]
+pub struct Numbers {
+    pub announced: Announced,
+    pub taken: usize,
+    pub before: usize,
+}
+
+/// A call, with the numbers as it began.
+#[derive(Drop)]
+pub struct Entry {
+    pub call: Call,
+    pub numbers: Numbers,
+}
