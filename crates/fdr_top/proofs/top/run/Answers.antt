@@ -34,6 +34,11 @@ returns-in-Err-clause-refused g c = λ row f bytes e told.
     let read = c.in-Err.ensures.refused row f (ap Err e) in
     refused_told _ _ read.0 bytes row f read.1 read.2 read.3 told
 
+pub returns-in-Err-clause-refused_taken : goal.returns-in-Err-clause-refused_taken
+returns-in-Err-clause-refused_taken g c = λ row f e.
+    let read = c.in-Err.ensures.refused row f (ap Err e) in
+    (read.0, read.1, read.2)
+
 pub returns-in-Err-clause-refused_at_end : goal.returns-in-Err-clause-refused_at_end
 returns-in-Err-clause-refused_at_end g c = λ row f bytes e told few.
     let read = c.in-Err.ensures.refused row f (ap Err e) in
