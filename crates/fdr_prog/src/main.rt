@@ -13,11 +13,10 @@ use files::FileSource;
 use lines::FileDeck;
 use outputs::OutSink;
 use std::alloc::Global;
-use std::env;
 use std::env::Env;
-use std::io;
 use std::io::Write;
 use std::process::ExitCode;
+use std::{env, io};
 
 /// The words after the program's name. A word that isn't text is none of the command's.
 fn command_words(rt: &(impl Env + AllocGlobal)) -> Result<Vec<String>, Outcome> {

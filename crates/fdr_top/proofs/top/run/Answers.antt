@@ -1,7 +1,4 @@
-use Rattle.std.proofs.Common.{◌≡◌, ◌∙◌, ap, sym, refl, inl, inr, List, ℕ, Err}
-use Rattle.std.specs.Option.{IfSome}
-use Rattle.fdr_io.specs.Told.{followed_by}
-use Rattle.fdr_top.specs.Listing.{listing_of}
+use Rattle.std.proofs.Common.{◌≡◌, ◌∙◌, ap, sym, Err}
 use Rattle.fdr_top.specs.Tables.{table_in}
 use Rattle.fdr_top.proofs.TableAnswers.{taken_is_all, accepted_told, not_both, refused_told, taken_to_end, memory_is_left, of_line_not_memory, whole_line}
 use Rattle.fdr_top.proofs.top.run.Goals as goal
