@@ -32,6 +32,17 @@ fn strings(alloc: Global, words: &[&str]) -> Result<Vec<String>, AllocError> {
     Ok(strings)
 }
 
+/// What a command answers. Without clauses of its own, so that the tests are proved without those of `run`.
+fn answer(
+    alloc: Global,
+    words: &[String],
+    table: &mut MemSource,
+    deck: &mut MemDeck,
+    out: &mut MemSink,
+) -> Outcome {
+    run(alloc, words, table, deck, out)
+}
+
 #[test]
 fn lists_worked_lines(rt: HostRuntime) -> Result<(), Fail> {
     let alloc = rt.alloc();
@@ -66,8 +77,8 @@ fn lists_worked_lines(rt: HostRuntime) -> Result<(), Fail> {
         let mut table = MemSource::new(ALTITUDE.to_vec(alloc)?, Vec::new(alloc));
         let mut deck = MemDeck::new(alloc, Vec::new(alloc), line.to_vec(alloc)?, Vec::new(alloc));
         let mut out = MemSink::new(alloc, Vec::new(alloc));
-        let answer = run(alloc, &words, &mut table, &mut deck, &mut out);
-        assert_eq!(rt; answer, Outcome::Done, "{shows}");
+        let given = answer(alloc, &words, &mut table, &mut deck, &mut out);
+        assert_eq!(rt; given, Outcome::Done, "{shows}");
         assert_eq!(rt; out.bytes(), listing, "{shows}");
     }
     Ok(())
@@ -162,13 +173,13 @@ fn answers_faults_and_refusals(rt: HostRuntime) -> Result<(), Fail> {
             case.pulls.to_vec(alloc)?,
         );
         let mut out = MemSink::new(alloc, case.writes.to_vec(alloc)?);
-        let answer = run(alloc, &words, &mut table, &mut deck, &mut out);
-        assert_eq!(rt; answer, case.answer, "{shows}");
+        let given = answer(alloc, &words, &mut table, &mut deck, &mut out);
+        assert_eq!(rt; given, case.answer, "{shows}");
         assert_eq!(rt; out.bytes(), case.written, "{shows}");
         let mut table = MemSource::new(ALTITUDE.to_vec(alloc)?, Vec::new(alloc));
         let mut out = MemSink::new(alloc, Vec::new(alloc));
         assert_eq!(rt;
-            run(alloc, &words, &mut table, &mut deck, &mut out),
+            answer(alloc, &words, &mut table, &mut deck, &mut out),
             Outcome::Done,
             "{shows}"
         );
@@ -198,8 +209,8 @@ fn refuses_other_words_and_says_each_answer(rt: HostRuntime) -> Result<(), Fail>
             Vec::new(alloc),
         );
         let mut out = MemSink::new(alloc, Vec::new(alloc));
-        let answer = run(alloc, &words, &mut table, &mut deck, &mut out);
-        assert_eq!(rt; answer, Outcome::Usage, "{case:?}");
+        let given = answer(alloc, &words, &mut table, &mut deck, &mut out);
+        assert_eq!(rt; given, Outcome::Usage, "{case:?}");
         assert_eq!(rt; out.bytes().len(), 0, "{case:?}");
     }
     let row = u32::MAX;
