@@ -2,8 +2,7 @@
 // 0, 768, 1,536 and 2,304.
 ghost use Rattle.std.specs.Prelude.{◌<◌};
 
-/// A frame with this counter and this altitude, and zeros elsewhere: what comes after the sync words is in word 2 and
-/// in word 10 of its first subframe.
+/// Puts a frame at this bit: its counter in word 2 and its altitude in word 10 of the first subframe, and no more.
 pub fn put_frame(bytes: &mut [u8], at: u32, counter: u16, altitude: u16)
     requires { at < 100000 }
 {
