@@ -62,6 +62,21 @@ record_fault_none before bytes named order in_time =
     let late : nat_lt last_time (record_of bytes).time ≡ false = grind (arith, nat_tests) in
     rw (named, back, late) refl
 
+-- what a good record is
+in_time_tests : (kind : Bool) (before time last : ℕ) → (kind && nat_le before time && nat_le time last) ≡ true → time ≤ last
+in_time_tests kind before time last good = grind (arith, nat_tests)
+
+order_tests : (kind : Bool) (before time last : ℕ) → (kind && nat_le before time && nat_le time last) ≡ true → before ≤ time
+order_tests kind before time last good = grind (arith, nat_tests)
+
+pub is_good_in_time : (before : ℕ) (bytes : List ℕ) → is_good before bytes ≡ true → (record_of bytes).time ≤ last_time
+unfolding is_good
+is_good_in_time before bytes good = in_time_tests (has_kind bytes) before (record_of bytes).time last_time good
+
+pub is_good_in_order : (before : ℕ) (bytes : List ℕ) → is_good before bytes ≡ true → before ≤ (record_of bytes).time
+unfolding is_good
+is_good_in_order before bytes good = order_tests (has_kind bytes) before (record_of bytes).time last_time good
+
 -- a record by its kind and its numbers
 abbrev pub record_with : RecordKind → ℕ → ℕ → ℕ → BusRecord
 record_with kind bus word time = record { kind = kind; bus = bus; word = word; time = time }

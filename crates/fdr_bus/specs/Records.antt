@@ -81,6 +81,11 @@ is_decided bytes = has_end (good_prefix bytes) || (length (good_prefix bytes) ==
 abbrev pub IsDecided : List ℕ → Type 0
 IsDecided bytes = (has_end (good_prefix bytes) ≡ true) ⊎ ((length (good_prefix bytes) ≡ most_records) ⊎ (16 * length (good_prefix bytes) + 16 ≤ length bytes))
 
+-- whole good records, with no end among them, so the trace may go on
+pub record IsOpen (bytes : List ℕ) : Type 0 where
+  pub whole : length bytes ≡ 16 * length (good_prefix bytes)
+  pub unended : has_end (good_prefix bytes) ≡ false
+
 -- why no good record follows these, with its number
 unfoldable pub fault_after : List BusRecord → List ℕ → Option (ℕ × TraceFault)
 fault_after good bytes =
