@@ -1,10 +1,13 @@
 -- The good records at the front of a list of records.
-use Rattle.std.proofs.Common.{◌≡◌, ◌≤◌, ◌<◌, ◌⊎◌, inl, inr, ⊎_elim, ℕ, suc, zero, Bool, true, false, List, [], ◌∷◌, ◌++◌, length, refl, sym, ap, ◌∙◌, arith}
-use Rattle.std.proofs.lemmas.Bool.{cases_Bool}
+use Rattle.std.proofs.Common.{◌≡◌, ◌≤◌, ◌<◌, ◌⊎◌, inl, inr, ⊎_elim, ℕ, true, false, List, [], ◌∷◌, ◌++◌, length, get_or, refl, sym, ap, ◌∙◌, arith}
+use Rattle.std.proofs.lemmas.Bool.{cases_Bool, cases_lt}
+use Rattle.std.proofs.lemmas.List.{append-nil}
+use Rattle.fdr_bus.specs.declared.BusRecord.{BusRecord}
 use Rattle.fdr_bus.specs.Records.{record_of, is_good, is_end, good_from, time_after, has_end, last_time}
 use Rattle.fdr_bus.proofs.ParseLemmas.{is_good_in_time}
 
-good_from_bad : (before : ℕ) (bytes : List ℕ) (rest : List (List ℕ)) → is_good before bytes ≡ false → good_from before (bytes ∷ rest) ≡ []
+-- a record that isn't good ends the list
+pub good_from_bad : (before : ℕ) (bytes : List ℕ) (rest : List (List ℕ)) → is_good before bytes ≡ false → good_from before (bytes ∷ rest) ≡ []
 good_from_bad before bytes rest bad = rw bad refl
 
 good_from_end : (before : ℕ) (bytes : List ℕ) (rest : List (List ℕ)) → is_good before bytes ≡ true → is_end (record_of bytes) ≡ true → good_from before (bytes ∷ rest) ≡ record_of bytes ∷ []
@@ -17,9 +20,6 @@ good_from_more before bytes rest good goes_on = rw (good, goes_on) refl
 pub good_from_one : (before : ℕ) (bytes : List ℕ) → is_good before bytes ≡ true → good_from before (bytes ∷ []) ≡ record_of bytes ∷ []
 good_from_one before bytes good =
     ⊎_elim (λ ends. good_from_end before bytes [] good ends) (λ goes_on. good_from_more before bytes [] good goes_on) (cases_Bool (is_end (record_of bytes)))
-
-pub good_from_first_bad : (before : ℕ) (bytes : List ℕ) (rest : List (List ℕ)) → is_good before bytes ≡ false → good_from before (bytes ∷ rest) ≡ []
-good_from_first_bad = good_from_bad
 
 -- the three things that the first record may be
 First : ℕ → List ℕ → Type 0
@@ -83,4 +83,28 @@ time_after-good_from before (bytes ∷ rest) in_time = elim (first_cases before 
   | inl bad ↦ rw bad in_time
   | inr (inl last) ↦ rw (last.0, last.1) (is_good_in_time before bytes last.0)
   | inr (inr more) ↦ rw (more.0, more.1) (time_after-good_from (record_of bytes).time rest (is_good_in_time before bytes more.0))
+]
+
+-- records that follow can only add good ones
+pub good_from-grows : (before : ℕ) (xs ys : List (List ℕ)) → (later : List BusRecord) × (good_from before (xs ++ ys) ≡ good_from before xs ++ later)
+good_from-grows before xs ys = ⊎_elim
+    (λ ended. ([], good_from-ended before xs ys ended ∙ sym (append-nil (good_from before xs))))
+    (λ unended. ⊎_elim
+    (λ fewer. ([], good_from-stopped before xs ys fewer ∙ sym (append-nil (good_from before xs))))
+    (λ all. let full : length (good_from before xs) ≡ length xs = omega (arith, length-good_from before xs) in
+    (good_from (time_after before (good_from before xs)) ys, good_from-append before xs ys unended full))
+    (cases_lt (length (good_from before xs)) (length xs)))
+    (cases_Bool (has_end (good_from before xs)))
+
+-- the record after the good ones, with no end among them, isn't good
+pub is_good-after : (before : ℕ) (xs : List (List ℕ)) → has_end (good_from before xs) ≡ false → length (good_from before xs) < length xs → is_good (time_after before (good_from before xs)) (get_or xs (length (good_from before xs)) []) ≡ false
+unfolding First
+is_good-after before [] unended fewer = absurd (omega arith)
+is_good-after before (bytes ∷ rest) unended fewer = elim (first_cases before bytes) [
+  | inl bad ↦ rw (good_from_bad before bytes rest bad) bad
+  | inr (inl last) ↦ (let h = rw (last.0, last.1) at unended in absurd (cc))
+  | inr (inr more) ↦ (let here = good_from_more before bytes rest more.0 more.1 in
+      let unended_rest = rw (more.0, more.1) at unended in
+      let fewer_rest : length (good_from (record_of bytes).time rest) < length rest = omega (arith, ap length here) in
+      rw here (is_good-after (record_of bytes).time rest unended_rest fewer_rest))
 ]

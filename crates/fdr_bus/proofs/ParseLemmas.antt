@@ -1,6 +1,7 @@
 -- What the bytes of a record say, and whether it may follow.
-use Rattle.std.proofs.Common.{◌≡◌, ◌≤◌, ◌<◌, ℕ, Bool, true, false, List, Option, Some, None, cond, drop, slice_index, sym, ap, ◌∙◌, refl, arith}
-use Rattle.std.specs.Prelude.{nat_le, nat_lt, ◌&&◌, ◌==◌, not, if◌then◌else◌}
+use Rattle.std.proofs.Common.{◌≡◌, ◌≤◌, ◌<◌, ⊎_elim, ℕ, Bool, true, false, List, Some, None, drop, slice_index, sym, ap, ◌∙◌, refl, arith}
+use Rattle.std.specs.Prelude.{nat_le, nat_lt, ◌&&◌, ◌==◌, if◌then◌else◌}
+use Rattle.std.proofs.lemmas.Bool.{cases_Bool, cases_lt}
 use Rattle.std.proofs.lemmas.Bool.Decides.{nat_tests}
 use Rattle.byteorder.specs.Endian.{big_number}
 use Rattle.fdr_bus.specs.Records.{has_kind, record_of, is_good, record_fault, last_time}
@@ -76,6 +77,19 @@ is_good_in_time before bytes good = in_time_tests (has_kind bytes) before (recor
 pub is_good_in_order : (before : ℕ) (bytes : List ℕ) → is_good before bytes ≡ true → before ≤ (record_of bytes).time
 unfolding is_good
 is_good_in_order before bytes good = order_tests (has_kind bytes) before (record_of bytes).time last_time good
+
+-- a record that isn't good has a fault
+pub record_fault_some : (before : ℕ) (bytes : List ℕ) → is_good before bytes ≡ false → record_fault before bytes ≡ None → ⊥
+record_fault_some before bytes bad none = ⊎_elim
+    (λ named. ⊎_elim
+    (λ early. (let e = record_fault_early before bytes named early in absurd (cc)))
+    (λ order. ⊎_elim
+    (λ late. (let e = record_fault_late before bytes named order late in absurd (cc)))
+    (λ in_time. (let e = is_good_yes before bytes named order in_time in absurd (cc)))
+    (cases_lt last_time (record_of bytes).time))
+    (cases_lt (record_of bytes).time before))
+    (λ unnamed. (let e = record_fault_unnamed before bytes unnamed in absurd (cc)))
+    (cases_Bool (has_kind bytes))
 
 -- a record by its kind and its numbers
 abbrev pub record_with : RecordKind → ℕ → ℕ → ℕ → BusRecord

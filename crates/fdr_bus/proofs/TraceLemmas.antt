@@ -1,17 +1,19 @@
 -- The good prefix of a trace that is read a record at a time, and its fault.
-use Rattle.std.proofs.Common.{◌≡◌, ◌≤◌, ◌<◌, ◌⊎◌, inl, inr, ⊎_elim, ℕ, suc, zero, ◌+◌, ◌-◌, ◌*◌, ◌/◌, Bool, true, false, List, [], ◌∷◌, ◌++◌, Option, Some, None, length, take, refl, sym, ap, ◌∙◌, arith, append_assoc, length-append, eq-eqb}
-use Rattle.std.proofs.lemmas.Bool.{cases_lt, or_cases, eqb-true, leb-true}
+use Rattle.std.proofs.Common.{◌≡◌, ◌≤◌, ◌<◌, ◌⊎◌, inl, inr, ⊎_elim, ℕ, ◌+◌, ◌-◌, ◌*◌, Bool, true, false, List, [], ◌∷◌, ◌++◌, Option, Some, None, length, get_or, take, refl, sym, ap, ◌∙◌, arith, length-append, eq-eqb}
+use Rattle.std.proofs.lemmas.Bool.{cases_Bool, cases_lt, or_cases, eqb-true, leb-true}
 use Rattle.std.proofs.lemmas.Bool.Decides.{nat_tests}
 use Rattle.std.specs.Prelude.{◌==◌, ◌||◌, nat_le, nat_lt}
-use Rattle.std.proofs.lemmas.List.{append-nil, take-append-le, take_all, length-take}
+use Rattle.std.proofs.lemmas.List.{append-nil, take-append-le, take_all, length-take, get_or-take}
 use Rattle.std.proofs.lemmas.List.Folds.{list_any-append}
 use Rattle.std.proofs.Math.Seq.{take-append-add}
+use Rattle.std.specs.Option.{option_map}
 use Rattle.fdr_bus.specs.Records.{record_bytes, whole_records, record_of, is_good, is_end, good_from, good_prefix, time_of, has_end, most_records, last_time, is_decided, IsDecided, IsOpen, record_fault, fault_after, trace_fault}
 use Rattle.fdr_bus.specs.declared.BusRecord.{BusRecord}
 use Rattle.fdr_bus.specs.declared.TraceFault.{TraceFault}
 use Rattle.fdr_bus.specs.declared.TraceFault.TheVariants as fault
-use Rattle.fdr_bus.proofs.GoodRecords.{good_from_one, good_from_first_bad, length-good_from, good_from-append, good_from-ended, good_from-stopped, time_after-good_from}
-use Rattle.fdr_bus.proofs.WholeRecords.{length-whole_records, record_bytes-next, whole_records-append, whole_records-rest, whole_records-next}
+use Rattle.fdr_bus.proofs.GoodRecords.{good_from_one, good_from_bad, length-good_from, good_from-append, good_from-ended, good_from-stopped, time_after-good_from, good_from-grows, is_good-after}
+use Rattle.fdr_bus.proofs.ParseLemmas.{record_fault_some}
+use Rattle.fdr_bus.proofs.WholeRecords.{length-whole_records, get_or-whole_records, record_bytes-next, whole_records-append, whole_records-rest, whole_records-next}
 
 some_records : 0 < most_records
 unfolding most_records
@@ -136,7 +138,7 @@ good_prefix_stays bytes next so_far sixteen bad =
     ∙ ap (λ xs. good_from 0 (take most_records xs)) records
     ∙ ap (good_from 0) (take_all most_records (whole_records bytes ++ next ∷ []) fits)
     ∙ open_append bytes (next ∷ []) so_far
-    ∙ ap (λ good. good_prefix bytes ++ good) (good_from_first_bad (time_of (good_prefix bytes)) next [] bad)
+    ∙ ap (λ good. good_prefix bytes ++ good) (good_from_bad (time_of (good_prefix bytes)) next [] bad)
     ∙ append-nil (good_prefix bytes))
     (λ full. good_prefix-decided bytes next (inr (inl (omega (arith, length-good_prefix-most bytes)))))
     (cases_lt n most_records)
@@ -192,6 +194,18 @@ fault_after_bad good bytes why unended few long faulty =
     let test : (length good == most_records) ≡ false = grind (arith, nat_tests) in
     let cut : nat_lt (length bytes) (16 * length good + 16) ≡ false = grind (arith, nat_tests) in
     rw (unended, test, cut, faulty) refl
+
+option_map_none : {X Y : Type 0} (f : X → Y) (o : Option X) → option_map f o ≡ None → o ≡ None
+option_map_none f None none = refl
+option_map_none f (Some x) none = absurd (cc)
+
+fault_after_long : (good : List BusRecord) (bytes : List ℕ) → has_end good ≡ false → length good < most_records → 16 * length good + 16 ≤ length bytes → fault_after good bytes ≡ None → record_fault (time_of good) (record_bytes bytes (length good)) ≡ None
+unfolding fault_after
+fault_after_long good bytes unended few long none =
+    let test : (length good == most_records) ≡ false = grind (arith, nat_tests) in
+    let cut : nat_lt (length bytes) (16 * length good + 16) ≡ false = grind (arith, nat_tests) in
+    let left = rw (unended, test, cut) at none in
+    option_map_none (λ (why : TraceFault). let p : ℕ × TraceFault = (length good, why) in p) (record_fault (time_of good) (record_bytes bytes (length good))) left
 
 trace_fault_is : (bytes : List ℕ) → trace_fault bytes ≡ fault_after (good_prefix bytes) bytes
 unfolding trace_fault
@@ -267,3 +281,47 @@ is_decided_true bytes decided = decided_test (has_end (good_prefix bytes)) (leng
 
 pub IsDecided_from_test : (bytes : List ℕ) → is_decided bytes ≡ true → IsDecided bytes
 IsDecided_from_test bytes test = decided_from_test (has_end (good_prefix bytes)) (length (good_prefix bytes)) most_records (length bytes) test
+
+take_grows : (most : ℕ) (xs ys : List (List ℕ)) → (later : List (List ℕ)) × (take most (xs ++ ys) ≡ take most xs ++ later)
+take_grows most xs ys = ⊎_elim
+    (λ short. let n = most - length xs in
+    let count : most ≡ length xs + n = omega arith in
+    let all : take most xs ≡ xs = take_all most xs (omega arith) in
+    (take n ys, ap (λ k. take k (xs ++ ys)) count ∙ take-append-add xs ys n ∙ sym (ap (λ zs. zs ++ take n ys) all)))
+    (λ within. ([], take-append-le most xs ys within ∙ sym (append-nil (take most xs))))
+    (cases_lt (length xs) most)
+
+-- bytes that follow can only add good records
+pub good_prefix-append : (bytes more : List ℕ) → (later : List BusRecord) × (good_prefix (bytes ++ more) ≡ good_prefix bytes ++ later)
+unfolding good_prefix
+good_prefix-append bytes more =
+    let records = whole_records-append bytes more in
+    let taken = take_grows most_records (whole_records bytes) records.0 in
+    let grown = good_from-grows 0 (take most_records (whole_records bytes)) taken.0 in
+    (grown.0, ap (λ xs. good_from 0 (take most_records xs)) records.1 ∙ ap (good_from 0) taken.1 ∙ grown.1)
+
+-- the record after the good ones of a line with no end among them isn't good
+pub is_good-after_prefix : (bytes : List ℕ) → has_end (good_prefix bytes) ≡ false → length (good_prefix bytes) < most_records → 16 * length (good_prefix bytes) + 16 ≤ length bytes → is_good (time_of (good_prefix bytes)) (record_bytes bytes (length (good_prefix bytes))) ≡ false
+unfolding good_prefix
+is_good-after_prefix bytes unended few long =
+    let front = take most_records (whole_records bytes) in
+    let n = length (good_from 0 front) in
+    let within : n < length front = omega (arith, length-take most_records (whole_records bytes), length-whole_records bytes) in
+    let at : get_or front n [] ≡ record_bytes bytes n = get_or-take most_records (whole_records bytes) n [] few ∙ get_or-whole_records bytes n (omega arith) in
+    ap (is_good (time_of (good_from 0 front))) (sym at) ∙ is_good-after 0 front unended within
+
+-- only a line with an end record has no fault
+pub trace_fault_none : (bytes : List ℕ) → trace_fault bytes ≡ None → has_end (good_prefix bytes) ≡ true
+trace_fault_none bytes none =
+    let good = good_prefix bytes in
+    let here = sym (trace_fault_is bytes) ∙ none in
+    ⊎_elim (λ ended. ended)
+    (λ unended. ⊎_elim
+    (λ few. ⊎_elim
+    (λ short. (let e = fault_after_truncated good bytes unended few short in absurd (cc)))
+    (λ long. absurd (record_fault_some (time_of good) (record_bytes bytes (length good)) (is_good-after_prefix bytes unended few long) (fault_after_long good bytes unended few long here)))
+    (cases_lt (length bytes) (16 * length good + 16)))
+    (λ full. (let many : length good ≡ most_records = omega (arith, length-good_prefix-most bytes) in
+    let e = fault_after_many good bytes unended many in absurd (cc)))
+    (cases_lt (length good) most_records))
+    (cases_Bool (has_end good))

@@ -1,8 +1,8 @@
 -- The whole records of bytes that are followed by others.
-use Rattle.std.proofs.Common.{◌≡◌, ◌≤◌, ◌<◌, ℕ, suc, zero, ◌+◌, ◌*◌, ◌/◌, List, [], ◌∷◌, ◌++◌, length, take, drop, map, refl, sym, ap, ◌∙◌, arith, length-append, length-drop, append_assoc}
+use Rattle.std.proofs.Common.{◌≡◌, ◌≤◌, ◌<◌, ℕ, suc, zero, ◌+◌, ◌*◌, ◌/◌, List, [], ◌∷◌, ◌++◌, length, get_or, take, drop, map, refl, sym, ap, ◌∙◌, arith, length-append, length-drop, append_assoc}
 use Rattle.std.specs.List.{range_with_len}
 use Rattle.std.proofs.lemmas.List.{append-nil, take-append-le, take-append-drop, drop-append-le, take_all}
-use Rattle.std.proofs.lemmas.List.FromFn.{map-range_with_len_more, take-map-range_with_len, length-map-range_with_len}
+use Rattle.std.proofs.lemmas.List.FromFn.{map-range_with_len_more, take-map-range_with_len, get_or-map-range_with_len, length-map-range_with_len}
 use Rattle.std.proofs.Math.Seq.{drop-append_seam}
 use Rattle.fdr_bus.specs.Records.{record_bytes, whole_records}
 
@@ -66,3 +66,7 @@ whole_records-next bytes next n whole sixteen =
     ∙ ap (λ xs. xs ++ record_bytes (bytes ++ next) n ∷ []) (first_records bytes next n (omega arith))
     ∙ ap (λ x. map (record_bytes bytes) (range_with_len 0 n) ++ x ∷ []) last
     ∙ ap (λ k. map (record_bytes bytes) (range_with_len 0 k) ++ next ∷ []) (sym count)
+
+pub get_or-whole_records : (bytes : List ℕ) (i : ℕ) → i < length bytes / 16 → get_or (whole_records bytes) i [] ≡ record_bytes bytes i
+unfolding whole_records
+get_or-whole_records bytes i within = get_or-map-range_with_len (record_bytes bytes) 0 (length bytes / 16) i i [] within (omega arith)

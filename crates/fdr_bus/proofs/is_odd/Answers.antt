@@ -1,6 +1,5 @@
 use Rattle.std.proofs.Common.{arith, ◌≡◌, suc, ◌+◌}
 use Rattle.std.proofs.lemmas.Nat.Bits.{shr_and_one}
-use Rattle.fdr_bus.specs.Words.{ones_to}
 use Rattle.fdr_bus.proofs.WordLemmas.{ones_to_more}
 use Rattle.fdr_bus.proofs.is_odd.Goals as goal
 

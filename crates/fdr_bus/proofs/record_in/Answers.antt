@@ -1,7 +1,6 @@
-use Rattle.std.proofs.Common.{◌≡◌, arith, true, ap, ◌∙◌, drop, length}
+use Rattle.std.proofs.Common.{◌≡◌, arith, drop}
 use Rattle.std.proofs.lemmas.Grind.{common_steps}
 use Rattle.byteorder.specs.Endian.{big_number}
-use Rattle.fdr_bus.specs.Records.{has_kind, record_of}
 use Rattle.fdr_bus.proofs.ParseLemmas.{record_of_word, record_of_end}
 use Rattle.fdr_bus.proofs.record_in.Goals as goal
 use Rattle.fdr_bus.proofs.record_in.Goals.{in-1, in-2}
