@@ -4,3 +4,4 @@ pub mod GoodRecords
 pub mod WholeRecords
 pub mod TraceLemmas
 pub mod HeldLemmas
+mod WorkedTrace
