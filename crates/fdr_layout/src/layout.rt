@@ -99,7 +99,7 @@ fn ending_among(
     for bit in start..start + 48 * words {
         add_ending_at(&mut found, alloc, samples, bit)?;
     }
-    // More than 2^32 samples would need more memory than there is.
+    // So many samples, 2^32 or more, would need more memory than there is.
     if found.len() > u32::MAX as usize {
         return Err(NoMemory);
     }

@@ -1,5 +1,5 @@
 -- The lines of a listing. Each ends with a line feed.
-use Rattle.std.specs.Prelude.{ℕ, ◌+◌, ◌-◌, ◌/◌, ◌%◌, ◌^◌, suc, ℤ, pos, negsuc, if◌then◌else◌, ◌==◌, List, [], ◌∷◌, ◌++◌, length, replicate, codes, decimal}
+use Rattle.std.specs.Prelude.{ℕ, ◌-◌, ◌/◌, ◌%◌, ◌^◌, suc, ℤ, pos, negsuc, if◌then◌else◌, ◌==◌, List, [], ◌∷◌, ◌++◌, length, replicate, codes, decimal}
 use Rattle.fdr_recon.specs.declared.Row.{Row}
 
 -- n as d digits, with zeros in front

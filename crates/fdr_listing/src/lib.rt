@@ -2,6 +2,8 @@
 #![tactic(auto)]
 
 mod line;
+#[cfg(test)]
+mod tests;
 mod text;
 
 pub use line::Line;

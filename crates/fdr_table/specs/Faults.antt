@@ -13,37 +13,37 @@ abbrev pub where_true : Bool → TableFault → Option TableFault
 where_true b f = if b then Some f else None
 
 abbrev pub has_frame : List Row → Bool
-has_frame rows = list_any (λ (row : Row). is_frame (kind_of row)) rows
+has_frame rows = list_any (λ (fields : Row). is_frame (kind_of fields)) rows
 
 abbrev pub has_name : List Row → List ℕ → Bool
 has_name rows name = list_any (λ other. bytes_eq other name) (names_of rows)
 
 abbrev pub param_count : List Row → ℕ
-param_count rows = length (filter (λ (row : Row). is_param (kind_of row)) rows)
+param_count rows = length (filter (λ (fields : Row). is_param (kind_of fields)) rows)
 
 abbrev pub place_count : List Row → ℕ
-place_count rows = length (filter (λ (row : Row). is_place (kind_of row)) rows)
+place_count rows = length (filter (λ (fields : Row). is_place (kind_of fields)) rows)
 
 -- the fault of a row of each kind below the rows `above`
 abbrev pub kind_fault : List Row → Row → RowKind → Option TableFault
-kind_fault above row kind.Frame = first_some (
-    frame_misread row
+kind_fault above fields kind.Frame = first_some (
+    frame_misread fields
     ∷ where_true (has_frame above) fault.TwoFrames ∷ [])
-kind_fault above row kind.Param = first_some (
-    param_misread row
+kind_fault above fields kind.Param = first_some (
+    param_misread fields
     ∷ where_true (not (has_frame above)) fault.NoFrame
-    ∷ misnamed row
-    ∷ where_true (has_name above (field row 1)) fault.Twice
+    ∷ misnamed fields
+    ∷ where_true (has_name above (field fields 1)) fault.Twice
     ∷ where_true (nat_le 2048 (param_count above)) fault.Size ∷ [])
-kind_fault above row kind.Place = first_some (
-    place_misread row
+kind_fault above fields kind.Place = first_some (
+    place_misread fields
     ∷ where_true (not (has_frame above)) fault.NoFrame
-    ∷ where_true (not (has_name above (field row 1))) fault.Unknown
+    ∷ where_true (not (has_name above (field fields 1))) fault.Unknown
     ∷ where_true (nat_le 8192 (place_count above)) fault.Size ∷ [])
 
 -- the fault of a row below the rows `above`
 abbrev pub row_fault : List Row → Row → Option TableFault
-row_fault above row = option_map_or (kind_fault above row) (kind_of row) (Some fault.Shape)
+row_fault above fields = option_map_or (kind_fault above fields) (kind_of fields) (Some fault.Shape)
 
 -- the first row with a fault, and its fault; a table with no row has no frame
 abbrev pub first_fault : List Row → Option (ℕ × TableFault)

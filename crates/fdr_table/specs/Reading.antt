@@ -20,14 +20,14 @@ records_of bytes = records default_config (strip_bom bytes)
 
 -- a field, empty where the row has no such field
 unfoldable pub field : Row → ℕ → List ℕ
-field row i = slice_index_or row i []
+field fields i = slice_index_or fields i []
 
 -- a row of each kind has its letter and its count of fields
 unfoldable pub kind_of : Row → Option RowKind
-kind_of row =
-    if bytes_eq (field row 0) (codes "F") && (length row == 4) then Some kind.Frame
-    else if bytes_eq (field row 0) (codes "P") && (length row == 13) then Some kind.Param
-    else if bytes_eq (field row 0) (codes "L") && (length row == 10) then Some kind.Place
+kind_of fields =
+    if bytes_eq (field fields 0) (codes "F") && (length fields == 4) then Some kind.Frame
+    else if bytes_eq (field fields 0) (codes "P") && (length fields == 13) then Some kind.Param
+    else if bytes_eq (field fields 0) (codes "L") && (length fields == 10) then Some kind.Place
     else None
 
 abbrev pub is_frame : Option RowKind → Bool
@@ -71,88 +71,88 @@ bits_from size (Some lsb) = size + 1 - lsb
 
 -- the first field of a frame row that isn't right
 unfoldable pub frame_misread : Row → Option TableFault
-frame_misread row = first_some (
-    misread 1 (number_of frame_sizes (field row 1))
-    ∷ misread 2 (number_in 2 1024 (field row 2))
-    ∷ misread 3 (number_in 1 4 (field row 3)) ∷ [])
+frame_misread fields = first_some (
+    misread 1 (number_of frame_sizes (field fields 1))
+    ∷ misread 2 (number_in 2 1024 (field fields 2))
+    ∷ misread 3 (number_in 1 4 (field fields 3)) ∷ [])
 
 -- the first field of a parameter's row that isn't right, the name aside
 unfoldable pub param_misread : Row → Option TableFault
-param_misread row = first_some (
-    misread 2 (number_in 0 255 (field row 2))
-    ∷ misread 3 (label_of (field row 3))
-    ∷ misread 4 (sdi_of (field row 4))
-    ∷ misread 5 (number_in 1 32 (field row 5))
-    ∷ misread 6 (number_in 1 (bits_from 32 (number_in 1 32 (field row 5))) (field row 6))
-    ∷ misread 7 (sign_of (field row 7))
-    ∷ misread 8 (signed_within 1000000000 (field row 8))
-    ∷ misread 9 (number_in 1 1000000000 (field row 9))
-    ∷ misread 10 (signed_within 1000000000000000 (field row 10))
-    ∷ misread 11 (number_in 0 9 (field row 11))
-    ∷ misread 12 (number_in 1 262144 (field row 12)) ∷ [])
+param_misread fields = first_some (
+    misread 2 (number_in 0 255 (field fields 2))
+    ∷ misread 3 (label_of (field fields 3))
+    ∷ misread 4 (sdi_of (field fields 4))
+    ∷ misread 5 (number_in 1 32 (field fields 5))
+    ∷ misread 6 (number_in 1 (bits_from 32 (number_in 1 32 (field fields 5))) (field fields 6))
+    ∷ misread 7 (sign_of (field fields 7))
+    ∷ misread 8 (signed_within 1000000000 (field fields 8))
+    ∷ misread 9 (number_in 1 1000000000 (field fields 9))
+    ∷ misread 10 (signed_within 1000000000000000 (field fields 10))
+    ∷ misread 11 (number_in 0 9 (field fields 11))
+    ∷ misread 12 (number_in 1 262144 (field fields 12)) ∷ [])
 
 -- the first field of a place's row that isn't right, the name aside
 unfoldable pub place_misread : Row → Option TableFault
-place_misread row = first_some (
-    misread 2 (number_in 1 4 (field row 2))
-    ∷ misread 3 (subframes_of (field row 3))
-    ∷ misread 4 (number_in 1 1024 (field row 4))
-    ∷ misread 5 (number_in 0 1024 (field row 5))
-    ∷ misread 6 (number_in 1 12 (field row 6))
-    ∷ misread 7 (number_in 1 (bits_from 12 (number_in 1 12 (field row 6))) (field row 7))
-    ∷ misread 8 (number_in 0 (last_cycle (number_of periods (field row 9))) (field row 8))
-    ∷ misread 9 (number_of periods (field row 9)) ∷ [])
+place_misread fields = first_some (
+    misread 2 (number_in 1 4 (field fields 2))
+    ∷ misread 3 (subframes_of (field fields 3))
+    ∷ misread 4 (number_in 1 1024 (field fields 4))
+    ∷ misread 5 (number_in 0 1024 (field fields 5))
+    ∷ misread 6 (number_in 1 12 (field fields 6))
+    ∷ misread 7 (number_in 1 (bits_from 12 (number_in 1 12 (field fields 6))) (field fields 7))
+    ∷ misread 8 (number_in 0 (last_cycle (number_of periods (field fields 9))) (field fields 8))
+    ∷ misread 9 (number_of periods (field fields 9)) ∷ [])
 
 unfoldable pub misnamed : Row → Option TableFault
-misnamed row = if is_name (field row 1) then None else Some fault.Name
+misnamed fields = if is_name (field fields 1) then None else Some fault.Name
 
 -- what a frame row says
 unfoldable pub frame_row : Row → Option FrameRow
-frame_row row =
-    if is_frame (kind_of row) && is_none (frame_misread row) then Some (record {
-      words = unwrap_or (number_of frame_sizes (field row 1)) 0;
-      cword = unwrap_or (number_in 2 1024 (field row 2)) 0;
-      csub = unwrap_or (number_in 1 4 (field row 3)) 0;
+frame_row fields =
+    if is_frame (kind_of fields) && is_none (frame_misread fields) then Some (record {
+      words = unwrap_or (number_of frame_sizes (field fields 1)) 0;
+      cword = unwrap_or (number_in 2 1024 (field fields 2)) 0;
+      csub = unwrap_or (number_in 1 4 (field fields 3)) 0;
     }) else None
 
 -- what a parameter's row says, as row `number` of its table
 unfoldable pub param_row : ℕ → Row → Option ParamRow
-param_row number row =
-    if is_param (kind_of row) && is_none (first_some (param_misread row ∷ misnamed row ∷ [])) then Some (record {
-      name = field row 1;
-      bus = unwrap_or (number_in 0 255 (field row 2)) 0;
-      label = unwrap_or (label_of (field row 3)) 0;
-      sdi = unwrap_or (sdi_of (field row 4)) None;
-      lsb = unwrap_or (number_in 1 32 (field row 5)) 0;
-      width = unwrap_or (number_in 1 (bits_from 32 (number_in 1 32 (field row 5))) (field row 6)) 0;
-      signed = unwrap_or (sign_of (field row 7)) false;
-      num = unwrap_or (signed_within 1000000000 (field row 8)) (pos 0);
-      den = pos (unwrap_or (number_in 1 1000000000 (field row 9)) 0);
-      offset = unwrap_or (signed_within 1000000000000000 (field row 10)) (pos 0);
-      decimals = unwrap_or (number_in 0 9 (field row 11)) 0;
-      rate = unwrap_or (number_in 1 262144 (field row 12)) 0;
+param_row number fields =
+    if is_param (kind_of fields) && is_none (first_some (param_misread fields ∷ misnamed fields ∷ [])) then Some (record {
+      name = field fields 1;
+      bus = unwrap_or (number_in 0 255 (field fields 2)) 0;
+      label = unwrap_or (label_of (field fields 3)) 0;
+      sdi = unwrap_or (sdi_of (field fields 4)) None;
+      lsb = unwrap_or (number_in 1 32 (field fields 5)) 0;
+      width = unwrap_or (number_in 1 (bits_from 32 (number_in 1 32 (field fields 5))) (field fields 6)) 0;
+      signed = unwrap_or (sign_of (field fields 7)) false;
+      num = unwrap_or (signed_within 1000000000 (field fields 8)) (pos 0);
+      den = pos (unwrap_or (number_in 1 1000000000 (field fields 9)) 0);
+      offset = unwrap_or (signed_within 1000000000000000 (field fields 10)) (pos 0);
+      decimals = unwrap_or (number_in 0 9 (field fields 11)) 0;
+      rate = unwrap_or (number_in 1 262144 (field fields 12)) 0;
       row = number;
     }) else None
 
 -- what a place's row says, as row `number` of its table, of the parameter with index `param`
 unfoldable pub place_row : ℕ → ℕ → Row → Option PlaceRow
-place_row param number row =
-    if is_place (kind_of row) && is_none (place_misread row) then Some (record {
+place_row param number fields =
+    if is_place (kind_of fields) && is_none (place_misread fields) then Some (record {
       param = param;
-      part = unwrap_or (number_in 1 4 (field row 2)) 0;
-      subs = unwrap_or (subframes_of (field row 3)) 0;
-      word = unwrap_or (number_in 1 1024 (field row 4)) 0;
-      step = unwrap_or (number_in 0 1024 (field row 5)) 0;
-      lsb = unwrap_or (number_in 1 12 (field row 6)) 0;
-      width = unwrap_or (number_in 1 (bits_from 12 (number_in 1 12 (field row 6))) (field row 7)) 0;
-      cycle = unwrap_or (number_in 0 (last_cycle (number_of periods (field row 9))) (field row 8)) 0;
-      period = unwrap_or (number_of periods (field row 9)) 0;
+      part = unwrap_or (number_in 1 4 (field fields 2)) 0;
+      subs = unwrap_or (subframes_of (field fields 3)) 0;
+      word = unwrap_or (number_in 1 1024 (field fields 4)) 0;
+      step = unwrap_or (number_in 0 1024 (field fields 5)) 0;
+      lsb = unwrap_or (number_in 1 12 (field fields 6)) 0;
+      width = unwrap_or (number_in 1 (bits_from 12 (number_in 1 12 (field fields 6))) (field fields 7)) 0;
+      cycle = unwrap_or (number_in 0 (last_cycle (number_of periods (field fields 9))) (field fields 8)) 0;
+      period = unwrap_or (number_of periods (field fields 9)) 0;
       row = number;
     }) else None
 
 -- the names of the parameters' rows, in order
 abbrev pub names_of : List Row → List (List ℕ)
-names_of rows = map (λ (row : Row). field row 1) (filter (λ (row : Row). is_param (kind_of row)) rows)
+names_of rows = map (λ (fields : Row). field fields 1) (filter (λ (fields : Row). is_param (kind_of fields)) rows)
 
 -- the index of the parameter with this name
 abbrev pub param_named : List Row → List ℕ → ℕ

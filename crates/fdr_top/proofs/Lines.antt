@@ -9,11 +9,11 @@ use Rattle.std.specs.Prelude.{Option, Some, None, slice_get, take, drop, ◌+◌
 use Rattle.std.specs.List.{flat_map, filter_map}
 use Rattle.fdr_bits.specs.Bits.{bits_in}
 use Rattle.fdr_sync.specs.Frames.{IsFirstFrameFrom, HasNoFrameFrom}
-use Rattle.fdr_sync.specs.Events.{Event, Frame, Gap, gap_between, events_from}
+use Rattle.fdr_sync.specs.Events.{Frame, Gap, gap_between, events_from}
 use Rattle.fdr_sync.proofs.EventSteps.{events_from_first, events_from_none}
 use Rattle.fdr_table.specs.Rows.{TableRows}
 use Rattle.fdr_recon.specs.declared.Row.{Row}
-use Rattle.fdr_recon.specs.Rows.{ReadFrame, rows_of_frame, rows_looked_at}
+use Rattle.fdr_recon.specs.Rows.{rows_of_frame, rows_looked_at}
 use Rattle.fdr_recon.specs.Past.{read_frame}
 use Rattle.fdr_top.specs.FramesSoFar.{SoFar}
 use Rattle.fdr_top.proofs.SoFarLemmas.{accepted_to_next, adjacent_next}

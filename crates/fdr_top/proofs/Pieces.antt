@@ -1,5 +1,5 @@
 -- Bytes that are read piece by piece.
-use Rattle.std.proofs.Common.{◌≡◌, ℕ, List, [], take, drop, Option, Some, None, ap, ◌∙◌}
+use Rattle.std.proofs.Common.{◌≡◌, ℕ, List, [], drop, Option, Some, None, ap, ◌∙◌}
 use Rattle.std.specs.Prelude.{IfSome}
 use Rattle.std.proofs.Math.Seq.{drop-nil}
 use Rattle.fdr_io.specs.Told.{Gives, without_first}

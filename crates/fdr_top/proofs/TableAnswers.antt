@@ -1,6 +1,6 @@
 -- The table of a source that tells its bytes, and what is answered to it.
-use Rattle.std.proofs.Common.{◌≡◌, ℕ, ◌+◌, ◌<◌, ◌≤◌, List, [], ◌++◌, length, take, Option, Some, None, ap, sym, refl, ◌∙◌, subst, inl, inr, ◌⊎◌, arith, length-append}
-use Rattle.std.specs.Prelude.{IfSome, IsTrue, ◌≢◌}
+use Rattle.std.proofs.Common.{◌≡◌, ℕ, ◌≤◌, List, [], ◌++◌, length, Option, Some, None, ap, sym, refl, ◌∙◌, subst, inl, inr, ◌⊎◌, arith, length-append}
+use Rattle.std.specs.Prelude.{IfSome, IsTrue}
 use Rattle.std.proofs.lemmas.List.{append-nil, take_all}
 use Rattle.fdr_io.specs.Told.{preceded_by, followed_by}
 use Rattle.fdr_io.specs.declared.Input.TheVariants as input
@@ -15,7 +15,7 @@ use Rattle.fdr_top.specs.declared.reading.TheConstants.{MOST_TABLE_BYTES}
 use Rattle.fdr_top.specs.declared.pulling.TheConstants.{MOST_LINE_BYTES}
 use Rattle.fdr_top.specs.Answers.{IsOfTable, IsOfLine, Lists}
 use Rattle.fdr_top.specs.Listing.{listing_of}
-use Rattle.fdr_top.specs.Tables.{IsAccepted, IsRefused, table_in}
+use Rattle.fdr_top.specs.Tables.{IsAccepted, IsRefused}
 
 -- what was taken to the end is all that was told
 pub taken_is_all : (old new : Option (List ℕ)) (taken bytes : List ℕ) → old ≡ preceded_by taken new → IfSome new (λ left. left ≡ []) → old ≡ Some bytes → bytes ≡ taken

@@ -1,5 +1,5 @@
 -- The listing of a bit list: the text of its gaps and of the rows of its accepted frames, in bit order.
-use Rattle.std.specs.Prelude.{ℕ, ◌+◌, ◌-◌, ◌*◌, ◌==◌, nat_le, nat_lt, if◌then◌else◌, List, [], ◌++◌, length, map, filter, Option, Some, None}
+use Rattle.std.specs.Prelude.{ℕ, ◌+◌, ◌-◌, ◌*◌, ◌==◌, nat_le, nat_lt, if◌then◌else◌, List, [], length, map, filter, Option, Some, None}
 use Rattle.std.specs.List.{flat_map, range_with_len, list_any}
 use Rattle.fdr_bits.specs.Bits.{word_at}
 use Rattle.fdr_sync.specs.Accepted.{accepted_frames}

@@ -14,7 +14,7 @@ pub enum Outcome {
     Done,
     /// The words of the command line are none of the forms.
     Usage,
-    /// The table has this fault, the first one, in this row.
+    /// The table is refused for this fault in this row.
     TableRefused { row: u32, fault: TableFault },
     /// The table or the line could not be read.
     ReadFault(Input),
@@ -42,8 +42,8 @@ impl Outcome {
         }
     }
 
-    #[tactic(auto, using(fdr_listing::proofs::Lengths::numbers))]
     /// What to tell the user, without a line feed; nothing where all went well.
+    #[tactic(auto, using(fdr_listing::proofs::Lengths::numbers))]
     pub fn text(&self) -> Line
         ensures { result ≡ text_of self.now }
     {

@@ -39,6 +39,8 @@ pub fn run<T: Source, D: Deck, O: Sink>(
     // The table.
     ensures refused { (row : ℕ) (f : TableFault) (bytes : List ℕ) → result ≡ Outcome.TableRefused row f
         → T.rest table.old ≡ Some bytes → IsRefused bytes row f }
+    ensures refused_taken { (row : ℕ) (f : TableFault) → result ≡ Outcome.TableRefused row f
+        → (taken : List ℕ) × IsRefused taken row f × (T.rest table.old ≡ preceded_by taken (T.rest table.new)) }
     ensures refused_always { (row : ℕ) (f : TableFault) (bytes : List ℕ) → form_of (map string_bytes words.now) ≢ None
         → T.rest table.old ≡ Some bytes → IsRefused bytes row f → IsOfTable result }
     ensures refused_at_end { (row : ℕ) (f : TableFault) (bytes : List ℕ) → result ≡ Outcome.TableRefused row f

@@ -1,7 +1,6 @@
-use Rattle.std.proofs.Common.{rules, arith, ◌≤◌, ◌<◌, length}
+use Rattle.std.proofs.Common.{arith, ◌≤◌, length}
 use Rattle.std.specs.Fmt.{decimal}
 use Rattle.std.proofs.lemmas.Fmt.{length-decimal-le}
-use Rattle.fdr_listing.specs.Text.{fraction_text}
 use Rattle.std.proofs.lemmas.Grind.{common_steps}
 use Rattle.fdr_listing.proofs.text.add_fraction.Goals as goal
 

@@ -1,4 +1,4 @@
-use Rattle.std.proofs.Common.{rules, arith, ap, ◌++◌, List, ℕ, replicate, ◌∙◌}
+use Rattle.std.proofs.Common.{ap, ◌++◌, List, ℕ, ◌∙◌}
 use Rattle.std.proofs.lemmas.List.{take-replicate}
 use Rattle.fdr_listing.proofs.text.add_zeros.Goals as goal
 

@@ -1,5 +1,3 @@
-use Rattle.std.proofs.Common.{arith}
-use Rattle.std.proofs.lemmas.Grind.{common_steps}
 use Rattle.fdr_top.proofs.Lines.{take_shortest}
 use Rattle.fdr_top.proofs.list_bits.listed.Goals as goal
 

@@ -1,4 +1,4 @@
-use Rattle.std.proofs.Common.{ℕ, ◌+◌, ◌*◌, rules, arith, length}
+use Rattle.std.proofs.Common.{◌+◌, ◌*◌, rules, arith, length}
 use Rattle.std.proofs.lemmas.List.FromFn.{fill_by_all}
 use Rattle.std.proofs.lemmas.List.{get_or_default}
 use Rattle.fdr_bits.specs.Bits.{word_at}

@@ -1,4 +1,4 @@
-use Rattle.std.proofs.Common.{◌≡◌, ℕ, ◌+◌, ◌*◌, ◌<◌, length, get_or}
+use Rattle.std.proofs.Common.{◌≡◌, ℕ, ◌+◌, ◌*◌, ◌<◌, get_or}
 use Rattle.fdr_bits.specs.Bits.{word_at}
 use Rattle.fdr_top.proofs.listing.unpack.Given as goal
 

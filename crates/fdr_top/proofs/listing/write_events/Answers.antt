@@ -1,12 +1,10 @@
-use Rattle.std.proofs.Common.{◌≡◌, ◌<◌, ◌≤◌, ◌+◌, ◌*◌, List, ℕ, ◌∷◌, [], ◌++◌, map, sym, ap, ◌∙◌, refl, append_assoc, arith}
+use Rattle.std.proofs.Common.{◌<◌, ◌+◌, ◌*◌, List, ℕ, ◌∷◌, [], ◌++◌, sym, ap, ◌∙◌, refl, append_assoc, arith}
 use Rattle.std.specs.List.{flat_map}
 use Rattle.std.proofs.lemmas.Result.{err_from_is_err_and, on_ok_weaker, on_err_weaker}
-use Rattle.fdr_bits.specs.Bits.{bits_in}
 use Rattle.fdr_frame.proofs.WordCounts.{word_count_bounds}
 use Rattle.fdr_sync.specs.Events.{Frame, events_from}
 use Rattle.fdr_sync.proofs.FrameLemmas.{frame_within}
-use Rattle.fdr_top.specs.Listing.{lines_of, frame_read, listing_of, gap_lines}
-use Rattle.fdr_top.specs.Output.{Emits, EmitsPart}
+use Rattle.fdr_top.specs.Listing.{lines_of, listing_of, gap_lines}
 use Rattle.fdr_top.proofs.OutputSteps.{Emits-nil, Emits-then, EmitsPart-then, EmitsPart-longer}
 use Rattle.fdr_top.proofs.SoFarLemmas.{SoFar-none, so_far_next}
 use Rattle.fdr_top.proofs.Lines.{lines_from_first, lines_from_none}

@@ -1,9 +1,5 @@
-use Rattle.std.proofs.Common.{◌≡◌, ℕ, List, take, Option, subst, arith, rules}
-use Rattle.std.proofs.lemmas.Result.{on_ok_weaker, on_err_weaker}
-use Rattle.fdr_io.specs.Told.{followed_by}
-use Rattle.fdr_top.specs.Listing.{listing_of}
-use Rattle.fdr_top.specs.Output.{Emits}
-use Rattle.fdr_top.proofs.OutputSteps.{written_at_end, part_at_end, finished_part}
+use Rattle.std.proofs.lemmas.Result.{on_ok_weaker}
+use Rattle.fdr_top.proofs.OutputSteps.{written_at_end, finished_part}
 use Rattle.fdr_top.proofs.listing.write_listing.Goals as goal
 
 pub returns-clause-all : goal.returns-clause-all

@@ -1,11 +1,9 @@
-use Rattle.std.proofs.Common.{◌≡◌, ◌<◌, List, ℕ, ◌∷◌, [], ◌++◌, map, sym, ap, subst, arith}
+use Rattle.std.proofs.Common.{◌<◌, map, arith}
 use Rattle.std.proofs.lemmas.Result.{err_from_is_err_and, on_ok_weaker, on_err_weaker}
 use Rattle.fdr_frame.proofs.WordCounts.{word_count_bounds}
 use Rattle.fdr_sync.specs.Events.{Frame}
 use Rattle.fdr_sync.proofs.FrameLemmas.{frame_within}
-use Rattle.fdr_recon.specs.Past.{Stands}
 use Rattle.fdr_top.specs.Listing.{lines_of, frame_read}
-use Rattle.fdr_top.specs.Output.{Emits, EmitsPart}
 use Rattle.fdr_top.proofs.OutputSteps.{Emits-then, EmitsPart-then, EmitsPart-longer}
 use Rattle.fdr_top.proofs.Lines.{frames_next, lines_of_read}
 use Rattle.fdr_top.proofs.listing.write_next.Goals as goal

@@ -1,4 +1,3 @@
-use Rattle.std.proofs.Common.{arith}
 use Rattle.fdr_top.proofs.OutputSteps.{Emits-nil}
 use Rattle.fdr_top.proofs.Lines.{row_lines-none}
 use Rattle.fdr_top.proofs.listing.write_row.Goals as goal

@@ -1,13 +1,9 @@
-use Rattle.std.proofs.Common.{◌≡◌, ◌+◌, ◌-◌, ◌<◌, List, ◌++◌, length, take, drop, refl, sym, ap, ◌∙◌, subst, arith, Some}
-use Rattle.std.specs.Prelude.{slice_get, Option}
+use Rattle.std.proofs.Common.{◌≡◌, ◌+◌, ◌-◌, ◌<◌, length, take, drop, refl, ◌∙◌, arith}
 use Rattle.std.specs.List.{flat_map}
 use Rattle.std.proofs.lemmas.List.{take_all}
 use Rattle.std.proofs.lemmas.Result.{err_from_is_err_and}
-use Rattle.fdr_recon.specs.declared.Row.{Row}
-use Rattle.fdr_recon.specs.Past.{Stands}
 use Rattle.fdr_recon.specs.Rows.{rows_looked_at}
 use Rattle.fdr_top.specs.Listing.{row_lines, last_frame_lines}
-use Rattle.fdr_top.specs.Output.{Emits, EmitsPart}
 use Rattle.fdr_top.proofs.OutputSteps.{Emits-nil, Emits-then, EmitsPart-then, EmitsPart-longer}
 use Rattle.fdr_top.proofs.Lines.{flat_map_next, flat_map_around}
 use Rattle.fdr_top.proofs.listing.write_rows.Goals as goal

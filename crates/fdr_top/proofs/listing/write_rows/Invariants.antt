@@ -1,6 +1,5 @@
-use Rattle.std.proofs.Common.{◌≡◌, ◌<◌, ◌-◌, ◌≤◌, List, [], length, take}
+use Rattle.std.proofs.Common.{◌≡◌, ◌<◌, ◌-◌, List, length, take}
 use Rattle.std.specs.List.{flat_map}
-use Rattle.fdr_table.specs.Rows.{TableRows}
 use Rattle.fdr_recon.specs.Past.{Stands}
 use Rattle.fdr_recon.specs.Rows.{ReadFrame, rows_looked_at}
 use Rattle.fdr_top.specs.Listing.{row_lines}

@@ -1,4 +1,4 @@
-use Rattle.std.proofs.Common.{◌≡◌, ◌≤◌, ◌-◌, vec_len}
+use Rattle.std.proofs.Common.{◌≤◌, ◌-◌, vec_len}
 use Rattle.fdr_deck.specs.Pull.{TakesLine}
 use Rattle.fdr_top.proofs.pulling.pull_line.Given as goal
 

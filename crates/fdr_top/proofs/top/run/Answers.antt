@@ -1,7 +1,4 @@
-use Rattle.std.proofs.Common.{◌≡◌, ◌∙◌, ap, sym, refl, inl, inr, List, ℕ, Err}
-use Rattle.std.specs.Option.{IfSome}
-use Rattle.fdr_io.specs.Told.{followed_by}
-use Rattle.fdr_top.specs.Listing.{listing_of}
+use Rattle.std.proofs.Common.{◌≡◌, ◌∙◌, ap, sym, Err}
 use Rattle.fdr_top.specs.Tables.{table_in}
 use Rattle.fdr_top.proofs.TableAnswers.{taken_is_all, accepted_told, not_both, refused_told, taken_to_end, memory_is_left, of_line_not_memory, whole_line}
 use Rattle.fdr_top.proofs.top.run.Goals as goal
@@ -33,6 +30,11 @@ pub returns-in-Err-clause-refused : goal.returns-in-Err-clause-refused
 returns-in-Err-clause-refused g c = λ row f bytes e told.
     let read = c.in-Err.ensures.refused row f (ap Err e) in
     refused_told _ _ read.0 bytes row f read.1 read.2 read.3 told
+
+pub returns-in-Err-clause-refused_taken : goal.returns-in-Err-clause-refused_taken
+returns-in-Err-clause-refused_taken g c = λ row f e.
+    let read = c.in-Err.ensures.refused row f (ap Err e) in
+    (read.0, read.1, read.2)
 
 pub returns-in-Err-clause-refused_at_end : goal.returns-in-Err-clause-refused_at_end
 returns-in-Err-clause-refused_at_end g c = λ row f bytes e told few.

@@ -1,0 +1,7 @@
+pub mod WordLemmas
+pub mod ParseLemmas
+pub mod GoodRecords
+pub mod WholeRecords
+pub mod TraceLemmas
+pub mod HeldLemmas
+mod WorkedTrace

@@ -1,0 +1,66 @@
+//! The program `fdr`: the recorder's commands over files and standard streams.
+#![tactic(auto)]
+
+mod files;
+mod lines;
+mod outputs;
+#[cfg(test)]
+mod tests;
+
+use fdr_top::{Outcome, run};
+use fdr_words::{WordsFault, read_words};
+use files::FileSource;
+use lines::FileDeck;
+use outputs::OutSink;
+use std::alloc::Global;
+use std::env::Env;
+use std::io::Write;
+use std::process::ExitCode;
+use std::{env, io};
+
+/// The words after the program's name. A word that isn't text is none of the command's.
+fn command_words(rt: &(impl Env + AllocGlobal)) -> Result<Vec<String>, Outcome> {
+    let mut words = Vec::new(rt.alloc());
+    for word in env::args(rt).map_err(outcome_of_words)?.skip(1) {
+        words.push(word).map_err(|_| Outcome::NoMemory)?;
+    }
+    Ok(words)
+}
+
+fn outcome_of_words(error: io::Error) -> Outcome {
+    match error.kind() {
+        io::ErrorKind::OutOfMemory => Outcome::NoMemory,
+        _ => Outcome::Usage,
+    }
+}
+
+/// Runs the command over the files that its words name and the standard streams.
+fn run_on_files(rt: &HostRuntime, words: &[String]) -> Outcome {
+    let request = match read_words(rt.alloc(), words) {
+        Ok(request) => request,
+        Err(WordsFault::Usage) => return Outcome::Usage,
+        Err(WordsFault::NoMemory) => return Outcome::NoMemory,
+    };
+    let mut table = FileSource::new(rt, request.table().unwrap_or(""));
+    let mut deck = FileDeck::new(rt.stdin());
+    let mut out = OutSink::new(rt.stdout());
+    run(rt.alloc(), words, &mut table, &mut deck, &mut out)
+}
+
+/// Tells the outcome on standard error. That it can't be told changes nothing of it.
+fn tell(rt: &HostRuntime, outcome: &Outcome) {
+    let text = outcome.text();
+    if !text.bytes().is_empty() {
+        let _ = rt.stderr().write_all(text.bytes());
+        let _ = rt.stderr().write_all(b"\n");
+    }
+}
+
+fn main(rt: HostRuntime) -> ExitCode {
+    let outcome = match command_words(&rt) {
+        Ok(words) => run_on_files(&rt, &words),
+        Err(outcome) => outcome,
+    };
+    tell(&rt, &outcome);
+    ExitCode::from(outcome.status())
+}

@@ -1,0 +1,54 @@
+use crate::files::FileSource;
+use crate::lines::FileDeck;
+use crate::outputs::OutSink;
+use fdr_deck::Deck;
+use fdr_io::{Failed, Sink, Source};
+use std::fs;
+use std::test::Fail;
+
+fn read_some<S: Source>(source: &mut S) -> Result<(usize, [u8; 8]), Failed> {
+    let mut buf = [0; 8];
+    let n = source.read(&mut buf)?;
+    Ok((n, buf))
+}
+
+fn write_some<S: Sink>(sink: &mut S) -> Result<usize, Failed> {
+    sink.write(b"three")
+}
+
+fn pull_some<D: Deck>(deck: &mut D) -> Result<(usize, [u8; 2]), Failed> {
+    let mut buf = [0; 2];
+    let n = deck.pull(&mut buf)?;
+    Ok((n, buf))
+}
+
+#[test]
+fn a_file_is_read_from_its_front(rt: HostRuntime) -> Result<(), Fail> {
+    let path = "source.bin";
+    fs::write(&rt, path, b"table".as_slice())?;
+    let mut source = FileSource::new(&rt, path);
+    assert_eq!(rt; read_some(&mut source), Ok((5, *b"table\0\0\0")));
+    assert_eq!(rt; read_some(&mut source), Ok((0, [0; 8])));
+    fs::remove_file(&rt, path)?;
+    let mut missing = FileSource::new(&rt, path);
+    assert_eq!(rt; read_some(&mut missing), Err(Failed));
+    Ok(())
+}
+
+#[test]
+fn a_writer_takes_bytes_or_faults(rt: HostRuntime) -> Result<(), Fail> {
+    let mut room = [0u8; 4];
+    let mut sink = OutSink::new(room.as_mut_slice());
+    assert_eq!(rt; write_some(&mut sink), Ok(4));
+    assert_eq!(rt; write_some(&mut sink), Err(Failed));
+    Ok(())
+}
+
+#[test]
+fn a_line_is_pulled_to_its_end(rt: HostRuntime) -> Result<(), Fail> {
+    let mut deck = FileDeck::new(b"abc".as_slice());
+    assert_eq!(rt; pull_some(&mut deck), Ok((2, *b"ab")));
+    assert_eq!(rt; pull_some(&mut deck), Ok((1, *b"c\0")));
+    assert_eq!(rt; pull_some(&mut deck), Ok((0, [0; 2])));
+    Ok(())
+}

@@ -1,0 +1,11 @@
+//! Worked cases of the top call: small tables and lines of bits made by hand, with the answer and the text that each
+//! gives. And the listing over objects that never fail, where no fault can stand for an answer.
+#![tactic(auto)]
+
+#[cfg(test)]
+mod lines;
+mod sure;
+#[cfg(test)]
+mod tests;
+
+pub use sure::sure_listing;

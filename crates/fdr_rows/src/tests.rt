@@ -1,0 +1,266 @@
+use crate::lines::{
+    frame, frame_behind_a_false_one, frame_with_a_bit_struck_out, frames_behind_five_bits,
+    frames_far_apart,
+};
+use crate::sure_listing;
+use fdr_deck::{MemDeck, SureDeck};
+use fdr_io::{Input, MemSink, MemSource, NullSink, SureSource};
+use fdr_table::TableFault;
+use fdr_top::{Outcome, run};
+use std::alloc::{AllocError, Global};
+use std::test::Fail;
+
+/// An altitude in word 10 of the first subframe, and the counter in word 2 of it.
+const ALTITUDE: &[u8] = b"F,64,2,1\nP,ALT,0,203,,11,12,U,1,1,0,0,16\nL,ALT,1,1,10,0,1,12,0,1\n";
+
+/// A position in two parts beside the altitude.
+const TWO_PARTS: &[u8] = b"F,64,2,1
+P,POS,1,310,,9,20,U,1,1,0,0,1
+L,POS,1,1,20,0,1,12,0,16
+L,POS,2,1,20,0,1,8,1,16
+P,ALT,0,203,,11,12,U,1,1,0,0,16
+L,ALT,1,1,10,0,1,12,0,1
+";
+
+const LISTBITS: &[&str] = &["listbits", "t1.csv"];
+
+fn strings(alloc: Global, words: &[&str]) -> Result<Vec<String>, AllocError> {
+    let mut strings = Vec::new(alloc);
+    for word in words {
+        strings.push(word.to_string(alloc)?)?;
+    }
+    Ok(strings)
+}
+
+/// What a command answers. Without clauses of its own, so that the tests are proved without those of `run`.
+fn answer(
+    alloc: Global,
+    words: &[String],
+    table: &mut MemSource,
+    deck: &mut MemDeck,
+    out: &mut MemSink,
+) -> Outcome {
+    run(alloc, words, table, deck, out)
+}
+
+#[test]
+fn lists_worked_lines(rt: HostRuntime) -> Result<(), Fail> {
+    let alloc = rt.alloc();
+    let words = strings(alloc, LISTBITS)?;
+    let clean = frame(0, 5);
+    let struck = frame_with_a_bit_struck_out();
+    let behind = frames_behind_five_bits();
+    let false_one = frame_behind_a_false_one();
+    let apart = frames_far_apart();
+    let cases: [(&str, &[u8], &[u8]); 7] = [
+        ("one clean frame", &clean, b"row,0,1,10,ALT,5\n"),
+        ("an empty line", &[], b""),
+        ("a bit struck out", &struck, b"gap,0,3072\n"),
+        (
+            "two frames behind five bits",
+            &behind,
+            b"gap,0,5\nrow,0,1,10,ALT,5\nrow,1,1,10,ALT,5\ngap,6149,3\n",
+        ),
+        (
+            "a false frame",
+            &false_one,
+            b"row,0,1,10,ALT,2\ngap,3072,100\nrow,1,1,10,ALT,7\ngap,6244,4\n",
+        ),
+        ("a byte missing", &clean[..383], b"gap,0,3064\n"),
+        (
+            "more than a piece",
+            &apart,
+            b"row,0,1,10,ALT,5\ngap,3072,29696\nrow,1,1,10,ALT,7\n",
+        ),
+    ];
+    for (shows, line, listing) in cases {
+        let mut table = MemSource::new(ALTITUDE.to_vec(alloc)?, Vec::new(alloc));
+        let mut deck = MemDeck::new(alloc, Vec::new(alloc), line.to_vec(alloc)?, Vec::new(alloc));
+        let mut out = MemSink::new(alloc, Vec::new(alloc));
+        let given = answer(alloc, &words, &mut table, &mut deck, &mut out);
+        assert_eq!(rt; given, Outcome::Done, "{shows}");
+        assert_eq!(rt; out.bytes(), listing, "{shows}");
+    }
+    Ok(())
+}
+
+/// Objects some of whose calls fail, a table, and what is answered.
+#[derive(Clone, Copy)]
+struct Fault<'a> {
+    shows: &'a str,
+    table: &'a [u8],
+    reads: &'a [u64],
+    pulls: &'a [u64],
+    writes: &'a [u64],
+    answer: Outcome,
+    written: &'a [u8],
+    // what a second command lists of the line
+    left: &'a [u8],
+}
+
+#[test]
+fn answers_faults_and_refusals(rt: HostRuntime) -> Result<(), Fail> {
+    let alloc = rt.alloc();
+    let words = strings(alloc, LISTBITS)?;
+    let line = frames_far_apart();
+    let too_large = vec![in alloc; b'X'; 1_048_577]?;
+    let whole: &[u8] = b"row,0,1,10,ALT,5\ngap,3072,29696\nrow,1,1,10,ALT,7\n";
+    let cases = [
+        Fault {
+            shows: "the first write fails",
+            table: ALTITUDE,
+            reads: &[],
+            pulls: &[],
+            writes: &[0],
+            answer: Outcome::WriteFault,
+            written: b"",
+            left: b"",
+        },
+        Fault {
+            shows: "the second pull fails",
+            table: ALTITUDE,
+            reads: &[],
+            pulls: &[1],
+            writes: &[],
+            answer: Outcome::ReadFault(Input::Line),
+            written: b"row,0,1,10,ALT,5\ngap,3072,29696\n",
+            left: b"row,1,1,10,ALT,7\n",
+        },
+        Fault {
+            shows: "the table's first read fails",
+            table: ALTITUDE,
+            reads: &[0],
+            pulls: &[],
+            writes: &[],
+            answer: Outcome::ReadFault(Input::Table),
+            written: b"",
+            left: whole,
+        },
+        Fault {
+            shows: "a parameter in two parts",
+            table: TWO_PARTS,
+            reads: &[],
+            pulls: &[],
+            writes: &[],
+            answer: Outcome::TableRefused {
+                row: 0,
+                fault: TableFault::NotBuilt,
+            },
+            written: b"",
+            left: whole,
+        },
+        Fault {
+            shows: "a table of a byte too many",
+            table: &too_large,
+            reads: &[],
+            pulls: &[],
+            writes: &[],
+            answer: Outcome::TableRefused {
+                row: 0,
+                fault: TableFault::Size,
+            },
+            written: b"",
+            left: whole,
+        },
+    ];
+    for case in cases {
+        let shows = case.shows;
+        let mut table = MemSource::new(case.table.to_vec(alloc)?, case.reads.to_vec(alloc)?);
+        let mut deck = MemDeck::new(
+            alloc,
+            Vec::new(alloc),
+            line.to_vec(alloc)?,
+            case.pulls.to_vec(alloc)?,
+        );
+        let mut out = MemSink::new(alloc, case.writes.to_vec(alloc)?);
+        let given = answer(alloc, &words, &mut table, &mut deck, &mut out);
+        assert_eq!(rt; given, case.answer, "{shows}");
+        assert_eq!(rt; out.bytes(), case.written, "{shows}");
+        let mut table = MemSource::new(ALTITUDE.to_vec(alloc)?, Vec::new(alloc));
+        let mut out = MemSink::new(alloc, Vec::new(alloc));
+        assert_eq!(rt;
+            answer(alloc, &words, &mut table, &mut deck, &mut out),
+            Outcome::Done,
+            "{shows}"
+        );
+        assert_eq!(rt; out.bytes(), case.left, "{shows}");
+    }
+    Ok(())
+}
+
+#[test]
+fn refuses_other_words_and_says_each_answer(rt: HostRuntime) -> Result<(), Fail> {
+    let alloc = rt.alloc();
+    let cases: [&[&str]; 6] = [
+        &[],
+        &["listbits"],
+        &["listbits", "t1.csv", "t2.csv"],
+        &["listbits", "-x"],
+        &["check", "t1.csv"],
+        &["listbits", ""],
+    ];
+    for case in cases {
+        let words = strings(alloc, case)?;
+        let mut table = MemSource::new(ALTITUDE.to_vec(alloc)?, Vec::new(alloc));
+        let mut deck = MemDeck::new(
+            alloc,
+            Vec::new(alloc),
+            frame(0, 5).to_vec(alloc)?,
+            Vec::new(alloc),
+        );
+        let mut out = MemSink::new(alloc, Vec::new(alloc));
+        let given = answer(alloc, &words, &mut table, &mut deck, &mut out);
+        assert_eq!(rt; given, Outcome::Usage, "{case:?}");
+        assert_eq!(rt; out.bytes().len(), 0, "{case:?}");
+    }
+    let row = u32::MAX;
+    let fault = TableFault::Number { field: 12 };
+    let answers: [(Outcome, u8, &[u8]); 9] = [
+        (Outcome::Done, 0, b""),
+        (Outcome::Usage, 1, b"fdr: usage"),
+        (
+            Outcome::TableRefused {
+                row: 0,
+                fault: TableFault::NotBuilt,
+            },
+            2,
+            b"fdr: table row 0: not built",
+        ),
+        (
+            Outcome::TableRefused { row, fault },
+            2,
+            b"fdr: table row 4294967295: number in field 12",
+        ),
+        (
+            Outcome::ReadFault(Input::Table),
+            8,
+            b"fdr: table cannot be read",
+        ),
+        (
+            Outcome::ReadFault(Input::Line),
+            8,
+            b"fdr: input cannot be read",
+        ),
+        (Outcome::WriteFault, 9, b"fdr: output cannot be written"),
+        (Outcome::TooLong, 11, b"fdr: input too long"),
+        (Outcome::NoMemory, 12, b"fdr: no memory"),
+    ];
+    for (answer, status, text) in answers {
+        assert_eq!(rt; answer.status(), status);
+        assert_eq!(rt; answer.text().bytes(), text);
+    }
+    Ok(())
+}
+
+#[test]
+fn lists_where_nothing_fails(rt: HostRuntime) -> Result<(), Fail> {
+    let alloc = rt.alloc();
+    let words = strings(alloc, LISTBITS)?;
+    let image = vec![in alloc; 0]?;
+    assert!(rt; image.len() > 0);
+    let mut table = SureSource::new(ALTITUDE.to_vec(alloc)?);
+    let mut deck = SureDeck::new(image, frame(0, 5).to_vec(alloc)?);
+    let answer = sure_listing(alloc, &words, &mut table, &mut deck, &mut NullSink::new());
+    assert_eq!(rt; answer, Outcome::Done);
+    Ok(())
+}
