@@ -1,16 +1,49 @@
 -- What is seen of the deck of a program.
-use Rattle.std.specs.Prelude.{ℕ, [], false}
+use Rattle.std.specs.Prelude.{ℕ, List, [], false}
+use Rattle.std.proofs.Common.{refl, arith}
 use Rattle.fdr_deck.specs.State.{State, Tells}
+use Rattle.fdr_deck.specs.Moments.{IsSound}
+use Rattle.fdr_deck.specs.Announced.{least_of, greatest_of}
+use Rattle.fdr_deck.specs.declared.announced.Announced.{Announced}
 
--- how many bytes were pulled, how many as the last pull that gave bytes began, and the line's faults
+-- the length of the disk, the announced numbers, how many bytes were pulled, how many as the last pull that gave bytes began, and the faults
 pub record Counts : Type 0 where
+  pub extent : ℕ
+  pub announced : Announced
   pub taken : ℕ
   pub before : ℕ
+  pub disk_faults : ℕ
   pub line_faults : ℕ
 
--- the line itself isn't told
-abbrev pub counts_state : Counts → State
-counts_state c = record { line = []; taken = c.taken; before = c.before; line_faults = c.line_faults }
-
+-- neither the line nor the disk is told
 abbrev pub telling_nothing : Tells
-telling_nothing = record { line = false }
+telling_nothing = record { line = false; bytes = false; stops = false }
+
+abbrev pub counts_state : Counts → State
+counts_state c = record {
+  extent = c.extent;
+  held = [];
+  may_leave = λ image. ⊥;
+  clock = 0;
+  since = λ t m. ⊥;
+  told = c.announced.told;
+  least = least_of c.announced;
+  greatest = greatest_of c.announced;
+  line = [];
+  taken = c.taken;
+  before = c.before;
+  disk_faults = c.disk_faults;
+  line_faults = c.line_faults;
+}
+
+pub counts_are_sound : (c : Counts) → IsSound telling_nothing (counts_state c)
+counts_are_sound c = record {
+  stops_need_bytes = λ told. told;
+  size = λ told. cc;
+  held = λ told. cc;
+  least = omega arith;
+  greatest = omega arith;
+  only_now = λ told m since. cc;
+  counts_now = λ told m leaves same pulled. cc;
+  falls = λ told earlier t m le now since. cc;
+}

@@ -46,7 +46,7 @@ fn a_writer_takes_bytes_or_faults(rt: HostRuntime) -> Result<(), Fail> {
 
 #[test]
 fn a_line_is_pulled_to_its_end(rt: HostRuntime) -> Result<(), Fail> {
-    let mut deck = FileDeck::new(b"abc".as_slice());
+    let mut deck = FileDeck::new(&rt, "", false, b"abc".as_slice(), Vec::new(rt.alloc()));
     assert_eq!(rt; pull_some(&mut deck), Ok((2, *b"ab")));
     assert_eq!(rt; pull_some(&mut deck), Ok((1, *b"c\0")));
     assert_eq!(rt; pull_some(&mut deck), Ok((0, [0; 2])));
