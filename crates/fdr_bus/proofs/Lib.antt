@@ -1,0 +1,5 @@
+pub mod WordLemmas
+pub mod ParseLemmas
+pub mod GoodRecords
+pub mod WholeRecords
+pub mod TraceLemmas

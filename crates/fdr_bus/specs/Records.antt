@@ -1,0 +1,99 @@
+-- The records of a trace, and which of them are good.
+use Rattle.std.specs.Prelude.{◌≡◌, ◌≤◌, ◌⊎◌, ℕ, ◌+◌, ◌*◌, ◌/◌, ◌^◌, ◌==◌, Bool, true, false, not, ◌&&◌, ◌||◌, nat_lt, nat_le, if◌then◌else◌, List, [], ◌∷◌, length, map, take, drop, fold, slice_index, Option, Some, None, is_none}
+use Rattle.std.specs.List.{range_with_len, list_any}
+use Rattle.std.specs.Option.{option_map}
+use Rattle.byteorder.specs.Endian.{big_number}
+use Rattle.fdr_bus.specs.declared.BusRecord.{BusRecord}
+use Rattle.fdr_bus.specs.declared.RecordKind.{RecordKind}
+use Rattle.fdr_bus.specs.declared.RecordKind.TheVariants.{Word, End}
+use Rattle.fdr_bus.specs.declared.TraceFault.{TraceFault}
+use Rattle.fdr_bus.specs.declared.TraceFault.TheVariants as fault
+
+-- record i of the bytes, of 16 bytes
+abbrev pub record_bytes : List ℕ → ℕ → List ℕ
+record_bytes bytes i = take 16 (drop (16 * i) bytes)
+
+-- the whole records
+unfoldable pub whole_records : List ℕ → List (List ℕ)
+whole_records bytes = map (record_bytes bytes) (range_with_len 0 (length bytes / 16))
+
+-- what the 16 bytes of a record say: kind, bus, two bytes that aren't read, word and time
+unfoldable pub record_of : List ℕ → BusRecord
+record_of bytes = record {
+  kind = if slice_index bytes 0 == 2 then End else Word;
+  bus = slice_index bytes 1;
+  word = big_number 4 (drop 4 bytes);
+  time = big_number 8 (drop 8 bytes);
+}
+
+-- 16 days, 16 hours: no record may be later, in microseconds
+abbrev pub last_time : ℕ
+last_time = 1440000000000
+
+unfoldable pub most_records : ℕ
+most_records = 2 ^ 32
+
+-- the first byte is a kind of record
+abbrev pub has_kind : List ℕ → Bool
+has_kind bytes = (slice_index bytes 0 == 1) || (slice_index bytes 0 == 2)
+
+-- a record that may follow one of time `before`
+unfoldable pub is_good : ℕ → List ℕ → Bool
+is_good before bytes = has_kind bytes && nat_le before (record_of bytes).time && nat_le (record_of bytes).time last_time
+
+-- why a record can't follow one of time `before`
+unfoldable pub record_fault : ℕ → List ℕ → Option TraceFault
+record_fault before bytes =
+    if not (has_kind bytes) then Some fault.Kind
+    else if nat_lt (record_of bytes).time before then Some fault.Back
+    else if nat_lt last_time (record_of bytes).time then Some fault.Late
+    else None
+
+abbrev pub is_end : BusRecord → Bool
+is_end r = elim r.kind [ Word ↦ false | End ↦ true ]
+
+-- the good records from the first on, after one of time `before`, up to and with the first end record
+abbrev pub good_from : ℕ → List (List ℕ) → List BusRecord
+good_from before [] = []
+good_from before (bytes ∷ rest) =
+    if is_good before bytes then (record_of bytes ∷ (if is_end (record_of bytes) then [] else good_from (record_of bytes).time rest)) else []
+
+-- the good prefix of a trace
+unfoldable pub good_prefix : List ℕ → List BusRecord
+good_prefix bytes = good_from 0 (take most_records (whole_records bytes))
+
+-- the time of the last record, or `before`
+abbrev pub time_after : ℕ → List BusRecord → ℕ
+time_after before records = fold (λ time (r : BusRecord). r.time) before records
+
+-- the time of the last record, or 0
+abbrev pub time_of : List BusRecord → ℕ
+time_of records = time_after 0 records
+
+abbrev pub has_end : List BusRecord → Bool
+has_end records = list_any is_end records
+
+-- these bytes settle the trace, whatever follows them
+abbrev pub is_decided : List ℕ → Bool
+is_decided bytes = has_end (good_prefix bytes) || (length (good_prefix bytes) == most_records) || nat_le (16 * length (good_prefix bytes) + 16) (length bytes)
+
+-- the same as a fact
+abbrev pub IsDecided : List ℕ → Type 0
+IsDecided bytes = (has_end (good_prefix bytes) ≡ true) ⊎ ((length (good_prefix bytes) ≡ most_records) ⊎ (16 * length (good_prefix bytes) + 16 ≤ length bytes))
+
+-- whole good records, with no end among them, so the trace may go on
+pub record IsOpen (bytes : List ℕ) : Type 0 where
+  pub whole : length bytes ≡ 16 * length (good_prefix bytes)
+  pub unended : has_end (good_prefix bytes) ≡ false
+
+-- why no good record follows these, with its number
+unfoldable pub fault_after : List BusRecord → List ℕ → Option (ℕ × TraceFault)
+fault_after good bytes =
+    if has_end good then None
+    else if length good == most_records then Some (length good, fault.Many)
+    else if nat_lt (length bytes) (16 * length good + 16) then Some (length good, fault.Truncated)
+    else option_map (λ why. (length good, why)) (record_fault (time_of good) (record_bytes bytes (length good)))
+
+-- the number of the first bad record of a whole line, and its fault
+unfoldable pub trace_fault : List ℕ → Option (ℕ × TraceFault)
+trace_fault bytes = fault_after (good_prefix bytes) bytes

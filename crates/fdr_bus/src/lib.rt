@@ -1,0 +1,187 @@
+//! Records of a trace of ARINC 429 words, and the fields of such a word.
+//!
+//! A trace is a list of records of 16 bytes, each with the time at which it came, up to an end record.
+#![tactic(auto)]
+
+ghost use Rattle.std.specs.Prelude.{◌≡◌, ◌≤◌, ◌<◌, ◌+◌, ◌^◌, ◌↔◌, true, false, Err, IsTrue, IsNone, IsOk, IfSome, IfOk, IfErr, Some};
+ghost use Rattle.fdr_bus.specs.Records.{has_kind, is_good, last_time, record_fault, record_of};
+ghost use Rattle.fdr_bus.specs.Words.{bits_at, label_of, sdi_of};
+ghost use Rattle.fdr_bus.specs.Words as words;
+ghost use Rattle.fdr_bus.specs.declared.TraceFault.TheVariants as fault;
+
+use byteorder::{BigEndian, ByteOrder};
+
+/// The latest time that a record may have, in microseconds from the start of the recording.
+pub const LAST_TIME: u64 = 1_440_000_000_000;
+
+/// What a record of a trace is.
+#[derive(Clone, Copy, PartialEq, Eq, Debug)]
+pub enum RecordKind {
+    /// A word that came on a bus.
+    Word,
+    /// The end of the recording.
+    End,
+}
+
+/// A record of a trace.
+#[derive(Clone, Copy, PartialEq, Eq, Debug)]
+pub struct BusRecord {
+    /// Whether it is a word or the end.
+    pub kind: RecordKind,
+    /// The number of the bus.
+    pub bus: u8,
+    /// The ARINC 429 word, whose bit 1 is the least significant. It isn't used in an end record.
+    pub word: u32,
+    /// Microseconds from the start of the recording.
+    pub time: u64,
+}
+
+/// Why a trace isn't good from a record on.
+#[derive(Clone, Copy, PartialEq, Eq, Debug)]
+pub enum TraceFault {
+    /// The record is neither a word nor the end.
+    Kind,
+    /// Its time is below that of the record before.
+    Back,
+    /// Its time is over `LAST_TIME`.
+    Late,
+    /// The trace stops before an end record.
+    Truncated,
+    /// There are 2^32 good records and no end record among them.
+    Many,
+}
+
+/// The record that the bytes hold, or `None` where their first byte isn't a kind of record.
+fn record_in(bytes: &[u8; 16]) -> Option<BusRecord>
+    ensures none { IsNone result ↔ (has_kind bytes.now ≡ false) }
+    ensures read { IfSome result (λ r. (r ≡ record_of bytes.now) × (has_kind bytes.now ≡ true)) }
+{
+    let kind = match bytes[0] {
+        1 => RecordKind::Word,
+        2 => RecordKind::End,
+        _ => return None,
+    };
+    Some(BusRecord {
+        kind,
+        bus: bytes[1],
+        word: BigEndian::read_u32(&bytes[4..]),
+        time: BigEndian::read_u64(&bytes[8..]),
+    })
+}
+
+/// Reads a record that follows one of time `before`, which is 0 at the first.
+///
+/// `Truncated` and `Many` are faults of a whole trace, and never of one record.
+#[tactic(auto, using(crate::proofs::ParseLemmas::is_good_yes, crate::proofs::ParseLemmas::is_good_unnamed, crate::proofs::ParseLemmas::is_good_early, crate::proofs::ParseLemmas::is_good_late, crate::proofs::ParseLemmas::record_fault_unnamed, crate::proofs::ParseLemmas::record_fault_early, crate::proofs::ParseLemmas::record_fault_late))]
+pub fn parse(bytes: &[u8; 16], before: u64) -> Result<BusRecord, TraceFault>
+    ensures read { IfOk result (λ r. r ≡ record_of bytes.now) }
+    ensures good { IsOk result ↔ (is_good before bytes.now ≡ true) }
+
+    ensures kind { (result ≡ Err fault.Kind) ↔ (has_kind bytes.now ≡ false) }
+    ensures back { (result ≡ Err fault.Back) ↔ ((has_kind bytes.now ≡ true) × ((record_of bytes.now).time < before)) }
+    ensures late { (result ≡ Err fault.Late)
+        ↔ ((has_kind bytes.now ≡ true) × (before ≤ (record_of bytes.now).time)
+        × (last_time < (record_of bytes.now).time)) }
+    ensures first_fault { IfErr result (λ why. record_fault before bytes.now ≡ Some why) }
+{
+    let Some(record) = record_in(bytes) else {
+        return Err(TraceFault::Kind);
+    };
+    if record.time < before {
+        return Err(TraceFault::Back);
+    }
+    if record.time > LAST_TIME {
+        return Err(TraceFault::Late);
+    }
+    Ok(record)
+}
+
+/// The label, which stands in bits 1 to 8 of an ARINC 429 word with its most significant bit in bit 1.
+#[tactic(auto, using(std::proofs::lemmas::Nat::Bits::shr_and_one, crate::proofs::WordLemmas::reversed_to_more, crate::proofs::WordLemmas::reversed_to_none, crate::proofs::WordLemmas::reversed_to_room))]
+pub fn label(word: u32) -> u8
+    ensures { result ≡ label_of word }
+{
+    let mut label: u8 = 0;
+    for i in 0..8u32 {
+        label = label * 2 + ((word >> i) & 1) as u8;
+    }
+    label
+}
+
+/// The source or destination identifier, in bits 9 and 10 of an ARINC 429 word. Bit 9 is its lower bit.
+pub fn sdi(word: u32) -> u8
+    ensures value { result ≡ sdi_of word }
+    ensures two_bits { result < 4 }
+{
+    ((word >> 8) & 3) as u8
+}
+
+/// Whether an odd number of the 32 bits are 1, as they are in an ARINC 429 word that came undamaged.
+#[tactic(auto, using(std::proofs::lemmas::Nat::Bits::shr_and_one, crate::proofs::WordLemmas::ones_to_more, crate::proofs::WordLemmas::ones_to_none, crate::proofs::WordLemmas::ones_to_at_most))]
+pub fn is_odd(word: u32) -> bool
+    ensures { IsTrue result ↔ IsTrue (words.is_odd word) }
+{
+    let mut ones: u32 = 0;
+    for i in 0..32u32 {
+        ones += (word >> i) & 1;
+    }
+    ones % 2 == 1
+}
+
+/// The number in the `width` bits from bit `lsb` on, where bit 1 is the least significant.
+pub fn field(word: u32, lsb: u8, width: u8) -> u32
+    requires from_first { 1 ≤ lsb }
+    requires some { 1 ≤ width }
+    requires within { lsb + width ≤ 33 }
+    ensures value { result ≡ bits_at word lsb width }
+    ensures fits { result < 2 ^ width }
+{
+    (word >> (lsb - 1)) & (u32::MAX >> (32 - width))
+}
+
+#[cfg(test)]
+mod tests {
+    use super::*;
+
+    #[test]
+    fn reads_fields_of_words(rt: HostRuntime) {
+        for (word, octal, source, is_sound) in [
+            (0x0000_14c1, 0o203, 0, true),
+            (0x8000_14c1, 0o203, 0, false),
+            (0x8abc_de13, 0o310, 2, true),
+            (0x8000_0113, 0o310, 1, true),
+            (0x8000_0213, 0o310, 2, true),
+        ] {
+            assert_eq!(rt; label(word), octal, "label of {word}");
+            assert_eq!(rt; sdi(word), source, "SDI of {word}");
+            assert_eq!(rt; is_odd(word), is_sound, "parity of {word}");
+        }
+        assert_eq!(rt; field(0x0000_14c1, 11, 12), 5);
+        assert_eq!(rt; field(0x8abc_de13, 9, 20), 0xabcde);
+        assert_eq!(rt; field(0x8abc_de13, 32, 1), 1);
+        assert_eq!(rt; field(0x8abc_de13, 1, 32), 0x8abc_de13);
+    }
+
+    #[test]
+    fn reads_records(rt: HostRuntime) {
+        let word = [1, 0, 0, 0, 0, 0, 0x14, 0xc1, 0, 0, 0, 0, 0, 0, 0x3d, 0x09];
+        let read = BusRecord {
+            kind: RecordKind::Word,
+            bus: 0,
+            word: 0x14c1,
+            time: 15_625,
+        };
+        assert_eq!(rt; parse(&word, 0), Ok(read));
+        assert_eq!(rt; parse(&word, 15_625), Ok(read));
+        assert_eq!(rt; parse(&word, 15_626), Err(TraceFault::Back));
+
+        let end = [2, 0, 0, 0, 0, 0, 0, 0, 0, 0, 0, 0, 0, 0x3d, 0x09, 0];
+        let last = BusRecord {
+            kind: RecordKind::End,
+            bus: 0,
+            word: 0,
+            time: 4_000_000,
+        };
+        assert_eq!(rt; parse(&end, 15_625), Ok(last));
+    }
+}
