@@ -118,7 +118,7 @@ unfolding samples_of
 samples_of_param w places n rate m below =
     All-map (λ (s : Sample). s.param < m) (λ i. record { param = n; index = i; parts = parts_of w places n i }) (range_with_len 0 rate) (λ k d h. below)
 
-samples_params : (t : TableRows) → All (λ (s : Sample). s.param < length t.params) (samples t)
+pub samples_params : (t : TableRows) → All (λ (s : Sample). s.param < length t.params) (samples t)
 unfolding samples
 samples_params t =
     let P : Sample → Type 0 = λ s. s.param < length t.params in
