@@ -1,8 +1,8 @@
 -- The record that is held, as records are given and slots are drawn.
-use Rattle.std.proofs.Common.{◌≡◌, ℕ, ◌+◌, ◌*◌, ◌<◌, ◌≤◌, Bool, true, false, List, [], ◌∷◌, ◌++◌, Option, Some, None, reverse, refl, sym, ap, ◌∙◌, subst, arith}
-use Rattle.std.specs.Prelude.{◌&&◌, nat_le, if◌then◌else◌, IsTrue}
+use Rattle.std.proofs.Common.{◌≡◌, ℕ, ◌+◌, ◌*◌, ◌<◌, Bool, true, false, List, [], ◌∷◌, ◌++◌, Some, None, reverse, refl, sym, ap, ◌∙◌, arith}
+use Rattle.std.specs.Prelude.{◌&&◌, if◌then◌else◌, IsTrue}
 use Rattle.std.specs.List.{All, find}
-use Rattle.std.proofs.lemmas.Bool.{leb-true, le-leb, lt-leb, and_right, cond-true, cond-false, cases_Bool, and_from, and_left}
+use Rattle.std.proofs.lemmas.Bool.{leb-true, le-leb, lt-leb, and_right, cond-false}
 use Rattle.std.proofs.lemmas.List.{reverse-append}
 use Rattle.std.proofs.lemmas.List.Elements.{All-weaker}
 use Rattle.fdr_bus.specs.declared.BusRecord.{BusRecord}

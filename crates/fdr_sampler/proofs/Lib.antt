@@ -5,3 +5,4 @@ pub mod SlotFacts
 pub mod HeldFacts
 pub mod Standing
 pub mod Counting
+pub mod Streaming

@@ -1,8 +1,8 @@
 -- The parts in a slot of the superframe, and the samples that they belong to.
-use Rattle.std.proofs.Common.{◌≡◌, ℕ, zero, suc, ◌+◌, ◌*◌, ◌/◌, ◌<◌, ◌≤◌, ◌⊎◌, inl, inr, ⊎_elim, min, Bool, true, ◌==◌, List, [], ◌∷◌, Some, map, length, get_or, refl, sym, ap, ◌∙◌, subst, eqb-true, arith}
-use Rattle.std.specs.List.{All, Contains, filter, flat_map, range_with_len, enumerate_from, slice_get}
+use Rattle.std.proofs.Common.{◌≡◌, ℕ, ◌*◌, ◌/◌, ◌<◌, ◌≤◌, ◌⊎◌, inl, inr, ⊎_elim, min, true, ◌==◌, List, [], ◌∷◌, Some, length, refl, sym, ap, ◌∙◌, eqb-true, arith}
+use Rattle.std.specs.List.{All, Contains, range_with_len, enumerate_from, slice_get}
 use Rattle.std.proofs.lemmas.Bool.{cases_lt, eq-eqb}
-use Rattle.std.proofs.lemmas.List.Elements.{All-map, All-weaker, All-filter, filter_passes, All-contains}
+use Rattle.std.proofs.lemmas.List.Elements.{All-map, All-weaker, filter_passes, All-contains}
 use Rattle.fdr_table.specs.Rows.{TableRows}
 use Rattle.fdr_layout.specs.declared.slots.SlotPart.{SlotPart}
 use Rattle.fdr_layout.specs.Samples.{Part, Sample, samples, earliest_of, first_at}

@@ -1,9 +1,9 @@
 -- For which past a value stands.
-use Rattle.std.proofs.Common.{◌≡◌, ℕ, zero, suc, ◌+◌, ◌-◌, ◌*◌, ◌/◌, ◌%◌, ◌<◌, ◌≤◌, ◌≢◌, ◌⊎◌, inl, inr, ⊎_elim, Bool, true, false, ◌==◌, List, [], ◌∷◌, ◌++◌, Option, Some, None, map, length, get_or, replicate, refl, sym, ap, ◌∙◌, subst, arith, add-one}
-use Rattle.std.specs.Prelude.{if◌then◌else◌, IsTrue, slice_get, slice_index, nat_le}
+use Rattle.std.proofs.Common.{◌≡◌, ℕ, suc, ◌+◌, ◌*◌, ◌/◌, ◌%◌, ◌<◌, ◌≤◌, ◌⊎◌, inl, inr, ⊎_elim, ◌==◌, List, [], ◌∷◌, ◌++◌, Option, Some, length, get_or, refl, sym, ap, ◌∙◌, subst, arith, add-one}
+use Rattle.std.specs.Prelude.{if◌then◌else◌, IsTrue, slice_get, slice_index}
 use Rattle.std.specs.Option.{option_map, option_map_or}
-use Rattle.std.specs.List.{All, range_with_len, slice_index_or}
-use Rattle.std.proofs.lemmas.Bool.{cases_lt, cases_eq, cases_Bool, cond-true, cond-false, eq-eqb, ne_eqb, eqb-true, le-leb}
+use Rattle.std.specs.List.{All}
+use Rattle.std.proofs.lemmas.Bool.{cases_lt, cases_eq, cases_Bool, cond-true, cond-false, eq-eqb, ne_eqb, le-leb}
 use Rattle.std.proofs.lemmas.List.{get_or-replicate}
 use Rattle.std.proofs.lemmas.List.Elements.{All-nil, All-push, All-weaker, All-same}
 use Rattle.std.proofs.lemmas.List.FromFn.{get_or-map-range_with_len}
@@ -11,7 +11,6 @@ use Rattle.std.proofs.lemmas.Nat.{mod_below}
 use Rattle.std.proofs.Math.Nat.{mod-le, mod-eq_of_lt, mod_self, suc-mod, zero-mod}
 use Rattle.std.proofs.lemmas.Option.{slice_get-map, slice_get_within, get_or_from_slice_get}
 use Rattle.fdr_bus.specs.declared.BusRecord.{BusRecord}
-use Rattle.fdr_bus.specs.Words.{bits_at}
 use Rattle.fdr_table.specs.Rows.{FrameRow, ParamRow, TableRows}
 use Rattle.fdr_layout.specs.declared.slots.SlotPart.{SlotPart}
 use Rattle.fdr_layout.specs.Samples.{Sample, samples, first_at}
@@ -32,7 +31,7 @@ raw_value_at : (t : TableRows) (records : List BusRecord) (start : ℕ) (s : Sam
 unfolding raw_value
 raw_value_at t records start s p got = ap (λ o. option_map_or (λ (p : ParamRow). raw_of (source_of p) (held_record t.frame.words (source_of p) records (start + first_slot s))) o 0) got
 
-numbered_value_at : (t : TableRows) (records : List BusRecord) (start n : ℕ) (s : Sample) → slice_get (samples t) n ≡ Some s → numbered_value t records start n ≡ raw_value t records start s
+pub numbered_value_at : (t : TableRows) (records : List BusRecord) (start n : ℕ) (s : Sample) → slice_get (samples t) n ≡ Some s → numbered_value t records start n ≡ raw_value t records start s
 unfolding numbered_value
 numbered_value_at t records start n s got = ap (λ o. option_map_or (raw_value t records start) o 0) got
 
@@ -44,7 +43,7 @@ param_of t n s got =
     slice_get_some t.params s.param (subst (λ (x : Sample). x.param < length t.params) is (samples_params t n s within))
 
 -- a record that comes too late for the sample's first slot doesn't change its raw value
-raw_value-late : (t : TableRows) (records : List BusRecord) (start n : ℕ) (s : Sample) (r : BusRecord) → slice_get (samples t) n ≡ Some s →
+pub raw_value-late : (t : TableRows) (records : List BusRecord) (start n : ℕ) (s : Sample) (r : BusRecord) → slice_get (samples t) n ≡ Some s →
     (start + first_slot s) * 1000000 < r.time * t.frame.words → raw_value t (records ++ r ∷ []) start s ≡ raw_value t records start s
 raw_value-late t records start n s r got late =
     let p = param_of t n s got in
@@ -57,7 +56,7 @@ raw_value-late t records start n s r got late =
 within_below : (w n : ℕ) → 0 < w → slot_within w n < 64 * w
 within_below w n some = mod_below n (64 * w) (omega arith)
 
-start_and_within : (w n : ℕ) → start_of w n + slot_within w n ≡ n
+pub start_and_within : (w n : ℕ) → start_of w n + slot_within w n ≡ n
 start_and_within w n = omega (arith, mod-le n (64 * w))
 
 -- the next slot begins a superframe, or follows in the same one
@@ -76,7 +75,7 @@ next_slot w n some =
     inl (step ∙ ap (λ x. x % m) e ∙ mod_self m))
     (cases_lt (suc r) m)
 
-first_below : (a k at : ℕ) → a ≤ at → at / 12 ≡ k → a / 12 ≤ k
+pub first_below : (a k at : ℕ) → a ≤ at → at / 12 ≡ k → a / 12 ≤ k
 first_below a k at le is = omega arith
 
 -- ---- what stands of a value

@@ -1,5 +1,5 @@
 -- The bus word that is held for a parameter, and the raw value that a sample takes from it.
-use Rattle.std.specs.Prelude.{ℕ, ◌+◌, ◌*◌, ◌/◌, ◌==◌, Bool, true, not, ◌&&◌, nat_le, if◌then◌else◌, List, reverse, find, slice_get, Option}
+use Rattle.std.specs.Prelude.{ℕ, ◌+◌, ◌*◌, ◌/◌, ◌==◌, Bool, true, not, ◌&&◌, nat_le, List, reverse, find, slice_get, Option}
 use Rattle.std.specs.Option.{option_map_or}
 use Rattle.fdr_bus.specs.declared.BusRecord.{BusRecord}
 use Rattle.fdr_bus.specs.Records.{is_end}

@@ -1,5 +1,5 @@
 -- The word of a slot of the recording.
-use Rattle.std.specs.Prelude.{ℕ, ◌+◌, ◌-◌, ◌*◌, ◌/◌, ◌%◌, ◌^◌, List, fold, slice_get}
+use Rattle.std.specs.Prelude.{ℕ, ◌-◌, ◌*◌, ◌/◌, ◌%◌, ◌^◌, List, fold, slice_get}
 use Rattle.std.specs.Option.{option_map_or}
 use Rattle.fdr_bits.specs.Fields.{with_field}
 use Rattle.fdr_bus.specs.declared.BusRecord.{BusRecord}

@@ -1,4 +1,4 @@
-use Rattle.std.proofs.Common.{◌≡◌, ℕ, List, length, refl, sym, ap, ◌∙◌, subst, arith}
+use Rattle.std.proofs.Common.{◌≡◌, ℕ, List, length, refl, sym, subst, arith}
 use Rattle.std.proofs.lemmas.List.{with_items_is}
 use Rattle.fdr_sampler.specs.Kept.{Kept, slot_parts, HaveValues, IsDrawn}
 use Rattle.fdr_sampler.specs.View.{kept_of}
