@@ -70,7 +70,7 @@ cycle_of_le w a b some le = quotient_le (frame_bits w) a b (omega arith) le
 
 -- ---- the samples of a cycle
 
-pieces_hold : {X : Type 0} (P : X → Type 0) (f : ℕ → List X) (a n : ℕ) → ((x : ℕ) → a ≤ x → x < a + n → All P (f x)) → All P (flat_map f (range_with_len a n))
+pub pieces_hold : {X : Type 0} (P : X → Type 0) (f : ℕ → List X) (a n : ℕ) → ((x : ℕ) → a ≤ x → x < a + n → All P (f x)) → All P (flat_map f (range_with_len a n))
 pieces_hold P f a zero each = All-nil P
 pieces_hold P f a (suc n) each =
     All-append P (f a) (flat_map f (range_with_len (a + 1) n)) (each a (omega arith) (omega arith))
@@ -102,13 +102,13 @@ ending_in_ends t cycle some = ending_among_ends t.frame.words (samples t) cycle 
 
 -- ---- the parameters of samples
 
-all_pieces : {X A : Type 0} (P : A → Type 0) (f : X → List A) (xs : List X) → All (λ x. All P (f x)) xs → All P (flat_map f xs)
+pub all_pieces : {X A : Type 0} (P : A → Type 0) (f : X → List A) (xs : List X) → All (λ x. All P (f x)) xs → All P (flat_map f xs)
 all_pieces P f [] each = All-nil P
 all_pieces P f (x ∷ xs) each =
     All-append P (f x) (flat_map f xs) (All-head (λ y. All P (f y)) x xs each)
     (all_pieces P f xs (All-tail (λ y. All P (f y)) x xs each))
 
-numbered_below : {X : Type 0} (n m : ℕ) (xs : List X) → n + length xs ≤ m → All (λ (e : ℕ × X). e.0 < m) (enumerate_from n xs)
+pub numbered_below : {X : Type 0} (n m : ℕ) (xs : List X) → n + length xs ≤ m → All (λ (e : ℕ × X). e.0 < m) (enumerate_from n xs)
 numbered_below {X} n m [] within = All-nil (λ (e : ℕ × X). e.0 < m)
 numbered_below {X} n m (x ∷ xs) within =
     All-cons (λ (e : ℕ × X). e.0 < m) (n, x) (enumerate_from (n + 1) xs) (omega arith) (numbered_below (n + 1) m xs (omega arith))
@@ -118,7 +118,7 @@ unfolding samples_of
 samples_of_param w places n rate m below =
     All-map (λ (s : Sample). s.param < m) (λ i. record { param = n; index = i; parts = parts_of w places n i }) (range_with_len 0 rate) (λ k d h. below)
 
-samples_params : (t : TableRows) → All (λ (s : Sample). s.param < length t.params) (samples t)
+pub samples_params : (t : TableRows) → All (λ (s : Sample). s.param < length t.params) (samples t)
 unfolding samples
 samples_params t =
     let P : Sample → Type 0 = λ s. s.param < length t.params in

@@ -5,8 +5,8 @@ use Rattle.std.proofs.lemmas.List.{append-nil, append_assoc, map_push}
 use Rattle.std.proofs.lemmas.List.FromFn.{map-range_with_len_more}
 use Rattle.std.proofs.lemmas.List.Elements.{All-same, All-push}
 use Rattle.fdr_layout.proofs.Lists.{enumerate_from_step, map_step}
-use Rattle.fdr_table.specs.Rows.{FrameRow, ParamRow, PlaceRow, TableRows}
-use Rattle.fdr_layout.specs.Samples.{begins_at, occurs, Carrier, carrier_of, Part, part_at, parts_of, Sample, samples_of, samples, ending_among, ending_in}
+use Rattle.fdr_table.specs.Rows.{ParamRow, PlaceRow}
+use Rattle.fdr_layout.specs.Samples.{begins_at, occurs, Carrier, carrier_of, Part, part_at, parts_of, Sample, samples_of}
 
 eqb_and : (m n : ℕ) (b : Bool) → (m == n) && b ≡ true → m ≡ n
 eqb_and m n b h = grind arith
@@ -44,22 +44,6 @@ pub all_samples_step : (w : ℕ) (places : List PlaceRow) (params : List ParamRo
 all_samples_step w places params i p n rate old new l is index rate_is so_far more =
     enumerate_from_step (λ (e : ℕ × ParamRow). samples_of w places e.0 e.1.rate) params i p old new l is so_far
     (more ∙ ap (λ k. old ++ samples_of w places k rate) index ∙ ap (λ r. old ++ samples_of w places i r) rate_is)
-
--- the samples of the cycles, made of the samples of all parameters
-pub layout_made : (t : TableRows) (w : ℕ) (all : List Sample) (l : List (List Sample)) → w ≡ t.frame.words → all ≡ flat_map (λ (e : ℕ × ParamRow). samples_of w t.places e.0 e.1.rate) (enumerate_from 0 t.params) → l ≡ map (ending_among w all) (range_with_len 0 16) → l ≡ map (ending_in t) (range_with_len 0 16)
-unfolding ending_in samples
-layout_made t w all l words all_is made =
-    let each : ℕ → List Sample = λ v. flat_map (λ (e : ℕ × ParamRow). samples_of v t.places e.0 e.1.rate) (enumerate_from 0 t.params) in
-    made ∙ ap (λ ss. map (ending_among w ss) (range_with_len 0 16)) all_is
-    ∙ ap (λ v. map (ending_among v (each v)) (range_with_len 0 16)) words
-
--- the samples of a cycle rest on a table's frame, parameters and places alone
-pub ending_in_rows : (t : TableRows) (frame : FrameRow) (params : List ParamRow) (places : List PlaceRow) → frame ≡ t.frame → params ≡ t.params → places ≡ t.places → ending_in (record { frame = frame; params = params; places = places; rows = 0 }) ≡ ending_in t
-unfolding ending_in samples
-ending_in_rows t frame params places f ps pl =
-    ap (λ (x : FrameRow). ending_in (record { frame = x; params = params; places = places; rows = 0 })) f
-    ∙ ap (λ (x : List ParamRow). ending_in (record { frame = t.frame; params = x; places = places; rows = 0 })) ps
-    ∙ ap (λ (x : List PlaceRow). ending_in (record { frame = t.frame; params = t.params; places = x; rows = 0 })) pl
 
 -- the samples of one more cycle
 pub cycles_step : {V : Type 0} (P : List Sample → Type 0) (view : V → List Sample) (f : ℕ → List Sample) (old new : List V) (v : V) (n : ℕ) → map view old ≡ map f (range_with_len 0 n) → All P (map view old) → new ≡ old ++ v ∷ [] → view v ≡ f n → P (view v) → (map view new ≡ map f (range_with_len 0 (n + 1))) × All P (map view new)

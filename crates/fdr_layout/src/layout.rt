@@ -1,39 +1,44 @@
-//! The samples of a table by the cycle in which they end.
+//! The samples of a table, by the cycle in which they end, and their parts by word slot.
 
-ghost use Rattle.std.specs.Prelude.{◌≡◌, ◌<◌, ◌≤◌, ◌*◌, ◌++◌, ◌^◌, Some, length, map, filter, slice_get, IfOk, OnOk};
+ghost use Rattle.std.specs.Prelude.{◌≡◌, ◌<◌, ◌≤◌, ◌*◌, ◌++◌, ◌^◌, Some, length, map, filter, slice_get, All, IfOk, OnOk};
 ghost use Rattle.std.specs.List.{range_with_len};
 ghost use Rattle.fdr_layout.specs.Samples.{ending_at, ending_among, ending_in};
 ghost use Rattle.fdr_layout.specs.Cycles.{AreCycles};
+ghost use Rattle.fdr_layout.specs.SlotParts.{laid_of};
 
 use crate::memory::push;
 use crate::parts::Sample;
 use crate::samples::all_samples;
+use crate::slots::{SlotPart, slots_of};
 use fdr_table::{Frame, NoMemory, Param, Place, Table};
 use std::alloc::Global;
 use std::marker::Model;
 
-/// The samples that end in each of the 16 cycles of a superframe, in the order of last parts.
+/// Where the samples of a table stand in a superframe: by the cycle in which they end, and the parts by word slot.
 #[derive(Drop)]
 pub struct Layout {
     cycles: Vec<Vec<Sample>>,
+    samples: Vec<Sample>,
+    slots: Vec<Vec<SlotPart>>,
 }
 
 impl Model for Layout {
-    ghost use Rattle.std.specs.Prelude.{List, map};
-    ghost use Rattle.fdr_layout.specs.Samples.{Sample};
-    ghost use Rattle.fdr_layout.specs.Cycles.{AreCycles};
+    ghost use Rattle.std.specs.Prelude.{map};
+    ghost use Rattle.fdr_layout.specs.SlotParts.{Laid, IsLaid};
 
-    ghost Value = { List (List Sample) };
+    ghost Value = { Laid };
 
-    ghost view = { λ l. map (λ v. v.items) l.cycles.items };
+    ghost use Rattle.fdr_layout.specs.LayoutView.{laid};
 
-    ghost invariant = { λ l. AreCycles (map (λ v. v.items) l.cycles.items) };
+    ghost view = { laid };
+
+    ghost invariant = { λ l. IsLaid (laid l) };
 }
 
 impl Layout {
     /// The layout of a table. Fails only where memory ends.
     pub fn make(alloc: Global, table: &Table) -> Result<Layout, NoMemory>
-        ensures { IfOk result (λ l. l ≡ map (ending_in table.now) (range_with_len 0 16)) }
+        ensures { IfOk result (λ l. l ≡ laid_of table.now) }
     {
         Layout::of_rows(alloc, &table.frame(), table.params(), table.places())
     }
@@ -45,23 +50,51 @@ impl Layout {
         params: &[Param],
         places: &[Place],
     ) -> Result<Layout, NoMemory>
-        ensures { IfOk result (λ l. l ≡ map
-            (ending_in (record { frame = frame.now; params = params.now; places = places.now; rows = 0 }))
-            (range_with_len 0 16)) }
+        ensures { IfOk result (λ l. l
+            ≡ laid_of (record { frame = frame.now; params = params.now; places = places.now; rows = 0 })) }
     {
         let samples = all_samples(alloc, frame.words, params, places)?;
         let cycles = cycles_of(alloc, frame.words, &samples)?;
-        Ok(Layout { cycles })
+        let slots = slots_of(alloc, frame.words, &samples)?;
+        Ok(Layout {
+            cycles,
+            samples,
+            slots,
+        })
     }
 
-    /// The samples whose last part lies in a cycle, in the order of last parts.
+    /// The samples whose last part lies in a cycle, in the order of last parts. Takes no memory.
     pub fn ending_in(&self, cycle: u8) -> &[Sample]
         requires { cycle < 16 }
-        ensures samples { slice_get self.now cycle ≡ Some result.now }
+        ensures samples { slice_get self.now.cycles cycle ≡ Some result.now }
         ensures few { length result.now < 2 ^ 32 }
-        ensures cycles { length self.now ≡ 16 }
+        ensures cycles { length self.now.cycles ≡ 16 }
     {
         self.cycles[cycle as usize].as_slice()
+    }
+
+    /// How many samples a superframe has. Takes no memory.
+    pub fn samples(&self) -> u32
+        ensures { result ≡ length self.now.samples }
+    {
+        self.samples.len() as u32
+    }
+
+    /// The sample with this number. Samples are numbered by their parameter and then by their index. Takes no memory.
+    pub fn sample(&self, number: u32) -> &Sample
+        requires { number < length self.now.samples }
+        ensures { slice_get self.now.samples number ≡ Some result.now }
+    {
+        &self.samples[number as usize]
+    }
+
+    /// The parts that stand in word slot `k` of the superframe, by lowest bit. Takes no memory.
+    pub fn at_slot(&self, k: u32) -> &[SlotPart]
+        requires { k < length self.now.slots }
+        ensures parts { slice_get self.now.slots k ≡ Some result.now }
+        ensures numbers { All (λ a. a.sample < length self.now.samples) result.now }
+    {
+        self.slots[k as usize].as_slice()
     }
 }
 

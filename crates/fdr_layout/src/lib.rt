@@ -1,4 +1,4 @@
-//! Where the samples of a parameter table stand in a superframe, by the cycle in which they end.
+//! Where the samples of a parameter table stand in a superframe: by the cycle in which they end, and by word slot.
 //!
 //! A superframe is 16 frames. A place of the table occurs in some of its word slots and puts some bits there; sample
 //! `i` of a parameter takes the `i`-th occurrence of each of the parameter's parts. A bit of the superframe is counted
@@ -10,6 +10,8 @@ mod memory;
 mod occurrences;
 mod parts;
 mod samples;
+mod slots;
 
 pub use layout::Layout;
 pub use parts::{Part, Sample};
+pub use slots::SlotPart;

@@ -168,8 +168,8 @@ impl Rebuild {
         params: usize,
         layout: Layout,
     ) -> Result<Rebuild, NoMemory>
-        requires { All (λ samples. All (λ s. s.param < params) samples) layout }
-        ensures { IfOk result (λ r. r ≡ record { frame = frame; params = params; samples = layout; words = []; joined = 0 }) }
+        requires { All (λ samples. All (λ s. s.param < params) samples) layout.cycles }
+        ensures { IfOk result (λ r. r ≡ record { frame = frame; params = params; samples = layout.cycles; words = []; joined = 0 }) }
     {
         let words = HeapCircularBuffer::with_capacity(
             alloc,

@@ -8,5 +8,5 @@ pub returns-clause-few : goal.returns-clause-few
 returns-clause-few c =
     let P : List Sample → Type 0 = λ s. length s < 2 ^ 32 in
     let xs = c.self.inside.cycles.items in
-    let within : c.args.cycle < length xs = omega (arith, length-map xs (λ v. v.items), c.self.invariant.count) in
-    subst P (sym c.as_slice.ensures.value) (All_at P (λ v. v.items) xs c.args.cycle _ c.self.invariant.few within c.index.ensures)
+    let within : c.args.cycle < length xs = omega (arith, length-map xs (λ v. v.items), c.self.invariant.cycles.count) in
+    subst P (sym c.as_slice.ensures.value) (All_at P (λ v. v.items) xs c.args.cycle _ c.self.invariant.cycles.few within c.index.ensures)

@@ -24,5 +24,5 @@ returns-else-is_empty-clause-params c =
     let P : Kept → Type 0 = λ k. All (λ (s : Sample). s.param < k.params) c.ending_in.result.now in
     let Q : List Sample → Type 0 = λ samples. All (λ (s : Sample). s.param < c.self.inside.params) samples in
     subst P c.self.view_is
-    (subst Q (get_or_from_slice_get c.self.inside.layout c.cycle.result c.ending_in.result.now [] c.ending_in.ensures.samples)
-    (c.self.invariant.params c.cycle.result [] (slice_get_within c.self.inside.layout c.cycle.result c.ending_in.result.now c.ending_in.ensures.samples)))
+    (subst Q (get_or_from_slice_get c.self.inside.layout.cycles c.cycle.result c.ending_in.result.now [] c.ending_in.ensures.samples)
+    (c.self.invariant.params c.cycle.result [] (slice_get_within c.self.inside.layout.cycles c.cycle.result c.ending_in.result.now c.ending_in.ensures.samples)))

@@ -1,0 +1,113 @@
+-- The parts by word slot, and the whole layout.
+use Rattle.std.proofs.Common.{◌≡◌, ℕ, zero, suc, ◌+◌, ◌*◌, ◌/◌, ◌<◌, ◌≤◌, Bool, true, false, ◌==◌, List, [], ◌∷◌, ◌++◌, map, length, get_or, take, refl, ap, ◌∙◌, ⊎_elim, zero-add, eqb-true, arith}
+use Rattle.std.specs.List.{All, filter, flat_map, range_with_len, enumerate_from}
+use Rattle.std.proofs.lemmas.Bool.{cases_Bool, eq-eqb, both_ways, false_from_ne_true}
+use Rattle.std.proofs.lemmas.List.{map_push}
+use Rattle.std.proofs.lemmas.List.Elements.{All-map, All-weaker, All-filter, All-same}
+use Rattle.fdr_table.specs.Rows.{FrameRow, ParamRow, PlaceRow, TableRows}
+use Rattle.fdr_layout.specs.declared.slots.SlotPart.{SlotPart}
+use Rattle.fdr_layout.specs.Samples.{Part, Sample, samples_of, samples, ending_among, ending_in}
+use Rattle.fdr_layout.specs.SlotParts.{numbered, parts_among, parts_at, standing_in, parts_of_slot, Laid, laid_of}
+use Rattle.fdr_layout.proofs.Lists.{map_step, enumerate_from_step}
+use Rattle.fdr_layout.proofs.Endings.{pieces_hold, all_pieces, numbered_below}
+
+-- the parts of one more sample
+pub parts_among_step : (samples : List Sample) (i n : ℕ) (s : Sample) (parts : List Part) (old new : List SlotPart) → i < length samples → s ≡ get_or samples i s → n ≡ i → parts ≡ s.parts →
+    old ≡ flat_map (λ (e : ℕ × Sample). numbered e.0 e.1.parts) (enumerate_from 0 (take i samples)) → new ≡ old ++ numbered n parts →
+    new ≡ flat_map (λ (e : ℕ × Sample). numbered e.0 e.1.parts) (enumerate_from 0 (take (i + 1) samples))
+parts_among_step samples i n s parts old new l is number same so_far more =
+    enumerate_from_step (λ (e : ℕ × Sample). numbered e.0 e.1.parts) samples i s old new l is so_far
+    (more ∙ ap (λ k. old ++ numbered k parts) number ∙ ap (λ ps. old ++ numbered i ps) same)
+
+pub parts_among_is : (samples : List Sample) → flat_map (λ (e : ℕ × Sample). numbered e.0 e.1.parts) (enumerate_from 0 samples) ≡ parts_among samples
+unfolding parts_among
+parts_among_is samples = refl
+
+-- a filter that keeps less needs no filter before it
+filter_of_filter : {X : Type 0} (p q : X → Bool) → ((x : X) → p x ≡ true → q x ≡ true) → (xs : List X) → filter p (filter q xs) ≡ filter p xs
+filter_of_filter p q less [] = refl
+filter_of_filter p q less (x ∷ xs) =
+    let rest = filter_of_filter p q less xs in
+    let kept : q x ≡ true → filter p (filter q (x ∷ xs)) ≡ filter p (x ∷ xs) = λ yes. rw yes (rw rest refl) in
+    let dropped : q x ≡ false → filter p (filter q (x ∷ xs)) ≡ filter p (x ∷ xs) = λ no.
+    let out : p x ≡ false = false_from_ne_true (p x) (λ yes. both_ways (q x) no (less x yes)) in
+    rw (no, out) rest in
+    ⊎_elim kept dropped (cases_Bool (q x))
+
+flat_map_agree : {A : Type 0} (f g : ℕ → List A) (a n : ℕ) → ((x : ℕ) → a ≤ x → x < a + n → f x ≡ g x) → flat_map f (range_with_len a n) ≡ flat_map g (range_with_len a n)
+flat_map_agree f g a zero same = refl
+flat_map_agree f g a (suc n) same =
+    ap (λ xs. xs ++ flat_map f (range_with_len (a + 1) n)) (same a (omega arith) (omega arith))
+    ∙ ap (λ xs. g a ++ xs) (flat_map_agree f g (a + 1) n (λ x low high. same x (omega arith) (omega arith)))
+
+slot_of_bit : (k x : ℕ) → 12 * k ≤ x → x < 12 * k + 12 → x / 12 ≡ k
+slot_of_bit k x low high = omega arith
+
+-- the parts that stand in a slot are all that count for it
+pub standing_suffice : (parts standing found : List SlotPart) (k n : ℕ) → standing ≡ standing_in parts k → n ≡ 12 → found ≡ flat_map (parts_at standing) (range_with_len (12 * k) n) → found ≡ parts_of_slot parts k
+unfolding parts_of_slot
+standing_suffice parts standing found k n is twelve made =
+    made ∙ ap (λ m. flat_map (parts_at standing) (range_with_len (12 * k) m)) twelve
+    ∙ ap (λ ps. flat_map (parts_at ps) (range_with_len (12 * k) 12)) is
+    ∙ flat_map_agree (parts_at (standing_in parts k)) (parts_at parts) (12 * k) 12
+    (λ x low high. filter_of_filter (λ (a : SlotPart). a.part.at == x) (λ (a : SlotPart). a.part.at / 12 == k)
+    (λ a at. eq-eqb (a.part.at / 12) k (ap (λ y. y / 12) (eqb-true a.part.at x at) ∙ slot_of_bit k x low high)) parts)
+
+-- the parts of one more slot
+pub slots_step : {V : Type 0} (view : V → List SlotPart) (f : ℕ → List SlotPart) (old new : List V) (v : V) (n : ℕ) → map view old ≡ map f (range_with_len 0 n) → new ≡ old ++ v ∷ [] → view v ≡ f n → map view new ≡ map f (range_with_len 0 (n + 1))
+slots_step view f old new v n so_far more is =
+    let pushed : map view new ≡ map view old ++ view v ∷ [] = ap (map view) more ∙ map_push view old v in
+    map_step f (map view old) (map view new) 0 n (n + 1) n so_far (pushed ∙ ap (λ s. map view old ++ s ∷ []) is) (zero-add n) refl
+
+-- ---- the numbers of samples
+
+parts_among_numbers : (samples : List Sample) → All (λ (a : SlotPart). a.sample < length samples) (parts_among samples)
+unfolding parts_among
+parts_among_numbers samples =
+    let P : SlotPart → Type 0 = λ a. a.sample < length samples in
+    let made : ℕ → Part → SlotPart = λ n p. record { sample = n; part = p } in
+    all_pieces P (λ (e : ℕ × Sample). numbered e.0 e.1.parts) (enumerate_from 0 samples)
+    (All-weaker (λ (e : ℕ × Sample). e.0 < length samples) (λ (e : ℕ × Sample). All P (numbered e.0 e.1.parts))
+    (λ e below. All-map P (made e.0) e.1.parts (λ k d h. below)) (enumerate_from 0 samples) (numbered_below 0 (length samples) samples (omega arith)))
+
+-- what holds of each part holds of those of a slot
+pub parts_of_slot_hold : (P : SlotPart → Type 0) (parts : List SlotPart) (k : ℕ) → All P parts → All P (parts_of_slot parts k)
+unfolding parts_of_slot
+parts_of_slot_hold P parts k all =
+    pieces_hold P (parts_at parts) (12 * k) 12 (λ x low high. All-filter (λ (a : SlotPart). a.part.at == x) P parts all)
+
+pub slots_numbers : (samples : List Sample) (slots : List (List SlotPart)) (n : ℕ) → slots ≡ map (parts_of_slot (parts_among samples)) (range_with_len 0 n) → All (λ (parts : List SlotPart). All (λ (a : SlotPart). a.sample < length samples) parts) slots
+slots_numbers samples slots n made =
+    let P : SlotPart → Type 0 = λ a. a.sample < length samples in
+    All-same (λ (parts : List SlotPart). All P parts) slots (map (parts_of_slot (parts_among samples)) (range_with_len 0 n)) made
+    (All-map (λ (parts : List SlotPart). All P parts) (parts_of_slot (parts_among samples)) (range_with_len 0 n)
+    (λ k d h. parts_of_slot_hold P (parts_among samples) (get_or (range_with_len 0 n) k d) (parts_among_numbers samples)))
+
+-- ---- the whole layout
+
+-- a layout's lists, made of the samples of all parameters
+pub laid_made : (t : TableRows) (w : ℕ) (all : List Sample) (cycles : List (List Sample)) (slots : List (List SlotPart)) → w ≡ t.frame.words →
+    all ≡ flat_map (λ (e : ℕ × ParamRow). samples_of w t.places e.0 e.1.rate) (enumerate_from 0 t.params) →
+    cycles ≡ map (ending_among w all) (range_with_len 0 16) →
+    slots ≡ map (parts_of_slot (parts_among all)) (range_with_len 0 (64 * w)) →
+    record { cycles = cycles; samples = all; slots = slots } ≡ laid_of t
+unfolding ending_in samples
+laid_made t w all cycles slots words all_is cycles_is slots_is =
+    let each : ℕ → List Sample = λ v. flat_map (λ (e : ℕ × ParamRow). samples_of v t.places e.0 e.1.rate) (enumerate_from 0 t.params) in
+    let of : ℕ → List Sample → Laid = λ v ss. record {
+      cycles = map (ending_among v ss) (range_with_len 0 16);
+      samples = ss;
+      slots = map (parts_of_slot (parts_among ss)) (range_with_len 0 (64 * v));
+    } in
+    let first : List (List Sample) → Laid = λ cs. record { cycles = cs; samples = all; slots = slots } in
+    let second : List (List SlotPart) → Laid = λ ps. record { cycles = map (ending_among w all) (range_with_len 0 16); samples = all; slots = ps } in
+    ap first cycles_is ∙ ap second slots_is ∙ ap (of w) all_is ∙ ap (λ v. of v (each v)) words
+
+-- a layout rests on a table's frame, parameters and places alone
+pub laid_of_rows : (t : TableRows) (frame : FrameRow) (params : List ParamRow) (places : List PlaceRow) → frame ≡ t.frame → params ≡ t.params → places ≡ t.places →
+    laid_of (record { frame = frame; params = params; places = places; rows = 0 }) ≡ laid_of t
+unfolding ending_in samples
+laid_of_rows t frame params places f ps pl =
+    ap (λ (x : FrameRow). laid_of (record { frame = x; params = params; places = places; rows = 0 })) f
+    ∙ ap (λ (x : List ParamRow). laid_of (record { frame = t.frame; params = x; places = places; rows = 0 })) ps
+    ∙ ap (λ (x : List PlaceRow). laid_of (record { frame = t.frame; params = t.params; places = x; rows = 0 })) pl

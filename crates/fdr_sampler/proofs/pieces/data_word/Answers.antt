@@ -1,0 +1,42 @@
+use Rattle.std.proofs.Common.{◌≡◌, ◌<◌, ◌≤◌, List, [], length, get_or, sym, ap, ◌∙◌, subst, arith}
+use Rattle.std.proofs.lemmas.List.{take_all}
+use Rattle.std.proofs.lemmas.Option.{get_or_from_slice_get}
+use Rattle.fdr_layout.specs.declared.slots.SlotPart.{SlotPart}
+use Rattle.fdr_sampler.specs.Kept.{slot_parts, value_at, IsDrawn}
+use Rattle.fdr_sampler.proofs.Drawing.{IsDrawn-more, value_taken}
+use Rattle.fdr_sampler.proofs.pieces.data_word.Goals as goal
+
+pub loop-part-preserved : goal.loop-part-preserved
+loop-part-preserved c =
+    let laid = c.args.layout.now in
+    let slot = c.args.slot in
+    let before = c.args.raws.now in
+    let items = c.at_slot-part-items.result.now in
+    let parts = slot_parts laid slot in
+    let same : items ≡ parts = sym (get_or_from_slice_get laid.slots slot items [] c.at_slot-part-items.ensures.parts) in
+    let i = c.loop-part.part-index in
+    let a = c.part-item.result in
+    let l : i < length parts = subst (λ (xs : List SlotPart). i < length xs) same c.loop-part-test.true in
+    let is : a ≡ get_or parts i a = c.part-item.is ∙ ap (λ xs. get_or xs i a) same in
+    let room : a.sample < length c.loop-part.raws =
+    omega (arith, ap (λ (x : SlotPart). x.sample) c.part-item.is, c.at_slot-part-items.ensures.numbers i a c.loop-part-test.true, c.requires.raws, c.loop-part.auto.raws) in
+    record {
+      small = c.with_piece-word.ensures.small;
+      drawn = λ value have.
+          let so_far = c.loop-part.invariant.drawn value have in
+          let At : SlotPart → Type 0 = λ x. value_at laid slot c.args.held.now before x.sample ≡ value x.sample in
+          let raw_is = value_taken value laid slot c.args.held.now before c.loop-part.raws a.sample c.sample-sample.result.now c.value_at-raw.result (subst At (sym is) (have i a l)) c.sample-sample.ensures so_far.kept c.value_at-raw.ensures.value in
+          IsDrawn-more value parts i a before c.loop-part.raws c.value_at-raw.new.raws c.loop-part.word c.with_piece-word.result c.value_at-raw.result l is so_far raw_is room c.value_at-raw.ensures.kept c.with_piece-word.ensures.value;
+    }
+
+pub returns-clause-drawn : goal.returns-clause-drawn
+returns-clause-drawn c = λ value have.
+    let laid = c.args.layout.now in
+    let slot = c.args.slot in
+    let items = c.at_slot-part-items.result.now in
+    let parts = slot_parts laid slot in
+    let same : items ≡ parts = sym (get_or_from_slice_get laid.slots slot items [] c.at_slot-part-items.ensures.parts) in
+    let i = c.loop-part.part-index in
+    let all : length parts ≤ i = subst (λ (xs : List SlotPart). length xs ≤ i) same c.loop-part-test.false in
+    let P : List SlotPart → Type 0 = λ xs. IsDrawn value xs c.args.raws.now c.loop-part.raws c.loop-part.word in
+    subst P (take_all i parts all) (c.loop-part.invariant.drawn value have)

@@ -1,0 +1,51 @@
+-- The word of a slot of the recording.
+use Rattle.std.specs.Prelude.{ℕ, ◌-◌, ◌*◌, ◌/◌, ◌%◌, ◌^◌, List, fold, slice_get}
+use Rattle.std.specs.Option.{option_map_or}
+use Rattle.fdr_bits.specs.Fields.{with_field}
+use Rattle.fdr_bus.specs.declared.BusRecord.{BusRecord}
+use Rattle.fdr_frame.specs.declared.SlotKind.TheVariants.{Sync, Counter, Plain}
+use Rattle.fdr_frame.specs.Slots.{frame_of, subframe_of, sync_word, kind_of}
+use Rattle.fdr_table.specs.Rows.{FrameRow, TableRows}
+use Rattle.fdr_layout.specs.declared.slots.SlotPart.{SlotPart}
+use Rattle.fdr_layout.specs.Samples.{Part, samples}
+use Rattle.fdr_layout.specs.SlotParts.{parts_in}
+use Rattle.fdr_sampler.specs.Held.{raw_value}
+
+-- the raw value of the sample with this number, in the superframe that begins at slot `start`
+unfoldable pub numbered_value : TableRows → List BusRecord → ℕ → ℕ → ℕ
+numbered_value t records start n = option_map_or (raw_value t records start) (slice_get (samples t) n) 0
+
+-- the piece of a raw value that a part carries
+abbrev pub piece_of : ℕ → Part → ℕ
+piece_of raw p = raw / 2 ^ p.shift % 2 ^ p.width
+
+-- the word with the part's piece of its sample's raw value in the part's bits
+abbrev pub with_part : (ℕ → ℕ) → ℕ → SlotPart → ℕ
+with_part value word a = with_field word (a.part.at % 12) a.part.width (piece_of (value a.sample) a.part)
+
+-- a word with the pieces of these parts, and with 0 in all other bits, where this is the raw value of each sample
+abbrev pub data_of : (ℕ → ℕ) → List SlotPart → ℕ
+data_of value parts = fold (with_part value) 0 parts
+
+-- the pieces of slot k of the superframe that begins at slot `start`
+abbrev pub data_word : TableRows → List BusRecord → ℕ → ℕ → ℕ
+data_word t records start k = data_of (numbered_value t records start) (parts_in t k)
+
+-- the word of slot k, where this would be its word of data: a sync word and the frame counter come before it
+abbrev pub word_with : FrameRow → ℕ → ℕ → ℕ
+word_with f k word = elim (kind_of f.words f.cword f.csub k) [
+  | Sync ↦ sync_word (subframe_of f.words k)
+  | Counter ↦ frame_of f.words k % 4096
+  | Plain ↦ word
+]
+
+-- which slot of its superframe slot k is, and the slot that the superframe begins at
+abbrev pub slot_within : ℕ → ℕ → ℕ
+slot_within w k = k % (64 * w)
+
+abbrev pub start_of : ℕ → ℕ → ℕ
+start_of w k = k - slot_within w k
+
+-- the word of slot k of the recording of these records
+abbrev pub slot_word : TableRows → List BusRecord → ℕ → ℕ
+slot_word t records k = word_with t.frame k (data_word t records (start_of t.frame.words k) (slot_within t.frame.words k))

@@ -1,0 +1,6 @@
+-- What a value of the program keeps.
+use Rattle.fdr_sampler.specs.declared.sampler.Sampler.TheInside.{Inside}
+use Rattle.fdr_sampler.specs.Kept.{Kept}
+
+abbrev pub kept_of : Inside → Kept
+kept_of s = record { frame = s.frame; sources = s.sources.items; laid = s.layout; held = s.held.items; raws = s.raws.items; drawn = s.drawn }

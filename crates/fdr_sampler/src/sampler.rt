@@ -1,0 +1,134 @@
+//! The sampler.
+
+ghost use Rattle.std.specs.Prelude.{◌≡◌, ◌<◌, ◌≤◌, ◌*◌, ◌↔◌, All, IsTrue, IfOk, length, replicate};
+ghost use Rattle.fdr_sampler.specs.SlotWord.{slot_word, slot_within, word_with};
+ghost use Rattle.fdr_sampler.specs.Kept.{at_start, most_slots};
+ghost use Rattle.fdr_sampler.specs.Past.{Past, made, with_record, with_word, MayTake, Stands};
+
+use crate::pieces::data_word;
+use crate::source::{Source, hold, sources_of};
+use fdr_bus::{BusRecord, LAST_TIME};
+use fdr_frame::{SYNC, SlotKind, counter_of, slot_kind, subframe_of};
+use fdr_layout::Layout;
+use fdr_table::{Frame, NoMemory, Param, Table};
+use std::alloc::Global;
+use std::marker::Model;
+
+/// Makes the words of a recording, one after another, of the bus words that it is given in between.
+#[derive(Drop)]
+pub struct Sampler {
+    frame: Frame,
+    sources: Vec<Source>,
+    layout: Layout,
+    held: Vec<u32>,
+    raws: Vec<u32>,
+    drawn: u64,
+}
+
+impl Model for Sampler {
+    ghost use Rattle.fdr_sampler.specs.Kept.{Kept, IsKept};
+
+    ghost Value = { Kept };
+
+    ghost use Rattle.fdr_sampler.specs.View.{kept_of};
+
+    ghost view = { kept_of };
+
+    ghost invariant = { λ s. IsKept (kept_of s) };
+}
+
+impl Sampler {
+    /// A sampler at the start of a recording by this table. Fails only where memory ends.
+    pub fn new(alloc: Global, table: &Table) -> Result<Sampler, NoMemory>
+        ensures { IfOk result (λ s. Stands s (made table.now)) }
+    {
+        let layout = Layout::make(alloc, table)?;
+        Sampler::with_layout(alloc, table.frame(), table.params(), layout)
+    }
+
+    /// Whether the next slot comes before this time, in microseconds from the start. Takes no memory.
+    pub fn due(&self, time: u64) -> bool
+        requires { time ≤ LAST_TIME }
+        ensures { (past : Past) → Stands self.now past →
+            IsTrue result ↔ (past.drawn * 1000000 < time * past.table.frame.words) }
+    {
+        self.drawn * 1_000_000 < time * u64::from(self.frame.words)
+    }
+
+    /// Takes the next bus word. All slots before its time must have been drawn, and none after it. Takes no memory.
+    pub fn bus(&mut self, r: &BusRecord)
+        requires { (past : Past) × Stands self.old past × MayTake past r.now }
+        ensures { (past : Past) → Stands self.old past → MayTake past r.now → Stands self.new (with_record past r.now) }
+    {
+        hold(&self.sources, &mut self.held, r);
+    }
+
+    /// The word of the next slot. A recording has at most 1,474,560,000. Takes no memory.
+    pub fn next_word(&mut self) -> u16
+        requires { (past : Past) × Stands self.old past × (past.drawn < most_slots) }
+        ensures word { (past : Past) → Stands self.old past → result ≡ slot_word past.table past.records past.drawn }
+        ensures stands { (past : Past) → Stands self.old past → Stands self.new (with_word past) }
+        ensures small { result < 4096 }
+    {
+        let frame = self.frame;
+        let slot = slot_within(frame, self.drawn);
+        let plain = data_word(&self.layout, slot, &self.held, &mut self.raws);
+        let word = word_with(frame, self.drawn, plain);
+        self.drawn += 1;
+        word
+    }
+
+    fn with_layout(
+        alloc: Global,
+        frame: Frame,
+        params: &[Param],
+        layout: Layout,
+    ) -> Result<Sampler, NoMemory>
+        requires slots { length layout.slots ≡ 64 * frame.words }
+        requires params { All (λ s. s.param < length params.now) layout.samples }
+        ensures { IfOk result (λ s. s ≡ at_start frame params.now layout) }
+    {
+        let sources = sources_of(alloc, params)?;
+        let held = zeros(alloc, params.len())?;
+        let raws = zeros(alloc, layout.samples() as usize)?;
+        Ok(Sampler {
+            frame,
+            sources,
+            layout,
+            held,
+            raws,
+            drawn: 0,
+        })
+    }
+}
+
+/// So many zeros.
+fn zeros(alloc: Global, count: usize) -> Result<Vec<u32>, NoMemory>
+    ensures { IfOk result (λ v. v.items ≡ replicate count 0) }
+{
+    vec![in alloc; 0; count].map_err(|_| NoMemory)
+}
+
+/// Which slot of its superframe slot `k` is.
+fn slot_within(frame: Frame, k: u64) -> u32
+    ensures slot { result ≡ slot_within frame.words k }
+    ensures below { result < 64 * frame.words }
+{
+    (k % (64 * u64::from(frame.words))) as u32
+}
+
+/// The word of slot `k`, where this would be its word of data.
+fn word_with(frame: Frame, k: u64, plain: u16) -> u16
+    requires { plain < 4096 }
+    ensures word { result ≡ word_with frame k plain }
+    ensures small { result < 4096 }
+{
+    match slot_kind(k, frame.words, frame.cword, frame.csub) {
+        SlotKind::Sync => SYNC[usize::from(subframe_of(k, frame.words) - 1)],
+        SlotKind::Counter => counter_of(k, frame.words),
+        SlotKind::Plain => plain,
+    }
+}
+
+#[cfg(test)]
+mod tests;

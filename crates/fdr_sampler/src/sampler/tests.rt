@@ -1,0 +1,180 @@
+//! Words of worked recordings.
+
+ghost use Rattle.std.specs.Prelude.{◌≡◌, ◌+◌, ◌<◌, ◌≤◌, IfOk, IsTrue};
+ghost use Rattle.fdr_bus.specs.declared.RecordKind.TheVariants.{Word};
+ghost use Rattle.fdr_table.specs.Fields.{is_among};
+ghost use Rattle.fdr_table.specs.Ranges.{periods};
+ghost use Rattle.fdr_table.specs.Rows.{TableRows};
+ghost use Rattle.fdr_sampler.specs.Past.{made, Stands};
+
+use super::*;
+use fdr_bus::RecordKind;
+use fdr_table::{Name, Place};
+use std::test::Fail;
+
+const COUNTER_SECOND: &[u8] =
+    b"F,64,2,1\nP,ALT,0,203,,11,12,U,1,1,0,0,16\nL,ALT,1,1,10,0,1,12,0,1\n";
+
+const COUNTER_LAST: &[u8] = b"F,64,64,4\nP,ALT,0,203,,11,12,U,1,1,0,0,16\nL,ALT,1,1,2,0,1,12,0,1\n";
+
+fn sampler_of(alloc: Global, table: &[u8]) -> Result<Sampler, Fail>
+    ensures { IfOk result (λ s. (t : TableRows) × Stands s (made t)) }
+{
+    let table = Table::read(alloc, table).ok().ok_or("table")?;
+    let Ok(sampler) = Sampler::new(alloc, &table) else {
+        return Err("memory")?;
+    };
+    Ok(sampler)
+}
+
+fn word(bus: u8, word: u32, time: u64) -> BusRecord
+    ensures kind { result.kind ≡ Word }
+    ensures time { result.time ≡ time }
+{
+    BusRecord {
+        kind: RecordKind::Word,
+        bus,
+        word,
+        time,
+    }
+}
+
+/// The first words of the recording of one bus word.
+fn words_of(alloc: Global, sampler: Sampler, r: &BusRecord, count: usize) -> Result<Vec<u16>, Fail>
+    requires stands { (t : TableRows) × Stands sampler (made t) }
+    requires kind { r.now.kind ≡ Word }
+    requires in_time { r.now.time ≤ LAST_TIME }
+    requires few { count ≤ 4096 }
+{
+    let mut sampler = sampler;
+    let mut words = Vec::new(alloc);
+    while sampler.due(r.time) {
+        if words.len() >= count {
+            return Err("too many words")?;
+        }
+        words.push(sampler.next_word())?;
+    }
+    sampler.bus(r);
+    while words.len() < count {
+        words.push(sampler.next_word())?;
+    }
+    Ok(words)
+}
+
+// The word is of even parity, so it isn't held.
+#[test]
+fn begins_each_subframe_by_its_sync_word(rt: HostRuntime) -> Result<(), Fail> {
+    let sampler = sampler_of(rt.alloc(), COUNTER_SECOND)?;
+    let words = words_of(rt.alloc(), sampler, &word(0, 0x8000_14c1, 0), 512)?;
+    for (k, value) in [
+        (0, 0x247),
+        (1, 0),
+        (2, 0),
+        (9, 0),
+        (63, 0),
+        (64, 0x5b8),
+        (65, 0),
+        (128, 0xa47),
+        (192, 0xdb8),
+        (255, 0),
+        (256, 0x247),
+        (257, 1),
+    ] {
+        assert_eq!(rt; words.get(k).copied(), Some(value), "slot {k}");
+    }
+    Ok(())
+}
+
+// Slot 1 is sampled at 15,625 microseconds.
+#[test]
+fn holds_a_word_at_the_time_of_a_slot(rt: HostRuntime) -> Result<(), Fail> {
+    for (bits, time, altitude) in [
+        (0x14c1, 15_625, 5),
+        (0x14c1, 15_626, 0),
+        (0x8000_14c1, 15_625, 0),
+    ] {
+        let sampler = sampler_of(rt.alloc(), COUNTER_LAST)?;
+        let words = words_of(rt.alloc(), sampler, &word(0, bits, time), 512)?;
+        assert_eq!(rt; words.get(1).copied(), Some(altitude), "at {time}");
+        assert_eq!(rt; words.get(255).copied(), Some(0));
+        assert_eq!(rt; words.get(511).copied(), Some(1));
+    }
+    Ok(())
+}
+
+fn param(name: &[u8], bus: u8, label: u8, lsb: u8, width: u8, rate: u32) -> Option<Param>
+    requires lsb_low { 1 ≤ lsb }
+    requires width_low { 1 ≤ width }
+    requires bits { lsb + width ≤ 33 }
+    requires rate_low { 1 ≤ rate }
+    requires rate_high { rate ≤ 262144 }
+{
+    Some(Param {
+        name: Name::new(name)?,
+        bus,
+        label,
+        sdi: None,
+        lsb,
+        width,
+        signed: false,
+        num: 1,
+        den: 1,
+        offset: 0,
+        decimals: 0,
+        rate,
+        row: 0,
+    })
+}
+
+fn place(part: u8, width: u8, cycle: u8) -> Place
+    requires part_low { 1 ≤ part }
+    requires part_high { part ≤ 4 }
+    requires width_low { 1 ≤ width }
+    requires width_high { width ≤ 12 }
+    requires cycle { cycle < 16 }
+{
+    Place {
+        param: 0,
+        part,
+        subs: 1,
+        word: 20,
+        step: 0,
+        lsb: 1,
+        width,
+        cycle,
+        period: 16,
+        row: 0,
+    }
+}
+
+/// A position of two parts, one in each of two frames.
+fn position(alloc: Global) -> Result<Sampler, Fail>
+    ensures { IfOk result (λ s. (t : TableRows) × Stands s (made t)) }
+{
+    let frame = Frame {
+        words: 64,
+        cword: 2,
+        csub: 1,
+    };
+    let params = [param(b"POS", 1, 0o310, 9, 20, 1).ok_or("name")?];
+    let places = [place(1, 12, 0), place(2, 8, 1)];
+    let Ok(layout) = Layout::of_rows(alloc, &frame, &params, &places) else {
+        return Err("memory")?;
+    };
+    let Ok(sampler) = Sampler::with_layout(alloc, frame, &params, layout) else {
+        return Err("memory")?;
+    };
+    Ok(sampler)
+}
+
+// Both parts have pieces of the value at the first part's slot, which is sampled at 296,875 microseconds.
+#[test]
+fn takes_a_value_at_its_first_part(rt: HostRuntime) -> Result<(), Fail> {
+    for (time, low, high) in [(0, 0xcde, 0xab), (296_875, 0xcde, 0xab), (1_000_000, 0, 0)] {
+        let sampler = position(rt.alloc())?;
+        let words = words_of(rt.alloc(), sampler, &word(1, 0x8abc_de13, time), 512)?;
+        assert_eq!(rt; words.get(19).copied(), Some(low), "at {time}");
+        assert_eq!(rt; words.get(275).copied(), Some(high), "at {time}");
+    }
+    Ok(())
+}
