@@ -3,5 +3,4 @@ pub mod ParseLemmas
 pub mod GoodRecords
 pub mod WholeRecords
 pub mod TraceLemmas
-pub mod HeldLemmas
 mod WorkedTrace

@@ -2,8 +2,6 @@
 use Rattle.std.proofs.Common.{◌≡◌, ℕ, ◌∷◌, ◌++◌, [], List, Some, None, refl}
 use Rattle.std.specs.Prelude.{replicate}
 use Rattle.fdr_bus.specs.Records.{record_of, is_good, record_fault, whole_records, most_records, good_prefix, fault_after, trace_fault}
-use Rattle.fdr_bus.specs.Words.{ones_to, reversed_to}
-use Rattle.fdr_bus.specs.Held.{is_of, held_record}
 use Rattle.fdr_bus.specs.declared.BusRecord.{BusRecord}
 use Rattle.fdr_bus.specs.declared.RecordKind.TheVariants.{Word, End}
 use Rattle.fdr_bus.specs.declared.TraceFault.TheVariants as fault
@@ -42,16 +40,3 @@ goes_back = refl
 wrong_kind : trace_fault (word_bytes ++ replicate 16 7) ≡ Some (1, fault.Kind)
 unfolding trace_fault fault_after record_fault good_prefix whole_records most_records record_of is_good word_bytes
 wrong_kind = refl
-
--- a time of 15,625 microseconds is that of slot 1 where a second has 64 slots
-not_yet : held_record 64 0 131 None (word_record ∷ end_record ∷ []) 0 ≡ None
-unfolding held_record is_of ones_to reversed_to word_record end_record
-not_yet = refl
-
-from_slot_1 : held_record 64 0 131 None (word_record ∷ end_record ∷ []) 1 ≡ Some word_record
-unfolding held_record is_of ones_to reversed_to word_record end_record
-from_slot_1 = refl
-
-of_another_sdi : held_record 64 0 131 (Some 1) (word_record ∷ end_record ∷ []) 1 ≡ None
-unfolding held_record is_of ones_to reversed_to word_record end_record
-of_another_sdi = refl

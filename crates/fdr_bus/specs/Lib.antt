@@ -1,3 +1,2 @@
 pub mod Records
 pub mod Words
-pub mod Held
