@@ -119,7 +119,7 @@ module _ (call : Call) (old new : Memory) (entered : IsEntered call old new) whe
   pub within_entered : ((image : List ℕ) → left_within call (held_in old) (left_in old) image → left_in old image ⊎ left_by call (held_in old) (left_in old) image)
       → EachMoment memory_tells (memory_state old) (memory_state new) (Within (memory_state old) (memory_state new))
   within_entered amid told m since = ⊎_elim
-    (λ early. ⊎_elim
+      (λ early. ⊎_elim
       (λ is. inl (at_start m is))
       (λ is. inr (record {
         image = ⊎_elim (λ was. inl was) (λ after. inr (entered_left m.image after)) (amid m.image is.image);
@@ -127,21 +127,21 @@ module _ (call : Call) (old new : Memory) (entered : IsEntered call old new) whe
         pulled = inl (record { taken = is.taken; before = is.before });
       }))
       early)
-    (λ is. inr (at_end m is))
-    (last_entered m since)
+      (λ is. inr (at_end m is))
+      (last_entered m since)
 
   -- a call that provides the disk, or was to
   pub providing_entered : (size : ℕ) → KeepsPulled old new → length (held_in old) ≡ 0 → ((image : List ℕ) → left_within call (held_in old) (left_in old) image → left_in old image ⊎ IsZeros size image)
       → ((image : List ℕ) → left_by call (held_in old) (left_in old) image → left_in old image ⊎ IsZeros size image)
       → EachMoment memory_tells (memory_state old) (memory_state new) (WithinProvide size (memory_state old) (memory_state new))
   providing_entered size kept empty amid after told m since = ⊎_elim
-    (λ early. ⊎_elim
+      (λ early. ⊎_elim
       (λ is. inl (at_start m is))
       (λ is. inr (record { image = ⊎_elim (λ was. inl was) (λ zeros. inr (empty, zeros)) (amid m.image is.image); told = is.told; pulled = record { taken = is.taken; before = is.before } }))
       early)
-    (λ is. inr (record {
-      image = ⊎_elim (λ was. inl was) (λ zeros. inr (empty, zeros)) (after m.image (left_entered m.image is.image));
-      told = (at_end m is).told;
-      pulled = record { taken = is.taken ∙ kept.taken; before = is.before ∙ kept.before };
-    }))
-    (last_entered m since)
+      (λ is. inr (record {
+        image = ⊎_elim (λ was. inl was) (λ zeros. inr (empty, zeros)) (after m.image (left_entered m.image is.image));
+        told = (at_end m is).told;
+        pulled = record { taken = is.taken ∙ kept.taken; before = is.before ∙ kept.before };
+      }))
+      (last_entered m since)

@@ -60,9 +60,9 @@ module _ (at : ℕ) (bytes : Vec ℕ Global) (old new : Memory) where
   tears_write entered within = record {
     held = λ told. rw (held_entered (Write at bytes) old new entered) (Torn-patched at bytes.items (held_in old) within);
     no_more = λ told image left. ⊎_elim
-      (λ is. (held_in old, (leaves_held old, subst (λ (l : List ℕ). Torn at (length bytes.items) (held_in old) l) (sym is) (Torn-patched at bytes.items (held_in old) within))))
-      (λ torn. torn)
-      (left_entered (Write at bytes) old new entered image left);
+        (λ is. (held_in old, (leaves_held old, subst (λ (l : List ℕ). Torn at (length bytes.items) (held_in old) l) (sym is) (Torn-patched at bytes.items (held_in old) within))))
+        (λ torn. torn)
+        (left_entered (Write at bytes) old new entered image left);
     no_less = λ told image was. entered_left (Write at bytes) old new entered image (inr (image, (was, Torn-same at (length bytes.items) image)));
   }
 

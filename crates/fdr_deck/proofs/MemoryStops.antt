@@ -92,6 +92,6 @@ IsLeft-more es first i now image next_now next e h is all so_far replayed stoppe
     record {
       held = now_held;
       left = subst (λ (l : List Entry). left_after l first (λ c. c ≡ first) next) (sym more) (left_pushed (take i es) e first (λ c. c ≡ first) next
-        (stopped_after e.call (held_after (take i es) first) (left_after (take i es) first (λ c. c ≡ first)) image next so_far.left stopped_then));
+          (stopped_after e.call (held_after (take i es) first) (left_after (take i es) first (λ c. c ≡ first)) image next so_far.left stopped_then));
       long = omega (arith, long, ap (λ (l : List ℕ). length l) now_held, ap (λ (l : List ℕ). length l) replayed);
     }

@@ -44,9 +44,9 @@ module _ (at : ℕ) (bytes : List ℕ) (old new : Memory) where
   module _ (failed : ((copy : Vec ℕ Global) × (copy.items ≡ bytes) × IsEntered (FailedWrite at copy) old new) ⊎ IsUnentered old new) where
     pub tears_failed : Tears memory_tells at (length bytes) (memory_state old) (memory_state new)
     tears_failed = ⊎_elim
-      (λ entered. subst (λ (l : List ℕ). Tears memory_tells at (length l) (memory_state old) (memory_state new)) entered.1 (tears_failed_write at entered.0 old new entered.2))
-      (tears_unentered at (length bytes) old new)
-      failed
+        (λ entered. subst (λ (l : List ℕ). Tears memory_tells at (length l) (memory_state old) (memory_state new)) entered.1 (tears_failed_write at entered.0 old new entered.2))
+        (tears_unentered at (length bytes) old new)
+        failed
 
     pub extent_failed : length (held_in new) ≡ length (held_in old)
     extent_failed = (tears_failed.held refl).size

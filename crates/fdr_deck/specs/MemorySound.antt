@@ -50,10 +50,10 @@ memory_is_sound d = record {
   least = omega arith;
   greatest = omega arith;
   only_now = λ told m since.
-    let is = only_now d.entries d.numbers d.first (λ image. image ≡ d.first) (length d.entries) m (omega arith) since in
-    record { image = is.image; least = is.least; greatest = is.greatest; pulled = record { taken = is.taken; before = is.before } };
+      let is = only_now d.entries d.numbers d.first (λ image. image ≡ d.first) (length d.entries) m (omega arith) since in
+      record { image = is.image; least = is.least; greatest = is.greatest; pulled = record { taken = is.taken; before = is.before } };
   counts_now = λ told m leaves same pulled.
-    counts_now d.entries d.numbers d.first (λ image. image ≡ d.first) (length d.entries) m
-    (record { image = leaves; least = omega (arith, same); greatest = omega (arith, same); taken = pulled.taken; before = pulled.before });
+      counts_now d.entries d.numbers d.first (λ image. image ≡ d.first) (length d.entries) m
+      (record { image = leaves; least = omega (arith, same); greatest = omega (arith, same); taken = pulled.taken; before = pulled.before });
   falls = λ told earlier t m le now since. falls d.entries d.numbers d.first (λ image. image ≡ d.first) earlier t m le since;
 }
