@@ -72,10 +72,7 @@ fn a_disk_is_a_file(rt: HostRuntime) -> Result<(), Fail> {
     assert_eq!(rt; deck.size(), Ok(0));
     assert_eq!(rt; store_some(&mut deck), Ok([0, 7, 8, 0]));
     deck.announce(1);
-    assert_eq!(rt;
-        fs::read(&rt, rt.alloc(), path)?.as_slice(),
-        [0, 7, 8, 0].as_slice()
-    );
+    assert_eq!(rt; fs::read(&rt, path)?.as_slice(), [0, 7, 8, 0].as_slice());
     fs::remove_file(&rt, path)?;
     Ok(())
 }
