@@ -1,5 +1,5 @@
 -- Images of which a record or its mark is torn.
-use Rattle.std.proofs.Common.{◌≡◌, inl, inr, ℕ, ◌+◌, ◌-◌, ◌≤◌, List, ◌++◌, length, take, drop, get_or, refl, sym, ap, subst, ◌∙◌, arith, length-append}
+use Rattle.std.proofs.Common.{◌≡◌, inl, inr, ℕ, ◌+◌, ◌-◌, ◌≤◌, List, ◌++◌, length, take, drop, get_or, refl, sym, ap, subst, ◌∙◌, arith}
 use Rattle.std.specs.Prelude.{slice_index, slice_range, IsTrue}
 use Rattle.std.proofs.lemmas.List.{get_or-take, take_at, drop_at, length-take-le}
 use Rattle.fdr_deck.specs.State.{State, Tells}

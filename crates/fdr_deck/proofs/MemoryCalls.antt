@@ -1,22 +1,14 @@
 -- One call more of the deck in memory.
-use Rattle.std.proofs.Common.{◌≡◌, ◌⊎◌, inl, inr, ⊎_elim, ℕ, suc, ◌+◌, ◌-◌, ◌≤◌, List, [], ◌∷◌, ◌++◌, length, Vec, refl, sym, ap, ◌∙◌, subst, arith, length-append}
-use Rattle.std.specs.Prelude.{replicate}
-use Rattle.std.proofs.lemmas.List.{length-replicate}
-use Rattle.std.specs.declared.alloc.Global.{Global}
-use Rattle.fdr_deck.specs.State.{State, Moment}
-use Rattle.fdr_deck.specs.Disk.{Torn, IsZeros, KeepsDisk, IsSettled, Tears, Writes, Provides, Begins, patched}
-use Rattle.fdr_deck.specs.Pull.{KeepsLine}
-use Rattle.fdr_deck.specs.Moments.{HasPulled, IsNow, IsInside, Within, IsProviding, WithinProvide, Elapses, EachMoment}
+use Rattle.std.proofs.Common.{◌≡◌, ◌⊎◌, inl, inr, ⊎_elim, ℕ, suc, ◌-◌, ◌≤◌, List, [], ◌∷◌, ◌++◌, length, refl, sym, ◌∙◌, subst, arith, length-append}
+use Rattle.fdr_deck.specs.State.{Moment}
+use Rattle.fdr_deck.specs.Disk.{IsZeros}
+use Rattle.fdr_deck.specs.Moments.{IsNow, IsInside, Within, WithinProvide, Elapses, EachMoment}
 use Rattle.fdr_deck.specs.Calls.{KeepsTold, Passes, IsFresh}
-use Rattle.fdr_deck.specs.Announced.{least_of, greatest_of}
-use Rattle.fdr_deck.specs.Memory.{Memory, memory_state, memory_tells, held_in, left_in, held_by, left_by, left_within, held_after, left_after, IsTornFrom, IsBetween, IsAmid, moments_after, IsEntered, IsUnentered, KeepsPulled}
-use Rattle.fdr_deck.specs.MemorySound.{memory_is_sound, holds_after}
+use Rattle.fdr_deck.specs.Memory.{Memory, memory_state, memory_tells, held_in, left_in, held_by, left_by, left_within, held_after, left_after, IsBetween, IsAmid, moments_after, IsEntered, KeepsPulled}
+use Rattle.fdr_deck.specs.MemorySound.{memory_is_sound}
 use Rattle.fdr_deck.specs.declared.calls.Call.{Call}
-use Rattle.fdr_deck.specs.declared.calls.Call.TheVariants.{Pass, Write, FailedWrite, Sync, Provide, FailedProvide}
 use Rattle.fdr_deck.specs.declared.calls.Numbers.{Numbers}
 use Rattle.fdr_deck.specs.declared.calls.Entry.{Entry}
-use Rattle.fdr_deck.proofs.Moments.{Elapses-here, KeepsTold-here, Passes-here}
-use Rattle.fdr_deck.proofs.Torn.{Torn-patched, length-patched}
 
 pub held_push : (es : List Entry) (e : Entry) (held : List ℕ) → held_after (es ++ e ∷ []) held ≡ held_by e.call (held_after es held)
 unfolding held_after

@@ -1,10 +1,10 @@
 -- The moments of one call after another.
-use Rattle.std.proofs.Common.{◌≡◌, inl, inr, ⊎_elim, ℕ, ◌+◌, ◌≤◌, List, sym, refl, ◌∙◌, arith}
+use Rattle.std.proofs.Common.{inl, inr, ⊎_elim, ℕ, ◌≤◌, List, sym, refl, ◌∙◌, arith}
 use Rattle.std.specs.Prelude.{IsTrue}
 use Rattle.fdr_deck.specs.State.{State, Tells, Moment}
-use Rattle.fdr_deck.specs.Disk.{Torn, KeepsDisk, Tears, IsSettled}
+use Rattle.fdr_deck.specs.Disk.{Torn, Tears}
 use Rattle.fdr_deck.specs.Pull.{KeepsLine}
-use Rattle.fdr_deck.specs.Moments.{HasPulled, IsNow, Elapses, EachMoment, IsInside, Within, IsProviding, WithinProvide, IsSound}
+use Rattle.fdr_deck.specs.Moments.{HasPulled, IsNow, Elapses, EachMoment, IsInside, Within, WithinProvide, IsSound}
 use Rattle.fdr_deck.specs.Calls.{KeepsTold, Passes, IsQuietMoment, IsQuiet}
 
 -- no time

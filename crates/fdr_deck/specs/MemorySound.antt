@@ -1,11 +1,9 @@
 -- The moments of the deck in memory are sound, whatever calls it has seen.
-use Rattle.std.specs.Prelude.{◌≡◌, ◌⊎◌, ℕ, ◌+◌, ◌-◌, ◌≤◌, List, [], ◌∷◌, length}
-use Rattle.std.proofs.Common.{inl, inr, ⊎_elim, refl, arith}
-use Rattle.fdr_deck.specs.State.{State, Moment}
-use Rattle.fdr_deck.specs.Disk.{Torn, IsZeros}
-use Rattle.fdr_deck.specs.Moments.{IsSound, IsNow, HasPulled}
-use Rattle.fdr_deck.specs.Announced.{least_of, greatest_of}
-use Rattle.fdr_deck.specs.Memory.{Memory, memory_state, memory_tells, held_by, left_by, left_within, held_after, left_after, IsBetween, IsAmid, moments_after}
+use Rattle.std.specs.Prelude.{◌≡◌, ℕ, ◌-◌, ◌≤◌, List, [], ◌∷◌, length}
+use Rattle.std.proofs.Common.{inl, inr, refl, arith}
+use Rattle.fdr_deck.specs.State.{Moment}
+use Rattle.fdr_deck.specs.Moments.{IsSound}
+use Rattle.fdr_deck.specs.Memory.{Memory, memory_state, memory_tells, held_by, left_by, held_after, left_after, IsBetween, moments_after}
 use Rattle.fdr_deck.specs.declared.calls.Call.{Call}
 use Rattle.fdr_deck.specs.declared.calls.Call.TheVariants.{Pass, Write, FailedWrite, Sync, Provide, FailedProvide}
 use Rattle.fdr_deck.specs.declared.calls.Numbers.{Numbers}
