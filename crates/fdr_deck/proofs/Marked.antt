@@ -1,5 +1,5 @@
 -- Images of which a record or its mark is torn.
-use Rattle.std.proofs.Common.{◌≡◌, inl, inr, ℕ, ◌+◌, ◌-◌, ◌≤◌, List, ◌++◌, length, take, drop, get_or, refl, sym, ap, subst, ◌∙◌, arith, length-append}
+use Rattle.std.proofs.Common.{◌≡◌, inl, inr, ℕ, ◌+◌, ◌-◌, ◌≤◌, List, ◌++◌, length, take, drop, get_or, refl, sym, ap, subst, ◌∙◌, arith}
 use Rattle.std.specs.Prelude.{slice_index, slice_range, IsTrue}
 use Rattle.std.proofs.lemmas.List.{get_or-take, take_at, drop_at, length-take-le}
 use Rattle.fdr_deck.specs.State.{State, Tells}
@@ -42,6 +42,6 @@ pub writes_mark : (tells : Tells) (at : ℕ) (bytes first : List ℕ) (old mid n
 writes_mark tells at bytes first old mid new sound sound_mid quiet settled held within passes moments tears =
     IsQuiet-write tells (IsMarked at bytes) old mid new at 1 sound sound_mid quiet passes moments tears
     (λ told from image leaves has torn.
-      let bytes_told = sound.stops_need_bytes told in
-      let is : from ≡ patched (at + 1) bytes first = settled told from leaves ∙ held bytes_told in
-      inr (torn_mark at bytes first image (within bytes_told) (subst (λ (l : List ℕ). Torn at 1 l image) is torn)))
+    let bytes_told = sound.stops_need_bytes told in
+    let is : from ≡ patched (at + 1) bytes first = settled told from leaves ∙ held bytes_told in
+    inr (torn_mark at bytes first image (within bytes_told) (subst (λ (l : List ℕ). Torn at 1 l image) is torn)))

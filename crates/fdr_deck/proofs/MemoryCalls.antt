@@ -1,22 +1,14 @@
 -- One call more of the deck in memory.
-use Rattle.std.proofs.Common.{◌≡◌, ◌⊎◌, inl, inr, ⊎_elim, ℕ, suc, ◌+◌, ◌-◌, ◌≤◌, List, [], ◌∷◌, ◌++◌, length, Vec, refl, sym, ap, ◌∙◌, subst, arith, length-append}
-use Rattle.std.specs.Prelude.{replicate}
-use Rattle.std.proofs.lemmas.List.{length-replicate}
-use Rattle.std.specs.declared.alloc.Global.{Global}
-use Rattle.fdr_deck.specs.State.{State, Moment}
-use Rattle.fdr_deck.specs.Disk.{Torn, IsZeros, KeepsDisk, IsSettled, Tears, Writes, Provides, Begins, patched}
-use Rattle.fdr_deck.specs.Pull.{KeepsLine}
-use Rattle.fdr_deck.specs.Moments.{HasPulled, IsNow, IsInside, Within, IsProviding, WithinProvide, Elapses, EachMoment}
+use Rattle.std.proofs.Common.{◌≡◌, ◌⊎◌, inl, inr, ⊎_elim, ℕ, suc, ◌-◌, ◌≤◌, List, [], ◌∷◌, ◌++◌, length, refl, sym, ◌∙◌, subst, arith, length-append}
+use Rattle.fdr_deck.specs.State.{Moment}
+use Rattle.fdr_deck.specs.Disk.{IsZeros}
+use Rattle.fdr_deck.specs.Moments.{IsNow, IsInside, Within, WithinProvide, Elapses, EachMoment}
 use Rattle.fdr_deck.specs.Calls.{KeepsTold, Passes, IsFresh}
-use Rattle.fdr_deck.specs.Announced.{least_of, greatest_of}
-use Rattle.fdr_deck.specs.Memory.{Memory, memory_state, memory_tells, held_in, left_in, held_by, left_by, left_within, held_after, left_after, IsTornFrom, IsBetween, IsAmid, moments_after, IsEntered, IsUnentered, KeepsPulled}
-use Rattle.fdr_deck.specs.MemorySound.{memory_is_sound, holds_after}
+use Rattle.fdr_deck.specs.Memory.{Memory, memory_state, memory_tells, held_in, left_in, held_by, left_by, left_within, held_after, left_after, IsBetween, IsAmid, moments_after, IsEntered, KeepsPulled}
+use Rattle.fdr_deck.specs.MemorySound.{memory_is_sound}
 use Rattle.fdr_deck.specs.declared.calls.Call.{Call}
-use Rattle.fdr_deck.specs.declared.calls.Call.TheVariants.{Pass, Write, FailedWrite, Sync, Provide, FailedProvide}
 use Rattle.fdr_deck.specs.declared.calls.Numbers.{Numbers}
 use Rattle.fdr_deck.specs.declared.calls.Entry.{Entry}
-use Rattle.fdr_deck.proofs.Moments.{Elapses-here, KeepsTold-here, Passes-here}
-use Rattle.fdr_deck.proofs.Torn.{Torn-patched, length-patched}
 
 pub held_push : (es : List Entry) (e : Entry) (held : List ℕ) → held_after (es ++ e ∷ []) held ≡ held_by e.call (held_after es held)
 unfolding held_after
@@ -119,7 +111,7 @@ module _ (call : Call) (old new : Memory) (entered : IsEntered call old new) whe
   pub within_entered : ((image : List ℕ) → left_within call (held_in old) (left_in old) image → left_in old image ⊎ left_by call (held_in old) (left_in old) image)
       → EachMoment memory_tells (memory_state old) (memory_state new) (Within (memory_state old) (memory_state new))
   within_entered amid told m since = ⊎_elim
-    (λ early. ⊎_elim
+      (λ early. ⊎_elim
       (λ is. inl (at_start m is))
       (λ is. inr (record {
         image = ⊎_elim (λ was. inl was) (λ after. inr (entered_left m.image after)) (amid m.image is.image);
@@ -127,21 +119,21 @@ module _ (call : Call) (old new : Memory) (entered : IsEntered call old new) whe
         pulled = inl (record { taken = is.taken; before = is.before });
       }))
       early)
-    (λ is. inr (at_end m is))
-    (last_entered m since)
+      (λ is. inr (at_end m is))
+      (last_entered m since)
 
   -- a call that provides the disk, or was to
   pub providing_entered : (size : ℕ) → KeepsPulled old new → length (held_in old) ≡ 0 → ((image : List ℕ) → left_within call (held_in old) (left_in old) image → left_in old image ⊎ IsZeros size image)
       → ((image : List ℕ) → left_by call (held_in old) (left_in old) image → left_in old image ⊎ IsZeros size image)
       → EachMoment memory_tells (memory_state old) (memory_state new) (WithinProvide size (memory_state old) (memory_state new))
   providing_entered size kept empty amid after told m since = ⊎_elim
-    (λ early. ⊎_elim
+      (λ early. ⊎_elim
       (λ is. inl (at_start m is))
       (λ is. inr (record { image = ⊎_elim (λ was. inl was) (λ zeros. inr (empty, zeros)) (amid m.image is.image); told = is.told; pulled = record { taken = is.taken; before = is.before } }))
       early)
-    (λ is. inr (record {
-      image = ⊎_elim (λ was. inl was) (λ zeros. inr (empty, zeros)) (after m.image (left_entered m.image is.image));
-      told = (at_end m is).told;
-      pulled = record { taken = is.taken ∙ kept.taken; before = is.before ∙ kept.before };
-    }))
-    (last_entered m since)
+      (λ is. inr (record {
+        image = ⊎_elim (λ was. inl was) (λ zeros. inr (empty, zeros)) (after m.image (left_entered m.image is.image));
+        told = (at_end m is).told;
+        pulled = record { taken = is.taken ∙ kept.taken; before = is.before ∙ kept.before };
+      }))
+      (last_entered m since)

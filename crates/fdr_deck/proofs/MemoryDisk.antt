@@ -1,15 +1,14 @@
 -- What each call of the deck in memory does to its disk.
-use Rattle.std.proofs.Common.{◌≡◌, ◌⊎◌, inl, inr, ⊎_elim, ℕ, ◌+◌, ◌≤◌, List, length, Vec, refl, sym, ap, ◌∙◌, subst, arith}
-use Rattle.std.specs.Prelude.{replicate, IsTrue}
+use Rattle.std.proofs.Common.{◌≡◌, inl, inr, ⊎_elim, ℕ, ◌+◌, ◌≤◌, List, length, Vec, refl, sym, ap, ◌∙◌, subst, arith}
+use Rattle.std.specs.Prelude.{replicate}
 use Rattle.std.specs.declared.alloc.Global.{Global}
 use Rattle.std.proofs.lemmas.List.{length-replicate, nil_from_length}
-use Rattle.fdr_deck.specs.State.{State, Moment}
-use Rattle.fdr_deck.specs.Disk.{Torn, IsZeros, KeepsDisk, IsSettled, Tears, Writes, Provides, Begins, patched}
+use Rattle.fdr_deck.specs.State.{Moment}
+use Rattle.fdr_deck.specs.Disk.{Torn, IsZeros, KeepsDisk, IsSettled, Tears, Writes, Provides, Begins}
 use Rattle.fdr_deck.specs.Moments.{IsNow, Within, WithinProvide, Elapses, EachMoment}
-use Rattle.fdr_deck.specs.Calls.{KeepsTold, Passes, LeavesDisk}
-use Rattle.fdr_deck.specs.Memory.{Memory, memory_state, memory_tells, held_in, left_in, held_by, left_by, IsEntered, IsUnentered, KeepsPulled}
+use Rattle.fdr_deck.specs.Calls.{KeepsTold, Passes}
+use Rattle.fdr_deck.specs.Memory.{Memory, memory_state, memory_tells, held_in, left_in, IsEntered, IsUnentered, KeepsPulled}
 use Rattle.fdr_deck.specs.MemorySound.{memory_is_sound, holds_after}
-use Rattle.fdr_deck.specs.declared.calls.Call.{Call}
 use Rattle.fdr_deck.specs.declared.calls.Call.TheVariants.{Pass, Write, FailedWrite, Sync, Provide, FailedProvide}
 use Rattle.fdr_deck.proofs.Moments.{Elapses-here, Within-provide}
 use Rattle.fdr_deck.proofs.Torn.{Torn-patched, Torn-same, length-patched}
@@ -60,9 +59,9 @@ module _ (at : ℕ) (bytes : Vec ℕ Global) (old new : Memory) where
   tears_write entered within = record {
     held = λ told. rw (held_entered (Write at bytes) old new entered) (Torn-patched at bytes.items (held_in old) within);
     no_more = λ told image left. ⊎_elim
-      (λ is. (held_in old, (leaves_held old, subst (λ (l : List ℕ). Torn at (length bytes.items) (held_in old) l) (sym is) (Torn-patched at bytes.items (held_in old) within))))
-      (λ torn. torn)
-      (left_entered (Write at bytes) old new entered image left);
+        (λ is. (held_in old, (leaves_held old, subst (λ (l : List ℕ). Torn at (length bytes.items) (held_in old) l) (sym is) (Torn-patched at bytes.items (held_in old) within))))
+        (λ torn. torn)
+        (left_entered (Write at bytes) old new entered image left);
     no_less = λ told image was. entered_left (Write at bytes) old new entered image (inr (image, (was, Torn-same at (length bytes.items) image)));
   }
 

@@ -1,10 +1,10 @@
 -- Calls of the deck in memory that leave its disk: one that was entered as such, or found no memory.
 use Rattle.std.proofs.Common.{◌≡◌, ◌⊎◌, inl, inr, ⊎_elim, ℕ, suc, ◌-◌, ◌≤◌, List, [], ◌∷◌, length, subst, refl, sym, ap, ◌∙◌, arith}
 use Rattle.std.specs.Prelude.{min, max}
-use Rattle.fdr_deck.specs.State.{State, Moment}
+use Rattle.fdr_deck.specs.State.{Moment}
 use Rattle.fdr_deck.specs.Disk.{KeepsDisk, LearnsExtent}
-use Rattle.fdr_deck.specs.Moments.{IsNow, HasPulled, Within, WithinProvide, Elapses, EachMoment}
-use Rattle.fdr_deck.specs.Calls.{KeepsTold, Passes, IsFresh, LeavesDisk}
+use Rattle.fdr_deck.specs.Moments.{IsNow, Within, WithinProvide, Elapses, EachMoment}
+use Rattle.fdr_deck.specs.Calls.{KeepsTold, Passes, LeavesDisk}
 use Rattle.fdr_deck.specs.Announced.{least_of, greatest_of}
 use Rattle.fdr_deck.specs.Memory.{Memory, memory_state, memory_tells, held_in, held_by, left_by, IsEntered, IsUnentered, KeepsPulled, IsBetween, moments_after}
 use Rattle.fdr_deck.specs.MemorySound.{memory_is_sound}
@@ -12,7 +12,7 @@ use Rattle.fdr_deck.specs.declared.calls.Call.TheVariants.{Pass}
 use Rattle.fdr_deck.specs.declared.announced.Announced.{Announced}
 use Rattle.fdr_deck.specs.declared.calls.Numbers.{Numbers}
 use Rattle.fdr_deck.specs.declared.calls.Entry.{Entry}
-use Rattle.fdr_deck.proofs.MemoryCalls.{passes_entered, time_entered, told_entered, fresh_entered}
+use Rattle.fdr_deck.proofs.MemoryCalls.{passes_entered, time_entered, told_entered}
 use Rattle.fdr_deck.proofs.MemoryDisk.{keeps_disk_pass, within_pass, within_provide_pass, keeps_disk_unentered, passes_unentered, within_unentered, within_provide_unentered, time_unentered, told_unentered}
 
 module _ (old new : Memory) (passed : IsEntered Pass old new ⊎ IsUnentered old new) where

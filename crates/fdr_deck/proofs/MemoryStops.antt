@@ -1,14 +1,12 @@
 -- What stops leave of the calls of the deck in memory.
-use Rattle.std.proofs.Common.{◌≡◌, inl, inr, ℕ, zero, suc, ◌+◌, ◌-◌, ◌<◌, ◌≤◌, List, [], ◌∷◌, ◌++◌, length, take, drop, get_or, replicate, refl, sym, ap, ◌∙◌, subst, arith}
-use Rattle.std.specs.Prelude.{⊤}
-use Rattle.std.proofs.lemmas.List.{length-replicate, take_more, drop-drop}
-use Rattle.fdr_deck.specs.Disk.{Torn, IsZeros, patched}
+use Rattle.std.proofs.Common.{◌≡◌, inl, inr, ℕ, zero, suc, ◌+◌, ◌<◌, ◌≤◌, List, [], ◌∷◌, ◌++◌, length, take, get_or, sym, ap, ◌∙◌, subst, arith}
+use Rattle.std.proofs.lemmas.List.{take_more}
 use Rattle.fdr_deck.specs.Memory.{held_by, left_by, left_within, held_after, left_after, IsInside, FitsIn, AreInside, IsStopped, IsStoppedAfter}
 use Rattle.fdr_deck.specs.declared.calls.Call.{Call}
 use Rattle.fdr_deck.specs.declared.calls.Call.TheVariants.{Pass, Write, FailedWrite, Sync, Provide, FailedProvide}
 use Rattle.fdr_deck.specs.declared.calls.Entry.{Entry}
 use Rattle.fdr_deck.proofs.MemoryCalls.{held_push, left_pushed}
-use Rattle.fdr_deck.proofs.Torn.{Torn-patched, length-patched}
+use Rattle.fdr_deck.proofs.Torn.{length-patched}
 
 pub AreInside-push : (es : List Entry) (e : Entry) (held : List ℕ) → AreInside es held → IsInside e.call (held_after es held) → AreInside (es ++ e ∷ []) held
 unfolding held_after AreInside
@@ -92,6 +90,6 @@ IsLeft-more es first i now image next_now next e h is all so_far replayed stoppe
     record {
       held = now_held;
       left = subst (λ (l : List Entry). left_after l first (λ c. c ≡ first) next) (sym more) (left_pushed (take i es) e first (λ c. c ≡ first) next
-        (stopped_after e.call (held_after (take i es) first) (left_after (take i es) first (λ c. c ≡ first)) image next so_far.left stopped_then));
+          (stopped_after e.call (held_after (take i es) first) (left_after (take i es) first (λ c. c ≡ first)) image next so_far.left stopped_then));
       long = omega (arith, long, ap (λ (l : List ℕ). length l) now_held, ap (λ (l : List ℕ). length l) replayed);
     }

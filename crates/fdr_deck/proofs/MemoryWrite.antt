@@ -1,16 +1,16 @@
 -- Writes of the deck in memory, and the call that provides its disk, as its methods tell them.
-use Rattle.std.proofs.Common.{◌≡◌, ◌⊎◌, inl, inr, ⊎_elim, ℕ, ◌+◌, ◌≤◌, List, length, Vec, refl, sym, ap, ◌∙◌, subst, arith}
-use Rattle.std.specs.Prelude.{replicate, IsTrue}
+use Rattle.std.proofs.Common.{◌≡◌, ◌⊎◌, inl, ⊎_elim, ℕ, ◌+◌, ◌≤◌, List, length, Vec, refl, sym, ap, ◌∙◌, subst, arith}
+use Rattle.std.specs.Prelude.{replicate}
 use Rattle.std.specs.declared.alloc.Global.{Global}
 use Rattle.std.proofs.lemmas.List.{nil_from_length}
 use Rattle.fdr_deck.specs.State.{State, Tells}
-use Rattle.fdr_deck.specs.Disk.{Torn, KeepsDisk, Tears, Writes, Begins}
+use Rattle.fdr_deck.specs.Disk.{KeepsDisk, Tears, Writes, Begins}
 use Rattle.fdr_deck.specs.Moments.{Within, WithinProvide, EachMoment}
 use Rattle.fdr_deck.specs.Calls.{Passes}
 use Rattle.fdr_deck.specs.Memory.{Memory, memory_state, memory_tells, held_in, IsEntered, IsUnentered, KeepsPulled}
-use Rattle.fdr_deck.specs.declared.calls.Call.TheVariants.{Write, FailedWrite, Provide, FailedProvide}
+use Rattle.fdr_deck.specs.declared.calls.Call.TheVariants.{Write, FailedWrite, FailedProvide}
 use Rattle.fdr_deck.proofs.Torn.{Torn-same}
-use Rattle.fdr_deck.proofs.MemoryCalls.{held_entered, passes_entered}
+use Rattle.fdr_deck.proofs.MemoryCalls.{passes_entered}
 use Rattle.fdr_deck.proofs.MemoryDisk.{keeps_disk_unentered, passes_unentered, within_unentered, within_provide_unentered, within_write, within_failed_write, writes_write, extent_write, tears_write, tears_failed_write, within_failed_provide, begins_failed_provide}
 
 -- a write that did nothing
@@ -44,9 +44,9 @@ module _ (at : ℕ) (bytes : List ℕ) (old new : Memory) where
   module _ (failed : ((copy : Vec ℕ Global) × (copy.items ≡ bytes) × IsEntered (FailedWrite at copy) old new) ⊎ IsUnentered old new) where
     pub tears_failed : Tears memory_tells at (length bytes) (memory_state old) (memory_state new)
     tears_failed = ⊎_elim
-      (λ entered. subst (λ (l : List ℕ). Tears memory_tells at (length l) (memory_state old) (memory_state new)) entered.1 (tears_failed_write at entered.0 old new entered.2))
-      (tears_unentered at (length bytes) old new)
-      failed
+        (λ entered. subst (λ (l : List ℕ). Tears memory_tells at (length l) (memory_state old) (memory_state new)) entered.1 (tears_failed_write at entered.0 old new entered.2))
+        (tears_unentered at (length bytes) old new)
+        failed
 
     pub extent_failed : length (held_in new) ≡ length (held_in old)
     extent_failed = (tears_failed.held refl).size

@@ -1,10 +1,10 @@
 -- The moments of one call after another.
-use Rattle.std.proofs.Common.{◌≡◌, inl, inr, ⊎_elim, ℕ, ◌+◌, ◌≤◌, List, sym, refl, ◌∙◌, arith}
+use Rattle.std.proofs.Common.{inl, inr, ⊎_elim, ℕ, ◌≤◌, List, sym, refl, ◌∙◌, arith}
 use Rattle.std.specs.Prelude.{IsTrue}
 use Rattle.fdr_deck.specs.State.{State, Tells, Moment}
-use Rattle.fdr_deck.specs.Disk.{Torn, KeepsDisk, Tears, IsSettled}
+use Rattle.fdr_deck.specs.Disk.{Torn, Tears}
 use Rattle.fdr_deck.specs.Pull.{KeepsLine}
-use Rattle.fdr_deck.specs.Moments.{HasPulled, IsNow, Elapses, EachMoment, IsInside, Within, IsProviding, WithinProvide, IsSound}
+use Rattle.fdr_deck.specs.Moments.{HasPulled, IsNow, Elapses, EachMoment, IsInside, Within, WithinProvide, IsSound}
 use Rattle.fdr_deck.specs.Calls.{KeepsTold, Passes, IsQuietMoment, IsQuiet}
 
 -- no time
@@ -24,13 +24,13 @@ Elapses-then tells old mid new first second =
       later = omega (arith, first.later, second.later);
       earlier = λ told t m le since. second.earlier told t m (step t le) (first.earlier told t m le since);
       added = λ told t m le since. ⊎_elim
-        (λ was. second.earlier told t m (step t le) (first.added told t m le was))
-        (λ is. second.added told t m (step t le) is)
-        (second.no_more told old.clock m start since);
+          (λ was. second.earlier told t m (step t le) (first.added told t m le was))
+          (λ is. second.added told t m (step t le) is)
+          (second.no_more told old.clock m start since);
       no_more = λ told t m le since. ⊎_elim
-        (λ was. ⊎_elim (λ long. inl long) (λ mine. inr (second.earlier told old.clock m start mine)) (first.no_more told t m le was))
-        (λ is. inr (second.added told old.clock m start is))
-        (second.no_more told t m (step t le) since);
+          (λ was. ⊎_elim (λ long. inl long) (λ mine. inr (second.earlier told old.clock m start mine)) (first.no_more told t m le was))
+          (λ is. inr (second.added told old.clock m start is))
+          (second.no_more told t m (step t le) since);
     }
 
 -- what holds of each moment of two stretches holds of each moment of both
@@ -48,12 +48,12 @@ pub KeepsTold-then : (old mid new : State) → KeepsTold old mid → KeepsTold m
 KeepsTold-then old mid new first second = record {
   told = second.told ∙ first.told;
   numbers = ⊎_elim
-    (λ fresh. inl fresh)
-    (λ kept. ⊎_elim
+      (λ fresh. inl fresh)
+      (λ kept. ⊎_elim
       (λ fresh. inl (kept.0 ∙ fresh.0 ∙ sym second.told, kept.1 ∙ fresh.1 ∙ sym second.told))
       (λ long. inr (kept.0 ∙ long.0, kept.1 ∙ long.1))
       first.numbers)
-    second.numbers;
+      second.numbers;
 }
 
 KeepsLine-then : (old mid new : State) → KeepsLine old mid → KeepsLine mid new → KeepsLine old new
@@ -82,8 +82,8 @@ pub IsQuiet-here : (tells : Tells) (P : List ℕ → Type 0) (d : State) → IsS
 IsQuiet-here tells P d sound here = record {
   passes = Passes-here tells d sound;
   moments = λ told m since.
-    let now = sound.only_now told m since in
-    record { image = here told m.image now.image; least = now.least; greatest = now.greatest; pulled = now.pulled };
+      let now = sound.only_now told m since in
+      record { image = here told m.image now.image; least = now.least; greatest = now.greatest; pulled = now.pulled };
 }
 
 -- After quiet calls each image that a stop now may leave has the property.
@@ -106,10 +106,13 @@ IsQuiet-call tells P old mid new sound sound_mid quiet call moments after = reco
   where
     least : old.least ≤ mid.least
     least = ⊎_elim (λ fresh. omega (arith, fresh.0, quiet.passes.told.told, sound.least)) (λ kept. omega (arith, kept.0)) quiet.passes.told.numbers
+
     greatest : mid.greatest ≤ old.greatest
     greatest = ⊎_elim (λ fresh. omega (arith, fresh.1, quiet.passes.told.told, sound.greatest)) (λ kept. omega (arith, kept.1)) quiet.passes.told.numbers
+
     before : IsTrue tells.stops → (image : List ℕ) → mid.may_leave image → P image
     before = IsQuiet-now tells P old mid sound_mid quiet
+
     at_start : IsTrue tells.stops → (m : Moment) → IsNow mid m → IsQuietMoment P old m
     at_start told m now = record {
       image = before told m.image now.image;
@@ -117,6 +120,7 @@ IsQuiet-call tells P old mid new sound sound_mid quiet call moments after = reco
       greatest = omega (arith, greatest, now.greatest);
       pulled = pulled_before old mid m quiet.passes.line now.pulled;
     }
+
     amid : IsTrue tells.stops → (m : Moment) → IsInside mid new m → IsQuietMoment P old m
     amid told m inside = record {
       image = ⊎_elim (before told m.image) (after told m.image) inside.image;

@@ -1,7 +1,6 @@
 -- Bytes of which a range is torn or written.
 use Rattle.std.proofs.Common.{◌≡◌, ℕ, ◌+◌, ◌≤◌, List, ◌++◌, length, take, drop, refl, sym, ap, ◌∙◌, arith, length-append, length-drop, append_assoc}
-use Rattle.std.specs.Prelude.{slice_range}
-use Rattle.std.proofs.lemmas.List.{length-take-le, take_at, drop_at, take-take, drop-drop, drop-take, take-append-drop}
+use Rattle.std.proofs.lemmas.List.{length-take-le, take_at, drop_at}
 use Rattle.fdr_deck.specs.Disk.{Torn, patched}
 
 -- nothing torn

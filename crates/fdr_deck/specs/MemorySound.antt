@@ -1,11 +1,9 @@
 -- The moments of the deck in memory are sound, whatever calls it has seen.
-use Rattle.std.specs.Prelude.{◌≡◌, ◌⊎◌, ℕ, ◌+◌, ◌-◌, ◌≤◌, List, [], ◌∷◌, length}
-use Rattle.std.proofs.Common.{inl, inr, ⊎_elim, refl, arith}
-use Rattle.fdr_deck.specs.State.{State, Moment}
-use Rattle.fdr_deck.specs.Disk.{Torn, IsZeros}
-use Rattle.fdr_deck.specs.Moments.{IsSound, IsNow, HasPulled}
-use Rattle.fdr_deck.specs.Announced.{least_of, greatest_of}
-use Rattle.fdr_deck.specs.Memory.{Memory, memory_state, memory_tells, held_by, left_by, left_within, held_after, left_after, IsBetween, IsAmid, moments_after}
+use Rattle.std.specs.Prelude.{◌≡◌, ℕ, ◌-◌, ◌≤◌, List, [], ◌∷◌, length}
+use Rattle.std.proofs.Common.{inl, inr, refl, arith}
+use Rattle.fdr_deck.specs.State.{Moment}
+use Rattle.fdr_deck.specs.Moments.{IsSound}
+use Rattle.fdr_deck.specs.Memory.{Memory, memory_state, memory_tells, held_by, left_by, held_after, left_after, IsBetween, moments_after}
 use Rattle.fdr_deck.specs.declared.calls.Call.{Call}
 use Rattle.fdr_deck.specs.declared.calls.Call.TheVariants.{Pass, Write, FailedWrite, Sync, Provide, FailedProvide}
 use Rattle.fdr_deck.specs.declared.calls.Numbers.{Numbers}
@@ -50,10 +48,10 @@ memory_is_sound d = record {
   least = omega arith;
   greatest = omega arith;
   only_now = λ told m since.
-    let is = only_now d.entries d.numbers d.first (λ image. image ≡ d.first) (length d.entries) m (omega arith) since in
-    record { image = is.image; least = is.least; greatest = is.greatest; pulled = record { taken = is.taken; before = is.before } };
+      let is = only_now d.entries d.numbers d.first (λ image. image ≡ d.first) (length d.entries) m (omega arith) since in
+      record { image = is.image; least = is.least; greatest = is.greatest; pulled = record { taken = is.taken; before = is.before } };
   counts_now = λ told m leaves same pulled.
-    counts_now d.entries d.numbers d.first (λ image. image ≡ d.first) (length d.entries) m
-    (record { image = leaves; least = omega (arith, same); greatest = omega (arith, same); taken = pulled.taken; before = pulled.before });
+      counts_now d.entries d.numbers d.first (λ image. image ≡ d.first) (length d.entries) m
+      (record { image = leaves; least = omega (arith, same); greatest = omega (arith, same); taken = pulled.taken; before = pulled.before });
   falls = λ told earlier t m le now since. falls d.entries d.numbers d.first (λ image. image ≡ d.first) earlier t m le since;
 }

@@ -1,5 +1,5 @@
 -- What is seen of the deck that never fails.
-use Rattle.std.specs.Prelude.{◌≡◌, ℕ, List, length, true, false}
+use Rattle.std.specs.Prelude.{ℕ, List, length, true, false}
 use Rattle.std.proofs.Common.{refl, arith}
 use Rattle.fdr_deck.specs.State.{State, Tells}
 use Rattle.fdr_deck.specs.Moments.{IsSound}

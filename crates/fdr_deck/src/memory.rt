@@ -55,8 +55,8 @@ impl Model for MemDeck {
     } };
 
     ghost invariant = { λ d. (d.numbers.taken ≤ length d.line.items)
-      × (held_after d.entries.items d.first.items ≡ current d.first.items d.changed)
-      × AreInside d.entries.items d.first.items };
+        × (held_after d.entries.items d.first.items ≡ current d.first.items d.changed)
+        × AreInside d.entries.items d.first.items };
 }
 
 impl MemDeck {

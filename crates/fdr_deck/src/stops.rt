@@ -2,7 +2,6 @@
 ghost use Rattle.std.specs.Prelude.{◌≡◌, ◌+◌, ◌<◌, ◌≤◌, length, take, slice_get, Some, replicate, IfOk, OnOk};
 ghost use Rattle.fdr_deck.specs.Disk.{Torn, IsZeros};
 ghost use Rattle.fdr_deck.specs.Memory.{held_by, held_after, left_after, left_within, IsInside, FitsIn, AreInside, IsStopped, IsStoppedAfter};
-
 ghost use Rattle.fdr_deck.specs.declared.calls.Entry.{Entry};
 
 use crate::NoMemory;
@@ -82,10 +81,8 @@ fn stop_after(
     match call {
         Call::Sync => copy_of(alloc, held),
         Call::Provide { size } => zeros_of(alloc, *size),
-        Call::Pass
-        | Call::Write { .. }
-        | Call::FailedWrite { .. }
-        | Call::FailedProvide { .. } => stop_within(alloc, call, left, tear),
+        Call::Pass | Call::Write { .. } | Call::FailedWrite { .. } | Call::FailedProvide { .. } =>
+            stop_within(alloc, call, left, tear),
     }
 }
 

@@ -5,7 +5,6 @@ ghost use Rattle.fdr_deck.specs.Moments.{Elapses, EachMoment, IsNow, Within, Wit
 ghost use Rattle.fdr_deck.specs.Pull.{Pulls, KeepsLine};
 ghost use Rattle.fdr_deck.specs.Calls.{Passes, KeepsTold, IsFresh, Succeeds, LeavesDisk, Announces};
 ghost use Rattle.fdr_deck.specs.Sure.{sure_state, sure_tells, sure_is_sound};
-
 ghost use Rattle.fdr_io.specs.Faults.{Rose};
 
 use crate::image::{copy_from, patch};

@@ -42,7 +42,13 @@ fn run_on_files(rt: &HostRuntime, words: &[String]) -> Outcome {
         Err(WordsFault::NoMemory) => return Outcome::NoMemory,
     };
     let mut table = FileSource::new(rt, request.table().unwrap_or(""));
-    let mut deck = FileDeck::new(rt, request.image().unwrap_or(""), false, rt.stdin(), rt.stderr());
+    let mut deck = FileDeck::new(
+        rt,
+        request.image().unwrap_or(""),
+        false,
+        rt.stdin(),
+        rt.stderr(),
+    );
     let mut out = OutSink::new(rt.stdout());
     run(rt.alloc(), words, &mut table, &mut deck, &mut out)
 }

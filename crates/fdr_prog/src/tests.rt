@@ -52,3 +52,27 @@ fn a_line_is_pulled_to_its_end(rt: HostRuntime) -> Result<(), Fail> {
     assert_eq!(rt; pull_some(&mut deck), Ok((0, [0; 2])));
     Ok(())
 }
+
+fn store_some<D: Deck>(deck: &mut D) -> Result<[u8; 4], Failed> {
+    deck.provide(4)?;
+    if deck.size()? < 4 {
+        return Err(Failed);
+    }
+    deck.write(1, &[7, 8])?;
+    deck.sync()?;
+    let mut bytes = [9; 4];
+    deck.read(0, &mut bytes)?;
+    Ok(bytes)
+}
+
+#[test]
+fn a_disk_is_a_file(rt: HostRuntime) -> Result<(), Fail> {
+    let path = "image.bin";
+    let mut deck = FileDeck::new(&rt, path, true, b"".as_slice(), Vec::new(rt.alloc()));
+    assert_eq!(rt; deck.size(), Ok(0));
+    assert_eq!(rt; store_some(&mut deck), Ok([0, 7, 8, 0]));
+    deck.announce(1);
+    assert_eq!(rt; fs::read(&rt, path)?.as_slice(), [0, 7, 8, 0].as_slice());
+    fs::remove_file(&rt, path)?;
+    Ok(())
+}

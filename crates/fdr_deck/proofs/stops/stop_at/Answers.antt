@@ -1,6 +1,6 @@
-use Rattle.std.proofs.Common.{◌≡◌, List, ℕ, take, length, get_or, subst}
+use Rattle.std.proofs.Common.{◌≡◌, take, length, get_or, subst}
 use Rattle.std.proofs.lemmas.Option.{get_or_from_slice_get}
-use Rattle.fdr_deck.specs.Memory.{held_after, left_after, left_within, IsStopped}
+use Rattle.fdr_deck.specs.Memory.{held_after, left_after, IsStopped}
 use Rattle.fdr_deck.specs.declared.calls.Entry.{Entry}
 use Rattle.fdr_deck.proofs.MemoryStops.{AreInside-take, AreInside-at, FitsIn-from_inside, stopped_within}
 use Rattle.fdr_deck.proofs.stops.stop_at.Goals as goal

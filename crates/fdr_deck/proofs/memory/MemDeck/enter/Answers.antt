@@ -1,4 +1,4 @@
-use Rattle.std.proofs.Common.{◌≡◌, ◌∷◌, [], ◌++◌, ap, subst, sym, ◌∙◌, List}
+use Rattle.std.proofs.Common.{ap, subst, sym, ◌∙◌, List}
 use Rattle.fdr_deck.specs.Memory.{Memory, AreInside, held_after, held_in, IsInside}
 use Rattle.fdr_deck.specs.declared.calls.Entry.{Entry}
 use Rattle.fdr_deck.proofs.MemoryCalls.{held_push}

@@ -1,4 +1,4 @@
-use Rattle.std.proofs.Common.{◌≡◌, ℕ, ◌+◌, ◌≤◌, subst, List, [], ◌∷◌, ◌++◌, length, sym, ap, ◌∙◌, arith, rules}
+use Rattle.std.proofs.Common.{◌≡◌, ℕ, ◌+◌, ◌≤◌, subst, List, length, sym, ap, ◌∙◌, arith, rules}
 use Rattle.std.proofs.lemmas.List.{with_items_is}
 use Rattle.fdr_deck.specs.Disk.{patched}
 use Rattle.fdr_deck.specs.Memory.{Memory, AreInside, held_after, held_in, current}
@@ -20,7 +20,7 @@ invariant_of-self-in-Ok c =
     let image = ap (λ (l : List ℕ). patched c.args.at c.args.bytes.now l) (was ∙ sym c.deref_mut.ensures.value) in (
       c.self.invariant.0,
       ap (λ (es : List Entry). held_after es first) c.in-Ok.ensures.items ∙ held_push entries entry first ∙ bytes ∙ image ∙ sym c.patch.ensures
-      ∙ sym (with_items_is c.in_ok-image.image c.patch.new.image long),
+          ∙ sym (with_items_is c.in_ok-image.image c.patch.new.image long),
       subst (λ (es : List Entry). AreInside es first) (sym c.in-Ok.ensures.items) (AreInside-push entries entry first c.self.invariant.2 (omega (arith, ap (λ (l : List ℕ). length l) c.in_ok-copy.ensures, room))),
     )
 

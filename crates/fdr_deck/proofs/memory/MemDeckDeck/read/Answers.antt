@@ -1,4 +1,4 @@
-use Rattle.std.proofs.Common.{◌≡◌, ℕ, ◌+◌, ◌≤◌, List, length, slice_range, inl, sym, ap, ◌∙◌, arith}
+use Rattle.std.proofs.Common.{ℕ, ◌+◌, List, length, slice_range, inl, ap, ◌∙◌, arith}
 use Rattle.fdr_deck.proofs.MemoryPass.{extent_passed, disk_passed, passes_passed, within_passed}
 use Rattle.fdr_deck.proofs.memory.MemDeckDeck.read.Goals as goal
 

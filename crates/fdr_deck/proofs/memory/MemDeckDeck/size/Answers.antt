@@ -1,4 +1,4 @@
-use Rattle.std.proofs.Common.{inl, arith}
+use Rattle.std.proofs.Common.{inl}
 use Rattle.fdr_deck.proofs.MemoryPass.{learns_passed, disk_passed, passes_passed, within_passed}
 use Rattle.fdr_deck.proofs.memory.MemDeckDeck.size.Goals as goal
 

@@ -1,4 +1,4 @@
-use Rattle.std.proofs.Common.{List, ℕ, length, inl, ap, rules}
+use Rattle.std.proofs.Common.{List, ℕ, length, ap, rules}
 use Rattle.fdr_deck.specs.declared.calls.Call.TheVariants.{Sync}
 use Rattle.fdr_deck.proofs.MemoryCalls.{held_entered, passes_entered}
 use Rattle.fdr_deck.proofs.MemoryDisk.{settled_sync, no_more_sync, within_sync}
