@@ -5,15 +5,27 @@ ghost use Rattle.fdr_prog.specs.Counts.{counts_state, telling_nothing, counts_ar
 
 use fdr_deck::{Announced, Deck};
 use fdr_io::Failed;
+use fdr_listing::Line;
 use std::fs::{OpenFile, OpenOptions};
-use std::io;
 use std::io::{ErrorKind, Read, Write};
 use std::marker::Model;
 use std::os::unix::fs::FileExt;
+use std::path::Path;
 use std::rt::Files;
+use std::{fs, io};
 
 // Standard input comes in pieces of a page.
 const PIECE: usize = 4096;
+
+/// The line of an announcement, `ack COUNT`, which goes out in one write.
+#[tactic(auto, using(fdr_listing::proofs::Lengths::numbers))]
+pub fn ack_line(count: u64) -> Line {
+    let mut line = Line::new();
+    line.add(b"ack ");
+    line.add_number(count);
+    line.add(b"\n");
+    line
+}
 
 /// The deck of a program: its disk is a file, its line a reader such as standard input, and its
 /// announcements are lines on a writer such as standard error. It tells nothing: a clause sees its
@@ -131,22 +143,33 @@ where
         }
     }
 
-    // Makes the file, with this many zeros. One that holds bytes stays as it is.
+    // Makes the file, with this many zeros. One that holds bytes stays as it is, and so does one
+    // that isn't to be written.
     fn create(&mut self, size: u64) -> io::Result<()>
         ensures { self.new ≡ self.old }
     {
         let file = OpenOptions::new()
             .read(true)
-            .write(true)
-            .create(true)
+            .write(self.writes)
+            .create(self.writes)
             .open(self.files, self.path)?;
         if file.metadata()?.len() > 0 {
             return Err(io::Error::from(ErrorKind::AlreadyExists));
         }
         file.set_len(size)?;
         file.sync_all()?;
+        self.sync_folder()?;
         self.file = Some(file);
         Ok(())
+    }
+
+    // Makes durable that the folder has the file's name.
+    fn sync_folder(&self) -> io::Result<()> {
+        let folder = match Path::new(self.path).parent() {
+            Some(folder) if !folder.as_str().is_empty() => folder.as_str(),
+            _ => ".",
+        };
+        fs::open(self.files, folder)?.sync_all()
     }
 
     fn read_file(&mut self, at: u64, buf: &mut [u8]) -> io::Result<()>
@@ -247,10 +270,7 @@ where
     // That an acknowledgement can't be written changes nothing.
     fn announce(&mut self, count: u64) {
         self.announced.announce(count);
-        match writeln!(self.acknowledgements, "ack {count}") {
-            Ok(()) => {}
-            Err(_) => {}
-        }
+        let _ = self.acknowledgements.write_all(ack_line(count).bytes());
     }
 
     // Past the last number that 64 bits hold, a pull that gives bytes is a fault.

@@ -1,5 +1,5 @@
 use crate::files::FileSource;
-use crate::lines::FileDeck;
+use crate::lines::{FileDeck, ack_line};
 use crate::outputs::OutSink;
 use fdr_deck::Deck;
 use fdr_io::{Failed, Sink, Source};
@@ -71,8 +71,22 @@ fn a_disk_is_a_file(rt: HostRuntime) -> Result<(), Fail> {
     let mut deck = FileDeck::new(&rt, path, true, b"".as_slice(), Vec::new(rt.alloc()));
     assert_eq!(rt; deck.size(), Ok(0));
     assert_eq!(rt; store_some(&mut deck), Ok([0, 7, 8, 0]));
-    deck.announce(1);
+    deck.announce(12);
+    assert_eq!(rt; ack_line(12).bytes(), b"ack 12\n".as_slice());
     assert_eq!(rt; fs::read(&rt, path)?.as_slice(), [0, 7, 8, 0].as_slice());
+    fs::remove_file(&rt, path)?;
+    Ok(())
+}
+
+#[test]
+fn a_file_that_has_bytes_stays(rt: HostRuntime) -> Result<(), Fail> {
+    let path = "used.bin";
+    fs::write(&rt, path, b"used".as_slice())?;
+    let mut deck = FileDeck::new(&rt, path, true, b"".as_slice(), Vec::new(rt.alloc()));
+    assert_eq!(rt; deck.provide(6), Err(Failed));
+    let mut reader = FileDeck::new(&rt, path, false, b"".as_slice(), Vec::new(rt.alloc()));
+    assert_eq!(rt; store_some(&mut reader), Err(Failed));
+    assert_eq!(rt; fs::read(&rt, path)?.as_slice(), b"used".as_slice());
     fs::remove_file(&rt, path)?;
     Ok(())
 }

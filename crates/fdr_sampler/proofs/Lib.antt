@@ -6,3 +6,4 @@ pub mod HeldFacts
 pub mod Standing
 pub mod Counting
 pub mod Streaming
+pub mod Packing

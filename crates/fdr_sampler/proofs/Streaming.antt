@@ -12,9 +12,10 @@ use Rattle.fdr_layout.specs.Samples.{samples, first_at}
 use Rattle.fdr_layout.specs.SlotParts.{parts_among, parts_in}
 use Rattle.fdr_sampler.specs.SlotWord.{numbered_value, piece_of, with_part, slot_within, start_of, word_with, slot_word}
 use Rattle.fdr_sampler.specs.Stream.{slot_count, stream_words}
+use Rattle.fdr_sampler.specs.Past.{Past, MayTake}
 use Rattle.fdr_sampler.proofs.SlotFacts.{IsOfSample, parts_in_of, parts_of_slot_in}
 use Rattle.fdr_sampler.proofs.Standing.{raw_value-late, numbered_value_at, start_and_within, first_below}
-use Rattle.fdr_sampler.proofs.Counting.{slot_count-below}
+use Rattle.fdr_sampler.proofs.Counting.{slots_drawn, slot_count-below}
 
 part_agrees : (v v' : ℕ → ℕ) (word : ℕ) (a : SlotPart) → v a.sample ≡ v' a.sample → with_part v word a ≡ with_part v' word a
 part_agrees v v' word a same = ap (λ n. with_field word (a.part.at % 12) a.part.width (piece_of n a.part)) same
@@ -65,3 +66,13 @@ pub stream_words-push : (t : TableRows) (records : List BusRecord) (r : BusRecor
 stream_words-push t records r =
     let time : time_of (records ++ r ∷ []) ≡ r.time = fold_push (λ time (r : BusRecord). r.time) 0 records r in
     ap (λ n. map (slot_word t (records ++ r ∷ [])) (range_with_len 0 (slot_count t.frame.words n))) time ∙ words-late t records r
+
+-- no records make no words
+pub stream_words-none : (t : TableRows) → stream_words t [] ≡ []
+stream_words-none t =
+    let none : slot_count t.frame.words 0 ≡ 0 = omega arith in
+    ap (λ n. map (slot_word t []) (range_with_len 0 n)) none
+
+-- a record may be taken only where the slots before its time were drawn, and no others
+pub drawn-MayTake : (past : Past) (r : BusRecord) → MayTake past r → past.drawn ≡ slot_count past.table.frame.words r.time
+drawn-MayTake past r may = slots_drawn past.table.frame.words r.time past.drawn may.none_due may.counts_for_none

@@ -55,7 +55,7 @@ impl Sampler {
         self.drawn * 1_000_000 < time * u64::from(self.frame.words)
     }
 
-    /// Takes the next bus word. All slots before its time must have been drawn, and none after it. Takes no memory.
+    /// Takes the next bus word. All slots before its time must have been drawn, and no others. Takes no memory.
     pub fn bus(&mut self, r: &BusRecord)
         requires { (past : Past) × Stands self.old past × MayTake past r.now }
         ensures { (past : Past) → Stands self.old past → MayTake past r.now → Stands self.new (with_record past r.now) }
