@@ -1,3 +1,4 @@
 pub mod Faults
 pub mod Told
 pub mod Fakes
+pub mod Output

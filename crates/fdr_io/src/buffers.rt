@@ -2,6 +2,7 @@
 ghost use Rattle.std.specs.Prelude.{◌≡◌, ℕ, ◌+◌, ◌≤◌, List, [], ◌++◌, take, length, IfOk, OnOk, OnErr};
 ghost use Rattle.fdr_io.specs.Faults.{Rose};
 ghost use Rattle.fdr_io.specs.Told.{followed_by};
+ghost use Rattle.fdr_io.specs.Output.{Emits, EmitsPart};
 
 use crate::{Failed, Sink, write_whole};
 use std::alloc::{AllocError, Global};
@@ -39,10 +40,8 @@ impl OutBuffer {
     /// that was to go out did, and the rest is dropped.
     #[tactic(auto, using(crate::proofs::Telling::telling))]
     pub fn add<S: Sink>(&mut self, out: &mut S, bytes: &[u8]) -> Result<(), Failed>
-        ensures all { OnOk result ((gone : List ℕ) × (S.written out.new ≡ followed_by (S.written out.old) gone)
-            × (gone ++ self.new ≡ self.old ++ bytes.now)) }
-        ensures part { OnErr result ((k : ℕ) × (S.written out.new
-            ≡ followed_by (S.written out.old) (take k (self.old ++ bytes.now)))) }
+        ensures all { OnOk result (Emits (S.written out.old) (S.written out.new) self.old self.new bytes.now) }
+        ensures part { OnErr result (EmitsPart (S.written out.old) (S.written out.new) self.old bytes.now) }
         ensures dropped { OnErr result (self.new ≡ []) }
         ensures held { length self.new ≤ 65536 }
         ensures cause { OnErr result (Rose (S.faults out.old) (S.faults out.new)) }

@@ -6,7 +6,7 @@ use Rattle.std.proofs.lemmas.Nat.{le-div}
 use Rattle.std.proofs.Math.Nat.{div-lt_iff_lt-mul, div-mul-le_self}
 use Rattle.fdr_table.specs.Rows.{ParamRow, PlaceRow, TableRows}
 use Rattle.fdr_layout.specs.Samples.{frame_bits, cycle_of, Part, earliest_of, first_at, last_at, Sample, parts_of, samples_of, samples, ending_at, ending_among, ending_in}
-use Rattle.fdr_layout.specs.Ending.{EndsIn}
+use Rattle.fdr_layout.proofs.Ending.{EndsIn}
 use Rattle.fdr_layout.proofs.Lists.{slice_get-map-range_with_len}
 
 -- a layout's list for a cycle

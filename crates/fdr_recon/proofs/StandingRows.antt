@@ -10,7 +10,7 @@ use Rattle.std.proofs.lemmas.List.FromFn.{get_or-map-range_with_len}
 use Rattle.std.proofs.lemmas.Option.{slice_get-map, slice_get_within, get_or_from_slice_get, none-some}
 use Rattle.std.proofs.lemmas.Nat.{mod_below}
 use Rattle.fdr_table.specs.Rows.{FrameRow, TableRows}
-use Rattle.fdr_layout.specs.Ending.{EndsIn}
+use Rattle.fdr_layout.proofs.Ending.{EndsIn}
 use Rattle.fdr_layout.proofs.Endings.{ending_in_ends, ending_in_params}
 use Rattle.fdr_table.specs.Value.{value_of}
 use Rattle.fdr_frame.specs.Slots.{subframe_of, word_of}

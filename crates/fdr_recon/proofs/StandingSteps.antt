@@ -11,7 +11,7 @@ use Rattle.fdr_table.specs.Rows.{FrameRow, TableRows}
 use Rattle.fdr_layout.specs.Samples.{Sample, ending_in}
 use Rattle.fdr_layout.proofs.Endings.{ending_in_params}
 use Rattle.fdr_recon.specs.Rows.{ReadFrame, frame_at, are_linked, counter_place, counter_in}
-use Rattle.fdr_recon.specs.Kept.{Kept, kept_counter, is_next, joined_after}
+use Rattle.fdr_recon.specs.Kept.{Kept, kept_counter, is_next}
 use Rattle.fdr_recon.specs.Past.{HasRawValues, IsWhole, Stands, joined_count, read_frame}
 use Rattle.fdr_recon.proofs.JoinedFrames.{joined_count-push}
 use Rattle.fdr_recon.proofs.FrameWords.{words_of, length-words_of, keep_last-append}
@@ -49,6 +49,10 @@ and_true false = refl
 capped_if : (b : Bool) (n : ℕ) → (if b then min 15 n else 0) ≡ min 15 (if b then n else 0)
 capped_if true n = refl
 capped_if false n = refl
+
+-- how many frames are joined with the next frame
+abbrev joined_after : Kept → Bool → List ℕ → ℕ
+joined_after k adjacent words = if is_next k adjacent words then min (k.joined + 1) 15 else 0
 
 -- how many frames are joined with a further one
 joined_after-stands : (k : Kept) (t : TableRows) (past : List ReadFrame) (adjacent : Bool) (words : List ℕ) → Stands k t past → 0 < t.frame.words →

@@ -1,5 +1,5 @@
 -- What is kept of a table and of the frames that were read, and the rows that are made of it.
-use Rattle.std.specs.Prelude.{ℕ, ◌+◌, ◌-◌, ◌*◌, ◌/◌, ◌%◌, ◌^◌, ◌<◌, ◌≤◌, ◌≡◌, pos, Bool, if◌then◌else◌, ◌==◌, ◌&&◌, nat_lt, nat_le, min, not, List, [], length, Option, Some, None, sum_by, slice_index}
+use Rattle.std.specs.Prelude.{ℕ, ◌+◌, ◌-◌, ◌*◌, ◌/◌, ◌%◌, ◌^◌, ◌<◌, ◌≤◌, ◌≡◌, pos, Bool, if◌then◌else◌, ◌==◌, ◌&&◌, nat_lt, nat_le, not, List, [], length, Option, Some, None, sum_by, slice_index}
 use Rattle.std.specs.List.{All, slice_index_or}
 use Rattle.fdr_frame.specs.Slots.{subframe_of, word_of}
 use Rattle.fdr_table.specs.Rows.{FrameRow}
@@ -71,10 +71,6 @@ kept_samples k = if length k.words == 0 then [] else slice_index_or k.samples (k
 unfoldable pub is_next : Kept → Bool → List ℕ → Bool
 is_next k adjacent words =
     adjacent && not (length k.words == 0) && (slice_index words (counter_place k.frame) == (kept_counter k 0 + 1) % 4096)
-
--- how many frames are joined with the next frame
-abbrev pub joined_after : Kept → Bool → List ℕ → ℕ
-joined_after k adjacent words = if is_next k adjacent words then min (k.joined + 1) 15 else 0
 
 -- a row of a table with this many parameters
 pub record IsRow (params : ℕ) (r : Row) : Type 0 where

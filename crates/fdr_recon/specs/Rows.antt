@@ -1,5 +1,5 @@
 -- The rows of frames that were read one after another.
-use Rattle.std.specs.Prelude.{ℕ, ◌+◌, ◌-◌, ◌*◌, ◌/◌, ◌%◌, ◌^◌, pos, Bool, false, if◌then◌else◌, ◌==◌, ◌&&◌, nat_le, IsTrue, List, [], Option, Some, None, map, sum_by, slice_index}
+use Rattle.std.specs.Prelude.{ℕ, ◌+◌, ◌-◌, ◌*◌, ◌/◌, ◌%◌, ◌^◌, pos, Bool, false, if◌then◌else◌, ◌==◌, ◌&&◌, nat_le, List, [], Option, Some, None, map, sum_by, slice_index}
 use Rattle.std.specs.List.{filter_map, range_with_len, list_all, slice_index_or}
 use Rattle.fdr_frame.specs.Slots.{subframe_of, word_of}
 use Rattle.fdr_table.specs.Rows.{FrameRow, ParamRow, TableRows}
@@ -35,12 +35,6 @@ are_linked f earlier later = later.adjacent && (counter_in f later.words == (cou
 unfoldable pub are_joined : FrameRow → List ReadFrame → ℕ → ℕ → Bool
 are_joined f frames i d =
     nat_le d i && list_all (λ e. are_linked f (frame_at frames (i - (e + 1))) (frame_at frames (i - e))) (range_with_len 0 d)
-
-abbrev pub AreLinked : FrameRow → ReadFrame → ReadFrame → Type 0
-AreLinked f earlier later = IsTrue (are_linked f earlier later)
-
-abbrev pub AreJoined : FrameRow → List ReadFrame → ℕ → ℕ → Type 0
-AreJoined f frames i d = IsTrue (are_joined f frames i d)
 
 -- how many frames before its last part a sample's earliest part stands
 abbrev pub reach : ℕ → List Part → ℕ

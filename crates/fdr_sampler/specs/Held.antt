@@ -24,10 +24,6 @@ abbrev pub is_from : Source → BusRecord → Bool
 is_from s r =
     not (is_end r) && is_odd r.word && (r.bus == s.bus) && (label_of r.word == s.label) && option_map_or (λ sdi. sdi_of r.word == sdi) s.sdi true
 
--- a word of parameter p
-abbrev pub is_of : ParamRow → BusRecord → Bool
-is_of p r = is_from (source_of p) r
-
 -- the record counts for word slot k, which is sampled k / w seconds after the start; times are in microseconds
 abbrev pub counts_for : ℕ → ℕ → BusRecord → Bool
 counts_for w k r = nat_le (r.time * w) (k * 1000000)

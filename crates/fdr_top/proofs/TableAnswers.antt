@@ -14,7 +14,7 @@ use Rattle.fdr_top.specs.declared.outcome.Outcome.TheVariants as outcome
 use Rattle.fdr_top.specs.declared.reading.TheConstants.{MOST_TABLE_BYTES}
 use Rattle.fdr_top.specs.declared.pulling.TheConstants.{MOST_LINE_BYTES}
 use Rattle.fdr_top.specs.Answers.{IsOfTable, IsOfLine, Lists}
-use Rattle.fdr_top.specs.Listing.{listing_of}
+use Rattle.fdr_readout.specs.Listing.{listing_of}
 use Rattle.fdr_top.specs.Tables.{IsAccepted, IsRefused}
 
 -- what was taken to the end is all that was told

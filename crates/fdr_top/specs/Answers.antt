@@ -5,7 +5,7 @@ use Rattle.fdr_io.specs.declared.Input.TheVariants as input
 use Rattle.fdr_deck.specs.State.{State, Tells}
 use Rattle.fdr_deck.specs.Pull.{TakesLine}
 use Rattle.fdr_table.specs.Rows.{TableRows}
-use Rattle.fdr_top.specs.Listing.{listing_of}
+use Rattle.fdr_readout.specs.Listing.{listing_of}
 use Rattle.fdr_top.specs.declared.outcome.Outcome.{Outcome}
 use Rattle.fdr_top.specs.declared.outcome.Outcome.TheVariants as outcome
 use Rattle.fdr_top.specs.declared.pulling.LineEnd.{LineEnd}

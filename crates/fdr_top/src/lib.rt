@@ -5,7 +5,6 @@
 #![tactic(auto)]
 
 mod list_bits;
-mod listing;
 mod load;
 mod outcome;
 mod pulling;

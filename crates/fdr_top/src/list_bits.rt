@@ -6,13 +6,13 @@ ghost use Rattle.fdr_io.specs.Told.{followed_by};
 ghost use Rattle.fdr_frame.specs.WordCount.{IsWordCount};
 ghost use Rattle.fdr_recon.specs.Past.{HasRawValues, Stands};
 ghost use Rattle.fdr_top.specs.Answers.{IsOfLine, Lists, answer_of};
-ghost use Rattle.fdr_top.specs.Listing.{listing_of};
+ghost use Rattle.fdr_readout.specs.Listing.{listing_of};
 
-use crate::listing::{Work, write_listing};
 use crate::outcome::Outcome;
 use crate::pulling::{LineEnd, MOST_LINE_BYTES, PulledLine, pull_line};
 use fdr_deck::Deck;
 use fdr_io::{Failed, Input, Sink};
+use fdr_readout::{Readout, write_listing};
 use fdr_table::Table;
 use std::alloc::Global;
 
@@ -37,7 +37,7 @@ fn answer_of(end: LineEnd) -> Outcome
 }
 
 /// Writes the listing of what was pulled of a line, and gives the answer.
-fn write_line<O: Sink>(work: &mut Work, table: &Table, line: &PulledLine, out: &mut O) -> Outcome
+fn write_line<O: Sink>(work: &mut Readout, table: &Table, line: &PulledLine, out: &mut O) -> Outcome
     requires word_count { IsWordCount table.now.frame.words }
     requires room { vec_len work.old.words ≡ 4 * table.now.frame.words }
     requires fresh { Stands work.old.rebuild table.now [] }
@@ -73,7 +73,7 @@ pub fn list_line<D: Deck, O: Sink>(
     ensures no_memory { result ≡ Outcome.NoMemory → O.written out.new ≡ O.written out.old }
     ensures no_memory_faults { result ≡ Outcome.NoMemory → O.faults out.new ≡ O.faults out.old }
 {
-    let Ok(mut work) = Work::new(alloc, table) else {
+    let Ok(mut work) = Readout::new(alloc, table) else {
         return Outcome::NoMemory;
     };
     let Ok(line) = pull_line(alloc, deck) else {

@@ -7,7 +7,7 @@ ghost use Rattle.fdr_words.specs.Forms.{form_of};
 ghost use Rattle.fdr_table.specs.Rows.{TableRows};
 ghost use Rattle.fdr_table.specs.declared.fault.TableFault.{TableFault};
 ghost use Rattle.fdr_top.specs.Answers.{IsBeforeLine, IsOfLine, IsOfTable, WritesNothing, KeepsLineAndFaults, Lists};
-ghost use Rattle.fdr_top.specs.Listing.{listing_of};
+ghost use Rattle.fdr_readout.specs.Listing.{listing_of};
 ghost use Rattle.fdr_top.specs.Tables.{IsAccepted, IsRefused, table_in};
 
 use crate::list_bits::list_line;

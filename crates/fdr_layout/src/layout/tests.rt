@@ -6,6 +6,7 @@ ghost use Rattle.fdr_table.specs.Ranges.{periods};
 
 use super::*;
 use crate::parts::Part;
+use crate::slots::SlotPart;
 use fdr_table::Name;
 use std::test::Fail;
 
@@ -107,6 +108,14 @@ fn a_sample_ends_in_the_cycle_of_its_last_part(rt: HostRuntime) -> Result<(), Fa
 
     assert_eq!(rt; layout.ending_in(0).len(), 1);
     assert_eq!(rt; layout.ending_in(15).len(), 1);
+
+    let begun = SlotPart {
+        sample: 0,
+        part: low,
+    };
+    assert_eq!(rt; layout.at_slot(19), [begun].as_slice());
+    assert_eq!(rt; layout.at_slot(275).len(), 1);
+    assert_eq!(rt; layout.at_slot(20).len(), 0);
     Ok(())
 }
 

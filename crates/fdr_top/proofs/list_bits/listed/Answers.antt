@@ -1,4 +1,4 @@
-use Rattle.fdr_top.proofs.Lines.{take_shortest}
+use Rattle.fdr_readout.proofs.Lines.{take_shortest}
 use Rattle.fdr_top.proofs.list_bits.listed.Goals as goal
 
 pub returns-clause-bytes : goal.returns-clause-bytes

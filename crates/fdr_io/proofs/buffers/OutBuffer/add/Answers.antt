@@ -8,11 +8,18 @@ use Rattle.fdr_io.proofs.buffers.OutBuffer.add.Goals as goal
 pub returns-then-bytes-gt-CAPACITY-clause-part : goal.returns-then-bytes-gt-CAPACITY-clause-part
 returns-then-bytes-gt-CAPACITY-clause-part g c =
     on_err_weaker c.write_whole.result
-    (λ sent. (length c.args.self.now + sent.0, sent.1 ∙ ap (λ told. followed_by told (take sent.0 c.args.bytes.now)) c.in_ok-finish.ensures.all ∙ followed_by-append-take _ c.args.self.now c.args.bytes.now sent.0))
+    (λ sent. record {
+      count = length c.args.self.now + sent.0;
+      written = sent.1 ∙ ap (λ told. followed_by told (take sent.0 c.args.bytes.now)) c.in_ok-finish.ensures.all ∙ followed_by-append-take _ c.args.self.now c.args.bytes.now sent.0;
+    })
     c.write_whole.ensures.part
 
 pub returns-then-bytes-gt-CAPACITY-clause-all : goal.returns-then-bytes-gt-CAPACITY-clause-all
 returns-then-bytes-gt-CAPACITY-clause-all g c =
     on_ok_weaker c.write_whole.result
-    (λ sent. (c.args.self.now ++ c.args.bytes.now, sent ∙ ap (λ told. followed_by told c.args.bytes.now) c.in_ok-finish.ensures.all ∙ followed_by-followed_by _ c.args.self.now c.args.bytes.now, rw c.finish.ensures.empty (append-nil _)))
+    (λ sent. record {
+      gone = c.args.self.now ++ c.args.bytes.now;
+      written = sent ∙ ap (λ told. followed_by told c.args.bytes.now) c.in_ok-finish.ensures.all ∙ followed_by-followed_by _ c.args.self.now c.args.bytes.now;
+      waits = rw c.finish.ensures.empty (append-nil _);
+    })
     c.write_whole.ensures.whole

@@ -15,9 +15,9 @@ use Rattle.fdr_table.specs.Rows.{TableRows}
 use Rattle.fdr_recon.specs.declared.Row.{Row}
 use Rattle.fdr_recon.specs.Rows.{rows_of_frame, rows_looked_at}
 use Rattle.fdr_recon.specs.Past.{read_frame}
-use Rattle.fdr_top.specs.FramesSoFar.{SoFar}
-use Rattle.fdr_top.proofs.SoFarLemmas.{accepted_to_next, adjacent_next}
-use Rattle.fdr_top.specs.Listing.{gap_lines, row_lines, row_line_of, lines_of, rows_at, last_frame_lines, frame_read, frame_words, accepted_to}
+use Rattle.fdr_readout.specs.FramesSoFar.{SoFar}
+use Rattle.fdr_readout.proofs.SoFarLemmas.{accepted_to_next, adjacent_next}
+use Rattle.fdr_readout.specs.Listing.{gap_lines, row_lines, row_line_of, lines_of, rows_at, last_frame_lines, frame_read, frame_words, accepted_to}
 
 ltb_false : (a b : ℕ) → b ≤ a → ltb a b ≡ false
 ltb_false a b h = grind (arith, nat_tests)

@@ -6,7 +6,7 @@ use Rattle.std.proofs.lemmas.Bool.{cases_lt}
 use Rattle.std.proofs.Math.Seq.{take-append_seam}
 use Rattle.fdr_io.specs.Told.{followed_by}
 use Rattle.fdr_io.proofs.Telling.{followed_by-nil, followed_by-followed_by, followed_by-append-take}
-use Rattle.fdr_top.specs.Output.{Emits, EmitsPart}
+use Rattle.fdr_io.specs.Output.{Emits, EmitsPart}
 
 pub Emits-nil : (written : Option (List ℕ)) (waiting : List ℕ) → Emits written written waiting waiting []
 Emits-nil written waiting = record { gone = []; written = sym (followed_by-nil written); waits = sym (append-nil waiting) }

@@ -2,9 +2,9 @@ use Rattle.std.proofs.Common.{◌≡◌, ◌<◌, ◌-◌, List, length, take}
 use Rattle.std.specs.List.{flat_map}
 use Rattle.fdr_recon.specs.Past.{Stands}
 use Rattle.fdr_recon.specs.Rows.{ReadFrame, rows_looked_at}
-use Rattle.fdr_top.specs.Listing.{row_lines}
-use Rattle.fdr_top.specs.Output.{Emits}
-use Rattle.fdr_top.proofs.listing.write_rows.Given as goal
+use Rattle.fdr_readout.specs.Listing.{row_lines}
+use Rattle.fdr_io.specs.Output.{Emits}
+use Rattle.fdr_readout.proofs.listing.write_rows.Given as goal
 
 abbrev pub invariant-loop-i : goal.invariant-loop-i
 invariant-loop-i g l = record {

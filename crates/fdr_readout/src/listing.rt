@@ -9,12 +9,12 @@ ghost use Rattle.fdr_table.specs.Rows.{TableRows};
 ghost use Rattle.fdr_recon.specs.Rows.{ReadFrame};
 ghost use Rattle.fdr_recon.specs.Kept.{IsRow};
 ghost use Rattle.fdr_recon.specs.Past.{HasRawValues, Stands, read_frame};
-ghost use Rattle.fdr_top.specs.Listing.{gap_lines, row_lines, row_line_of, last_frame_lines, frame_words, frame_read, lines_of, listing_of};
-ghost use Rattle.fdr_top.specs.FramesSoFar.{SoFar};
+ghost use Rattle.fdr_readout.specs.Listing.{gap_lines, row_lines, row_line_of, last_frame_lines, frame_words, frame_read, lines_of, listing_of};
+ghost use Rattle.fdr_readout.specs.FramesSoFar.{SoFar};
 ghost use Rattle.fdr_frame.specs.WordCount.{IsWordCount};
 ghost use Rattle.fdr_sync.specs.Frames.{IsFirstFrameFrom, HasNoFrameFrom};
 ghost use Rattle.fdr_sync.specs.Events.{Event, Frame};
-ghost use Rattle.fdr_top.specs.Output.{Emits, EmitsPart};
+ghost use Rattle.fdr_io.specs.Output.{Emits, EmitsPart};
 
 use fdr_bits::word12;
 use fdr_io::{Failed, OutBuffer, Sink};
@@ -123,7 +123,7 @@ fn write_rows<O: Sink>(
 
 /// What is kept while bits are listed. It takes all its memory when it is made.
 #[derive(Drop)]
-pub struct Work {
+pub struct Readout {
     rebuild: Rebuild,
     words: Vec<u16>,
     buffer: OutBuffer,
@@ -132,7 +132,7 @@ pub struct Work {
 /// Reads the frame at bit `at`, and writes the lines of its rows.
 #[tactic(auto, unfolding(crate::specs::Listing::frame_words))]
 fn write_frame<O: Sink>(
-    work: &mut Work,
+    work: &mut Readout,
     table: &Table,
     bytes: &[u8],
     at: u64,
@@ -172,7 +172,7 @@ fn is_adjacent(free: u64, at: u64) -> bool
 /// Writes the lines of the gap before the next frame, which begins at bit `at`, and those of the frame. The frame
 /// before ends at bit `free`, or there is none and `free` is 0.
 fn write_next<O: Sink>(
-    work: &mut Work,
+    work: &mut Readout,
     table: &Table,
     bytes: &[u8],
     free: u64,
@@ -223,7 +223,7 @@ fn frame_end(table: &Table, bytes: &[u8], at: u64) -> u64
 
 /// Writes the lines of all gaps and frames of the bits.
 fn write_events<O: Sink>(
-    work: &mut Work,
+    work: &mut Readout,
     table: &Table,
     bytes: &[u8],
     out: &mut O,
@@ -246,9 +246,9 @@ fn write_events<O: Sink>(
     write_gap(&mut work.buffer, out, free, 8 * bytes.len() as u64)
 }
 
-impl Work {
+impl Readout {
     /// Takes the memory for listing bits by a table whose values are raw numbers.
-    pub fn new(alloc: Global, table: &Table) -> Result<Work, NoMemory>
+    pub fn new(alloc: Global, table: &Table) -> Result<Readout, NoMemory>
         requires { HasRawValues table.now.params }
         ensures room { IfOk result (λ work. vec_len work.words ≡ 4 * table.now.frame.words) }
         ensures stands { IfOk result (λ work. Stands work.rebuild table.now []) }
@@ -257,7 +257,7 @@ impl Work {
         let rebuild = Rebuild::new(alloc, table)?;
         let words = vec![in alloc; 0u16; 4 * table.frame().words as usize]?;
         let buffer = OutBuffer::new(alloc)?;
-        Ok(Work {
+        Ok(Readout {
             rebuild,
             words,
             buffer,
@@ -267,7 +267,7 @@ impl Work {
 
 /// Writes the listing of the bits of these bytes.
 pub fn write_listing<O: Sink>(
-    work: &mut Work,
+    work: &mut Readout,
     table: &Table,
     bytes: &[u8],
     out: &mut O,

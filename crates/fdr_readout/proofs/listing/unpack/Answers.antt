@@ -3,7 +3,7 @@ use Rattle.std.proofs.lemmas.List.FromFn.{fill_by_all}
 use Rattle.std.proofs.lemmas.List.{get_or_default}
 use Rattle.fdr_bits.specs.Bits.{word_at}
 use Rattle.fdr_bits.proofs.WordLemmas.{word_at_below}
-use Rattle.fdr_top.proofs.listing.unpack.Goals as goal
+use Rattle.fdr_readout.proofs.listing.unpack.Goals as goal
 
 pub returns-clause-words : goal.returns-clause-words
 returns-clause-words c = fill_by_all (λ k. word_at c.args.bytes.now (c.args.from + 12 * k)) c.loop-i.words (length c.args.words.now) 0 (search rules) (search rules)

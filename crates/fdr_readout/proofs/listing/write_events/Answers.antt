@@ -4,11 +4,11 @@ use Rattle.std.proofs.lemmas.Result.{err_from_is_err_and, on_ok_weaker, on_err_w
 use Rattle.fdr_frame.proofs.WordCounts.{word_count_bounds}
 use Rattle.fdr_sync.specs.Events.{Frame, events_from}
 use Rattle.fdr_sync.proofs.FrameLemmas.{frame_within}
-use Rattle.fdr_top.specs.Listing.{lines_of, listing_of, gap_lines}
-use Rattle.fdr_top.proofs.OutputSteps.{Emits-nil, Emits-then, EmitsPart-then, EmitsPart-longer}
-use Rattle.fdr_top.proofs.SoFarLemmas.{SoFar-none, so_far_next}
-use Rattle.fdr_top.proofs.Lines.{lines_from_first, lines_from_none}
-use Rattle.fdr_top.proofs.listing.write_events.Goals as goal
+use Rattle.fdr_readout.specs.Listing.{lines_of, listing_of, gap_lines}
+use Rattle.fdr_io.proofs.OutputSteps.{Emits-nil, Emits-then, EmitsPart-then, EmitsPart-longer}
+use Rattle.fdr_readout.proofs.SoFarLemmas.{SoFar-none, so_far_next}
+use Rattle.fdr_readout.proofs.Lines.{lines_from_first, lines_from_none}
+use Rattle.fdr_readout.proofs.listing.write_events.Goals as goal
 
 pub loop-at-init : goal.loop-at-init
 unfolding listing_of

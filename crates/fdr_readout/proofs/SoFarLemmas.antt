@@ -9,7 +9,7 @@ use Rattle.std.proofs.lemmas.Bool.Decides.{nat_tests}
 use Rattle.std.proofs.Math.Nat.{eq-or-lt_of_le}
 use Rattle.fdr_sync.specs.Frames.{IsFirstFrameFrom}
 use Rattle.fdr_sync.specs.Accepted.{accepted_from, accepted_frames}
-use Rattle.fdr_top.specs.FramesSoFar.{SoFar}
+use Rattle.fdr_readout.specs.FramesSoFar.{SoFar}
 use Rattle.fdr_sync.proofs.ChoiceLemmas.{accepted_first}
 use Rattle.fdr_sync.proofs.AcceptedLemmas.{accepted_behind}
 

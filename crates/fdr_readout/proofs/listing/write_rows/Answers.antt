@@ -3,10 +3,10 @@ use Rattle.std.specs.List.{flat_map}
 use Rattle.std.proofs.lemmas.List.{take_all}
 use Rattle.std.proofs.lemmas.Result.{err_from_is_err_and}
 use Rattle.fdr_recon.specs.Rows.{rows_looked_at}
-use Rattle.fdr_top.specs.Listing.{row_lines, last_frame_lines}
-use Rattle.fdr_top.proofs.OutputSteps.{Emits-nil, Emits-then, EmitsPart-then, EmitsPart-longer}
-use Rattle.fdr_top.proofs.Lines.{flat_map_next, flat_map_around}
-use Rattle.fdr_top.proofs.listing.write_rows.Goals as goal
+use Rattle.fdr_readout.specs.Listing.{row_lines, last_frame_lines}
+use Rattle.fdr_io.proofs.OutputSteps.{Emits-nil, Emits-then, EmitsPart-then, EmitsPart-longer}
+use Rattle.fdr_readout.proofs.Lines.{flat_map_next, flat_map_around}
+use Rattle.fdr_readout.proofs.listing.write_rows.Goals as goal
 
 pub loop-i-init : goal.loop-i-init
 loop-i-init g c = record { emitted = λ past some stands. Emits-nil _ _; quiet = refl }

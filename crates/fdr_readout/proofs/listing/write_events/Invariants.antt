@@ -3,10 +3,10 @@ use Rattle.std.specs.List.{flat_map}
 use Rattle.fdr_bits.specs.Bits.{bits_in}
 use Rattle.fdr_sync.specs.Events.{events_from}
 use Rattle.fdr_recon.specs.Past.{Stands}
-use Rattle.fdr_top.specs.FramesSoFar.{SoFar}
-use Rattle.fdr_top.specs.Listing.{lines_of, frame_read, listing_of}
-use Rattle.fdr_top.specs.Output.{Emits}
-use Rattle.fdr_top.proofs.listing.write_events.Given as goal
+use Rattle.fdr_readout.specs.FramesSoFar.{SoFar}
+use Rattle.fdr_readout.specs.Listing.{lines_of, frame_read, listing_of}
+use Rattle.fdr_io.specs.Output.{Emits}
+use Rattle.fdr_readout.proofs.listing.write_events.Given as goal
 
 abbrev pub invariant-loop-at : goal.invariant-loop-at
 invariant-loop-at g l = record {

@@ -3,10 +3,10 @@ use Rattle.std.proofs.lemmas.Result.{err_from_is_err_and, on_ok_weaker, on_err_w
 use Rattle.fdr_frame.proofs.WordCounts.{word_count_bounds}
 use Rattle.fdr_sync.specs.Events.{Frame}
 use Rattle.fdr_sync.proofs.FrameLemmas.{frame_within}
-use Rattle.fdr_top.specs.Listing.{lines_of, frame_read}
-use Rattle.fdr_top.proofs.OutputSteps.{Emits-then, EmitsPart-then, EmitsPart-longer}
-use Rattle.fdr_top.proofs.Lines.{frames_next, lines_of_read}
-use Rattle.fdr_top.proofs.listing.write_next.Goals as goal
+use Rattle.fdr_readout.specs.Listing.{lines_of, frame_read}
+use Rattle.fdr_io.proofs.OutputSteps.{Emits-then, EmitsPart-then, EmitsPart-longer}
+use Rattle.fdr_readout.proofs.Lines.{frames_next, lines_of_read}
+use Rattle.fdr_readout.proofs.listing.write_next.Goals as goal
 
 pub returns-in_err-write_gap-clause-part : goal.returns-in_err-write_gap-clause-part
 returns-in_err-write_gap-clause-part g c =

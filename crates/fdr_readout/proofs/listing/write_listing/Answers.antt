@@ -1,6 +1,6 @@
 use Rattle.std.proofs.lemmas.Result.{on_ok_weaker}
-use Rattle.fdr_top.proofs.OutputSteps.{written_at_end, finished_part}
-use Rattle.fdr_top.proofs.listing.write_listing.Goals as goal
+use Rattle.fdr_io.proofs.OutputSteps.{written_at_end, finished_part}
+use Rattle.fdr_readout.proofs.listing.write_listing.Goals as goal
 
 pub returns-clause-all : goal.returns-clause-all
 returns-clause-all g c =

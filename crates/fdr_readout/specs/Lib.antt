@@ -1,0 +1,4 @@
+pub mod Listing
+pub mod FramesSoFar
+pub mod SampledRows
+pub mod Recordable
