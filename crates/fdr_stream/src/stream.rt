@@ -6,7 +6,7 @@ ghost use Rattle.fdr_sampler.specs.Kept.{most_slots};
 ghost use Rattle.fdr_sampler.specs.Stream.{slot_count, stream_of};
 ghost use Rattle.fdr_stream.specs.Blocks.{block_at, due_blocks};
 ghost use Rattle.fdr_stream.specs.Kept.{with_word};
-ghost use Rattle.fdr_stream.specs.Past.{Past, made, with_block, with_record, MayFeed, Stands, IsPacked, IsSampled};
+ghost use Rattle.fdr_stream.specs.Past.{Past, made, with_block, with_record, MayFeed, Stands, IsPacked, IsSampled, IsDrawing};
 
 use circular_buffer::HeapCircularBuffer;
 use fdr_bits::pack_pair;
@@ -69,23 +69,23 @@ impl Stream {
 
     /// Feeds the next record of the trace. Where a whole block is due at it, the block is put at the front of `out`, and
     /// the record has to be fed again; else the record is taken. `out` has room for a block at least.
-    pub fn feed(&mut self, record: &BusRecord, out: &mut [u8]) -> Fed
-        requires { (past : Past) × Stands self.old past × MayFeed past record.now × (past.payload ≤ length out.old) }
-        ensures exactly { (past : Past) → Stands self.old past → MayFeed past record.now
-            → (result ≡ Fed.Block) ↔ (past.blocks < due_blocks past.table past.payload (past.records ++ record.now ∷ [])) }
-        ensures block { (past : Past) → Stands self.old past → MayFeed past record.now → result ≡ Fed.Block
-            → take past.payload out.new ≡ block_at past.payload (stream_of past.table (past.records ++ record.now ∷ [])) past.blocks }
-        ensures begun { (past : Past) → Stands self.old past → MayFeed past record.now → result ≡ Fed.Block
-            → Stands self.new (with_block past record.now) }
-        ensures taken { (past : Past) → Stands self.old past → MayFeed past record.now → result ≡ Fed.Taken
-            → Stands self.new (with_record past record.now) }
+    pub fn feed(&mut self, next: &BusRecord, out: &mut [u8]) -> Fed
+        requires { (past : Past) × Stands self.old past × MayFeed past next.now × (past.payload ≤ length out.old) }
+        ensures exactly { (past : Past) → Stands self.old past → MayFeed past next.now
+            → (result ≡ Fed.Block) ↔ (past.blocks < due_blocks past.table past.payload (past.records ++ next.now ∷ [])) }
+        ensures block { (past : Past) → Stands self.old past → MayFeed past next.now → result ≡ Fed.Block
+            → take past.payload out.new ≡ block_at past.payload (stream_of past.table (past.records ++ next.now ∷ [])) past.blocks }
+        ensures begun { (past : Past) → Stands self.old past → MayFeed past next.now → result ≡ Fed.Block
+            → Stands self.new (with_block past next.now) }
+        ensures taken { (past : Past) → Stands self.old past → MayFeed past next.now → result ≡ Fed.Taken
+            → Stands self.new (with_record past next.now) }
     {
-        self.draw(record.time);
+        self.draw(next.time);
         if self.is_full() {
             self.give(out);
             Fed::Block
         } else {
-            self.take(record);
+            self.take(next);
             Fed::Taken
         }
     }
@@ -177,17 +177,18 @@ impl Stream {
     }
 
     /// Takes a record before which all words were drawn.
-    fn take(&mut self, record: &BusRecord)
-        requires { (past : Past) × IsSampled self.old past × MayFeed past record.now
-            × (self.old.sampler.drawn ≡ slot_count past.table.frame.words record.now.time) }
-        ensures sampled { (past : Past) → IsSampled self.old past → MayFeed past record.now
-            → self.old.sampler.drawn ≡ slot_count past.table.frame.words record.now.time
-            → has_end (past.records ++ record.now ∷ []) ≡ false → IsSampled self.new (with_record past record.now) }
+    fn take(&mut self, next: &BusRecord)
+        requires { (past : Past) × IsSampled self.old past × MayFeed past next.now
+            × (self.old.sampler.drawn ≡ slot_count past.table.frame.words next.now.time) }
+        ensures sampled { (past : Past) → IsSampled self.old past → MayFeed past next.now
+            → self.old.sampler.drawn ≡ slot_count past.table.frame.words next.now.time
+            → has_end (past.records ++ next.now ∷ []) ≡ false → IsSampled self.new (with_record past next.now) }
         ensures drawn { self.new.sampler.drawn ≡ self.old.sampler.drawn }
         ensures kept { self.new ≡ record self.old { sampler = self.new.sampler } }
     {
-        if record.kind == RecordKind::Word {
-            self.sampler.bus(record);
+        match next.kind {
+            RecordKind::Word => self.sampler.bus(next),
+            RecordKind::End => {}
         }
     }
 }
