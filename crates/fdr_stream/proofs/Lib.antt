@@ -1,0 +1,4 @@
+pub mod PackingLemmas
+pub mod Drawn
+pub mod Standing
+pub mod Buffers

@@ -22,3 +22,8 @@ filled_by (Some a) word = (a / 256 + 16 * (word % 16)) ∷ word / 16 ∷ []
 unfoldable pub unpaired_after : Option ℕ → ℕ → Option ℕ
 unpaired_after None word = Some word
 unpaired_after (Some a) word = None
+
+-- the byte that a waiting word begins, filled with zeros
+unfoldable pub last_byte : Option ℕ → List ℕ
+last_byte None = []
+last_byte (Some a) = a / 256 ∷ []

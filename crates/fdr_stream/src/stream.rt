@@ -5,7 +5,7 @@ ghost use Rattle.fdr_bus.specs.Records.{has_end};
 ghost use Rattle.fdr_sampler.specs.Kept.{most_slots};
 ghost use Rattle.fdr_sampler.specs.Stream.{slot_count, stream_of};
 ghost use Rattle.fdr_stream.specs.Blocks.{block_at, due_blocks};
-ghost use Rattle.fdr_stream.specs.Kept.{with_word};
+ghost use Rattle.fdr_stream.specs.Kept.{at_start, padded, with_word};
 ghost use Rattle.fdr_stream.specs.Past.{Past, made, with_block, with_record, MayFeed, Stands, IsPacked, IsSampled, IsDrawing};
 
 use circular_buffer::HeapCircularBuffer;
@@ -57,14 +57,7 @@ impl Stream {
         let frame = table.frame();
         prove!(frame.words <= 1024);
         let sampler = Sampler::new(alloc, table)?;
-        let payload = payload as usize;
-        let bytes = HeapCircularBuffer::with_capacity(alloc, payload + 1).map_err(|_| NoMemory)?;
-        Ok(Stream {
-            sampler,
-            payload,
-            odd: None,
-            bytes,
-        })
+        Stream::with_sampler(alloc, sampler, payload as usize)
     }
 
     /// Feeds the next record of the trace. Where a whole block is due at it, the block is put at the front of `out`, and
@@ -102,10 +95,22 @@ impl Stream {
         ensures few { (past : Past) → Stands self.old past → result ≤ past.payload }
         ensures within { result ≤ length out.new }
     {
-        if let Some(word) = self.odd {
-            self.bytes.push_back((word >> 8) as u8);
-        }
+        self.pad();
         self.bytes.read_into(out)
+    }
+
+    fn with_sampler(alloc: Global, sampler: Sampler, payload: usize) -> Result<Stream, NoMemory>
+        requires low { 64 ≤ payload }
+        requires high { payload ≤ 4096 }
+        ensures { IfOk result (λ s. s ≡ at_start sampler payload) }
+    {
+        let bytes = HeapCircularBuffer::with_capacity(alloc, payload + 1).map_err(|_| NoMemory)?;
+        Ok(Stream {
+            sampler,
+            payload,
+            odd: None,
+            bytes,
+        })
     }
 
     /// Draws the words of the slots before this time, up to the first that makes a block whole.
@@ -156,6 +161,17 @@ impl Stream {
                 self.bytes.fill_from_slice(&pair[1..]);
                 self.odd = None;
             }
+        }
+    }
+
+    /// Fills a word that waits for its pair with zero bits.
+    fn pad(&mut self)
+        requires { length self.old.bytes < self.old.payload }
+        ensures { self.new ≡ padded self.old }
+    {
+        if let Some(word) = self.odd {
+            self.bytes.push_back((word >> 8) as u8);
+            self.odd = None;
         }
     }
 
