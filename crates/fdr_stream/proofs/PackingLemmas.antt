@@ -24,6 +24,11 @@ unfolding filled_by
 length-filled_by None word = (omega arith, omega arith)
 length-filled_by (Some a) word = (omega arith, omega arith)
 
+pub length-last_byte : (odd : Option ℕ) → length (last_byte odd) ≤ 1
+unfolding last_byte
+length-last_byte None = omega arith
+length-last_byte (Some a) = omega arith
+
 -- three bytes are whole of two words
 pub length-whole_bytes : (words : List ℕ) → length (whole_bytes words) ≡ 3 * length words / 2
 unfolding whole_bytes

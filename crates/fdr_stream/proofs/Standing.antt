@@ -1,23 +1,23 @@
 -- For which past a stream stands.
-use Rattle.std.proofs.Common.{◌≡◌, ℕ, ◌+◌, ◌-◌, ◌*◌, ◌/◌, ◌<◌, ◌≤◌, ◌⊎◌, ⊎_elim, false, true, List, [], ◌∷◌, ◌++◌, Option, Some, None, length, fold, take, drop, refl, sym, ap, ◌∙◌, subst, arith}
+use Rattle.std.proofs.Common.{◌≡◌, ℕ, ◌+◌, ◌-◌, ◌*◌, ◌/◌, ◌<◌, ◌≤◌, ◌⊎◌, ⊎_elim, false, true, List, [], ◌∷◌, ◌++◌, Option, Some, None, length, fold, take, drop, refl, sym, ap, ◌∙◌, subst, arith, length-append}
 use Rattle.std.proofs.lemmas.List.{length-drop, drop-drop, drop-append-le}
 use Rattle.std.proofs.lemmas.List.Sums.{fold_push}
-use Rattle.std.proofs.Math.Nat.{mul-le-mul_right}
+use Rattle.std.proofs.Math.Nat.{mul-le-mul_left, mul-le-mul_right}
 use Rattle.fdr_bus.specs.declared.BusRecord.{BusRecord}
 use Rattle.fdr_bus.specs.declared.RecordKind.TheVariants.{Word}
-use Rattle.fdr_bus.specs.Records.{time_of, has_end}
+use Rattle.fdr_bus.specs.Records.{time_of, last_time, has_end}
 use Rattle.fdr_table.specs.Rows.{TableRows}
 use Rattle.fdr_sampler.specs.SlotWord.{slot_word}
 use Rattle.fdr_sampler.specs.Stream.{packed, slot_count, stream_words, stream_of}
 use Rattle.fdr_sampler.specs.Past.{MayTake, Stands as SamplerStands, made as sampler_made}
-use Rattle.fdr_sampler.specs.Kept.{Kept as Sampled}
+use Rattle.fdr_sampler.specs.Kept.{Kept as Sampled, most_slots}
 use Rattle.fdr_sampler.proofs.Counting.{slot_count-below, slot_count-above}
 use Rattle.fdr_sampler.proofs.Streaming.{words-late, stream_words-none}
 use Rattle.fdr_stream.specs.Blocks.{due_blocks}
 use Rattle.fdr_stream.specs.Packing.{unpaired, whole_bytes, last_byte}
 use Rattle.fdr_stream.specs.Kept.{Kept, at_start, with_word}
 use Rattle.fdr_stream.specs.Past.{Past, made, with_block, with_record, MayFeed, words_to, time_from, time_reached, IsPacked, IsSampled, IsDrawing, Stands}
-use Rattle.fdr_stream.proofs.PackingLemmas.{packed-last}
+use Rattle.fdr_stream.proofs.PackingLemmas.{packed-last, length-last_byte}
 use Rattle.fdr_stream.proofs.Drawn.{length-whole_to, length-waiting, IsPacked-word, none_due}
 
 slot_count-later : (w a b : ℕ) → a ≤ b → slot_count w a ≤ slot_count w b
@@ -163,6 +163,20 @@ pub IsPacked-drawn : (k k1 : Kept) (s : Sampled) (word : ℕ) (past : Past) → 
 IsPacked-drawn k k1 s word past is st drawn at =
     subst (λ (x : Kept). IsPacked x past) (sym is) (IsPacked-word k (with_word (record k { sampler = s }) word) past word at drawn st.drawn refl refl refl)
 
+-- ---- the slots before a time
+
+-- a slot that is due is one of a recording
+pub below_most : (w time k : ℕ) → w ≤ 1024 → time ≤ last_time → k * 1000000 < time * w → k < most_slots
+below_most w time k few in_time due = let more : time * w ≤ time * 1024 = mul-le-mul_left time few in omega (arith, more, due, in_time)
+
+-- and is among those before the time
+pub due_below : (w time k : ℕ) → k * 1000000 < time * w → k + 1 ≤ slot_count w time
+due_below w time k due = omega arith
+
+-- where the slots before a time were drawn up to one that isn't due, all were
+pub all_drawn : (w time k : ℕ) → k ≤ slot_count w time → time * w ≤ k * 1000000 → k ≡ slot_count w time
+all_drawn w time k undrawn late = omega arith
+
 -- ---- at the end
 
 -- the bytes that wait, and the byte that a waiting word begins, are the rest of the stream
@@ -180,3 +194,9 @@ rest_is k past st none =
     ap (λ xs. xs ++ last_byte k.odd) st.packed.bytes ∙ ap (λ o. drop given (whole_bytes words) ++ last_byte o) st.packed.odd
     ∙ sym (drop-append-le given (whole_bytes words) (last_byte (unpaired words)) low)
     ∙ ap (drop given) (sym (packed-last words)) ∙ ap (λ m. drop given (packed (words_to past m))) is
+
+-- they fit a block
+pub few_left : (k : Kept) (past : Past) (items : List ℕ) → Stands k past → items ≡ k.bytes ++ last_byte k.odd → length items ≤ past.payload
+few_left k past items st is =
+    let len = ap (λ (xs : List ℕ). length xs) is ∙ length-append k.bytes (last_byte k.odd) in
+    omega (arith, len, length-last_byte k.odd, st.few)

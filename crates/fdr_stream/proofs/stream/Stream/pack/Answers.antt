@@ -1,4 +1,6 @@
-use Rattle.std.proofs.Common.{◌≡◌, ℕ, ◌+◌, ◌-◌, ◌*◌, ◌/◌, ◌%◌, ◌≤◌, ◌<◌, min, List, [], ◌∷◌, ◌++◌, Some, None, length, take, drop, refl, sym, ap, ◌∙◌, subst, arith, rules, bit_and, length-append}
+use Rattle.std.proofs.Common.{◌≡◌, ℕ, ◌+◌, ◌-◌, ◌*◌, ◌/◌, ◌%◌, ◌≤◌, ◌<◌, min, List, [], ◌∷◌, ◌++◌, Some, None, length, take, drop, refl, sym, ap, ◌∙◌, subst, arith, length-append}
+use Rattle.std.specs.Int.Bits.{bit_and}
+use Rattle.std.proofs.lemmas.Nat.{and_mask}
 use Rattle.circular_buffer.specs.Buffer.{Buffer}
 use Rattle.fdr_stream.specs.Kept.{Kept, with_word}
 use Rattle.fdr_stream.specs.View.{kept_of}
@@ -9,7 +11,7 @@ pub returns-in-None : goal.returns-in-None
 returns-in-None c =
     let k = kept_of c.self.inside in
     let word = c.args.word in
-    let low : bit_and word 255 ≡ word % 256 = search rules in
+    let low : bit_and word 255 ≡ word % 256 = and_mask word 8 in
     let room : length k.bytes < k.payload = subst (λ (x : Kept). length x.bytes < x.payload) (sym c.self.view_is) c.requires.room in
     let all = k.bytes ++ bit_and word 255 ∷ [] in
     let len : length all ≡ length k.bytes + 1 = length-append k.bytes (bit_and word 255 ∷ []) in
