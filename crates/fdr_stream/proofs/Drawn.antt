@@ -57,7 +57,7 @@ IsPacked-word k k' past word at is drawn payload odd bytes =
     }
 
 -- the words up to a later slot begin with those up to an earlier one
-words_to-later : (past : Past) (n m : ℕ) → n ≤ m → words_to past m ≡ words_to past n ++ drop n (words_to past m)
+pub words_to-later : (past : Past) (n m : ℕ) → n ≤ m → words_to past m ≡ words_to past n ++ drop n (words_to past m)
 words_to-later past n m le =
     sym (take-append-drop n (words_to past m))
     ∙ ap (λ ws. ws ++ drop n (words_to past m)) (take-map-range_with_len (slot_word past.table past.records) 0 m n le)

@@ -2,3 +2,4 @@ pub mod PackingLemmas
 pub mod Drawn
 pub mod Standing
 pub mod Buffers
+pub mod Later

@@ -20,10 +20,10 @@ use Rattle.fdr_stream.specs.Past.{Past, made, with_block, with_record, MayFeed, 
 use Rattle.fdr_stream.proofs.PackingLemmas.{packed-last, length-last_byte}
 use Rattle.fdr_stream.proofs.Drawn.{length-whole_to, length-waiting, IsPacked-word, none_due}
 
-slot_count-later : (w a b : ℕ) → a ≤ b → slot_count w a ≤ slot_count w b
+pub slot_count-later : (w a b : ℕ) → a ≤ b → slot_count w a ≤ slot_count w b
 slot_count-later w a b le = let more : a * w ≤ b * w = mul-le-mul_right w le in omega (arith, more)
 
-time_of-push : (records : List BusRecord) (r : BusRecord) → time_of (records ++ r ∷ []) ≡ r.time
+pub time_of-push : (records : List BusRecord) (r : BusRecord) → time_of (records ++ r ∷ []) ≡ r.time
 time_of-push records r = fold_push (λ time (r : BusRecord). r.time) 0 records r
 
 -- a record that is fed finds a stream in which slots before its time were drawn, and no others
