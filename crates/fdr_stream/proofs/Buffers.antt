@@ -1,7 +1,7 @@
 -- What a word adds to what is kept.
-use Rattle.std.proofs.Common.{◌≡◌, ℕ, ◌+◌, ◌-◌, ◌*◌, ◌/◌, ◌%◌, ◌≤◌, List, [], ◌∷◌, ◌++◌, Option, Some, None, length, drop, refl, sym, ap, ◌∙◌, arith}
+use Rattle.std.proofs.Common.{◌≡◌, ℕ, ◌+◌, ◌-◌, ◌*◌, ◌/◌, ◌%◌, ◌≤◌, List, [], ◌∷◌, ◌++◌, Option, Some, None, length, drop, sym, ap, ◌∙◌, arith}
 use Rattle.std.proofs.lemmas.List.{append-nil}
-use Rattle.circular_buffer.specs.Buffer.{Buffer, buffer, keep_last}
+use Rattle.circular_buffer.specs.Buffer.{keep_last}
 use Rattle.fdr_stream.specs.Packing.{filled_by, unpaired_after, last_byte}
 use Rattle.fdr_stream.specs.Kept.{Kept, with_word, padded}
 

@@ -1,12 +1,11 @@
 -- What stands while words are drawn.
-use Rattle.std.proofs.Common.{◌≡◌, ℕ, ◌+◌, ◌-◌, ◌*◌, ◌/◌, ◌<◌, ◌≤◌, List, [], ◌∷◌, ◌++◌, length, map, take, drop, refl, sym, ap, ◌∙◌, subst, arith}
-use Rattle.std.specs.List.{range_with_len}
-use Rattle.std.proofs.lemmas.List.{length-drop, drop-append-le, drop-drop, take-append-drop, take-append-le}
+use Rattle.std.proofs.Common.{◌≡◌, ℕ, ◌+◌, ◌-◌, ◌*◌, ◌/◌, ◌<◌, ◌≤◌, List, [], ◌∷◌, ◌++◌, length, take, drop, sym, ap, ◌∙◌, arith}
+use Rattle.std.proofs.lemmas.List.{length-drop, drop-append-le, take-append-drop, take-append-le}
 use Rattle.std.proofs.lemmas.List.FromFn.{length-map-range_with_len, map-range_with_len_more, take-map-range_with_len}
 use Rattle.std.proofs.lemmas.Nat.{le-div, div_below}
 use Rattle.fdr_bus.specs.declared.BusRecord.{BusRecord}
 use Rattle.fdr_sampler.specs.SlotWord.{slot_word}
-use Rattle.fdr_sampler.specs.Stream.{packed, slot_count, stream_words, stream_of}
+use Rattle.fdr_sampler.specs.Stream.{packed, slot_count, stream_of}
 use Rattle.fdr_sampler.proofs.Streaming.{stream_words-push}
 use Rattle.fdr_stream.specs.Blocks.{block_at, due_blocks}
 use Rattle.fdr_stream.specs.Packing.{unpaired, whole_bytes, filled_by, unpaired_after}
@@ -70,10 +69,11 @@ waiting_is k past m at le =
     let given = past.payload * past.blocks in
     let words = words_to past n in
     let more = bytes_after (unpaired words) (drop n (words_to past m)) in
-    let low : given ≤ length (whole_bytes words) = omega (arith, at.given, length-whole_to past n) in
-    (more,
+    let low : given ≤ length (whole_bytes words) = omega (arith, at.given, length-whole_to past n) in (
+      more,
       ap (λ ws. drop given (packed ws)) (words_to-later past n m le) ∙ ap (drop given) (packed-whole words (drop n (words_to past m)))
-      ∙ drop-append-le given (whole_bytes words) more low ∙ ap (λ xs. xs ++ more) (sym at.bytes))
+          ∙ drop-append-le given (whole_bytes words) more low ∙ ap (λ xs. xs ++ more) (sym at.bytes),
+    )
 
 -- so a whole block of them is the next block
 pub block_is : (k : Kept) (past : Past) (r : BusRecord) → IsPacked k past → k.sampler.drawn ≤ slot_count past.table.frame.words r.time → past.payload ≤ length k.bytes →

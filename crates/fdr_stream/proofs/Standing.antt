@@ -1,24 +1,27 @@
 -- For which past a stream stands.
-use Rattle.std.proofs.Common.{◌≡◌, ℕ, ◌+◌, ◌-◌, ◌*◌, ◌/◌, ◌<◌, ◌≤◌, ◌⊎◌, ⊎_elim, false, true, List, [], ◌∷◌, ◌++◌, Option, Some, None, length, fold, take, drop, refl, sym, ap, ◌∙◌, subst, arith, length-append}
+use Rattle.std.proofs.Common.{◌≡◌, ℕ, ◌+◌, ◌-◌, ◌*◌, ◌/◌, ◌<◌, ◌≤◌, ⊎_elim, false, List, [], ◌∷◌, ◌++◌, Some, None, zero, suc, min, length, drop, refl, sym, ap, ◌∙◌, subst, arith, length-append}
 use Rattle.std.proofs.lemmas.List.{length-drop, drop-drop, drop-append-le}
+use Rattle.std.proofs.lemmas.List.FromFn.{length-map-range_with_len}
 use Rattle.std.proofs.lemmas.List.Sums.{fold_push}
+use Rattle.std.proofs.lemmas.Nat.{div-mul-add}
 use Rattle.std.proofs.Math.Nat.{mul-le-mul_left, mul-le-mul_right}
 use Rattle.fdr_bus.specs.declared.BusRecord.{BusRecord}
 use Rattle.fdr_bus.specs.declared.RecordKind.TheVariants.{Word}
 use Rattle.fdr_bus.specs.Records.{time_of, last_time, has_end}
 use Rattle.fdr_table.specs.Rows.{TableRows}
 use Rattle.fdr_sampler.specs.SlotWord.{slot_word}
-use Rattle.fdr_sampler.specs.Stream.{packed, slot_count, stream_words, stream_of}
+use Rattle.fdr_sampler.specs.Stream.{packed, slot_count, stream_of}
 use Rattle.fdr_sampler.specs.Past.{MayTake, Stands as SamplerStands, made as sampler_made}
 use Rattle.fdr_sampler.specs.Kept.{Kept as Sampled, most_slots}
+use Rattle.fdr_sampler.proofs.Packing.{length-packed}
 use Rattle.fdr_sampler.proofs.Counting.{slot_count-below, slot_count-above}
 use Rattle.fdr_sampler.proofs.Streaming.{words-late, stream_words-none}
-use Rattle.fdr_stream.specs.Blocks.{due_blocks}
+use Rattle.fdr_stream.specs.Blocks.{block_at, blocks_of}
 use Rattle.fdr_stream.specs.Packing.{unpaired, whole_bytes, last_byte}
 use Rattle.fdr_stream.specs.Kept.{Kept, at_start, with_word}
-use Rattle.fdr_stream.specs.Past.{Past, made, with_block, with_record, MayFeed, words_to, time_from, time_reached, IsPacked, IsSampled, IsDrawing, Stands}
+use Rattle.fdr_stream.specs.Past.{Past, made, with_block, with_record, MayFeed, words_to, time_from, IsPacked, IsSampled, IsDrawing, Stands}
 use Rattle.fdr_stream.proofs.PackingLemmas.{packed-last, length-last_byte}
-use Rattle.fdr_stream.proofs.Drawn.{length-whole_to, length-waiting, IsPacked-word, none_due}
+use Rattle.fdr_stream.proofs.Drawn.{length-words_to, length-whole_to, length-waiting, IsPacked-word, none_due}
 
 pub slot_count-later : (w a b : ℕ) → a ≤ b → slot_count w a ≤ slot_count w b
 slot_count-later w a b le = let more : a * w ≤ b * w = mul-le-mul_right w le in omega (arith, more)
@@ -195,8 +198,41 @@ rest_is k past st none =
     ∙ sym (drop-append-le given (whole_bytes words) (last_byte (unpaired words)) low)
     ∙ ap (drop given) (sym (packed-last words)) ∙ ap (λ m. drop given (packed (words_to past m))) is
 
+given_low : (k : Kept) (past : Past) → Stands k past → past.begun ≡ None → past.payload * past.blocks ≤ length (stream_of past.table past.records)
+unfolding time_from
+given_low k past st none =
+    let w = past.table.frame.words in
+    let n = slot_count w (time_of past.records) in
+    let high : k.sampler.drawn ≤ n = subst (λ b. k.sampler.drawn ≤ slot_count w (time_from past.records b)) none st.undrawn in
+    let is : k.sampler.drawn ≡ n = omega (arith, st.drawn) in
+    let len : length (stream_of past.table past.records) ≡ (3 * n + 1) / 2 = length-packed (words_to past n) ∙ ap (λ m. (3 * m + 1) / 2) (length-words_to past n) in
+    omega (arith, st.packed.given, is, len)
+
 -- they fit a block
 pub few_left : (k : Kept) (past : Past) (items : List ℕ) → Stands k past → items ≡ k.bytes ++ last_byte k.odd → length items ≤ past.payload
 few_left k past items st is =
     let len = ap (λ (xs : List ℕ). length xs) is ∙ length-append k.bytes (last_byte k.odd) in
     omega (arith, len, length-last_byte k.odd, st.few)
+
+-- how many blocks there are, where so many bytes follow the whole ones
+blocks_and_rest : (payload blocks rest len : ℕ) → 0 < payload → rest ≤ payload → len ≡ payload * blocks + rest → (len + payload - 1) / payload ≡ blocks + min rest 1
+blocks_and_rest payload blocks zero len some few is =
+    let at : len + payload - 1 ≡ blocks * payload + (payload - 1) = omega arith in
+    let all : blocks ≡ blocks + min 0 1 = omega arith in
+    ap (λ n. n / payload) at ∙ div-mul-add blocks payload (payload - 1) (omega arith) ∙ all
+blocks_and_rest payload blocks (suc rest) len some few is =
+    let at : len + payload - 1 ≡ (blocks + 1) * payload + rest = omega arith in
+    let all : blocks + 1 ≡ blocks + min (suc rest) 1 = omega arith in
+    ap (λ n. n / payload) at ∙ div-mul-add (blocks + 1) payload rest (omega arith) ∙ all
+
+-- the blocks of the stream are those that were given, and one more where a byte is left
+pub blocks_left : (k : Kept) (past : Past) (items : List ℕ) → Stands k past → past.begun ≡ None → items ≡ k.bytes ++ last_byte k.odd →
+    length (blocks_of past.payload (stream_of past.table past.records)) ≡ past.blocks + min (length items) 1
+blocks_left k past items st none is =
+    let stream = stream_of past.table past.records in
+    let given = past.payload * past.blocks in
+    let rest = rest_is k past st none in
+    let len : length items ≡ length stream - given = ap (λ (xs : List ℕ). length xs) (is ∙ rest) ∙ length-drop given stream in
+    let low : given ≤ length stream = given_low k past st none in
+    length-map-range_with_len (block_at past.payload stream) 0 ((length stream + past.payload - 1) / past.payload)
+    ∙ blocks_and_rest past.payload past.blocks (length items) (length stream) (omega (arith, st.low)) (few_left k past items st is) (omega (arith, len, low))

@@ -1,5 +1,5 @@
 -- What is kept of a stream: all that a block still needs.
-use Rattle.std.specs.Prelude.{ℕ, ◌≡◌, ◌<◌, ◌≤◌, ◌+◌, List, [], ◌++◌, length, Option, None}
+use Rattle.std.specs.Prelude.{ℕ, ◌≡◌, ◌<◌, ◌≤◌, ◌+◌, List, [], ◌++◌, Option, None}
 use Rattle.std.specs.Option.{ForSome}
 use Rattle.fdr_sampler.specs.Kept.{Kept as Sampled}
 use Rattle.fdr_stream.specs.Packing.{filled_by, unpaired_after, last_byte}

@@ -6,7 +6,7 @@ use Rattle.fdr_bus.specs.Records.{time_of, last_time, has_end}
 use Rattle.fdr_table.specs.Rows.{TableRows}
 use Rattle.fdr_sampler.specs.SlotWord.{slot_word}
 use Rattle.fdr_sampler.specs.Stream.{slot_count}
-use Rattle.fdr_sampler.specs.Past.{Past as SamplerPast, Stands as SamplerStands}
+use Rattle.fdr_sampler.specs.Past.{Stands as SamplerStands}
 use Rattle.fdr_stream.specs.Blocks.{due_blocks}
 use Rattle.fdr_stream.specs.Packing.{unpaired, whole_bytes}
 use Rattle.fdr_stream.specs.Kept.{Kept}

@@ -1,10 +1,10 @@
 //! The stream.
 
-ghost use Rattle.std.specs.Prelude.{◌≡◌, ◌<◌, ◌≤◌, ◌+◌, ◌-◌, ◌*◌, ◌^◌, ◌↔◌, false, [], ◌∷◌, ◌++◌, None, length, take, drop, IfOk, IsTrue};
+ghost use Rattle.std.specs.Prelude.{◌≡◌, ◌<◌, ◌≤◌, ◌+◌, ◌-◌, ◌*◌, ◌^◌, ◌↔◌, false, [], ◌∷◌, ◌++◌, None, length, min, take, drop, IfOk, IsTrue};
 ghost use Rattle.fdr_bus.specs.Records.{has_end};
 ghost use Rattle.fdr_sampler.specs.Kept.{most_slots};
 ghost use Rattle.fdr_sampler.specs.Stream.{slot_count, stream_of};
-ghost use Rattle.fdr_stream.specs.Blocks.{block_at, due_blocks};
+ghost use Rattle.fdr_stream.specs.Blocks.{block_at, blocks_of, due_blocks};
 ghost use Rattle.fdr_stream.specs.Kept.{at_start, padded, with_word};
 ghost use Rattle.fdr_stream.specs.Past.{Past, made, with_block, with_record, MayFeed, Stands, IsPacked, IsSampled, IsDrawing};
 
@@ -83,15 +83,19 @@ impl Stream {
         }
     }
 
-    /// Puts the last bytes of the stream at the front of `out`, and answers how many: at most a block, and none where the
-    /// blocks that were given hold the whole stream. Four zero bits follow an odd number of words. Nothing may be fed after
-    /// this.
+    /// Puts the rest of the stream, its last block, at the front of `out`, and answers its length: at most `payload`, and 0
+    /// where the blocks that were given hold the whole stream. Four zero bits follow an odd number of words. Nothing may be
+    /// fed after this.
     pub fn finish(&mut self, out: &mut [u8]) -> usize
         requires { (past : Past) × Stands self.old past × (past.begun ≡ None) × (past.payload ≤ length out.old) }
         ensures rest { (past : Past) → Stands self.old past → past.begun ≡ None
             → take result out.new ≡ drop (past.payload * past.blocks) (stream_of past.table past.records) }
         ensures count { (past : Past) → Stands self.old past → past.begun ≡ None
             → result ≡ length (stream_of past.table past.records) - past.payload * past.blocks }
+        ensures blocks { (past : Past) → Stands self.old past → past.begun ≡ None
+            → length (blocks_of past.payload (stream_of past.table past.records)) ≡ past.blocks + min result 1 }
+        ensures last { (past : Past) → Stands self.old past → past.begun ≡ None
+            → take result out.new ≡ block_at past.payload (stream_of past.table past.records) past.blocks }
         ensures few { (past : Past) → Stands self.old past → result ≤ past.payload }
         ensures within { result ≤ length out.new }
     {

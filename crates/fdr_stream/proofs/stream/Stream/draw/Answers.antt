@@ -1,4 +1,4 @@
-use Rattle.std.proofs.Common.{◌≡◌, ℕ, ◌+◌, ◌*◌, ◌<◌, ◌≤◌, ⊎_elim, Bool, false, length, sym, ap, ◌∙◌, subst, arith}
+use Rattle.std.proofs.Common.{◌≡◌, ℕ, ◌*◌, ◌<◌, ◌≤◌, ⊎_elim, Bool, false, sym, ap, ◌∙◌, subst, arith}
 use Rattle.std.specs.Prelude.{◌↔◌, IsTrue}
 use Rattle.std.proofs.lemmas.Bool.{cases_lt, iff_false}
 use Rattle.fdr_sampler.specs.Past.{Past as SamplerPast}
@@ -28,8 +28,7 @@ pub loop-self-preserved : goal.loop-self-preserved
 unfolding at
 loop-self-preserved c =
     let k = kept_of c.self.inside in
-    let same = ap (λ (x : Kept). x.sampler.drawn) c.self.view_is in
-    (
+    let same = ap (λ (x : Kept). x.sampler.drawn) c.self.view_is in (
       λ past d.
           let there : IsDrawing c.loop-self.self past c.args.time = c.loop-self.invariant.0 past d in
           let here : IsDrawing k past c.args.time = subst (λ (x : Kept). IsDrawing x past c.args.time) (sym c.self.view_is) there in

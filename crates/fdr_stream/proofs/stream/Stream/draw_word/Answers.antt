@@ -1,4 +1,4 @@
-use Rattle.std.proofs.Common.{◌≡◌, ℕ, ◌+◌, ◌<◌, ◌≤◌, ◌++◌, List, length, refl, sym, ap, ◌∙◌, subst, arith, length-append}
+use Rattle.std.proofs.Common.{◌≡◌, ◌+◌, length, sym, ap, ◌∙◌, subst, arith, length-append}
 use Rattle.fdr_sampler.specs.Past.{Past as SamplerPast, Stands as SamplerStands}
 use Rattle.fdr_stream.specs.Packing.{filled_by}
 use Rattle.fdr_stream.specs.Kept.{Kept}

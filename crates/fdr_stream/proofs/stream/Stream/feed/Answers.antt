@@ -1,7 +1,6 @@
-use Rattle.std.proofs.Common.{◌≡◌, ℕ, ◌<◌, ◌≤◌, ⊎_elim, Bool, false, List, length, take, refl, sym, ap, ◌∙◌, arith}
+use Rattle.std.proofs.Common.{◌≡◌, ℕ, ◌<◌, ◌≤◌, ⊎_elim, Bool, false, length, take, refl, sym, ap, ◌∙◌, arith}
 use Rattle.std.specs.Prelude.{◌↔◌, IsTrue}
 use Rattle.std.proofs.lemmas.Bool.{cases_lt, iff_false}
-use Rattle.fdr_stream.specs.declared.stream.Fed.TheVariants.{Taken, Block}
 use Rattle.fdr_stream.specs.Kept.{Kept}
 use Rattle.fdr_stream.proofs.Drawn.{block_is, is_due, none_due}
 use Rattle.fdr_stream.proofs.Standing.{IsDrawing-fed, Stands-block, Stands-record}

@@ -1,10 +1,10 @@
-use Rattle.std.proofs.Common.{◌≡◌, ℕ, ◌-◌, ◌*◌, ◌≤◌, List, ◌++◌, length, take, drop, ap, ◌∙◌, arith}
-use Rattle.std.proofs.lemmas.List.{take-append-le, length-drop}
+use Rattle.std.proofs.Common.{◌≡◌, ℕ, ◌+◌, ◌*◌, ◌≤◌, List, ◌++◌, length, take, drop, min, sym, ap, ◌∙◌, arith}
+use Rattle.std.proofs.lemmas.List.{take-append-le, take_all, length-drop}
 use Rattle.std.proofs.Math.Seq.{take-length}
 use Rattle.fdr_sampler.specs.Stream.{stream_of}
 use Rattle.fdr_stream.specs.Packing.{last_byte}
 use Rattle.fdr_stream.specs.Kept.{Kept}
-use Rattle.fdr_stream.proofs.Standing.{rest_is, few_left}
+use Rattle.fdr_stream.proofs.Standing.{rest_is, few_left, blocks_left}
 use Rattle.fdr_stream.proofs.stream.Stream.finish.Goals as goal
 
 pub returns-clause-rest : goal.returns-clause-rest
@@ -28,6 +28,21 @@ returns-clause-count c past st none =
     let left : items ≡ k.bytes ++ last_byte k.odd = ap (λ (x : Kept). x.bytes) (c.self.view_is ∙ c.pad.ensures) in
     let all : c.read_into.result ≡ length items = omega (arith, c.read_into.ensures.count, few_left k known.0 items known.1 left, known.3) in
     all ∙ ap (λ (xs : List ℕ). length xs) (left ∙ rest_is k past st none) ∙ length-drop (past.payload * past.blocks) (stream_of past.table past.records)
+
+pub returns-clause-blocks : goal.returns-clause-blocks
+returns-clause-blocks c past st none =
+    let k = c.args.self.now in
+    let known = c.requires in
+    let items = c.self.inside.bytes.items in
+    let left : items ≡ k.bytes ++ last_byte k.odd = ap (λ (x : Kept). x.bytes) (c.self.view_is ∙ c.pad.ensures) in
+    let all : length items ≡ c.read_into.result = omega (arith, c.read_into.ensures.count, few_left k known.0 items known.1 left, known.3) in
+    blocks_left k past items st none left ∙ ap (λ n. past.blocks + min n 1) all
+
+pub returns-clause-last : goal.returns-clause-last
+returns-clause-last c past st none =
+    let rest = drop (past.payload * past.blocks) (stream_of past.table past.records) in
+    let few = few_left c.args.self.now past rest st (sym (rest_is c.args.self.now past st none)) in
+    returns-clause-rest c past st none ∙ sym (take_all past.payload rest few)
 
 pub returns-clause-few : goal.returns-clause-few
 returns-clause-few c past st =

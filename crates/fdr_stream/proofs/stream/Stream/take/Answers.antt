@@ -1,5 +1,5 @@
 use Rattle.std.proofs.Common.{◌≡◌, ◌∷◌, ◌++◌, [], sym, ap, ◌∙◌, subst}
-use Rattle.fdr_sampler.specs.Past.{Past as SamplerPast, Stands as SamplerStands}
+use Rattle.fdr_sampler.specs.Past.{Stands as SamplerStands}
 use Rattle.fdr_sampler.specs.Stream.{slot_count}
 use Rattle.fdr_stream.specs.Kept.{Kept}
 use Rattle.fdr_stream.specs.View.{kept_of}

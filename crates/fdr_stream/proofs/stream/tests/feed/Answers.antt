@@ -1,4 +1,4 @@
-use Rattle.std.proofs.Common.{◌≡◌, ℕ, ◌+◌, ◌≤◌, inr, Some, refl, arith}
+use Rattle.std.proofs.Common.{◌+◌, inr, Some, refl, arith}
 use Rattle.fdr_stream.specs.Past.{Past}
 use Rattle.fdr_stream.proofs.stream.tests.feed.Goals as goal
 

@@ -1,4 +1,4 @@
-use Rattle.std.proofs.Common.{◌≡◌, ℕ, ◌≤◌, inl, refl, arith}
+use Rattle.std.proofs.Common.{ℕ, ◌≤◌, inl, refl, arith}
 use Rattle.fdr_bus.specs.declared.BusRecord.{BusRecord}
 use Rattle.fdr_bus.specs.declared.RecordKind.TheVariants.{Word, End}
 use Rattle.fdr_bus.specs.Records.{last_time}
