@@ -1,0 +1,5 @@
+pub mod PackingLemmas
+pub mod Drawn
+pub mod Standing
+pub mod Buffers
+pub mod Later

@@ -1,0 +1,5 @@
+pub mod Blocks
+pub mod Packing
+pub mod Kept
+pub mod View
+pub mod Past

@@ -1,0 +1,9 @@
+//! The recording of a trace as a stream of bytes, cut into blocks.
+//!
+//! Each record of the trace settles the words of the slots before its time. They are packed as they are drawn, and each
+//! block is given as soon as its last byte is whole, so that less than a block waits.
+#![tactic(auto)]
+
+mod stream;
+
+pub use stream::{Fed, Stream};

@@ -1,0 +1,213 @@
+//! The stream.
+
+ghost use Rattle.std.specs.Prelude.{◌≡◌, ◌<◌, ◌≤◌, ◌+◌, ◌-◌, ◌*◌, ◌^◌, ◌↔◌, false, [], ◌∷◌, ◌++◌, None, length, take, drop, IfOk, IsTrue};
+ghost use Rattle.fdr_bus.specs.Records.{has_end};
+ghost use Rattle.fdr_sampler.specs.Kept.{most_slots};
+ghost use Rattle.fdr_sampler.specs.Stream.{slot_count, stream_of};
+ghost use Rattle.fdr_stream.specs.Blocks.{block_at, due_blocks};
+ghost use Rattle.fdr_stream.specs.Kept.{at_start, padded, with_word};
+ghost use Rattle.fdr_stream.specs.Past.{Past, made, with_block, with_record, MayFeed, Stands, IsPacked, IsSampled, IsDrawing};
+
+use circular_buffer::HeapCircularBuffer;
+use fdr_bits::pack_pair;
+use fdr_bus::{BusRecord, LAST_TIME, RecordKind};
+use fdr_sampler::Sampler;
+use fdr_table::{NoMemory, Table};
+use std::alloc::Global;
+use std::marker::Model;
+
+/// What a feed did.
+#[derive(Clone, Copy, Debug, PartialEq, Eq)]
+pub enum Fed {
+    /// The record was taken, and the next one may be fed.
+    Taken,
+    /// A block was given, and the same record must be fed again.
+    Block,
+}
+
+/// Makes the stream of a trace, a block at a time.
+#[derive(Drop)]
+pub struct Stream {
+    sampler: Sampler,
+    payload: usize,
+    odd: Option<u16>,
+    bytes: HeapCircularBuffer<u8>,
+}
+
+impl Model for Stream {
+    ghost use Rattle.fdr_stream.specs.Kept.{Kept, IsKept};
+
+    ghost Value = { Kept };
+
+    ghost use Rattle.fdr_stream.specs.View.{kept_of};
+
+    ghost view = { kept_of };
+
+    ghost invariant = { λ s. IsKept (kept_of s) s.bytes.capacity };
+}
+
+impl Stream {
+    /// A stream at the start of a trace by this table, in blocks of `payload` bytes, 64 to 4,096. Fails only where memory
+    /// ends, and later calls take none.
+    pub fn new(alloc: Global, table: &Table, payload: u32) -> Result<Stream, NoMemory>
+        requires low { 64 ≤ payload }
+        requires high { payload ≤ 4096 }
+        ensures { IfOk result (λ s. Stands s (made table.now payload)) }
+    {
+        let frame = table.frame();
+        prove!(frame.words <= 1024);
+        let sampler = Sampler::new(alloc, table)?;
+        Stream::with_sampler(alloc, sampler, payload as usize)
+    }
+
+    /// Feeds the next record of the trace. Where a whole block is due at it, the block is put at the front of `out`, and
+    /// the record has to be fed again; else the record is taken. `out` has room for a block at least.
+    pub fn feed(&mut self, next: &BusRecord, out: &mut [u8]) -> Fed
+        requires { (past : Past) × Stands self.old past × MayFeed past next.now × (past.payload ≤ length out.old) }
+        ensures exactly { (past : Past) → Stands self.old past → MayFeed past next.now
+            → (result ≡ Fed.Block) ↔ (past.blocks < due_blocks past.table past.payload (past.records ++ next.now ∷ [])) }
+        ensures block { (past : Past) → Stands self.old past → MayFeed past next.now → result ≡ Fed.Block
+            → take past.payload out.new ≡ block_at past.payload (stream_of past.table (past.records ++ next.now ∷ [])) past.blocks }
+        ensures begun { (past : Past) → Stands self.old past → MayFeed past next.now → result ≡ Fed.Block
+            → Stands self.new (with_block past next.now) }
+        ensures taken { (past : Past) → Stands self.old past → MayFeed past next.now → result ≡ Fed.Taken
+            → Stands self.new (with_record past next.now) }
+    {
+        self.draw(next.time);
+        if self.is_full() {
+            self.give(out);
+            Fed::Block
+        } else {
+            self.take(next);
+            Fed::Taken
+        }
+    }
+
+    /// Puts the last bytes of the stream at the front of `out`, and answers how many: at most a block, and none where the
+    /// blocks that were given hold the whole stream. Four zero bits follow an odd number of words. Nothing may be fed after
+    /// this.
+    pub fn finish(&mut self, out: &mut [u8]) -> usize
+        requires { (past : Past) × Stands self.old past × (past.begun ≡ None) × (past.payload ≤ length out.old) }
+        ensures rest { (past : Past) → Stands self.old past → past.begun ≡ None
+            → take result out.new ≡ drop (past.payload * past.blocks) (stream_of past.table past.records) }
+        ensures count { (past : Past) → Stands self.old past → past.begun ≡ None
+            → result ≡ length (stream_of past.table past.records) - past.payload * past.blocks }
+        ensures few { (past : Past) → Stands self.old past → result ≤ past.payload }
+        ensures within { result ≤ length out.new }
+    {
+        self.pad();
+        self.bytes.read_into(out)
+    }
+
+    fn with_sampler(alloc: Global, sampler: Sampler, payload: usize) -> Result<Stream, NoMemory>
+        requires low { 64 ≤ payload }
+        requires high { payload ≤ 4096 }
+        ensures { IfOk result (λ s. s ≡ at_start sampler payload) }
+    {
+        let bytes = HeapCircularBuffer::with_capacity(alloc, payload + 1).map_err(|_| NoMemory)?;
+        Ok(Stream {
+            sampler,
+            payload,
+            odd: None,
+            bytes,
+        })
+    }
+
+    /// Draws the words of the slots before this time, up to the first that makes a block whole.
+    fn draw(&mut self, time: u64)
+        requires past { (past : Past) × IsDrawing self.old past time }
+        requires room { length self.old.bytes < self.old.payload }
+        requires in_time { time ≤ LAST_TIME }
+        ensures draws { (past : Past) → IsDrawing self.old past time → IsDrawing self.new past time }
+        ensures all { (past : Past) → IsDrawing self.old past time → length self.new.bytes < self.new.payload
+            → self.new.sampler.drawn ≡ slot_count past.table.frame.words time }
+        ensures on { self.old.sampler.drawn ≤ self.new.sampler.drawn }
+        ensures few { length self.new.bytes ≤ self.new.payload + 1 }
+    {
+        while !self.is_full() && self.sampler.due(time) {
+            self.draw_word();
+        }
+    }
+
+    /// Draws the word of the next slot.
+    fn draw_word(&mut self)
+        requires past { (past : Past) × IsSampled self.old past × IsPacked self.old past }
+        requires more { self.old.sampler.drawn < most_slots }
+        requires room { length self.old.bytes < self.old.payload }
+        ensures sampled { (past : Past) → IsSampled self.old past → IsSampled self.new past }
+        ensures packed { (past : Past) → IsSampled self.old past → IsPacked self.old past → IsPacked self.new past }
+        ensures drawn { self.new.sampler.drawn ≡ self.old.sampler.drawn + 1 }
+        ensures payload { self.new.payload ≡ self.old.payload }
+        ensures filled { length self.old.bytes < length self.new.bytes }
+        ensures few { length self.new.bytes ≤ self.new.payload + 1 }
+    {
+        let word = self.sampler.next_word();
+        self.pack(word);
+    }
+
+    /// Packs a further word.
+    fn pack(&mut self, word: u16)
+        requires small { word < 4096 }
+        requires room { length self.old.bytes < self.old.payload }
+        ensures { self.new ≡ with_word self.old word }
+    {
+        match self.odd {
+            None => {
+                self.bytes.push_back((word & 0xff) as u8);
+                self.odd = Some(word);
+            }
+            Some(first) => {
+                let pair = pack_pair(first, word);
+                self.bytes.fill_from_slice(&pair[1..]);
+                self.odd = None;
+            }
+        }
+    }
+
+    /// Fills a word that waits for its pair with zero bits.
+    fn pad(&mut self)
+        requires { length self.old.bytes < self.old.payload }
+        ensures { self.new ≡ padded self.old }
+    {
+        if let Some(word) = self.odd {
+            self.bytes.push_back((word >> 8) as u8);
+            self.odd = None;
+        }
+    }
+
+    /// Whether a whole block waits.
+    fn is_full(&self) -> bool
+        ensures { IsTrue result ↔ (self.now.payload ≤ length self.now.bytes) }
+    {
+        self.payload <= self.bytes.len()
+    }
+
+    /// Puts the block that waits at the front of `out`.
+    fn give(&mut self, out: &mut [u8])
+        requires whole { self.old.payload ≤ length self.old.bytes }
+        requires room { self.old.payload ≤ length out.old }
+        ensures block { take self.old.payload out.new ≡ take self.old.payload self.old.bytes }
+        ensures rest { self.new ≡ record self.old { bytes = drop self.old.payload self.old.bytes } }
+    {
+        self.bytes.read_into(&mut out[..self.payload]);
+    }
+
+    /// Takes a record before which all words were drawn.
+    fn take(&mut self, next: &BusRecord)
+        requires { (past : Past) × IsSampled self.old past × MayFeed past next.now
+            × (self.old.sampler.drawn ≡ slot_count past.table.frame.words next.now.time) }
+        ensures sampled { (past : Past) → IsSampled self.old past → MayFeed past next.now
+            → self.old.sampler.drawn ≡ slot_count past.table.frame.words next.now.time
+            → has_end (past.records ++ next.now ∷ []) ≡ false → IsSampled self.new (with_record past next.now) }
+        ensures drawn { self.new.sampler.drawn ≡ self.old.sampler.drawn }
+        ensures kept { self.new ≡ record self.old { sampler = self.new.sampler } }
+    {
+        match next.kind {
+            RecordKind::Word => self.sampler.bus(next),
+            RecordKind::End => {}
+        }
+    }
+}
+
+#[cfg(test)]
+mod tests;

@@ -1,0 +1,110 @@
+//! Worked recordings.
+
+ghost use Rattle.std.specs.Prelude.{◌≡◌, ◌≤◌, ℕ, None, IfOk, OnOk};
+ghost use Rattle.fdr_table.specs.Rows.{TableRows};
+ghost use Rattle.fdr_stream.specs.Past.{Past, made, with_record, MayFeed, Stands};
+
+use super::*;
+use std::test::Fail;
+
+const TABLE: &[u8] = b"F,64,2,1\nP,ALT,0,203,,11,12,U,1,1,0,0,16\nL,ALT,1,1,10,0,1,12,0,1\n";
+
+const PAYLOAD: usize = 64;
+
+/// More blocks than any of the recordings has.
+const MANY: usize = 16;
+
+fn stream_by(alloc: Global, table: &[u8]) -> Result<Stream, Fail>
+    ensures { IfOk result (λ s. (t : TableRows) × Stands s (made t 64)) }
+{
+    let table = Table::read(alloc, table).ok().ok_or("table")?;
+    let Ok(stream) = Stream::new(alloc, &table, 64) else {
+        return Err("memory")?;
+    };
+    Ok(stream)
+}
+
+/// Feeds a record until it is taken, appends the blocks that come of it, and answers their number.
+fn feed(stream: &mut Stream, next: &BusRecord, bytes: &mut Vec<u8>) -> Result<usize, Fail>
+    requires { (past : Past) × Stands stream.old past × MayFeed past next.now × (past.begun ≡ None) × (past.payload ≡ 64) }
+    ensures { OnOk result ((past : Past) → Stands stream.old past → MayFeed past next.now → past.begun ≡ None
+        → (blocks : ℕ) × Stands stream.new (with_record (record past { blocks = blocks }) next.now)) }
+{
+    for blocks in 0..MANY {
+        let mut out = [0; PAYLOAD];
+        match stream.feed(next, &mut out) {
+            Fed::Taken => return Ok(blocks),
+            Fed::Block => bytes.extend_from_slice(&out)?,
+        }
+    }
+    Err("too many blocks")?
+}
+
+/// The recording of a bus word at its start and of an end: how many blocks were given before the rest, and all bytes.
+fn recording(alloc: Global, word: u32, end: u64) -> Result<(usize, Vec<u8>), Fail>
+    requires { end ≤ LAST_TIME }
+{
+    let mut stream = stream_by(alloc, TABLE)?;
+    let mut bytes = Vec::new(alloc);
+    let first = BusRecord {
+        kind: RecordKind::Word,
+        bus: 0,
+        word,
+        time: 0,
+    };
+    feed(&mut stream, &first, &mut bytes)?;
+    let last = BusRecord {
+        kind: RecordKind::End,
+        bus: 0,
+        word: 0,
+        time: end,
+    };
+    let blocks = feed(&mut stream, &last, &mut bytes)?;
+    let mut out = [0; PAYLOAD];
+    let rest = stream.finish(&mut out);
+    bytes.extend_from_slice(&out[..rest])?;
+    Ok((blocks, bytes))
+}
+
+// The 43rd word ends amid a byte, and the byte before is the 64th.
+#[test]
+fn gives_a_block_as_soon_as_it_is_whole(rt: HostRuntime) -> Result<(), Fail> {
+    for (end, blocks, len) in [
+        (0, 0, 0),
+        (1, 0, 2),
+        (656_250, 0, 63),
+        (671_875, 1, 65),
+        (4_000_000, 6, 384),
+        (4_000_001, 6, 386),
+    ] {
+        let (given, bytes) = recording(rt.alloc(), 0, end)?;
+        assert_eq!(rt; given, blocks, "blocks up to {end}");
+        assert_eq!(rt; bytes.len(), len, "bytes up to {end}");
+    }
+    Ok(())
+}
+
+// Word 10 of each subframe 1 has the altitude.
+#[test]
+fn packs_the_words_of_a_frame(rt: HostRuntime) -> Result<(), Fail> {
+    let (_, bytes) = recording(rt.alloc(), 0x14c1, 4_000_001)?;
+    for (at, value) in [
+        (0, 0x47),
+        (1, 0x02),
+        (2, 0x00),
+        (13, 0x50),
+        (14, 0x00),
+        (96, 0xb8),
+        (97, 0x05),
+        (192, 0x47),
+        (193, 0x0a),
+        (288, 0xb8),
+        (289, 0x0d),
+        (383, 0x00),
+        (384, 0x47),
+        (385, 0x02),
+    ] {
+        assert_eq!(rt; bytes.get(at).copied(), Some(value), "byte {at}");
+    }
+    Ok(())
+}
