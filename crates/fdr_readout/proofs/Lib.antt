@@ -1,2 +1,5 @@
 pub mod SoFarLemmas
 pub mod Lines
+pub mod FirstRows
+pub mod FirstOccurrences
+pub mod FirstTables
