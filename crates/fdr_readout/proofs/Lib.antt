@@ -12,3 +12,6 @@ pub mod RecordedRows
 pub mod StreamFrames
 pub mod StreamRows
 pub mod ReadsBack
+pub mod FirstRows
+pub mod FirstOccurrences
+pub mod FirstTables
