@@ -135,6 +135,14 @@ pub record IsUnentered (old new : Memory) : Type 0 where
 abbrev pub IsListed : Memory → Type 0
 IsListed m = Contains m.failing (length m.entries)
 
+-- a call was entered, so the next one has the next number
+abbrev pub IsNumbered : Memory → Memory → Type 0
+IsNumbered old new = length new.entries ≡ length old.entries + 1
+
+-- a call that failed because it is listed, and has its number, or because there was no memory to enter it, and has none
+abbrev pub IsRefused : Memory → Memory → Type 0
+IsRefused old new = (IsListed old × IsNumbered old new) ⊎ IsUnentered old new
+
 -- what is held, where the first content was kept and a changed one stands beside it
 abbrev pub current : List ℕ → Option (Vec ℕ Global) → List ℕ
 current first None = first
