@@ -3,7 +3,7 @@ use Rattle.std.proofs.Common.{◌≡◌, ◌⊎◌, inl, inr, ⊎_elim, ℕ, suc
 use Rattle.fdr_deck.specs.State.{Moment}
 use Rattle.fdr_deck.specs.Disk.{IsZeros}
 use Rattle.fdr_deck.specs.Moments.{IsNow, IsInside, Within, WithinProvide, Elapses, EachMoment}
-use Rattle.fdr_deck.specs.Calls.{KeepsTold, Passes, IsFresh}
+use Rattle.fdr_deck.specs.Calls.{KeepsTold, Passes}
 use Rattle.fdr_deck.specs.Memory.{Memory, memory_state, memory_tells, held_in, left_in, held_by, left_by, left_within, held_after, left_after, IsBetween, IsAmid, moments_after, IsEntered, KeepsPulled}
 use Rattle.fdr_deck.specs.MemorySound.{memory_is_sound}
 use Rattle.fdr_deck.specs.declared.calls.Call.{Call}
@@ -94,9 +94,6 @@ module _ (call : Call) (old new : Memory) (entered : IsEntered call old new) whe
 
   pub told_entered : KeepsTold (memory_state old) (memory_state new)
   told_entered = record { told = entered.told; numbers = inl (entered.least ∙ sym entered.told, entered.greatest ∙ sym entered.told) }
-
-  pub fresh_entered : IsFresh (memory_state new)
-  fresh_entered = record { least = entered.least ∙ sym entered.told; greatest = entered.greatest ∙ sym entered.told }
 
   pub passes_entered : KeepsPulled old new → old.disk_faults ≤ new.disk_faults → Passes memory_tells (memory_state old) (memory_state new)
   passes_entered kept faults = record {

@@ -105,9 +105,6 @@ module _ (size : ℕ) (old new : Memory) where
 
 -- a call that found no memory
 module _ (old new : Memory) (unentered : IsUnentered old new) where
-  pub held_unentered : held_in new ≡ held_in old
-  held_unentered = rw (unentered.entries, unentered.first) refl
-
   pub keeps_disk_unentered : KeepsDisk (memory_state old) (memory_state new)
   keeps_disk_unentered = rw (unentered.entries, unentered.first) (record { held = refl; no_more = λ image left. left; no_less = λ image left. left })
 

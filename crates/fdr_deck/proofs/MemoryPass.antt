@@ -4,7 +4,7 @@ use Rattle.std.specs.Prelude.{min, max}
 use Rattle.fdr_deck.specs.State.{Moment}
 use Rattle.fdr_deck.specs.Disk.{KeepsDisk, LearnsExtent}
 use Rattle.fdr_deck.specs.Moments.{IsNow, Within, WithinProvide, Elapses, EachMoment}
-use Rattle.fdr_deck.specs.Calls.{KeepsTold, Passes, LeavesDisk}
+use Rattle.fdr_deck.specs.Calls.{Passes, LeavesDisk}
 use Rattle.fdr_deck.specs.Announced.{least_of, greatest_of}
 use Rattle.fdr_deck.specs.Memory.{Memory, memory_state, memory_tells, held_in, held_by, left_by, IsEntered, IsUnentered, KeepsPulled, IsBetween, moments_after}
 use Rattle.fdr_deck.specs.MemorySound.{memory_is_sound}
@@ -12,8 +12,8 @@ use Rattle.fdr_deck.specs.declared.calls.Call.TheVariants.{Pass}
 use Rattle.fdr_deck.specs.declared.announced.Announced.{Announced}
 use Rattle.fdr_deck.specs.declared.calls.Numbers.{Numbers}
 use Rattle.fdr_deck.specs.declared.calls.Entry.{Entry}
-use Rattle.fdr_deck.proofs.MemoryCalls.{passes_entered, time_entered, told_entered}
-use Rattle.fdr_deck.proofs.MemoryDisk.{keeps_disk_pass, within_pass, within_provide_pass, keeps_disk_unentered, passes_unentered, within_unentered, within_provide_unentered, time_unentered, told_unentered}
+use Rattle.fdr_deck.proofs.MemoryCalls.{passes_entered, time_entered}
+use Rattle.fdr_deck.proofs.MemoryDisk.{keeps_disk_pass, within_pass, within_provide_pass, keeps_disk_unentered, passes_unentered, within_unentered, within_provide_unentered, time_unentered}
 
 module _ (old new : Memory) (passed : IsEntered Pass old new ⊎ IsUnentered old new) where
   pub disk_passed : KeepsDisk (memory_state old) (memory_state new)
@@ -39,9 +39,6 @@ module _ (old new : Memory) (passed : IsEntered Pass old new ⊎ IsUnentered old
 
   pub time_passed : Elapses memory_tells (memory_state old) (memory_state new)
   time_passed = ⊎_elim (time_entered Pass old new) (time_unentered old new) passed
-
-  pub told_passed : KeepsTold (memory_state old) (memory_state new)
-  told_passed = ⊎_elim (told_entered Pass old new) (told_unentered old new) passed
 
 -- a pull that was entered, and then took bytes
 pub took_entered : (old mid new : Memory) → IsEntered Pass old mid → new.entries ≡ mid.entries → new.first ≡ mid.first → new.failing ≡ mid.failing → new.numbers.announced ≡ mid.numbers.announced → IsEntered Pass old new

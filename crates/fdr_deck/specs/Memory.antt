@@ -1,5 +1,5 @@
 -- What is seen of the deck in memory that may fail: its first content, and all calls since.
-use Rattle.std.specs.Prelude.{◌≡◌, ◌⊎◌, ℕ, ◌+◌, ◌-◌, ◌≤◌, List, [], ◌∷◌, ◌++◌, length, take, replicate, slice_get, ⊤, true, Option, Some, None, Vec}
+use Rattle.std.specs.Prelude.{◌≡◌, ◌⊎◌, ℕ, ◌+◌, ◌-◌, ◌≤◌, List, [], ◌∷◌, ◌++◌, length, take, replicate, slice_get, Contains, ⊤, true, Option, Some, None, Vec}
 use Rattle.std.specs.declared.alloc.Global.{Global}
 use Rattle.fdr_deck.specs.State.{State, Tells, Moment}
 use Rattle.fdr_deck.specs.Disk.{patched, Torn, IsZeros}
@@ -130,6 +130,18 @@ pub record IsUnentered (old new : Memory) : Type 0 where
   pub numbers : new.numbers ≡ old.numbers
   pub first : new.first ≡ old.first
   pub failing : new.failing ≡ old.failing
+
+-- the next call is one of those that are to fail
+abbrev pub IsListed : Memory → Type 0
+IsListed m = Contains m.failing (length m.entries)
+
+-- a call was entered, so the next one has the next number
+abbrev pub IsNumbered : Memory → Memory → Type 0
+IsNumbered old new = length new.entries ≡ length old.entries + 1
+
+-- a call that failed because it is listed, and has its number, or because there was no memory to enter it, and has none
+abbrev pub IsRefused : Memory → Memory → Type 0
+IsRefused old new = (IsListed old × IsNumbered old new) ⊎ IsUnentered old new
 
 -- what is held, where the first content was kept and a changed one stands beside it
 abbrev pub current : List ℕ → Option (Vec ℕ Global) → List ℕ

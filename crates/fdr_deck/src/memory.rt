@@ -9,7 +9,7 @@ ghost use Rattle.fdr_deck.specs.Moments.{Elapses, EachMoment, IsNow, Within, Wit
 ghost use Rattle.fdr_deck.specs.Pull.{Pulls, KeepsLine};
 ghost use Rattle.fdr_deck.specs.Calls.{Passes, KeepsTold, IsFresh, Succeeds, LeavesDisk, Announces};
 ghost use Rattle.fdr_deck.specs.Announced.{least_of, greatest_of};
-ghost use Rattle.fdr_deck.specs.Memory.{memory_state, memory_tells, held_in, left_in, held_by, current, IsInside, MayStopWithin, IsEntered, IsUnentered, KeepsPulled};
+ghost use Rattle.fdr_deck.specs.Memory.{memory_state, memory_tells, held_in, left_in, held_by, current, IsInside, MayStopWithin, IsEntered, IsUnentered, IsListed, IsNumbered, IsRefused, KeepsPulled};
 ghost use Rattle.fdr_deck.specs.MemorySound.{memory_is_sound};
 ghost use Rattle.fdr_deck.specs.declared.calls.Entry.{Entry};
 ghost use Rattle.fdr_deck.specs.declared.calls.Call.TheVariants.{Pass, Write, FailedWrite, Sync, Provide, FailedProvide};
@@ -61,8 +61,8 @@ impl Model for MemDeck {
 
 impl MemDeck {
     /// A settled deck of this image and this line, of which nothing is pulled yet. The calls whose
-    /// numbers are listed fail. Calls are numbered from 0, and announcements have no number. It
-    /// takes no memory yet.
+    /// numbers are listed fail. Calls are numbered from 0, and announcements have no number; nor has
+    /// a call that finds no memory, which fails and does nothing. It takes no memory yet.
     #[tactic(auto, unfolding(crate::specs::Memory::held_after, crate::specs::Memory::left_after, crate::specs::Memory::AreInside))]
     pub fn new(alloc: Global, image: Vec<u8>, line: Vec<u8>, failing: Vec<u64>) -> MemDeck
         ensures image { held_in result ≡ image.items }
@@ -135,10 +135,9 @@ impl MemDeck {
 
     // Whether the next call is listed.
     fn fails(&self) -> bool
-        ensures { Contains self.now.failing (length self.now.entries) → IsTrue result }
+        ensures { IsTrue result ↔ IsListed self.now }
     {
-        let next = self.entries.len() as u64;
-        self.failing.contains(&next)
+        is_listed(&self.failing, self.entries.len() as u64)
     }
 
     // Enters a call that leaves what the disk holds.
@@ -246,7 +245,9 @@ impl MemDeck {
         ensures taken { self.new.numbers.taken ≡ self.old.numbers.taken }
         ensures before { self.new.numbers.before ≡ self.old.numbers.before }
         ensures disk_faults { self.new.disk_faults ≡ self.old.disk_faults }
-        ensures listed { Contains self.old.failing (length self.old.entries) → IsErr result }
+        ensures listed { IsListed self.old → IsErr result }
+        ensures unlisted { OnErr result (IsRefused self.old self.new) }
+        ensures numbered { OnOk result (IsNumbered self.old self.new) }
     {
         let fails = self.fails();
         let entered = self.enter(Call::Pass).is_ok();
@@ -306,7 +307,9 @@ impl MemDeck {
         ensures disk_faults { OnErr result (self.new.disk_faults ≡ next_count self.old.disk_faults) }
         ensures monotone { self.old.disk_faults ≤ self.new.disk_faults }
         ensures pulled { KeepsPulled self.old self.new }
-        ensures listed { Contains self.old.failing (length self.old.entries) → IsErr result }
+        ensures listed { IsListed self.old → IsErr result }
+        ensures unlisted { OnErr result (IsRefused self.old self.new) }
+        ensures numbered { OnOk result (IsNumbered self.old self.new) }
     {
         if self.fails() {
             return Err(self.fail(Call::Pass));
@@ -393,7 +396,9 @@ impl Deck for MemDeck {
         ensures succeeds { OnOk result (Succeeds (memory_state self.old) (memory_state self.new)) }
         ensures cause { OnErr result (Rose (memory_state self.old).disk_faults (memory_state self.new).disk_faults) }
         ensures moments { EachMoment memory_tells (memory_state self.old) (memory_state self.new) (Within (memory_state self.old) (memory_state self.new)) }
-        ensures listed { Contains self.old.failing (length self.old.entries) → IsErr result }
+        ensures listed { IsListed self.old → IsErr result }
+        ensures unlisted { OnErr result (IsRefused self.old self.new) }
+        ensures numbered { OnOk result (IsNumbered self.old self.new) }
         ensures failing { self.new.failing ≡ self.old.failing }
     {
         self.pass(Call::Pass)?;
@@ -409,7 +414,9 @@ impl Deck for MemDeck {
         ensures succeeds { OnOk result (Succeeds (memory_state self.old) (memory_state self.new)) }
         ensures cause { OnErr result (Rose (memory_state self.old).disk_faults (memory_state self.new).disk_faults) }
         ensures moments { EachMoment memory_tells (memory_state self.old) (memory_state self.new) (WithinProvide size (memory_state self.old) (memory_state self.new)) }
-        ensures listed { Contains self.old.failing (length self.old.entries) → IsErr result }
+        ensures listed { IsListed self.old → IsErr result }
+        ensures unlisted { OnErr result (IsRefused self.old self.new) }
+        ensures numbered { OnOk result (IsNumbered self.old self.new) }
         ensures failing { self.new.failing ≡ self.old.failing }
     {
         if !self.image().is_empty() {
@@ -433,7 +440,9 @@ impl Deck for MemDeck {
         ensures succeeds { OnOk result (Succeeds (memory_state self.old) (memory_state self.new)) }
         ensures cause { OnErr result (Rose (memory_state self.old).disk_faults (memory_state self.new).disk_faults) }
         ensures moments { EachMoment memory_tells (memory_state self.old) (memory_state self.new) (Within (memory_state self.old) (memory_state self.new)) }
-        ensures listed { Contains self.old.failing (length self.old.entries) → IsErr result }
+        ensures listed { IsListed self.old → IsErr result }
+        ensures unlisted { OnErr result (IsRefused self.old self.new) }
+        ensures numbered { OnOk result (IsNumbered self.old self.new) }
         ensures failing { self.new.failing ≡ self.old.failing }
     {
         self.pass(Call::Pass)?;
@@ -450,7 +459,9 @@ impl Deck for MemDeck {
         ensures succeeds { OnOk result (Succeeds (memory_state self.old) (memory_state self.new)) }
         ensures cause { OnErr result (Rose (memory_state self.old).disk_faults (memory_state self.new).disk_faults) }
         ensures moments { EachMoment memory_tells (memory_state self.old) (memory_state self.new) (Within (memory_state self.old) (memory_state self.new)) }
-        ensures listed { Contains self.old.failing (length self.old.entries) → IsErr result }
+        ensures listed { IsListed self.old → IsErr result }
+        ensures unlisted { OnErr result (IsRefused self.old self.new) }
+        ensures numbered { OnOk result (IsNumbered self.old self.new) }
         ensures failing { self.new.failing ≡ self.old.failing }
     {
         let at = at as usize;
@@ -471,7 +482,9 @@ impl Deck for MemDeck {
         ensures succeeds { OnOk result (Succeeds (memory_state self.old) (memory_state self.new)) }
         ensures cause { OnErr result (Rose (memory_state self.old).disk_faults (memory_state self.new).disk_faults) }
         ensures moments { EachMoment memory_tells (memory_state self.old) (memory_state self.new) (Within (memory_state self.old) (memory_state self.new)) }
-        ensures listed { Contains self.old.failing (length self.old.entries) → IsErr result }
+        ensures listed { IsListed self.old → IsErr result }
+        ensures unlisted { OnErr result (IsRefused self.old self.new) }
+        ensures numbered { OnOk result (IsNumbered self.old self.new) }
         ensures failing { self.new.failing ≡ self.old.failing }
     {
         self.pass(Call::Sync)?;
@@ -501,13 +514,22 @@ impl Deck for MemDeck {
         ensures fresh { OnOk result (IsFresh (memory_state self.new)) }
         ensures time { Elapses memory_tells (memory_state self.old) (memory_state self.new) }
         ensures moments { EachMoment memory_tells (memory_state self.old) (memory_state self.new) (Within (memory_state self.old) (memory_state self.new)) }
-        ensures listed { Contains self.old.failing (length self.old.entries) → IsErr result }
+        ensures listed { IsListed self.old → IsErr result }
+        ensures unlisted { OnErr result (IsRefused self.old self.new) }
+        ensures numbered { OnOk result (IsNumbered self.old self.new) }
         ensures failing { self.new.failing ≡ self.old.failing }
         ensures full { IfOk result (λ n. n ≡ min (length self.old.line) (length buf.new)) }
     {
         self.pass_pull()?;
         Ok(self.take_next(buf))
     }
+}
+
+// Whether this call is one of those that fail.
+fn is_listed(failing: &[u64], call: u64) -> bool
+    ensures { IsTrue result ↔ Contains failing.now call }
+{
+    failing.contains(&call)
 }
 
 // Takes what the disk holds, or a copy of it where it was never changed.

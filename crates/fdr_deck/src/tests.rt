@@ -1,4 +1,4 @@
-use crate::sample::put_marked;
+use crate::sample::{count_set, put_marked};
 use crate::{Deck, MemDeck, SureDeck, Tear};
 use fdr_io::Failed;
 use std::alloc::Global;
@@ -108,6 +108,7 @@ fn a_record_is_marked_once_it_is_durable(rt: HostRuntime) -> Result<(), Fail> {
     let mut deck = MemDeck::new(alloc, image, Vec::new(alloc), Vec::new(alloc));
     assert_eq!(rt; put_marked(&mut deck, 1, &[5, 6]), Ok(()));
     assert_eq!(rt; deck.image(), [0, 1, 5, 6].as_slice());
+    assert_eq!(rt; count_set(&mut deck, 4), Ok(3));
     assert!(rt; leaves(alloc, &deck, 2, Tear::Fill(9), &[0, 9, 5, 6])?);
     Ok(())
 }

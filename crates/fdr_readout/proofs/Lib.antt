@@ -1,2 +1,17 @@
 pub mod SoFarLemmas
 pub mod Lines
+pub mod PackedWords
+pub mod FieldsApart
+pub mod SlotPlaces
+pub mod RecordedWords
+pub mod PartsApart
+pub mod PiecesBack
+pub mod SlotKinds
+pub mod Recorded
+pub mod RecordedRows
+pub mod StreamFrames
+pub mod StreamRows
+pub mod ReadsBack
+pub mod FirstRows
+pub mod FirstOccurrences
+pub mod FirstTables

@@ -14,6 +14,8 @@ use std::alloc::Global;
 /// What the program is asked to do.
 #[derive(Debug, Drop)]
 pub enum Request {
+    /// `stream TABLE`: sample a trace of bus words into a stream of frames.
+    StreamLine { table: PathText },
     /// `listbits TABLE`: list the frames of a line of bits.
     ListBits { table: PathText },
 }
@@ -44,6 +46,7 @@ impl Request {
         ensures { option_map (λ path. path.now) result ≡ table_path (form_of_request self.now) }
     {
         match self {
+            Request::StreamLine { table } => Some(table.text()),
             Request::ListBits { table } => Some(table.text()),
         }
     }
@@ -53,6 +56,7 @@ impl Request {
         ensures { option_map (λ path. path.now) result ≡ image_path (form_of_request self.now) }
     {
         match self {
+            Request::StreamLine { .. } => None,
             Request::ListBits { .. } => None,
         }
     }
@@ -62,6 +66,7 @@ impl Request {
         ensures { result ≡ writes_image (form_of_request self.now) }
     {
         match self {
+            Request::StreamLine { .. } => false,
             Request::ListBits { .. } => false,
         }
     }
@@ -98,6 +103,10 @@ pub fn read_words(alloc: Global, words: &[String]) -> Result<Request, WordsFault
     let [command, table] = words else {
         return Err(WordsFault::Usage);
     };
+    if command.as_str() == "stream" {
+        let table = PathText::new(alloc, table.as_str())?;
+        return Ok(Request::StreamLine { table });
+    }
     if command.as_str() != "listbits" {
         return Err(WordsFault::Usage);
     }
@@ -111,21 +120,24 @@ mod tests {
     use std::test::Fail;
 
     #[test]
-    fn reads_the_words_of_a_listing(rt: HostRuntime) -> Result<(), Fail> {
-        let words = [
-            "listbits".to_string(rt.alloc())?,
-            "t1.csv".to_string(rt.alloc())?,
-        ];
-        let request = read_words(rt.alloc(), &words)?;
-        assert_eq!(rt; request.table(), Some("t1.csv"));
-        assert_eq!(rt; request.image(), None);
-        assert!(rt; !request.writes());
+    fn reads_the_words_of_each_form(rt: HostRuntime) -> Result<(), Fail> {
+        for (command, streams) in [("stream", true), ("listbits", false)] {
+            let words = [
+                command.to_string(rt.alloc())?,
+                "t1.csv".to_string(rt.alloc())?,
+            ];
+            let request = read_words(rt.alloc(), &words)?;
+            assert_eq!(rt; matches!(&request, Request::StreamLine { .. }), streams);
+            assert_eq!(rt; request.table(), Some("t1.csv"));
+            assert_eq!(rt; request.image(), None);
+            assert!(rt; !request.writes());
+        }
         Ok(())
     }
 
     #[test]
     fn refuses_other_words(rt: HostRuntime) -> Result<(), Fail> {
-        let cases: [&[&str]; 7] = [
+        let cases: [&[&str]; 9] = [
             &[],
             &["listbits"],
             &["listbits", "t1.csv", "more"],
@@ -133,6 +145,8 @@ mod tests {
             &["listbits", "-"],
             &["--help", "t1.csv"],
             &["list", "t1.csv"],
+            &["stream"],
+            &["streams", "t1.csv"],
         ];
         for case in cases {
             let mut words = Vec::new(rt.alloc());

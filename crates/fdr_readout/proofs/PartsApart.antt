@@ -1,0 +1,94 @@
+-- A part of a slot's word reads back, where each other part of the word stands apart from it.
+use Rattle.std.proofs.Common.{◌≡◌, ℕ, ◌+◌, ◌/◌, ◌%◌, ◌^◌, ◌<◌, ◌≤◌, ◌⊎◌, zero, suc, List, [], ◌∷◌, fold, length, get_or, sym, ap, ◌∙◌, subst, inl, inr, ⊎_elim, arith}
+use Rattle.std.specs.Prelude.{All, AllPairs, Contains}
+use Rattle.std.proofs.lemmas.Nat.{mod_below, pow_pos}
+use Rattle.std.proofs.lemmas.Bool.{cases_order}
+use Rattle.std.proofs.lemmas.List.{get_or_default}
+use Rattle.std.proofs.lemmas.List.Elements.{All-head, All-tail}
+use Rattle.fdr_bits.specs.Fields.{field_of}
+use Rattle.fdr_bits.proofs.FieldLemmas.{field_of-with_field}
+use Rattle.fdr_layout.specs.declared.slots.SlotPart.{SlotPart}
+use Rattle.fdr_layout.specs.Samples.{Part}
+use Rattle.fdr_sampler.specs.SlotWord.{piece_of, with_part, data_of}
+use Rattle.fdr_readout.specs.Recordable.{AreApart}
+use Rattle.fdr_readout.proofs.FieldsApart.{field_of-with_field_apart}
+
+-- in the same slot b is a itself, or shares no bit with it
+pub record IsOther (a b : SlotPart) : Type 0 where
+  pub slot : b.part.at / 12 ≡ a.part.at / 12
+  pub apart : (b ≡ a) ⊎ AreApart a b
+
+-- the word has the part's piece of its sample's raw value
+pub Carries : (ℕ → ℕ) → SlotPart → ℕ → Type 0
+Carries value a word = field_of word (a.part.at % 12) a.part.width ≡ piece_of (value a.sample) a.part
+
+piece_fits : (raw : ℕ) (p : Part) → piece_of raw p < 2 ^ p.width
+piece_fits raw p = mod_below (raw / 2 ^ p.shift) (2 ^ p.width) (pow_pos p.width)
+
+-- what is written reads back
+carries_itself : (value : ℕ → ℕ) (word : ℕ) (a : SlotPart) → Carries value a (with_part value word a)
+unfolding Carries
+carries_itself value word a = field_of-with_field word (a.part.at % 12) a.part.width (piece_of (value a.sample) a.part) (piece_fits (value a.sample) a.part)
+
+-- parts that stand apart in one slot share no bit of its word
+bits_apart : (a b : SlotPart) → b.part.at / 12 ≡ a.part.at / 12 → AreApart a b →
+    (a.part.at % 12 + a.part.width ≤ b.part.at % 12) ⊎ (b.part.at % 12 + b.part.width ≤ a.part.at % 12)
+bits_apart a b slot apart =
+    ⊎_elim
+    (λ (below : a.part.at + a.part.width ≤ b.part.at). inl (omega arith))
+    (λ (above : b.part.at + b.part.width ≤ a.part.at). inr (omega arith))
+    apart
+
+-- a further part changes no piece that the word has
+carries_still : (value : ℕ → ℕ) (word : ℕ) (a b : SlotPart) → IsOther a b → Carries value a word → Carries value a (with_part value word b)
+unfolding Carries
+carries_still value word a b other carries =
+    ⊎_elim
+    (λ (same : b ≡ a). subst (λ (x : SlotPart). Carries value a (with_part value word x)) (sym same) (carries_itself value word a))
+    (λ (apart : AreApart a b).
+    field_of-with_field_apart word (b.part.at % 12) b.part.width (piece_of (value b.sample) b.part) (a.part.at % 12) a.part.width (piece_fits (value b.sample) b.part) (bits_apart a b other.slot apart)
+    ∙ carries)
+    other.apart
+
+-- nor do several of them
+carries_on : (value : ℕ → ℕ) (a : SlotPart) (parts : List SlotPart) (word : ℕ) → All (IsOther a) parts → Carries value a word → Carries value a (fold (with_part value) word parts)
+carries_on value a [] word others carries = carries
+carries_on value a (b ∷ parts) word others carries =
+    carries_on value a parts (with_part value word b) (All-tail (IsOther a) b parts others)
+    (carries_still value word a b (All-head (IsOther a) b parts others) carries)
+
+-- once the part itself was written, the word has its piece
+carries_from : (value : ℕ → ℕ) (a : SlotPart) (parts : List SlotPart) (word k : ℕ) → All (IsOther a) parts → k < length parts → get_or parts k a ≡ a → Carries value a (fold (with_part value) word parts)
+carries_from value a [] word k others within is = absurd (omega arith)
+carries_from value a (b ∷ parts) word zero others within is =
+    carries_on value a parts (with_part value word b) (All-tail (IsOther a) b parts others)
+    (subst (λ (x : SlotPart). Carries value a (with_part value word x)) (sym is) (carries_itself value word a))
+carries_from value a (b ∷ parts) word (suc k) others within is =
+    carries_from value a parts (with_part value word b) k (All-tail (IsOther a) b parts others) (omega arith) is
+
+-- a word of data has each of its parts' pieces
+pub data_carries : (value : ℕ → ℕ) (a : SlotPart) (parts : List SlotPart) → All (IsOther a) parts → Contains parts a →
+    data_of value parts / 2 ^ (a.part.at % 12) % 2 ^ a.part.width ≡ piece_of (value a.sample) a.part
+unfolding Carries
+data_carries value a parts others here = carries_from value a parts 0 here.0 others here.1 here.2
+
+two_apart : (parts : List SlotPart) (i j : ℕ) (x y d : SlotPart) → AllPairs AreApart parts → i < j → j < length parts → get_or parts i d ≡ x → get_or parts j d ≡ y → AreApart x y
+two_apart parts i j x y d apart before within is_x is_y =
+    subst (λ (u : SlotPart). AreApart x u) is_y (subst (λ (u : SlotPart). AreApart u (get_or parts j d)) is_x (apart i j d before within))
+
+turned : (a b : SlotPart) → AreApart a b → AreApart b a
+turned a b apart = ⊎_elim (λ below. inr below) (λ above. inl above) apart
+
+-- parts of which each two stand apart are the same or apart
+pub same_or_apart : (parts : List SlotPart) (a b : SlotPart) → AllPairs AreApart parts → Contains parts a → Contains parts b → (b ≡ a) ⊎ AreApart a b
+same_or_apart parts a b apart at_a at_b =
+    let i = at_a.0 in
+    let j = at_b.0 in
+    let b_is : get_or parts j a ≡ b = get_or_default parts j a b at_b.1 ∙ at_b.2 in
+    ⊎_elim
+    (λ (same : i ≡ j). inl (sym b_is ∙ ap (λ k. get_or parts k a) (sym same) ∙ at_a.2))
+    (λ other. ⊎_elim
+    (λ (before : i < j). inr (two_apart parts i j a b a apart before at_b.1 at_a.2 b_is))
+    (λ (after : j < i). inr (turned b a (two_apart parts j i b a a apart after at_a.1 b_is at_a.2)))
+    other)
+    (cases_order i j)

@@ -1,0 +1,105 @@
+-- Each piece of a sample's raw value reads back from the word of its slot, and the pieces make up the value.
+use Rattle.std.proofs.Common.{◌≡◌, ℕ, ◌+◌, ◌-◌, ◌*◌, ◌/◌, ◌%◌, ◌^◌, ◌<◌, ◌==◌, List, [], ◌∷◌, get_or, sum_by, Some, refl, sym, ap, ◌∙◌, subst, arith}
+use Rattle.std.specs.Prelude.{All, Contains, slice_get, Option, None}
+use Rattle.std.specs.Option.{option_map_or}
+use Rattle.std.specs.List.{range_with_len, enumerate_from}
+use Rattle.std.proofs.lemmas.Nat.{mod_below, pow_pos}
+use Rattle.std.proofs.lemmas.Bool.{eq-eqb}
+use Rattle.std.proofs.lemmas.Option.{slice_get-get_or}
+use Rattle.std.proofs.lemmas.List.Elements.{All-head, All-tail, All-contains, All-contains_itself, All-filter, All-weaker}
+use Rattle.std.proofs.lemmas.List.Sums.{sum_by-cons}
+use Rattle.fdr_bus.specs.declared.BusRecord.{BusRecord}
+use Rattle.fdr_table.specs.Rows.{ParamRow, TableRows}
+use Rattle.fdr_layout.specs.declared.slots.SlotPart.{SlotPart}
+use Rattle.fdr_layout.specs.Samples.{frame_bits, Part, Sample, samples, ending_at, ending_among, ending_in}
+use Rattle.fdr_layout.specs.SlotParts.{numbered, parts_among, all_parts, parts_at, parts_of_slot, parts_in}
+use Rattle.fdr_layout.proofs.Endings.{pieces_hold}
+use Rattle.fdr_layout.proofs.SlotLemmas.{parts_of_slot_hold}
+use Rattle.fdr_sampler.specs.Held.{Source, source_of, held_record, raw_of, raw_value, first_slot}
+use Rattle.fdr_sampler.specs.SlotWord.{numbered_value, piece_of, data_word}
+use Rattle.fdr_sampler.proofs.Lists.{Contains-map, Contains-filter, Contains-flat_map, Contains-range, Contains-enumerate}
+use Rattle.fdr_sampler.proofs.SlotFacts.{parts_of_slot_in}
+use Rattle.fdr_sampler.proofs.Standing.{numbered_value_at}
+use Rattle.fdr_readout.specs.Recordable.{IsPlaced, IsRecordable}
+use Rattle.fdr_readout.proofs.PartsApart.{IsOther, data_carries, same_or_apart}
+
+-- part p of sample n
+abbrev pub part_of : ℕ → Part → SlotPart
+part_of n p = record { sample = n; part = p }
+
+-- each part of a sample is among all parts, and among those of its slot
+pub all_parts-contain : (t : TableRows) (n : ℕ) (s : Sample) (p : Part) → slice_get (samples t) n ≡ Some s → Contains s.parts p → Contains (all_parts t) (part_of n p)
+unfolding parts_among
+all_parts-contain t n s p got here =
+    let e : ℕ × Sample = (n, s) in
+    Contains-flat_map (λ (e : ℕ × Sample). numbered e.0 e.1.parts) (enumerate_from 0 (samples t)) e (part_of n p) (Contains-enumerate (samples t) n s got) (Contains-map (part_of n) s.parts p here)
+
+parts_in-contain : (t : TableRows) (a : SlotPart) → Contains (all_parts t) a → Contains (parts_in t (a.part.at / 12)) a
+unfolding parts_of_slot
+parts_in-contain t a here =
+    let k = a.part.at / 12 in
+    Contains-flat_map (parts_at (all_parts t)) (range_with_len (12 * k) 12) a.part.at a (Contains-range (12 * k) 12 a.part.at (omega arith) (omega arith))
+    (Contains-filter (λ (b : SlotPart). b.part.at == a.part.at) (all_parts t) a (eq-eqb a.part.at a.part.at refl) here)
+
+-- the parts of a slot share no bit
+others_in_slot : (t : TableRows) (a : SlotPart) → IsRecordable t → Contains (all_parts t) a → All (IsOther a) (parts_in t (a.part.at / 12))
+others_in_slot t a h here =
+    let k = a.part.at / 12 in
+    let among : All (Contains (all_parts t)) (parts_in t k) = parts_of_slot_hold (Contains (all_parts t)) (all_parts t) k (All-contains_itself (all_parts t)) in
+    let within : All (λ (b : SlotPart). b.part.at / 12 ≡ k) (parts_in t k) = parts_of_slot_in (all_parts t) k in
+    λ i d l. record { slot = within i d l; apart = same_or_apart (all_parts t) a (get_or (parts_in t k) i d) h.apart here (among i d l) }
+
+-- the word of data of a part's slot has the part's piece of the raw value
+pub data_word-piece : (t : TableRows) (records : List BusRecord) (start n : ℕ) (s : Sample) (p : Part) → IsRecordable t → slice_get (samples t) n ≡ Some s → Contains s.parts p →
+    data_word t records start (p.at / 12) / 2 ^ (p.at % 12) % 2 ^ p.width ≡ piece_of (raw_value t records start s) p
+data_word-piece t records start n s p h got here =
+    let a = part_of n p in
+    let in_all = all_parts-contain t n s p got here in
+    data_carries (numbered_value t records start) a (parts_in t (p.at / 12)) (others_in_slot t a h in_all) (parts_in-contain t a in_all)
+    ∙ ap (λ raw. piece_of raw p) (numbered_value_at t records start n s got)
+
+-- a part of a sample lies in one word of data
+pub part_placed : (t : TableRows) (n : ℕ) (s : Sample) (p : Part) → IsRecordable t → slice_get (samples t) n ≡ Some s → Contains s.parts p → IsPlaced t.frame p
+part_placed t n s p h got here = All-contains (λ (a : SlotPart). IsPlaced t.frame a.part) (all_parts t) (part_of n p) h.placed (all_parts-contain t n s p got here)
+
+-- ---- the raw value
+
+-- a raw value is below 2 to the power of its width
+raw_of-below : (s : Source) (held : Option BusRecord) → raw_of s held < 2 ^ s.width
+raw_of-below s None = pow_pos s.width
+raw_of-below s (Some r) = mod_below (r.word / 2 ^ (s.lsb - 1)) (2 ^ s.width) (pow_pos s.width)
+
+raw_value-below : (t : TableRows) (records : List BusRecord) (start : ℕ) (s : Sample) (p : ParamRow) → slice_get t.params s.param ≡ Some p → raw_value t records start s < 2 ^ p.width
+unfolding raw_value
+raw_value-below t records start s p got =
+    subst (λ (o : Option ParamRow). option_map_or (λ (p : ParamRow). raw_of (source_of p) (held_record t.frame.words (source_of p) records (start + first_slot s))) o 0 < 2 ^ p.width) (sym got)
+    (raw_of-below (source_of p) (held_record t.frame.words (source_of p) records (start + first_slot s)))
+
+sum_by-agree : {X : Type 0} (f g : X → ℕ) (xs : List X) → All (λ x. f x ≡ g x) xs → sum_by f xs ≡ sum_by g xs
+sum_by-agree f g [] same = refl
+sum_by-agree f g (x ∷ xs) same =
+    let here : f x ≡ g x = All-head (λ y. f y ≡ g y) x xs same in
+    let rest : sum_by f xs ≡ sum_by g xs = sum_by-agree f g xs (All-tail (λ y. f y ≡ g y) x xs same) in
+    sum_by-cons f x xs ∙ ap (λ n. n + sum_by f xs) here ∙ ap (λ n. g x + n) rest ∙ sym (sum_by-cons g x xs)
+
+-- bits of parts that are the pieces of a sample's raw value make it up
+pub pieces_make_up : (t : TableRows) (records : List BusRecord) (start n : ℕ) (s : Sample) (bits : Part → ℕ) → IsRecordable t → slice_get (samples t) n ≡ Some s →
+    All (λ (p : Part). bits p ≡ piece_of (raw_value t records start s) p) s.parts → sum_by (λ (p : Part). bits p * 2 ^ p.shift) s.parts ≡ raw_value t records start s
+pieces_make_up t records start n s bits h got each =
+    let raw = raw_value t records start s in
+    let param = h.whole n s got in
+    sum_by-agree (λ (p : Part). bits p * 2 ^ p.shift) (λ (p : Part). piece_of raw p * 2 ^ p.shift) s.parts
+    (All-weaker (λ (p : Part). bits p ≡ piece_of raw p) (λ (p : Part). bits p * 2 ^ p.shift ≡ piece_of raw p * 2 ^ p.shift) (λ p is. ap (λ b. b * 2 ^ p.shift) is) s.parts each)
+    ∙ param.2 raw (raw_value-below t records start s param.0 param.1)
+
+-- ---- a sample that ends in a cycle is one of the table's
+
+pub ending_in-samples : (t : TableRows) (cycle : ℕ) → All (Contains (samples t)) (ending_in t cycle)
+unfolding ending_in ending_among
+ending_in-samples t cycle =
+    let w = t.frame.words in
+    pieces_hold (Contains (samples t)) (ending_at (samples t)) (frame_bits w * cycle) (frame_bits w)
+    (λ x low high. All-filter _ (Contains (samples t)) (samples t) (All-contains_itself (samples t)))
+
+pub contained_get : {X : Type 0} (xs : List X) (x : X) (at : Contains xs x) → slice_get xs at.0 ≡ Some x
+contained_get xs x at = slice_get-get_or xs at.0 x at.1 ∙ ap Some at.2

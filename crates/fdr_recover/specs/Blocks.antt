@@ -1,0 +1,65 @@
+-- Blocks with consecutive numbers, in slots that are used in turn.
+use Rattle.std.specs.Prelude.{◌≡◌, ◌<◌, ◌≤◌, ℕ, zero, suc, ◌+◌, ◌%◌, ◌==◌, max, if◌then◌else◌, List, [], ◌∷◌, ◌++◌, length, All, Option, Some, None, ⊤}
+
+pub record Block : Type 0 where
+  pub number : ℕ
+  pub payload : List ℕ
+
+-- what each slot holds
+abbrev pub Slots : Type 0
+Slots = ℕ → Option Block
+
+-- of n slots, the block's own holds it
+abbrev pub Stands : ℕ → Slots → Block → Type 0
+Stands n slots b = slots (b.number % n) ≡ Some b
+
+-- the numbers go up by one, from the first
+abbrev pub IsNumbered : ℕ → List Block → Type 0
+IsNumbered first [] = ⊤
+IsNumbered first (b ∷ bs) = (b.number ≡ first) × IsNumbered (first + 1) bs
+
+-- one more than the greatest number that stands, or 0 where none does
+pub record IsNext (n : ℕ) (slots : Slots) (next : ℕ) : Type 0 where
+  pub above : (b : Block) → Stands n slots b → b.number < next
+  pub stands : 0 < next → (b : Block) × (Stands n slots b × (b.number + 1 ≡ next))
+
+-- blocks that stand, with consecutive numbers, of which the last is the greatest that stands
+pub record IsRun (n : ℕ) (slots : Slots) (run : List Block) : Type 0 where
+  pub first : ℕ
+  pub numbered : IsNumbered first run
+  pub stand : All (Stands n slots) run
+  pub next : IsNext n slots (first + length run)
+
+-- the longest of such lists
+pub record IsLongestRun (n : ℕ) (slots : Slots) (run : List Block) : Type 0 where
+  pub is_run : IsRun n slots run
+  pub longest : (other : List Block) → IsRun n slots other → length other ≤ length run
+
+-- one more than the number of a slot's block, or 0
+abbrev pub number_after : Option Block → ℕ
+number_after None = 0
+number_after (Some b) = b.number + 1
+
+-- one more than the greatest number in the first slots, or 0
+abbrev pub next_among : ℕ → Slots → ℕ
+next_among zero slots = 0
+next_among (suc i) slots = max (next_among i slots) (number_after (slots i))
+
+-- the block, where it has this number
+abbrev pub numbered : ℕ → Option Block → Option Block
+numbered number None = None
+numbered number (Some b) = if b.number == number then Some b else None
+
+-- the block with this number, where its slot holds it
+abbrev pub standing : ℕ → Slots → ℕ → Option Block
+standing n slots number = numbered number (slots (number % n))
+
+-- these blocks and the one behind them, or none where it isn't there
+abbrev pub continued : List Block → Option Block → List Block
+continued earlier None = []
+continued earlier (Some b) = earlier ++ b ∷ []
+
+-- the blocks below a number, down to the first that doesn't stand
+abbrev pub run_below : ℕ → Slots → ℕ → List Block
+run_below n slots zero = []
+run_below n slots (suc number) = continued (run_below n slots number) (standing n slots number)

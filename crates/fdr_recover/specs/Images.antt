@@ -1,0 +1,56 @@
+-- The blocks of an image with a given header.
+use Rattle.std.specs.Prelude.{ℕ, ◌+◌, if◌then◌else◌, List, [], slice_range, Option, Some, None}
+use Rattle.fdr_slot.specs.declared.image.Header.{Header}
+use Rattle.fdr_slot.specs.declared.head.SlotHead.{SlotHead}
+use Rattle.fdr_slot.specs.Places.{slot_at}
+use Rattle.fdr_slot.specs.Heads.{head_of, is_valid}
+use Rattle.fdr_recover.specs.Blocks.{Block, IsNext, IsLongestRun, next_among, standing, run_below}
+
+-- the head of slot i
+unfoldable pub head_at : Header → List ℕ → ℕ → SlotHead
+head_at h image i = head_of (slice_range image (slot_at h i) (slot_at h i + 16))
+
+-- the first n bytes behind the head of slot i
+unfoldable pub bytes_in : Header → List ℕ → ℕ → ℕ → List ℕ
+bytes_in h image i n = slice_range image (slot_at h i + 16) (slot_at h i + 16 + n)
+
+-- the block with this head in slot i
+abbrev pub block_of : Header → List ℕ → ℕ → SlotHead → Block
+block_of h image i head = record { number = head.seq; payload = bytes_in h image i head.len }
+
+-- the block that slot i holds, where it is valid
+unfoldable pub block_in : Header → List ℕ → ℕ → Option Block
+block_in h image i =
+    if is_valid h i (head_at h image i) then Some (block_of h image i (head_at h image i)) else None
+
+-- the block with this number, where its slot holds it
+unfoldable pub block_at : Header → List ℕ → ℕ → Option Block
+block_at h image number = standing h.slots (block_in h image) number
+
+-- its bytes, or none
+abbrev pub payload_of : Option Block → List ℕ
+payload_of None = []
+payload_of (Some b) = b.payload
+
+abbrev pub payload_at : Header → List ℕ → ℕ → List ℕ
+payload_at h image number = payload_of (block_at h image number)
+
+-- one more than the greatest number in a valid slot, or 0 where no slot is valid
+unfoldable pub next_of : Header → List ℕ → ℕ
+next_of h image = next_among h.slots (block_in h image)
+
+-- that number as a fact
+abbrev pub IsNextNumber : Header → List ℕ → ℕ → Type 0
+IsNextNumber h image next = IsNext h.slots (block_in h image) next
+
+-- the blocks below a number, down to the first that no slot holds
+unfoldable pub blocks_below : Header → List ℕ → ℕ → List Block
+blocks_below h image number = run_below h.slots (block_in h image) number
+
+-- the longest list of blocks with consecutive numbers that ends at the greatest
+abbrev pub IsRecovered : Header → List ℕ → List Block → Type 0
+IsRecovered h image run = IsLongestRun h.slots (block_in h image) run
+
+-- the recovered run
+abbrev pub recovered_run : Header → List ℕ → List Block
+recovered_run h image = blocks_below h image (next_of h image)

@@ -1,0 +1,78 @@
+// What the slots of a deck's disk hold.
+ghost use Rattle.std.specs.Prelude.{◌≡◌, ℕ, ◌+◌, ◌%◌, ◌<◌, ◌≤◌, ◌^◌, ◌↔◌, IfOk, OnOk, OnErr, IsTrue, IsSome};
+ghost use Rattle.fdr_io.specs.Faults.{Rose};
+ghost use Rattle.fdr_deck.specs.Calls.{Succeeds};
+ghost use Rattle.fdr_slot.specs.Limits.{IsInLimits};
+ghost use Rattle.fdr_slot.specs.Places.{image_size};
+ghost use Rattle.fdr_recover.specs.Blocks.{number_after};
+ghost use Rattle.fdr_recover.specs.Images.{head_at, block_in, block_at};
+ghost use Rattle.fdr_recover.specs.Looks.{Looks};
+
+use fdr_deck::Deck;
+use fdr_io::Failed;
+use fdr_slot::{Header, SlotHead, is_valid, read_slot, slot_at};
+
+/// The slot of the block with a number.
+pub fn slot_of(h: &Header, seq: u64) -> u32
+    requires { IsInLimits h.now }
+    ensures slot { result ≡ seq % h.now.slots }
+    ensures exists { result < h.now.slots }
+{
+    (seq % u64::from(h.slots)) as u32
+}
+
+/// The head of a slot.
+#[tactic(auto, using(crate::proofs::Placing::slot_within), unfolding(crate::specs::Images::head_at))]
+pub fn head_in<D: Deck>(deck: &mut D, h: &Header, slot: u32) -> Result<SlotHead, Failed>
+    requires limits { IsInLimits h.now }
+    requires exists { slot < h.now.slots }
+    requires whole { image_size h.now ≤ (D.state deck.old).extent }
+    ensures head { IsTrue D.tells.bytes → IfOk result (λ head. head ≡ head_at h.now (D.state deck.old).held slot) }
+    ensures looks { Looks D.tells (D.state deck.old) (D.state deck.new) }
+    ensures succeeds { OnOk result (Succeeds (D.state deck.old) (D.state deck.new)) }
+    ensures cause { OnErr result (Rose (D.state deck.old).disk_faults (D.state deck.new).disk_faults) }
+    ensures rest { D.same_rest deck.old deck.new }
+{
+    let mut bytes = [0; 16];
+    deck.read(slot_at(h, slot), &mut bytes)?;
+    Ok(read_slot(&bytes))
+}
+
+/// One more than the number of the block in a slot, or 0 where it holds none.
+#[tactic(auto, using(crate::proofs::BlockLemmas::numbers_after))]
+pub fn number_after<D: Deck>(deck: &mut D, h: &Header, slot: u32) -> Result<u64, Failed>
+    requires limits { IsInLimits h.now }
+    requires exists { slot < h.now.slots }
+    requires whole { image_size h.now ≤ (D.state deck.old).extent }
+    ensures number { IsTrue D.tells.bytes
+        → IfOk result (λ n. n ≡ number_after (block_in h.now (D.state deck.old).held slot)) }
+    ensures bound { IfOk result (λ n. n ≤ 2 ^ 48) }
+    ensures looks { Looks D.tells (D.state deck.old) (D.state deck.new) }
+    ensures succeeds { OnOk result (Succeeds (D.state deck.old) (D.state deck.new)) }
+    ensures cause { OnErr result (Rose (D.state deck.old).disk_faults (D.state deck.new).disk_faults) }
+    ensures rest { D.same_rest deck.old deck.new }
+{
+    let head = head_in(deck, h, slot)?;
+    Ok(if is_valid(&head, h, slot) {
+        head.seq + 1
+    } else {
+        0
+    })
+}
+
+/// Whether the slot of a number holds the block with this number.
+#[tactic(auto, using(crate::proofs::BlockLemmas::holds_number))]
+pub fn holds<D: Deck>(deck: &mut D, h: &Header, seq: u64) -> Result<bool, Failed>
+    requires limits { IsInLimits h.now }
+    requires fits { seq < 2 ^ 48 }
+    requires whole { image_size h.now ≤ (D.state deck.old).extent }
+    ensures held { IsTrue D.tells.bytes
+        → IfOk result (λ yes. IsTrue yes ↔ IsSome (block_at h.now (D.state deck.old).held seq)) }
+    ensures looks { Looks D.tells (D.state deck.old) (D.state deck.new) }
+    ensures succeeds { OnOk result (Succeeds (D.state deck.old) (D.state deck.new)) }
+    ensures cause { OnErr result (Rose (D.state deck.old).disk_faults (D.state deck.new).disk_faults) }
+    ensures rest { D.same_rest deck.old deck.new }
+{
+    let slot = slot_of(h, seq);
+    Ok(number_after(deck, h, slot)? == seq + 1)
+}

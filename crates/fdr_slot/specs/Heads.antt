@@ -1,0 +1,35 @@
+-- The head of a slot: its first 16 bytes.
+use Rattle.std.specs.Prelude.{◌≡◌, ◌≤◌, ◌<◌, ℕ, ◌%◌, ◌^◌, ◌==◌, Bool, false, ◌&&◌, nat_lt, nat_le, List, ◌∷◌, ◌++◌, drop, IsTrue}
+use Rattle.byteorder.specs.Endian.{big_number, big_bytes}
+use Rattle.fdr_slot.specs.Headers.{has_open_gate}
+use Rattle.fdr_slot.specs.declared.image.Header.{Header}
+use Rattle.fdr_slot.specs.declared.head.SlotHead.{SlotHead}
+
+-- what the bytes of a head say
+unfoldable pub head_of : List ℕ → SlotHead
+head_of bytes = record {
+  gate = has_open_gate bytes;
+  len = big_number 2 (drop 2 bytes);
+  session = big_number 4 (drop 4 bytes);
+  seq = big_number 8 (drop 8 bytes);
+}
+
+-- a head whose gate is closed
+abbrev pub closed_head : ℕ → ℕ → ℕ → SlotHead
+closed_head len session seq = record { gate = false; len = len; session = session; seq = seq }
+
+-- its bytes
+unfoldable pub head_bytes : ℕ → ℕ → ℕ → List ℕ
+head_bytes len session seq = (0 ∷ 0 ∷ big_bytes 2 len) ++ big_bytes 4 session ++ big_bytes 8 seq
+
+-- a slot with this head holds a block
+abbrev pub is_valid : Header → ℕ → SlotHead → Bool
+is_valid h slot head = head.gate && nat_lt head.seq (2 ^ 48) && (head.seq % h.slots == slot) && nat_le 1 head.len && nat_le head.len h.payload
+
+-- the same as facts
+pub record IsValid (h : Header) (slot : ℕ) (head : SlotHead) : Type 0 where
+  pub gate : IsTrue head.gate
+  pub number : head.seq < 2 ^ 48
+  pub place : head.seq % h.slots ≡ slot
+  pub some : 1 ≤ head.len
+  pub fits : head.len ≤ h.payload

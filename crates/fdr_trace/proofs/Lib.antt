@@ -1,0 +1,4 @@
+pub mod Pulling
+pub mod Records
+pub mod Filling
+pub mod Next

@@ -1,0 +1,119 @@
+-- What was pulled of a trace, one pull behind another.
+use Rattle.std.proofs.Common.{◌≡◌, ℕ, ◌+◌, ◌-◌, ◌<◌, ◌≤◌, ⊎_elim, List, [], ◌++◌, length, take, ap, sym, refl, ◌∙◌, subst, append_assoc, length-append, arith}
+use Rattle.std.proofs.lemmas.Bool.{cases_lt}
+use Rattle.std.proofs.lemmas.List.{append-nil, nil_from_length}
+use Rattle.std.proofs.Math.Seq.{take-append-add}
+use Rattle.fdr_bus.specs.Records.{IsDecided}
+use Rattle.fdr_deck.specs.State.{State, Tells}
+use Rattle.fdr_deck.specs.Calls.{LeavesDisk}
+use Rattle.fdr_deck.specs.Pull.{KeepsLine}
+use Rattle.fdr_deck.proofs.Line.{TakesLine-from_keeps, TakesLine-then}
+use Rattle.fdr_trace.specs.Pulls.{Pulled, PullsMore}
+
+LeavesDisk-here : (s : State) → LeavesDisk s s
+LeavesDisk-here s = record {
+  disk = record { held = refl; no_more = λ image may. may; no_less = λ image may. may };
+  extent = refl;
+  disk_faults = refl;
+}
+
+LeavesDisk-then : (a b c : State) → LeavesDisk a b → LeavesDisk b c → LeavesDisk a c
+LeavesDisk-then a b c first second = record {
+  disk = record {
+    held = second.disk.held ∙ first.disk.held;
+    no_more = λ image may. first.disk.no_more image (second.disk.no_more image may);
+    no_less = λ image may. second.disk.no_less image (first.disk.no_less image may);
+  };
+  extent = second.extent ∙ first.extent;
+  disk_faults = second.disk_faults ∙ first.disk_faults;
+}
+
+-- nothing was pulled yet
+pub PullsMore-none : (tells : Tells) (s : State) (bytes : List ℕ) → PullsMore tells s s bytes []
+PullsMore-none tells s bytes = record {
+  takes = TakesLine-from_keeps tells s s (record { line = refl; taken = refl; before = refl });
+  none = λ e. refl;
+  begins = λ some. absurd (omega (arith, some));
+  few = λ some. absurd (omega (arith, some));
+  undecided = λ some. absurd (omega (arith, some));
+  faults = omega arith;
+  disk = LeavesDisk-here s;
+  told = refl;
+}
+
+-- the bytes up to the last pull of two stretches, where the second pulled something
+front_of_both : (bytes more later : List ℕ) (n : ℕ) → length more ≤ n → bytes ++ take n (more ++ later) ≡ (bytes ++ more) ++ take (n - length more) later
+front_of_both bytes more later n from =
+    let is : length more + (n - length more) ≡ n = omega arith in
+    ap (λ k. bytes ++ take k (more ++ later)) (sym is)
+    ∙ ap (λ (x : List ℕ). bytes ++ x) (take-append-add more later (n - length more))
+    ∙ sym (append_assoc bytes more (take (n - length more) later))
+
+nothing_more : (more later : List ℕ) (n : ℕ) → length later ≡ 0 → take n (more ++ later) ≡ take n more
+nothing_more more later n none = ap (λ (x : List ℕ). take n (more ++ x)) (nil_from_length later none) ∙ ap (take n) (append-nil more)
+
+front_none : (taken before : ℕ) → before ≡ taken → before - taken ≡ 0
+front_none taken before same = omega arith
+
+-- one stretch of pulls behind another
+pub PullsMore-then : (tells : Tells) (a b c : State) (bytes more later : List ℕ) → PullsMore tells a b bytes more → PullsMore tells b c (bytes ++ more) later → PullsMore tells a c bytes (more ++ later)
+PullsMore-then tells a b c bytes more later first second = record {
+  takes = TakesLine-then tells a b c more later first.takes second.takes;
+  none = λ e. second.none (omega (arith, length-append more later)) ∙ first.none (omega (arith, length-append more later));
+  begins = λ some. ⊎_elim
+      (λ here. omega (arith, second.begins here, first.takes.taken))
+      (λ none. let same = second.none (omega (arith, none)) in
+      let earlier = first.begins (omega (arith, length-append more later, none)) in omega (arith, same, earlier))
+      (cases_lt 0 (length later));
+  few = λ some. ⊎_elim
+      (λ here. second.few here)
+      (λ none. let same = second.none (omega (arith, none)) in
+      let earlier = first.few (omega (arith, length-append more later, none)) in omega (arith, same, earlier, second.takes.taken, none))
+      (cases_lt 0 (length later));
+  undecided = λ some decided. ⊎_elim
+      (λ here.
+      let begins = second.begins here in
+      let from : length more ≤ c.before - a.taken = omega (arith, begins, first.takes.taken) in
+      let rest : c.before - a.taken - length more ≡ c.before - b.taken = omega (arith, begins, first.takes.taken) in
+      second.undecided here (subst IsDecided (front_of_both bytes more later (c.before - a.taken) from ∙ ap (λ n. (bytes ++ more) ++ take n later) rest) decided))
+      (λ none.
+      let same = second.none (omega (arith, none)) in
+      let some_first : 0 < length more = omega (arith, length-append more later, none) in
+      let begins = first.begins some_first in
+      let few = first.few some_first in
+      first.undecided some_first (subst IsDecided (ap (λ (x : List ℕ). bytes ++ x) (ap (λ n. take n (more ++ later)) (ap (λ n. n - a.taken) same) ∙ nothing_more more later (b.before - a.taken) (omega (arith, none)))) decided))
+      (cases_lt 0 (length later));
+  faults = omega (arith, first.faults, second.faults);
+  disk = LeavesDisk-then a b c first.disk second.disk;
+  told = second.told ∙ first.told;
+}
+
+-- one pull more, where the bytes before it don't decide the trace
+pub PullsMore-pull : (tells : Tells) (a b c : State) (bytes more piece : List ℕ) → PullsMore tells a b bytes more → (IsDecided (bytes ++ more) → ⊥) → Pulled tells b c piece → b.line_faults ≤ c.line_faults → LeavesDisk b c → c.told ≡ b.told →
+    PullsMore tells a c bytes (more ++ piece)
+PullsMore-pull tells a b c bytes more piece first undecided pull faults disk told =
+    PullsMore-then tells a b c bytes more piece first (record {
+      takes = pull.takes;
+      none = pull.none;
+      begins = λ some. omega (arith, pull.began some);
+      few = λ some. omega (arith, pull.began some, pull.takes.taken, pull.few);
+      undecided = λ some decided. undecided (subst IsDecided (ap (λ (x : List ℕ). (bytes ++ more) ++ x) (ap (λ n. take n piece) (front_none b.taken c.before (pull.began some))) ∙ append-nil (bytes ++ more)) decided);
+      faults = faults;
+      disk = disk;
+      told = told;
+    })
+
+-- a pull that failed
+pub PullsMore-kept : (tells : Tells) (a b c : State) (bytes more : List ℕ) → PullsMore tells a b bytes more → KeepsLine b c → b.line_faults ≤ c.line_faults → LeavesDisk b c → c.told ≡ b.told → PullsMore tells a c bytes more
+PullsMore-kept tells a b c bytes more first kept faults disk told =
+    subst (PullsMore tells a c bytes) (append-nil more)
+    (PullsMore-then tells a b c bytes more [] first (record {
+      takes = TakesLine-from_keeps tells b c kept;
+      none = λ e. kept.before;
+      begins = λ some. absurd (omega (arith, some));
+      few = λ some. absurd (omega (arith, some));
+      undecided = λ some. absurd (omega (arith, some));
+      faults = faults;
+      disk = disk;
+      told = told;
+    }))

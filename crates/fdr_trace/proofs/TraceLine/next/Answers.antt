@@ -1,0 +1,63 @@
+use Rattle.std.proofs.Common.{◌≡◌, ℕ, ◌<◌, ◌≢◌, List, ◌++◌, [], length, sym, ◌∙◌, arith}
+use Rattle.std.proofs.lemmas.List.{append-nil}
+use Rattle.fdr_bus.specs.declared.BusRecord.{BusRecord}
+use Rattle.fdr_bus.specs.declared.TraceFault.TheVariants as fault
+use Rattle.fdr_bus.specs.Records.{most_records}
+use Rattle.fdr_deck.specs.State.{State, Tells}
+use Rattle.fdr_trace.specs.Kept.{Kept}
+use Rattle.fdr_trace.specs.Reading.{Reads, IsRefused}
+use Rattle.fdr_trace.proofs.Pulling.{PullsMore-none}
+use Rattle.fdr_trace.proofs.Records.{Reads-few, Reads-many}
+use Rattle.fdr_trace.proofs.Next.{next_of}
+use Rattle.fdr_trace.proofs.TraceLine.next.Goals as goal
+
+many_refused : (tells : Tells) (now : State) (k : Kept) (bytes : List ℕ) (records : List BusRecord) → Reads k bytes records → k.count ≡ 4294967296 → IsRefused tells now (bytes ++ []) records k.count fault.Many
+unfolding most_records
+many_refused tells now k bytes records reads many =
+    let all = Reads-many k bytes records reads many in
+    let same = append-nil bytes in
+    record {
+      good = rw same all.0;
+      first = rw same all.1;
+      end = λ truncated. absurd (cc);
+    }
+
+not_most : (k : Kept) (n : ℕ) → n ≡ k.count → n ≢ 4294967296 → k.count ≢ 4294967296
+not_most k n is not = λ e. not (is ∙ e)
+
+pub returns-then-count-eq-MOST_RECORDS : goal.returns-then-count-eq-MOST_RECORDS
+returns-then-count-eq-MOST_RECORDS g c = λ bytes records reads.
+    ([], PullsMore-none _ _ bytes, rw c.refused.ensures (many_refused _ _ c.args.self.now bytes records reads (sym c.count.ensures ∙ c.if-count-eq-MOST_RECORDS.true)))
+
+pub fill-requires : goal.fill-requires
+fill-requires g c =
+    let r = c.requires in
+    (r.0, r.1, r.2, Reads-few c.args.self.now r.0 r.1 r.2 (not_most c.args.self.now c.count.result c.count.ensures c.if-count-eq-MOST_RECORDS.false))
+
+pub returns-in-Err : goal.returns-in-Err
+returns-in-Err g c = λ bytes records reads.
+    let few = Reads-few c.args.self.now bytes records reads (not_most c.args.self.now c.count.result c.count.ensures c.if-count-eq-MOST_RECORDS.false) in
+    c.in-Err.ensures bytes records reads few
+
+pub read-requires-clause-waits : goal.read-requires-clause-waits
+read-requires-clause-waits g c =
+    let r = c.requires in
+    let few = Reads-few c.args.self.now r.0 r.1 r.2 (not_most c.args.self.now c.count.result c.count.ensures c.if-count-eq-MOST_RECORDS.false) in
+    (c.in-Ok.ensures r.0 r.1 r.2 few).2.waits
+
+few_now : (k : Kept) (bytes : List ℕ) (records : List BusRecord) → Reads k bytes records → length records < most_records → k.count < 4294967296
+unfolding most_records
+few_now k bytes records reads few = omega (arith, few, reads.count)
+
+pub read-requires-clause-few : goal.read-requires-clause-few
+read-requires-clause-few g c =
+    let r = c.requires in
+    let few = Reads-few c.args.self.now r.0 r.1 r.2 (not_most c.args.self.now c.count.result c.count.ensures c.if-count-eq-MOST_RECORDS.false) in
+    let filled = c.in-Ok.ensures r.0 r.1 r.2 few in
+    few_now c.fill.new.self (r.0 ++ filled.0) r.1 filled.2.reads few
+
+pub returns-in-Ok : goal.returns-in-Ok
+returns-in-Ok g c = λ bytes records reads.
+    let few = Reads-few c.args.self.now bytes records reads (not_most c.args.self.now c.count.result c.count.ensures c.if-count-eq-MOST_RECORDS.false) in
+    let filled = c.in-Ok.ensures bytes records reads few in
+    (filled.0, filled.1, next_of _ _ _ c.fill.new.self c.read.new.self (bytes ++ filled.0) records c.read.result filled.2.reads few c.read.ensures.good c.read.ensures.bad)

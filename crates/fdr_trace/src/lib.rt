@@ -1,0 +1,196 @@
+//! The records of a trace, pulled from a deck's line a piece at a time.
+#![tactic(auto)]
+
+ghost use Rattle.std.specs.Prelude.{◌≡◌, ◌<◌, ◌≤◌, ◌+◌, ℕ, List, [], ◌++◌, length, IfOk, IfErr, OnOk, OnErr, MatchResult, IsTrue};
+ghost use Rattle.fdr_io.specs.Faults.{Rose};
+ghost use Rattle.fdr_deck.specs.Calls.{LeavesDisk};
+ghost use Rattle.fdr_deck.specs.Pull.{KeepsLine};
+ghost use Rattle.fdr_bus.specs.Records.{most_records};
+ghost use Rattle.fdr_bus.specs.declared.BusRecord.{BusRecord};
+ghost use Rattle.fdr_trace.specs.Pulls.{Pulled, PullsMore};
+ghost use Rattle.fdr_trace.specs.Reading.{Reads, IsNext, IsStopped, IsFilled, TakesRecord, RefusesRecord};
+
+use circular_buffer::HeapCircularBuffer;
+use fdr_bus::{BusRecord, TraceFault, parse};
+use fdr_deck::Deck;
+use fdr_io::Failed;
+use std::alloc::{AllocError, Global};
+use std::marker::Model;
+
+/// The most good records that a trace has.
+pub const MOST_RECORDS: u64 = 4_294_967_296;
+
+/// How many bytes a record has.
+const RECORD: usize = 16;
+
+/// How many bytes are pulled at a time, at most.
+const PIECE: usize = 4096;
+
+/// Why no further record of a trace comes.
+#[derive(Clone, Copy, Debug, PartialEq, Eq)]
+pub enum TraceStop {
+    /// The record after so many good ones isn't good.
+    Refused { index: u64, fault: TraceFault },
+    /// The line couldn't be read: its count of faults rose.
+    Failed,
+}
+
+/// Reads the records of a trace from a deck's line. It keeps less than a record beside the piece that was pulled last.
+#[derive(Drop)]
+pub struct TraceLine {
+    waiting: HeapCircularBuffer<u8>,
+    time: u64,
+    count: u64,
+}
+
+impl Model for TraceLine {
+    ghost use Rattle.fdr_trace.specs.Kept.{Kept, IsKept};
+
+    ghost Value = { Kept };
+
+    ghost use Rattle.fdr_trace.specs.View.{kept_of};
+
+    ghost view = { kept_of };
+
+    ghost invariant = { λ t. IsKept (kept_of t) t.waiting.capacity };
+}
+
+impl TraceLine {
+    /// Makes room for a piece of a trace. Fails only where memory ends; no other call here takes any.
+    pub fn new(alloc: Global) -> Result<TraceLine, AllocError>
+        ensures { IfOk result (λ trace. Reads trace [] []) }
+    {
+        let waiting = HeapCircularBuffer::with_capacity(alloc, RECORD + PIECE)?;
+        Ok(TraceLine {
+            waiting,
+            time: 0,
+            count: 0,
+        })
+    }
+
+    /// The next record of the trace, which may be its end. It pulls only where less than a record waits.
+    pub fn next<D: Deck>(&mut self, deck: &mut D) -> Result<BusRecord, TraceStop>
+        requires { (bytes : List ℕ) × (records : List BusRecord) × Reads self.old bytes records }
+        ensures { (bytes : List ℕ) (records : List BusRecord) → Reads self.old bytes records
+            → (more : List ℕ) × PullsMore D.tells (D.state deck.old) (D.state deck.new) bytes more
+            × MatchResult result (IsNext self.new (bytes ++ more) records)
+            (IsStopped D.tells (D.state deck.old) (D.state deck.new) (bytes ++ more) records) }
+    {
+        if self.count() == MOST_RECORDS {
+            return Err(self.refused(TraceFault::Many));
+        }
+        match self.fill(deck) {
+            Ok(()) => self.read(),
+            Err(stop) => Err(stop),
+        }
+    }
+
+    /// How many records were read.
+    fn count(&self) -> u64
+        ensures { result ≡ self.now.count }
+    {
+        self.count
+    }
+
+    /// Reads the record that waits.
+    fn read(&mut self) -> Result<BusRecord, TraceStop>
+        requires waits { 16 ≤ length self.old.waiting }
+        requires few { self.old.count < MOST_RECORDS }
+        ensures good { IfOk result (TakesRecord self.old self.new) }
+        ensures bad { IfErr result (RefusesRecord self.old self.new) }
+    {
+        let bytes = self.take();
+        match parse(&bytes, self.time()) {
+            Ok(record) => {
+                self.count_one(record.time);
+                Ok(record)
+            }
+            Err(fault) => Err(self.refused(fault)),
+        }
+    }
+
+    fn time(&self) -> u64
+        ensures { result ≡ self.now.time }
+    {
+        self.time
+    }
+
+    /// Counts a record of this time.
+    fn count_one(&mut self, time: u64)
+        requires { self.old.count < MOST_RECORDS }
+        ensures { self.new ≡ record self.old { time = time; count = self.old.count + 1 } }
+    {
+        self.time = time;
+        self.count += 1;
+    }
+
+    fn refused(&self, fault: TraceFault) -> TraceStop
+        ensures { result ≡ TraceStop.Refused self.now.count fault }
+    {
+        TraceStop::Refused {
+            index: self.count,
+            fault,
+        }
+    }
+
+    /// How many bytes wait.
+    fn waiting(&self) -> usize
+        ensures { result ≡ length self.now.waiting }
+    {
+        self.waiting.len()
+    }
+
+    /// Pulls until a whole record waits.
+    fn fill<D: Deck>(&mut self, deck: &mut D) -> Result<(), TraceStop>
+        requires { (bytes : List ℕ) × (records : List BusRecord) × Reads self.old bytes records × (length records < most_records) }
+        ensures { (bytes : List ℕ) (records : List BusRecord) → Reads self.old bytes records
+            → length records < most_records
+            → (more : List ℕ) × PullsMore D.tells (D.state deck.old) (D.state deck.new) bytes more
+            × MatchResult result (λ done. IsFilled self.new (bytes ++ more) records)
+            (IsStopped D.tells (D.state deck.old) (D.state deck.new) (bytes ++ more) records) }
+    {
+        while self.waiting() < RECORD {
+            match self.pull(deck) {
+                Ok(0) => return Err(self.refused(TraceFault::Truncated)),
+                Ok(_) => {}
+                Err(Failed) => return Err(TraceStop::Failed),
+            }
+        }
+        Ok(())
+    }
+
+    /// Pulls a piece behind what waits, and answers how many bytes came; none only at the line's end.
+    fn pull<D: Deck>(&mut self, deck: &mut D) -> Result<usize, Failed>
+        requires { length self.old.waiting < 16 }
+        ensures pulled { IfOk result (λ n. (piece : List ℕ) × (length piece ≡ n) × (self.new.waiting ≡ self.old.waiting ++ piece)
+            × Pulled D.tells (D.state deck.old) (D.state deck.new) piece) }
+        ensures kept { OnErr result (KeepsLine (D.state deck.old) (D.state deck.new)) }
+        ensures same { OnErr result (self.new.waiting ≡ self.old.waiting) }
+        ensures cause { OnErr result (Rose (D.state deck.old).line_faults (D.state deck.new).line_faults) }
+        ensures disk { LeavesDisk (D.state deck.old) (D.state deck.new) }
+        ensures told { (D.state deck.new).told ≡ (D.state deck.old).told }
+        ensures monotone { (D.state deck.old).line_faults ≤ (D.state deck.new).line_faults }
+        ensures time { self.new.time ≡ self.old.time }
+        ensures count { self.new.count ≡ self.old.count }
+    {
+        let mut piece = [0; PIECE];
+        let n = deck.pull(&mut piece)?;
+        self.waiting.fill_from_slice(&piece[..n]);
+        Ok(n)
+    }
+
+    /// Takes the bytes of the next record.
+    fn take(&mut self) -> [u8; 16]
+        requires { 16 ≤ length self.old.waiting }
+        ensures bytes { self.old.waiting ≡ result ++ self.new.waiting }
+        ensures time { self.new.time ≡ self.old.time }
+        ensures count { self.new.count ≡ self.old.count }
+    {
+        let mut bytes = [0; RECORD];
+        self.waiting.read_into(&mut bytes);
+        bytes
+    }
+}
+
+#[cfg(test)]
+mod tests;
