@@ -1,5 +1,5 @@
 // The payload of a block.
-ghost use Rattle.std.specs.Prelude.{◌≡◌, ℕ, ◌≤◌, ◌<◌, ◌^◌, ◌↔◌, None, take, length, IfOk, OnOk, OnErr, IsTrue};
+ghost use Rattle.std.specs.Prelude.{◌≡◌, ◌≤◌, ◌<◌, ◌^◌, ◌↔◌, None, take, length, IfOk, OnOk, OnErr, IsTrue};
 ghost use Rattle.fdr_io.specs.Faults.{Rose};
 ghost use Rattle.fdr_deck.specs.Calls.{Succeeds};
 ghost use Rattle.fdr_slot.specs.Limits.{IsInLimits};
