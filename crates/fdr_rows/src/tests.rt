@@ -2,7 +2,8 @@ use crate::lines::{
     frame, frame_behind_a_false_one, frame_with_a_bit_struck_out, frames_behind_five_bits,
     frames_far_apart,
 };
-use crate::sure_listing;
+use crate::sure_command;
+use fdr_bus::TraceFault;
 use fdr_deck::{MemDeck, SureDeck};
 use fdr_io::{Input, MemSink, MemSource, NullSink, SureSource};
 use fdr_table::TableFault;
@@ -11,7 +12,7 @@ use std::alloc::{AllocError, Global};
 use std::test::Fail;
 
 /// An altitude in word 10 of the first subframe, and the counter in word 2 of it.
-const ALTITUDE: &[u8] = b"F,64,2,1\nP,ALT,0,203,,11,12,U,1,1,0,0,16\nL,ALT,1,1,10,0,1,12,0,1\n";
+pub const ALTITUDE: &[u8] = b"F,64,2,1\nP,ALT,0,203,,11,12,U,1,1,0,0,16\nL,ALT,1,1,10,0,1,12,0,1\n";
 
 /// A position in two parts beside the altitude.
 const TWO_PARTS: &[u8] = b"F,64,2,1
@@ -22,9 +23,9 @@ P,ALT,0,203,,11,12,U,1,1,0,0,16
 L,ALT,1,1,10,0,1,12,0,1
 ";
 
-const LISTBITS: &[&str] = &["listbits", "t1.csv"];
+pub const LISTBITS: &[&str] = &["listbits", "t1.csv"];
 
-fn strings(alloc: Global, words: &[&str]) -> Result<Vec<String>, AllocError> {
+pub fn strings(alloc: Global, words: &[&str]) -> Result<Vec<String>, AllocError> {
     let mut strings = Vec::new(alloc);
     for word in words {
         strings.push(word.to_string(alloc)?)?;
@@ -33,7 +34,7 @@ fn strings(alloc: Global, words: &[&str]) -> Result<Vec<String>, AllocError> {
 }
 
 /// What a command answers. Without clauses of its own, so that the tests are proved without those of `run`.
-fn answer(
+pub fn answer(
     alloc: Global,
     words: &[String],
     table: &mut MemSource,
@@ -89,6 +90,7 @@ fn lists_worked_lines(rt: HostRuntime) -> Result<(), Fail> {
 struct Fault<'a> {
     shows: &'a str,
     table: &'a [u8],
+    line: &'a [u8],
     reads: &'a [u64],
     pulls: &'a [u64],
     writes: &'a [u64],
@@ -102,13 +104,15 @@ struct Fault<'a> {
 fn answers_faults_and_refusals(rt: HostRuntime) -> Result<(), Fail> {
     let alloc = rt.alloc();
     let words = strings(alloc, LISTBITS)?;
-    let line = frames_far_apart();
+    let behind = frames_behind_five_bits();
+    let apart = frames_far_apart();
     let too_large = vec![in alloc; b'X'; 1_048_577]?;
     let whole: &[u8] = b"row,0,1,10,ALT,5\ngap,3072,29696\nrow,1,1,10,ALT,7\n";
     let cases = [
         Fault {
             shows: "the first write fails",
             table: ALTITUDE,
+            line: &behind,
             reads: &[],
             pulls: &[],
             writes: &[0],
@@ -119,6 +123,7 @@ fn answers_faults_and_refusals(rt: HostRuntime) -> Result<(), Fail> {
         Fault {
             shows: "the second pull fails",
             table: ALTITUDE,
+            line: &apart,
             reads: &[],
             pulls: &[1],
             writes: &[],
@@ -129,6 +134,7 @@ fn answers_faults_and_refusals(rt: HostRuntime) -> Result<(), Fail> {
         Fault {
             shows: "the table's first read fails",
             table: ALTITUDE,
+            line: &apart,
             reads: &[0],
             pulls: &[],
             writes: &[],
@@ -139,6 +145,7 @@ fn answers_faults_and_refusals(rt: HostRuntime) -> Result<(), Fail> {
         Fault {
             shows: "a parameter in two parts",
             table: TWO_PARTS,
+            line: &apart,
             reads: &[],
             pulls: &[],
             writes: &[],
@@ -152,6 +159,7 @@ fn answers_faults_and_refusals(rt: HostRuntime) -> Result<(), Fail> {
         Fault {
             shows: "a table of a byte too many",
             table: &too_large,
+            line: &apart,
             reads: &[],
             pulls: &[],
             writes: &[],
@@ -169,7 +177,7 @@ fn answers_faults_and_refusals(rt: HostRuntime) -> Result<(), Fail> {
         let mut deck = MemDeck::new(
             alloc,
             Vec::new(alloc),
-            line.to_vec(alloc)?,
+            case.line.to_vec(alloc)?,
             case.pulls.to_vec(alloc)?,
         );
         let mut out = MemSink::new(alloc, case.writes.to_vec(alloc)?);
@@ -191,9 +199,10 @@ fn answers_faults_and_refusals(rt: HostRuntime) -> Result<(), Fail> {
 #[test]
 fn refuses_other_words_and_says_each_answer(rt: HostRuntime) -> Result<(), Fail> {
     let alloc = rt.alloc();
-    let cases: [&[&str]; 6] = [
+    let cases: [&[&str]; 7] = [
         &[],
         &["listbits"],
+        &["stream"],
         &["listbits", "t1.csv", "t2.csv"],
         &["listbits", "-x"],
         &["check", "t1.csv"],
@@ -215,7 +224,8 @@ fn refuses_other_words_and_says_each_answer(rt: HostRuntime) -> Result<(), Fail>
     }
     let row = u32::MAX;
     let fault = TableFault::Number { field: 12 };
-    let answers: [(Outcome, u8, &[u8]); 9] = [
+    let index = u64::MAX;
+    let answers: [(Outcome, u8, &[u8]); 14] = [
         (Outcome::Done, 0, b""),
         (Outcome::Usage, 1, b"fdr: usage"),
         (
@@ -230,6 +240,46 @@ fn refuses_other_words_and_says_each_answer(rt: HostRuntime) -> Result<(), Fail>
             Outcome::TableRefused { row, fault },
             2,
             b"fdr: table row 4294967295: number in field 12",
+        ),
+        (
+            Outcome::TraceRefused {
+                index: 0,
+                fault: TraceFault::Kind,
+            },
+            3,
+            b"fdr: trace record 0: kind",
+        ),
+        (
+            Outcome::TraceRefused {
+                index: 1,
+                fault: TraceFault::Back,
+            },
+            3,
+            b"fdr: trace record 1: time goes back",
+        ),
+        (
+            Outcome::TraceRefused {
+                index: 2,
+                fault: TraceFault::Late,
+            },
+            3,
+            b"fdr: trace record 2: time too late",
+        ),
+        (
+            Outcome::TraceRefused {
+                index,
+                fault: TraceFault::Truncated,
+            },
+            3,
+            b"fdr: trace record 18446744073709551615: truncated",
+        ),
+        (
+            Outcome::TraceRefused {
+                index: 4_294_967_296,
+                fault: TraceFault::Many,
+            },
+            3,
+            b"fdr: trace record 4294967296: too many",
         ),
         (
             Outcome::ReadFault(Input::Table),
@@ -260,7 +310,7 @@ fn lists_where_nothing_fails(rt: HostRuntime) -> Result<(), Fail> {
     assert!(rt; image.len() > 0);
     let mut table = SureSource::new(ALTITUDE.to_vec(alloc)?);
     let mut deck = SureDeck::new(image, frame(0, 5).to_vec(alloc)?);
-    let answer = sure_listing(alloc, &words, &mut table, &mut deck, &mut NullSink::new());
+    let answer = sure_command(alloc, &words, &mut table, &mut deck, &mut NullSink::new());
     assert_eq!(rt; answer, Outcome::Done);
     Ok(())
 }

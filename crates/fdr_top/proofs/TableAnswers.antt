@@ -75,6 +75,7 @@ pub memory_is_left : (answer : Outcome) → IsOfTable answer → ((row : ℕ) (f
 memory_is_left outcome.Done of_table refused failed = inl refl
 memory_is_left outcome.Usage of_table refused failed = absurd of_table
 memory_is_left (outcome.TableRefused row f) of_table refused failed = absurd (refused row f refl)
+memory_is_left (outcome.TraceRefused index why) of_table refused failed = absurd of_table
 memory_is_left (outcome.ReadFault input.Table) of_table refused failed = absurd (failed refl)
 memory_is_left (outcome.ReadFault input.Line) of_table refused failed = absurd of_table
 memory_is_left outcome.WriteFault of_table refused failed = absurd of_table

@@ -9,6 +9,7 @@ mod load;
 mod outcome;
 mod pulling;
 mod reading;
+mod streaming;
 mod top;
 
 pub use outcome::Outcome;

@@ -3,9 +3,10 @@
 ghost use Rattle.std.specs.Prelude.{◌≡◌, ◌≢◌, ◌*◌, ◌≤◌, ◌<◌, ◌^◌, ℕ, List, [], length, take, vec_len, OnOk, OnErr, IfOk, ◌⊎◌};
 ghost use Rattle.fdr_io.specs.Faults.{Rose};
 ghost use Rattle.fdr_io.specs.Told.{followed_by};
+ghost use Rattle.fdr_deck.specs.Calls.{LeavesDisk};
 ghost use Rattle.fdr_frame.specs.WordCount.{IsWordCount};
 ghost use Rattle.fdr_recon.specs.Past.{HasRawValues, Stands};
-ghost use Rattle.fdr_top.specs.Answers.{IsOfLine, Lists, answer_of};
+ghost use Rattle.fdr_top.specs.Answers.{IsOfListing, Lists, answer_of};
 ghost use Rattle.fdr_readout.specs.Listing.{listing_of};
 
 use crate::outcome::Outcome;
@@ -65,13 +66,15 @@ pub fn list_line<D: Deck, O: Sink>(
 ) -> Outcome
     requires word_count { IsWordCount table.now.frame.words }
     requires raw { HasRawValues table.now.params }
-    ensures answer { (result ≡ Outcome.NoMemory) ⊎ IsOfLine result }
+    ensures answer { (result ≡ Outcome.NoMemory) ⊎ IsOfListing result }
     ensures lists { result ≢ Outcome.NoMemory
         → Lists table.now D.tells (D.state deck.old) (D.state deck.new) (O.written out.old) (O.written out.new) result }
     ensures line_fault { result ≡ Outcome.ReadFault Input.Line → Rose (D.state deck.old).line_faults (D.state deck.new).line_faults }
     ensures write_fault { result ≡ Outcome.WriteFault → Rose (O.faults out.old) (O.faults out.new) }
     ensures no_memory { result ≡ Outcome.NoMemory → O.written out.new ≡ O.written out.old }
     ensures no_memory_faults { result ≡ Outcome.NoMemory → O.faults out.new ≡ O.faults out.old }
+    ensures disk { LeavesDisk (D.state deck.old) (D.state deck.new) }
+    ensures told { (D.state deck.new).told ≡ (D.state deck.old).told }
 {
     let Ok(mut work) = Readout::new(alloc, table) else {
         return Outcome::NoMemory;

@@ -1,8 +1,9 @@
 //! What a command answers.
 
 ghost use Rattle.std.specs.Prelude.{◌≡◌, ◌≤◌, ◌++◌, length};
-ghost use Rattle.fdr_top.specs.Outcome.{status_of, text_of, fault_words, fault_field, input_text};
+ghost use Rattle.fdr_top.specs.Outcome.{status_of, text_of, fault_words, fault_field, trace_fault_words, input_text};
 
+use fdr_bus::TraceFault;
 use fdr_io::Input;
 use fdr_listing::Line;
 use fdr_table::TableFault;
@@ -16,6 +17,8 @@ pub enum Outcome {
     Usage,
     /// The table is refused for this fault in this row.
     TableRefused { row: u32, fault: TableFault },
+    /// The trace is refused for this fault of the record after so many good ones.
+    TraceRefused { index: u64, fault: TraceFault },
     /// The table or the line could not be read.
     ReadFault(Input),
     /// The output could not be written; a front part of it was.
@@ -35,6 +38,7 @@ impl Outcome {
             Outcome::Done => 0,
             Outcome::Usage => 1,
             Outcome::TableRefused { .. } => 2,
+            Outcome::TraceRefused { .. } => 3,
             Outcome::ReadFault(_) => 8,
             Outcome::WriteFault => 9,
             Outcome::TooLong => 11,
@@ -57,6 +61,12 @@ impl Outcome {
                 line.add(b": ");
                 line.add(fault_words(fault));
                 add_field(&mut line, fault);
+            }
+            Outcome::TraceRefused { index, fault } => {
+                line.add(b"fdr: trace record ");
+                line.add_number(*index);
+                line.add(b": ");
+                line.add(trace_fault_words(fault));
             }
             Outcome::ReadFault(input) => line.add(input_text(input)),
             Outcome::WriteFault => line.add(b"fdr: output cannot be written"),
@@ -82,6 +92,20 @@ fn fault_words(fault: &TableFault) -> &'static [u8]
         TableFault::Unknown => b"unknown name",
         TableFault::Size => b"too large",
         TableFault::NotBuilt => b"not built",
+    }
+}
+
+/// What is wrong with the trace, in words.
+fn trace_fault_words(fault: &TraceFault) -> &'static [u8]
+    ensures words { result.now ≡ trace_fault_words fault.now }
+    ensures short { length result.now ≤ 20 }
+{
+    match fault {
+        TraceFault::Kind => b"kind",
+        TraceFault::Back => b"time goes back",
+        TraceFault::Late => b"time too late",
+        TraceFault::Truncated => b"truncated",
+        TraceFault::Many => b"too many",
     }
 }
 

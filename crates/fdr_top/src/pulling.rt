@@ -2,6 +2,7 @@
 
 ghost use Rattle.std.specs.Prelude.{◌≡◌, ◌+◌, ◌≤◌, ◌<◌, ◌^◌, ℕ, List, [], ◌++◌, length, IfOk, OnOk, OnErr, vec_len, IsErrOf, IsTrue};
 ghost use Rattle.fdr_io.specs.Faults.{Rose};
+ghost use Rattle.fdr_deck.specs.Calls.{LeavesDisk};
 ghost use Rattle.fdr_deck.specs.Pull.{TakesLine, KeepsLine};
 
 use crate::reading::ReadError;
@@ -44,6 +45,8 @@ fn pull_piece<D: Deck>(deck: &mut D, bytes: &mut Vec<u8>) -> Result<usize, ReadE
     ensures kept { IsErrOf result ReadError.Failed → KeepsLine (D.state deck.old) (D.state deck.new) }
     ensures same { IsErrOf result ReadError.Failed → bytes.new.items ≡ bytes.old.items }
     ensures monotone { (D.state deck.old).line_faults ≤ (D.state deck.new).line_faults }
+    ensures disk { LeavesDisk (D.state deck.old) (D.state deck.new) }
+    ensures told { (D.state deck.new).told ≡ (D.state deck.old).told }
 {
     let mut piece = [0; PIECE];
     match deck.pull(&mut piece) {
@@ -64,6 +67,8 @@ pub fn pull_line<D: Deck>(alloc: Global, deck: &mut D) -> Result<PulledLine, NoM
     ensures end_few { IfOk result (λ line. line.end ≡ LineEnd.End → vec_len line.bytes ≤ MOST_LINE_BYTES) }
     ensures fault_few { IfOk result (λ line. line.end ≡ LineEnd.Fault → vec_len line.bytes ≤ MOST_LINE_BYTES) }
     ensures monotone { (D.state deck.old).line_faults ≤ (D.state deck.new).line_faults }
+    ensures disk { LeavesDisk (D.state deck.old) (D.state deck.new) }
+    ensures told { (D.state deck.new).told ≡ (D.state deck.old).told }
 {
     let mut bytes = Vec::new(alloc);
     while bytes.len() <= MOST_LINE_BYTES {

@@ -10,14 +10,14 @@ use Rattle.fdr_deck.specs.Pull.{KeepsLine}
 use Rattle.fdr_deck.proofs.Line.{TakesLine-from_keeps, TakesLine-then}
 use Rattle.fdr_trace.specs.Pulls.{Pulled, PullsMore}
 
-LeavesDisk-here : (s : State) → LeavesDisk s s
+pub LeavesDisk-here : (s : State) → LeavesDisk s s
 LeavesDisk-here s = record {
   disk = record { held = refl; no_more = λ image may. may; no_less = λ image may. may };
   extent = refl;
   disk_faults = refl;
 }
 
-LeavesDisk-then : (a b c : State) → LeavesDisk a b → LeavesDisk b c → LeavesDisk a c
+pub LeavesDisk-then : (a b c : State) → LeavesDisk a b → LeavesDisk b c → LeavesDisk a c
 LeavesDisk-then a b c first second = record {
   disk = record {
     held = second.disk.held ∙ first.disk.held;

@@ -1,0 +1,153 @@
+-- The answers to a trace on a line that is told.
+use Rattle.std.proofs.Common.{◌≡◌, ◌≢◌, ℕ, ◌+◌, ◌*◌, ◌≤◌, ◌⊎◌, inl, inr, ⊎_elim, true, false, List, [], ◌++◌, length, Option, Some, None, ap, sym, refl, ◌∙◌, eqb-true, length-append, arith}
+use Rattle.std.specs.Prelude.{IsTrue, ◌==◌, nat_lt}
+use Rattle.std.proofs.lemmas.Bool.{cases_Bool}
+use Rattle.std.proofs.lemmas.Bool.Decides.{nat_tests}
+use Rattle.std.proofs.lemmas.List.{append-nil}
+use Rattle.fdr_io.specs.Told.{followed_by}
+use Rattle.fdr_io.specs.declared.Input.TheVariants as input
+use Rattle.fdr_bus.specs.declared.BusRecord.{BusRecord}
+use Rattle.fdr_bus.specs.declared.TraceFault.{TraceFault}
+use Rattle.fdr_bus.specs.declared.TraceFault.TheVariants as trace
+use Rattle.fdr_bus.specs.Records.{IsDecided, fault_after, good_prefix, has_end, most_records, trace_fault}
+use Rattle.fdr_bus.proofs.TraceLemmas.{good_prefix-decided, trace_fault-ended}
+use Rattle.fdr_bus.proofs.WholeRecords.{record_bytes-append}
+use Rattle.fdr_deck.specs.State.{State, Tells}
+use Rattle.fdr_words.specs.Forms.{Form, list_bits, stream_line}
+use Rattle.fdr_table.specs.Rows.{TableRows}
+use Rattle.fdr_sampler.specs.Stream.{stream_of}
+use Rattle.fdr_top.specs.declared.outcome.Outcome.{Outcome}
+use Rattle.fdr_top.specs.declared.outcome.Outcome.TheVariants as outcome
+use Rattle.fdr_top.specs.Answers.{IsOfLine, IsOfListing, IsOfTrace, Streams}
+
+answer_to : Option (ℕ × TraceFault) → Outcome
+answer_to None = outcome.Done
+answer_to (Some refusal) = outcome.TraceRefused refusal.0 refusal.1
+
+cause_of : Option (ℕ × TraceFault) → TraceFault
+cause_of None = trace.Many
+cause_of (Some refusal) = refusal.1
+
+-- bytes whose refusal isn't that they stop decide the trace
+refused_decides : (bytes : List ℕ) (index : ℕ) (why : TraceFault) → trace_fault bytes ≡ Some (index, why) → (why ≡ trace.Truncated) ⊎ IsDecided bytes
+unfolding trace_fault fault_after cause_of
+refused_decides bytes index why refused =
+    let good = good_prefix bytes in
+    let n = length good in ⊎_elim
+    (λ (ended : has_end good ≡ true). inr (inl ended))
+    (λ (unended : has_end good ≡ false). ⊎_elim
+    (λ (most : (n == most_records) ≡ true). inr (inr (inl (eqb-true n most_records most))))
+    (λ (fewer : (n == most_records) ≡ false). ⊎_elim
+    (λ (short : nat_lt (length bytes) (16 * n + 16) ≡ true).
+    let first = rw (unended, fewer, short) at refused in inl (sym (ap cause_of first)))
+    (λ (long : nat_lt (length bytes) (16 * n + 16) ≡ false).
+    let more : 16 * n + 16 ≤ length bytes = grind (arith, nat_tests) in inr (inr (inr more)))
+    (cases_Bool (nat_lt (length bytes) (16 * n + 16))))
+    (cases_Bool (n == most_records)))
+    (cases_Bool (has_end good))
+
+-- where the records are decided, so is the fault after them
+fault_after-decided : (good : List BusRecord) (bytes more : List ℕ) → (has_end good ≡ true) ⊎ ((length good ≡ most_records) ⊎ (16 * length good + 16 ≤ length bytes)) → fault_after good (bytes ++ more) ≡ fault_after good bytes
+unfolding fault_after
+fault_after-decided good bytes more decided =
+    let n = length good in ⊎_elim
+    (λ (ended : has_end good ≡ true). rw ended refl)
+    (λ (unended : has_end good ≡ false). ⊎_elim
+    (λ (most : (n == most_records) ≡ true). rw (unended, most) refl)
+    (λ (fewer : (n == most_records) ≡ false). ⊎_elim
+    (λ (ended : has_end good ≡ true). absurd (cc))
+    (λ (later : (n ≡ most_records) ⊎ (16 * n + 16 ≤ length bytes)). ⊎_elim
+    (λ (most : n ≡ most_records). absurd (grind (arith, nat_tests)))
+    (λ (long : 16 * n + 16 ≤ length bytes).
+    let here : nat_lt (length bytes) (16 * n + 16) ≡ false = grind (arith, nat_tests) in
+    let longer : 16 * n + 16 ≤ length (bytes ++ more) = omega (arith, long, length-append bytes more) in
+    let there : nat_lt (length (bytes ++ more)) (16 * n + 16) ≡ false = grind (arith, nat_tests) in
+    rw (unended, fewer, here, there, record_bytes-append bytes more n long) refl)
+    later)
+    decided)
+    (cases_Bool (n == most_records)))
+    (cases_Bool (has_end good))
+
+trace_fault-decided : (bytes more : List ℕ) → IsDecided bytes → trace_fault (bytes ++ more) ≡ trace_fault bytes
+unfolding trace_fault
+trace_fault-decided bytes more decided =
+    ap (λ good. fault_after good (bytes ++ more)) (good_prefix-decided bytes more decided) ∙ fault_after-decided (good_prefix bytes) bytes more decided
+
+-- the fault that is answered is that of the whole line
+pub told_fault : (t : TableRows) (tells : Tells) (old new : State) (before now : Option (List ℕ)) (answer : Outcome) (index : ℕ) (why : TraceFault) → Streams t tells old new before now answer → answer ≡ outcome.TraceRefused index why → IsTrue tells.line →
+    trace_fault old.line ≡ Some (index, why)
+told_fault t tells old new before now answer index why streams refused told =
+    let first = streams.refused index why refused in
+    let line : old.line ≡ streams.pulled ++ new.line = streams.pulls.takes.line told in
+    ap trace_fault line ∙ ⊎_elim
+    (λ (short : why ≡ trace.Truncated).
+    let end : new.line ≡ [] = streams.truncated index (refused ∙ ap (outcome.TraceRefused index) short) told in
+    ap trace_fault (ap (λ (x : List ℕ). streams.pulled ++ x) end ∙ append-nil streams.pulled) ∙ first)
+    (λ (decided : IsDecided streams.pulled). trace_fault-decided streams.pulled new.line decided ∙ first)
+    (refused_decides streams.pulled index why first)
+
+ended_line : (t : TableRows) (tells : Tells) (old new : State) (before now : Option (List ℕ)) (answer : Outcome) (streams : Streams t tells old new before now answer) → answer ≡ outcome.Done → IsTrue tells.line →
+    good_prefix old.line ≡ good_prefix streams.pulled
+ended_line t tells old new before now answer streams done told =
+    ap good_prefix (streams.pulls.takes.line told) ∙ good_prefix-decided streams.pulled new.line (inl (streams.ended done))
+
+-- the whole recording was written
+pub told_stream : (t : TableRows) (tells : Tells) (old new : State) (before now : Option (List ℕ)) (answer : Outcome) → Streams t tells old new before now answer → answer ≡ outcome.Done → IsTrue tells.line →
+    now ≡ followed_by before (stream_of t (good_prefix old.line))
+told_stream t tells old new before now answer streams done told =
+    streams.text (λ e. let c : outcome.Done ≡ outcome.WriteFault = sym done ∙ e in cc)
+    ∙ ap (λ (x : List BusRecord). followed_by before (stream_of t x)) (sym (ended_line t tells old new before now answer streams done told))
+
+-- where the line is refused, so it is answered, unless a fault came first
+pub fault_answered : (t : TableRows) (tells : Tells) (old new : State) (before now : Option (List ℕ)) (answer : Outcome) (index : ℕ) (why : TraceFault) → Streams t tells old new before now answer → IsOfTrace answer → IsTrue tells.line → trace_fault old.line ≡ Some (index, why) →
+    (answer ≡ outcome.TraceRefused index why) ⊎ ((answer ≡ outcome.ReadFault input.Line) ⊎ (answer ≡ outcome.WriteFault))
+unfolding answer_to
+fault_answered t tells old new before now outcome.Done index why streams of_trace told first =
+    let ended : has_end (good_prefix old.line) ≡ true = ap has_end (ended_line t tells old new before now outcome.Done streams refl told) ∙ streams.ended refl in
+    let none = trace_fault-ended old.line ended in
+    absurd (let c : ◌≡◌ {A = Option (ℕ × TraceFault)} None (Some (index, why)) = sym none ∙ first in cc)
+fault_answered t tells old new before now outcome.Usage index why streams of_trace told first = absurd of_trace
+fault_answered t tells old new before now (outcome.TableRefused row f) index why streams of_trace told first = absurd of_trace
+fault_answered t tells old new before now (outcome.TraceRefused i w) index why streams of_trace told first =
+    let here = told_fault t tells old new before now (outcome.TraceRefused i w) i w streams refl told in
+    let same : ◌≡◌ {A = Option (ℕ × TraceFault)} (Some (i, w)) (Some (index, why)) = sym here ∙ first in
+    inl (ap answer_to same)
+fault_answered t tells old new before now (outcome.ReadFault input.Table) index why streams of_trace told first = absurd of_trace
+fault_answered t tells old new before now (outcome.ReadFault input.Line) index why streams of_trace told first = inr (inl refl)
+fault_answered t tells old new before now outcome.WriteFault index why streams of_trace told first = inr (inr refl)
+fault_answered t tells old new before now outcome.TooLong index why streams of_trace told first = absurd of_trace
+fault_answered t tells old new before now outcome.NoMemory index why streams of_trace told first = absurd of_trace
+
+-- a trace with an end record is streamed whole, where no fault came
+pub stream_done : (t : TableRows) (tells : Tells) (old new : State) (before now : Option (List ℕ)) (answer : Outcome) → Streams t tells old new before now answer → IsOfTrace answer → IsTrue tells.line → has_end (good_prefix old.line) ≡ true →
+    (answer ≡ outcome.ReadFault input.Line → ⊥) → (answer ≡ outcome.WriteFault → ⊥) → answer ≡ outcome.Done
+stream_done t tells old new before now outcome.Done streams of_trace told ended line_quiet sink_quiet = refl
+stream_done t tells old new before now outcome.Usage streams of_trace told ended line_quiet sink_quiet = absurd of_trace
+stream_done t tells old new before now (outcome.TableRefused row f) streams of_trace told ended line_quiet sink_quiet = absurd of_trace
+stream_done t tells old new before now (outcome.TraceRefused i w) streams of_trace told ended line_quiet sink_quiet =
+    let here = told_fault t tells old new before now (outcome.TraceRefused i w) i w streams refl told in
+    let none = trace_fault-ended old.line ended in
+    absurd (let c : ◌≡◌ {A = Option (ℕ × TraceFault)} None (Some (i, w)) = sym none ∙ here in cc)
+stream_done t tells old new before now (outcome.ReadFault input.Table) streams of_trace told ended line_quiet sink_quiet = absurd of_trace
+stream_done t tells old new before now (outcome.ReadFault input.Line) streams of_trace told ended line_quiet sink_quiet = absurd (line_quiet refl)
+stream_done t tells old new before now outcome.WriteFault streams of_trace told ended line_quiet sink_quiet = absurd (sink_quiet refl)
+stream_done t tells old new before now outcome.TooLong streams of_trace told ended line_quiet sink_quiet = absurd of_trace
+stream_done t tells old new before now outcome.NoMemory streams of_trace told ended line_quiet sink_quiet = absurd of_trace
+
+-- only a trace is refused as one
+pub refused_told_trace : (f : Form) (t : TableRows) (tells : Tells) (old new : State) (before now : Option (List ℕ)) (answer : Outcome) (index : ℕ) (why : TraceFault) → ((path : List ℕ) → f ≡ list_bits path → (answer ≡ outcome.NoMemory) ⊎ IsOfListing answer) →
+    ((path : List ℕ) → f ≡ stream_line path → answer ≢ outcome.NoMemory → Streams t tells old new before now answer) → answer ≡ outcome.TraceRefused index why → IsTrue tells.line → trace_fault old.line ≡ Some (index, why)
+refused_told_trace (list_bits path) t tells old new before now answer index why listing streams refused told = ⊎_elim
+    (λ none. absurd (let c : outcome.NoMemory ≡ outcome.TraceRefused index why = sym none ∙ refused in cc))
+    (λ of_listing. absurd (rw refused at of_listing))
+    (listing path refl)
+refused_told_trace (stream_line path) t tells old new before now answer index why listing streams refused told =
+    told_fault t tells old new before now answer index why (streams path refl (λ e. let c : outcome.TraceRefused index why ≡ outcome.NoMemory = sym refused ∙ e in cc)) refused told
+
+-- an answer of the line that isn't want of memory
+pub of_trace_line : (answer : Outcome) → (answer ≡ outcome.NoMemory) ⊎ IsOfTrace answer → IsOfLine answer → IsOfTrace answer
+of_trace_line answer either of_line = ⊎_elim (λ none. absurd (rw none at of_line)) (λ of_trace. of_trace) either
+
+-- words are of one form
+pub same_form : (form : Option Form) (a b : Form) → form ≡ Some a → form ≡ Some b → a ≡ b
+same_form form a b first second = let c : Some a ≡ Some b = sym first ∙ second in cc

@@ -1,0 +1,18 @@
+use Rattle.std.proofs.Common.{◌≤◌, ◌-◌, ℕ, List, []}
+use Rattle.fdr_bus.specs.declared.BusRecord.{BusRecord}
+use Rattle.fdr_table.specs.Rows.{TableRows}
+use Rattle.fdr_trace.specs.Pulls.{PullsMore}
+use Rattle.fdr_trace.specs.Reading.{Reads}
+use Rattle.fdr_top.specs.Streaming.{IsFresh, IsStreamed}
+use Rattle.fdr_top.proofs.streaming.stream_records.Given as goal
+
+abbrev pub invariant-loop-next : goal.invariant-loop-next
+invariant-loop-next g l = record {
+  streamed : (t : TableRows) → IsFresh l.fn.recording t →
+      (bytes : List ℕ) × (records : List BusRecord) × PullsMore g.D.Deck.tells (g.D.Deck.state l.fn.deck) (g.D.Deck.state l.deck) [] bytes
+      × Reads l.recording.trace bytes records × IsStreamed l.recording.stream t records (g.O.Sink.written l.fn.out) (g.O.Sink.written l.out);
+  monotone : g.O.Sink.faults l.fn.out ≤ g.O.Sink.faults l.out;
+}
+
+abbrev pub decreases-loop-next : goal.decreases-loop-next
+decreases-loop-next g l = 4294967296 - l.recording.trace.count

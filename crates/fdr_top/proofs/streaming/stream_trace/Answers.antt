@@ -1,0 +1,15 @@
+use Rattle.fdr_top.proofs.Records.{Streams-part, Streams-failed, Streams-all}
+use Rattle.fdr_top.proofs.streaming.stream_trace.Goals as goal
+
+pub returns-in-Err-clause-streams : goal.returns-in-Err-clause-streams
+returns-in-Err-clause-streams g c = λ t fresh. Streams-part t _ _ _ _ _ (c.in-Err.ensures.part t fresh)
+
+pub returns-in-Ok-write_rest-clause-streams : goal.returns-in-Ok-write_rest-clause-streams
+returns-in-Ok-write_rest-clause-streams g c = λ t fresh.
+    let to = c.in-Ok.ensures.all t fresh in
+    Streams-all t _ _ _ _ _ _ _ c.in-Ok.answer to (c.in-Ok-write_rest.ensures.all t _ _ to.streamed)
+
+pub returns-in-Err-write_rest-clause-streams : goal.returns-in-Err-write_rest-clause-streams
+returns-in-Err-write_rest-clause-streams g c = λ t fresh.
+    let to = c.in-Ok.ensures.all t fresh in
+    Streams-failed t _ _ _ _ _ _ _ c.in-Ok.answer to (c.in-Err-write_rest.ensures.part t _ _ to.streamed)

@@ -1,0 +1,64 @@
+-- How far a stream was written.
+use Rattle.std.specs.Prelude.{◌≡◌, ◌≢◌, ℕ, ◌*◌, ◌≤◌, true, false, IsTrue, List, [], Option, Some, None, take}
+use Rattle.fdr_io.specs.Faults.{Rose}
+use Rattle.fdr_io.specs.Told.{followed_by}
+use Rattle.fdr_bus.specs.declared.BusRecord.{BusRecord}
+use Rattle.fdr_io.specs.declared.Input.TheVariants as input
+use Rattle.fdr_deck.specs.State.{State, Tells}
+use Rattle.fdr_bus.specs.declared.TraceFault.{TraceFault}
+use Rattle.fdr_bus.specs.declared.TraceFault.TheVariants as trace
+use Rattle.fdr_bus.specs.Records.{IsDecided, good_prefix, has_end, last_time, time_of, trace_fault}
+use Rattle.fdr_trace.specs.Pulls.{PullsMore}
+use Rattle.fdr_trace.specs.Reading.{Reads}
+use Rattle.fdr_top.specs.Answers.{IsOfTrace}
+use Rattle.fdr_top.specs.declared.outcome.Outcome.{Outcome}
+use Rattle.fdr_top.specs.declared.outcome.Outcome.TheVariants as outcome
+use Rattle.fdr_top.specs.declared.streaming.Recording.{Recording}
+use Rattle.fdr_table.specs.Rows.{TableRows}
+use Rattle.fdr_sampler.specs.Stream.{stream_of}
+use Rattle.fdr_stream.specs.Blocks.{due_blocks}
+use Rattle.fdr_stream.specs.Kept.{Kept}
+use Rattle.fdr_stream.specs.Past.{Past, made, Stands}
+
+-- these records were taken, and the blocks of 4,096 bytes that are due at them were given
+abbrev pub past_of : TableRows → List BusRecord → Past
+past_of t records = record { table = t; payload = 4096; records = records; begun = None; blocks = due_blocks t 4096 records }
+
+-- the text of these blocks
+abbrev pub due_text : TableRows → List BusRecord → List ℕ
+due_text t records = take (4096 * due_blocks t 4096 records) (stream_of t records)
+
+-- The records were fed, and all blocks that are due were written.
+pub record IsStreamed (k : Kept) (t : TableRows) (records : List BusRecord) (written_before written_now : Option (List ℕ)) : Type 0 where
+  pub stands : Stands k (past_of t records)
+  pub written : written_now ≡ followed_by written_before (due_text t records)
+
+-- The record comes next in time, and no end was fed.
+pub record ComesNext (records : List BusRecord) (r : BusRecord) : Type 0 where
+  pub order : time_of records ≤ r.time
+  pub in_time : r.time ≤ last_time
+  pub unended : has_end records ≡ false
+
+-- Nothing was pulled of the trace and nothing drawn.
+pub record IsFresh (r : Recording) (t : TableRows) : Type 0 where
+  pub trace : Reads r.trace [] []
+  pub stream : Stands r.stream (made t 4096)
+
+-- the good records of these bytes were fed, and the answer is why there are no more
+pub record IsStreamedTo (t : TableRows) (tells : Tells) (old new : State) (k : Kept) (written_before written_now : Option (List ℕ)) (answer : Outcome) : Type 0 where
+  pub pulled : List ℕ
+  pub pulls : PullsMore tells old new [] pulled
+  pub streamed : IsStreamed k t (good_prefix pulled) written_before written_now
+  pub of_trace : IsOfTrace answer
+  pub whole : answer ≢ outcome.WriteFault
+  pub ended : answer ≡ outcome.Done → has_end (good_prefix pulled) ≡ true
+  pub refused : (index : ℕ) (why : TraceFault) → answer ≡ outcome.TraceRefused index why → trace_fault pulled ≡ Some (index, why)
+  pub truncated : (index : ℕ) → answer ≡ outcome.TraceRefused index trace.Truncated → IsTrue tells.line → new.line ≡ []
+  pub undecided : answer ≡ outcome.ReadFault input.Line → IsDecided pulled → ⊥
+  pub cause : answer ≡ outcome.ReadFault input.Line → Rose old.line_faults new.line_faults
+
+-- a front part of the stream of these bytes' good records was written
+pub record IsStreamedPart (t : TableRows) (tells : Tells) (old new : State) (written_before written_now : Option (List ℕ)) : Type 0 where
+  pub pulled : List ℕ
+  pub pulls : PullsMore tells old new [] pulled
+  pub part : (k : ℕ) × (written_now ≡ followed_by written_before (take k (stream_of t (good_prefix pulled))))

@@ -1,0 +1,165 @@
+//! The stream of the trace on a deck's line.
+
+ghost use Rattle.std.specs.Prelude.{◌≡◌, ◌≢◌, ◌+◌, ◌-◌, ◌*◌, ◌≤◌, ◌<◌, ℕ, List, [], ◌∷◌, ◌++◌, Option, take, OnOk, OnErr, IfOk, ◌⊎◌};
+ghost use Rattle.fdr_io.specs.Faults.{Rose};
+ghost use Rattle.fdr_io.specs.Told.{followed_by};
+ghost use Rattle.fdr_deck.specs.Calls.{LeavesDisk};
+ghost use Rattle.fdr_sampler.specs.Stream.{stream_of};
+ghost use Rattle.fdr_bus.specs.declared.BusRecord.{BusRecord};
+ghost use Rattle.fdr_table.specs.Rows.{TableRows};
+ghost use Rattle.fdr_stream.specs.Past.{Stands as StandsFor};
+ghost use Rattle.fdr_top.specs.Answers.{IsOfTrace, KeepsLineAndFaults, Streams, answer_of_stop};
+ghost use Rattle.fdr_top.specs.Streaming.{past_of, due_text, ComesNext, IsStreamed, IsStreamedTo, IsStreamedPart, IsFresh};
+
+use crate::outcome::Outcome;
+use fdr_bus::{BusRecord, RecordKind};
+use fdr_deck::Deck;
+use fdr_io::{Failed, Input, Sink, write_whole};
+use fdr_stream::{Fed, Stream};
+use fdr_table::{NoMemory, Table};
+use fdr_trace::{TraceLine, TraceStop};
+use std::alloc::Global;
+
+/// How many bytes of the stream are written at a time.
+const PAYLOAD: usize = 4096;
+
+/// More blocks than a recording has.
+const MANY_BLOCKS: u32 = 1_000_000;
+
+/// What is kept while a trace is streamed. It takes all its memory when it is made.
+#[derive(Drop)]
+struct Recording {
+    trace: TraceLine,
+    stream: Stream,
+}
+
+impl Recording {
+    fn new(alloc: Global, table: &Table) -> Result<Recording, NoMemory>
+        ensures { IfOk result (λ r. IsFresh r table.now) }
+    {
+        let trace = TraceLine::new(alloc).map_err(|_| NoMemory)?;
+        let stream = Stream::new(alloc, table, PAYLOAD as u32)?;
+        Ok(Recording { trace, stream })
+    }
+}
+
+/// Feeds a record to the stream, and writes the blocks that are due at it.
+fn write_record<O: Sink>(stream: &mut Stream, next: &BusRecord, out: &mut O) -> Result<(), Failed>
+    requires { (t : TableRows) × (records : List BusRecord) × StandsFor stream.old (past_of t records) × ComesNext records next.now }
+    ensures all { OnOk result ((t : TableRows) (records : List BusRecord) (before : Option (List ℕ))
+        → IsStreamed stream.old t records before (O.written out.old) → ComesNext records next.now
+        → IsStreamed stream.new t (records ++ next.now ∷ []) before (O.written out.new)) }
+    ensures part { OnErr result ((t : TableRows) (records : List BusRecord) (before : Option (List ℕ))
+        → IsStreamed stream.old t records before (O.written out.old) → ComesNext records next.now
+        → (k : ℕ) × (O.written out.new ≡ followed_by before (take k (due_text t (records ++ next.now ∷ []))))) }
+    ensures cause { OnErr result (Rose (O.faults out.old) (O.faults out.new)) }
+    ensures quiet { OnOk result (O.faults out.new ≡ O.faults out.old) }
+    ensures monotone { O.faults out.old ≤ O.faults out.new }
+{
+    let mut block = [0; PAYLOAD];
+    for i in 0..MANY_BLOCKS {
+        match stream.feed(next, &mut block) {
+            Fed::Taken => return Ok(()),
+            Fed::Block => write_whole(out, &block)?,
+        }
+    }
+    unreachable!()
+}
+
+/// Writes the last bytes of the stream.
+fn write_rest<O: Sink>(stream: &mut Stream, out: &mut O) -> Result<(), Failed>
+    requires { (t : TableRows) × (records : List BusRecord) × StandsFor stream.old (past_of t records) }
+    ensures all { OnOk result ((t : TableRows) (records : List BusRecord) (before : Option (List ℕ))
+        → IsStreamed stream.old t records before (O.written out.old)
+        → O.written out.new ≡ followed_by before (stream_of t records)) }
+    ensures part { OnErr result ((t : TableRows) (records : List BusRecord) (before : Option (List ℕ))
+        → IsStreamed stream.old t records before (O.written out.old)
+        → (k : ℕ) × (O.written out.new ≡ followed_by before (take k (stream_of t records)))) }
+    ensures cause { OnErr result (Rose (O.faults out.old) (O.faults out.new)) }
+    ensures monotone { O.faults out.old ≤ O.faults out.new }
+{
+    let mut block = [0; PAYLOAD];
+    let count = stream.finish(&mut block);
+    write_whole(out, &block[..count])
+}
+
+/// The answer where no further record of a trace comes and all was written.
+fn answer_of_stop(stop: TraceStop) -> Outcome
+    ensures { result ≡ answer_of_stop stop }
+{
+    match stop {
+        TraceStop::Refused { index, fault } => Outcome::TraceRefused { index, fault },
+        TraceStop::Failed => Outcome::ReadFault(Input::Line),
+    }
+}
+
+/// Streams the records of a trace up to its end, or to where no further one comes, and gives the answer. The last bytes,
+/// which fill no block, are not written yet.
+fn stream_records<D: Deck, O: Sink>(
+    recording: &mut Recording,
+    deck: &mut D,
+    out: &mut O,
+) -> Result<Outcome, Failed>
+    requires { (t : TableRows) × IsFresh recording.old t }
+    ensures all { (t : TableRows) → IsFresh recording.old t → IfOk result (λ answer.
+        IsStreamedTo t D.tells (D.state deck.old) (D.state deck.new) recording.new.stream (O.written out.old) (O.written out.new) answer) }
+    ensures part { (t : TableRows) → IsFresh recording.old t → OnErr result (
+        IsStreamedPart t D.tells (D.state deck.old) (D.state deck.new) (O.written out.old) (O.written out.new)) }
+    ensures cause { OnErr result (Rose (O.faults out.old) (O.faults out.new)) }
+    ensures monotone { O.faults out.old ≤ O.faults out.new }
+{
+    loop {
+        let next = match recording.trace.next(deck) {
+            Ok(next) => next,
+            Err(stop) => return Ok(answer_of_stop(stop)),
+        };
+        write_record(&mut recording.stream, &next, out)?;
+        match next.kind {
+            RecordKind::Word => {}
+            RecordKind::End => return Ok(Outcome::Done),
+        }
+    }
+}
+
+/// Streams the trace of the deck's line, and gives the answer.
+fn stream_trace<D: Deck, O: Sink>(recording: &mut Recording, deck: &mut D, out: &mut O) -> Outcome
+    requires { (t : TableRows) × IsFresh recording.old t }
+    ensures answer { IsOfTrace result }
+    ensures streams { (t : TableRows) → IsFresh recording.old t
+        → Streams t D.tells (D.state deck.old) (D.state deck.new) (O.written out.old) (O.written out.new) result }
+    ensures line_fault { result ≡ Outcome.ReadFault Input.Line → Rose (D.state deck.old).line_faults (D.state deck.new).line_faults }
+    ensures write_fault { result ≡ Outcome.WriteFault → Rose (O.faults out.old) (O.faults out.new) }
+{
+    let answer = match stream_records(recording, deck, out) {
+        Ok(answer) => answer,
+        Err(Failed) => return Outcome::WriteFault,
+    };
+    match write_rest(&mut recording.stream, out) {
+        Ok(()) => answer,
+        Err(Failed) => Outcome::WriteFault,
+    }
+}
+
+/// Streams the trace of the deck's line by a table.
+pub fn stream_line<D: Deck, O: Sink>(
+    alloc: Global,
+    table: &Table,
+    deck: &mut D,
+    out: &mut O,
+) -> Outcome
+    ensures answer { (result ≡ Outcome.NoMemory) ⊎ IsOfTrace result }
+    ensures streams { result ≢ Outcome.NoMemory
+        → Streams table.now D.tells (D.state deck.old) (D.state deck.new) (O.written out.old) (O.written out.new) result }
+    ensures line_fault { result ≡ Outcome.ReadFault Input.Line → Rose (D.state deck.old).line_faults (D.state deck.new).line_faults }
+    ensures write_fault { result ≡ Outcome.WriteFault → Rose (O.faults out.old) (O.faults out.new) }
+    ensures no_memory { result ≡ Outcome.NoMemory → O.written out.new ≡ O.written out.old }
+    ensures no_memory_faults { result ≡ Outcome.NoMemory → O.faults out.new ≡ O.faults out.old }
+    ensures no_memory_line { result ≡ Outcome.NoMemory → KeepsLineAndFaults (D.state deck.old) (D.state deck.new) }
+    ensures no_memory_disk { result ≡ Outcome.NoMemory → LeavesDisk (D.state deck.old) (D.state deck.new) }
+    ensures no_memory_told { result ≡ Outcome.NoMemory → (D.state deck.new).told ≡ (D.state deck.old).told }
+{
+    match Recording::new(alloc, table) {
+        Ok(mut recording) => stream_trace(&mut recording, deck, out),
+        Err(NoMemory) => Outcome::NoMemory,
+    }
+}
