@@ -1,5 +1,5 @@
 -- The records that were streamed of a trace.
-use Rattle.std.proofs.Common.{◌≡◌, ℕ, ◌-◌, ◌*◌, ◌<◌, ◌≤◌, ⊎_elim, min, true, false, List, [], ◌∷◌, ◌++◌, length, take, Option, Some, None, Bool, ap, sym, refl, ◌∙◌, subst, length-append, arith}
+use Rattle.std.proofs.Common.{◌≡◌, ◌≢◌, ℕ, ◌-◌, ◌*◌, ◌<◌, ◌≤◌, ⊎_elim, min, true, false, List, [], ◌∷◌, ◌++◌, length, take, Option, Some, None, Bool, ap, sym, refl, ◌∙◌, subst, length-append, arith}
 use Rattle.std.specs.Prelude.{◌||◌}
 use Rattle.std.proofs.lemmas.Bool.{cases_Bool}
 use Rattle.std.proofs.lemmas.List.{append-nil, take_all}
@@ -61,9 +61,9 @@ has_end-last : (records : List BusRecord) (r : BusRecord) → is_end r ≡ true 
 has_end-last records r ends = list_any-append is_end records (r ∷ []) ∙ rw ends (or_true (has_end records))
 
 -- after the end record
-pub IsStreamedTo-end : (t : TableRows) (tells : Tells) (a c : State) (k : Kept) (bytes : List ℕ) (records : List BusRecord) (r : BusRecord) (before now : Option (List ℕ)) → PullsMore tells a c [] bytes → good_prefix bytes ≡ records ++ r ∷ [] → is_end r ≡ true → IsStreamed k t (records ++ r ∷ []) before now →
+pub IsStreamedTo-end : (t : TableRows) (tells : Tells) (a c : State) (k : Kept) (bytes : List ℕ) (records : List BusRecord) (r : BusRecord) (before now : Option (List ℕ)) → PullsMore tells a c [] bytes → good_prefix bytes ≡ records ++ r ∷ [] → is_end r ≡ true → IsStreamed k t (records ++ r ∷ []) before now → c.line_faults ≡ a.line_faults →
     IsStreamedTo t tells a c k before now outcome.Done
-IsStreamedTo-end t tells a c k bytes records r before now pulls good ends streamed = record {
+IsStreamedTo-end t tells a c k bytes records r before now pulls good ends streamed quiet = record {
   pulled = bytes;
   pulls = pulls;
   streamed = subst (λ (x : List BusRecord). IsStreamed k t x before now) (sym good) streamed;
@@ -74,6 +74,7 @@ IsStreamedTo-end t tells a c k bytes records r before now pulls good ends stream
   truncated = λ index e. absurd (cc);
   undecided = λ e. absurd (cc);
   cause = λ e. absurd (cc);
+  quiet = λ not. quiet;
 }
 
 -- the refusal of a trace that an answer names
@@ -88,9 +89,9 @@ same_cause : (index i : ℕ) (why w : TraceFault) → outcome.TraceRefused index
 same_cause index i why w e = cc
 
 -- where no further record comes
-pub IsStreamedTo-stop : (t : TableRows) (tells : Tells) (a b c : State) (k : Kept) (bytes more : List ℕ) (records : List BusRecord) (s : TraceStop) (before now : Option (List ℕ)) → PullsMore tells a b [] bytes → PullsMore tells b c bytes more → IsStopped tells b c (bytes ++ more) records s → IsStreamed k t records before now →
+pub IsStreamedTo-stop : (t : TableRows) (tells : Tells) (a b c : State) (k : Kept) (bytes more : List ℕ) (records : List BusRecord) (s : TraceStop) (before now : Option (List ℕ)) → PullsMore tells a b [] bytes → PullsMore tells b c bytes more → IsStopped tells b c (bytes ++ more) records s → IsStreamed k t records before now → b.line_faults ≡ a.line_faults → (s ≢ stop.Failed → c.line_faults ≡ b.line_faults) →
     IsStreamedTo t tells a c k before now (answer_of_stop s)
-IsStreamedTo-stop t tells a b c k bytes more records (stop.Refused index why) before now first second stopped streamed = record {
+IsStreamedTo-stop t tells a b c k bytes more records (stop.Refused index why) before now first second stopped streamed before_quiet quiet = record {
   pulled = bytes ++ more;
   pulls = PullsMore-next tells a b c bytes more first second;
   streamed = subst (λ (x : List BusRecord). IsStreamed k t x before now) (sym stopped.good) streamed;
@@ -101,8 +102,9 @@ IsStreamedTo-stop t tells a b c k bytes more records (stop.Refused index why) be
   truncated = λ i e told. stopped.end (same_cause index i why trace.Truncated e) told;
   undecided = λ e. absurd (cc);
   cause = λ e. absurd (cc);
+  quiet = λ not. quiet (λ e. absurd (cc)) ∙ before_quiet;
 }
-IsStreamedTo-stop t tells a b c k bytes more records stop.Failed before now first second stopped streamed = record {
+IsStreamedTo-stop t tells a b c k bytes more records stop.Failed before now first second stopped streamed before_quiet quiet = record {
   pulled = bytes ++ more;
   pulls = PullsMore-next tells a b c bytes more first second;
   streamed = subst (λ (x : List BusRecord). IsStreamed k t x before now) (sym stopped.good) streamed;
@@ -113,6 +115,7 @@ IsStreamedTo-stop t tells a b c k bytes more records stop.Failed before now firs
   truncated = λ i e. absurd (cc);
   undecided = λ e. stopped.undecided;
   cause = λ e. omega (arith, first.faults, stopped.cause);
+  quiet = λ not. absurd (not refl);
 }
 
 shorter : (t : TableRows) (bytes : List ℕ) (records later : List BusRecord) (m : ℕ) → good_prefix bytes ≡ records ++ later → take m (due_text t records) ≡ take (min m (4096 * due_blocks t 4096 records)) (stream_of t (good_prefix bytes))
@@ -169,6 +172,7 @@ Streams-part t tells a c before now streamed = record {
   refused = λ index why e. absurd (cc);
   truncated = λ index e. absurd (cc);
   undecided = λ e. absurd (cc);
+  quiet = λ read write. absurd (write refl);
 }
 
 pub Streams-failed : (t : TableRows) (tells : Tells) (a c : State) (k : Kept) (before middle now : Option (List ℕ)) (answer : Outcome) (streamed : IsStreamedTo t tells a c k before middle answer) → (m : ℕ) × (now ≡ followed_by before (take m (stream_of t (good_prefix streamed.pulled)))) →
@@ -189,4 +193,5 @@ Streams-all t tells a c k before middle now answer streamed all =
       refused = streamed.refused;
       truncated = streamed.truncated;
       undecided = streamed.undecided;
+      quiet = λ read write. streamed.quiet read;
     }

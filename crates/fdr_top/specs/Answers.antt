@@ -124,3 +124,4 @@ pub record Streams (t : TableRows) (tells : Tells) (old new : State) (written_be
   pub refused : (index : ℕ) (why : TraceFault) → answer ≡ outcome.TraceRefused index why → trace_fault pulled ≡ Some (index, why)
   pub truncated : (index : ℕ) → answer ≡ outcome.TraceRefused index trace.Truncated → IsTrue tells.line → new.line ≡ []
   pub undecided : answer ≡ outcome.ReadFault input.Line → IsDecided pulled → ⊥
+  pub quiet : answer ≢ outcome.ReadFault input.Line → answer ≢ outcome.WriteFault → new.line_faults ≡ old.line_faults

@@ -56,6 +56,7 @@ pub record IsStreamedTo (t : TableRows) (tells : Tells) (old new : State) (k : K
   pub truncated : (index : ℕ) → answer ≡ outcome.TraceRefused index trace.Truncated → IsTrue tells.line → new.line ≡ []
   pub undecided : answer ≡ outcome.ReadFault input.Line → IsDecided pulled → ⊥
   pub cause : answer ≡ outcome.ReadFault input.Line → Rose old.line_faults new.line_faults
+  pub quiet : answer ≢ outcome.ReadFault input.Line → new.line_faults ≡ old.line_faults
 
 -- a front part of the stream of these bytes' good records was written
 pub record IsStreamedPart (t : TableRows) (tells : Tells) (old new : State) (written_before written_now : Option (List ℕ)) : Type 0 where

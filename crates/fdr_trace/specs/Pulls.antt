@@ -12,6 +12,7 @@ pub record Pulled (tells : Tells) (old new : State) (piece : List ℕ) : Type 0 
   pub began : 0 < length piece → new.before ≡ old.taken
   pub none : length piece ≡ 0 → new.before ≡ old.before
   pub end : length piece ≡ 0 → IsTrue tells.line → new.line ≡ []
+  pub faults : new.line_faults ≡ old.line_faults
 
 -- Behind these bytes of the trace, more were pulled, at most 4,096 at a time, and none once the bytes before it decided the
 -- trace. The disk and the announced number stay.

@@ -1,7 +1,7 @@
 //! The records of a trace, pulled from a deck's line a piece at a time.
 #![tactic(auto)]
 
-ghost use Rattle.std.specs.Prelude.{◌≡◌, ◌<◌, ◌≤◌, ◌+◌, ℕ, List, [], ◌++◌, length, IfOk, IfErr, OnOk, OnErr, MatchResult, IsTrue};
+ghost use Rattle.std.specs.Prelude.{◌≡◌, ◌≢◌, ◌<◌, ◌≤◌, ◌+◌, ℕ, List, [], ◌++◌, length, Err, IfOk, IfErr, OnOk, OnErr, MatchResult, IsTrue};
 ghost use Rattle.fdr_io.specs.Faults.{Rose};
 ghost use Rattle.fdr_deck.specs.Calls.{LeavesDisk};
 ghost use Rattle.fdr_deck.specs.Pull.{KeepsLine};
@@ -71,10 +71,11 @@ impl TraceLine {
     /// The next record of the trace, which may be its end. It pulls only where less than a record waits.
     pub fn next<D: Deck>(&mut self, deck: &mut D) -> Result<BusRecord, TraceStop>
         requires { (bytes : List ℕ) × (records : List BusRecord) × Reads self.old bytes records }
-        ensures { (bytes : List ℕ) (records : List BusRecord) → Reads self.old bytes records
+        ensures next { (bytes : List ℕ) (records : List BusRecord) → Reads self.old bytes records
             → (more : List ℕ) × PullsMore D.tells (D.state deck.old) (D.state deck.new) bytes more
             × MatchResult result (IsNext self.new (bytes ++ more) records)
             (IsStopped D.tells (D.state deck.old) (D.state deck.new) (bytes ++ more) records) }
+        ensures quiet { result ≢ Err TraceStop.Failed → (D.state deck.new).line_faults ≡ (D.state deck.old).line_faults }
     {
         if self.count() == MOST_RECORDS {
             return Err(self.refused(TraceFault::Many));
@@ -143,11 +144,12 @@ impl TraceLine {
     /// Pulls until a whole record waits.
     fn fill<D: Deck>(&mut self, deck: &mut D) -> Result<(), TraceStop>
         requires { (bytes : List ℕ) × (records : List BusRecord) × Reads self.old bytes records × (length records < most_records) }
-        ensures { (bytes : List ℕ) (records : List BusRecord) → Reads self.old bytes records
+        ensures filled { (bytes : List ℕ) (records : List BusRecord) → Reads self.old bytes records
             → length records < most_records
             → (more : List ℕ) × PullsMore D.tells (D.state deck.old) (D.state deck.new) bytes more
             × MatchResult result (λ done. IsFilled self.new (bytes ++ more) records)
             (IsStopped D.tells (D.state deck.old) (D.state deck.new) (bytes ++ more) records) }
+        ensures quiet { result ≢ Err TraceStop.Failed → (D.state deck.new).line_faults ≡ (D.state deck.old).line_faults }
     {
         while self.waiting() < RECORD {
             match self.pull(deck) {

@@ -1,32 +1,38 @@
-use Rattle.std.proofs.Common.{[], ◌∷◌, ◌++◌, arith}
+use Rattle.std.proofs.Common.{◌≡◌, ◌∙◌, Result, Err, refl, [], ◌∷◌, ◌++◌, arith}
 use Rattle.std.proofs.lemmas.Result.{err_from_is_err_and}
+use Rattle.fdr_bus.specs.declared.BusRecord.{BusRecord}
+use Rattle.fdr_trace.specs.declared.TraceStop.{TraceStop}
 use Rattle.fdr_trace.proofs.Pulling.{PullsMore-none}
 use Rattle.fdr_top.proofs.Records.{IsStreamed-made, ComesNext-read, PullsMore-next, IsStreamedTo-end, IsStreamedTo-stop, IsStreamedPart-next, good_with_next, is_end-yes, is_end-no, count_rises}
 use Rattle.fdr_top.proofs.streaming.stream_records.Goals as goal
 
+err_same : (s s' : TraceStop) → ◌≡◌ {A = Result BusRecord TraceStop} (Err s) (Err s') → s ≡ s'
+err_same s s' e = cc
+
 pub loop-next-init : goal.loop-next-init
 loop-next-init g c = record {
   streamed = λ t fresh. ([], [], PullsMore-none _ _ [], fresh.trace, IsStreamed-made _ t _ fresh.stream);
+  quiet = refl;
   monotone = omega arith;
 }
 
 pub returns-in-Err-clause-all : goal.returns-in-Err-clause-all
 returns-in-Err-clause-all g c = λ t fresh.
     let at = c.loop-next.invariant.streamed t fresh in
-    let next = c.in-Err.ensures at.0 at.1 at.3 in
-    rw c.answer_of_stop.ensures (IsStreamedTo-stop t _ _ _ _ _ at.0 next.0 at.1 c.in-Err.stop _ _ at.2 next.1 next.2 at.4)
+    let next = c.in-Err.ensures.next at.0 at.1 at.3 in
+    rw c.answer_of_stop.ensures (IsStreamedTo-stop t _ _ _ _ _ at.0 next.0 at.1 c.in-Err.stop _ _ at.2 next.1 next.2 at.4 c.loop-next.invariant.quiet (λ not. c.in-Err.ensures.quiet (λ e. not (err_same _ _ e))))
 
 pub write_record-requires : goal.write_record-requires
 write_record-requires g c =
     let r = c.requires in
     let at = c.loop-next.invariant.streamed r.0 r.1 in
-    let next = c.in-Ok.ensures at.0 at.1 at.3 in
+    let next = c.in-Ok.ensures.next at.0 at.1 at.3 in
     (r.0, at.1, at.4.stands, ComesNext-read _ _ at.0 next.0 at.1 c.in-Ok.next at.3 next.2)
 
 pub returns-in_err-write_record-clause-part : goal.returns-in_err-write_record-clause-part
 returns-in_err-write_record-clause-part g c = λ t fresh.
     let at = c.loop-next.invariant.streamed t fresh in
-    let next = c.in-Ok.ensures at.0 at.1 at.3 in
+    let next = c.in-Ok.ensures.next at.0 at.1 at.3 in
     let comes = ComesNext-read _ _ at.0 next.0 at.1 c.in-Ok.next at.3 next.2 in
     let part = c.in_err-write_record.ensures.part t at.1 _ at.4 comes in
     let good = good_with_next _ (at.0 ++ next.0) at.1 c.in-Ok.next next.2 in
@@ -36,24 +42,24 @@ returns-in_err-write_record-clause-part g c = λ t fresh.
 pub returns-in-End-clause-all : goal.returns-in-End-clause-all
 returns-in-End-clause-all g c = λ t fresh.
     let at = c.loop-next.invariant.streamed t fresh in
-    let next = c.in-Ok.ensures at.0 at.1 at.3 in
+    let next = c.in-Ok.ensures.next at.0 at.1 at.3 in
     let comes = ComesNext-read _ _ at.0 next.0 at.1 c.in-Ok.next at.3 next.2 in
     let ends = is_end-yes c.in-Ok.next c.in-End.is in
     IsStreamedTo-end t _ _ _ _ (at.0 ++ next.0) at.1 c.in-Ok.next _ _ (PullsMore-next _ _ _ _ at.0 next.0 at.2 next.1) (next.2.ends ends) ends
-    (c.in_ok-write_record.ensures.all t at.1 _ at.4 comes)
+    (c.in_ok-write_record.ensures.all t at.1 _ at.4 comes) (c.in-Ok.ensures.quiet (λ e. absurd (cc)) ∙ c.loop-next.invariant.quiet)
 
 pub loop-next-smaller : goal.loop-next-smaller
 loop-next-smaller g c =
     let r = c.requires in
     let at = c.loop-next.invariant.streamed r.0 r.1 in
-    let next = c.in-Ok.ensures at.0 at.1 at.3 in
+    let next = c.in-Ok.ensures.next at.0 at.1 at.3 in
     count_rises _ _ at.0 (at.0 ++ next.0) at.1 c.in-Ok.next at.3 (next.2.more (is_end-no c.in-Ok.next c.in-Word.is))
 
 pub loop-next-preserved : goal.loop-next-preserved
 loop-next-preserved g c = record {
   streamed = λ t fresh.
       let at = c.loop-next.invariant.streamed t fresh in
-      let next = c.in-Ok.ensures at.0 at.1 at.3 in
+      let next = c.in-Ok.ensures.next at.0 at.1 at.3 in
       let comes = ComesNext-read _ _ at.0 next.0 at.1 c.in-Ok.next at.3 next.2 in (
         at.0 ++ next.0,
         at.1 ++ c.in-Ok.next ∷ [],
@@ -61,5 +67,6 @@ loop-next-preserved g c = record {
         next.2.more (is_end-no c.in-Ok.next c.in-Word.is),
         c.in_ok-write_record.ensures.all t at.1 _ at.4 comes,
       );
+  quiet = c.in-Ok.ensures.quiet (λ e. absurd (cc)) ∙ c.loop-next.invariant.quiet;
   monotone = omega (arith, c.loop-next.invariant.monotone, c.write_record.ensures.monotone);
 }

@@ -1,4 +1,4 @@
-use Rattle.std.proofs.Common.{◌-◌, ◌<◌, ℕ, List, ◌++◌, length}
+use Rattle.std.proofs.Common.{◌≡◌, ◌-◌, ◌<◌, ℕ, List, ◌++◌, length}
 use Rattle.fdr_bus.specs.declared.BusRecord.{BusRecord}
 use Rattle.fdr_bus.specs.Records.{most_records}
 use Rattle.fdr_trace.specs.Pulls.{PullsMore}
@@ -6,9 +6,11 @@ use Rattle.fdr_trace.specs.Reading.{Reads}
 use Rattle.fdr_trace.proofs.TraceLine.fill.Given as goal
 
 abbrev pub invariant-loop-self : goal.invariant-loop-self
-invariant-loop-self g l =
-    (bytes : List ℕ) (records : List BusRecord) → Reads l.fn.self bytes records → length records < most_records →
-    (more : List ℕ) × PullsMore g.D.Deck.tells (g.D.Deck.state l.fn.deck) (g.D.Deck.state l.deck) bytes more × Reads l.self (bytes ++ more) records
+invariant-loop-self g l = record {
+  filled : (bytes : List ℕ) (records : List BusRecord) → Reads l.fn.self bytes records → length records < most_records →
+      (more : List ℕ) × PullsMore g.D.Deck.tells (g.D.Deck.state l.fn.deck) (g.D.Deck.state l.deck) bytes more × Reads l.self (bytes ++ more) records;
+  quiet : (g.D.Deck.state l.deck).line_faults ≡ (g.D.Deck.state l.fn.deck).line_faults;
+}
 
 abbrev pub decreases-loop-self : goal.decreases-loop-self
 decreases-loop-self g l = 16 - length l.self.waiting

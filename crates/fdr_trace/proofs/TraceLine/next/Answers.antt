@@ -25,8 +25,8 @@ many_refused tells now k bytes records reads many =
 not_most : (k : Kept) (n : ℕ) → n ≡ k.count → n ≢ 4294967296 → k.count ≢ 4294967296
 not_most k n is not = λ e. not (is ∙ e)
 
-pub returns-then-count-eq-MOST_RECORDS : goal.returns-then-count-eq-MOST_RECORDS
-returns-then-count-eq-MOST_RECORDS g c = λ bytes records reads.
+pub returns-then-count-eq-MOST_RECORDS-clause-next : goal.returns-then-count-eq-MOST_RECORDS-clause-next
+returns-then-count-eq-MOST_RECORDS-clause-next g c = λ bytes records reads.
     ([], PullsMore-none _ _ bytes, rw c.refused.ensures (many_refused _ _ c.args.self.now bytes records reads (sym c.count.ensures ∙ c.if-count-eq-MOST_RECORDS.true)))
 
 pub fill-requires : goal.fill-requires
@@ -34,16 +34,16 @@ fill-requires g c =
     let r = c.requires in
     (r.0, r.1, r.2, Reads-few c.args.self.now r.0 r.1 r.2 (not_most c.args.self.now c.count.result c.count.ensures c.if-count-eq-MOST_RECORDS.false))
 
-pub returns-in-Err : goal.returns-in-Err
-returns-in-Err g c = λ bytes records reads.
+pub returns-in-Err-clause-next : goal.returns-in-Err-clause-next
+returns-in-Err-clause-next g c = λ bytes records reads.
     let few = Reads-few c.args.self.now bytes records reads (not_most c.args.self.now c.count.result c.count.ensures c.if-count-eq-MOST_RECORDS.false) in
-    c.in-Err.ensures bytes records reads few
+    c.in-Err.ensures.filled bytes records reads few
 
 pub read-requires-clause-waits : goal.read-requires-clause-waits
 read-requires-clause-waits g c =
     let r = c.requires in
     let few = Reads-few c.args.self.now r.0 r.1 r.2 (not_most c.args.self.now c.count.result c.count.ensures c.if-count-eq-MOST_RECORDS.false) in
-    (c.in-Ok.ensures r.0 r.1 r.2 few).2.waits
+    (c.in-Ok.ensures.filled r.0 r.1 r.2 few).2.waits
 
 few_now : (k : Kept) (bytes : List ℕ) (records : List BusRecord) → Reads k bytes records → length records < most_records → k.count < 4294967296
 unfolding most_records
@@ -53,11 +53,11 @@ pub read-requires-clause-few : goal.read-requires-clause-few
 read-requires-clause-few g c =
     let r = c.requires in
     let few = Reads-few c.args.self.now r.0 r.1 r.2 (not_most c.args.self.now c.count.result c.count.ensures c.if-count-eq-MOST_RECORDS.false) in
-    let filled = c.in-Ok.ensures r.0 r.1 r.2 few in
+    let filled = c.in-Ok.ensures.filled r.0 r.1 r.2 few in
     few_now c.fill.new.self (r.0 ++ filled.0) r.1 filled.2.reads few
 
-pub returns-in-Ok : goal.returns-in-Ok
-returns-in-Ok g c = λ bytes records reads.
+pub returns-in-Ok-clause-next : goal.returns-in-Ok-clause-next
+returns-in-Ok-clause-next g c = λ bytes records reads.
     let few = Reads-few c.args.self.now bytes records reads (not_most c.args.self.now c.count.result c.count.ensures c.if-count-eq-MOST_RECORDS.false) in
-    let filled = c.in-Ok.ensures bytes records reads few in
+    let filled = c.in-Ok.ensures.filled bytes records reads few in
     (filled.0, filled.1, next_of _ _ _ c.fill.new.self c.read.new.self (bytes ++ filled.0) records c.read.result filled.2.reads few c.read.ensures.good c.read.ensures.bad)
