@@ -1,6 +1,6 @@
 //! The stream of the trace on a deck's line.
 
-ghost use Rattle.std.specs.Prelude.{◌≡◌, ◌≢◌, ◌+◌, ◌-◌, ◌*◌, ◌≤◌, ◌<◌, ℕ, List, [], ◌∷◌, ◌++◌, Option, take, OnOk, OnErr, IfOk, ◌⊎◌};
+ghost use Rattle.std.specs.Prelude.{◌≡◌, ◌≢◌, ◌≤◌, ℕ, List, [], ◌∷◌, ◌++◌, Option, length, take, OnOk, OnErr, IfOk, ◌⊎◌};
 ghost use Rattle.fdr_io.specs.Faults.{Rose};
 ghost use Rattle.fdr_io.specs.Told.{followed_by};
 ghost use Rattle.fdr_deck.specs.Calls.{LeavesDisk};
@@ -43,9 +43,15 @@ impl Recording {
     }
 }
 
-/// Feeds a record to the stream, and writes the blocks that are due at it.
-fn write_record<O: Sink>(stream: &mut Stream, next: &BusRecord, out: &mut O) -> Result<(), Failed>
-    requires { (t : TableRows) × (records : List BusRecord) × StandsFor stream.old (past_of t records) × ComesNext records next.now }
+/// Feeds a record to the stream, and writes the blocks that are due at it. `block` has room for one.
+fn write_record<O: Sink>(
+    stream: &mut Stream,
+    next: &BusRecord,
+    block: &mut [u8],
+    out: &mut O,
+) -> Result<(), Failed>
+    requires room { length block.old ≡ 4096 }
+    requires fed { (t : TableRows) × (records : List BusRecord) × StandsFor stream.old (past_of t records) × ComesNext records next.now }
     ensures all { OnOk result ((t : TableRows) (records : List BusRecord) (before : Option (List ℕ))
         → IsStreamed stream.old t records before (O.written out.old) → ComesNext records next.now
         → IsStreamed stream.new t (records ++ next.now ∷ []) before (O.written out.new)) }
@@ -56,19 +62,19 @@ fn write_record<O: Sink>(stream: &mut Stream, next: &BusRecord, out: &mut O) -> 
     ensures quiet { OnOk result (O.faults out.new ≡ O.faults out.old) }
     ensures monotone { O.faults out.old ≤ O.faults out.new }
 {
-    let mut block = [0; PAYLOAD];
     for i in 0..MANY_BLOCKS {
-        match stream.feed(next, &mut block) {
+        match stream.feed(next, block) {
             Fed::Taken => return Ok(()),
-            Fed::Block => write_whole(out, &block)?,
+            Fed::Block => write_whole(out, block)?,
         }
     }
     unreachable!()
 }
 
 /// Writes the last bytes of the stream.
-fn write_rest<O: Sink>(stream: &mut Stream, out: &mut O) -> Result<(), Failed>
-    requires { (t : TableRows) × (records : List BusRecord) × StandsFor stream.old (past_of t records) }
+fn write_rest<O: Sink>(stream: &mut Stream, block: &mut [u8], out: &mut O) -> Result<(), Failed>
+    requires room { length block.old ≡ 4096 }
+    requires fed { (t : TableRows) × (records : List BusRecord) × StandsFor stream.old (past_of t records) }
     ensures all { OnOk result ((t : TableRows) (records : List BusRecord) (before : Option (List ℕ))
         → IsStreamed stream.old t records before (O.written out.old)
         → O.written out.new ≡ followed_by before (stream_of t records)) }
@@ -78,8 +84,7 @@ fn write_rest<O: Sink>(stream: &mut Stream, out: &mut O) -> Result<(), Failed>
     ensures cause { OnErr result (Rose (O.faults out.old) (O.faults out.new)) }
     ensures monotone { O.faults out.old ≤ O.faults out.new }
 {
-    let mut block = [0; PAYLOAD];
-    let count = stream.finish(&mut block);
+    let count = stream.finish(block);
     write_whole(out, &block[..count])
 }
 
@@ -97,10 +102,12 @@ fn answer_of_stop(stop: TraceStop) -> Outcome
 /// which fill no block, are not written yet.
 fn stream_records<D: Deck, O: Sink>(
     recording: &mut Recording,
+    block: &mut [u8],
     deck: &mut D,
     out: &mut O,
 ) -> Result<Outcome, Failed>
-    requires { (t : TableRows) × IsFresh recording.old t }
+    requires room { length block.old ≡ 4096 }
+    requires fresh { (t : TableRows) × IsFresh recording.old t }
     ensures all { (t : TableRows) → IsFresh recording.old t → IfOk result (λ answer.
         IsStreamedTo t D.tells (D.state deck.old) (D.state deck.new) recording.new.stream (O.written out.old) (O.written out.new) answer) }
     ensures part { (t : TableRows) → IsFresh recording.old t → OnErr result (
@@ -113,7 +120,7 @@ fn stream_records<D: Deck, O: Sink>(
             Ok(next) => next,
             Err(stop) => return Ok(answer_of_stop(stop)),
         };
-        write_record(&mut recording.stream, &next, out)?;
+        write_record(&mut recording.stream, &next, block, out)?;
         match next.kind {
             RecordKind::Word => {}
             RecordKind::End => return Ok(Outcome::Done),
@@ -130,11 +137,12 @@ fn stream_trace<D: Deck, O: Sink>(recording: &mut Recording, deck: &mut D, out: 
     ensures line_fault { result ≡ Outcome.ReadFault Input.Line → Rose (D.state deck.old).line_faults (D.state deck.new).line_faults }
     ensures write_fault { result ≡ Outcome.WriteFault → Rose (O.faults out.old) (O.faults out.new) }
 {
-    let answer = match stream_records(recording, deck, out) {
+    let mut block = [0; PAYLOAD];
+    let answer = match stream_records(recording, &mut block, deck, out) {
         Ok(answer) => answer,
         Err(Failed) => return Outcome::WriteFault,
     };
-    match write_rest(&mut recording.stream, out) {
+    match write_rest(&mut recording.stream, &mut block, out) {
         Ok(()) => answer,
         Err(Failed) => Outcome::WriteFault,
     }

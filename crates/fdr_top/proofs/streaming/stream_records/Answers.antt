@@ -12,6 +12,7 @@ err_same s s' e = cc
 pub loop-next-init : goal.loop-next-init
 loop-next-init g c = record {
   streamed = λ t fresh. ([], [], PullsMore-none _ _ [], fresh.trace, IsStreamed-made _ t _ fresh.stream);
+  room = c.requires.room;
   quiet = refl;
   monotone = omega arith;
 }
@@ -22,9 +23,9 @@ returns-in-Err-clause-all g c = λ t fresh.
     let next = c.in-Err.ensures.next at.0 at.1 at.3 in
     rw c.answer_of_stop.ensures (IsStreamedTo-stop t _ _ _ _ _ at.0 next.0 at.1 c.in-Err.stop _ _ at.2 next.1 next.2 at.4 c.loop-next.invariant.quiet (λ not. c.in-Err.ensures.quiet (λ e. not (err_same _ _ e))))
 
-pub write_record-requires : goal.write_record-requires
-write_record-requires g c =
-    let r = c.requires in
+pub write_record-requires-clause-fed : goal.write_record-requires-clause-fed
+write_record-requires-clause-fed g c =
+    let r = c.requires.fresh in
     let at = c.loop-next.invariant.streamed r.0 r.1 in
     let next = c.in-Ok.ensures.next at.0 at.1 at.3 in
     (r.0, at.1, at.4.stands, ComesNext-read _ _ at.0 next.0 at.1 c.in-Ok.next at.3 next.2)
@@ -50,7 +51,7 @@ returns-in-End-clause-all g c = λ t fresh.
 
 pub loop-next-smaller : goal.loop-next-smaller
 loop-next-smaller g c =
-    let r = c.requires in
+    let r = c.requires.fresh in
     let at = c.loop-next.invariant.streamed r.0 r.1 in
     let next = c.in-Ok.ensures.next at.0 at.1 at.3 in
     count_rises _ _ at.0 (at.0 ++ next.0) at.1 c.in-Ok.next at.3 (next.2.more (is_end-no c.in-Ok.next c.in-Word.is))
@@ -67,6 +68,7 @@ loop-next-preserved g c = record {
         next.2.more (is_end-no c.in-Ok.next c.in-Word.is),
         c.in_ok-write_record.ensures.all t at.1 _ at.4 comes,
       );
+  room = omega (arith, c.write_record.auto.block, c.loop-next.invariant.room);
   quiet = c.in-Ok.ensures.quiet (λ e. absurd (cc)) ∙ c.loop-next.invariant.quiet;
   monotone = omega (arith, c.loop-next.invariant.monotone, c.write_record.ensures.monotone);
 }

@@ -1,4 +1,4 @@
-use Rattle.std.proofs.Common.{◌≡◌, ◌≤◌, ◌-◌, ℕ, List, []}
+use Rattle.std.proofs.Common.{◌≡◌, ◌≤◌, ◌-◌, ℕ, List, [], length}
 use Rattle.fdr_bus.specs.declared.BusRecord.{BusRecord}
 use Rattle.fdr_table.specs.Rows.{TableRows}
 use Rattle.fdr_trace.specs.Pulls.{PullsMore}
@@ -11,6 +11,7 @@ invariant-loop-next g l = record {
   streamed : (t : TableRows) → IsFresh l.fn.recording t →
       (bytes : List ℕ) × (records : List BusRecord) × PullsMore g.D.Deck.tells (g.D.Deck.state l.fn.deck) (g.D.Deck.state l.deck) [] bytes
       × Reads l.recording.trace bytes records × IsStreamed l.recording.stream t records (g.O.Sink.written l.fn.out) (g.O.Sink.written l.out);
+  room : length l.block ≡ 4096;
   quiet : (g.D.Deck.state l.deck).line_faults ≡ (g.D.Deck.state l.fn.deck).line_faults;
   monotone : g.O.Sink.faults l.fn.out ≤ g.O.Sink.faults l.out;
 }

@@ -12,7 +12,7 @@ loop-i-init g c = record {
     IsGiving-first c.args.stream.now t records c.args.next.now stands,
     λ before written. rw (← text-first t records c.args.next.now next) written,
   );
-  room = refl;
+  room = c.requires.room;
   quiet = refl;
 }
 
@@ -54,7 +54,7 @@ returns-in_err-write_whole-in-Block-clause-part g c =
 
 pub unreachable-requires : goal.unreachable-requires
 unreachable-requires g c =
-    let r = c.requires in
+    let r = c.requires.fed in
     let at = c.loop-i.invariant.giving r.0 r.1 r.2 r.3 in
     let few = due_blocks-few r.0 r.1 c.args.next.now r.2.packed.words r.3.in_time in
     ⊎_elim
