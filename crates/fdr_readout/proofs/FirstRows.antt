@@ -123,48 +123,48 @@ pub record IsPlaceRight (l : PlaceRow) : Type 0 where
   pub lsb_high : l.lsb ≤ 12
   pub bits : l.lsb + l.width ≤ 13
 
-frame_says : (row : Row) → is_frame (kind_of row) ≡ true → frame_misread row ≡ None → (f : FrameRow) × (frame_row row ≡ Some f) × IsFrameRight f
+frame_says : (cells : Row) → is_frame (kind_of cells) ≡ true → frame_misread cells ≡ None → (f : FrameRow) × (frame_row cells ≡ Some f) × IsFrameRight f
 unfolding frame_row frame_misread
-frame_says row is right =
-    let misreads = misread 1 (number_of frame_sizes (field row 1)) ∷ misread 2 (number_in 2 1024 (field row 2)) ∷ misread 3 (number_in 1 4 (field row 3)) ∷ [] in
-    let cword = in_bounds 2 1024 (field row 2) 2 (none_among misreads 1 right) in
-    let csub = in_bounds 1 4 (field row 3) 3 (none_among misreads 2 right) in
+frame_says cells is right =
+    let misreads = misread 1 (number_of frame_sizes (field cells 1)) ∷ misread 2 (number_in 2 1024 (field cells 2)) ∷ misread 3 (number_in 1 4 (field cells 3)) ∷ [] in
+    let cword = in_bounds 2 1024 (field cells 2) 2 (none_among misreads 1 right) in
+    let csub = in_bounds 1 4 (field cells 3) 3 (none_among misreads 2 right) in
     let f : FrameRow = record {
-      words = unwrap_or (number_of frame_sizes (field row 1)) 0;
-      cword = unwrap_or (number_in 2 1024 (field row 2)) 0;
-      csub = unwrap_or (number_in 1 4 (field row 3)) 0;
+      words = unwrap_or (number_of frame_sizes (field cells 1)) 0;
+      cword = unwrap_or (number_in 2 1024 (field cells 2)) 0;
+      csub = unwrap_or (number_in 1 4 (field cells 3)) 0;
     } in
     (f, rw (is, right) refl, record { cword = cword.0; csub_low = csub.0; csub_high = csub.1 })
 
 said : {A : Type 0} (k : Bool) (m : Option TableFault) (x : A) → k ≡ true → m ≡ None → (y : A) × ((if k && is_none m then Some x else None) ≡ Some y)
 said k m x is right = (x, rw (is, right) refl)
 
-param_says : (n : ℕ) (row : Row) → is_param (kind_of row) ≡ true → param_misread row ≡ None → misnamed row ≡ None → (p : ParamRow) × (param_row n row ≡ Some p)
+param_says : (n : ℕ) (cells : Row) → is_param (kind_of cells) ≡ true → param_misread cells ≡ None → misnamed cells ≡ None → (p : ParamRow) × (param_row n cells ≡ Some p)
 unfolding param_row
-param_says n row is right named = said (is_param (kind_of row)) (first_some (param_misread row ∷ misnamed row ∷ [])) _ is (rw (right, named) refl)
+param_says n cells is right named = said (is_param (kind_of cells)) (first_some (param_misread cells ∷ misnamed cells ∷ [])) _ is (rw (right, named) refl)
 
-place_says : (k n : ℕ) (row : Row) → is_place (kind_of row) ≡ true → place_misread row ≡ None → (l : PlaceRow) × (place_row k n row ≡ Some l) × IsPlaceRight l
+place_says : (k n : ℕ) (cells : Row) → is_place (kind_of cells) ≡ true → place_misread cells ≡ None → (l : PlaceRow) × (place_row k n cells ≡ Some l) × IsPlaceRight l
 unfolding place_row place_misread
-place_says k n row is right =
-    let lsb = number_in 1 12 (field row 6) in
-    let width = number_in 1 (bits_from 12 lsb) (field row 7) in
-    let cycle = number_in 0 (last_cycle (number_of periods (field row 9))) (field row 8) in
-    let misreads = misread 2 (number_in 1 4 (field row 2)) ∷ misread 3 (subframes_of (field row 3)) ∷ misread 4 (number_in 1 1024 (field row 4))
-    ∷ misread 5 (number_in 0 1024 (field row 5)) ∷ misread 6 lsb ∷ misread 7 width ∷ misread 8 cycle ∷ misread 9 (number_of periods (field row 9)) ∷ [] in
+place_says k n cells is right =
+    let lsb = number_in 1 12 (field cells 6) in
+    let width = number_in 1 (bits_from 12 lsb) (field cells 7) in
+    let cycle = number_in 0 (last_cycle (number_of periods (field cells 9))) (field cells 8) in
+    let misreads = misread 2 (number_in 1 4 (field cells 2)) ∷ misread 3 (subframes_of (field cells 3)) ∷ misread 4 (number_in 1 1024 (field cells 4))
+    ∷ misread 5 (number_in 0 1024 (field cells 5)) ∷ misread 6 lsb ∷ misread 7 width ∷ misread 8 cycle ∷ misread 9 (number_of periods (field cells 9)) ∷ [] in
     let read = none_among misreads 4 right in
-    let lsb_in = in_bounds 1 12 (field row 6) 6 read in
-    let width_in = in_bounds 1 (bits_from 12 lsb) (field row 7) 7 (none_among misreads 5 right) in
+    let lsb_in = in_bounds 1 12 (field cells 6) 6 read in
+    let width_in = in_bounds 1 (bits_from 12 lsb) (field cells 7) 7 (none_among misreads 5 right) in
     let left = bits_left 12 6 lsb read in
     let l : PlaceRow = record {
       param = k;
-      part = unwrap_or (number_in 1 4 (field row 2)) 0;
-      subs = unwrap_or (subframes_of (field row 3)) 0;
-      word = unwrap_or (number_in 1 1024 (field row 4)) 0;
-      step = unwrap_or (number_in 0 1024 (field row 5)) 0;
+      part = unwrap_or (number_in 1 4 (field cells 2)) 0;
+      subs = unwrap_or (subframes_of (field cells 3)) 0;
+      word = unwrap_or (number_in 1 1024 (field cells 4)) 0;
+      step = unwrap_or (number_in 0 1024 (field cells 5)) 0;
       lsb = unwrap_or lsb 0;
       width = unwrap_or width 0;
       cycle = unwrap_or cycle 0;
-      period = unwrap_or (number_of periods (field row 9)) 0;
+      period = unwrap_or (number_of periods (field cells 9)) 0;
       row = n;
     } in
     let bits : l.lsb + l.width ≤ 13 = omega (arith, left, lsb_in.1, width_in.1) in
