@@ -11,10 +11,14 @@ build:
 	mkdir -p bin
 	cp $(PROGRAM)/out/fdr_prog bin/fdr
 
-# Builds the program without its proofs, and lists the two examples.
+# Builds the program without its proofs, lists two recordings, and then streams a trace and lists what came out. The
+# stream goes by a file and not by a pipe, so that a failure of either command ends the demo.
 demo:
 	cd $(PROGRAM) && rt try -- listbits $(CURDIR)/examples/t1.csv < ../../examples/frame.bin
 	cd $(PROGRAM) && rt try -- listbits $(CURDIR)/examples/t1.csv < ../../examples/two_frames.bin
+	mkdir -p bin
+	cd $(PROGRAM) && rt try -- stream $(CURDIR)/examples/t1.csv < ../../examples/trace.bin > ../../bin/stream.bin
+	cd $(PROGRAM) && rt try -- listbits $(CURDIR)/examples/t1.csv < ../../bin/stream.bin
 
 # The gate: every proof, must-fail edit, test and program.
 test:
