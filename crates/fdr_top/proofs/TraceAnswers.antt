@@ -151,3 +151,11 @@ of_trace_line answer either of_line = ⊎_elim (λ none. absurd (rw none at of_l
 -- words are of one form
 pub same_form : (form : Option Form) (a b : Form) → form ≡ Some a → form ≡ Some b → a ≡ b
 same_form form a b first second = let c : Some a ≡ Some b = sym first ∙ second in cc
+
+-- only the bits of a listing are too many
+pub long_alone : (f : Form) (answer : Outcome) → ((path : List ℕ) → f ≡ stream_line path → (answer ≡ outcome.NoMemory) ⊎ IsOfTrace answer) → answer ≡ outcome.TooLong → (path : List ℕ) × (f ≡ list_bits path)
+long_alone (list_bits path) answer of_trace long = (path, refl)
+long_alone (stream_line path) answer of_trace long = ⊎_elim
+    (λ none. absurd (let c : outcome.NoMemory ≡ outcome.TooLong = sym none ∙ long in cc))
+    (λ trace. absurd (rw long at trace))
+    (of_trace path refl)

@@ -110,6 +110,12 @@ pub fn run<T: Source, D: Deck, O: Sink>(
         → Rose (D.state deck.old).line_faults (D.state deck.new).line_faults }
     ensures write_fault { result ≡ Outcome.WriteFault → Rose (O.faults out.old) (O.faults out.new) }
 
+    // Only a trace is refused as one, and only the bits of a listing are too many.
+    ensures trace_alone { (index : ℕ) (why : TraceFault) → result ≡ Outcome.TraceRefused index why
+        → (path : List ℕ) × (form_of (map string_bytes words.now) ≡ Some (stream_line path)) }
+    ensures listing_alone { result ≡ Outcome.TooLong
+        → (path : List ℕ) × (form_of (map string_bytes words.now) ≡ Some (list_bits path)) }
+
     // `listbits`: the listing of all bits of the line.
     ensures listing { (path bytes : List ℕ) → form_of (map string_bytes words.now) ≡ Some (list_bits path)
         → result ≡ Outcome.Done → T.rest table.old ≡ Some bytes → IsTrue D.tells.line

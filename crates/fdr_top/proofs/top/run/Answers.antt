@@ -1,4 +1,4 @@
-use Rattle.std.proofs.Common.{◌≡◌, inl, inr, ⊎_elim, ◌∙◌, ap, sym, Err}
+use Rattle.std.proofs.Common.{◌≡◌, Some, inl, inr, ⊎_elim, ◌∙◌, ap, sym, Err}
 use Rattle.fdr_words.specs.Forms.{list_bits, stream_line}
 use Rattle.fdr_words.specs.Request.{form_of_request}
 use Rattle.fdr_bus.specs.Records.{good_prefix}
@@ -10,7 +10,7 @@ use Rattle.fdr_readout.proofs.FirstTables.{first_table_recordable}
 use Rattle.fdr_readout.proofs.ReadsBack.{stream_lists_back}
 use Rattle.fdr_top.specs.Tables.{table_in}
 use Rattle.fdr_top.proofs.TableAnswers.{taken_is_all, accepted_told, not_both, refused_told, taken_to_end, memory_is_left, of_line_not_memory, whole_line}
-use Rattle.fdr_top.proofs.TraceAnswers.{told_stream, fault_answered, stream_done, refused_told_trace, of_trace_line, same_form}
+use Rattle.fdr_top.proofs.TraceAnswers.{told_stream, fault_answered, stream_done, refused_told_trace, of_trace_line, same_form, long_alone}
 use Rattle.fdr_top.proofs.top.run.Goals as goal
 
 pub returns-in-Ok-load_table-clause-refused_always :
@@ -122,3 +122,9 @@ returns-clause-complete_stream g c = λ path bytes words told accepted line_told
     let read = c.in-Err.ensures.refused row f (ap Err e) in
     not_both bytes row f accepted (refused_told _ _ read.0 bytes row f read.1 read.2 read.3 told))
     (λ e. table_quiet (c.in-Err.ensures.fault (ap Err e)))
+
+pub returns-in-Ok-load_table-clause-listing_alone :
+    goal.returns-in-Ok-load_table-clause-listing_alone
+returns-in-Ok-load_table-clause-listing_alone g c = λ long.
+    let p = long_alone (form_of_request c.in-Ok.request) c.carry_out.result c.carry_out.ensures.of_trace long in
+    (p.0, c.in-Ok.ensures.form ∙ ap Some p.1)
