@@ -1,0 +1,10 @@
+use Rattle.std.proofs.Common.{refl, arith}
+use Rattle.fdr_rows.proofs.sure.sure_command.Goals as goal
+
+pub returns-clause-listing : goal.returns-clause-listing
+returns-clause-listing c = λ path is accepted few.
+    c.run.ensures.complete path c.args.table.now is refl accepted refl few (λ rose. omega (arith, rose)) (λ rose. omega (arith, rose)) (λ rose. omega (arith, rose))
+
+pub returns-clause-stream : goal.returns-clause-stream
+returns-clause-stream c = λ path is accepted ended.
+    c.run.ensures.complete_stream path c.args.table.now is refl accepted refl ended (λ rose. omega (arith, rose)) (λ rose. omega (arith, rose)) (λ rose. omega (arith, rose))
