@@ -1,0 +1,62 @@
+-- The ring behind a block that has come.
+use Rattle.std.proofs.Common.{◌≡◌, ⊎_elim, ℕ, ◌+◌, ◌-◌, ◌%◌, ◌≤◌, List, [], ◌∷◌, length, take, drop, get_or, Option, Some, None, sym, ap, ◌∙◌, subst, arith}
+use Rattle.std.specs.Prelude.{IsTrue, IsSome, slice_index}
+use Rattle.std.proofs.lemmas.List.{get_or-append_right, length-take-le}
+use Rattle.fdr_deck.specs.State.{State, Tells}
+use Rattle.fdr_deck.specs.Disk.{Torn, IsSettled, patched}
+use Rattle.fdr_deck.specs.Moments.{IsSound}
+use Rattle.fdr_slot.specs.declared.image.Header.{Header}
+use Rattle.fdr_slot.specs.Limits.{IsInLimits}
+use Rattle.fdr_slot.specs.Places.{slot_size, image_size}
+use Rattle.fdr_recover.specs.Blocks.{Block}
+use Rattle.fdr_recover.specs.Images.{next_of}
+use Rattle.fdr_recover.proofs.Standing.{some_or_none}
+use Rattle.fdr_ring.specs.Gates.{gate_at, IsClosed, opened, waiting}
+use Rattle.fdr_ring.specs.Runs.{HasAdded}
+use Rattle.fdr_ring.specs.Rings.{IsSureRing, IsPrepared}
+use Rattle.fdr_ring.proofs.Turning.{gate_within, opened_torn, opened_image, next_slot, other_gate}
+
+patched_byte : (at b : ℕ) (old : List ℕ) → at ≤ length old → slice_index (patched at (b ∷ []) old) at ≡ b
+patched_byte at b old within =
+    let none : at - at ≡ 0 = omega arith in
+    get_or-append_right (take at old) (b ∷ drop (at + 1) old) at at 0 (length-take-le at old within) (omega arith)
+    ∙ ap (λ k. get_or (b ∷ drop (at + 1) old) k 0) none
+
+-- the waiting block has come behind the run
+pub committed : (h : Header) (number : ℕ) (b : Block) (old new : List ℕ) → IsInLimits h → number ≡ next_of h old → IsClosed h old number → image_size h ≤ length old → waiting h old number ≡ Some b → new ≡ opened h old number → HasAdded h b old new
+committed h number b old new limits next closed whole waits is =
+    let within : gate_at h number + slot_size h ≤ length old = gate_within h number old limits whole in
+    opened_image h number b old new limits next closed whole waits
+    (subst (Torn (gate_at h number) 1 old) (sym is) (opened_torn h number old (omega (arith, within))))
+    (ap (λ (l : List ℕ). slice_index l (gate_at h number)) is ∙ patched_byte (gate_at h number) 0x5a old (omega (arith, within)))
+
+some_is : (o : Option Block) → IsSome o → (b : Block) × (o ≡ Some b)
+some_is o some = ⊎_elim
+    (λ none. absurd (let gone : IsSome {T = Block} None = subst (λ x. IsSome x) none some in cc))
+    (λ held. held)
+    (some_or_none o)
+
+-- what the ring knows then
+pub committed_ring : (tells : Tells) (h : Header) (number : ℕ) (old new : State) → IsInLimits h → IsSound tells old → IsPrepared tells h number old → new.extent ≡ old.extent → (IsTrue tells.bytes → new.held ≡ opened h old.held number)
+    → (IsTrue tells.stops → IsSettled new) → IsSureRing tells h (number + 1) new
+committed_ring tells h number old new limits sound prepared extent held settled = record {
+  ring = record {
+    extent = omega (arith, prepared.ring.extent, extent);
+    next = λ told. let b = some_is (waiting h old.held number) (prepared.waits told) in
+        let added = committed h number b.0 old.held new.held limits (prepared.ring.next told) (prepared.ring.closed told) (whole told) b.1 (held told) in
+        ap (λ k. k + 1) (prepared.ring.next told) ∙ sym added.next;
+    closed = closed;
+  };
+  stops = λ told image leaves. subst (λ (l : List ℕ). IsClosed h l (number + 1)) (sym (settled told image leaves)) (closed (sound.stops_need_bytes told));
+}
+  where
+    whole : IsTrue tells.bytes → image_size h ≤ length old.held
+    whole told = omega (arith, prepared.ring.extent, sound.size told)
+
+    closed : IsTrue tells.bytes → IsClosed h new.held (number + 1)
+    closed told open_gate =
+        let within = gate_within h number old.held limits (whole told) in
+        prepared.following told
+        (sym (other_gate h ((number + 1) % h.slots) (number % h.slots) old.held new.held (λ same. next_slot h number limits (sym same))
+        (subst (Torn (gate_at h number) 1 old.held) (sym (held told)) (opened_torn h number old.held (omega (arith, within)))))
+        ∙ open_gate)

@@ -1,0 +1,28 @@
+-- The gates of an image's slots.
+use Rattle.std.specs.Prelude.{◌≡◌, ◌≢◌, ℕ, ◌%◌, List, [], ◌∷◌, length, take, slice_index, Option}
+use Rattle.fdr_deck.specs.Disk.{patched}
+use Rattle.fdr_slot.specs.declared.image.Header.{Header}
+use Rattle.fdr_slot.specs.Places.{slot_at}
+use Rattle.fdr_recover.specs.Blocks.{Block}
+use Rattle.fdr_recover.specs.Images.{block_at}
+
+-- where the gate of the slot of this number stands
+abbrev pub gate_at : Header → ℕ → ℕ
+gate_at h number = slot_at h (number % h.slots)
+
+-- the gate of the slot of this number is closed
+abbrev pub IsClosed : Header → List ℕ → ℕ → Type 0
+IsClosed h image number = slice_index image (gate_at h number) ≢ 0x5a
+
+-- the image with this gate open
+abbrev pub opened : Header → List ℕ → ℕ → List ℕ
+opened h image number = patched (gate_at h number) (0x5a ∷ []) image
+
+-- the block of this number that stands in its slot once the gate is opened
+unfoldable pub waiting : Header → List ℕ → ℕ → Option Block
+waiting h image number = block_at h (opened h image number) number
+
+-- the length of the image and its header are as they were
+pub record KeepsHeader (old new : List ℕ) : Type 0 where
+  pub size : length new ≡ length old
+  pub header : take 64 new ≡ take 64 old

@@ -1,0 +1,5 @@
+pub mod Gates
+pub mod Formatting
+pub mod Runs
+pub mod Rings
+pub mod Closing

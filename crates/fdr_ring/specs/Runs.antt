@@ -1,0 +1,39 @@
+-- What the calls of a ring leave of the recovered run.
+use Rattle.std.specs.Prelude.{◌≡◌, ◌⊎◌, ◌≤◌, ℕ, ◌+◌, ◌-◌, List, [], ◌∷◌, ◌++◌, length, drop, min}
+use Rattle.fdr_slot.specs.declared.image.Header.{Header}
+use Rattle.fdr_recover.specs.Blocks.{Block}
+use Rattle.fdr_recover.specs.Images.{recovered_run, next_of}
+use Rattle.fdr_ring.specs.Gates.{KeepsHeader}
+
+-- The blocks but for the oldest, at least this many where there are so many.
+pub record IsTail (least : ℕ) (whole part : List Block) : Type 0 where
+  pub lost : ℕ
+  pub within : lost ≤ length whole
+  pub is : part ≡ drop lost whole
+  pub enough : min least (length whole) ≤ length part
+
+-- the last blocks, at most this many
+abbrev pub last_blocks : ℕ → List Block → List Block
+last_blocks most run = drop (length run - most) run
+
+-- the run but for its oldest blocks, and the same next number
+pub record KeepsRun (h : Header) (least : ℕ) (old new : List ℕ) : Type 0 where
+  pub kept : KeepsHeader old new
+  pub run : IsTail least (recovered_run h old) (recovered_run h new)
+  pub next : next_of h new ≡ next_of h old
+
+-- the same run
+pub record HasSame (h : Header) (old new : List ℕ) : Type 0 where
+  pub kept : KeepsHeader old new
+  pub run : recovered_run h new ≡ recovered_run h old
+  pub next : next_of h new ≡ next_of h old
+
+-- the run with the block behind it
+pub record HasAdded (h : Header) (b : Block) (old new : List ℕ) : Type 0 where
+  pub kept : KeepsHeader old new
+  pub run : recovered_run h new ≡ recovered_run h old ++ b ∷ []
+  pub next : next_of h new ≡ next_of h old + 1
+
+-- one of these two
+abbrev pub MayAdd : Header → Block → List ℕ → List ℕ → Type 0
+MayAdd h b old new = HasSame h old new ⊎ HasAdded h b old new

@@ -1,0 +1,24 @@
+//! The ring of blocks in an image: makes an image, opens one, and adds blocks so that a stop at any
+//! moment loses none but the oldest.
+//!
+//! A ring of N slots promises the last N - 2 blocks. It takes no memory, and holds no deck: each call
+//! is handed the deck anew. Between two calls the deck may be read, synced and asked for its length,
+//! its line may be pulled, and numbers may be announced.
+#![tactic(auto)]
+
+mod attach;
+mod close;
+mod error;
+mod make;
+mod open;
+mod place;
+mod ring;
+mod write;
+
+pub use error::RingFault;
+pub use make::format;
+pub use open::read_image_header;
+pub use ring::{Prepared, Ring};
+
+#[cfg(test)]
+mod tests;

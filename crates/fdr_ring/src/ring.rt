@@ -1,0 +1,179 @@
+// A ring, and a block that is prepared in it.
+ghost use Rattle.std.specs.Prelude.{◌≤◌, ◌<◌, ◌^◌, IsTrue};
+ghost use Rattle.fdr_slot.specs.Limits.{in_limits};
+
+use crate::RingFault;
+use crate::attach::close_next;
+use crate::place::place_block;
+use crate::write::{gate_at, open_gate};
+use fdr_deck::Deck;
+use fdr_slot::{Header, SEQUENCE_END};
+
+/// An image that is open for blocks. A call that is refused consumes it.
+#[derive(Drop)]
+pub struct Ring {
+    pub(crate) header: Header,
+    pub(crate) next: u64,
+    ghost limits: { IsTrue (in_limits header) },
+    ghost bound: { next ≤ 2 ^ 48 },
+}
+
+/// A block that is written behind a closed gate.
+#[derive(Drop)]
+pub struct Prepared {
+    header: Header,
+    next: u64,
+    ghost limits: { IsTrue (in_limits header) },
+    ghost bound: { next < 2 ^ 48 },
+}
+
+impl Ring {
+    ghost use Rattle.std.specs.Prelude.{◌≡◌, ◌≤◌, ◌^◌};
+    ghost use Rattle.fdr_slot.specs.Limits.{IsInLimits};
+
+    /// The number of the next block, at most 2^48.
+    pub fn next(&self) -> u64
+        ensures is { result ≡ self.now.next }
+        ensures bound { result ≤ 2 ^ 48 }
+    {
+        self.next
+    }
+
+    /// The header of the image.
+    pub fn header(&self) -> Header
+        ensures is { result ≡ self.now.header }
+        ensures limits { IsInLimits result }
+    {
+        self.header
+    }
+}
+
+impl Ring {
+    ghost use Rattle.std.specs.Prelude.{◌≡◌, ◌⊎◌, ◌↔◌, ◌<◌, ◌≤◌, ◌^◌, ◌-◌, Err, Some, length, IfOk, OnOk, OnErr, IsTrue};
+    ghost use Rattle.fdr_io.specs.Faults.{Rose};
+    ghost use Rattle.fdr_deck.specs.Disk.{IsSettled};
+    ghost use Rattle.fdr_deck.specs.Calls.{IsQuiet, Succeeds};
+    ghost use Rattle.fdr_recover.specs.Images.{recovered_run};
+    ghost use Rattle.fdr_ring.specs.Gates.{waiting};
+    ghost use Rattle.fdr_ring.specs.Runs.{KeepsRun, last_blocks};
+    ghost use Rattle.fdr_ring.specs.Rings.{IsRing, IsPrepared, Keeping};
+
+    /// Writes a block of 1 to `payload` bytes behind the closed gate of its slot, and closes the gate
+    /// of the slot behind it, each durable before the next begins. At every moment a stop leaves all
+    /// blocks but the two oldest. `SeqEnd` is answered, without a call of the deck, exactly where there
+    /// is no number left, and otherwise `DiskFault`.
+    pub fn prepare<D: Deck>(self, deck: &mut D, bytes: &[u8]) -> Result<Prepared, RingFault>
+        requires fact { IsRing D.tells self.header self.next (D.state deck.old) }
+        requires some { 0 < length bytes.now }
+        requires fits { length bytes.now ≤ self.header.payload }
+        ensures seq_end { (result ≡ Err RingFault.SeqEnd) ↔ (self.next ≡ 2 ^ 48) }
+        ensures untouched { result ≡ Err RingFault.SeqEnd → deck.new ≡ deck.old }
+        ensures only { OnErr result (result ≡ Err RingFault.SeqEnd ⊎ result ≡ Err RingFault.DiskFault) }
+        ensures prepared { IfOk result (λ p. (p.header ≡ self.header) × (p.next ≡ self.next)) }
+        ensures fact { IfOk result (λ p. IsPrepared D.tells p.header p.next (D.state deck.new)) }
+        ensures block { OnOk result (IsTrue D.tells.bytes
+            → waiting self.header (D.state deck.new).held self.next ≡ Some (record { number = self.next; payload = bytes.now })) }
+        ensures run { OnOk result (IsTrue D.tells.bytes → recovered_run self.header (D.state deck.new).held
+            ≡ last_blocks (self.header.slots - 2) (recovered_run self.header (D.state deck.old).held)) }
+        ensures keeps { IsTrue D.tells.bytes
+            → KeepsRun self.header (self.header.slots - 2) (D.state deck.old).held (D.state deck.new).held }
+        ensures settled { OnOk result (IsTrue D.tells.stops → IsSettled (D.state deck.new)) }
+        ensures extent { (D.state deck.new).extent ≡ (D.state deck.old).extent }
+        ensures quiet { IsQuiet D.tells (Keeping self.header (self.header.slots - 2) (D.state deck.old))
+            (D.state deck.old) (D.state deck.new) }
+        ensures succeeds { OnOk result (Succeeds (D.state deck.old) (D.state deck.new)) }
+        ensures cause { result ≡ Err RingFault.DiskFault
+            → Rose (D.state deck.old).disk_faults (D.state deck.new).disk_faults }
+        ensures rest { D.same_rest deck.old deck.new }
+    {
+        if self.next == SEQUENCE_END {
+            return Err(RingFault::SeqEnd);
+        }
+        place_block(deck, &self.header, self.next, bytes)?;
+        Ok(Prepared {
+            header: self.header,
+            next: self.next,
+        })
+    }
+}
+
+impl Ring {
+    ghost use Rattle.std.specs.Prelude.{◌≡◌, ◌≤◌, ◌-◌, Err, IfOk, OnOk, OnErr, IsTrue};
+    ghost use Rattle.fdr_io.specs.Faults.{Rose};
+    ghost use Rattle.fdr_deck.specs.Disk.{IsSettled};
+    ghost use Rattle.fdr_deck.specs.Calls.{IsQuiet, Succeeds};
+    ghost use Rattle.fdr_slot.specs.Limits.{IsInLimits};
+    ghost use Rattle.fdr_slot.specs.Places.{image_size};
+    ghost use Rattle.fdr_recover.specs.Images.{next_of, recovered_run};
+    ghost use Rattle.fdr_ring.specs.Gates.{gate_at};
+    ghost use Rattle.fdr_ring.specs.Closing.{IsTurned};
+    ghost use Rattle.fdr_ring.specs.Runs.{KeepsRun, last_blocks};
+    ghost use Rattle.fdr_ring.specs.Rings.{IsRing, IsSureRing, Keeping};
+
+    /// Opens an image again: finds its next number, and closes the gate of that number's slot where
+    /// it is open. Nothing else is written. At every moment a stop leaves all blocks but the oldest.
+    /// Only `DiskFault` is answered besides.
+    pub fn attach<D: Deck>(deck: &mut D, h: Header) -> Result<Ring, RingFault>
+        requires limits { IsInLimits h }
+        requires whole { image_size h ≤ (D.state deck.old).extent }
+        ensures only { OnErr result (result ≡ Err RingFault.DiskFault) }
+        ensures header { IfOk result (λ r. r.header ≡ h) }
+        ensures next { IsTrue D.tells.bytes → IfOk result (λ r. r.next ≡ next_of h (D.state deck.old).held) }
+        ensures fact { IfOk result (λ r. IsRing D.tells r.header r.next (D.state deck.new)) }
+        ensures sure { IsSettled (D.state deck.old) → IfOk result (λ r. IsSureRing D.tells r.header r.next (D.state deck.new)) }
+        ensures run { OnOk result (IsTrue D.tells.bytes → recovered_run h (D.state deck.new).held
+            ≡ last_blocks (h.slots - 1) (recovered_run h (D.state deck.old).held)) }
+        ensures turned { IsTrue D.tells.bytes
+            → IsTurned (gate_at h (next_of h (D.state deck.old).held)) (D.state deck.old).held (D.state deck.new).held }
+        ensures keeps { IsTrue D.tells.bytes → KeepsRun h (h.slots - 1) (D.state deck.old).held (D.state deck.new).held }
+        ensures settled { OnOk result (IsTrue D.tells.stops → IsSettled (D.state deck.old) → IsSettled (D.state deck.new)) }
+        ensures extent { (D.state deck.new).extent ≡ (D.state deck.old).extent }
+        ensures quiet { IsQuiet D.tells (Keeping h (h.slots - 1) (D.state deck.old)) (D.state deck.old) (D.state deck.new) }
+        ensures succeeds { OnOk result (Succeeds (D.state deck.old) (D.state deck.new)) }
+        ensures cause { OnErr result (Rose (D.state deck.old).disk_faults (D.state deck.new).disk_faults) }
+        ensures rest { D.same_rest deck.old deck.new }
+    {
+        let next = close_next(deck, &h)?;
+        Ok(Ring { header: h, next })
+    }
+}
+
+impl Prepared {
+    ghost use Rattle.std.specs.Prelude.{◌≡◌, ◌+◌, Err, Some, IfOk, OnOk, OnErr, IsTrue};
+    ghost use Rattle.fdr_io.specs.Faults.{Rose};
+    ghost use Rattle.fdr_deck.specs.Disk.{IsSettled};
+    ghost use Rattle.fdr_deck.specs.Calls.{IsQuiet, Succeeds};
+    ghost use Rattle.fdr_recover.specs.Blocks.{Block};
+    ghost use Rattle.fdr_ring.specs.Gates.{waiting};
+    ghost use Rattle.fdr_ring.specs.Runs.{HasAdded, MayAdd};
+    ghost use Rattle.fdr_ring.specs.Rings.{IsPrepared, IsSureRing, Committing};
+
+    /// Opens the gate of the prepared block and makes that durable: the block is behind the run, and
+    /// the ring's next number is one more. At every moment a stop leaves the run as it was, or with
+    /// the block. Only `DiskFault` is answered besides.
+    pub fn commit<D: Deck>(self, deck: &mut D) -> Result<Ring, RingFault>
+        requires { IsPrepared D.tells self.header self.next (D.state deck.old) }
+        ensures only { OnErr result (result ≡ Err RingFault.DiskFault) }
+        ensures ring { IfOk result (λ r. (r.header ≡ self.header) × (r.next ≡ self.next + 1)) }
+        ensures fact { IfOk result (λ r. IsSureRing D.tells r.header r.next (D.state deck.new)) }
+        ensures added { OnOk result (IsTrue D.tells.bytes
+            → (b : Block) → waiting self.header (D.state deck.old).held self.next ≡ Some b
+            → HasAdded self.header b (D.state deck.old).held (D.state deck.new).held) }
+        ensures keeps { IsTrue D.tells.bytes
+            → (b : Block) → waiting self.header (D.state deck.old).held self.next ≡ Some b
+            → MayAdd self.header b (D.state deck.old).held (D.state deck.new).held }
+        ensures settled { OnOk result (IsTrue D.tells.stops → IsSettled (D.state deck.new)) }
+        ensures extent { (D.state deck.new).extent ≡ (D.state deck.old).extent }
+        ensures quiet { IsQuiet D.tells (Committing self.header self.next (D.state deck.old))
+            (D.state deck.old) (D.state deck.new) }
+        ensures succeeds { OnOk result (Succeeds (D.state deck.old) (D.state deck.new)) }
+        ensures cause { OnErr result (Rose (D.state deck.old).disk_faults (D.state deck.new).disk_faults) }
+        ensures rest { D.same_rest deck.old deck.new }
+    {
+        open_gate(deck, gate_at(&self.header, self.next))?;
+        Ok(Ring {
+            header: self.header,
+            next: self.next + 1,
+        })
+    }
+}
