@@ -1,5 +1,5 @@
 // Commands over objects that never fail.
-ghost use Rattle.std.specs.Prelude.{◌≡◌, ◌≤◌, ◌⊎◌, true, ℕ, List, length, map, string_bytes, Some};
+ghost use Rattle.std.specs.Prelude.{◌≡◌, ◌≤◌, ◌⊎◌, ◌↔◌, true, ℕ, List, length, map, string_bytes, Some, None};
 ghost use Rattle.fdr_bus.specs.Records.{good_prefix, has_end};
 ghost use Rattle.fdr_words.specs.Forms.{form_of, list_bits, stream_line};
 ghost use Rattle.fdr_top.specs.Tables.{IsAccepted};
@@ -9,8 +9,9 @@ use fdr_io::{NullSink, SureSource};
 use fdr_top::{Outcome, run};
 use std::alloc::Global;
 
-/// Runs a command over a source, a deck and a sink that never fail. A table that is accepted, and for `listbits` a line
-/// of at most 268,435,456 bytes, for `stream` a trace with an end record, give `Done`, unless memory ends.
+/// Runs a command over a source, a deck and a sink that never fail. Words of no form give `Usage`. A table that is
+/// accepted, and for `listbits` a line of at most 268,435,456 bytes, for `stream` a trace with an end record, give `Done`,
+/// unless memory ends.
 pub fn sure_command(
     alloc: Global,
     words: &[String],
@@ -18,6 +19,7 @@ pub fn sure_command(
     deck: &mut SureDeck,
     out: &mut NullSink,
 ) -> Outcome
+    ensures usage { (result ≡ Outcome.Usage) ↔ (form_of (map string_bytes words.now) ≡ None) }
     ensures listing { (path : List ℕ) → form_of (map string_bytes words.now) ≡ Some (list_bits path) → IsAccepted table.old
         → length deck.old.line ≤ 268435456 → (result ≡ Outcome.Done) ⊎ (result ≡ Outcome.NoMemory) }
     ensures stream { (path : List ℕ) → form_of (map string_bytes words.now) ≡ Some (stream_line path) → IsAccepted table.old
