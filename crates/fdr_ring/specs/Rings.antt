@@ -1,5 +1,5 @@
 -- What a ring knows of its deck, and what its calls leave at each moment.
-use Rattle.std.specs.Prelude.{◌≡◌, ◌≤◌, ℕ, ◌+◌, List, take, Some, IsTrue, IsSome}
+use Rattle.std.specs.Prelude.{◌≡◌, ◌≤◌, ℕ, ◌+◌, List, Some, IsTrue, IsSome}
 use Rattle.fdr_deck.specs.State.{State, Tells}
 use Rattle.fdr_deck.specs.Disk.{IsSettled}
 use Rattle.fdr_slot.specs.declared.image.Header.{Header}
@@ -33,7 +33,3 @@ Keeping h least entry image = IsSettled entry → KeepsRun h least entry.held im
 -- where the disk was settled, the run, or the run with the block that waited
 abbrev pub Committing : Header → ℕ → State → List ℕ → Type 0
 Committing h next entry image = IsSettled entry → (b : Block) → waiting h entry.held next ≡ Some b → MayAdd h b entry.held image
-
--- the first 64 bytes are as they were, where bytes are told
-abbrev pub HoldsHeader : Tells → State → State → Type 0
-HoldsHeader tells old new = IsTrue tells.bytes → take 64 new.held ≡ take 64 old.held
