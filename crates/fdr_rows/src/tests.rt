@@ -90,7 +90,6 @@ fn lists_worked_lines(rt: HostRuntime) -> Result<(), Fail> {
 struct Fault<'a> {
     shows: &'a str,
     table: &'a [u8],
-    line: &'a [u8],
     reads: &'a [u64],
     pulls: &'a [u64],
     writes: &'a [u64],
@@ -104,26 +103,13 @@ struct Fault<'a> {
 fn answers_faults_and_refusals(rt: HostRuntime) -> Result<(), Fail> {
     let alloc = rt.alloc();
     let words = strings(alloc, LISTBITS)?;
-    let behind = frames_behind_five_bits();
-    let apart = frames_far_apart();
+    let line = frames_far_apart();
     let too_large = vec![in alloc; b'X'; 1_048_577]?;
     let whole: &[u8] = b"row,0,1,10,ALT,5\ngap,3072,29696\nrow,1,1,10,ALT,7\n";
     let cases = [
         Fault {
-            shows: "the first write fails",
-            table: ALTITUDE,
-            line: &behind,
-            reads: &[],
-            pulls: &[],
-            writes: &[0],
-            answer: Outcome::WriteFault,
-            written: b"",
-            left: b"",
-        },
-        Fault {
             shows: "the second pull fails",
             table: ALTITUDE,
-            line: &apart,
             reads: &[],
             pulls: &[1],
             writes: &[],
@@ -134,7 +120,6 @@ fn answers_faults_and_refusals(rt: HostRuntime) -> Result<(), Fail> {
         Fault {
             shows: "the table's first read fails",
             table: ALTITUDE,
-            line: &apart,
             reads: &[0],
             pulls: &[],
             writes: &[],
@@ -145,7 +130,6 @@ fn answers_faults_and_refusals(rt: HostRuntime) -> Result<(), Fail> {
         Fault {
             shows: "a parameter in two parts",
             table: TWO_PARTS,
-            line: &apart,
             reads: &[],
             pulls: &[],
             writes: &[],
@@ -159,7 +143,6 @@ fn answers_faults_and_refusals(rt: HostRuntime) -> Result<(), Fail> {
         Fault {
             shows: "a table of a byte too many",
             table: &too_large,
-            line: &apart,
             reads: &[],
             pulls: &[],
             writes: &[],
@@ -177,7 +160,7 @@ fn answers_faults_and_refusals(rt: HostRuntime) -> Result<(), Fail> {
         let mut deck = MemDeck::new(
             alloc,
             Vec::new(alloc),
-            case.line.to_vec(alloc)?,
+            line.to_vec(alloc)?,
             case.pulls.to_vec(alloc)?,
         );
         let mut out = MemSink::new(alloc, case.writes.to_vec(alloc)?);
@@ -193,6 +176,20 @@ fn answers_faults_and_refusals(rt: HostRuntime) -> Result<(), Fail> {
         );
         assert_eq!(rt; out.bytes(), case.left, "{shows}");
     }
+    Ok(())
+}
+
+#[test]
+fn writes_nothing_where_the_first_write_fails(rt: HostRuntime) -> Result<(), Fail> {
+    let alloc = rt.alloc();
+    let words = strings(alloc, LISTBITS)?;
+    let line = frames_behind_five_bits().to_vec(alloc)?;
+    let mut table = MemSource::new(ALTITUDE.to_vec(alloc)?, Vec::new(alloc));
+    let mut deck = MemDeck::new(alloc, Vec::new(alloc), line, Vec::new(alloc));
+    let mut out = MemSink::new(alloc, vec![in alloc; 0]?);
+    let given = answer(alloc, &words, &mut table, &mut deck, &mut out);
+    assert_eq!(rt; given, Outcome::WriteFault);
+    assert_eq!(rt; out.bytes().len(), 0);
     Ok(())
 }
 
