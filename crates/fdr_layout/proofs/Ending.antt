@@ -1,7 +1,8 @@
 -- How the parts of a sample lie round the end of the sample.
 use Rattle.std.specs.Prelude.{◌≡◌, ℕ, ◌≤◌}
 use Rattle.std.specs.List.{All}
-use Rattle.fdr_layout.specs.Samples.{cycle_of, Part, Sample, first_at, last_at}
+use Rattle.fdr_check.specs.Occurrences.{cycle_of}
+use Rattle.fdr_layout.specs.Samples.{Part, Sample, first_at, last_at}
 
 -- The sample ends in this cycle, of frames with subframes of w words: its last part lies in it, and each part lies in it
 -- or before it, and not before the earliest part.

@@ -5,7 +5,8 @@ use Rattle.std.proofs.lemmas.List.Elements.{All-nil, All-cons, All-head, All-app
 use Rattle.std.proofs.lemmas.Nat.{le-div}
 use Rattle.std.proofs.Math.Nat.{div-lt_iff_lt-mul, div-mul-le_self}
 use Rattle.fdr_table.specs.Rows.{ParamRow, PlaceRow, TableRows}
-use Rattle.fdr_layout.specs.Samples.{frame_bits, cycle_of, Part, earliest_of, first_at, last_at, Sample, parts_of, samples_of, samples, ending_at, ending_among, ending_in}
+use Rattle.fdr_check.specs.Occurrences.{frame_bits, cycle_of}
+use Rattle.fdr_layout.specs.Samples.{Part, earliest_of, first_at, last_at, Sample, parts_of, samples_of, samples, ending_at, ending_among, ending_in}
 use Rattle.fdr_layout.proofs.Ending.{EndsIn}
 use Rattle.fdr_layout.proofs.Lists.{slice_get-map-range_with_len}
 
@@ -58,7 +59,7 @@ first_at_le_last_at (p ∷ parts) =
 quotient_le : (k a b : ℕ) → 0 < k → a ≤ b → a / k ≤ b / k
 quotient_le k a b some le = le-div (a / k) b k some (omega (arith, div-mul-le_self a k))
 
-quotient_is : (k c x : ℕ) → 0 < k → k * c ≤ x → x < k * c + k → x / k ≡ c
+pub quotient_is : (k c x : ℕ) → 0 < k → k * c ≤ x → x < k * c + k → x / k ≡ c
 quotient_is k c x some low high =
     let from : c ≤ x / k = le-div c x k some (omega arith) in
     let below : x < (c + 1) * k = omega arith in

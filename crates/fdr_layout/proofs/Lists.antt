@@ -1,8 +1,9 @@
 -- One more element: of a range, a filter, a search, an enumeration.
-use Rattle.std.proofs.Common.{◌≡◌, ℕ, ◌+◌, ◌<◌, Bool, true, false, cond, List, [], ◌∷◌, ◌++◌, Option, Some, None, length, get_or, take, map, refl, subst, zero-add, lit≤, ◌≤◌, sym, ap, ◌∙◌, zero, suc, add-one, arith}
+use Rattle.std.proofs.Common.{◌≡◌, ℕ, ◌+◌, ◌<◌, Bool, true, false, cond, List, [], ◌∷◌, ◌++◌, Option, Some, None, length, get_or, take, map, refl, subst, zero-add, lit≤, ◌≤◌, sym, ap, ◌∙◌, ⊎_elim, zero, suc, add-one, add-zero, ◌*◌, arith}
 use Rattle.std.specs.Option.{option_to_list}
-use Rattle.std.specs.List.{range_with_len, flat_map, filter_map, cons_option, find, enumerate_from, All, slice_get}
-use Rattle.std.proofs.lemmas.List.{take_more, append-nil, length-map, get_or-map, length-take-le}
+use Rattle.std.specs.List.{range_with_len, flat_map, filter, filter_map, cons_option, find, enumerate_from, All, slice_get}
+use Rattle.std.proofs.lemmas.Bool.{cases_Bool, both_ways, false_from_ne_true}
+use Rattle.std.proofs.lemmas.List.{take_more, append-nil, append_assoc, map_push, length-map, get_or-map, length-take-le}
 use Rattle.std.proofs.lemmas.List.FromFn.{map-range_with_len_more, length-map-range_with_len, get_or-map-range_with_len}
 use Rattle.std.proofs.lemmas.Option.{slice_get-get_or}
 use Rattle.std.proofs.lemmas.List.Concat.{flat_map-append}
@@ -30,6 +31,12 @@ flat_map_step f old new a n m j so_far more e last =
 pub map_step : {A : Type 0} (f : ℕ → A) (old new : List A) (a n m j : ℕ) → old ≡ map f (range_with_len a n) → new ≡ old ++ f j ∷ [] → a + n ≡ j → m ≡ n + 1 → new ≡ map f (range_with_len a m)
 map_step f old new a n m j so_far more e last =
     more ∙ ap (λ xs. xs ++ f j ∷ []) so_far ∙ sym (map-range_with_len_more f a n j e) ∙ ap (λ k. map f (range_with_len a k)) (sym last)
+
+-- a loop's step: it put a value with the view f n to the end of its list
+pub views_step : {V X : Type 0} (view : V → X) (f : ℕ → X) (old new : List V) (v : V) (n : ℕ) → map view old ≡ map f (range_with_len 0 n) → new ≡ old ++ v ∷ [] → view v ≡ f n → map view new ≡ map f (range_with_len 0 (n + 1))
+views_step view f old new v n so_far more is =
+    let pushed : map view new ≡ map view old ++ view v ∷ [] = ap (map view) more ∙ map_push view old v in
+    map_step f (map view old) (map view new) 0 n (n + 1) n so_far (pushed ∙ ap (λ s. map view old ++ s ∷ []) is) (zero-add n) refl
 
 option_is : {Y : Type 0} (o : Option Y) → cons_option o [] ≡ option_to_list o
 option_is None = refl
@@ -98,3 +105,69 @@ pub slice_get-map-range_with_len : {A : Type 0} (f : ℕ → A) (n i : ℕ) → 
 slice_get-map-range_with_len f n i l =
     let within : i < length (map f (range_with_len 0 n)) = rw length-map-range_with_len l in
     slice_get-get_or (map f (range_with_len 0 n)) i (f i) within ∙ ap Some (get_or-map-range_with_len f 0 n i i (f i) l (zero-add i))
+
+-- a list's element, where the lists' views are given by a function of the number
+pub view_at : {V X : Type 0} (view : V → X) (f : ℕ → X) (xs : List V) (n i : ℕ) (v : V) → map view xs ≡ map f (range_with_len 0 n) → i < n → v ≡ get_or xs i v → view v ≡ f i
+view_at view f xs n i v made l is =
+    let long : length xs ≡ n = sym (length-map xs view) ∙ ap length made ∙ length-map-range_with_len f 0 n in
+    let within : i < length xs = omega arith in
+    ap view is ∙ sym (get_or-map view xs i v (view v) within) ∙ ap (λ ys. get_or ys i (view v)) made ∙ get_or-map-range_with_len f 0 n i i (view v) l (zero-add i)
+
+pub view_length : {V X : Type 0} (view : V → X) (f : ℕ → X) (xs : List V) (n : ℕ) → map view xs ≡ map f (range_with_len 0 n) → length xs ≡ n
+view_length view f xs n made = sym (length-map xs view) ∙ ap length made ∙ length-map-range_with_len f 0 n
+
+-- ---- stretches of a range
+
+pub range_append : (a n m : ℕ) → range_with_len a (n + m) ≡ range_with_len a n ++ range_with_len (a + n) m
+range_append a zero m = ap (range_with_len a) (zero-add m) ∙ ap (λ b. range_with_len b m) (sym (add-zero a))
+range_append a (suc n) m =
+    let count : suc n + m ≡ suc (n + m) = omega arith in
+    let next : a + 1 + n ≡ a + suc n = omega arith in
+    ap (range_with_len a) count ∙ ap (λ xs. a ∷ xs) (range_append (a + 1) n m ∙ ap (λ b. range_with_len (a + 1) n ++ range_with_len b m) next)
+
+pub flat_map-range_append : {A : Type 0} (f : ℕ → List A) (a n m : ℕ) → flat_map f (range_with_len a (n + m)) ≡ flat_map f (range_with_len a n) ++ flat_map f (range_with_len (a + n) m)
+flat_map-range_append f a n m = ap (flat_map f) (range_append a n m) ∙ flat_map-append f (range_with_len a n) (range_with_len (a + n) m)
+
+-- a loop that has put nothing to what there was before
+pub stretch_none : {A : Type 0} (f : ℕ → List A) (before : List A) (a n : ℕ) → n ≡ 0 → before ≡ before ++ flat_map f (range_with_len a n)
+stretch_none f before a n none = sym (append-nil before) ∙ ap (λ k. before ++ flat_map f (range_with_len a k)) (sym none)
+
+-- its step: it put f j to the end
+pub stretch_more : {A : Type 0} (f : ℕ → List A) (before old new : List A) (a n m j : ℕ) → old ≡ before ++ flat_map f (range_with_len a n) → new ≡ old ++ f j → a + n ≡ j → m ≡ n + 1 → new ≡ before ++ flat_map f (range_with_len a m)
+stretch_more f before old new a n m j so_far more e last =
+    more ∙ ap (λ xs. xs ++ f j) so_far ∙ append_assoc before (flat_map f (range_with_len a n)) (f j)
+    ∙ ap (λ xs. before ++ xs) (sym (flat_map-range_more f a n j e)) ∙ ap (λ k. before ++ flat_map f (range_with_len a k)) (sym last)
+
+-- and the step of one that puts a stretch of m to the end
+pub stretch_step : {A : Type 0} (f : ℕ → List A) (before old new : List A) (a n b m k : ℕ) → old ≡ before ++ flat_map f (range_with_len a n) → new ≡ old ++ flat_map f (range_with_len b m) → a + n ≡ b → k ≡ n + m → new ≡ before ++ flat_map f (range_with_len a k)
+stretch_step f before old new a n b m k so_far more e last =
+    let seen = flat_map f (range_with_len a n) in
+    more ∙ ap (λ xs. xs ++ flat_map f (range_with_len b m)) so_far ∙ append_assoc before seen (flat_map f (range_with_len b m))
+    ∙ ap (λ j. before ++ (seen ++ flat_map f (range_with_len j m))) (sym e)
+    ∙ ap (λ xs. before ++ xs) (sym (flat_map-range_append f a n m)) ∙ ap (λ i. before ++ flat_map f (range_with_len a i)) (sym last)
+
+-- stretches of 12
+pub flat_map_twelves : {A : Type 0} (f : ℕ → List A) (a m : ℕ) → flat_map (λ k. flat_map f (range_with_len (12 * k) 12)) (range_with_len a m) ≡ flat_map f (range_with_len (12 * a) (12 * m))
+flat_map_twelves f a zero = refl
+flat_map_twelves f a (suc m) =
+    let next : 12 * (a + 1) ≡ 12 * a + 12 = omega arith in
+    let count : 12 + 12 * m ≡ 12 * suc m = omega arith in
+    ap (λ xs. flat_map f (range_with_len (12 * a) 12) ++ xs) (flat_map_twelves f (a + 1) m ∙ ap (λ b. flat_map f (range_with_len b (12 * m))) next)
+    ∙ sym (flat_map-range_append f (12 * a) 12 (12 * m)) ∙ ap (λ n. flat_map f (range_with_len (12 * a) n)) count
+
+pub flat_map_agree : {A : Type 0} (f g : ℕ → List A) (a n : ℕ) → ((x : ℕ) → a ≤ x → x < a + n → f x ≡ g x) → flat_map f (range_with_len a n) ≡ flat_map g (range_with_len a n)
+flat_map_agree f g a zero same = refl
+flat_map_agree f g a (suc n) same =
+    ap (λ xs. xs ++ flat_map f (range_with_len (a + 1) n)) (same a (omega arith) (omega arith))
+    ∙ ap (λ xs. g a ++ xs) (flat_map_agree f g (a + 1) n (λ x low high. same x (omega arith) (omega arith)))
+
+-- a filter that keeps less needs no filter before it
+pub filter_of_filter : {X : Type 0} (p q : X → Bool) → ((x : X) → p x ≡ true → q x ≡ true) → (xs : List X) → filter p (filter q xs) ≡ filter p xs
+filter_of_filter p q less [] = refl
+filter_of_filter p q less (x ∷ xs) =
+    let rest = filter_of_filter p q less xs in
+    let kept : q x ≡ true → filter p (filter q (x ∷ xs)) ≡ filter p (x ∷ xs) = λ yes. rw yes (rw rest refl) in
+    let dropped : q x ≡ false → filter p (filter q (x ∷ xs)) ≡ filter p (x ∷ xs) = λ no.
+    let out : p x ≡ false = false_from_ne_true (p x) (λ yes. both_ways (q x) no (less x yes)) in
+    rw (no, out) rest in
+    ⊎_elim kept dropped (cases_Bool (q x))

@@ -1,14 +1,13 @@
 -- The parts by word slot, and the whole layout.
-use Rattle.std.proofs.Common.{◌≡◌, ℕ, zero, suc, ◌+◌, ◌*◌, ◌/◌, ◌<◌, ◌≤◌, Bool, true, false, ◌==◌, List, [], ◌∷◌, ◌++◌, map, length, get_or, take, refl, ap, ◌∙◌, ⊎_elim, zero-add, eqb-true, arith}
-use Rattle.std.specs.List.{All, filter, flat_map, range_with_len, enumerate_from}
-use Rattle.std.proofs.lemmas.Bool.{cases_Bool, eq-eqb, both_ways, false_from_ne_true}
-use Rattle.std.proofs.lemmas.List.{map_push}
+use Rattle.std.proofs.Common.{◌≡◌, ℕ, ◌+◌, ◌*◌, ◌/◌, ◌<◌, ◌≤◌, ◌==◌, List, ◌++◌, map, length, get_or, take, refl, ap, ◌∙◌, eqb-true, arith}
+use Rattle.std.specs.List.{All, flat_map, range_with_len, enumerate_from}
+use Rattle.std.proofs.lemmas.Bool.{eq-eqb}
 use Rattle.std.proofs.lemmas.List.Elements.{All-map, All-weaker, All-filter, All-same}
 use Rattle.fdr_table.specs.Rows.{FrameRow, ParamRow, PlaceRow, TableRows}
 use Rattle.fdr_layout.specs.declared.slots.SlotPart.{SlotPart}
 use Rattle.fdr_layout.specs.Samples.{Part, Sample, samples_of, samples, ending_among, ending_in}
 use Rattle.fdr_layout.specs.SlotParts.{numbered, parts_among, parts_at, standing_in, parts_of_slot, Laid, laid_of}
-use Rattle.fdr_layout.proofs.Lists.{map_step, enumerate_from_step}
+use Rattle.fdr_layout.proofs.Lists.{enumerate_from_step, flat_map_agree, filter_of_filter}
 use Rattle.fdr_layout.proofs.Endings.{pieces_hold, all_pieces, numbered_below}
 
 -- the parts of one more sample
@@ -23,41 +22,16 @@ pub parts_among_is : (samples : List Sample) → flat_map (λ (e : ℕ × Sample
 unfolding parts_among
 parts_among_is samples = refl
 
--- a filter that keeps less needs no filter before it
-filter_of_filter : {X : Type 0} (p q : X → Bool) → ((x : X) → p x ≡ true → q x ≡ true) → (xs : List X) → filter p (filter q xs) ≡ filter p xs
-filter_of_filter p q less [] = refl
-filter_of_filter p q less (x ∷ xs) =
-    let rest = filter_of_filter p q less xs in
-    let kept : q x ≡ true → filter p (filter q (x ∷ xs)) ≡ filter p (x ∷ xs) = λ yes. rw yes (rw rest refl) in
-    let dropped : q x ≡ false → filter p (filter q (x ∷ xs)) ≡ filter p (x ∷ xs) = λ no.
-    let out : p x ≡ false = false_from_ne_true (p x) (λ yes. both_ways (q x) no (less x yes)) in
-    rw (no, out) rest in
-    ⊎_elim kept dropped (cases_Bool (q x))
-
-flat_map_agree : {A : Type 0} (f g : ℕ → List A) (a n : ℕ) → ((x : ℕ) → a ≤ x → x < a + n → f x ≡ g x) → flat_map f (range_with_len a n) ≡ flat_map g (range_with_len a n)
-flat_map_agree f g a zero same = refl
-flat_map_agree f g a (suc n) same =
-    ap (λ xs. xs ++ flat_map f (range_with_len (a + 1) n)) (same a (omega arith) (omega arith))
-    ∙ ap (λ xs. g a ++ xs) (flat_map_agree f g (a + 1) n (λ x low high. same x (omega arith) (omega arith)))
-
-slot_of_bit : (k x : ℕ) → 12 * k ≤ x → x < 12 * k + 12 → x / 12 ≡ k
+pub slot_of_bit : (k x : ℕ) → 12 * k ≤ x → x < 12 * k + 12 → x / 12 ≡ k
 slot_of_bit k x low high = omega arith
 
 -- the parts that stand in a slot are all that count for it
-pub standing_suffice : (parts standing found : List SlotPart) (k n : ℕ) → standing ≡ standing_in parts k → n ≡ 12 → found ≡ flat_map (parts_at standing) (range_with_len (12 * k) n) → found ≡ parts_of_slot parts k
+pub standing_suffice : (parts : List SlotPart) (k : ℕ) → parts_of_slot (standing_in parts k) k ≡ parts_of_slot parts k
 unfolding parts_of_slot
-standing_suffice parts standing found k n is twelve made =
-    made ∙ ap (λ m. flat_map (parts_at standing) (range_with_len (12 * k) m)) twelve
-    ∙ ap (λ ps. flat_map (parts_at ps) (range_with_len (12 * k) 12)) is
-    ∙ flat_map_agree (parts_at (standing_in parts k)) (parts_at parts) (12 * k) 12
+standing_suffice parts k =
+    flat_map_agree (parts_at (standing_in parts k)) (parts_at parts) (12 * k) 12
     (λ x low high. filter_of_filter (λ (a : SlotPart). a.part.at == x) (λ (a : SlotPart). a.part.at / 12 == k)
     (λ a at. eq-eqb (a.part.at / 12) k (ap (λ y. y / 12) (eqb-true a.part.at x at) ∙ slot_of_bit k x low high)) parts)
-
--- the parts of one more slot
-pub slots_step : {V : Type 0} (view : V → List SlotPart) (f : ℕ → List SlotPart) (old new : List V) (v : V) (n : ℕ) → map view old ≡ map f (range_with_len 0 n) → new ≡ old ++ v ∷ [] → view v ≡ f n → map view new ≡ map f (range_with_len 0 (n + 1))
-slots_step view f old new v n so_far more is =
-    let pushed : map view new ≡ map view old ++ view v ∷ [] = ap (map view) more ∙ map_push view old v in
-    map_step f (map view old) (map view new) 0 n (n + 1) n so_far (pushed ∙ ap (λ s. map view old ++ s ∷ []) is) (zero-add n) refl
 
 -- ---- the numbers of samples
 

@@ -6,7 +6,8 @@ use Rattle.std.proofs.lemmas.List.FromFn.{map-range_with_len_more}
 use Rattle.std.proofs.lemmas.List.Elements.{All-same, All-push}
 use Rattle.fdr_layout.proofs.Lists.{enumerate_from_step, map_step}
 use Rattle.fdr_table.specs.Rows.{ParamRow, PlaceRow}
-use Rattle.fdr_layout.specs.Samples.{begins_at, occurs, Carrier, carrier_of, Part, part_at, parts_of, Sample, samples_of}
+use Rattle.fdr_check.specs.Occurrences.{begins_at, occurs}
+use Rattle.fdr_layout.specs.Samples.{Carrier, carrier_of, Part, part_at, parts_of, Sample, samples_of}
 
 eqb_and : (m n : ℕ) (b : Bool) → (m == n) && b ≡ true → m ≡ n
 eqb_and m n b h = grind arith

@@ -3,3 +3,5 @@ pub mod Ranges
 pub mod Cycles
 pub mod SlotParts
 pub mod LayoutView
+pub mod Narrowed
+pub mod Buckets

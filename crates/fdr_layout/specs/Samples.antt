@@ -2,64 +2,10 @@
 --
 -- A bit of the superframe is counted from 0 at its start: bit 12 k is the least significant bit of word slot k. A table's
 -- frame has four subframes of w words.
-use Rattle.std.specs.Prelude.{ℕ, ◌+◌, ◌-◌, ◌*◌, ◌/◌, ◌%◌, ◌^◌, max, min, Bool, if◌then◌else◌, ◌==◌, ◌&&◌, nat_le, List, [], ◌∷◌, Option, option_map, map, filter, find, fold, sum_by, slice_get}
-use Rattle.std.specs.Option.{option_map_or}
+use Rattle.std.specs.Prelude.{ℕ, ◌*◌, ◌/◌, max, min, ◌==◌, List, [], ◌∷◌, Option, option_map, map, filter, fold, slice_get, slice_index_or}
 use Rattle.std.specs.List.{filter_map, flat_map, range_with_len, enumerate_from}
-use Rattle.fdr_frame.specs.Slots.{frame_of, subframe_of, word_of}
 use Rattle.fdr_table.specs.Rows.{ParamRow, PlaceRow, TableRows}
-
--- how many bits a frame has: four subframes of w words of 12 bits
-abbrev pub frame_bits : ℕ → ℕ
-frame_bits w = 48 * w
-
--- the cycle, 0 to 15, that a bit of the superframe lies in: the frame counted within the superframe
-abbrev pub cycle_of : ℕ → ℕ → ℕ
-cycle_of w at = at / frame_bits w
-
--- subframe s is in the set: its bit s - 1 is 1
-abbrev pub has_subframe : ℕ → ℕ → Bool
-has_subframe subs s = subs / 2 ^ (s - 1) % 2 == 1
-
--- the word is the place's, or that plus a multiple of its step; a step of 0 gives the one word
-abbrev pub is_on_word : PlaceRow → ℕ → Bool
-is_on_word p v = if p.step == 0 then v == p.word else (nat_le p.word v && ((v - p.word) % p.step == 0))
-
--- the place occurs in word slot k of the superframe
-abbrev pub occurs : ℕ → PlaceRow → ℕ → Bool
-occurs w p k = (frame_of w k % p.period == p.cycle) && has_subframe p.subs (subframe_of w k) && is_on_word p (word_of w k)
-
--- the place has an occurrence whose lowest bit is bit x of the superframe
-unfoldable pub begins_at : ℕ → ℕ → PlaceRow → Bool
-begins_at w x p = (x % 12 + 1 == p.lsb) && occurs w p (x / 12)
-
--- An occurrence of a place: where its lowest bit stands, and how many bits it has.
-pub record Occurrence : Type 0 where
-  pub at : ℕ
-  pub width : ℕ
-
--- the occurrences whose lowest bit is bit x
-abbrev pub occurrences_at : ℕ → List PlaceRow → ℕ → List Occurrence
-occurrences_at w places x = map (λ (p : PlaceRow). record { at = x; width = p.width }) (filter (begins_at w x) places)
-
--- all occurrences of places in a superframe, by slot and then by lowest bit
-unfoldable pub occurrences : ℕ → List PlaceRow → List Occurrence
-occurrences w places = flat_map (occurrences_at w places) (range_with_len 0 (16 * frame_bits w))
-
--- the place carries this part of the parameter with this index
-abbrev pub is_part : ℕ → ℕ → PlaceRow → Bool
-is_part param part p = (p.param == param) && (p.part == part)
-
--- the occurrences of a part, which are those of all its places
-unfoldable pub part_occurrences : ℕ → List PlaceRow → ℕ → ℕ → List Occurrence
-part_occurrences w places param part = occurrences w (filter (is_part param part) places)
-
--- the width of a part, which its places share
-unfoldable pub part_width : List PlaceRow → ℕ → ℕ → ℕ
-part_width places param part = option_map_or (λ (p : PlaceRow). p.width) (find (is_part param part) places) 0
-
--- how many bits of the raw value are below a part: the widths of the lower parts
-unfoldable pub shift_of : List PlaceRow → ℕ → ℕ → ℕ
-shift_of places param part = sum_by (part_width places param) (range_with_len 1 (part - 1))
+use Rattle.fdr_check.specs.Occurrences.{frame_bits, Occurrence, part_occurrences, shift_of}
 
 -- A part of a parameter: its occurrences in a superframe, and how many bits of the raw value are below it.
 pub record Carrier : Type 0 where
@@ -113,6 +59,14 @@ last_at parts = fold (λ at (q : Part). max at q.at) 0 parts
 abbrev pub ending_at : List Sample → ℕ → List Sample
 ending_at samples x = filter (λ (s : Sample). last_at s.parts == x) samples
 
+-- those whose last part begins at one of n bits from bit x on, in the order of last parts
+unfoldable pub ending_from : List Sample → ℕ → ℕ → List Sample
+ending_from samples x n = flat_map (ending_at samples) (range_with_len x n)
+
+-- those samples whose last part stands in word slot k
+abbrev pub ending_in_slot : List Sample → ℕ → List Sample
+ending_in_slot samples k = filter (λ (s : Sample). last_at s.parts / 12 == k) samples
+
 -- those samples whose last part lies in a cycle, in the order of last parts
 unfoldable pub ending_among : ℕ → List Sample → ℕ → List Sample
 ending_among w samples cycle = flat_map (ending_at samples) (range_with_len (frame_bits w * cycle) (frame_bits w))
@@ -120,3 +74,8 @@ ending_among w samples cycle = flat_map (ending_at samples) (range_with_len (fra
 -- the samples of a table whose last part lies in a cycle, in the order of last parts
 unfoldable pub ending_in : TableRows → ℕ → List Sample
 ending_in t cycle = ending_among t.frame.words (samples t) cycle
+
+-- those of a cycle, in the order of last parts, out of lists of the samples of each word slot
+unfoldable pub ending_of_slots : ℕ → List (List Sample) → ℕ → List Sample
+ending_of_slots w slots cycle =
+    flat_map (λ k. ending_from (slice_index_or slots k []) (12 * k) 12) (range_with_len (4 * w * cycle) (4 * w))

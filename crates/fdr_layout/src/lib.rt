@@ -5,6 +5,8 @@
 //! from 0 at its start, so that bit `12 k` is the least significant bit of word slot `k`.
 #![tactic(auto)]
 
+mod buckets;
+mod cycles;
 mod layout;
 mod memory;
 mod occurrences;

@@ -3,7 +3,8 @@
 ghost use Rattle.std.specs.Prelude.{◌≡◌, ◌<◌, ◌≤◌, ◌*◌, ◌++◌, length, map, IfOk, OnOk};
 ghost use Rattle.std.specs.Option.{option_to_list};
 ghost use Rattle.std.specs.List.{filter_map, flat_map, range_with_len, enumerate_from};
-ghost use Rattle.fdr_layout.specs.Samples.{part_width, shift_of, carrier_of, part_at, samples_of};
+ghost use Rattle.fdr_check.specs.Occurrences.{part_width, shift_of};
+ghost use Rattle.fdr_layout.specs.Samples.{carrier_of, part_at, samples_of};
 
 use crate::memory::push;
 use crate::occurrences::{Occurrence, is_part, part_occurrences};
@@ -30,7 +31,7 @@ impl Model for Carrier {
     ghost invariant = { λ c. c.shift ≤ 36 };
 }
 
-#[tactic(auto, using(crate::proofs::Lists::find_here, crate::proofs::Lists::find_more), unfolding(crate::specs::Samples::part_width))]
+#[tactic(auto, using(crate::proofs::Lists::find_here, crate::proofs::Lists::find_more), unfolding(fdr_check::specs::Occurrences::part_width))]
 fn part_width(places: &[Place], param: u32, part: u8) -> u8
     ensures width { result ≡ part_width places.now param part }
     ensures few { result ≤ 12 }
@@ -43,7 +44,7 @@ fn part_width(places: &[Place], param: u32, part: u8) -> u8
     0
 }
 
-#[tactic(auto, unfolding(crate::specs::Samples::shift_of))]
+#[tactic(auto, unfolding(fdr_check::specs::Occurrences::shift_of))]
 fn shift_of(places: &[Place], param: u32, part: u8) -> u8
     requires low { 1 ≤ part }
     requires high { part ≤ 4 }

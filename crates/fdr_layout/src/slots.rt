@@ -4,6 +4,7 @@ ghost use Rattle.std.specs.Prelude.{◌≡◌, ◌<◌, ◌≤◌, ◌*◌, ◌+
 ghost use Rattle.std.specs.List.{range_with_len};
 ghost use Rattle.fdr_layout.specs.SlotParts.{numbered, parts_among, parts_at, standing_in, parts_of_slot};
 
+use crate::buckets::{empty_lists, push_to};
 use crate::memory::push;
 use crate::parts::{Part, Sample};
 use fdr_table::NoMemory;
@@ -48,17 +49,21 @@ fn parts_among(alloc: Global, samples: &[Sample]) -> Result<Vec<SlotPart>, NoMem
     Ok(found)
 }
 
-/// The parts that stand in a word slot, in no order.
-fn standing_in(alloc: Global, parts: &[SlotPart], slot: u32) -> Result<Vec<SlotPart>, NoMemory>
-    ensures { IfOk result (λ v. v.items ≡ standing_in parts.now slot) }
+/// The parts by the word slot that they stand in, in no order within it.
+fn parts_by_slot(
+    alloc: Global,
+    words: u32,
+    parts: &[SlotPart],
+) -> Result<Vec<Vec<SlotPart>>, NoMemory>
+    requires few_words { words ≤ 1024 }
+    ensures { IfOk result (λ v. map (λ s. s.items) v.items
+        ≡ map (standing_in parts.now) (range_with_len 0 (64 * words))) }
 {
-    let mut found = Vec::new(alloc);
+    let mut slots = empty_lists(alloc, 64 * words)?;
     for part in parts {
-        if part.part.at / 12 == slot {
-            push(&mut found, *part)?;
-        }
+        push_to(&mut slots, part.part.at / 12, *part)?;
     }
-    Ok(found)
+    Ok(slots)
 }
 
 /// Adds the parts whose lowest bit is this bit of the superframe.
@@ -73,15 +78,14 @@ fn add_parts_at(found: &mut Vec<SlotPart>, parts: &[SlotPart], bit: u32) -> Resu
     Ok(())
 }
 
-/// The parts that stand in a word slot, by lowest bit.
+/// Those of these parts that stand in a word slot, by lowest bit.
 fn parts_of_slot(alloc: Global, parts: &[SlotPart], slot: u32) -> Result<Vec<SlotPart>, NoMemory>
     requires { slot < 65536 }
     ensures { IfOk result (λ v. v.items ≡ parts_of_slot parts.now slot) }
 {
-    let standing = standing_in(alloc, parts, slot)?;
     let mut found = Vec::new(alloc);
     for bit in 12 * slot..12 * slot + 12 {
-        add_parts_at(&mut found, &standing, bit)?;
+        add_parts_at(&mut found, parts, bit)?;
     }
     Ok(found)
 }
@@ -98,9 +102,10 @@ pub(crate) fn slots_of(
     ensures few { IfOk result (λ v. length samples.now < 2 ^ 32) }
 {
     let parts = parts_among(alloc, samples)?;
+    let standing = parts_by_slot(alloc, words, &parts)?;
     let mut slots = Vec::new(alloc);
     for slot in 0..64 * words {
-        let found = parts_of_slot(alloc, &parts, slot)?;
+        let found = parts_of_slot(alloc, &standing[slot as usize], slot)?;
         push(&mut slots, found)?;
     }
     Ok(slots)

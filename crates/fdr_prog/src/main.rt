@@ -45,7 +45,7 @@ fn run_on_files(rt: &HostRuntime, words: &[String]) -> Outcome {
     let mut deck = FileDeck::new(
         rt,
         request.image().unwrap_or(""),
-        false,
+        request.writes(),
         rt.stdin(),
         rt.stderr(),
     );

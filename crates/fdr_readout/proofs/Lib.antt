@@ -1,3 +1,4 @@
+pub mod Recordable
 pub mod SoFarLemmas
 pub mod Lines
 pub mod PackedWords
@@ -11,7 +12,7 @@ pub mod Recorded
 pub mod RecordedRows
 pub mod StreamFrames
 pub mod StreamRows
+pub mod PairLists
+pub mod SoundPlaces
+pub mod SoundTables
 pub mod ReadsBack
-pub mod FirstRows
-pub mod FirstOccurrences
-pub mod FirstTables

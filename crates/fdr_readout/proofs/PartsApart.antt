@@ -1,16 +1,14 @@
 -- A part of a slot's word reads back, where each other part of the word stands apart from it.
-use Rattle.std.proofs.Common.{◌≡◌, ℕ, ◌+◌, ◌/◌, ◌%◌, ◌^◌, ◌<◌, ◌≤◌, ◌⊎◌, zero, suc, List, [], ◌∷◌, fold, length, get_or, sym, ap, ◌∙◌, subst, inl, inr, ⊎_elim, arith}
-use Rattle.std.specs.Prelude.{All, AllPairs, Contains}
+use Rattle.std.proofs.Common.{◌≡◌, ℕ, ◌+◌, ◌/◌, ◌%◌, ◌^◌, ◌<◌, ◌≤◌, ◌⊎◌, zero, suc, List, [], ◌∷◌, fold, length, get_or, sym, ◌∙◌, subst, inl, inr, ⊎_elim, arith}
+use Rattle.std.specs.Prelude.{All, Contains}
 use Rattle.std.proofs.lemmas.Nat.{mod_below, pow_pos}
-use Rattle.std.proofs.lemmas.Bool.{cases_order}
-use Rattle.std.proofs.lemmas.List.{get_or_default}
 use Rattle.std.proofs.lemmas.List.Elements.{All-head, All-tail}
 use Rattle.fdr_bits.specs.Fields.{field_of}
 use Rattle.fdr_bits.proofs.FieldLemmas.{field_of-with_field}
 use Rattle.fdr_layout.specs.declared.slots.SlotPart.{SlotPart}
 use Rattle.fdr_layout.specs.Samples.{Part}
 use Rattle.fdr_sampler.specs.SlotWord.{piece_of, with_part, data_of}
-use Rattle.fdr_readout.specs.Recordable.{AreApart}
+use Rattle.fdr_readout.proofs.Recordable.{AreApart}
 use Rattle.fdr_readout.proofs.FieldsApart.{field_of-with_field_apart}
 
 -- in the same slot b is a itself, or shares no bit with it
@@ -71,24 +69,3 @@ pub data_carries : (value : ℕ → ℕ) (a : SlotPart) (parts : List SlotPart) 
     data_of value parts / 2 ^ (a.part.at % 12) % 2 ^ a.part.width ≡ piece_of (value a.sample) a.part
 unfolding Carries
 data_carries value a parts others here = carries_from value a parts 0 here.0 others here.1 here.2
-
-two_apart : (parts : List SlotPart) (i j : ℕ) (x y d : SlotPart) → AllPairs AreApart parts → i < j → j < length parts → get_or parts i d ≡ x → get_or parts j d ≡ y → AreApart x y
-two_apart parts i j x y d apart before within is_x is_y =
-    subst (λ (u : SlotPart). AreApart x u) is_y (subst (λ (u : SlotPart). AreApart u (get_or parts j d)) is_x (apart i j d before within))
-
-turned : (a b : SlotPart) → AreApart a b → AreApart b a
-turned a b apart = ⊎_elim (λ below. inr below) (λ above. inl above) apart
-
--- parts of which each two stand apart are the same or apart
-pub same_or_apart : (parts : List SlotPart) (a b : SlotPart) → AllPairs AreApart parts → Contains parts a → Contains parts b → (b ≡ a) ⊎ AreApart a b
-same_or_apart parts a b apart at_a at_b =
-    let i = at_a.0 in
-    let j = at_b.0 in
-    let b_is : get_or parts j a ≡ b = get_or_default parts j a b at_b.1 ∙ at_b.2 in
-    ⊎_elim
-    (λ (same : i ≡ j). inl (sym b_is ∙ ap (λ k. get_or parts k a) (sym same) ∙ at_a.2))
-    (λ other. ⊎_elim
-    (λ (before : i < j). inr (two_apart parts i j a b a apart before at_b.1 at_a.2 b_is))
-    (λ (after : j < i). inr (turned b a (two_apart parts j i b a a apart after at_a.1 b_is at_a.2)))
-    other)
-    (cases_order i j)

@@ -11,7 +11,8 @@ use Rattle.std.proofs.lemmas.List.Sums.{sum_by-cons}
 use Rattle.fdr_bus.specs.declared.BusRecord.{BusRecord}
 use Rattle.fdr_table.specs.Rows.{ParamRow, TableRows}
 use Rattle.fdr_layout.specs.declared.slots.SlotPart.{SlotPart}
-use Rattle.fdr_layout.specs.Samples.{frame_bits, Part, Sample, samples, ending_at, ending_among, ending_in}
+use Rattle.fdr_check.specs.Occurrences.{frame_bits}
+use Rattle.fdr_layout.specs.Samples.{Part, Sample, samples, ending_at, ending_among, ending_in}
 use Rattle.fdr_layout.specs.SlotParts.{numbered, parts_among, all_parts, parts_at, parts_of_slot, parts_in}
 use Rattle.fdr_layout.proofs.Endings.{pieces_hold}
 use Rattle.fdr_layout.proofs.SlotLemmas.{parts_of_slot_hold}
@@ -20,8 +21,8 @@ use Rattle.fdr_sampler.specs.SlotWord.{numbered_value, piece_of, data_word}
 use Rattle.fdr_sampler.proofs.Lists.{Contains-map, Contains-filter, Contains-flat_map, Contains-range, Contains-enumerate}
 use Rattle.fdr_sampler.proofs.SlotFacts.{parts_of_slot_in}
 use Rattle.fdr_sampler.proofs.Standing.{numbered_value_at}
-use Rattle.fdr_readout.specs.Recordable.{IsPlaced, IsRecordable}
-use Rattle.fdr_readout.proofs.PartsApart.{IsOther, data_carries, same_or_apart}
+use Rattle.fdr_readout.proofs.Recordable.{IsPlaced, IsRecordable}
+use Rattle.fdr_readout.proofs.PartsApart.{IsOther, data_carries}
 
 -- part p of sample n
 abbrev pub part_of : ℕ → Part → SlotPart
@@ -47,7 +48,7 @@ others_in_slot t a h here =
     let k = a.part.at / 12 in
     let among : All (Contains (all_parts t)) (parts_in t k) = parts_of_slot_hold (Contains (all_parts t)) (all_parts t) k (All-contains_itself (all_parts t)) in
     let within : All (λ (b : SlotPart). b.part.at / 12 ≡ k) (parts_in t k) = parts_of_slot_in (all_parts t) k in
-    λ i d l. record { slot = within i d l; apart = same_or_apart (all_parts t) a (get_or (parts_in t k) i d) h.apart here (among i d l) }
+    λ i d l. record { slot = within i d l; apart = h.apart a (get_or (parts_in t k) i d) here (among i d l) }
 
 -- the word of data of a part's slot has the part's piece of the raw value
 pub data_word-piece : (t : TableRows) (records : List BusRecord) (start n : ℕ) (s : Sample) (p : Part) → IsRecordable t → slice_get (samples t) n ≡ Some s → Contains s.parts p →

@@ -4,15 +4,18 @@ use Rattle.std.specs.List.{range_with_len, flat_map}
 use Rattle.std.proofs.lemmas.List.{append_assoc}
 use Rattle.fdr_bits.specs.Bits.{bits_in}
 use Rattle.fdr_bus.specs.declared.BusRecord.{BusRecord}
+use Rattle.fdr_table.specs.Ranges.{IsInRange}
 use Rattle.fdr_table.specs.Rows.{TableRows}
+use Rattle.fdr_check.specs.Soundness.{IsSound}
 use Rattle.fdr_sampler.specs.Stream.{stream_of}
 use Rattle.fdr_sync.specs.Events.{Frame, events_from}
 use Rattle.fdr_readout.specs.Listing.{gap_lines, lines_of, listing_of}
-use Rattle.fdr_readout.specs.Recordable.{IsRecordable}
+use Rattle.fdr_readout.proofs.Recordable.{IsRecordable}
 use Rattle.fdr_readout.specs.SampledRows.{sampled_lines, whole_frames, sampled_listing}
 use Rattle.fdr_readout.proofs.Lines.{gap_lines-none, lines_from_first, lines_from_none}
 use Rattle.fdr_readout.proofs.StreamFrames.{frame_place, some_words, none_behind, next_frame}
 use Rattle.fdr_readout.proofs.StreamRows.{lines_read}
+use Rattle.fdr_readout.proofs.SoundTables.{sound_recordable}
 
 -- the lines from frame j on, where d whole frames are left
 lines_from_frame : (t : TableRows) (records : List BusRecord) (j d : ℕ) → IsRecordable t → j + d ≡ whole_frames t records →
@@ -38,11 +41,14 @@ lines_from_frame t records j (suc d) h left =
     ∙ ap (λ (lines : List ℕ). sampled_lines t records j ++ lines) (lines_from_frame t records (j + 1) d h (omega arith))
     ∙ sym (append_assoc (sampled_lines t records j) (flat_map (sampled_lines t records) (range_with_len (j + 1) d)) _)
 
--- what a recording sampled is what the listing of its bytes says
-pub stream_lists_back : (t : TableRows) (records : List BusRecord) → IsRecordable t → listing_of t (stream_of t records) ≡ sampled_listing t records
+recordable_lists_back : (t : TableRows) (records : List BusRecord) → IsRecordable t → listing_of t (stream_of t records) ≡ sampled_listing t records
 unfolding listing_of sampled_listing
-stream_lists_back t records h =
+recordable_lists_back t records h =
     let w = t.frame.words in
     let b = stream_of t records in
     let start : 0 ≡ 48 * w * 0 = omega arith in
     ap (λ free. flat_map (lines_of t b) (events_from b w free)) start ∙ lines_from_frame t records 0 (whole_frames t records) h (omega arith)
+
+-- what a recording sampled is what the listing of its bytes says
+pub stream_lists_back : (t : TableRows) (records : List BusRecord) → IsInRange t → IsSound t → listing_of t (stream_of t records) ≡ sampled_listing t records
+stream_lists_back t records range sound = recordable_lists_back t records (sound_recordable t range sound)

@@ -7,7 +7,7 @@ use Rattle.fdr_bus.specs.declared.BusRecord.{BusRecord}
 use Rattle.fdr_table.specs.Rows.{TableRows}
 use Rattle.fdr_sampler.specs.SlotWord.{slot_word}
 use Rattle.fdr_recon.specs.Rows.{ReadFrame, frame_at, counter_place, counter_in, cycle_in, are_linked, are_joined}
-use Rattle.fdr_readout.specs.Recordable.{IsRecordable}
+use Rattle.fdr_readout.proofs.Recordable.{IsRecordable}
 use Rattle.fdr_readout.proofs.SlotKinds.{counter_place-within, slot_word-counter}
 
 -- Frames 0 to j were read one after another, and have the words of the recording's slots.

@@ -9,14 +9,15 @@ use Rattle.std.proofs.Math.Nat.{div-div-eq-div-mul}
 use Rattle.fdr_bus.specs.declared.BusRecord.{BusRecord}
 use Rattle.fdr_sync.proofs.FrameSteps.{word_count_some}
 use Rattle.fdr_table.specs.Rows.{TableRows}
-use Rattle.fdr_layout.specs.Samples.{cycle_of, Part, Sample, samples, ending_in}
+use Rattle.fdr_check.specs.Occurrences.{cycle_of}
+use Rattle.fdr_layout.specs.Samples.{Part, Sample, samples, ending_in}
 use Rattle.fdr_layout.proofs.Ending.{EndsIn}
 use Rattle.fdr_layout.proofs.Endings.{ending_in_ends}
 use Rattle.fdr_sampler.specs.Held.{raw_value}
 use Rattle.fdr_sampler.specs.SlotWord.{piece_of, data_word, slot_word}
 use Rattle.fdr_recon.specs.declared.Row.{Row}
 use Rattle.fdr_recon.specs.Rows.{ReadFrame, frame_at, cycle_in, reach, bits_of, raw_of, row_with, row_of, rows_looked_at, rows_of_frame}
-use Rattle.fdr_readout.specs.Recordable.{IsRecordable}
+use Rattle.fdr_readout.proofs.Recordable.{IsRecordable}
 use Rattle.fdr_readout.specs.SampledRows.{superframe_start, sampled_row, sampled_rows}
 use Rattle.fdr_readout.proofs.SlotPlaces.{split_by}
 use Rattle.fdr_readout.proofs.SlotKinds.{slot_word-plain}

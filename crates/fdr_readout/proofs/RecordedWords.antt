@@ -19,7 +19,7 @@ use Rattle.fdr_layout.proofs.SlotLemmas.{parts_of_slot_hold}
 use Rattle.fdr_sampler.specs.SlotWord.{numbered_value, piece_of, with_part, data_word, slot_within, start_of, slot_word}
 use Rattle.fdr_sampler.specs.Stream.{slot_count, stream_words, stream_of}
 use Rattle.fdr_sampler.proofs.Packing.{length-packed}
-use Rattle.fdr_readout.specs.Recordable.{IsPlaced, IsRecordable}
+use Rattle.fdr_readout.proofs.Recordable.{IsPlaced, IsRecordable}
 use Rattle.fdr_readout.proofs.PackedWords.{IsWord, word_at-packed}
 
 -- ---- each word has twelve bits

@@ -12,7 +12,7 @@ use Rattle.fdr_sampler.specs.Stream.{stream_words, stream_of}
 use Rattle.fdr_sync.specs.Frames.{IsFramePosition, IsFirstFrameFrom, HasNoFrameFrom}
 use Rattle.fdr_sync.proofs.FrameLemmas.{frame_within, frame_by_syncs}
 use Rattle.fdr_sync.proofs.FrameSteps.{word_count_some}
-use Rattle.fdr_readout.specs.Recordable.{IsRecordable}
+use Rattle.fdr_readout.proofs.Recordable.{IsRecordable}
 use Rattle.fdr_readout.specs.SampledRows.{whole_frames}
 use Rattle.fdr_readout.specs.FramesSoFar.{SoFar}
 use Rattle.fdr_readout.proofs.SoFarLemmas.{SoFar-none, so_far_next}

@@ -14,7 +14,7 @@ use Rattle.fdr_sampler.specs.Stream.{stream_of}
 use Rattle.fdr_sync.specs.Events.{Frame}
 use Rattle.fdr_recon.specs.Rows.{ReadFrame, frame_at, rows_of_frame}
 use Rattle.fdr_readout.specs.Listing.{frame_words, frame_read, accepted_to, rows_at, row_line_of, lines_of}
-use Rattle.fdr_readout.specs.Recordable.{IsRecordable}
+use Rattle.fdr_readout.proofs.Recordable.{IsRecordable}
 use Rattle.fdr_readout.specs.SampledRows.{sampled_rows, sampled_lines, whole_frames}
 use Rattle.fdr_readout.proofs.SoFarLemmas.{accepted_to_next, adjacent_next}
 use Rattle.fdr_readout.proofs.RecordedWords.{word_at-stream}

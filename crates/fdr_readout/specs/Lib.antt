@@ -1,4 +1,3 @@
 pub mod Listing
 pub mod FramesSoFar
 pub mod SampledRows
-pub mod Recordable

@@ -27,7 +27,7 @@ rows_at t b a = let before = accepted_to b t.frame.words a in rows_of_frame t (m
 
 -- the line of a row, with its parameter's name and number of decimals
 unfoldable pub row_line_of : TableRows → Row → List ℕ
-row_line_of t r = let p = param_at t r.param in row_text r p.name p.decimals
+row_line_of t r = let p = param_at t.params r.param in row_text r p.name p.decimals
 
 -- the line of a row, where it is listed
 unfoldable pub row_lines : TableRows → Option Row → List ℕ

@@ -8,7 +8,7 @@ ghost use Rattle.fdr_io.specs.Told.{followed_by};
 ghost use Rattle.fdr_table.specs.Rows.{TableRows};
 ghost use Rattle.fdr_recon.specs.Rows.{ReadFrame};
 ghost use Rattle.fdr_recon.specs.Kept.{IsRow};
-ghost use Rattle.fdr_recon.specs.Past.{HasRawValues, Stands, read_frame};
+ghost use Rattle.fdr_recon.specs.Past.{Stands, read_frame};
 ghost use Rattle.fdr_readout.specs.Listing.{gap_lines, row_lines, row_line_of, last_frame_lines, frame_words, frame_read, lines_of, listing_of};
 ghost use Rattle.fdr_readout.specs.FramesSoFar.{SoFar};
 ghost use Rattle.fdr_frame.specs.WordCount.{IsWordCount};
@@ -17,7 +17,9 @@ ghost use Rattle.fdr_sync.specs.Events.{Event, Frame};
 ghost use Rattle.fdr_io.specs.Output.{Emits, EmitsPart};
 
 use fdr_bits::word12;
+use fdr_check::Sound;
 use fdr_io::{Failed, OutBuffer, Sink};
+use fdr_layout::Layout;
 use fdr_listing::{Line, gap_line, row_line};
 use fdr_recon::{Rebuild, Row};
 use fdr_sync::next_frame;
@@ -247,15 +249,15 @@ fn write_events<O: Sink>(
 }
 
 impl Readout {
-    /// Takes the memory for listing bits by a table whose values are raw numbers.
-    pub fn new(alloc: Global, table: &Table) -> Result<Readout, NoMemory>
-        requires { HasRawValues table.now.params }
-        ensures room { IfOk result (λ work. vec_len work.words ≡ 4 * table.now.frame.words) }
-        ensures stands { IfOk result (λ work. Stands work.rebuild table.now []) }
+    /// Takes the memory for listing bits by a table.
+    pub fn new(alloc: Global, sound: &Sound) -> Result<Readout, NoMemory>
+        ensures room { IfOk result (λ work. vec_len work.words ≡ 4 * sound.now.frame.words) }
+        ensures stands { IfOk result (λ work. Stands work.rebuild sound.now []) }
         ensures empty { IfOk result (λ work. work.buffer ≡ []) }
     {
-        let rebuild = Rebuild::new(alloc, table)?;
-        let words = vec![in alloc; 0u16; 4 * table.frame().words as usize]?;
+        let layout = Layout::make(alloc, sound)?;
+        let rebuild = Rebuild::new(alloc, layout, sound)?;
+        let words = vec![in alloc; 0u16; 4 * sound.table().frame().words as usize]?;
         let buffer = OutBuffer::new(alloc)?;
         Ok(Readout {
             rebuild,
@@ -268,21 +270,24 @@ impl Readout {
 /// Writes the listing of the bits of these bytes.
 pub fn write_listing<O: Sink>(
     work: &mut Readout,
-    table: &Table,
+    sound: &Sound,
     bytes: &[u8],
     out: &mut O,
 ) -> Result<(), Failed>
     requires short { length bytes.now ≤ 2 ^ 60 }
-    requires word_count { IsWordCount table.now.frame.words }
-    requires room { vec_len work.old.words ≡ 4 * table.now.frame.words }
-    requires fresh { Stands work.old.rebuild table.now [] }
+    requires word_count { IsWordCount sound.now.frame.words }
+    requires room { vec_len work.old.words ≡ 4 * sound.now.frame.words }
+    requires fresh { Stands work.old.rebuild sound.now [] }
     requires empty { work.old.buffer ≡ [] }
-    ensures all { OnOk result (O.written out.new ≡ followed_by (O.written out.old) (listing_of table.now bytes.now)) }
-    ensures part { (k : ℕ) × (O.written out.new ≡ followed_by (O.written out.old) (take k (listing_of table.now bytes.now))) }
+    ensures all { OnOk result (O.written out.new ≡ followed_by (O.written out.old) (listing_of sound.now bytes.now)) }
+    ensures part { (k : ℕ) × (O.written out.new ≡ followed_by (O.written out.old) (take k (listing_of sound.now bytes.now))) }
     ensures cause { OnErr result (Rose (O.faults out.old) (O.faults out.new)) }
     ensures quiet { OnOk result (O.faults out.new ≡ O.faults out.old) }
     ensures monotone { O.faults out.old ≤ O.faults out.new }
 {
-    write_events(work, table, bytes, out)?;
+    write_events(work, sound.table(), bytes, out)?;
     work.buffer.finish(out)
 }
+
+#[cfg(test)]
+mod tests;

@@ -7,7 +7,8 @@ use Rattle.std.proofs.lemmas.Option.{unwrap_or-slice_get}
 use Rattle.std.proofs.lemmas.Nat.{and_mask, mod_below, pow_pos, shl_below}
 use Rattle.std.proofs.lemmas.Nat.{shl_whole, one_shl}
 use Rattle.std.proofs.Math.Nat.{pow-le-pow_right}
-use Rattle.fdr_layout.specs.Samples.{Part, cycle_of}
+use Rattle.fdr_check.specs.Occurrences.{cycle_of}
+use Rattle.fdr_layout.specs.Samples.{Part}
 use Rattle.fdr_recon.specs.Kept.{Kept, kept_word, kept_bits, from_end}
 
 pub kept_word-past : (k : Kept) (back place : ℕ) → 4 * k.frame.words ≤ place → kept_word k back place ≡ 0

@@ -7,7 +7,8 @@ use Rattle.std.proofs.lemmas.List.Elements.{All-head, All-tail}
 use Rattle.std.proofs.lemmas.List.FromFn.{length-range_with_len, get_or-range_with_len}
 use Rattle.std.proofs.lemmas.Nat.{mod_below}
 use Rattle.fdr_table.specs.Rows.{FrameRow, TableRows}
-use Rattle.fdr_layout.specs.Samples.{cycle_of, Part, Sample, ending_in, first_at}
+use Rattle.fdr_check.specs.Occurrences.{cycle_of}
+use Rattle.fdr_layout.specs.Samples.{Part, Sample, ending_in, first_at}
 use Rattle.fdr_layout.proofs.Ending.{EndsIn}
 use Rattle.fdr_layout.proofs.Endings.{ending_in_ends}
 use Rattle.fdr_recon.specs.Rows.{ReadFrame, frame_at, are_linked, are_joined, counter_in, cycle_in, reach, bits_of, raw_of, row_with, row_of, rows_looked_at}

@@ -2,7 +2,8 @@ pub mod KeptWords
 pub mod JoinedFrames
 pub mod FrameWords
 pub mod Standing
-pub mod RawValues
+pub mod FilledValues
+pub mod SoundSamples
 pub mod StandingRows
 pub mod StandingSteps
 pub mod KeptRows

@@ -1,6 +1,6 @@
 -- The rows of a value that stands for a past.
 use Rattle.std.proofs.Common.{◌≡◌, ℕ, suc, ◌+◌, ◌-◌, ◌*◌, ◌/◌, ◌%◌, ◌^◌, ◌<◌, ◌≤◌, true, false, List, [], ◌∷◌, length, map, min, refl, ap, sym, ◌∙◌, subst, arith, ⊎_elim, length-drop, Some, None}
-use Rattle.std.specs.Prelude.{nat_le, if◌then◌else◌, slice_index, slice_get, sum_by, option_map, ℤ, pos}
+use Rattle.std.specs.Prelude.{nat_le, if◌then◌else◌, slice_index, slice_get, sum_by, option_map, ℤ}
 use Rattle.std.specs.List.{All, range_with_len, slice_index_or}
 use Rattle.std.proofs.lemmas.Bool.{le-leb, lt-leb, leb-true, leb-false, ne_eqb, eq-eqb, cond-true, cond-false, cases_Bool}
 use Rattle.std.proofs.lemmas.List.{length-map}
@@ -11,17 +11,17 @@ use Rattle.std.proofs.lemmas.Option.{slice_get-map, slice_get_within, get_or_fro
 use Rattle.std.proofs.lemmas.Nat.{mod_below}
 use Rattle.fdr_table.specs.Rows.{FrameRow, TableRows}
 use Rattle.fdr_layout.proofs.Ending.{EndsIn}
-use Rattle.fdr_layout.proofs.Endings.{ending_in_ends, ending_in_params}
+use Rattle.fdr_layout.proofs.Endings.{ending_in_ends}
 use Rattle.fdr_table.specs.Value.{value_of}
 use Rattle.fdr_frame.specs.Slots.{subframe_of, word_of}
-use Rattle.fdr_layout.specs.Samples.{cycle_of, Part, Sample, ending_in, first_at, last_at}
+use Rattle.fdr_check.specs.Occurrences.{cycle_of}
+use Rattle.fdr_layout.specs.Samples.{Part, Sample, ending_in, first_at, last_at}
 use Rattle.fdr_recon.specs.declared.Row.{Row}
 use Rattle.fdr_recon.specs.Rows.{ReadFrame, frame_at, are_joined, counter_in, cycle_in, reach, bits_of, raw_of, param_at, row_with, row_of, rows_looked_at}
-use Rattle.fdr_recon.specs.Kept.{Kept, kept_word, kept_counter, kept_cycle, kept_bits, kept_raw, kept_row, kept_samples}
+use Rattle.fdr_recon.specs.Kept.{Kept, kept_word, kept_counter, kept_cycle, kept_bits, kept_raw, kept_value, kept_row, kept_samples}
 use Rattle.fdr_recon.specs.Past.{Stands, joined_count}
 use Rattle.fdr_recon.proofs.JoinedFrames.{are_joined-count, joined_count-le}
 use Rattle.fdr_recon.proofs.FrameWords.{words_of, length-words_of}
-use Rattle.fdr_recon.proofs.RawValues.{value_of-raw, param_at-raw}
 use Rattle.fdr_recon.proofs.Standing.{kept_word-stands, kept_counter-stands, kept_cycle-stands}
 
 pub sum_by-agree : {X : Type 0} (f g : X → ℕ) (xs : List X) → All (λ x. f x ≡ g x) xs → sum_by f xs ≡ sum_by g xs
@@ -61,9 +61,9 @@ kept_raw-stands k t past i cycle s st len few ends reached =
 
 -- the row of a sample that ends in the last frame's cycle
 pub kept_row-stands : (k : Kept) (t : TableRows) (past : List ReadFrame) (i : ℕ) (s : Sample) → Stands k t past → length past ≡ suc i → EndsIn t.frame.words (cycle_in t.frame (frame_at past i).words) s →
-    s.param < length t.params → kept_row k s ≡ row_of t past i s
-unfolding kept_row row_of row_with
-kept_row-stands k t past i s st len ends has_param =
+    kept_row k s ≡ row_of t past i s
+unfolding kept_row kept_value row_of row_with
+kept_row-stands k t past i s st len ends =
     let w = t.frame.words in
     let d = reach w s.parts in
     let w_is : k.frame.words ≡ w = ap (λ (f : FrameRow). f.words) st.frame in
@@ -85,7 +85,7 @@ kept_row-stands k t past i s st len ends has_param =
       subframe = subframe_of v (first_at s.parts / 12);
       word = word_of v (first_at s.parts / 12);
       param = s.param;
-      value = pos (kept_raw k (kept_cycle k) s.parts);
+      value = kept_value k s;
     })
     else None) ≡ row_of t past i s in
     let listed : nat_le d k.joined ≡ true → P w = λ yes.
@@ -95,11 +95,10 @@ kept_row-stands k t past i s st len ends has_param =
     let counter : kept_counter k d ≡ counter_in t.frame (frame_at past (i - d)).words = kept_counter-stands k t past (i - d) d st (omega arith) (omega arith) in
     let raw : kept_raw k (kept_cycle k) s.parts ≡ raw_of w past i cycle s.parts =
     ap (λ c. kept_raw k c s.parts) (kept_cycle-stands k t past i st len) ∙ kept_raw-stands k t past i cycle s st len few ends (omega arith) in
-    let value : pos (raw_of w past i cycle s.parts) ≡ value_of (param_at t s.param) (raw_of w past i cycle s.parts) =
-    sym (value_of-raw (param_at t s.param) (raw_of w past i cycle s.parts) (param_at-raw t s.param st.raw has_param)) in
+    let value : kept_value k s ≡ value_of (param_at t.params s.param) (raw_of w past i cycle s.parts) =
+    ap (λ ps. value_of (param_at ps s.param) (kept_raw k (kept_cycle k) s.parts)) st.params ∙ ap (value_of (param_at t.params s.param)) raw in
     cond-true _ _ _ yes
-    ∙ ap (λ n. Some (row n (pos (kept_raw k (kept_cycle k) s.parts)))) counter
-    ∙ ap (λ n. Some (row (counter_in t.frame (frame_at past (i - d)).words) (pos n))) raw
+    ∙ ap (λ n. Some (row n (kept_value k s))) counter
     ∙ ap (λ z. Some (row (counter_in t.frame (frame_at past (i - d)).words) z)) value
     ∙ sym (cond-true _ _ _ both)
     in
@@ -162,8 +161,7 @@ row-stands k t (first ∷ past) i s st some looked =
     let within : i < length (ending_in t cycle) = slice_get_within (ending_in t cycle) i s here in
     let is : slice_index_or (ending_in t cycle) i s ≡ s = get_or_from_slice_get (ending_in t cycle) i s s here in
     let Ends : Sample → Type 0 = EndsIn t.frame.words cycle in
-    let HasParam : Sample → Type 0 = λ s. s.param < length t.params in
     ap (λ n. slice_get (rows_looked_at t frames n) i) last
     ∙ slice_get-map (row_of t frames m) (ending_in t cycle) i
     ∙ ap (option_map (row_of t frames m)) here
-    ∙ ap Some (sym (kept_row-stands k t frames m s st refl (subst Ends is (ending_in_ends t cycle some_words i s within)) (subst HasParam is (ending_in_params t cycle i s within))))
+    ∙ ap Some (sym (kept_row-stands k t frames m s st refl (subst Ends is (ending_in_ends t cycle some_words i s within))))

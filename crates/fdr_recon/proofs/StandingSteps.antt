@@ -7,35 +7,36 @@ use Rattle.std.proofs.lemmas.List.{append-nil}
 use Rattle.std.proofs.lemmas.List.Concat.{flat_map-append}
 use Rattle.std.proofs.lemmas.List.Elements.{All-nil, All-push, All-map}
 use Rattle.circular_buffer.specs.Buffer.{keep_last}
-use Rattle.fdr_table.specs.Rows.{FrameRow, TableRows}
+use Rattle.fdr_table.specs.Ranges.{IsInRange}
+use Rattle.fdr_table.specs.Rows.{FrameRow, ParamRow, TableRows}
+use Rattle.fdr_check.specs.Soundness.{IsSound}
 use Rattle.fdr_layout.specs.Samples.{Sample, ending_in}
-use Rattle.fdr_layout.proofs.Endings.{ending_in_params}
 use Rattle.fdr_recon.specs.Rows.{ReadFrame, frame_at, are_linked, counter_place, counter_in}
-use Rattle.fdr_recon.specs.Kept.{Kept, kept_counter, is_next}
-use Rattle.fdr_recon.specs.Past.{HasRawValues, IsWhole, Stands, joined_count, read_frame}
+use Rattle.fdr_recon.specs.Kept.{Kept, kept_counter, is_next, IsSampleOf}
+use Rattle.fdr_recon.specs.Past.{IsWhole, Stands, joined_count, read_frame}
 use Rattle.fdr_recon.proofs.JoinedFrames.{joined_count-push}
 use Rattle.fdr_recon.proofs.FrameWords.{words_of, length-words_of, keep_last-append}
 use Rattle.fdr_recon.proofs.Standing.{kept_counter-stands}
+use Rattle.fdr_recon.proofs.SoundSamples.{ending_in_sound}
 
 drop-nil : {X : Type 0} (n : ℕ) → drop {A = X} n [] ≡ []
 drop-nil zero = refl
 drop-nil (suc n) = refl
 
--- the samples of all cycles have parameters of the table
-pub layout-params : (t : TableRows) → All (λ (samples : List Sample). All (λ (s : Sample). s.param < length t.params) samples) (map (ending_in t) (range_with_len 0 16))
-layout-params t =
-    All-map (λ (samples : List Sample). All (λ (s : Sample). s.param < length t.params) samples) (ending_in t) (range_with_len 0 16)
-    (λ j d within. ending_in_params t (slice_index_or (range_with_len 0 16) j d))
+-- the samples of all cycles of a sound table have all bits of their values
+pub layout-samples : (t : TableRows) → IsInRange t → IsSound t → All (λ (samples : List Sample). All (IsSampleOf t.params) samples) (map (ending_in t) (range_with_len 0 16))
+layout-samples t range sound =
+    All-map (λ (samples : List Sample). All (IsSampleOf t.params) samples) (ending_in t) (range_with_len 0 16)
+    (λ j d within. ending_in_sound t (slice_index_or (range_with_len 0 16) j d) range sound)
 
 -- before the first frame
-pub Stands-none : (t : TableRows) (frame : FrameRow) (params : ℕ) (samples : List (List Sample)) → frame ≡ t.frame → params ≡ length t.params →
-    HasRawValues t.params → samples ≡ map (ending_in t) (range_with_len 0 16) →
+pub Stands-none : (t : TableRows) (frame : FrameRow) (params : List ParamRow) (samples : List (List Sample)) → frame ≡ t.frame → params ≡ t.params →
+    samples ≡ map (ending_in t) (range_with_len 0 16) →
     Stands (record { frame = frame; params = params; samples = samples; words = []; joined = 0 }) t []
 unfolding joined_count
-Stands-none t frame params samples frame_is params_is raw layout = record {
+Stands-none t frame params samples frame_is params_is layout = record {
   frame = frame_is;
   params = params_is;
-  raw = raw;
   samples = layout;
   frames = All-nil (IsWhole t.frame.words);
   words = sym (drop-nil (length (words_of []) - 64 * t.frame.words));
@@ -103,7 +104,6 @@ Stands-push k k' t past adjacent words s some whole small frame params samples k
     record {
       frame = frame ∙ s.frame;
       params = params ∙ s.params;
-      raw = s.raw;
       samples = samples ∙ s.samples;
       frames = All-push (IsWhole w) past r s.frames (record { whole = whole ∙ ap (λ n. 4 * n) w_is; small = small });
       words = kept ∙ ap (λ n. keep_last (64 * n) (k.words ++ words)) w_is ∙ ap (λ ys. keep_last (64 * w) (ys ++ words)) s.words

@@ -1,20 +1,34 @@
 -- What is kept of a table and of the frames that were read, and the rows that are made of it.
-use Rattle.std.specs.Prelude.{ℕ, ◌+◌, ◌-◌, ◌*◌, ◌/◌, ◌%◌, ◌^◌, ◌<◌, ◌≤◌, ◌≡◌, pos, Bool, if◌then◌else◌, ◌==◌, ◌&&◌, nat_lt, nat_le, not, List, [], length, Option, Some, None, sum_by, slice_index}
+use Rattle.std.specs.Prelude.{ℕ, ◌+◌, ◌-◌, ◌*◌, ◌/◌, ◌%◌, ◌^◌, ◌<◌, ◌≤◌, ◌≡◌, ℤ, Bool, if◌then◌else◌, ◌==◌, ◌&&◌, nat_lt, nat_le, not, List, [], ◌∷◌, length, Option, Some, None, sum_by, slice_index, slice_get}
 use Rattle.std.specs.List.{All, slice_index_or}
 use Rattle.fdr_frame.specs.Slots.{subframe_of, word_of}
-use Rattle.fdr_table.specs.Rows.{FrameRow}
-use Rattle.fdr_layout.specs.Samples.{cycle_of, Part, Sample, first_at}
+use Rattle.fdr_table.specs.Rows.{FrameRow, ParamRow}
+use Rattle.fdr_table.specs.Value.{value_of}
+use Rattle.fdr_check.specs.Occurrences.{cycle_of}
+use Rattle.fdr_layout.specs.Samples.{Part, Sample, first_at}
 use Rattle.fdr_recon.specs.declared.Row.{Row}
-use Rattle.fdr_recon.specs.Rows.{counter_place, reach}
+use Rattle.fdr_recon.specs.Rows.{counter_place, reach, param_at}
 
--- The table's frame row and number of parameters, its samples by the cycle that they end in, the words of the last
+-- The table's frame row and parameters, its samples by the cycle that they end in, the words of the last
 -- sixteen frames, one frame after another, and how many frames before the last are joined with it, at most 15.
 pub record Kept : Type 0 where
   pub frame : FrameRow
-  pub params : ℕ
+  pub params : List ParamRow
   pub samples : List (List Sample)
   pub words : List ℕ
   pub joined : ℕ
+
+-- from bit `low` of a raw value up to bit `high` the parts lie one above the other
+abbrev pub FillUp : ℕ → ℕ → List Part → Type 0
+FillUp low high [] = low ≡ high
+FillUp low high (p ∷ parts) = (p.shift ≡ low) × FillUp (low + p.width) high parts
+
+-- the sample is one of these parameters, and its parts are all bits of the raw value
+pub record IsSampleOf (params : List ParamRow) (s : Sample) : Type 0 where
+  pub param : ParamRow
+  pub is : slice_get params s.param ≡ Some param
+  pub narrow : param.width ≤ 32
+  pub parts : FillUp 0 param.width s.parts
 
 -- what holds of every value, whose words have room for this many
 pub record IsKept (k : Kept) (capacity : ℕ) : Type 0 where
@@ -22,7 +36,7 @@ pub record IsKept (k : Kept) (capacity : ℕ) : Type 0 where
   pub room : capacity ≡ 64 * k.frame.words
   pub words : All (λ word. word < 4096) k.words
   pub joined : k.joined ≤ 15
-  pub params : All (λ (samples : List Sample). All (λ (s : Sample). s.param < k.params) samples) k.samples
+  pub params : All (λ (samples : List Sample). All (IsSampleOf k.params) samples) k.samples
 
 -- which word counts as the given one, from the last word back, of the frame that stands this many frames before the last
 abbrev pub from_end : ℕ → ℕ → ℕ → ℕ
@@ -50,6 +64,10 @@ kept_bits k cycle p =
 unfoldable pub kept_raw : Kept → ℕ → List Part → ℕ
 kept_raw k cycle parts = sum_by (λ p. kept_bits k cycle p * 2 ^ p.shift) parts
 
+-- the value of a sample that ends in the last frame
+unfoldable pub kept_value : Kept → Sample → ℤ
+kept_value k s = value_of (param_at k.params s.param) (kept_raw k (kept_cycle k) s.parts)
+
 -- the row of a sample that ends in the last frame
 unfoldable pub kept_row : Kept → Sample → Option Row
 kept_row k s =
@@ -59,7 +77,7 @@ kept_row k s =
       subframe = subframe_of k.frame.words (first_at s.parts / 12);
       word = word_of k.frame.words (first_at s.parts / 12);
       param = s.param;
-      value = pos (kept_raw k (kept_cycle k) s.parts);
+      value = kept_value k s;
     })
     else None
 

@@ -1,21 +1,11 @@
 -- The frames that were read, for which a value stands.
-use Rattle.std.specs.Prelude.{ℕ, ◌-◌, ◌*◌, ◌<◌, ◌≡◌, min, pos, Bool, false, if◌then◌else◌, List, length, map, zero, suc}
+use Rattle.std.specs.Prelude.{ℕ, ◌-◌, ◌*◌, ◌<◌, ◌≡◌, min, Bool, if◌then◌else◌, List, length, map, zero, suc}
 use Rattle.std.specs.List.{All, flat_map, range_with_len}
 use Rattle.circular_buffer.specs.Buffer.{keep_last}
-use Rattle.fdr_table.specs.Rows.{FrameRow, ParamRow, TableRows}
+use Rattle.fdr_table.specs.Rows.{FrameRow, TableRows}
 use Rattle.fdr_layout.specs.Samples.{ending_in}
 use Rattle.fdr_recon.specs.Rows.{ReadFrame, frame_at, are_linked}
 use Rattle.fdr_recon.specs.Kept.{Kept}
-
--- the parameter's value is its raw number
-pub record HasRawValue (p : ParamRow) : Type 0 where
-  pub unsigned : p.signed ≡ false
-  pub num : p.num ≡ pos 1
-  pub den : p.den ≡ pos 1
-  pub offset : p.offset ≡ pos 0
-
-abbrev pub HasRawValues : List ParamRow → Type 0
-HasRawValues params = All HasRawValue params
 
 abbrev pub read_frame : Bool → List ℕ → ReadFrame
 read_frame adjacent words = record { adjacent = adjacent; words = words }
@@ -33,8 +23,7 @@ pub record IsWhole (w : ℕ) (r : ReadFrame) : Type 0 where
 -- The value stands where the frames of this past were read for this table.
 pub record Stands (k : Kept) (t : TableRows) (past : List ReadFrame) : Type 0 where
   pub frame : k.frame ≡ t.frame
-  pub params : k.params ≡ length t.params
-  pub raw : HasRawValues t.params
+  pub params : k.params ≡ t.params
   pub samples : k.samples ≡ map (ending_in t) (range_with_len 0 16)
   pub frames : All (IsWhole t.frame.words) past
   pub words : k.words ≡ keep_last (64 * t.frame.words) (flat_map (λ (r : ReadFrame). r.words) past)

@@ -4,7 +4,8 @@ use Rattle.std.specs.List.{filter_map, range_with_len, list_all, slice_index_or}
 use Rattle.fdr_frame.specs.Slots.{subframe_of, word_of}
 use Rattle.fdr_table.specs.Rows.{FrameRow, ParamRow, TableRows}
 use Rattle.fdr_table.specs.Value.{value_of}
-use Rattle.fdr_layout.specs.Samples.{cycle_of, Part, Sample, first_at, last_at, ending_in}
+use Rattle.fdr_check.specs.Occurrences.{cycle_of}
+use Rattle.fdr_layout.specs.Samples.{Part, Sample, first_at, last_at, ending_in}
 use Rattle.fdr_recon.specs.declared.Row.{Row}
 
 -- A frame that was read: whether it begins where the frame before it ends, and its words.
@@ -53,8 +54,8 @@ abbrev pub no_param : ParamRow
 no_param = record { name = []; bus = 0; label = 0; sdi = None; lsb = 0; width = 0; signed = false; num = pos 0; den = pos 1; offset = pos 0; decimals = 0; rate = 0; row = 0 }
 
 -- the parameter with this index
-unfoldable pub param_at : TableRows → ℕ → ParamRow
-param_at t n = slice_index_or t.params n no_param
+unfoldable pub param_at : List ParamRow → ℕ → ParamRow
+param_at params n = slice_index_or params n no_param
 
 -- the row of a sample with this raw value, whose earliest part lies in a frame with this counter
 unfoldable pub row_with : TableRows → Sample → ℕ → ℕ → Row
@@ -63,7 +64,7 @@ row_with t s counter raw = record {
   subframe = subframe_of t.frame.words (first_at s.parts / 12);
   word = word_of t.frame.words (first_at s.parts / 12);
   param = s.param;
-  value = value_of (param_at t s.param) raw;
+  value = value_of (param_at t.params s.param) raw;
 }
 
 -- the row of a sample whose last part lies in frame i, where the frames back to its earliest part are joined

@@ -3,4 +3,4 @@ use Rattle.fdr_recon.specs.declared.past.Rebuild.TheInside.{Inside}
 use Rattle.fdr_recon.specs.Kept.{Kept}
 
 abbrev pub kept_of : Inside → Kept
-kept_of r = record { frame = r.frame; params = r.params; samples = r.layout.cycles; words = r.words.items; joined = r.joined }
+kept_of r = record { frame = r.frame; params = r.params.items; samples = r.layout.cycles; words = r.words.items; joined = r.joined }

@@ -3,14 +3,16 @@
 ghost use Rattle.std.specs.Prelude.{◌≡◌, ◌+◌, ◌-◌, ◌*◌, ◌^◌, ◌<◌, ◌≤◌, List, [], ◌∷◌, ◌++◌, Some, length, map, IfOk, IfSome, All, slice_get, unwrap_or};
 ghost use Rattle.std.specs.List.{range_with_len};
 ghost use Rattle.fdr_table.specs.Rows.{TableRows};
+ghost use Rattle.fdr_layout.specs.SlotParts.{laid_of};
 ghost use Rattle.fdr_recon.specs.Rows.{ReadFrame, counter_place, rows_looked_at};
-ghost use Rattle.fdr_recon.specs.Kept.{kept_word, kept_counter, kept_cycle, kept_bits, kept_raw, kept_row, kept_samples, is_next, IsRow};
-ghost use Rattle.fdr_recon.specs.Past.{HasRawValues, Stands, read_frame};
+ghost use Rattle.fdr_recon.specs.Kept.{kept_word, kept_counter, kept_cycle, kept_bits, kept_raw, kept_value, kept_row, kept_samples, is_next, IsRow, IsSampleOf};
+ghost use Rattle.fdr_recon.specs.Past.{Stands, read_frame};
 
 use crate::Row;
 use circular_buffer::HeapCircularBuffer;
+use fdr_check::Sound;
 use fdr_layout::{Layout, Part, Sample};
-use fdr_table::{Frame, NoMemory, Param, Place, Table};
+use fdr_table::{Frame, NoMemory, Param};
 use std::alloc::Global;
 use std::marker::Model;
 
@@ -21,7 +23,7 @@ const MOST_JOINED: u8 = 15;
 #[derive(Drop)]
 pub struct Rebuild {
     frame: Frame,
-    params: usize,
+    params: Vec<Param>,
     layout: Layout,
     words: HeapCircularBuffer<u16>,
     joined: u8,
@@ -40,13 +42,15 @@ impl Model for Rebuild {
 }
 
 impl Rebuild {
-    /// Makes room for the last sixteen frames of a table whose values are raw numbers. Fails only where memory ends.
-    pub fn new(alloc: Global, table: &Table) -> Result<Rebuild, NoMemory>
-        requires { HasRawValues table.now.params }
-        ensures { IfOk result (λ r. Stands r table.now []) }
+    /// Makes room for the last sixteen frames of a recording by this table, whose layout is given. Fails only where
+    /// memory ends.
+    pub fn new(alloc: Global, layout: Layout, sound: &Sound) -> Result<Rebuild, NoMemory>
+        requires { layout ≡ laid_of sound.now }
+        ensures { IfOk result (λ r. Stands r sound.now []) }
     {
-        let layout = Layout::make(alloc, table)?;
-        Rebuild::with_layout(alloc, table.frame(), table.params().len(), layout)
+        sound.holds();
+        let table = sound.table();
+        Rebuild::with_layout(alloc, table.frame(), table.params(), layout)
     }
 
     /// Takes the next frame: whether it begins where the frame before ends, and its words. It is not adjacent where it
@@ -83,7 +87,7 @@ impl Rebuild {
         requires { i < length (kept_samples self.now) }
         ensures row { (t : TableRows) (past : List ReadFrame) → Stands self.now t past
             → slice_get (rows_looked_at t past (length past - 1)) i ≡ Some result }
-        ensures range { IfSome result (IsRow self.now.params) }
+        ensures range { IfSome result (IsRow (length self.now.params)) }
     {
         self.row_of(&self.samples()[i as usize])
     }
@@ -104,7 +108,7 @@ impl Rebuild {
     fn samples(&self) -> &[Sample]
         ensures samples { result.now ≡ kept_samples self.now }
         ensures few { length result.now < 2 ^ 32 }
-        ensures params { All (λ s. s.param < self.now.params) result.now }
+        ensures params { All (IsSampleOf self.now.params) result.now }
         ensures frame { 0 < self.now.frame.words }
     {
         if self.words.is_empty() {
@@ -115,9 +119,9 @@ impl Rebuild {
     }
 
     fn row_of(&self, sample: &Sample) -> Option<Row>
-        requires { sample.now.param < self.now.params }
+        requires { IsSampleOf self.now.params sample.now }
         ensures row { result ≡ kept_row self.now sample.now }
-        ensures range { IfSome result (IsRow self.now.params) }
+        ensures range { IfSome result (IsRow (length self.now.params)) }
     {
         let words = frame_words(self.frame);
         let reach = (sample.last() / (48 * words)).saturating_sub(sample.first() / (48 * words));
@@ -130,8 +134,19 @@ impl Rebuild {
             subframe: (slot / words % 4 + 1) as u8,
             word: slot % words + 1,
             param: sample.param(),
-            value: self.raw(self.cycle(), sample.parts()) as i64,
+            value: self.value(sample),
         })
+    }
+
+    /// The value of a sample that ends in the last frame.
+    #[tactic(auto, unfolding(crate::specs::Kept::kept_value, crate::specs::Rows::param_at))]
+    fn value(&self, sample: &Sample) -> i64
+        requires { IsSampleOf self.now.params sample.now }
+        ensures { result ≡ kept_value self.now sample.now }
+    {
+        let param = &self.params[sample.param() as usize];
+        let raw = self.raw(self.cycle(), sample.parts()) as u32;
+        param.value(raw)
     }
 
     /// The raw value of the parts of a sample that ends in the last frame, which has this cycle.
@@ -165,12 +180,13 @@ impl Rebuild {
     fn with_layout(
         alloc: Global,
         frame: Frame,
-        params: usize,
+        params: &[Param],
         layout: Layout,
     ) -> Result<Rebuild, NoMemory>
-        requires { All (λ samples. All (λ s. s.param < params) samples) layout.cycles }
-        ensures { IfOk result (λ r. r ≡ record { frame = frame; params = params; samples = layout.cycles; words = []; joined = 0 }) }
+        requires { All (λ samples. All (IsSampleOf params.now) samples) layout.cycles }
+        ensures { IfOk result (λ r. r ≡ record { frame = frame; params = params.now; samples = layout.cycles; words = []; joined = 0 }) }
     {
+        let params = copies_of(alloc, params)?;
         let words = HeapCircularBuffer::with_capacity(
             alloc,
             64 * frame_words(frame) as usize,
@@ -213,6 +229,19 @@ impl Rebuild {
     {
         (self.counter(0) % 16) as u8
     }
+}
+
+/// The same parameters once more.
+fn copies_of(alloc: Global, params: &[Param]) -> Result<Vec<Param>, NoMemory>
+    ensures { IfOk result (λ v. v.items ≡ params.now) }
+{
+    let mut copies = Vec::new(alloc);
+    for param in params {
+        if copies.push(param.copied()).is_err() {
+            return Err(NoMemory);
+        }
+    }
+    Ok(copies)
 }
 
 /// How many words a subframe has.

@@ -4,50 +4,26 @@ use crate::lines::{
 };
 use crate::sure_command;
 use fdr_bus::TraceFault;
+use fdr_cases::{answer, words_of};
 use fdr_deck::{MemDeck, SureDeck};
 use fdr_io::{Input, MemSink, MemSource, NullSink, SureSource};
+use fdr_slot::ImageFault;
 use fdr_table::TableFault;
-use fdr_top::{Outcome, run};
-use std::alloc::{AllocError, Global};
+use fdr_top::Outcome;
 use std::test::Fail;
 
 /// An altitude in word 10 of the first subframe, and the counter in word 2 of it.
 pub const ALTITUDE: &[u8] = b"F,64,2,1\nP,ALT,0,203,,11,12,U,1,1,0,0,16\nL,ALT,1,1,10,0,1,12,0,1\n";
 
-/// A position in two parts beside the altitude.
-const TWO_PARTS: &[u8] = b"F,64,2,1
-P,POS,1,310,,9,20,U,1,1,0,0,1
-L,POS,1,1,20,0,1,12,0,16
-L,POS,2,1,20,0,1,8,1,16
-P,ALT,0,203,,11,12,U,1,1,0,0,16
-L,ALT,1,1,10,0,1,12,0,1
-";
+/// An altitude in the counter's word.
+const ON_COUNTER: &[u8] = b"F,64,2,1\nP,ALT,0,203,,11,12,U,1,1,0,0,16\nL,ALT,1,1,2,0,1,12,0,1\n";
 
 pub const LISTBITS: &[&str] = &["listbits", "t1.csv"];
-
-pub fn strings(alloc: Global, words: &[&str]) -> Result<Vec<String>, AllocError> {
-    let mut strings = Vec::new(alloc);
-    for word in words {
-        strings.push(word.to_string(alloc)?)?;
-    }
-    Ok(strings)
-}
-
-/// What a command answers. Without clauses of its own, so that the tests are proved without those of `run`.
-pub fn answer(
-    alloc: Global,
-    words: &[String],
-    table: &mut MemSource,
-    deck: &mut MemDeck,
-    out: &mut MemSink,
-) -> Outcome {
-    run(alloc, words, table, deck, out)
-}
 
 #[test]
 fn lists_worked_lines(rt: HostRuntime) -> Result<(), Fail> {
     let alloc = rt.alloc();
-    let words = strings(alloc, LISTBITS)?;
+    let words = words_of(alloc, LISTBITS)?;
     let clean = frame(0, 5);
     let struck = frame_with_a_bit_struck_out();
     let behind = frames_behind_five_bits();
@@ -102,7 +78,7 @@ struct Fault<'a> {
 #[test]
 fn answers_faults_and_refusals(rt: HostRuntime) -> Result<(), Fail> {
     let alloc = rt.alloc();
-    let words = strings(alloc, LISTBITS)?;
+    let words = words_of(alloc, LISTBITS)?;
     let line = frames_far_apart();
     let too_large = vec![in alloc; b'X'; 1_048_577]?;
     let whole: &[u8] = b"row,0,1,10,ALT,5\ngap,3072,29696\nrow,1,1,10,ALT,7\n";
@@ -128,14 +104,14 @@ fn answers_faults_and_refusals(rt: HostRuntime) -> Result<(), Fail> {
             left: whole,
         },
         Fault {
-            shows: "a parameter in two parts",
-            table: TWO_PARTS,
+            shows: "a place on the counter",
+            table: ON_COUNTER,
             reads: &[],
             pulls: &[],
             writes: &[],
             answer: Outcome::TableRefused {
-                row: 0,
-                fault: TableFault::NotBuilt,
+                row: 2,
+                fault: TableFault::OnCounter,
             },
             written: b"",
             left: whole,
@@ -182,7 +158,7 @@ fn answers_faults_and_refusals(rt: HostRuntime) -> Result<(), Fail> {
 #[test]
 fn writes_nothing_where_the_first_write_fails(rt: HostRuntime) -> Result<(), Fail> {
     let alloc = rt.alloc();
-    let words = strings(alloc, LISTBITS)?;
+    let words = words_of(alloc, LISTBITS)?;
     let line = frames_behind_five_bits().to_vec(alloc)?;
     let mut table = MemSource::new(ALTITUDE.to_vec(alloc)?, Vec::new(alloc));
     let mut deck = MemDeck::new(alloc, Vec::new(alloc), line, Vec::new(alloc));
@@ -202,11 +178,11 @@ fn refuses_other_words_and_says_each_answer(rt: HostRuntime) -> Result<(), Fail>
         &["stream"],
         &["listbits", "t1.csv", "t2.csv"],
         &["listbits", "-x"],
-        &["check", "t1.csv"],
+        &["check", "t1.csv", "t2.csv"],
         &["listbits", ""],
     ];
     for case in cases {
-        let words = strings(alloc, case)?;
+        let words = words_of(alloc, case)?;
         let mut table = MemSource::new(ALTITUDE.to_vec(alloc)?, Vec::new(alloc));
         let mut deck = MemDeck::new(
             alloc,
@@ -220,23 +196,75 @@ fn refuses_other_words_and_says_each_answer(rt: HostRuntime) -> Result<(), Fail>
         assert_eq!(rt; out.bytes().len(), 0, "{case:?}");
     }
     let row = u32::MAX;
-    let fault = TableFault::Number { field: 12 };
     let index = u64::MAX;
-    let answers: [(Outcome, u8, &[u8]); 14] = [
+    let faults: [(TableFault, &[u8]); 15] = [
+        (TableFault::Shape, b"fdr: table row 4294967295: shape"),
+        (
+            TableFault::Number { field: 12 },
+            b"fdr: table row 4294967295: number in field 12",
+        ),
+        (
+            TableFault::NoFrame,
+            b"fdr: table row 4294967295: no frame row",
+        ),
+        (
+            TableFault::TwoFrames,
+            b"fdr: table row 4294967295: second frame row",
+        ),
+        (TableFault::Name, b"fdr: table row 4294967295: name"),
+        (
+            TableFault::Twice,
+            b"fdr: table row 4294967295: name used twice",
+        ),
+        (
+            TableFault::Unknown,
+            b"fdr: table row 4294967295: unknown name",
+        ),
+        (TableFault::Size, b"fdr: table row 4294967295: too large"),
+        (TableFault::Place, b"fdr: table row 4294967295: place"),
+        (
+            TableFault::OnSync,
+            b"fdr: table row 4294967295: on a sync word",
+        ),
+        (
+            TableFault::OnCounter,
+            b"fdr: table row 4294967295: on the counter word",
+        ),
+        (
+            TableFault::Overlap {
+                first: 8191,
+                second: row,
+                word: 1024,
+                bit: 12,
+            },
+            b"fdr: table row 4294967295: overlap with row 8191 at word 1024 bit 12",
+        ),
+        (TableFault::Parts, b"fdr: table row 4294967295: parts"),
+        (
+            TableFault::Rate {
+                declared: 64,
+                counted: 16,
+            },
+            b"fdr: table row 4294967295: rate 64 declared, 16 counted",
+        ),
+        (
+            TableFault::TooMany,
+            b"fdr: table row 4294967295: too many parts",
+        ),
+    ];
+    for (fault, text) in faults {
+        assert_eq!(rt; Outcome::TableRefused { row, fault }.text().bytes(), text);
+    }
+    let answers: [(Outcome, u8, &[u8]); 20] = [
         (Outcome::Done, 0, b""),
         (Outcome::Usage, 1, b"fdr: usage"),
         (
             Outcome::TableRefused {
                 row: 0,
-                fault: TableFault::NotBuilt,
+                fault: TableFault::Shape,
             },
             2,
-            b"fdr: table row 0: not built",
-        ),
-        (
-            Outcome::TableRefused { row, fault },
-            2,
-            b"fdr: table row 4294967295: number in field 12",
+            b"fdr: table row 0: shape",
         ),
         (
             Outcome::TraceRefused {
@@ -279,6 +307,32 @@ fn refuses_other_words_and_says_each_answer(rt: HostRuntime) -> Result<(), Fail>
             b"fdr: trace record 4294967296: too many",
         ),
         (
+            Outcome::ImageRefused(ImageFault::Small),
+            4,
+            b"fdr: image: too small",
+        ),
+        (
+            Outcome::ImageRefused(ImageFault::Closed),
+            4,
+            b"fdr: image: header closed",
+        ),
+        (
+            Outcome::ImageRefused(ImageFault::Magic),
+            4,
+            b"fdr: image: not a recorder image",
+        ),
+        (
+            Outcome::ImageRefused(ImageFault::Geometry),
+            4,
+            b"fdr: image: geometry",
+        ),
+        (
+            Outcome::ImageRefused(ImageFault::Short),
+            4,
+            b"fdr: image: shorter than its ring",
+        ),
+        (Outcome::NotEmpty, 5, b"fdr: image is not empty"),
+        (
             Outcome::ReadFault(Input::Table),
             8,
             b"fdr: table cannot be read",
@@ -289,6 +343,7 @@ fn refuses_other_words_and_says_each_answer(rt: HostRuntime) -> Result<(), Fail>
             b"fdr: input cannot be read",
         ),
         (Outcome::WriteFault, 9, b"fdr: output cannot be written"),
+        (Outcome::DiskFault, 10, b"fdr: disk fault"),
         (Outcome::TooLong, 11, b"fdr: input too long"),
         (Outcome::NoMemory, 12, b"fdr: no memory"),
     ];
@@ -302,7 +357,7 @@ fn refuses_other_words_and_says_each_answer(rt: HostRuntime) -> Result<(), Fail>
 #[test]
 fn lists_where_nothing_fails(rt: HostRuntime) -> Result<(), Fail> {
     let alloc = rt.alloc();
-    let words = strings(alloc, LISTBITS)?;
+    let words = words_of(alloc, LISTBITS)?;
     let image = vec![in alloc; 0]?;
     assert!(rt; image.len() > 0);
     let mut table = SureSource::new(ALTITUDE.to_vec(alloc)?);

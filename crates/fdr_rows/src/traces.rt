@@ -1,7 +1,8 @@
 use crate::lines::{frame, put_words};
 use crate::sure_command;
-use crate::tests::{ALTITUDE, LISTBITS, answer, strings};
+use crate::tests::{ALTITUDE, LISTBITS};
 use fdr_bus::TraceFault;
+use fdr_cases::{answer, words_of};
 use fdr_deck::{MemDeck, SureDeck};
 use fdr_io::{Input, MemSink, MemSource, NullSink, SureSource};
 use fdr_top::Outcome;
@@ -125,7 +126,7 @@ fn run_case(
 #[test]
 fn streams_worked_traces(rt: HostRuntime) -> Result<(), Fail> {
     let alloc = rt.alloc();
-    let words = strings(alloc, STREAM)?;
+    let words = words_of(alloc, STREAM)?;
     let zero = frame(0, 0);
     let five = frame(0, 5);
     let second = frame_with_altitude_second(5);
@@ -186,7 +187,7 @@ fn streams_worked_traces(rt: HostRuntime) -> Result<(), Fail> {
 #[test]
 fn streams_what_was_pulled_before_a_fault(rt: HostRuntime) -> Result<(), Fail> {
     let alloc = rt.alloc();
-    let words = strings(alloc, STREAM)?;
+    let words = words_of(alloc, STREAM)?;
     let five = frame(0, 5);
     let mut cut = refused(
         "a word and 15 bytes",
@@ -224,7 +225,7 @@ fn lists_what_was_streamed(rt: HostRuntime) -> Result<(), Fail> {
     let mut stream = MemSink::new(alloc, Vec::new(alloc));
     let given = answer(
         alloc,
-        &strings(alloc, STREAM)?,
+        &words_of(alloc, STREAM)?,
         &mut table,
         &mut deck,
         &mut stream,
@@ -241,7 +242,7 @@ fn lists_what_was_streamed(rt: HostRuntime) -> Result<(), Fail> {
     let mut out = MemSink::new(alloc, Vec::new(alloc));
     let given = answer(
         alloc,
-        &strings(alloc, LISTBITS)?,
+        &words_of(alloc, LISTBITS)?,
         &mut table,
         &mut deck,
         &mut out,
@@ -258,7 +259,7 @@ fn streams_where_nothing_fails(rt: HostRuntime) -> Result<(), Fail> {
     assert!(rt; image.len() > 0);
     let mut table = SureSource::new(ALTITUDE.to_vec(alloc)?);
     let mut deck = SureDeck::new(image, END_AT_4000000.to_vec(alloc)?);
-    let words = strings(alloc, STREAM)?;
+    let words = words_of(alloc, STREAM)?;
     let answer = sure_command(alloc, &words, &mut table, &mut deck, &mut NullSink::new());
     assert_eq!(rt; answer, Outcome::Done);
     Ok(())

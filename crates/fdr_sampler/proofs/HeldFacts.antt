@@ -2,12 +2,20 @@
 use Rattle.std.proofs.Common.{◌≡◌, ℕ, ◌+◌, ◌*◌, ◌<◌, Bool, true, false, List, [], ◌∷◌, ◌++◌, Some, None, reverse, refl, sym, ap, ◌∙◌, arith}
 use Rattle.std.specs.Prelude.{◌&&◌, if◌then◌else◌, IsTrue}
 use Rattle.std.specs.List.{All, find}
-use Rattle.std.proofs.lemmas.Bool.{leb-true, le-leb, lt-leb, and_right, cond-false}
+use Rattle.std.proofs.lemmas.Bool.{leb-true, le-leb, lt-leb, and_parts, and_right, cond-false, eqb-true}
 use Rattle.std.proofs.lemmas.List.{reverse-append}
 use Rattle.std.proofs.lemmas.List.Elements.{All-weaker}
 use Rattle.fdr_bus.specs.declared.BusRecord.{BusRecord}
+use Rattle.fdr_bus.specs.Words.{label_of}
 use Rattle.fdr_sampler.specs.Held.{Source, is_from, counts_for, held_record}
 use Rattle.fdr_sampler.proofs.Lists.{find_agree, All-reverse}
+
+-- a word that is from a source has its bus and its label
+pub from_is : (s : Source) (r : BusRecord) → is_from s r ≡ true → (r.bus ≡ s.bus) × (label_of r.word ≡ s.label)
+from_is s r from =
+    let with_label = (and_parts _ _ from).0 in
+    let with_bus = (and_parts _ _ with_label).0 in
+    (eqb-true r.bus s.bus (and_parts _ _ with_bus).1, eqb-true (label_of r.word) s.label (and_parts _ _ with_label).1)
 
 and_true : (b c : Bool) → c ≡ true → (b && c) ≡ b
 and_true true c holds = holds

@@ -1,5 +1,6 @@
 pub mod Lists
 pub mod Holding
+pub mod Indexing
 pub mod Drawing
 pub mod SlotFacts
 pub mod HeldFacts
@@ -7,3 +8,4 @@ pub mod Standing
 pub mod Counting
 pub mod Streaming
 pub mod Packing
+pub mod Exchange

@@ -21,7 +21,7 @@ part_agrees : (v v' : ℕ → ℕ) (word : ℕ) (a : SlotPart) → v a.sample �
 part_agrees v v' word a same = ap (λ n. with_field word (a.part.at % 12) a.part.width (piece_of n a.part)) same
 
 -- the word of data rests on the raw values of the parts' samples alone
-folds_agree : (v v' : ℕ → ℕ) (parts : List SlotPart) (word : ℕ) → All (λ (a : SlotPart). v a.sample ≡ v' a.sample) parts → fold (with_part v) word parts ≡ fold (with_part v') word parts
+pub folds_agree : (v v' : ℕ → ℕ) (parts : List SlotPart) (word : ℕ) → All (λ (a : SlotPart). v a.sample ≡ v' a.sample) parts → fold (with_part v) word parts ≡ fold (with_part v') word parts
 folds_agree v v' [] word same = refl
 folds_agree v v' (a ∷ parts) word same =
     let P : SlotPart → Type 0 = λ a. v a.sample ≡ v' a.sample in
@@ -48,7 +48,7 @@ slot_word-late t records r k late =
     ∙ raw_value-late t records start a.sample s r of.numbered (omega (arith, low, start_and_within w k))
     ∙ sym (numbered_value_at t records start a.sample s of.numbered)))
 
-map_agree : {X : Type 0} (f g : ℕ → X) (a n : ℕ) → ((i : ℕ) → a ≤ i → i < a + n → f i ≡ g i) → map f (range_with_len a n) ≡ map g (range_with_len a n)
+pub map_agree : {X : Type 0} (f g : ℕ → X) (a n : ℕ) → ((i : ℕ) → a ≤ i → i < a + n → f i ≡ g i) → map f (range_with_len a n) ≡ map g (range_with_len a n)
 map_agree f g a zero same = refl
 map_agree {X = X} f g a (suc n) same =
     ap (λ x. x ∷ map f (range_with_len (a + 1) n)) (same a (omega arith) (omega arith))

@@ -3,4 +3,4 @@ use Rattle.fdr_sampler.specs.declared.sampler.Sampler.TheInside.{Inside}
 use Rattle.fdr_sampler.specs.Kept.{Kept}
 
 abbrev pub kept_of : Inside → Kept
-kept_of s = record { frame = s.frame; sources = s.sources.items; laid = s.layout; held = s.held.items; raws = s.raws.items; drawn = s.drawn }
+kept_of s = record { frame = s.frame; sources = s.sources; laid = s.layout; held = s.held.items; raws = s.raws.items; drawn = s.drawn }

@@ -2,15 +2,17 @@
 
 ghost use Rattle.std.specs.Prelude.{◌≡◌, ◌<◌, ◌≤◌, ◌*◌, ◌↔◌, All, IsTrue, IfOk, length, replicate};
 ghost use Rattle.fdr_sampler.specs.SlotWord.{slot_word, slot_within, word_with};
+ghost use Rattle.fdr_layout.specs.SlotParts.{laid_of};
 ghost use Rattle.fdr_sampler.specs.Kept.{at_start, most_slots};
 ghost use Rattle.fdr_sampler.specs.Past.{Past, made, with_record, with_word, MayTake, Stands};
 
+use crate::index::Sources;
 use crate::pieces::data_word;
-use crate::source::{Source, hold, sources_of};
 use fdr_bus::{BusRecord, LAST_TIME};
+use fdr_check::Sound;
 use fdr_frame::{SYNC, SlotKind, counter_of, slot_kind, subframe_of};
 use fdr_layout::Layout;
-use fdr_table::{Frame, NoMemory, Param, Table};
+use fdr_table::{Frame, NoMemory, Param};
 use std::alloc::Global;
 use std::marker::Model;
 
@@ -18,7 +20,7 @@ use std::marker::Model;
 #[derive(Drop)]
 pub struct Sampler {
     frame: Frame,
-    sources: Vec<Source>,
+    sources: Sources,
     layout: Layout,
     held: Vec<u32>,
     raws: Vec<u32>,
@@ -38,11 +40,12 @@ impl Model for Sampler {
 }
 
 impl Sampler {
-    /// A sampler at the start of a recording by this table. Fails only where memory ends.
-    pub fn new(alloc: Global, table: &Table) -> Result<Sampler, NoMemory>
-        ensures { IfOk result (λ s. Stands s (made table.now)) }
+    /// A sampler at the start of a recording by this table, whose layout is given. Fails only where memory ends.
+    pub fn new(alloc: Global, layout: Layout, sound: &Sound) -> Result<Sampler, NoMemory>
+        requires { layout ≡ laid_of sound.now }
+        ensures { IfOk result (λ s. Stands s (made sound.now)) }
     {
-        let layout = Layout::make(alloc, table)?;
+        let table = sound.table();
         Sampler::with_layout(alloc, table.frame(), table.params(), layout)
     }
 
@@ -60,7 +63,7 @@ impl Sampler {
         requires { (past : Past) × Stands self.old past × MayTake past r.now }
         ensures { (past : Past) → Stands self.old past → MayTake past r.now → Stands self.new (with_record past r.now) }
     {
-        hold(&self.sources, &mut self.held, r);
+        self.sources.hold(&mut self.held, r);
     }
 
     /// The word of the next slot. A recording has at most 1,474,560,000. Takes no memory.
@@ -88,7 +91,7 @@ impl Sampler {
         requires params { All (λ s. s.param < length params.now) layout.samples }
         ensures { IfOk result (λ s. s ≡ at_start frame params.now layout) }
     {
-        let sources = sources_of(alloc, params)?;
+        let sources = Sources::of(alloc, params)?;
         let held = zeros(alloc, params.len())?;
         let raws = zeros(alloc, layout.samples() as usize)?;
         Ok(Sampler {

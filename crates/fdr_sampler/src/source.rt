@@ -1,12 +1,14 @@
 //! Where the parameters come from.
 
-ghost use Rattle.std.specs.Prelude.{◌≡◌, ◌^◌, ◌<◌, ℕ, Some, length, map, slice_get, slice_index, IfOk};
+ghost use Rattle.std.specs.Prelude.{◌≡◌, IfOk, map, true};
 ghost use Rattle.fdr_bus.specs.declared.RecordKind.TheVariants.{Word};
-ghost use Rattle.fdr_bus.specs.Words.{bits_at};
+ghost use Rattle.fdr_bus.specs.Words.{bits_at, is_odd, label_of};
 ghost use Rattle.fdr_sampler.specs.Held.{Source, source_of, is_from};
+ghost use Rattle.fdr_sampler.specs.Index.{entry_of};
 ghost use Rattle.fdr_sampler.specs.Kept.{held_after};
 
-use fdr_bus::{BusRecord, field, is_odd, label, sdi};
+use crate::index::Entry;
+use fdr_bus::{BusRecord, field, sdi};
 use fdr_table::{NoMemory, Param};
 use std::alloc::Global;
 use std::marker::Model;
@@ -46,14 +48,15 @@ impl Source {
         }
     }
 
-    /// Whether a bus word is the source's. Words of even parity are nobody's.
-    fn sends(&self, r: &BusRecord) -> bool
-        requires { r.now.kind ≡ Word }
+    /// Whether a bus word of odd parity, which has this label, is the source's. Words of even parity are nobody's.
+    fn sends(&self, r: &BusRecord, label: u8) -> bool
+        requires kind { r.now.kind ≡ Word }
+        requires odd { is_odd r.now.word ≡ true }
+        requires label { label ≡ label_of r.now.word }
         ensures { result ≡ is_from self.now r.now }
     {
-        is_odd(r.word)
-            && r.bus == self.bus
-            && label(r.word) == self.label
+        r.bus == self.bus
+            && label == self.label
             && match self.sdi {
                 Some(wanted) => sdi(r.word) == wanted,
                 None => true,
@@ -65,6 +68,31 @@ impl Source {
         ensures { result ≡ bits_at word self.now.lsb self.now.width }
     {
         field(word, self.lsb, self.width)
+    }
+
+    /// The raw number that is held after a bus word of odd parity, which has this label, where `before` was held.
+    pub(crate) fn held_after(&self, r: &BusRecord, label: u8, before: u32) -> u32
+        requires kind { r.now.kind ≡ Word }
+        requires odd { is_odd r.now.word ≡ true }
+        requires label { label ≡ label_of r.now.word }
+        ensures { result ≡ held_after self.now r.now before }
+    {
+        if self.sends(r, label) {
+            self.raw(r.word)
+        } else {
+            before
+        }
+    }
+
+    /// The entry of the source with this number.
+    pub(crate) fn entry(&self, number: usize) -> Entry
+        ensures { result ≡ entry_of (number, self.now) }
+    {
+        Entry {
+            bus: self.bus,
+            label: self.label,
+            source: number,
+        }
     }
 }
 
@@ -79,18 +107,4 @@ pub(crate) fn sources_of(alloc: Global, params: &[Param]) -> Result<Vec<Source>,
         }
     }
     Ok(sources)
-}
-
-/// Keeps the raw number in a bus word for each of the sources that it is from.
-pub(crate) fn hold(sources: &[Source], held: &mut [u32], r: &BusRecord)
-    requires kind { r.now.kind ≡ Word }
-    requires one_each { length held.old ≡ length sources.now }
-    ensures { (n : ℕ) (s : Source) → slice_get sources.now n ≡ Some s →
-        slice_index held.new n ≡ held_after s r.now (slice_index held.old n) }
-{
-    for (n, source) in sources.iter().enumerate() {
-        if source.sends(r) {
-            held[n] = source.raw(r.word);
-        }
-    }
 }

@@ -11,8 +11,10 @@ ghost use Rattle.fdr_stream.specs.Past.{Past, made, with_block, with_record, May
 use circular_buffer::HeapCircularBuffer;
 use fdr_bits::pack_pair;
 use fdr_bus::{BusRecord, LAST_TIME, RecordKind};
+use fdr_check::Sound;
+use fdr_layout::Layout;
 use fdr_sampler::Sampler;
-use fdr_table::{NoMemory, Table};
+use fdr_table::NoMemory;
 use std::alloc::Global;
 use std::marker::Model;
 
@@ -49,14 +51,15 @@ impl Model for Stream {
 impl Stream {
     /// A stream at the start of a trace by this table, in blocks of `payload` bytes, 64 to 4,096. Fails only where memory
     /// ends, and later calls take none.
-    pub fn new(alloc: Global, table: &Table, payload: u32) -> Result<Stream, NoMemory>
+    pub fn new(alloc: Global, sound: &Sound, payload: u32) -> Result<Stream, NoMemory>
         requires low { 64 ≤ payload }
         requires high { payload ≤ 4096 }
-        ensures { IfOk result (λ s. Stands s (made table.now payload)) }
+        ensures { IfOk result (λ s. Stands s (made sound.now payload)) }
     {
-        let frame = table.frame();
+        let frame = sound.table().frame();
         prove!(frame.words <= 1024);
-        let sampler = Sampler::new(alloc, table)?;
+        let layout = Layout::make(alloc, sound)?;
+        let sampler = Sampler::new(alloc, layout, sound)?;
         Stream::with_sampler(alloc, sampler, payload as usize)
     }
 

@@ -1,5 +1,9 @@
 pub mod FieldFacts
 pub mod RowFacts
 pub mod RecordFacts
-pub mod FirstFacts
+pub mod SearchFacts
+pub mod FaultFacts
+pub mod DraftFacts
+pub mod NextFacts
+pub mod NameFacts
 mod Worked

@@ -3,7 +3,8 @@ use Rattle.std.proofs.Common.{◌≡◌, ap, subst, refl, ℕ, zero, suc, ◌+�
 use Rattle.std.proofs.lemmas.Bool.{false≢true}
 use Rattle.std.specs.Prelude.{if◌then◌else◌, ◌==◌, ◌||◌}
 use Rattle.csv.specs.Machine.{Read, next_record, step, ends_at_end, is_end, fields_after, field_after}
-use Rattle.csv.specs.Reading.{AreRecords, Reached, records, records_from, default_config}
+use Rattle.csv.specs.Reading.{AreRecords, Reached, records, records_from, records_next, default_config, is_bom, strip_bom}
+use Rattle.fdr_table.specs.Reading.{records_of}
 use Rattle.csv.specs.declared.parser.Action.{Action}
 use Rattle.csv.specs.declared.parser.Action.TheVariants as act
 use Rattle.csv.specs.declared.parser.State.{State}
@@ -88,3 +89,33 @@ all-reached (row ∷ rows) (suc n) s s2 xs ys open_end r e lt =
 
 pub records-are : (xs : List ℕ) (rows : List (List (List ℕ))) → AreRecords default_config st.StartRecord xs rows → rows ≡ records default_config xs
 records-are xs rows h = all-reached rows (length xs + 1) st.StartRecord h.0 xs h.1 refl h.2 h.3 (omega arith)
+
+-- a text has no more records than bytes, and one more
+next-few : (more : State → List ℕ → List (List (List ℕ))) (n : ℕ) (o : Option Read) → ((s : State) (xs : List ℕ) → length (more s xs) ≤ n) → length (records_next more o) ≤ n + 1
+next-few more n None few = omega arith
+next-few more n (Some p) few = let rest = few p.1 p.2 in omega (arith, rest)
+
+few-records : (n : ℕ) (s : State) (xs : List ℕ) → length (records_from default_config n s xs) ≤ n
+unfolding records_from
+few-records zero s xs = omega arith
+few-records (suc n) s xs =
+    let h = next-few (records_from default_config n) n (next_record default_config s [] [] xs) (few-records n) in
+    omega (arith, h)
+
+one-of : (b : Bool) (xs ys : List ℕ) → length xs ≤ length ys → length (if b then xs else ys) ≤ length ys
+one-of true xs ys h = h
+one-of false xs ys h = omega arith
+
+short : (xs : List ℕ) → length (strip_bom xs) ≤ length xs
+unfolding strip_bom
+short [] = omega arith
+short (a ∷ []) = omega arith
+short (a ∷ b ∷ []) = omega arith
+short (a ∷ b ∷ c ∷ rest) = one-of (is_bom a b c) rest (a ∷ b ∷ c ∷ rest) (omega arith)
+
+pub record-count : (bytes : List ℕ) → length (records_of bytes) ≤ length bytes + 1
+unfolding records_of
+record-count bytes =
+    let few = few-records (length (strip_bom bytes) + 1) st.StartRecord (strip_bom bytes) in
+    let less = short bytes in
+    omega (arith, few, less)

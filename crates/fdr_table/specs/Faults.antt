@@ -1,8 +1,8 @@
 -- The faults of a table's rows, in the order of their numbers.
-use Rattle.std.specs.Prelude.{ℕ, Bool, not, nat_le, if◌then◌else◌, List, [], ◌∷◌, length, map, filter, take, bytes_eq, slice_index_or, Option, Some, None, option_map}
+use Rattle.std.specs.Prelude.{ℕ, Bool, not, nat_le, nat_lt, if◌then◌else◌, List, [], ◌∷◌, length, map, filter, take, bytes_eq, slice_index_or, Option, Some, None, option_map}
 use Rattle.std.specs.Option.{option_map_or}
 use Rattle.std.specs.List.{list_any, range_with_len}
-use Rattle.fdr_table.specs.Reading.{Row, field, kind_of, is_frame, is_param, is_place, first_some, frame_misread, param_misread, place_misread, misnamed, names_of}
+use Rattle.fdr_table.specs.Reading.{Row, records_of, field, kind_of, is_frame, is_param, is_place, first_some, frame_misread, param_misread, place_misread, misnamed, names_of}
 use Rattle.fdr_table.specs.declared.row.RowKind.{RowKind}
 use Rattle.fdr_table.specs.declared.row.RowKind.TheVariants as kind
 use Rattle.fdr_table.specs.declared.fault.TableFault.{TableFault}
@@ -51,3 +51,11 @@ first_fault [] = Some (0, fault.NoFrame)
 first_fault (first ∷ rest) =
     let rows = first ∷ rest in
     first_some (map (λ i. option_map (λ f. (i, f)) (row_fault (take i rows) (slice_index_or rows i []))) (range_with_len 0 (length rows)))
+
+-- how many bytes a table may have
+unfoldable pub most_bytes : ℕ
+most_bytes = 1048576
+
+-- the first fault of a table's bytes, and its row: their number comes before the rows
+unfoldable pub fault_of : List ℕ → Option (ℕ × TableFault)
+fault_of bytes = if nat_lt most_bytes (length bytes) then Some (0, fault.Size) else first_fault (records_of bytes)

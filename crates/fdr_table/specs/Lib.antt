@@ -4,6 +4,10 @@ pub mod Views
 pub mod Fields
 pub mod Reading
 pub mod Faults
-pub mod First
+pub mod DraftRows
+pub mod Draft
+pub mod DraftView
+pub mod ByName
 pub mod Answers
 pub mod Value
+pub mod TableView

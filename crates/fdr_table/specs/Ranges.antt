@@ -1,8 +1,8 @@
 -- The ranges that the fields of a table keep.
-use Rattle.std.specs.Prelude.{ℕ, ◌+◌, ◌<◌, ◌≤◌, pos, negsuc, ◌≤ℤ◌, IsTrue, true, nat_le, List, [], ◌∷◌}
+use Rattle.std.specs.Prelude.{ℕ, ◌+◌, ◌<◌, ◌≤◌, pos, negsuc, ◌≤ℤ◌, IsTrue, true, nat_le, List, [], ◌∷◌, length, All}
 use Rattle.std.specs.Option.{option_map_or}
 use Rattle.fdr_table.specs.Fields.{is_among}
-use Rattle.fdr_table.specs.Rows.{FrameRow, ParamRow, PlaceRow}
+use Rattle.fdr_table.specs.Rows.{FrameRow, ParamRow, PlaceRow, TableRows}
 
 -- how many words a subframe may have
 abbrev pub frame_sizes : List ℕ
@@ -49,3 +49,10 @@ pub record IsPlaceInRange (p : PlaceRow) : Type 0 where
   pub bits : p.lsb + p.width ≤ 13
   pub cycle : p.cycle < p.period
   pub period : IsTrue (is_among periods p.period)
+
+-- all fields of a table keep their ranges, and each place is one of a parameter of the table
+pub record IsInRange (t : TableRows) : Type 0 where
+  pub frame : IsFrameInRange t.frame
+  pub params : All IsParamInRange t.params
+  pub places : All IsPlaceInRange t.places
+  pub owners : All (λ (p : PlaceRow). p.param < length t.params) t.places

@@ -1,5 +1,5 @@
 -- The value of a raw number.
-use Rattle.std.specs.Prelude.{ℕ, ◌-◌, ◌^◌, ℤ, pos, ◌+ℤ◌, ◌-ℤ◌, ◌*ℤ◌, Bool, if◌then◌else◌, ◌&&◌, nat_le}
+use Rattle.std.specs.Prelude.{ℕ, ◌-◌, ◌^◌, ℤ, pos, ◌+ℤ◌, ◌-ℤ◌, ◌*ℤ◌, if◌then◌else◌, ◌&&◌, nat_le}
 use Rattle.std.specs.Int.{int_div_euclid}
 use Rattle.fdr_table.specs.Rows.{ParamRow}
 

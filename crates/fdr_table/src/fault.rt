@@ -1,3 +1,6 @@
+ghost use Rattle.std.specs.Prelude.{◌≡◌};
+ghost use Rattle.fdr_table.specs.Answers.{refused};
+
 use std::alloc::AllocError;
 
 /// There wasn't enough memory.
@@ -16,7 +19,9 @@ pub enum TableFault {
     /// The row's letter isn't `F`, `P` or `L`, or the row has another count of fields.
     Shape,
     /// The field isn't a value that may stand there. Fields are counted from 0, the letter's.
-    Number { field: u8 },
+    Number {
+        field: u8,
+    },
     /// No frame row stands above the row, or the table has no row.
     NoFrame,
     /// A second frame row.
@@ -29,8 +34,30 @@ pub enum TableFault {
     Unknown,
     /// The table has too many bytes, parameters or places.
     Size,
-    /// The table is of a kind that this version doesn't build.
-    NotBuilt,
+    /// The counter's word or a place's word is above the number of words in a subframe.
+    Place,
+    /// The place is on the word of the sync words.
+    OnSync,
+    /// An occurrence of the place is in the counter's word.
+    OnCounter,
+    /// Places in two rows share a bit: the first such bit of the superframe, by its word slot's word, 1 to 1024, and the
+    /// bit of that word, 1 to 12.
+    Overlap {
+        first: u32,
+        second: u32,
+        word: u32,
+        bit: u8,
+    },
+    /// The parameter's parts aren't numbered from 1 with none missing, the places of one part differ in width, or the
+    /// widths of the parts don't add to the parameter's.
+    Parts,
+    /// A part of the parameter doesn't occur in a superframe as often as its rate declares.
+    Rate {
+        declared: u32,
+        counted: u32,
+    },
+    /// All parts together occur more than 262,144 times in a superframe.
+    TooMany,
 }
 
 /// A refused table: the row, counted from 0, and its fault.
@@ -56,4 +83,11 @@ impl From<NoMemory> for TableError {
     fn from(_error: NoMemory) -> TableError {
         TableError::NoMemory
     }
+}
+
+/// The table is refused at this row.
+pub(crate) fn refused(row: u32, fault: TableFault) -> TableError
+    ensures { result ≡ refused row fault }
+{
+    TableError::Refused(Refusal { row, fault })
 }

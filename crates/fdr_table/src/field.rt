@@ -43,9 +43,9 @@ fn decimal(field: &[u8]) -> Option<u64>
     Some(value(field, 10))
 }
 
-/// A decimal number from `low` to `high`.
+/// A decimal number of 1 to 19 digits, leading zeros allowed, from `low` to `high`. Takes no memory.
 #[tactic(auto, unfolding(crate::specs::Fields::number_in))]
-pub(crate) fn number_in(field: &[u8], low: u64, high: u64) -> Option<u64>
+pub fn number_in(field: &[u8], low: u64, high: u64) -> Option<u64>
     ensures exactly { result ≡ number_in low high field.now }
     ensures within { IfSome result (λ n. (low ≤ n) × (n ≤ high)) }
 {

@@ -4,12 +4,13 @@
 //! row for each place in a frame where a part of a parameter stands.
 #![tactic(auto)]
 
+mod draft;
 mod fault;
 mod field;
-mod first;
 mod frame;
 mod name;
 mod param;
+mod params;
 mod path;
 mod place;
 mod row;
@@ -17,6 +18,7 @@ mod rows;
 mod table;
 
 pub use fault::{NoMemory, Refusal, TableError, TableFault};
+pub use field::number_in;
 pub use frame::Frame;
 pub use name::Name;
 pub use param::Param;

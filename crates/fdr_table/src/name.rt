@@ -46,6 +46,16 @@ impl Name {
     {
         &self.bytes[..self.len]
     }
+
+    /// A copy of the name.
+    pub fn copied(&self) -> Name
+        ensures { result ≡ self.now }
+    {
+        Name {
+            bytes: self.bytes,
+            len: self.len,
+        }
+    }
 }
 
 fn is_name_byte(byte: u8) -> bool

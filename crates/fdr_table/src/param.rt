@@ -1,3 +1,7 @@
+ghost use Rattle.std.specs.Prelude.{◌≡◌, ◌<◌, ◌^◌, ◌*ℤ◌, ◌≤ℤ◌, pos, neg_ℤ, negsuc};
+ghost use Rattle.std.specs.Int.{int_div_euclid};
+ghost use Rattle.fdr_table.specs.Value.{signed_of, value_of};
+
 use crate::name::Name;
 use std::marker::Model;
 
@@ -43,4 +47,67 @@ impl Model for Param {
     ghost view = { param_view };
 
     ghost invariant = { λ p. IsParamInRange (param_view p) };
+}
+
+impl Param {
+    /// A copy of the parameter.
+    pub fn copied(&self) -> Param
+        ensures { result ≡ self.now }
+    {
+        Param {
+            name: self.name.copied(),
+            bus: self.bus,
+            label: self.label,
+            sdi: self.sdi,
+            lsb: self.lsb,
+            width: self.width,
+            signed: self.signed,
+            num: self.num,
+            den: self.den,
+            offset: self.offset,
+            decimals: self.decimals,
+            rate: self.rate,
+            row: self.row,
+        }
+    }
+
+    /// The value of a raw number of the field, in units of the last digit after the point.
+    ///
+    /// It is the raw number times `num / den`, rounded down, and `offset` more.
+    #[tactic(auto, unfolding(crate::specs::Value::value_of))]
+    pub fn value(&self, raw: u32) -> i64
+        requires { raw < 2 ^ self.now.width }
+        ensures { result ≡ value_of self.now raw }
+    {
+        self.offset + scaled(self.signed_raw(raw), self.num, self.den)
+    }
+
+    /// The raw number, which is below 0 where the field is signed and its highest bit is set.
+    fn signed_raw(&self, raw: u32) -> i64
+        requires { raw < 2 ^ self.now.width }
+        ensures exactly { result ≡ signed_of self.now raw }
+        ensures low { neg_ℤ (pos 4294967296) ≤ℤ result }
+        ensures high { result ≤ℤ pos 4294967296 }
+    {
+        let raw = i64::from(raw);
+        if self.signed && 1 << (self.width - 1) <= raw {
+            raw - (1 << self.width)
+        } else {
+            raw
+        }
+    }
+}
+
+/// `raw * num / den`, rounded down.
+fn scaled(raw: i64, num: i64, den: i64) -> i64
+    requires raw_low { neg_ℤ (pos 4294967296) ≤ℤ raw }
+    requires raw_high { raw ≤ℤ pos 4294967296 }
+    requires num_low { neg_ℤ (pos 1000000000) ≤ℤ num }
+    requires num_high { num ≤ℤ pos 1000000000 }
+    requires den_low { pos 1 ≤ℤ den }
+    ensures exactly { result ≡ int_div_euclid (raw *ℤ num) den }
+    ensures low { neg_ℤ (pos 4294967296000000000) ≤ℤ result }
+    ensures high { result ≤ℤ pos 4294967296000000000 }
+{
+    (raw * num).div_euclid(den)
 }

@@ -84,12 +84,13 @@ pub(crate) fn read_frame_row(row: &ByteRecord) -> Result<Frame, TableFault>
     })
 }
 
-/// The parameter of a parameter's row, which is row `number` of its table.
+/// The parameter of a parameter's row, which is row `number` of its table, or none where its name isn't one.
 #[tactic(auto, unfolding(crate::specs::Reading::param_row, crate::specs::Reading::param_misread, crate::specs::Reading::misnamed))]
-pub(crate) fn read_param_row(row: &ByteRecord, number: u32) -> Result<Param, TableFault>
+pub(crate) fn read_param_row(row: &ByteRecord, number: u32) -> Result<Option<Param>, TableFault>
     requires { kind_of (fields_of row.now) ≡ Some kind.Param }
-    ensures read { IfOk result (λ param. param_row number (fields_of row.now) ≡ Some param) }
-    ensures misread { IfErr result (λ f. first_some (param_misread (fields_of row.now) ∷ misnamed (fields_of row.now) ∷ []) ≡ Some f) }
+    ensures read { IfOk result (λ param. param_row number (fields_of row.now) ≡ param) }
+    ensures numbers { IfOk result (λ param. param_misread (fields_of row.now) ≡ None) }
+    ensures misread { IfErr result (λ f. param_misread (fields_of row.now) ≡ Some f) }
 {
     let bus = number_in(row, 2, 0, 255)?;
     let label = field::label(field_at(row, 3)).ok_or(TableFault::Number { field: 3 })?;
@@ -102,8 +103,10 @@ pub(crate) fn read_param_row(row: &ByteRecord, number: u32) -> Result<Param, Tab
     let offset = signed_within(row, 10, 1_000_000_000_000_000)?;
     let decimals = number_in(row, 11, 0, 9)?;
     let rate = number_in(row, 12, 1, 262_144)?;
-    let name = Name::new(field_at(row, 1)).ok_or(TableFault::Name)?;
-    Ok(Param {
+    let Some(name) = Name::new(field_at(row, 1)) else {
+        return Ok(None);
+    };
+    Ok(Some(Param {
         name,
         bus: bus as u8,
         label,
@@ -117,7 +120,7 @@ pub(crate) fn read_param_row(row: &ByteRecord, number: u32) -> Result<Param, Tab
         decimals: decimals as u8,
         rate: rate as u32,
         row: number,
-    })
+    }))
 }
 
 /// The highest cycle of a place: below its period, or 15 where the period doesn't read.

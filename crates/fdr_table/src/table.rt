@@ -1,17 +1,16 @@
-ghost use Rattle.std.specs.Prelude.{◌≡◌, ◌<◌, ◌≤◌, ◌↔◌, ◌⊎◌, Ok, Err, Some, IsSome, IfSome, IfOk, IfErr, [], ◌∷◌, length, map};
-ghost use Rattle.csv.specs.Records.{fields_of};
-ghost use Rattle.fdr_table.specs.Answers.{refused, too_large, not_built};
-ghost use Rattle.fdr_table.specs.First.{IsFirstTable};
+ghost use Rattle.std.specs.Prelude.{◌≡◌, ◌<◌, ℕ, Err, Some, None, IfOk, length, option_map};
+ghost use Rattle.fdr_table.specs.Answers.{refused};
+ghost use Rattle.fdr_table.specs.Faults.{fault_of};
 ghost use Rattle.fdr_table.specs.Reading.{records_of, table_of};
-ghost use Rattle.fdr_table.specs.declared.fault.TableError.TheVariants as error;
+ghost use Rattle.fdr_table.specs.declared.fault.TableFault.{TableFault};
+ghost use Rattle.fdr_table.specs.declared.fault.TableFault.TheVariants as fault;
 
-use crate::fault::{NoMemory, Refusal, TableError, TableFault};
-use crate::first::{FirstRows, is_plain, read_first};
+use crate::draft::Draft;
+use crate::fault::{TableError, TableFault, refused};
 use crate::frame::Frame;
 use crate::param::Param;
 use crate::place::Place;
 use crate::rows::read_rows;
-use csv::ByteRecord;
 use std::alloc::Global;
 use std::marker::Model;
 
@@ -28,56 +27,46 @@ pub struct Table {
 }
 
 impl Model for Table {
-    ghost use Rattle.std.specs.Prelude.{All, ◌<◌, length};
-    ghost use Rattle.fdr_table.specs.Rows.{TableRows, PlaceRow};
+    ghost use Rattle.fdr_table.specs.Rows.{TableRows};
 
     ghost Value = { TableRows };
 
-    ghost view = { λ t. record { frame = t.frame; params = t.params.items; places = t.places.items; rows = t.rows } };
+    ghost use Rattle.fdr_table.specs.Ranges.{IsInRange};
+    ghost use Rattle.fdr_table.specs.TableView.{table_view};
 
-    ghost invariant = { λ t. All (λ (p : PlaceRow). p.param < length t.params.items) t.places.items };
+    ghost view = { table_view };
+
+    ghost invariant = { λ t. IsInRange (table_view t) };
 }
 
 impl Table {
-    /// The table of these bytes.
+    /// The table of these bytes, or the first fault of its bytes and rows.
     ///
     /// A table of more than 1,048,576 bytes is refused for its size, before any memory is taken.
-    /// This version builds tables of one plain parameter in one place, and refuses all others.
+    #[tactic(auto, unfolding(crate::specs::Faults::fault_of, crate::specs::Faults::most_bytes))]
     pub fn read(alloc: Global, bytes: &[u8]) -> Result<Table, TableError>
-        ensures too_large { (result ≡ Err too_large) ↔ (1048576 < length bytes.now) }
-
-        ensures first { IfOk result (λ t. IsFirstTable (records_of bytes.now)) }
         ensures table { IfOk result (λ t. t ≡ table_of (records_of bytes.now)) }
-        ensures not_built { (result ≡ Err not_built) → ¬ IsFirstTable (records_of bytes.now) }
-
-        // No other answer is given.
-        ensures errors { IfErr result (λ e. (e ≡ too_large) ⊎ (e ≡ not_built) ⊎ (e ≡ error.NoMemory)) }
+        ensures no_fault { IfOk result (λ t. fault_of bytes.now ≡ None) }
+        ensures refused { (row : ℕ) (f : TableFault) → result ≡ Err (refused row f) → fault_of bytes.now ≡ Some (row, f) }
+        ensures too_large { 1048576 < length bytes.now → result ≡ Err (refused 0 fault.Size) }
     {
         if MAX_BYTES < bytes.len() {
-            return Err(refused(TableFault::Size));
+            return Err(refused(0, TableFault::Size));
         }
         let rows = read_rows(alloc, bytes)?;
-        match first_table(alloc, rows.as_slice())? {
-            Some(table) => Ok(table),
-            None => Err(refused(TableFault::NotBuilt)),
-        }
+        let draft = Draft::read(alloc, rows.as_slice())?;
+        Table::of(draft).ok_or(refused(0, TableFault::NoFrame))
     }
 
-    /// The table of these three rows.
-    fn of(alloc: Global, rows: FirstRows) -> Result<Table, NoMemory>
-        requires { rows.place.param ≡ 0 }
-        ensures { IfOk result (λ t. t ≡ record { frame = rows.frame; params = rows.param ∷ []; places = rows.place ∷ []; rows = 3 }) }
+    /// The table of a draft, if it has a frame.
+    fn of(draft: Draft) -> Option<Table>
+        ensures { result ≡ option_map (λ f. record { frame = f; params = draft.params; places = draft.places; rows = draft.rows }) draft.frame }
     {
-        let mut params = Vec::new(alloc);
-        let mut places = Vec::new(alloc);
-        if params.push(rows.param).is_err() || places.push(rows.place).is_err() {
-            return Err(NoMemory);
-        }
-        Ok(Table {
-            frame: rows.frame,
-            params,
-            places,
-            rows: 3,
+        Some(Table {
+            frame: draft.frame?,
+            params: draft.params.into_vec(),
+            places: draft.places,
+            rows: draft.rows,
         })
     }
 
@@ -108,29 +97,4 @@ impl Table {
     {
         self.rows
     }
-}
-
-/// The table is refused as a whole.
-fn refused(fault: TableFault) -> TableError
-    ensures { result ≡ refused 0 fault }
-{
-    TableError::Refused(Refusal { row: 0, fault })
-}
-
-/// The table of these rows, where it is a first table.
-fn first_table(alloc: Global, rows: &[ByteRecord]) -> Result<Option<Table>, NoMemory>
-    ensures first { IfOk result (λ found. IsSome found ↔ IsFirstTable (map fields_of rows.now)) }
-    ensures table { IfOk result (λ found. IfSome found (λ t. t ≡ table_of (map fields_of rows.now))) }
-{
-    if rows.len() != 3 {
-        return Ok(None);
-    }
-    let Some(first) = read_first(&rows[0], &rows[1], &rows[2]) else {
-        return Ok(None);
-    };
-    if !is_plain(&first) {
-        return Ok(None);
-    }
-    let table = Table::of(alloc, first)?;
-    Ok(Some(table))
 }

@@ -4,3 +4,8 @@ pub mod Longer
 pub mod Blocks
 pub mod Records
 pub mod TraceAnswers
+pub mod Lengths
+pub mod Commands
+pub mod Recovery
+pub mod Images
+pub mod Making

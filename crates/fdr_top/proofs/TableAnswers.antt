@@ -1,44 +1,40 @@
 -- The table of a source that tells its bytes, and what is answered to it.
-use Rattle.std.proofs.Common.{◌≡◌, ℕ, ◌≤◌, List, [], ◌++◌, length, Option, Some, None, ap, sym, refl, ◌∙◌, subst, inl, inr, ◌⊎◌, arith, length-append}
-use Rattle.std.specs.Prelude.{IfSome, IsTrue}
+use Rattle.std.proofs.Common.{◌≡◌, ℕ, ◌<◌, ◌≤◌, true, List, [], ◌++◌, length, Option, Some, None, ap, sym, refl, ◌∙◌, subst, inl, inr, ◌⊎◌, ⊎_elim, arith, length-append}
+use Rattle.std.specs.Prelude.{IfSome, IsTrue, nat_lt}
+use Rattle.std.proofs.lemmas.Bool.{cases_lt}
+use Rattle.std.proofs.lemmas.Bool.Decides.{nat_tests}
 use Rattle.std.proofs.lemmas.List.{append-nil, take_all}
 use Rattle.fdr_io.specs.Told.{preceded_by, followed_by}
 use Rattle.fdr_io.specs.declared.Input.TheVariants as input
 use Rattle.fdr_io.proofs.Telling.{preceded_by-end}
 use Rattle.fdr_deck.specs.State.{State, Tells}
 use Rattle.fdr_table.specs.Rows.{TableRows}
+use Rattle.fdr_table.specs.Faults.{fault_of, most_bytes}
 use Rattle.fdr_table.specs.declared.fault.TableFault.{TableFault}
 use Rattle.fdr_table.specs.declared.fault.TableFault.TheVariants as fault
 use Rattle.fdr_top.specs.declared.outcome.Outcome.{Outcome}
 use Rattle.fdr_top.specs.declared.outcome.Outcome.TheVariants as outcome
 use Rattle.fdr_top.specs.declared.reading.TheConstants.{MOST_TABLE_BYTES}
 use Rattle.fdr_top.specs.declared.pulling.TheConstants.{MOST_LINE_BYTES}
-use Rattle.fdr_top.specs.Answers.{IsOfTable, IsOfLine, Lists}
+use Rattle.fdr_top.specs.Answers.{IsOfTable, IsPastTable, Lists}
 use Rattle.fdr_readout.specs.Listing.{listing_of}
-use Rattle.fdr_top.specs.Tables.{IsAccepted, IsRefused}
+use Rattle.fdr_top.specs.Tables.{IsAccepted, IsRefused, fault_in}
 
 -- what was taken to the end is all that was told
 pub taken_is_all : (old new : Option (List ℕ)) (taken bytes : List ℕ) → old ≡ preceded_by taken new → IfSome new (λ left. left ≡ []) → old ≡ Some bytes → bytes ≡ taken
 taken_is_all old new taken bytes whole end told = rw told at (preceded_by-end old taken new whole end)
 
-pub accepted_told : (old new : Option (List ℕ)) (taken : List ℕ) → old ≡ preceded_by taken new → IfSome new (λ left. left ≡ []) → IsAccepted taken → IfSome old IsAccepted
+-- what holds of the bytes that were taken to the end holds of all that was told
+pub told_all : (P : List ℕ → Type 0) (old new : Option (List ℕ)) (taken : List ℕ) → old ≡ preceded_by taken new → IfSome new (λ left. left ≡ []) → P taken → IfSome old P
 unfolding preceded_by
-accepted_told old None taken whole end accepted = rw whole tt
-accepted_told old (Some left) taken whole end accepted =
+told_all P old None taken whole end holds = rw whole tt
+told_all P old (Some left) taken whole end holds =
     let all : taken ++ left ≡ taken = ap (λ (x : List ℕ). taken ++ x) end ∙ append-nil taken in
-    rw whole (subst (λ (x : List ℕ). IsAccepted x) (sym all) accepted)
+    rw whole (subst P (sym all) holds)
 
 -- no bytes are both accepted and refused
 pub not_both : (bytes : List ℕ) (row : ℕ) (f : TableFault) → IsAccepted bytes → IsRefused bytes row f → ⊥
-not_both bytes row fault.Size accepted refused = absurd (omega (arith, accepted.few, refused.1))
-not_both bytes row fault.NotBuilt accepted refused = refused.2 accepted.first
-not_both bytes row fault.Shape accepted refused = refused
-not_both bytes row (fault.Number field) accepted refused = refused
-not_both bytes row fault.NoFrame accepted refused = refused
-not_both bytes row fault.TwoFrames accepted refused = refused
-not_both bytes row fault.Name accepted refused = refused
-not_both bytes row fault.Twice accepted refused = refused
-not_both bytes row fault.Unknown accepted refused = refused
+not_both bytes row f accepted refused = let c : ◌≡◌ {A = Option (ℕ × TableFault)} None (Some (row, f)) = sym accepted ∙ refused in cc
 
 longer : (old new : Option (List ℕ)) (taken bytes : List ℕ) → old ≡ preceded_by taken new → old ≡ Some bytes → length taken ≤ length bytes
 unfolding preceded_by
@@ -47,20 +43,20 @@ longer old (Some left) taken bytes whole told =
     let e : taken ++ left ≡ bytes = cc in
     omega (arith, length-append taken left, ap length e)
 
+-- too many bytes are refused for their number
+too_many : (bytes : List ℕ) → MOST_TABLE_BYTES < length bytes → fault_in bytes ≡ Some (0, fault.Size)
+unfolding fault_in fault_of most_bytes
+too_many bytes many =
+    let test : nat_lt 1048576 (length bytes) ≡ true = grind (arith, nat_tests) in
+    rw test refl
+
 -- what was refused of a front part is refused of all that was told, where the part is all or too large
 pub refused_told : (old new : Option (List ℕ)) (taken bytes : List ℕ) (row : ℕ) (f : TableFault) → IsRefused taken row f → old ≡ preceded_by taken new
     → (length taken ≤ MOST_TABLE_BYTES → IfSome new (λ left. left ≡ [])) → old ≡ Some bytes → IsRefused bytes row f
-refused_told old new taken bytes row fault.Size refused whole end told = (refused.0, omega (arith, refused.1, longer old new taken bytes whole told))
-refused_told old new taken bytes row fault.NotBuilt refused whole end told =
-    let all : bytes ≡ taken = taken_is_all old new taken bytes whole (end refused.1) told in
-    subst (λ (x : List ℕ). IsRefused x row fault.NotBuilt) (sym all) refused
-refused_told old new taken bytes row fault.Shape refused whole end told = absurd refused
-refused_told old new taken bytes row (fault.Number field) refused whole end told = absurd refused
-refused_told old new taken bytes row fault.NoFrame refused whole end told = absurd refused
-refused_told old new taken bytes row fault.TwoFrames refused whole end told = absurd refused
-refused_told old new taken bytes row fault.Name refused whole end told = absurd refused
-refused_told old new taken bytes row fault.Twice refused whole end told = absurd refused
-refused_told old new taken bytes row fault.Unknown refused whole end told = absurd refused
+refused_told old new taken bytes row f refused whole end told = ⊎_elim
+    (λ (many : MOST_TABLE_BYTES < length taken). too_many bytes (omega (arith, many, longer old new taken bytes whole told)) ∙ sym (too_many taken many) ∙ refused)
+    (λ (few : length taken ≤ MOST_TABLE_BYTES). subst (λ (x : List ℕ). IsRefused x row f) (sym (taken_is_all old new taken bytes whole (end few) told)) refused)
+    (cases_lt MOST_TABLE_BYTES (length taken))
 
 -- a told source of few bytes was taken to its end
 pub taken_to_end : (old new : Option (List ℕ)) (taken bytes : List ℕ) → old ≡ preceded_by taken new → (length taken ≤ MOST_TABLE_BYTES → IfSome new (λ left. left ≡ []))
@@ -76,15 +72,33 @@ memory_is_left outcome.Done of_table refused failed = inl refl
 memory_is_left outcome.Usage of_table refused failed = absurd of_table
 memory_is_left (outcome.TableRefused row f) of_table refused failed = absurd (refused row f refl)
 memory_is_left (outcome.TraceRefused index why) of_table refused failed = absurd of_table
+memory_is_left (outcome.ImageRefused why) of_table refused failed = absurd of_table
+memory_is_left outcome.NotEmpty of_table refused failed = absurd of_table
 memory_is_left (outcome.ReadFault input.Table) of_table refused failed = absurd (failed refl)
 memory_is_left (outcome.ReadFault input.Line) of_table refused failed = absurd of_table
 memory_is_left outcome.WriteFault of_table refused failed = absurd of_table
+memory_is_left outcome.DiskFault of_table refused failed = absurd of_table
 memory_is_left outcome.TooLong of_table refused failed = absurd of_table
 memory_is_left outcome.NoMemory of_table refused failed = inr refl
 
--- an answer that comes once the line is pulled isn't want of memory
-pub of_line_not_memory : (answer : Outcome) → IsOfLine answer → answer ≡ outcome.NoMemory → ⊥
-of_line_not_memory answer of_line e = rw e at of_line
+-- an answer past the table isn't want of memory
+pub past_not_memory : (answer : Outcome) → IsPastTable answer → answer ≡ outcome.NoMemory → ⊥
+past_not_memory answer past e = rw e at past
+
+-- an answer of the table isn't past it
+pub table_not_past : (answer : Outcome) → IsOfTable answer → IsPastTable answer → ⊥
+table_not_past outcome.Done of_table past = of_table
+table_not_past outcome.Usage of_table past = past
+table_not_past (outcome.TableRefused row f) of_table past = past
+table_not_past (outcome.TraceRefused index why) of_table past = of_table
+table_not_past (outcome.ImageRefused why) of_table past = of_table
+table_not_past outcome.NotEmpty of_table past = of_table
+table_not_past (outcome.ReadFault input.Table) of_table past = past
+table_not_past (outcome.ReadFault input.Line) of_table past = of_table
+table_not_past outcome.WriteFault of_table past = of_table
+table_not_past outcome.DiskFault of_table past = of_table
+table_not_past outcome.TooLong of_table past = of_table
+table_not_past outcome.NoMemory of_table past = past
 
 -- all that was told of a line was listed
 pub whole_line : (t : TableRows) (tells : Tells) (old new : State) (before now : Option (List ℕ)) (answer : Outcome) → Lists t tells old new before now answer → answer ≡ outcome.Done → IsTrue tells.line

@@ -13,12 +13,12 @@ use Rattle.fdr_bus.specs.Records.{IsDecided, fault_after, good_prefix, has_end, 
 use Rattle.fdr_bus.proofs.TraceLemmas.{good_prefix-decided, trace_fault-ended}
 use Rattle.fdr_bus.proofs.WholeRecords.{record_bytes-append}
 use Rattle.fdr_deck.specs.State.{State, Tells}
-use Rattle.fdr_words.specs.Forms.{Form, list_bits, stream_line}
+use Rattle.fdr_words.specs.Forms.{Form, stream_line}
 use Rattle.fdr_table.specs.Rows.{TableRows}
 use Rattle.fdr_sampler.specs.Stream.{stream_of}
 use Rattle.fdr_top.specs.declared.outcome.Outcome.{Outcome}
 use Rattle.fdr_top.specs.declared.outcome.Outcome.TheVariants as outcome
-use Rattle.fdr_top.specs.Answers.{IsOfLine, IsOfListing, IsOfTrace, Streams}
+use Rattle.fdr_top.specs.Answers.{IsOfTrace, MayAnswer, Streams}
 
 answer_to : Option (ℕ × TraceFault) → Outcome
 answer_to None = outcome.Done
@@ -114,6 +114,9 @@ fault_answered t tells old new before now (outcome.TraceRefused i w) index why s
     inl (ap answer_to same)
 fault_answered t tells old new before now (outcome.ReadFault input.Table) index why streams of_trace told first = absurd of_trace
 fault_answered t tells old new before now (outcome.ReadFault input.Line) index why streams of_trace told first = inr (inl refl)
+fault_answered t tells old new before now (outcome.ImageRefused fault) index why streams of_trace told first = absurd of_trace
+fault_answered t tells old new before now outcome.NotEmpty index why streams of_trace told first = absurd of_trace
+fault_answered t tells old new before now outcome.DiskFault index why streams of_trace told first = absurd of_trace
 fault_answered t tells old new before now outcome.WriteFault index why streams of_trace told first = inr (inr refl)
 fault_answered t tells old new before now outcome.TooLong index why streams of_trace told first = absurd of_trace
 fault_answered t tells old new before now outcome.NoMemory index why streams of_trace told first = absurd of_trace
@@ -130,32 +133,20 @@ stream_done t tells old new before now (outcome.TraceRefused i w) streams of_tra
     absurd (let c : ◌≡◌ {A = Option (ℕ × TraceFault)} None (Some (i, w)) = sym none ∙ here in cc)
 stream_done t tells old new before now (outcome.ReadFault input.Table) streams of_trace told ended line_quiet sink_quiet = absurd of_trace
 stream_done t tells old new before now (outcome.ReadFault input.Line) streams of_trace told ended line_quiet sink_quiet = absurd (line_quiet refl)
+stream_done t tells old new before now (outcome.ImageRefused fault) streams of_trace told ended line_quiet sink_quiet = absurd of_trace
+stream_done t tells old new before now outcome.NotEmpty streams of_trace told ended line_quiet sink_quiet = absurd of_trace
+stream_done t tells old new before now outcome.DiskFault streams of_trace told ended line_quiet sink_quiet = absurd of_trace
 stream_done t tells old new before now outcome.WriteFault streams of_trace told ended line_quiet sink_quiet = absurd (sink_quiet refl)
 stream_done t tells old new before now outcome.TooLong streams of_trace told ended line_quiet sink_quiet = absurd of_trace
 stream_done t tells old new before now outcome.NoMemory streams of_trace told ended line_quiet sink_quiet = absurd of_trace
 
 -- only a trace is refused as one
-pub refused_told_trace : (f : Form) (t : TableRows) (tells : Tells) (old new : State) (before now : Option (List ℕ)) (answer : Outcome) (index : ℕ) (why : TraceFault) → ((path : List ℕ) → f ≡ list_bits path → (answer ≡ outcome.NoMemory) ⊎ IsOfListing answer) →
+pub refused_told_trace : (f : Form) (t : TableRows) (tells : Tells) (old new : State) (before now : Option (List ℕ)) (answer : Outcome) (index : ℕ) (why : TraceFault) → MayAnswer f answer →
     ((path : List ℕ) → f ≡ stream_line path → answer ≢ outcome.NoMemory → Streams t tells old new before now answer) → answer ≡ outcome.TraceRefused index why → IsTrue tells.line → trace_fault old.line ≡ Some (index, why)
-refused_told_trace (list_bits path) t tells old new before now answer index why listing streams refused told = ⊎_elim
-    (λ none. absurd (let c : outcome.NoMemory ≡ outcome.TraceRefused index why = sym none ∙ refused in cc))
-    (λ of_listing. absurd (rw refused at of_listing))
-    (listing path refl)
-refused_told_trace (stream_line path) t tells old new before now answer index why listing streams refused told =
-    told_fault t tells old new before now answer index why (streams path refl (λ e. let c : outcome.TraceRefused index why ≡ outcome.NoMemory = sym refused ∙ e in cc)) refused told
-
--- an answer of the line that isn't want of memory
-pub of_trace_line : (answer : Outcome) → (answer ≡ outcome.NoMemory) ⊎ IsOfTrace answer → IsOfLine answer → IsOfTrace answer
-of_trace_line answer either of_line = ⊎_elim (λ none. absurd (rw none at of_line)) (λ of_trace. of_trace) either
+refused_told_trace f t tells old new before now answer index why may streams refused told =
+    let trace : (table : List ℕ) × (f ≡ stream_line table) = rw refused at may in
+    told_fault t tells old new before now answer index why (streams trace.0 trace.1 (λ e. let c : outcome.TraceRefused index why ≡ outcome.NoMemory = sym refused ∙ e in cc)) refused told
 
 -- words are of one form
 pub same_form : (form : Option Form) (a b : Form) → form ≡ Some a → form ≡ Some b → a ≡ b
 same_form form a b first second = let c : Some a ≡ Some b = sym first ∙ second in cc
-
--- only the bits of a listing are too many
-pub long_alone : (f : Form) (answer : Outcome) → ((path : List ℕ) → f ≡ stream_line path → (answer ≡ outcome.NoMemory) ⊎ IsOfTrace answer) → answer ≡ outcome.TooLong → (path : List ℕ) × (f ≡ list_bits path)
-long_alone (list_bits path) answer of_trace long = (path, refl)
-long_alone (stream_line path) answer of_trace long = ⊎_elim
-    (λ none. absurd (let c : outcome.NoMemory ≡ outcome.TooLong = sym none ∙ long in cc))
-    (λ trace. absurd (rw long at trace))
-    (of_trace path refl)

@@ -1,5 +1,5 @@
 -- Which answers a command gives, and what they leave.
-use Rattle.std.specs.Prelude.{◌≡◌, ◌≢◌, ℕ, ◌<◌, ◌≤◌, List, [], true, length, take, Option, Some, IsTrue, ◌⊎◌}
+use Rattle.std.specs.Prelude.{◌≡◌, ◌≢◌, ℕ, ◌<◌, ◌≤◌, List, [], true, length, take, Option, Some, IsSome, IsTrue}
 use Rattle.fdr_io.specs.Told.{followed_by}
 use Rattle.fdr_io.specs.declared.Input.TheVariants as input
 use Rattle.fdr_deck.specs.State.{State, Tells}
@@ -8,6 +8,10 @@ use Rattle.fdr_bus.specs.Records.{IsDecided, good_prefix, has_end, trace_fault}
 use Rattle.fdr_bus.specs.declared.TraceFault.{TraceFault}
 use Rattle.fdr_bus.specs.declared.TraceFault.TheVariants as trace
 use Rattle.fdr_table.specs.Rows.{TableRows}
+use Rattle.fdr_table.specs.declared.fault.TableError.{TableError}
+use Rattle.fdr_table.specs.declared.fault.TableError.TheVariants as error
+use Rattle.fdr_check.specs.Report.{report_of}
+use Rattle.fdr_words.specs.Forms.{Form, check_table, stream_line, list_bits, format_image, recover_image, table_path, image_path}
 use Rattle.fdr_sampler.specs.Stream.{stream_of}
 use Rattle.fdr_trace.specs.Pulls.{PullsMore}
 use Rattle.fdr_trace.specs.declared.TraceStop.{TraceStop}
@@ -25,23 +29,44 @@ IsOfTable outcome.Done = ⊥
 IsOfTable outcome.Usage = ⊥
 IsOfTable (outcome.TableRefused row f) = Unit {0}
 IsOfTable (outcome.TraceRefused index why) = ⊥
+IsOfTable (outcome.ImageRefused why) = ⊥
+IsOfTable outcome.NotEmpty = ⊥
 IsOfTable (outcome.ReadFault input.Table) = Unit {0}
 IsOfTable (outcome.ReadFault input.Line) = ⊥
 IsOfTable outcome.WriteFault = ⊥
+IsOfTable outcome.DiskFault = ⊥
 IsOfTable outcome.TooLong = ⊥
 IsOfTable outcome.NoMemory = Unit {0}
 
--- the answers that come once the line is pulled
-abbrev pub IsOfLine : Outcome → Type 0
-IsOfLine outcome.Done = Unit {0}
-IsOfLine outcome.Usage = ⊥
-IsOfLine (outcome.TableRefused row f) = ⊥
-IsOfLine (outcome.TraceRefused index why) = Unit {0}
-IsOfLine (outcome.ReadFault input.Table) = ⊥
-IsOfLine (outcome.ReadFault input.Line) = Unit {0}
-IsOfLine outcome.WriteFault = Unit {0}
-IsOfLine outcome.TooLong = Unit {0}
-IsOfLine outcome.NoMemory = ⊥
+-- the answers that come once the words and the table are right, want of memory aside
+abbrev pub IsPastTable : Outcome → Type 0
+IsPastTable outcome.Done = Unit {0}
+IsPastTable outcome.Usage = ⊥
+IsPastTable (outcome.TableRefused row f) = ⊥
+IsPastTable (outcome.TraceRefused index why) = Unit {0}
+IsPastTable (outcome.ImageRefused why) = Unit {0}
+IsPastTable outcome.NotEmpty = Unit {0}
+IsPastTable (outcome.ReadFault input.Table) = ⊥
+IsPastTable (outcome.ReadFault input.Line) = Unit {0}
+IsPastTable outcome.WriteFault = Unit {0}
+IsPastTable outcome.DiskFault = Unit {0}
+IsPastTable outcome.TooLong = Unit {0}
+IsPastTable outcome.NoMemory = ⊥
+
+-- the answers of a report of a table
+abbrev pub IsOfReport : Outcome → Type 0
+IsOfReport outcome.Done = Unit {0}
+IsOfReport outcome.Usage = ⊥
+IsOfReport (outcome.TableRefused row f) = ⊥
+IsOfReport (outcome.TraceRefused index why) = ⊥
+IsOfReport (outcome.ImageRefused why) = ⊥
+IsOfReport outcome.NotEmpty = ⊥
+IsOfReport (outcome.ReadFault input.Table) = ⊥
+IsOfReport (outcome.ReadFault input.Line) = ⊥
+IsOfReport outcome.WriteFault = Unit {0}
+IsOfReport outcome.DiskFault = ⊥
+IsOfReport outcome.TooLong = ⊥
+IsOfReport outcome.NoMemory = Unit {0}
 
 -- the answers of a listing once the line is pulled
 abbrev pub IsOfListing : Outcome → Type 0
@@ -49,9 +74,12 @@ IsOfListing outcome.Done = Unit {0}
 IsOfListing outcome.Usage = ⊥
 IsOfListing (outcome.TableRefused row f) = ⊥
 IsOfListing (outcome.TraceRefused index why) = ⊥
+IsOfListing (outcome.ImageRefused why) = ⊥
+IsOfListing outcome.NotEmpty = ⊥
 IsOfListing (outcome.ReadFault input.Table) = ⊥
 IsOfListing (outcome.ReadFault input.Line) = Unit {0}
 IsOfListing outcome.WriteFault = Unit {0}
+IsOfListing outcome.DiskFault = ⊥
 IsOfListing outcome.TooLong = Unit {0}
 IsOfListing outcome.NoMemory = ⊥
 
@@ -61,11 +89,44 @@ IsOfTrace outcome.Done = Unit {0}
 IsOfTrace outcome.Usage = ⊥
 IsOfTrace (outcome.TableRefused row f) = ⊥
 IsOfTrace (outcome.TraceRefused index why) = Unit {0}
+IsOfTrace (outcome.ImageRefused why) = ⊥
+IsOfTrace outcome.NotEmpty = ⊥
 IsOfTrace (outcome.ReadFault input.Table) = ⊥
 IsOfTrace (outcome.ReadFault input.Line) = Unit {0}
 IsOfTrace outcome.WriteFault = Unit {0}
+IsOfTrace outcome.DiskFault = ⊥
 IsOfTrace outcome.TooLong = ⊥
 IsOfTrace outcome.NoMemory = ⊥
+
+-- the answers of making an image
+abbrev pub IsOfMaking : Outcome → Type 0
+IsOfMaking outcome.Done = Unit {0}
+IsOfMaking outcome.Usage = ⊥
+IsOfMaking (outcome.TableRefused row f) = ⊥
+IsOfMaking (outcome.TraceRefused index why) = ⊥
+IsOfMaking (outcome.ImageRefused why) = ⊥
+IsOfMaking outcome.NotEmpty = Unit {0}
+IsOfMaking (outcome.ReadFault input.Table) = ⊥
+IsOfMaking (outcome.ReadFault input.Line) = ⊥
+IsOfMaking outcome.WriteFault = ⊥
+IsOfMaking outcome.DiskFault = Unit {0}
+IsOfMaking outcome.TooLong = ⊥
+IsOfMaking outcome.NoMemory = ⊥
+
+-- the answers of recovering an image
+abbrev pub IsOfRecovery : Outcome → Type 0
+IsOfRecovery outcome.Done = Unit {0}
+IsOfRecovery outcome.Usage = ⊥
+IsOfRecovery (outcome.TableRefused row f) = ⊥
+IsOfRecovery (outcome.TraceRefused index why) = ⊥
+IsOfRecovery (outcome.ImageRefused why) = Unit {0}
+IsOfRecovery outcome.NotEmpty = ⊥
+IsOfRecovery (outcome.ReadFault input.Table) = ⊥
+IsOfRecovery (outcome.ReadFault input.Line) = ⊥
+IsOfRecovery outcome.WriteFault = Unit {0}
+IsOfRecovery outcome.DiskFault = Unit {0}
+IsOfRecovery outcome.TooLong = ⊥
+IsOfRecovery outcome.NoMemory = Unit {0}
 
 -- the answers that come before the line is pulled, want of memory aside
 abbrev pub IsBeforeLine : Outcome → Type 0
@@ -73,15 +134,76 @@ IsBeforeLine outcome.Done = ⊥
 IsBeforeLine outcome.Usage = Unit {0}
 IsBeforeLine (outcome.TableRefused row f) = Unit {0}
 IsBeforeLine (outcome.TraceRefused index why) = ⊥
+IsBeforeLine (outcome.ImageRefused why) = Unit {0}
+IsBeforeLine outcome.NotEmpty = Unit {0}
 IsBeforeLine (outcome.ReadFault input.Table) = Unit {0}
 IsBeforeLine (outcome.ReadFault input.Line) = ⊥
 IsBeforeLine outcome.WriteFault = ⊥
+IsBeforeLine outcome.DiskFault = ⊥
 IsBeforeLine outcome.TooLong = ⊥
 IsBeforeLine outcome.NoMemory = ⊥
 
--- the answers after which nothing is written
+-- the answers after which no device is changed and nothing is written
 abbrev pub WritesNothing : Outcome → Type 0
-WritesNothing answer = IsBeforeLine answer ⊎ (answer ≡ outcome.NoMemory)
+WritesNothing outcome.Done = ⊥
+WritesNothing outcome.Usage = Unit {0}
+WritesNothing (outcome.TableRefused row f) = Unit {0}
+WritesNothing (outcome.TraceRefused index why) = ⊥
+WritesNothing (outcome.ImageRefused why) = Unit {0}
+WritesNothing outcome.NotEmpty = Unit {0}
+WritesNothing (outcome.ReadFault input.Table) = Unit {0}
+WritesNothing (outcome.ReadFault input.Line) = ⊥
+WritesNothing outcome.WriteFault = ⊥
+WritesNothing outcome.DiskFault = ⊥
+WritesNothing outcome.TooLong = ⊥
+WritesNothing outcome.NoMemory = Unit {0}
+
+-- the commands that read a table
+abbrev pub ReadsTable : Form → Type 0
+ReadsTable form = IsSome (table_path form)
+
+-- the commands that have an image
+abbrev pub HasImage : Form → Type 0
+HasImage form = IsSome (image_path form)
+
+-- the commands that pull the line
+abbrev pub PullsLine : Form → Type 0
+PullsLine (check_table table) = ⊥
+PullsLine (stream_line table) = Unit {0}
+PullsLine (list_bits table) = Unit {0}
+PullsLine (format_image table image slots payload) = ⊥
+PullsLine (recover_image image) = ⊥
+
+-- the commands that write to the sink
+abbrev pub WritesText : Form → Type 0
+WritesText (check_table table) = Unit {0}
+WritesText (stream_line table) = Unit {0}
+WritesText (list_bits table) = Unit {0}
+WritesText (format_image table image slots payload) = ⊥
+WritesText (recover_image image) = Unit {0}
+
+-- the command that makes an image
+abbrev pub IsFormat : Form → Type 0
+IsFormat (check_table table) = ⊥
+IsFormat (stream_line table) = ⊥
+IsFormat (list_bits table) = ⊥
+IsFormat (format_image table image slots payload) = Unit {0}
+IsFormat (recover_image image) = ⊥
+
+-- which command may give an answer
+abbrev pub MayAnswer : Form → Outcome → Type 0
+MayAnswer form outcome.Done = Unit {0}
+MayAnswer form outcome.Usage = ⊥
+MayAnswer form (outcome.TableRefused row f) = ReadsTable form
+MayAnswer form (outcome.TraceRefused index why) = (table : List ℕ) × (form ≡ stream_line table)
+MayAnswer form (outcome.ImageRefused why) = (image : List ℕ) × (form ≡ recover_image image)
+MayAnswer form outcome.NotEmpty = IsFormat form
+MayAnswer form (outcome.ReadFault input.Table) = ReadsTable form
+MayAnswer form (outcome.ReadFault input.Line) = PullsLine form
+MayAnswer form outcome.WriteFault = WritesText form
+MayAnswer form outcome.DiskFault = HasImage form
+MayAnswer form outcome.TooLong = (table : List ℕ) × (form ≡ list_bits table)
+MayAnswer form outcome.NoMemory = Unit {0}
 
 -- the line's state is as it was
 pub record KeepsLineAndFaults (old new : State) : Type 0 where
@@ -101,6 +223,16 @@ pub record Lists (t : TableRows) (tells : Tells) (old new : State) (written_befo
   pub fault_few : answer ≡ outcome.ReadFault input.Line → length pulled ≤ MOST_LINE_BYTES
   pub many : answer ≡ outcome.TooLong → MOST_LINE_BYTES < length pulled
   pub end : answer ≡ outcome.Done → IsTrue tells.line → new.line ≡ []
+
+-- the answer where a table isn't read, or isn't sound
+abbrev pub refusal : TableError → Outcome
+refusal (error.Refused r) = outcome.TableRefused r.row r.fault
+refusal error.NoMemory = outcome.NoMemory
+
+-- All of a table's report was written, or a front part of it and the answer says why.
+pub record Reports (t : TableRows) (written_before written_now : Option (List ℕ)) (answer : Outcome) : Type 0 where
+  pub text : answer ≡ outcome.Done → written_now ≡ followed_by written_before (report_of t)
+  pub part : (k : ℕ) × (written_now ≡ followed_by written_before (take k (report_of t)))
 
 -- the answer where all was written
 abbrev pub answer_of : LineEnd → Outcome

@@ -2,3 +2,4 @@ pub mod Outcome
 pub mod Tables
 pub mod Answers
 pub mod Streaming
+pub mod Images

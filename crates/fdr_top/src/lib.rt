@@ -1,14 +1,17 @@
 //! The commands of the recorder.
 //!
-//! `run` carries out one command over a source that gives the table, a deck that gives the line of input, and a sink
-//! that takes the output.
+//! `run` carries out one command over a source that gives the table, a deck that gives the line of input and the disk, and
+//! a sink that takes the output.
 #![tactic(auto)]
 
+mod checking;
+mod formatting;
 mod list_bits;
 mod load;
 mod outcome;
 mod pulling;
 mod reading;
+mod recovering;
 mod streaming;
 mod top;
 

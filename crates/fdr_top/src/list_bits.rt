@@ -5,16 +5,16 @@ ghost use Rattle.fdr_io.specs.Faults.{Rose};
 ghost use Rattle.fdr_io.specs.Told.{followed_by};
 ghost use Rattle.fdr_deck.specs.Calls.{LeavesDisk};
 ghost use Rattle.fdr_frame.specs.WordCount.{IsWordCount};
-ghost use Rattle.fdr_recon.specs.Past.{HasRawValues, Stands};
+ghost use Rattle.fdr_recon.specs.Past.{Stands};
 ghost use Rattle.fdr_top.specs.Answers.{IsOfListing, Lists, answer_of};
 ghost use Rattle.fdr_readout.specs.Listing.{listing_of};
 
 use crate::outcome::Outcome;
 use crate::pulling::{LineEnd, MOST_LINE_BYTES, PulledLine, pull_line};
+use fdr_check::Sound;
 use fdr_deck::Deck;
 use fdr_io::{Failed, Input, Sink};
 use fdr_readout::{Readout, write_listing};
-use fdr_table::Table;
 use std::alloc::Global;
 
 /// The bytes that are listed: as many as were pulled, or the most that are listed.
@@ -38,37 +38,36 @@ fn answer_of(end: LineEnd) -> Outcome
 }
 
 /// Writes the listing of what was pulled of a line, and gives the answer.
-fn write_line<O: Sink>(work: &mut Readout, table: &Table, line: &PulledLine, out: &mut O) -> Outcome
-    requires word_count { IsWordCount table.now.frame.words }
-    requires room { vec_len work.old.words ≡ 4 * table.now.frame.words }
-    requires fresh { Stands work.old.rebuild table.now [] }
+fn write_line<O: Sink>(work: &mut Readout, sound: &Sound, line: &PulledLine, out: &mut O) -> Outcome
+    requires word_count { IsWordCount sound.now.frame.words }
+    requires room { vec_len work.old.words ≡ 4 * sound.now.frame.words }
+    requires fresh { Stands work.old.rebuild sound.now [] }
     requires empty { work.old.buffer ≡ [] }
     ensures answer { (result ≡ Outcome.WriteFault) ⊎ (result ≡ answer_of line.now.end) }
     ensures text { result ≢ Outcome.WriteFault
-        → O.written out.new ≡ followed_by (O.written out.old) (listing_of table.now (take MOST_LINE_BYTES line.now.bytes.items)) }
+        → O.written out.new ≡ followed_by (O.written out.old) (listing_of sound.now (take MOST_LINE_BYTES line.now.bytes.items)) }
     ensures part { (k : ℕ) × (O.written out.new
-        ≡ followed_by (O.written out.old) (take k (listing_of table.now (take MOST_LINE_BYTES line.now.bytes.items)))) }
+        ≡ followed_by (O.written out.old) (take k (listing_of sound.now (take MOST_LINE_BYTES line.now.bytes.items)))) }
     ensures cause { result ≡ Outcome.WriteFault → Rose (O.faults out.old) (O.faults out.new) }
     ensures monotone { O.faults out.old ≤ O.faults out.new }
 {
-    match write_listing(work, table, listed(line), out) {
+    match write_listing(work, sound, listed(line), out) {
         Ok(()) => answer_of(line.end),
         Err(Failed) => Outcome::WriteFault,
     }
 }
 
-/// Lists the bits of the deck's line by a table whose values are raw numbers.
+/// Lists the bits of the deck's line by a table.
 pub fn list_line<D: Deck, O: Sink>(
     alloc: Global,
-    table: &Table,
+    sound: &Sound,
     deck: &mut D,
     out: &mut O,
 ) -> Outcome
-    requires word_count { IsWordCount table.now.frame.words }
-    requires raw { HasRawValues table.now.params }
+    requires word_count { IsWordCount sound.now.frame.words }
     ensures answer { (result ≡ Outcome.NoMemory) ⊎ IsOfListing result }
     ensures lists { result ≢ Outcome.NoMemory
-        → Lists table.now D.tells (D.state deck.old) (D.state deck.new) (O.written out.old) (O.written out.new) result }
+        → Lists sound.now D.tells (D.state deck.old) (D.state deck.new) (O.written out.old) (O.written out.new) result }
     ensures line_fault { result ≡ Outcome.ReadFault Input.Line → Rose (D.state deck.old).line_faults (D.state deck.new).line_faults }
     ensures write_fault { result ≡ Outcome.WriteFault → Rose (O.faults out.old) (O.faults out.new) }
     ensures no_memory { result ≡ Outcome.NoMemory → O.written out.new ≡ O.written out.old }
@@ -76,11 +75,11 @@ pub fn list_line<D: Deck, O: Sink>(
     ensures disk { LeavesDisk (D.state deck.old) (D.state deck.new) }
     ensures told { (D.state deck.new).told ≡ (D.state deck.old).told }
 {
-    let Ok(mut work) = Readout::new(alloc, table) else {
+    let Ok(mut work) = Readout::new(alloc, sound) else {
         return Outcome::NoMemory;
     };
     let Ok(line) = pull_line(alloc, deck) else {
         return Outcome::NoMemory;
     };
-    write_line(&mut work, table, &line, out)
+    write_line(&mut work, sound, &line, out)
 }

@@ -13,10 +13,11 @@ ghost use Rattle.fdr_top.specs.Streaming.{past_of, due_text, ComesNext, IsStream
 
 use crate::outcome::Outcome;
 use fdr_bus::{BusRecord, RecordKind};
+use fdr_check::Sound;
 use fdr_deck::Deck;
 use fdr_io::{Failed, Input, Sink, write_whole};
 use fdr_stream::{Fed, Stream};
-use fdr_table::{NoMemory, Table};
+use fdr_table::NoMemory;
 use fdr_trace::{TraceLine, TraceStop};
 use std::alloc::Global;
 
@@ -34,11 +35,11 @@ struct Recording {
 }
 
 impl Recording {
-    fn new(alloc: Global, table: &Table) -> Result<Recording, NoMemory>
-        ensures { IfOk result (λ r. IsFresh r table.now) }
+    fn new(alloc: Global, sound: &Sound) -> Result<Recording, NoMemory>
+        ensures { IfOk result (λ r. IsFresh r sound.now) }
     {
         let trace = TraceLine::new(alloc).map_err(|_| NoMemory)?;
-        let stream = Stream::new(alloc, table, PAYLOAD as u32)?;
+        let stream = Stream::new(alloc, sound, PAYLOAD as u32)?;
         Ok(Recording { trace, stream })
     }
 }
@@ -151,13 +152,13 @@ fn stream_trace<D: Deck, O: Sink>(recording: &mut Recording, deck: &mut D, out: 
 /// Streams the trace of the deck's line by a table.
 pub fn stream_line<D: Deck, O: Sink>(
     alloc: Global,
-    table: &Table,
+    sound: &Sound,
     deck: &mut D,
     out: &mut O,
 ) -> Outcome
     ensures answer { (result ≡ Outcome.NoMemory) ⊎ IsOfTrace result }
     ensures streams { result ≢ Outcome.NoMemory
-        → Streams table.now D.tells (D.state deck.old) (D.state deck.new) (O.written out.old) (O.written out.new) result }
+        → Streams sound.now D.tells (D.state deck.old) (D.state deck.new) (O.written out.old) (O.written out.new) result }
     ensures line_fault { result ≡ Outcome.ReadFault Input.Line → Rose (D.state deck.old).line_faults (D.state deck.new).line_faults }
     ensures write_fault { result ≡ Outcome.WriteFault → Rose (O.faults out.old) (O.faults out.new) }
     ensures no_memory { result ≡ Outcome.NoMemory → O.written out.new ≡ O.written out.old }
@@ -166,7 +167,7 @@ pub fn stream_line<D: Deck, O: Sink>(
     ensures no_memory_disk { result ≡ Outcome.NoMemory → LeavesDisk (D.state deck.old) (D.state deck.new) }
     ensures no_memory_told { result ≡ Outcome.NoMemory → (D.state deck.new).told ≡ (D.state deck.old).told }
 {
-    match Recording::new(alloc, table) {
+    match Recording::new(alloc, sound) {
         Ok(mut recording) => stream_trace(&mut recording, deck, out),
         Err(NoMemory) => Outcome::NoMemory,
     }

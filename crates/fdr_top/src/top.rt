@@ -1,32 +1,44 @@
 //! The top call.
 
-ghost use Rattle.std.specs.Prelude.{◌≡◌, ◌≢◌, ◌↔◌, ◌⊎◌, ◌+◌, ◌≤◌, ◌<◌, true, ℕ, List, [], length, map, string_bytes, Some, None, IsTrue, IfSome};
+ghost use Rattle.std.specs.Prelude.{◌≡◌, ◌≢◌, ◌↔◌, ◌⊎◌, ◌+◌, ◌≤◌, ◌<◌, true, ℕ, List, [], length, take, map, string_bytes, Some, None, IsTrue, IfSome};
 ghost use Rattle.fdr_io.specs.Faults.{Rose};
 ghost use Rattle.fdr_io.specs.Told.{followed_by, preceded_by};
-ghost use Rattle.fdr_deck.specs.Calls.{LeavesDisk};
+ghost use Rattle.fdr_deck.specs.Calls.{IsQuiet, LeavesDisk};
+ghost use Rattle.fdr_deck.specs.Disk.{IsSettled, KeepsDisk, LearnsExtent};
 ghost use Rattle.fdr_frame.specs.WordCount.{IsWordCount};
+ghost use Rattle.fdr_bus.specs.declared.BusRecord.{BusRecord};
 ghost use Rattle.fdr_bus.specs.Records.{good_prefix, has_end, trace_fault};
 ghost use Rattle.fdr_bus.specs.declared.TraceFault.{TraceFault};
-ghost use Rattle.fdr_words.specs.Forms.{form_of, list_bits, stream_line};
+ghost use Rattle.fdr_slot.specs.Places.{image_size};
+ghost use Rattle.fdr_slot.specs.declared.image.ImageFault.{ImageFault};
+ghost use Rattle.fdr_slot.specs.declared.image.ImageFault.TheVariants as image_fault;
+ghost use Rattle.fdr_ring.specs.Formatting.{IsFormatted, Making, fault_of, fresh_image};
+ghost use Rattle.fdr_words.specs.Forms.{Form, IsInBounds, form_of, check_table, format_image, list_bits, recover_image, stream_line};
 ghost use Rattle.fdr_words.specs.Request.{form_of_request};
 ghost use Rattle.fdr_table.specs.Rows.{TableRows};
 ghost use Rattle.fdr_table.specs.declared.fault.TableFault.{TableFault};
+ghost use Rattle.fdr_check.specs.Report.{report_of};
+ghost use Rattle.fdr_check.specs.Soundness.{IsSound};
+ghost use Rattle.fdr_sampler.specs.Exchange.{AreExchanged};
 ghost use Rattle.fdr_sampler.specs.Stream.{stream_of};
-ghost use Rattle.fdr_recon.specs.Past.{HasRawValues};
 ghost use Rattle.fdr_readout.specs.Listing.{listing_of};
 ghost use Rattle.fdr_readout.specs.SampledRows.{sampled_listing};
-ghost use Rattle.fdr_top.specs.Answers.{IsBeforeLine, IsOfLine, IsOfListing, IsOfTable, IsOfTrace, WritesNothing, KeepsLineAndFaults, Lists, Streams};
+ghost use Rattle.fdr_top.specs.Answers.{HasImage, IsBeforeLine, IsFormat, IsOfListing, IsOfTable, IsOfTrace, IsPastTable, KeepsLineAndFaults, Lists, MayAnswer, PullsLine, ReadsTable, Reports, Streams, WritesNothing};
+ghost use Rattle.fdr_top.specs.Images.{Makes, OnlyLooks, new_header, payloads_of, run_in};
 ghost use Rattle.fdr_top.specs.Tables.{IsAccepted, IsRefused, table_in};
 
+use crate::checking::write_report;
+use crate::formatting::make_image;
 use crate::list_bits::list_line;
 use crate::load::load_table;
 use crate::outcome::Outcome;
 use crate::pulling::MOST_LINE_BYTES;
 use crate::reading::MOST_TABLE_BYTES;
+use crate::recovering::recover_image;
 use crate::streaming::stream_line;
+use fdr_check::Sound;
 use fdr_deck::Deck;
 use fdr_io::{Input, Sink, Source};
-use fdr_table::Table;
 use fdr_words::{Request, WordsFault, read_words};
 use std::alloc::Global;
 
@@ -34,41 +46,54 @@ use std::alloc::Global;
 fn carry_out<D: Deck, O: Sink>(
     alloc: Global,
     request: &Request,
-    table: &Table,
+    sound: &Sound,
     deck: &mut D,
     out: &mut O,
 ) -> Outcome
-    requires word_count { IsWordCount table.now.frame.words }
-    requires raw { HasRawValues table.now.params }
-    ensures answer { (result ≡ Outcome.NoMemory) ⊎ IsOfLine result }
-    ensures of_listing { (path : List ℕ) → form_of_request request.now ≡ list_bits path
-        → (result ≡ Outcome.NoMemory) ⊎ IsOfListing result }
-    ensures of_trace { (path : List ℕ) → form_of_request request.now ≡ stream_line path
-        → (result ≡ Outcome.NoMemory) ⊎ IsOfTrace result }
-    ensures lists { (path : List ℕ) → form_of_request request.now ≡ list_bits path → result ≢ Outcome.NoMemory
-        → Lists table.now D.tells (D.state deck.old) (D.state deck.new) (O.written out.old) (O.written out.new) result }
-    ensures streams { (path : List ℕ) → form_of_request request.now ≡ stream_line path → result ≢ Outcome.NoMemory
-        → Streams table.now D.tells (D.state deck.old) (D.state deck.new) (O.written out.old) (O.written out.new) result }
+    requires table { ReadsTable (form_of_request request.now) }
+    requires bounds { IsInBounds (form_of_request request.now) }
+    requires word_count { IsWordCount sound.now.frame.words }
+    ensures answers { MayAnswer (form_of_request request.now) result }
+    ensures past_table { (result ≡ Outcome.NoMemory) ⊎ IsPastTable result }
     ensures line_fault { result ≡ Outcome.ReadFault Input.Line → Rose (D.state deck.old).line_faults (D.state deck.new).line_faults }
     ensures write_fault { result ≡ Outcome.WriteFault → Rose (O.faults out.old) (O.faults out.new) }
     ensures no_memory { result ≡ Outcome.NoMemory → O.written out.new ≡ O.written out.old }
     ensures no_memory_faults { result ≡ Outcome.NoMemory → O.faults out.new ≡ O.faults out.old }
     ensures no_memory_line { (path : List ℕ) → form_of_request request.now ≡ stream_line path → result ≡ Outcome.NoMemory
         → KeepsLineAndFaults (D.state deck.old) (D.state deck.new) }
-    ensures disk { LeavesDisk (D.state deck.old) (D.state deck.new) }
+    ensures pulls_nothing { (PullsLine (form_of_request request.now) → ⊥) → KeepsLineAndFaults (D.state deck.old) (D.state deck.new) }
+    ensures disk { (HasImage (form_of_request request.now) → ⊥) → LeavesDisk (D.state deck.old) (D.state deck.new) }
     ensures told { (D.state deck.new).told ≡ (D.state deck.old).told }
+    ensures reports { (path : List ℕ) → form_of_request request.now ≡ check_table path
+        → Reports sound.now (O.written out.old) (O.written out.new) result }
+    ensures check_leaves_deck { (path : List ℕ) → form_of_request request.now ≡ check_table path → deck.new ≡ deck.old }
+    ensures lists { (path : List ℕ) → form_of_request request.now ≡ list_bits path → result ≢ Outcome.NoMemory
+        → Lists sound.now D.tells (D.state deck.old) (D.state deck.new) (O.written out.old) (O.written out.new) result }
+    ensures streams { (path : List ℕ) → form_of_request request.now ≡ stream_line path → result ≢ Outcome.NoMemory
+        → Streams sound.now D.tells (D.state deck.old) (D.state deck.new) (O.written out.old) (O.written out.new) result }
+    ensures makes { (table image : List ℕ) (slots payload : ℕ) → form_of_request request.now ≡ format_image table image slots payload
+        → Makes (new_header slots payload sound.now.frame.words) D.tells (D.state deck.old) (D.state deck.new) result }
+    ensures format_leaves_sink { IsFormat (form_of_request request.now) → out.new ≡ out.old }
+    ensures format_takes_no_memory { IsFormat (form_of_request request.now) → result ≢ Outcome.NoMemory }
 {
     match request {
-        Request::StreamLine { .. } => stream_line(alloc, table, deck, out),
-        Request::ListBits { .. } => list_line(alloc, table, deck, out),
+        Request::CheckTable { .. } => write_report(alloc, sound, out),
+        Request::StreamLine { .. } => stream_line(alloc, sound, deck, out),
+        Request::ListBits { .. } => list_line(alloc, sound, deck, out),
+        Request::FormatImage { slots, payload, .. } => make_image(sound, *slots, *payload, deck),
+        Request::RecoverImage { .. } => unreachable!(),
     }
 }
 
 /// Runs the command that the words after the program's name ask for.
 ///
-/// `stream TABLE` pulls a trace of bus words from the deck's line and writes its recorded stream to `out`, by the table
-/// that `table` gives. `listbits TABLE` pulls the line to its end and writes the listing of its bits. Each answer says what
-/// was done; its clauses say when it comes and what it leaves.
+/// - `check TABLE` writes a report of the table to `out`.
+/// - `stream TABLE` pulls a trace of bus words from the deck's line and writes its recorded stream.
+/// - `listbits TABLE` pulls the line to its end and writes the listing of its bits.
+/// - `format TABLE IMAGE` makes an image without blocks on the deck's disk.
+/// - `recover IMAGE` writes the payloads of the blocks that the image holds.
+///
+/// `table` gives the bytes of the table. Each answer says what was done; its clauses say when it comes and what it leaves.
 pub fn run<T: Source, D: Deck, O: Sink>(
     alloc: Global,
     words: &[String],
@@ -76,45 +101,68 @@ pub fn run<T: Source, D: Deck, O: Sink>(
     deck: &mut D,
     out: &mut O,
 ) -> Outcome
-    // The words decide first.
+    // The words decide first, and where they are wrong nothing is touched.
     ensures usage { (result ≡ Outcome.Usage) ↔ (form_of (map string_bytes words.now) ≡ None) }
-    ensures usage_leaves_table { result ≡ Outcome.Usage → T.rest table.new ≡ T.rest table.old }
-    ensures usage_leaves_table_count { result ≡ Outcome.Usage → T.faults table.new ≡ T.faults table.old }
+    ensures usage_leaves_table { result ≡ Outcome.Usage → table.new ≡ table.old }
+    ensures usage_leaves_deck { result ≡ Outcome.Usage → deck.new ≡ deck.old }
+    ensures usage_leaves_sink { result ≡ Outcome.Usage → out.new ≡ out.old }
 
-    // The table.
+    // Each command gives only answers that are its own.
+    ensures answers { (form : Form) → form_of (map string_bytes words.now) ≡ Some form → MayAnswer form result }
+
+    // The table, where the command reads one.
     ensures refused { (row : ℕ) (f : TableFault) (bytes : List ℕ) → result ≡ Outcome.TableRefused row f
         → T.rest table.old ≡ Some bytes → IsRefused bytes row f }
     ensures refused_taken { (row : ℕ) (f : TableFault) → result ≡ Outcome.TableRefused row f
         → (taken : List ℕ) × IsRefused taken row f × (T.rest table.old ≡ preceded_by taken (T.rest table.new)) }
-    ensures refused_always { (row : ℕ) (f : TableFault) (bytes : List ℕ) → form_of (map string_bytes words.now) ≢ None
+    ensures refused_always { (form : Form) (row : ℕ) (f : TableFault) (bytes : List ℕ)
+        → form_of (map string_bytes words.now) ≡ Some form → ReadsTable form
         → T.rest table.old ≡ Some bytes → IsRefused bytes row f → IsOfTable result }
     ensures refused_at_end { (row : ℕ) (f : TableFault) (bytes : List ℕ) → result ≡ Outcome.TableRefused row f
         → T.rest table.old ≡ Some bytes → length bytes ≤ MOST_TABLE_BYTES → T.rest table.new ≡ Some [] }
-    ensures accepted { IsOfLine result → IfSome (T.rest table.old) IsAccepted }
-    ensures accepted_at_end { IsOfLine result → IfSome (T.rest table.new) (λ left. left ≡ []) }
+    ensures accepted { (form : Form) → form_of (map string_bytes words.now) ≡ Some form → ReadsTable form
+        → IsPastTable result → IfSome (T.rest table.old) IsAccepted }
+    ensures accepted_at_end { (form : Form) → form_of (map string_bytes words.now) ≡ Some form → ReadsTable form
+        → IsPastTable result → IfSome (T.rest table.new) (λ left. left ≡ []) }
+    ensures sound { (form : Form) (bytes : List ℕ) → form_of (map string_bytes words.now) ≡ Some form → ReadsTable form
+        → IsPastTable result → T.rest table.old ≡ Some bytes → IsSound (table_in bytes) }
     ensures table_fault { result ≡ Outcome.ReadFault Input.Table → Rose (T.faults table.old) (T.faults table.new) }
     ensures table_fault_few { result ≡ Outcome.ReadFault Input.Table
         → (taken : List ℕ) × (length taken ≤ MOST_TABLE_BYTES) × (T.rest table.old ≡ preceded_by taken (T.rest table.new)) }
 
-    // What is answered before the line is pulled leaves the line, and nothing is written.
-    ensures line_kept { IsBeforeLine result → KeepsLineAndFaults (D.state deck.old) (D.state deck.new) }
+    // What a refusal leaves: it writes nothing and changes no device.
     ensures nothing_written { WritesNothing result → O.written out.new ≡ O.written out.old }
     ensures nothing_written_count { WritesNothing result → O.faults out.new ≡ O.faults out.old }
+    ensures disk_kept { WritesNothing result → KeepsDisk (D.state deck.old) (D.state deck.new) }
+    ensures length_kept { WritesNothing result → LearnsExtent D.tells (D.state deck.old) (D.state deck.new) }
+    ensures line_kept { IsBeforeLine result → KeepsLineAndFaults (D.state deck.old) (D.state deck.new) }
 
-    // No command here changes the disk or the announced number.
-    ensures disk { LeavesDisk (D.state deck.old) (D.state deck.new) }
+    // What a command doesn't use is as it was.
+    ensures pulls_nothing { (form : Form) → form_of (map string_bytes words.now) ≡ Some form → (PullsLine form → ⊥)
+        → KeepsLineAndFaults (D.state deck.old) (D.state deck.new) }
+    ensures disk { (form : Form) → form_of (map string_bytes words.now) ≡ Some form → (HasImage form → ⊥)
+        → LeavesDisk (D.state deck.old) (D.state deck.new) }
     ensures told { (D.state deck.new).told ≡ (D.state deck.old).told }
+    ensures check_leaves_deck { (path : List ℕ) → form_of (map string_bytes words.now) ≡ Some (check_table path)
+        → deck.new ≡ deck.old }
+    ensures format_leaves_sink { (form : Form) → form_of (map string_bytes words.now) ≡ Some form → IsFormat form
+        → out.new ≡ out.old }
+    ensures recover_leaves_table { (path : List ℕ) → form_of (map string_bytes words.now) ≡ Some (recover_image path)
+        → table.new ≡ table.old }
 
     // The causes of faults.
     ensures line_fault { result ≡ Outcome.ReadFault Input.Line
         → Rose (D.state deck.old).line_faults (D.state deck.new).line_faults }
     ensures write_fault { result ≡ Outcome.WriteFault → Rose (O.faults out.old) (O.faults out.new) }
+    ensures disk_fault { result ≡ Outcome.DiskFault → Rose (D.state deck.old).disk_faults (D.state deck.new).disk_faults }
 
-    // Only a trace is refused as one, and only the bits of a listing are too many.
-    ensures trace_alone { (index : ℕ) (why : TraceFault) → result ≡ Outcome.TraceRefused index why
-        → (path : List ℕ) × (form_of (map string_bytes words.now) ≡ Some (stream_line path)) }
-    ensures listing_alone { result ≡ Outcome.TooLong
-        → (path : List ℕ) × (form_of (map string_bytes words.now) ≡ Some (list_bits path)) }
+    // `check`: the report of the table.
+    ensures report { (path bytes : List ℕ) → form_of (map string_bytes words.now) ≡ Some (check_table path)
+        → result ≡ Outcome.Done → T.rest table.old ≡ Some bytes
+        → O.written out.new ≡ followed_by (O.written out.old) (report_of (table_in bytes)) }
+    ensures report_part { (path bytes : List ℕ) → form_of (map string_bytes words.now) ≡ Some (check_table path)
+        → IsPastTable result → T.rest table.old ≡ Some bytes
+        → (k : ℕ) × (O.written out.new ≡ followed_by (O.written out.old) (take k (report_of (table_in bytes)))) }
 
     // `listbits`: the listing of all bits of the line.
     ensures listing { (path bytes : List ℕ) → form_of (map string_bytes words.now) ≡ Some (list_bits path)
@@ -122,13 +170,13 @@ pub fn run<T: Source, D: Deck, O: Sink>(
         → O.written out.new ≡ followed_by (O.written out.old) (listing_of (table_in bytes) (D.state deck.old).line) }
 
     // What was pulled, and how much of its listing was written.
-    ensures lists { (path : List ℕ) → form_of (map string_bytes words.now) ≡ Some (list_bits path) → IsOfLine result
+    ensures lists { (path : List ℕ) → form_of (map string_bytes words.now) ≡ Some (list_bits path) → IsPastTable result
         → (t : TableRows) × ((bytes : List ℕ) → T.rest table.old ≡ Some bytes → t ≡ table_in bytes)
         × Lists t D.tells (D.state deck.old) (D.state deck.new) (O.written out.old) (O.written out.new) result }
     ensures too_long { result ≡ Outcome.TooLong
         → (D.state deck.old).taken + MOST_LINE_BYTES < (D.state deck.new).taken }
-    ensures too_long_always { (path : List ℕ) → form_of (map string_bytes words.now) ≡ Some (list_bits path) → IsOfLine result
-        → (D.state deck.old).taken + MOST_LINE_BYTES < (D.state deck.new).taken
+    ensures too_long_always { (path : List ℕ) → form_of (map string_bytes words.now) ≡ Some (list_bits path)
+        → IsPastTable result → (D.state deck.old).taken + MOST_LINE_BYTES < (D.state deck.new).taken
         → (result ≡ Outcome.TooLong) ⊎ (result ≡ Outcome.WriteFault) }
 
     // `stream`: the recording of the good records of the line, which lists back as what was sampled.
@@ -139,21 +187,80 @@ pub fn run<T: Source, D: Deck, O: Sink>(
         → result ≡ Outcome.Done → T.rest table.old ≡ Some bytes → IsTrue D.tells.line
         → (text : List ℕ) × (O.written out.new ≡ followed_by (O.written out.old) text)
         × (listing_of (table_in bytes) text ≡ sampled_listing (table_in bytes) (good_prefix (D.state deck.old).line)) }
+    // Words of one time on different buses or with different labels may come in either order.
+    ensures exchanged { (path bytes : List ℕ) (others : List BusRecord)
+        → form_of (map string_bytes words.now) ≡ Some (stream_line path)
+        → result ≡ Outcome.Done → T.rest table.old ≡ Some bytes → IsTrue D.tells.line
+        → AreExchanged (good_prefix (D.state deck.old).line) others
+        → O.written out.new ≡ followed_by (O.written out.old) (stream_of (table_in bytes) others) }
 
     // What was pulled of the trace, and how much of its stream was written.
-    ensures streams { (path : List ℕ) → form_of (map string_bytes words.now) ≡ Some (stream_line path) → IsOfLine result
+    ensures streams { (path : List ℕ) → form_of (map string_bytes words.now) ≡ Some (stream_line path) → IsPastTable result
         → (t : TableRows) × ((bytes : List ℕ) → T.rest table.old ≡ Some bytes → t ≡ table_in bytes)
         × Streams t D.tells (D.state deck.old) (D.state deck.new) (O.written out.old) (O.written out.new) result }
     ensures trace_refused { (index : ℕ) (why : TraceFault) → result ≡ Outcome.TraceRefused index why → IsTrue D.tells.line
         → trace_fault (D.state deck.old).line ≡ Some (index, why) }
     ensures trace_refused_always { (path : List ℕ) (index : ℕ) (why : TraceFault)
-        → form_of (map string_bytes words.now) ≡ Some (stream_line path) → IsOfLine result → IsTrue D.tells.line
+        → form_of (map string_bytes words.now) ≡ Some (stream_line path) → IsPastTable result → IsTrue D.tells.line
         → trace_fault (D.state deck.old).line ≡ Some (index, why)
         → (result ≡ Outcome.TraceRefused index why) ⊎ ((result ≡ Outcome.ReadFault Input.Line) ⊎ (result ≡ Outcome.WriteFault)) }
     ensures stream_no_memory { (path : List ℕ) → form_of (map string_bytes words.now) ≡ Some (stream_line path)
         → result ≡ Outcome.NoMemory → KeepsLineAndFaults (D.state deck.old) (D.state deck.new) }
 
-    // Right words, a table that is accepted, a line that isn't too long and no fault: all is done, or memory ended.
+    // `format`: an image without blocks, for the table's frames, on a disk that had no byte.
+    ensures made { (path image bytes : List ℕ) (slots payload : ℕ)
+        → form_of (map string_bytes words.now) ≡ Some (format_image path image slots payload)
+        → result ≡ Outcome.Done → T.rest table.old ≡ Some bytes → IsTrue D.tells.bytes
+        → (D.state deck.new).held ≡ fresh_image (new_header slots payload (table_in bytes).frame.words) }
+    ensures made_formatted { (path image bytes : List ℕ) (slots payload : ℕ)
+        → form_of (map string_bytes words.now) ≡ Some (format_image path image slots payload)
+        → result ≡ Outcome.Done → T.rest table.old ≡ Some bytes → IsTrue D.tells.bytes
+        → IsFormatted (new_header slots payload (table_in bytes).frame.words) (D.state deck.new).held }
+    ensures made_length { (path image bytes : List ℕ) (slots payload : ℕ)
+        → form_of (map string_bytes words.now) ≡ Some (format_image path image slots payload)
+        → result ≡ Outcome.Done → T.rest table.old ≡ Some bytes
+        → (D.state deck.new).extent ≡ image_size (new_header slots payload (table_in bytes).frame.words) }
+    ensures made_settled { (form : Form) → form_of (map string_bytes words.now) ≡ Some form → IsFormat form
+        → result ≡ Outcome.Done → IsTrue D.tells.stops → IsSettled (D.state deck.new) }
+    ensures made_on_none { (form : Form) → form_of (map string_bytes words.now) ≡ Some form → IsFormat form
+        → result ≡ Outcome.Done → (D.state deck.old).extent ≡ 0 }
+    ensures not_empty { result ≡ Outcome.NotEmpty → 0 < (D.state deck.new).extent }
+    ensures not_empty_always { (form : Form) → form_of (map string_bytes words.now) ≡ Some form → IsFormat form
+        → IsPastTable result → 0 < (D.state deck.old).extent → (result ≡ Outcome.NotEmpty) ⊎ (result ≡ Outcome.DiskFault) }
+
+    // At every moment of `format` on a settled disk without a byte, a stop leaves an image that is too small or closed, or
+    // the whole one. A disk that has bytes keeps what a stop could leave.
+    ensures making { (path image : List ℕ) (slots payload : ℕ)
+        → form_of (map string_bytes words.now) ≡ Some (format_image path image slots payload)
+        → (count : ℕ) × ((bytes : List ℕ) → T.rest table.old ≡ Some bytes → count ≡ (table_in bytes).frame.words)
+        × IsQuiet D.tells (Making (new_header slots payload count) (D.state deck.old)) (D.state deck.old) (D.state deck.new) }
+
+    // `recover`: the payloads of the recovered run of what the disk holds, which it only looks at.
+    ensures recovered { (path : List ℕ) → form_of (map string_bytes words.now) ≡ Some (recover_image path)
+        → result ≡ Outcome.Done → IsTrue D.tells.bytes
+        → O.written out.new ≡ followed_by (O.written out.old) (payloads_of (run_in (D.state deck.old).held)) }
+    ensures recovered_part { (path : List ℕ) → form_of (map string_bytes words.now) ≡ Some (recover_image path)
+        → IsTrue D.tells.bytes
+        → (k : ℕ) × (O.written out.new ≡ followed_by (O.written out.old) (take k (payloads_of (run_in (D.state deck.old).held)))) }
+    ensures recovered_good { (path : List ℕ) → form_of (map string_bytes words.now) ≡ Some (recover_image path)
+        → result ≡ Outcome.Done → IsTrue D.tells.bytes → fault_of (D.state deck.old).held ≡ None }
+    ensures only_looks { (path : List ℕ) → form_of (map string_bytes words.now) ≡ Some (recover_image path)
+        → OnlyLooks D.tells (D.state deck.old) (D.state deck.new) }
+    ensures image_refused { (why : ImageFault) → result ≡ Outcome.ImageRefused why → IsTrue D.tells.bytes
+        → fault_of (D.state deck.old).held ≡ Some why }
+    ensures image_small { (why : ImageFault) → result ≡ Outcome.ImageRefused why
+        → (why ≡ image_fault.Small) ↔ ((D.state deck.new).extent < 64) }
+    ensures image_refused_always { (path : List ℕ) (why : ImageFault)
+        → form_of (map string_bytes words.now) ≡ Some (recover_image path) → result ≢ Outcome.NoMemory
+        → IsTrue D.tells.bytes → fault_of (D.state deck.old).held ≡ Some why
+        → (result ≡ Outcome.ImageRefused why) ⊎ (result ≡ Outcome.DiskFault) }
+
+    // Right words, a table that is accepted, an input that is whole and no fault: all is done, or memory ended.
+    ensures complete_check { (path bytes : List ℕ) → form_of (map string_bytes words.now) ≡ Some (check_table path)
+        → T.rest table.old ≡ Some bytes → IsAccepted bytes
+        → ¬ Rose (T.faults table.old) (T.faults table.new)
+        → ¬ Rose (O.faults out.old) (O.faults out.new)
+        → (result ≡ Outcome.Done) ⊎ (result ≡ Outcome.NoMemory) }
     ensures complete { (path bytes : List ℕ) → form_of (map string_bytes words.now) ≡ Some (list_bits path)
         → T.rest table.old ≡ Some bytes → IsAccepted bytes
         → IsTrue D.tells.line → length (D.state deck.old).line ≤ MOST_LINE_BYTES
@@ -161,13 +268,23 @@ pub fn run<T: Source, D: Deck, O: Sink>(
         → ¬ Rose (D.state deck.old).line_faults (D.state deck.new).line_faults
         → ¬ Rose (O.faults out.old) (O.faults out.new)
         → (result ≡ Outcome.Done) ⊎ (result ≡ Outcome.NoMemory) }
-
-    // The same of a trace with an end record.
     ensures complete_stream { (path bytes : List ℕ) → form_of (map string_bytes words.now) ≡ Some (stream_line path)
         → T.rest table.old ≡ Some bytes → IsAccepted bytes
         → IsTrue D.tells.line → has_end (good_prefix (D.state deck.old).line) ≡ true
         → ¬ Rose (T.faults table.old) (T.faults table.new)
         → ¬ Rose (D.state deck.old).line_faults (D.state deck.new).line_faults
+        → ¬ Rose (O.faults out.old) (O.faults out.new)
+        → (result ≡ Outcome.Done) ⊎ (result ≡ Outcome.NoMemory) }
+    ensures complete_format { (path image bytes : List ℕ) (slots payload : ℕ)
+        → form_of (map string_bytes words.now) ≡ Some (format_image path image slots payload)
+        → T.rest table.old ≡ Some bytes → IsAccepted bytes
+        → IsTrue D.tells.bytes → (D.state deck.old).extent ≡ 0
+        → ¬ Rose (T.faults table.old) (T.faults table.new)
+        → ¬ Rose (D.state deck.old).disk_faults (D.state deck.new).disk_faults
+        → (result ≡ Outcome.Done) ⊎ (result ≡ Outcome.NoMemory) }
+    ensures complete_recover { (path : List ℕ) → form_of (map string_bytes words.now) ≡ Some (recover_image path)
+        → IsTrue D.tells.bytes → fault_of (D.state deck.old).held ≡ None
+        → ¬ Rose (D.state deck.old).disk_faults (D.state deck.new).disk_faults
         → ¬ Rose (O.faults out.old) (O.faults out.new)
         → (result ≡ Outcome.Done) ⊎ (result ≡ Outcome.NoMemory) }
 {
@@ -176,8 +293,11 @@ pub fn run<T: Source, D: Deck, O: Sink>(
         Err(WordsFault::Usage) => return Outcome::Usage,
         Err(WordsFault::NoMemory) => return Outcome::NoMemory,
     };
+    if let Request::RecoverImage { .. } = &request {
+        return recover_image(alloc, deck, out);
+    }
     match load_table(alloc, table) {
-        Ok(table) => carry_out(alloc, &request, &table, deck, out),
+        Ok(sound) => carry_out(alloc, &request, &sound, deck, out),
         Err(answer) => answer,
     }
 }

@@ -1,1 +1,1 @@
-mod WordFacts
+pub mod UsesSteps

@@ -1,42 +1,78 @@
 -- The forms of the words after the program's name.
-use Rattle.std.specs.Prelude.{ℕ, Bool, false, not, ◌==◌, if◌then◌else◌, List, [], ◌∷◌, codes, bytes_eq, Option, Some, None}
-use Rattle.std.specs.List.{list_all}
+use Rattle.std.specs.Prelude.{ℕ, ◌≤◌, Bool, false, true, if◌then◌else◌, List, [], ◌∷◌, codes, bytes_eq, Option, Some, None}
+use Rattle.std.specs.Option.{option_and_then}
+use Rattle.fdr_words.specs.Words.{Uses, uses_of, value_in}
 
--- the forms, with the paths that they name
+-- the forms, with the paths and numbers that they name
 pub data Form : Type 0 where
+  check_table : (table : List ℕ) → Form
   stream_line : (table : List ℕ) → Form
   list_bits : (table : List ℕ) → Form
+  format_image : (table image : List ℕ) (slots payload : ℕ) → Form
+  recover_image : (image : List ℕ) → Form
 
--- a word of a form's own: neither empty nor an option word, which begins with `-`
-abbrev pub is_plain : List ℕ → Bool
-is_plain [] = false
-is_plain (byte ∷ rest) = not (byte == 45)
-
--- the form of words that are plain: `stream TABLE` or `listbits TABLE`
-abbrev pub plain_form : List (List ℕ) → Option Form
-plain_form [] = None
-plain_form (command ∷ []) = None
-plain_form (command ∷ table ∷ []) =
-    if bytes_eq command (codes "stream") then Some (stream_line table)
-    else if bytes_eq command (codes "listbits") then Some (list_bits table)
+-- the form of a command with one path and no options
+abbrev pub path_form : List ℕ → List ℕ → Option Form
+path_form command path =
+    if bytes_eq command (codes "check") then Some (check_table path)
+    else if bytes_eq command (codes "stream") then Some (stream_line path)
+    else if bytes_eq command (codes "listbits") then Some (list_bits path)
+    else if bytes_eq command (codes "recover") then Some (recover_image path)
     else None
-plain_form (command ∷ table ∷ other ∷ rest) = None
 
--- the form that the words are of; none takes an option
-abbrev pub form_of : List (List ℕ) → Option Form
-form_of words = if list_all is_plain words then plain_form words else None
+-- the image to be made, where both numbers are within their bounds
+abbrev pub format_form : List ℕ → List ℕ → Option ℕ → Option ℕ → Option Form
+format_form table image None payload = None
+format_form table image (Some slots) None = None
+format_form table image (Some slots) (Some payload) = Some (format_image table image slots payload)
+
+-- the form of a command with two paths and the options of a ring: 4 to 65,536 slots, 64 to 4,096 bytes of payload
+abbrev pub ring_form : List ℕ → List ℕ → List ℕ → List ℕ → List ℕ → Option Form
+ring_form command table image slots payload =
+    if bytes_eq command (codes "format") then format_form table image (value_in 4 65536 slots) (value_in 64 4096 payload) else None
+
+-- the form that has these words and options, all of them and no others
+abbrev pub form_with : List (List ℕ) → Option (List ℕ) → Option (List ℕ) → Option Form
+form_with (command ∷ path ∷ []) None None = path_form command path
+form_with (command ∷ table ∷ image ∷ []) (Some slots) (Some payload) = ring_form command table image slots payload
+form_with words slots payload = None
+
+abbrev pub form_of_uses : Uses → Option Form
+form_of_uses u = form_with u.plain u.slots u.payload
+
+-- the form that the words are of: `check TABLE`, `stream TABLE`, `listbits TABLE`, `recover IMAGE` or
+-- `format TABLE IMAGE --slots N --payload P`, with the options anywhere
+unfoldable pub form_of : List (List ℕ) → Option Form
+form_of words = option_and_then form_of_uses (uses_of words)
 
 -- the path of the table
 abbrev pub table_path : Form → Option (List ℕ)
+table_path (check_table table) = Some table
 table_path (stream_line table) = Some table
 table_path (list_bits table) = Some table
+table_path (format_image table image slots payload) = Some table
+table_path (recover_image image) = None
 
 -- the path of the image
 abbrev pub image_path : Form → Option (List ℕ)
+image_path (check_table table) = None
 image_path (stream_line table) = None
 image_path (list_bits table) = None
+image_path (format_image table image slots payload) = Some image
+image_path (recover_image image) = Some image
 
 -- whether the command may write the image
 abbrev pub writes_image : Form → Bool
+writes_image (check_table table) = false
 writes_image (stream_line table) = false
 writes_image (list_bits table) = false
+writes_image (format_image table image slots payload) = true
+writes_image (recover_image image) = false
+
+-- the numbers that a form names are within their bounds
+abbrev pub IsInBounds : Form → Type 0
+IsInBounds (check_table table) = Unit {0}
+IsInBounds (stream_line table) = Unit {0}
+IsInBounds (list_bits table) = Unit {0}
+IsInBounds (format_image table image slots payload) = (4 ≤ slots) × (slots ≤ 65536) × (64 ≤ payload) × (payload ≤ 4096)
+IsInBounds (recover_image image) = Unit {0}

@@ -1,8 +1,11 @@
 -- The form that a request stands for.
-use Rattle.fdr_words.specs.Forms.{Form, stream_line, list_bits}
+use Rattle.fdr_words.specs.Forms.{Form, check_table, stream_line, list_bits, format_image, recover_image}
 use Rattle.fdr_words.specs.declared.Request.{Request}
 use Rattle.fdr_words.specs.declared.Request.TheVariants as request
 
 abbrev pub form_of_request : Request → Form
+form_of_request (request.CheckTable table) = check_table table
 form_of_request (request.StreamLine table) = stream_line table
 form_of_request (request.ListBits table) = list_bits table
+form_of_request (request.FormatImage table image slots payload) = format_image table image slots payload
+form_of_request (request.RecoverImage image) = recover_image image

@@ -1,23 +1,47 @@
 //! The words after the program's name, and the request that they make.
 #![tactic(auto)]
 
-ghost use Rattle.std.specs.Prelude.{◌≡◌, ◌↔◌, Err, Some, None, IfOk, map, string_bytes};
-ghost use Rattle.std.specs.List.{list_all};
+ghost use Rattle.std.specs.Prelude.{◌≡◌, ◌↔◌, ◌≤◌, Err, Some, None, IfOk, IfSome, map, string_bytes};
 ghost use Rattle.std.specs.Option.{option_map};
-ghost use Rattle.fdr_words.specs.Forms.{form_of, image_path, is_plain, table_path, writes_image};
+ghost use Rattle.fdr_words.specs.Forms.{form_of, path_form, image_path, table_path, writes_image, IsInBounds};
+ghost use Rattle.fdr_words.specs.Words.{value_in};
 ghost use Rattle.fdr_words.specs.Request.{form_of_request};
 ghost use Rattle.fdr_words.specs.declared.WordsFault.TheVariants as fault;
 
-use fdr_table::{NoMemory, PathText};
+use crate::uses::{PlainWords, uses_of};
+use fdr_table::{NoMemory, PathText, number_in};
 use std::alloc::Global;
+
+mod uses;
 
 /// What the program is asked to do.
 #[derive(Debug, Drop)]
 pub enum Request {
+    /// `check TABLE`: report on a parameter table.
+    CheckTable {
+        table: PathText,
+    },
     /// `stream TABLE`: sample a trace of bus words into a stream of frames.
-    StreamLine { table: PathText },
+    StreamLine {
+        table: PathText,
+    },
     /// `listbits TABLE`: list the frames of a line of bits.
-    ListBits { table: PathText },
+    ListBits {
+        table: PathText,
+    },
+    /// `format TABLE IMAGE --slots N --payload P`: make the image of a ring of blocks.
+    FormatImage {
+        table: PathText,
+        image: PathText,
+        /// How many blocks the ring has room for, 4 to 65,536.
+        slots: u32,
+        /// How many bytes a block has at most, 64 to 4,096.
+        payload: u32,
+    },
+    /// `recover IMAGE`: write the blocks of an image.
+    RecoverImage {
+        image: PathText,
+    },
 }
 
 /// Why the words make no request.
@@ -46,8 +70,11 @@ impl Request {
         ensures { option_map (λ path. path.now) result ≡ table_path (form_of_request self.now) }
     {
         match self {
+            Request::CheckTable { table } => Some(table.text()),
             Request::StreamLine { table } => Some(table.text()),
             Request::ListBits { table } => Some(table.text()),
+            Request::FormatImage { table, .. } => Some(table.text()),
+            Request::RecoverImage { .. } => None,
         }
     }
 
@@ -56,8 +83,11 @@ impl Request {
         ensures { option_map (λ path. path.now) result ≡ image_path (form_of_request self.now) }
     {
         match self {
+            Request::CheckTable { .. } => None,
             Request::StreamLine { .. } => None,
             Request::ListBits { .. } => None,
+            Request::FormatImage { image, .. } => Some(image.text()),
+            Request::RecoverImage { image } => Some(image.text()),
         }
     }
 
@@ -66,98 +96,82 @@ impl Request {
         ensures { result ≡ writes_image (form_of_request self.now) }
     {
         match self {
-            Request::StreamLine { .. } => false,
-            Request::ListBits { .. } => false,
+            Request::FormatImage { .. } => true,
+            Request::CheckTable { .. }
+            | Request::StreamLine { .. }
+            | Request::ListBits { .. }
+            | Request::RecoverImage { .. } => false,
         }
     }
 }
 
-/// Whether a word is neither empty nor an option word.
-fn is_plain(word: &str) -> bool
-    ensures { result ≡ is_plain word.now }
+/// A number of 1 to 10 digits within bounds.
+#[tactic(auto, unfolding(crate::specs::Words::value_in))]
+fn value_in(value: &[u8], low: u32, high: u32) -> Option<u32>
+    ensures exactly { result ≡ value_in low high value.now }
+    ensures within { IfSome result (λ n. (low ≤ n) × (n ≤ high)) }
 {
-    match word.as_bytes() {
-        [] => false,
-        [byte, ..] => *byte != b'-',
+    if 10 < value.len() {
+        return None;
     }
+    let number = number_in(value, u64::from(low), u64::from(high))?;
+    Some(number as u32)
 }
 
-/// Whether no word is empty or an option word.
-fn are_plain(words: &[String]) -> bool
-    ensures { result ≡ list_all (λ word. is_plain (string_bytes word)) words.now }
+/// What the words of a command with one path ask for.
+fn path_request(alloc: Global, command: &str, path: &str) -> Result<Request, WordsFault>
+    ensures usage { (result ≡ Err fault.Usage) ↔ (path_form command.now path.now ≡ None) }
+    ensures form { IfOk result (λ request. path_form command.now path.now ≡ Some (form_of_request request)) }
 {
-    words.iter().all(|word| is_plain(word.as_str()))
+    if command == "check" {
+        let table = PathText::new(alloc, path)?;
+        return Ok(Request::CheckTable { table });
+    }
+    if command == "stream" {
+        let table = PathText::new(alloc, path)?;
+        return Ok(Request::StreamLine { table });
+    }
+    if command == "listbits" {
+        let table = PathText::new(alloc, path)?;
+        return Ok(Request::ListBits { table });
+    }
+    if command != "recover" {
+        return Err(WordsFault::Usage);
+    }
+    let image = PathText::new(alloc, path)?;
+    Ok(Request::RecoverImage { image })
 }
 
 /// The request of the words after the program's name.
 ///
 /// Words that aren't those of a command are refused before any memory is taken.
-#[tactic(auto, using(crate::proofs::WordFacts::each_word))]
+#[tactic(auto, unfolding(crate::specs::Forms::form_of))]
 pub fn read_words(alloc: Global, words: &[String]) -> Result<Request, WordsFault>
     ensures usage { (result ≡ Err fault.Usage) ↔ (form_of (map string_bytes words.now) ≡ None) }
     ensures form { IfOk result (λ request. form_of (map string_bytes words.now) ≡ Some (form_of_request request)) }
+    ensures limits { IfOk result (λ request. IsInBounds (form_of_request request)) }
 {
-    if !are_plain(words) {
-        return Err(WordsFault::Usage);
-    }
-    let [command, table] = words else {
+    let Some(uses) = uses_of(words) else {
         return Err(WordsFault::Usage);
     };
-    if command.as_str() == "stream" {
-        let table = PathText::new(alloc, table.as_str())?;
-        return Ok(Request::StreamLine { table });
+    match (uses.plain, uses.slots, uses.payload) {
+        (PlainWords::Two(command, path), None, None) => path_request(alloc, command, path),
+        (PlainWords::Three(command, table, image), Some(slots), Some(payload)) => {
+            let slots = value_in(slots, 4, 65_536).ok_or(WordsFault::Usage)?;
+            let payload = value_in(payload, 64, 4_096).ok_or(WordsFault::Usage)?;
+            if command != "format" {
+                return Err(WordsFault::Usage);
+            }
+            Ok(Request::FormatImage {
+                table: PathText::new(alloc, table)?,
+                image: PathText::new(alloc, image)?,
+                slots,
+                payload,
+            })
+        }
+        _ => Err(WordsFault::Usage),
     }
-    if command.as_str() != "listbits" {
-        return Err(WordsFault::Usage);
-    }
-    let table = PathText::new(alloc, table.as_str())?;
-    Ok(Request::ListBits { table })
 }
 
 #[cfg(test)]
-mod tests {
-    use super::*;
-    use std::test::Fail;
-
-    #[test]
-    fn reads_the_words_of_each_form(rt: HostRuntime) -> Result<(), Fail> {
-        for (command, streams) in [("stream", true), ("listbits", false)] {
-            let words = [
-                command.to_string(rt.alloc())?,
-                "t1.csv".to_string(rt.alloc())?,
-            ];
-            let request = read_words(rt.alloc(), &words)?;
-            assert_eq!(rt; matches!(&request, Request::StreamLine { .. }), streams);
-            assert_eq!(rt; request.table(), Some("t1.csv"));
-            assert_eq!(rt; request.image(), None);
-            assert!(rt; !request.writes());
-        }
-        Ok(())
-    }
-
-    #[test]
-    fn refuses_other_words(rt: HostRuntime) -> Result<(), Fail> {
-        let cases: [&[&str]; 9] = [
-            &[],
-            &["listbits"],
-            &["listbits", "t1.csv", "more"],
-            &["listbits", ""],
-            &["listbits", "-"],
-            &["--help", "t1.csv"],
-            &["list", "t1.csv"],
-            &["stream"],
-            &["streams", "t1.csv"],
-        ];
-        for case in cases {
-            let mut words = Vec::new(rt.alloc());
-            for word in case {
-                words.push(word.to_string(rt.alloc())?)?;
-            }
-            assert_eq!(rt;
-                read_words(rt.alloc(), words.as_slice()).err(),
-                Some(WordsFault::Usage)
-            );
-        }
-        Ok(())
-    }
-}
+mod tests;

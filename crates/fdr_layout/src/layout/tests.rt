@@ -7,7 +7,8 @@ ghost use Rattle.fdr_table.specs.Ranges.{periods};
 use super::*;
 use crate::parts::Part;
 use crate::slots::SlotPart;
-use fdr_table::Name;
+use fdr_check::check;
+use fdr_table::{Name, Table};
 use std::test::Fail;
 
 fn param(name: &[u8], lsb: u8, width: u8, rate: u32, row: u32) -> Option<Param>
@@ -125,7 +126,8 @@ fn a_sample_of_one_part_ends_in_each_cycle(rt: HostRuntime) -> Result<(), Fail> 
     let alloc = rt.alloc();
     let text = b"F,64,2,1\nP,ALT,0,203,,11,12,U,1,1,0,0,16\nL,ALT,1,1,10,0,1,12,0,1\n";
     let table = Table::read(alloc, text).ok().ok_or("table")?;
-    let layout = Layout::make(alloc, &table).ok().ok_or("memory")?;
+    let sound = check(alloc, table).ok().ok_or("sound")?;
+    let layout = Layout::make(alloc, &sound).ok().ok_or("memory")?;
     for cycle in 0..16u8 {
         let samples = layout.ending_in(cycle);
         assert_eq!(rt; samples.len(), 1);

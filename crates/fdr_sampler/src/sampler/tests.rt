@@ -9,7 +9,8 @@ ghost use Rattle.fdr_sampler.specs.Past.{made, Stands};
 
 use super::*;
 use fdr_bus::RecordKind;
-use fdr_table::{Name, Place};
+use fdr_check::check;
+use fdr_table::{Name, Place, Table};
 use std::test::Fail;
 
 const COUNTER_SECOND: &[u8] =
@@ -21,7 +22,11 @@ fn sampler_of(alloc: Global, table: &[u8]) -> Result<Sampler, Fail>
     ensures { IfOk result (λ s. (t : TableRows) × Stands s (made t)) }
 {
     let table = Table::read(alloc, table).ok().ok_or("table")?;
-    let Ok(sampler) = Sampler::new(alloc, &table) else {
+    let sound = check(alloc, table).ok().ok_or("sound")?;
+    let Ok(layout) = Layout::make(alloc, &sound) else {
+        return Err("memory")?;
+    };
+    let Ok(sampler) = Sampler::new(alloc, layout, &sound) else {
         return Err("memory")?;
     };
     Ok(sampler)

@@ -5,6 +5,8 @@ ghost use Rattle.fdr_table.specs.Rows.{TableRows};
 ghost use Rattle.fdr_stream.specs.Past.{Past, made, with_record, MayFeed, Stands};
 
 use super::*;
+use fdr_check::check;
+use fdr_table::Table;
 use std::test::Fail;
 
 const TABLE: &[u8] = b"F,64,2,1\nP,ALT,0,203,,11,12,U,1,1,0,0,16\nL,ALT,1,1,10,0,1,12,0,1\n";
@@ -18,7 +20,8 @@ fn stream_by(alloc: Global, table: &[u8]) -> Result<Stream, Fail>
     ensures { IfOk result (λ s. (t : TableRows) × Stands s (made t 64)) }
 {
     let table = Table::read(alloc, table).ok().ok_or("table")?;
-    let Ok(stream) = Stream::new(alloc, &table, 64) else {
+    let sound = check(alloc, table).ok().ok_or("sound")?;
+    let Ok(stream) = Stream::new(alloc, &sound, 64) else {
         return Err("memory")?;
     };
     Ok(stream)

@@ -1,8 +1,6 @@
-use Rattle.std.proofs.Common.{◌≡◌}
-use Rattle.std.specs.List.{filter, flat_map, range_with_len}
-use Rattle.fdr_layout.specs.Samples.{is_part, occurrences_at}
+use Rattle.std.proofs.Common.{◌≡◌, ◌*◌}
+use Rattle.fdr_layout.specs.Narrowed.{occurrences_from}
 use Rattle.fdr_layout.proofs.occurrences.part_occurrences.Given as goal
 
-abbrev pub invariant-loop-bit : goal.invariant-loop-bit
-invariant-loop-bit l =
-    l.found.items ≡ flat_map (occurrences_at l.words (filter (is_part l.param l.part) l.places)) (range_with_len 0 l.bit)
+abbrev pub invariant-loop-subframe : goal.invariant-loop-subframe
+invariant-loop-subframe l = l.found.items ≡ occurrences_from l.words l.chosen.items 0 (12 * (l.subframe * l.words))

@@ -1,6 +1,7 @@
 use Rattle.std.proofs.Common.{◌≡◌, ℕ, ◌-◌, List, [], ◌∷◌, ◌++◌, map, ap, ◌∙◌, arith}
 use Rattle.std.specs.List.{range_with_len}
-use Rattle.fdr_layout.specs.Samples.{Occurrence, Carrier, carrier_of}
+use Rattle.fdr_check.specs.Occurrences.{Occurrence}
+use Rattle.fdr_layout.specs.Samples.{Carrier, carrier_of}
 use Rattle.fdr_layout.proofs.Lists.{map_step}
 use Rattle.fdr_layout.proofs.samples.carriers.Goals as goal
 

@@ -1,6 +1,6 @@
 use Rattle.std.proofs.Common.{◌≡◌, take, None}
 use Rattle.std.specs.List.{find}
-use Rattle.fdr_layout.specs.Samples.{is_part}
+use Rattle.fdr_check.specs.Occurrences.{is_part}
 use Rattle.fdr_layout.proofs.samples.part_width.Given as goal
 
 abbrev pub invariant-loop-place : goal.invariant-loop-place

@@ -1,6 +1,6 @@
 use Rattle.std.proofs.Common.{◌≡◌, ◌≤◌, ◌-◌, ◌*◌}
 use Rattle.std.specs.List.{range_with_len, sum_by}
-use Rattle.fdr_layout.specs.Samples.{part_width}
+use Rattle.fdr_check.specs.Occurrences.{part_width}
 use Rattle.fdr_layout.proofs.samples.shift_of.Given as goal
 
 abbrev pub invariant-loop-lower : goal.invariant-loop-lower

@@ -4,4 +4,4 @@ use Rattle.fdr_layout.specs.SlotParts.{parts_at}
 use Rattle.fdr_layout.proofs.slots.parts_of_slot.Given as goal
 
 abbrev pub invariant-loop-bit : goal.invariant-loop-bit
-invariant-loop-bit l = l.found.items ≡ flat_map (parts_at l.standing.items) (range_with_len (12 * l.slot) (l.bit - 12 * l.slot))
+invariant-loop-bit l = l.found.items ≡ flat_map (parts_at l.parts) (range_with_len (12 * l.slot) (l.bit - 12 * l.slot))

@@ -8,3 +8,11 @@ returns-clause-listing c = λ path is accepted few.
 pub returns-clause-stream : goal.returns-clause-stream
 returns-clause-stream c = λ path is accepted ended.
     c.run.ensures.complete_stream path c.args.table.now is refl accepted refl ended (λ rose. omega (arith, rose)) (λ rose. omega (arith, rose)) (λ rose. omega (arith, rose))
+
+pub returns-clause-report : goal.returns-clause-report
+returns-clause-report c = λ path is accepted.
+    c.run.ensures.complete_check path c.args.table.now is refl accepted (λ rose. omega (arith, rose)) (λ rose. omega (arith, rose))
+
+pub returns-clause-recovery : goal.returns-clause-recovery
+returns-clause-recovery c = λ path is good.
+    c.run.ensures.complete_recover path is refl good (λ rose. omega (arith, rose)) (λ rose. omega (arith, rose))

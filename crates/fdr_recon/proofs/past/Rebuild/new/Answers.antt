@@ -1,27 +1,29 @@
-use Rattle.std.proofs.Common.{◌≡◌, ℕ, ◌<◌, List, [], length, sym, ap, subst}
+use Rattle.std.proofs.Common.{◌≡◌, List, [], sym, ap, ◌∙◌, subst}
 use Rattle.std.specs.List.{All}
 use Rattle.std.proofs.lemmas.Result.{IfOk-weaker}
-use Rattle.fdr_table.specs.Rows.{ParamRow}
+use Rattle.fdr_table.specs.Rows.{ParamRow, TableRows}
 use Rattle.fdr_layout.specs.Samples.{Sample}
 use Rattle.fdr_layout.specs.SlotParts.{Laid}
-use Rattle.fdr_recon.specs.Kept.{Kept}
+use Rattle.fdr_recon.specs.Kept.{Kept, IsSampleOf}
 use Rattle.fdr_recon.specs.Past.{Stands}
-use Rattle.fdr_recon.proofs.StandingSteps.{layout-params, Stands-none}
+use Rattle.fdr_recon.proofs.StandingSteps.{layout-samples, Stands-none}
 use Rattle.fdr_recon.proofs.past.Rebuild.new.Goals as goal
 
 pub with_layout-requires : goal.with_layout-requires
 with_layout-requires c =
-    let HasParams : ℕ → List (List Sample) → Type 0 = λ n layout. All (λ (samples : List Sample). All (λ (s : Sample). s.param < n) samples) layout in
-    let count : length c.args.table.now.params ≡ length c.params.result.now = ap (λ (ps : List ParamRow). length ps) (sym c.params.ensures) in
-    let cycles = ap (λ (l : Laid). l.cycles) c.in_ok-layout.ensures in
-    subst (λ n. HasParams n c.in_ok-layout.layout.cycles) count
-    (subst (HasParams (length c.args.table.now.params)) (sym cycles) (layout-params c.args.table.now))
+    let t = c.args.sound.now in
+    let AreSamplesOf : List ParamRow → List (List Sample) → Type 0 = λ params layout. All (λ (samples : List Sample). All (IsSampleOf params) samples) layout in
+    let params : c.params.result.now ≡ t.params = c.params.ensures ∙ ap (λ (t : TableRows). t.params) c.table-table.ensures in
+    let cycles = ap (λ (l : Laid). l.cycles) c.requires in
+    subst (λ ps. AreSamplesOf ps c.args.layout.cycles) (sym params)
+    (subst (AreSamplesOf t.params) (sym cycles) (layout-samples t c.holds.ensures.in_range c.holds.ensures.sound))
 
 pub returns : goal.returns
 returns c =
+    let t = c.args.sound.now in
+    let frame : c.frame.result ≡ t.frame = c.frame.ensures ∙ ap (λ (t : TableRows). t.frame) c.table-table.ensures in
+    let params : c.params.result.now ≡ t.params = c.params.ensures ∙ ap (λ (t : TableRows). t.params) c.table-table.ensures in
     IfOk-weaker c.with_layout.result _ _ (λ (k : Kept) is.
-    let P : Kept → Type 0 = λ k. Stands k c.args.table.now [] in
-    subst P (sym is)
-    (Stands-none c.args.table.now c.frame.result (length c.params.result.now) c.in_ok-layout.layout.cycles c.frame.ensures
-    (ap (λ (ps : List ParamRow). length ps) c.params.ensures) c.requires (ap (λ (l : Laid). l.cycles) c.in_ok-layout.ensures)))
+    let P : Kept → Type 0 = λ k. Stands k t [] in
+    subst P (sym is) (Stands-none t c.frame.result c.params.result.now c.args.layout.cycles frame params (ap (λ (l : Laid). l.cycles) c.requires)))
     c.with_layout.ensures

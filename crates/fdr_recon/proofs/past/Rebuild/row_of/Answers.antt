@@ -1,8 +1,7 @@
-use Rattle.std.proofs.Common.{◌≡◌, List, ◌<◌, ◌≤◌, sym, ◌∙◌, ap, arith}
+use Rattle.std.proofs.Common.{◌≡◌, ◌<◌, ◌≤◌, sym, ◌∙◌, ap, arith}
 use Rattle.std.specs.Int.{w64}
-use Rattle.std.proofs.lemmas.Int.{to_z_pos}
-use Rattle.fdr_layout.specs.Samples.{Part}
-use Rattle.fdr_recon.specs.Kept.{Kept, kept_raw, kept_cycle}
+use Rattle.std.proofs.lemmas.Int.{to_z-of_z}
+use Rattle.fdr_recon.specs.Kept.{Kept}
 use Rattle.fdr_recon.proofs.KeptRows.{kept_row-none, kept_row-some, reach_is}
 use Rattle.fdr_recon.proofs.past.Rebuild.row_of.Goals as goal
 
@@ -22,8 +21,5 @@ returns-clause-row c =
     let near : c.saturating_sub-reach.result ≤ c.args.self.now.joined = omega arith in
     let d = reach_is c.args.sample.now.parts c.frame_words-words.result c.args.self.now.frame.words c.last.result c.first.result c.saturating_sub-reach.result
     words c.last.ensures c.first.ensures c.saturating_sub-reach.ensures in
-    let raw : c.raw.result ≡ kept_raw c.args.self.now (kept_cycle c.args.self.now) c.args.sample.now.parts =
-    c.raw.ensures.raw ∙ ap (λ n. kept_raw c.args.self.now n c.parts.result.now) c.cycle.ensures.cycle
-    ∙ ap (λ (ps : List Part). kept_raw c.args.self.now (kept_cycle c.args.self.now) ps) c.parts.ensures.parts in
-    sym (kept_row-some c.args.self.now c.args.sample.now c.frame_words-words.result c.first-slot.result c.saturating_sub-reach.result c.counter.result c.param.result c.raw.result _
-    words c.first-slot.ensures d near c.counter.ensures.counter c.param.ensures raw (to_z_pos w64 c.raw.result (omega (arith, c.raw.ensures.small))))
+    sym (kept_row-some c.args.self.now c.args.sample.now c.frame_words-words.result c.first-slot.result c.saturating_sub-reach.result c.counter.result c.param.result _
+    words c.first-slot.ensures d near c.counter.ensures.counter c.param.ensures (to_z-of_z w64 c.value.result (record { sfits = c.value.type_inv }) ∙ c.value.ensures))

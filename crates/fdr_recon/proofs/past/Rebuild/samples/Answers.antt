@@ -1,8 +1,8 @@
-use Rattle.std.proofs.Common.{◌≡◌, ◌<◌, List, [], sym, ◌∙◌, ap, subst}
+use Rattle.std.proofs.Common.{◌≡◌, List, [], sym, ◌∙◌, ap, subst}
 use Rattle.std.specs.List.{All}
 use Rattle.std.proofs.lemmas.Option.{get_or_from_slice_get, slice_get_within}
 use Rattle.fdr_layout.specs.Samples.{Sample}
-use Rattle.fdr_recon.specs.Kept.{Kept, kept_samples, kept_cycle}
+use Rattle.fdr_recon.specs.Kept.{Kept, kept_samples, kept_cycle, IsSampleOf}
 use Rattle.fdr_recon.specs.View.{kept_of}
 use Rattle.fdr_recon.proofs.KeptRows.{kept_samples-empty, kept_samples-cycle}
 use Rattle.fdr_recon.proofs.past.Rebuild.samples.Goals as goal
@@ -21,8 +21,8 @@ returns-else-is_empty-clause-samples c =
 
 pub returns-else-is_empty-clause-params : goal.returns-else-is_empty-clause-params
 returns-else-is_empty-clause-params c =
-    let P : Kept → Type 0 = λ k. All (λ (s : Sample). s.param < k.params) c.ending_in.result.now in
-    let Q : List Sample → Type 0 = λ samples. All (λ (s : Sample). s.param < c.self.inside.params) samples in
+    let P : Kept → Type 0 = λ k. All (IsSampleOf k.params) c.ending_in.result.now in
+    let Q : List Sample → Type 0 = λ samples. All (IsSampleOf c.self.inside.params.items) samples in
     subst P c.self.view_is
     (subst Q (get_or_from_slice_get c.self.inside.layout.cycles c.cycle.result c.ending_in.result.now [] c.ending_in.ensures.samples)
     (c.self.invariant.params c.cycle.result [] (slice_get_within c.self.inside.layout.cycles c.cycle.result c.ending_in.result.now c.ending_in.ensures.samples)))

@@ -1,5 +1,5 @@
 use Rattle.std.proofs.Common.{◌≡◌, ◌∙◌, length, refl, sym, ap, subst, arith}
-use Rattle.std.specs.Prelude.{slice_get, slice_index}
+use Rattle.std.specs.Prelude.{slice_index}
 use Rattle.std.proofs.lemmas.List.{with_items_is}
 use Rattle.fdr_sampler.specs.Kept.{Kept, held_after}
 use Rattle.fdr_sampler.specs.View.{kept_of}
@@ -15,6 +15,6 @@ returns c = λ past st may.
     let len : length c.hold.new.held ≡ inside.held.len = omega (arith, c.hold.auto.held, c.deref_mut.ensures.len) in
     let items = with_items_is inside.held c.hold.new.held len in
     Stands-record (kept_of inside) _ past r stood may
-    (λ n s got. ap (λ xs. slice_index xs n) items ∙ c.hold.ensures n s (ap (λ xs. slice_get xs n) c.deref.ensures.value ∙ got)
+    (λ n s got. ap (λ xs. slice_index xs n) items ∙ c.hold.ensures n s got
     ∙ ap (λ xs. held_after s r (slice_index xs n)) c.deref_mut.ensures.value)
     refl refl refl refl refl

@@ -1,10 +1,11 @@
-use Rattle.std.proofs.Common.{◌*◌, ◌<◌, ◌∙◌, List, length, sym, ap, subst}
+use Rattle.std.proofs.Common.{◌≡◌, ◌*◌, ◌<◌, ◌∙◌, List, length, sym, ap, subst}
 use Rattle.std.specs.List.{All}
 use Rattle.std.proofs.lemmas.List.FromFn.{length-map-range_with_len}
+use Rattle.std.specs.Result.{IfOk}
 use Rattle.std.proofs.lemmas.Result.{IfOk-weaker}
-use Rattle.fdr_table.specs.Rows.{FrameRow, ParamRow}
+use Rattle.fdr_table.specs.Rows.{FrameRow, ParamRow, TableRows}
 use Rattle.fdr_layout.specs.Samples.{Sample, samples}
-use Rattle.fdr_layout.specs.SlotParts.{Laid, parts_in}
+use Rattle.fdr_layout.specs.SlotParts.{Laid, laid_of, parts_in}
 use Rattle.fdr_layout.proofs.Endings.{samples_params}
 use Rattle.fdr_sampler.specs.Kept.{Kept}
 use Rattle.fdr_sampler.specs.Past.{Stands, made}
@@ -13,21 +14,25 @@ use Rattle.fdr_sampler.proofs.sampler.Sampler.new.Goals as goal
 
 pub with_layout-requires-clause-slots : goal.with_layout-requires-clause-slots
 with_layout-requires-clause-slots c =
-    let t = c.args.table.now in
-    ap (λ (l : Laid). length l.slots) c.in_ok-layout.ensures ∙ length-map-range_with_len (parts_in t) 0 (64 * t.frame.words)
+    let t = c.table-table.result.now in
+    let laid : c.args.layout ≡ laid_of t = c.requires ∙ ap laid_of (sym c.table-table.ensures) in
+    ap (λ (l : Laid). length l.slots) laid ∙ length-map-range_with_len (parts_in t) 0 (64 * t.frame.words)
     ∙ ap (λ (f : FrameRow). 64 * f.words) (sym c.frame.ensures)
 
 pub with_layout-requires-clause-params : goal.with_layout-requires-clause-params
 with_layout-requires-clause-params c =
-    let t = c.args.table.now in
+    let t = c.table-table.result.now in
+    let laid : c.args.layout ≡ laid_of t = c.requires ∙ ap laid_of (sym c.table-table.ensures) in
     let P : List Sample → List ParamRow → Type 0 = λ ss ps. All (λ (s : Sample). s.param < length ps) ss in
-    subst (λ (l : Laid). P l.samples c.params.result.now) (sym c.in_ok-layout.ensures)
+    subst (λ (l : Laid). P l.samples c.params.result.now) (sym laid)
     (subst (P (samples t)) (sym c.params.ensures) (samples_params t))
 
 pub returns : goal.returns
 returns c =
-    let t = c.args.table.now in
-    IfOk-weaker c.with_layout.result _ _ (λ (k : Kept) is.
+    let t = c.table-table.result.now in
+    let laid : c.args.layout ≡ laid_of t = c.requires ∙ ap laid_of (sym c.table-table.ensures) in
+    subst (λ (x : TableRows). IfOk c.with_layout.result (λ s. Stands s (made x))) c.table-table.ensures
+    (IfOk-weaker c.with_layout.result _ _ (λ (k : Kept) is.
     subst (λ (x : Kept). Stands x (made t)) (sym is)
-    (Stands-made_of t c.frame.result c.params.result.now c.in_ok-layout.layout c.frame.ensures c.params.ensures c.in_ok-layout.ensures))
-    c.with_layout.ensures
+    (Stands-made_of t c.frame.result c.params.result.now c.args.layout c.frame.ensures c.params.ensures laid))
+    c.with_layout.ensures)

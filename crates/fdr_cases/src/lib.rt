@@ -1,0 +1,67 @@
+//! A command over objects in memory: what it answers and writes. For the tests of worked cases.
+#![tactic(auto)]
+
+use fdr_deck::MemDeck;
+use fdr_io::{MemSink, MemSource};
+use fdr_top::{Outcome, run};
+use std::alloc::{AllocError, Global};
+
+/// What a command answered and wrote.
+#[derive(Drop)]
+pub struct Ran {
+    pub outcome: Outcome,
+    pub written: Vec<u8>,
+}
+
+/// The words of a command line.
+pub fn words_of(alloc: Global, texts: &[&str]) -> Result<Vec<String>, AllocError> {
+    let mut words = Vec::new(alloc);
+    for text in texts {
+        words.push(text.to_string(alloc)?)?;
+    }
+    Ok(words)
+}
+
+/// A deck with this image and this line, whose listed calls fail.
+pub fn deck_of(
+    alloc: Global,
+    image: &[u8],
+    line: &[u8],
+    failing: &[u64],
+) -> Result<MemDeck, AllocError> {
+    Ok(MemDeck::new(
+        alloc,
+        image.to_vec(alloc)?,
+        line.to_vec(alloc)?,
+        failing.to_vec(alloc)?,
+    ))
+}
+
+/// What a command answers. Without clauses of its own, so that tests are proved without those of `run`.
+pub fn answer(
+    alloc: Global,
+    words: &[String],
+    table: &mut MemSource,
+    deck: &mut MemDeck,
+    out: &mut MemSink,
+) -> Outcome {
+    run(alloc, words, table, deck, out)
+}
+
+/// Runs a command by the text of a table, where no read of the table fails and the listed writes do.
+pub fn run_words(
+    alloc: Global,
+    words: &[&str],
+    table: &str,
+    deck: &mut MemDeck,
+    writes: &[u64],
+) -> Result<Ran, AllocError> {
+    let words = words_of(alloc, words)?;
+    let mut table = MemSource::new(table.as_bytes().to_vec(alloc)?, Vec::new(alloc));
+    let mut out = MemSink::new(alloc, writes.to_vec(alloc)?);
+    let outcome = answer(alloc, &words, &mut table, deck, &mut out);
+    Ok(Ran {
+        outcome,
+        written: out.bytes().to_vec(alloc)?,
+    })
+}

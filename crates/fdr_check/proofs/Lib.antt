@@ -1,0 +1,15 @@
+pub mod Walking
+pub mod Ranges
+pub mod Starting
+pub mod Marking
+pub mod Searches
+pub mod Overlapping
+pub mod Counting
+pub mod Meeting
+pub mod Rating
+pub mod Grouping
+pub mod Enumerating
+pub mod Sounding
+pub mod Laws
+pub mod Slotting
+pub mod Lines

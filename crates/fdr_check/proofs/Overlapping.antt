@@ -1,0 +1,153 @@
+-- Overlaps, place by place.
+use Rattle.std.proofs.Common.{◌≡◌, ℕ, ◌+◌, ◌*◌, ◌<◌, ◌≤◌, Bool, true, false, ◌||◌, ◌&&◌, List, [], ◌∷◌, ◌++◌, Option, Some, None, option_map, length, get_or, take, map, cond, is_some, refl, subst, ap, sym, ◌∙◌, zero, suc, arith}
+use Rattle.std.specs.List.{find, list_any, range_with_len, All}
+use Rattle.std.proofs.lemmas.List.{append_assoc, append-nil, take_more}
+use Rattle.std.proofs.lemmas.List.Folds.{list_any-append}
+use Rattle.std.proofs.lemmas.List.Elements.{All-head, All-tail}
+use Rattle.std.proofs.lemmas.Bool.{false_from_ne_true, and_parts, and_from, or_left, or_right, both_ways}
+use Rattle.fdr_table.specs.Rows.{PlaceRow}
+use Rattle.fdr_table.specs.declared.fault.TableFault.{TableFault}
+use Rattle.fdr_check.specs.Occurrences.{frame_bits}
+use Rattle.fdr_check.specs.Soundness.{covers}
+use Rattle.fdr_check.specs.Faults.{overlap_at, first_shared, overlap_with, overlap_among}
+use Rattle.fdr_check.specs.Walks.{is_marked, AreMarks}
+use Rattle.fdr_check.proofs.Searches.{first_some_none, first_some_some, first_some_parts, first_some_more, first_some_here}
+use Rattle.fdr_check.proofs.Ranges.{fails_from_find, find_no}
+
+find_same : (t u : ℕ → Bool) (a n : ℕ) → ((x : ℕ) → a ≤ x → x < a + n → t x ≡ u x) → find t (range_with_len a n) ≡ find u (range_with_len a n)
+find_same t u a zero same = refl
+find_same t u a (suc n) same =
+    ap (λ b. cond b (Some a) (find t (range_with_len (a + 1) n))) (same a (omega arith) (omega arith))
+    ∙ ap (cond (u a) (Some a)) (find_same t u (a + 1) n (λ x low high. same x (omega arith) (omega arith)))
+
+whole_superframe : (w : ℕ) → 16 * frame_bits w ≡ 768 * w
+whole_superframe w = omega arith
+
+or_none : (b : Bool) → (b || false) ≡ b
+or_none true = refl
+or_none false = refl
+
+-- a place's own marks tell which bits another shares with it
+pub shared_by_marks : (w : ℕ) (p q : PlaceRow) (marks : List Bool) → AreMarks w (q ∷ []) marks → find (λ b. covers w p b && is_marked marks b) (range_with_len 0 (768 * w)) ≡ first_shared w p q
+unfolding first_shared
+shared_by_marks w p q marks are =
+    find_same (λ b. covers w p b && is_marked marks b) (λ b. covers w p b && covers w q b) 0 (768 * w)
+    (λ b low high. ap (λ m. covers w p b && m) (are.each b (omega arith) ∙ or_none (covers w q b)))
+    ∙ ap (λ n. find (λ b. covers w p b && covers w q b) (range_with_len 0 n)) (sym (whole_superframe w))
+
+pub marks_push : (w : ℕ) (places : List PlaceRow) (p : PlaceRow) (old new : List Bool) → AreMarks w places old → length new ≡ length old → ((b : ℕ) → b < 768 * w → is_marked new b ≡ (is_marked old b || covers w p b)) → AreMarks w (places ++ p ∷ []) new
+marks_push w places p old new are len more = record {
+  length = len ∙ are.length;
+  each = λ b l. more b l ∙ ap (λ m. m || covers w p b) (are.each b l)
+      ∙ ap (λ m. list_any (λ (x : PlaceRow). covers w x b) places || m) (sym (or_none (covers w p b)))
+      ∙ sym (list_any-append (λ (x : PlaceRow). covers w x b) places (p ∷ []));
+}
+
+pub overlap_with_more : (w : ℕ) (above : List PlaceRow) (q : PlaceRow) (i : ℕ) (d : PlaceRow) → i < length above → overlap_with w (take i above) q ≡ None → first_shared w (get_or above i d) q ≡ None → overlap_with w (take (i + 1) above) q ≡ None
+unfolding overlap_with
+overlap_with_more w above q i d l none e =
+    let f : PlaceRow → Option (ℕ × TableFault) = λ p. option_map (λ b. (q.row, overlap_at w p q b)) (first_shared w p q) in
+    let p = get_or above i d in
+    first_some_more f above i d l none (ap (option_map (λ b. (q.row, overlap_at w p q b))) e)
+
+pub overlap_with_here : (w : ℕ) (above : List PlaceRow) (q : PlaceRow) (i : ℕ) (d : PlaceRow) (b : ℕ) → i < length above → overlap_with w (take i above) q ≡ None → first_shared w (get_or above i d) q ≡ Some b → overlap_with w above q ≡ Some (q.row, overlap_at w (get_or above i d) q b)
+unfolding overlap_with
+overlap_with_here w above q i d b l none e =
+    let f : PlaceRow → Option (ℕ × TableFault) = λ p. option_map (λ b. (q.row, overlap_at w p q b)) (first_shared w p q) in
+    let p = get_or above i d in
+    first_some_here f above i d (q.row, overlap_at w p q b) l none (ap (option_map (λ b. (q.row, overlap_at w p q b))) e)
+
+pub overlap_with_no_place : (w : ℕ) (q : PlaceRow) → overlap_with w [] q ≡ None
+unfolding overlap_with
+overlap_with_no_place w q = refl
+
+overlap_with_cons : (w : ℕ) (p : PlaceRow) (above : List PlaceRow) (q : PlaceRow) → first_shared w p q ≡ None → overlap_with w above q ≡ None → overlap_with w (p ∷ above) q ≡ None
+unfolding overlap_with
+overlap_with_cons w p above q e none =
+    let f : PlaceRow → Option (ℕ × TableFault) = λ p. option_map (λ b. (q.row, overlap_at w p q b)) (first_shared w p q) in
+    first_some_none (f p) (map f above) (ap (option_map (λ b. (q.row, overlap_at w p q b))) e) ∙ none
+
+pub no_overlap_with : (w : ℕ) (above : List PlaceRow) (q : PlaceRow) → All (λ (p : PlaceRow). first_shared w p q ≡ None) above → overlap_with w above q ≡ None
+no_overlap_with w [] q all = overlap_with_no_place w q
+no_overlap_with w (p ∷ above) q all =
+    let P : PlaceRow → Type 0 = λ p. first_shared w p q ≡ None in
+    overlap_with_cons w p above q (All-head P p above all) (no_overlap_with w above q (All-tail P p above all))
+
+first_unshared : (w : ℕ) (p : PlaceRow) (above : List PlaceRow) (q : PlaceRow) → ((b : ℕ) → b < 768 * w → (covers w q b && (covers w p b || list_any (λ (x : PlaceRow). covers w x b) above)) ≡ false) → first_shared w p q ≡ None
+unfolding first_shared
+first_unshared w p above q h =
+    find_no (λ b. covers w p b && covers w q b) 0 (16 * frame_bits w) (λ b low high. false_from_ne_true (covers w p b && covers w q b) (λ both.
+    let parts = and_parts (covers w p b) (covers w q b) both in
+    both_ways (covers w q b && (covers w p b || list_any (λ (x : PlaceRow). covers w x b) above)) (h b (omega (arith, whole_superframe w)))
+    (and_from (covers w q b) (covers w p b || list_any (λ (x : PlaceRow). covers w x b) above) parts.1 (or_left (covers w p b) (list_any (λ (x : PlaceRow). covers w x b) above) parts.0))))
+
+unshared : (w : ℕ) (above : List PlaceRow) (q : PlaceRow) → ((b : ℕ) → b < 768 * w → (covers w q b && list_any (λ (p : PlaceRow). covers w p b) above) ≡ false) → overlap_with w above q ≡ None
+unshared w [] q h = overlap_with_no_place w q
+unshared w (p ∷ above) q h = overlap_with_cons w p above q (first_unshared w p above q h)
+    (unshared w above q (λ b l. false_from_ne_true (covers w q b && list_any (λ (p : PlaceRow). covers w p b) above) (λ yes.
+    let parts = and_parts (covers w q b) (list_any (λ (p : PlaceRow). covers w p b) above) yes in
+    both_ways (covers w q b && (covers w p b || list_any (λ (p : PlaceRow). covers w p b) above)) (h b l)
+    (and_from (covers w q b) (covers w p b || list_any (λ (p : PlaceRow). covers w p b) above) parts.0 (or_right (covers w p b) (list_any (λ (p : PlaceRow). covers w p b) above) parts.1)))))
+
+-- unmarked bits are shared with no place above
+pub none_by_marks : (w : ℕ) (above : List PlaceRow) (q : PlaceRow) (marks : List Bool) → ((b : ℕ) → b < 768 * w → is_marked marks b ≡ list_any (λ (p : PlaceRow). covers w p b) above) → find (λ b. covers w q b && is_marked marks b) (range_with_len 0 (768 * w)) ≡ None → overlap_with w above q ≡ None
+none_by_marks w above q marks each none =
+    unshared w above q (λ b l. false_from_ne_true (covers w q b && list_any (λ (p : PlaceRow). covers w p b) above) (λ h.
+    both_ways (covers w q b && is_marked marks b) (fails_from_find (λ b. covers w q b && is_marked marks b) 0 (768 * w) b none (omega arith) (omega arith))
+    (ap (λ m. covers w q b && m) (each b l) ∙ h)))
+
+pub overlap_among_more : (w : ℕ) (above xs : List PlaceRow) (q : PlaceRow) → overlap_among w above xs ≡ None → overlap_with w (above ++ xs) q ≡ None → overlap_among w above (xs ++ q ∷ []) ≡ None
+unfolding overlap_among
+overlap_among_more w above [] q none e =
+    first_some_none (overlap_with w above q) (None ∷ []) (ap (λ xs. overlap_with w xs q) (sym (append-nil above)) ∙ e)
+overlap_among_more w above (x ∷ xs) q none e =
+    let h = first_some_parts (overlap_with w above x) (overlap_among w (above ++ x ∷ []) xs ∷ []) none in
+    let rest = first_some_parts (overlap_among w (above ++ x ∷ []) xs) [] h.1 in
+    let later = overlap_among_more w (above ++ x ∷ []) xs q rest.0 (ap (λ ys. overlap_with w ys q) (append_assoc above (x ∷ []) xs) ∙ e) in
+    first_some_none (overlap_with w above x) (overlap_among w (above ++ x ∷ []) (xs ++ q ∷ []) ∷ []) h.0
+    ∙ first_some_none (overlap_among w (above ++ x ∷ []) (xs ++ q ∷ [])) [] later
+
+pub overlap_among_here : (w : ℕ) (above xs : List PlaceRow) (i : ℕ) (d : PlaceRow) (f : ℕ × TableFault) → i < length xs → overlap_among w above (take i xs) ≡ None → overlap_with w (above ++ take i xs) (get_or xs i d) ≡ Some f → overlap_among w above xs ≡ Some f
+unfolding overlap_among
+overlap_among_here w above [] i d f l none e = absurd (omega arith)
+overlap_among_here w above (x ∷ xs) zero d f l none e =
+    first_some_some (overlap_with w above x) f (overlap_among w (above ++ x ∷ []) xs ∷ []) (ap (λ ys. overlap_with w ys x) (sym (append-nil above)) ∙ e)
+overlap_among_here w above (x ∷ xs) (suc i) d f l none e =
+    let h = first_some_parts (overlap_with w above x) (overlap_among w (above ++ x ∷ []) (take i xs) ∷ []) none in
+    let rest = first_some_parts (overlap_among w (above ++ x ∷ []) (take i xs)) [] h.1 in
+    let later = overlap_among_here w (above ++ x ∷ []) xs i d f (omega arith) rest.0 (ap (λ ys. overlap_with w ys (get_or xs i d)) (append_assoc above (x ∷ []) (take i xs)) ∙ e) in
+    first_some_none (overlap_with w above x) (overlap_among w (above ++ x ∷ []) xs ∷ []) h.0
+    ∙ first_some_some (overlap_among w (above ++ x ∷ []) xs) f [] later
+
+pub overlap_found : (w : ℕ) (above : List PlaceRow) (q : PlaceRow) (i : ℕ) (p : PlaceRow) (b row : ℕ) (f : TableFault) → i < length above → p ≡ get_or above i p → overlap_with w (take i above) q ≡ None → first_shared w p q ≡ Some b → row ≡ q.row → f ≡ overlap_at w p q b → Some (row, f) ≡ overlap_with w above q
+overlap_found w above q i p b row f l is none shared row_is f_is =
+    let here : first_shared w (get_or above i p) q ≡ Some b = ap (λ x. first_shared w x q) (sym is) ∙ shared in
+    ap (λ r. Some (r, f)) row_is ∙ ap (λ g. Some (q.row, g)) (f_is ∙ ap (λ x. overlap_at w x q b) is)
+    ∙ sym (overlap_with_here w above q i p b l none here)
+
+pub overlap_not_yet : (w : ℕ) (above : List PlaceRow) (q : PlaceRow) (i : ℕ) (p : PlaceRow) → i < length above → p ≡ get_or above i p → overlap_with w (take i above) q ≡ None → first_shared w p q ≡ None → overlap_with w (take (i + 1) above) q ≡ None
+overlap_not_yet w above q i p l is none e =
+    overlap_with_more w above q i p l none (ap (λ x. first_shared w x q) (sym is) ∙ e)
+
+pub none_of : {X : Type 0} (o : Option X) → is_some o ≡ false → o ≡ None
+none_of None h = refl
+none_of (Some x) h = absurd (cc)
+
+pub overlap_among_found : (w : ℕ) (places : List PlaceRow) (i : ℕ) (q : PlaceRow) (o : Option (ℕ × TableFault)) → i < length places → q ≡ get_or places i q → overlap_among w [] (take i places) ≡ None → o ≡ overlap_with w (take i places) q → is_some o ≡ true → o ≡ overlap_among w [] places
+overlap_among_found w places i q None l is none e some = absurd (cc)
+overlap_among_found w places i q (Some f) l is none e some =
+    sym (overlap_among_here w [] places i q f l none (ap (overlap_with w (take i places)) (sym is) ∙ sym e))
+
+pub overlap_among_not_yet : (w : ℕ) (places : List PlaceRow) (i : ℕ) (q : PlaceRow) (o : Option (ℕ × TableFault)) → i < length places → q ≡ get_or places i q → overlap_among w [] (take i places) ≡ None → o ≡ overlap_with w (take i places) q → is_some o ≡ false → overlap_among w [] (take (i + 1) places) ≡ None
+overlap_among_not_yet w places i q o l is none e some =
+    ap (overlap_among w []) (take_more places i q l)
+    ∙ overlap_among_more w [] (take i places) (get_or places i q) none (ap (overlap_with w (take i places)) (sym is) ∙ sym e ∙ none_of o some)
+
+pub no_overlap_among : (w : ℕ) → overlap_among w [] [] ≡ None
+unfolding overlap_among
+no_overlap_among w = refl
+
+pub marks_next : (w : ℕ) (places : List PlaceRow) (i : ℕ) (p : PlaceRow) (old new : List Bool) → i < length places → p ≡ get_or places i p → AreMarks w (take i places) old → length new ≡ length old → ((b : ℕ) → b < 768 * w → is_marked new b ≡ (is_marked old b || covers w p b)) → AreMarks w (take (i + 1) places) new
+marks_next w places i p old new l is are len more =
+    let e : take (i + 1) places ≡ take i places ++ p ∷ [] = take_more places i p l ∙ ap (λ x. take i places ++ x ∷ []) (sym is) in
+    subst (λ ps. AreMarks w ps new) (sym e) (marks_push w (take i places) p old new are len more)

@@ -1,0 +1,57 @@
+-- Searches through a list, element by element.
+use Rattle.std.proofs.Common.{◌≡◌, ℕ, ◌+◌, ◌<◌, Bool, true, false, cond, List, [], ◌∷◌, ◌++◌, Option, Some, None, length, get_or, take, map, refl, ap, sym, ◌∙◌, zero, suc, arith}
+use Rattle.std.specs.List.{find, list_any}
+use Rattle.std.proofs.lemmas.List.{take_more, map_more}
+use Rattle.std.proofs.lemmas.List.Folds.{list_any_more, list_any_at}
+use Rattle.std.proofs.lemmas.Bool.{or_from}
+use Rattle.fdr_table.specs.Reading.{first_some}
+
+pub cond_none : {X : Type 0} (b : Bool) (x : X) (o : Option X) → cond b (Some x) o ≡ None → (b ≡ false) × (o ≡ None)
+cond_none true x o h = absurd (cc)
+cond_none false x o h = (refl, h)
+
+find_push : {X : Type 0} (p : X → Bool) (xs : List X) (y : X) → find p xs ≡ None → p y ≡ false → find p (xs ++ y ∷ []) ≡ None
+find_push p [] y none fails = rw fails refl
+find_push p (x ∷ xs) y none fails = let h = cond_none (p x) x (find p xs) none in rw (h.0) (find_push p xs y h.1 fails)
+
+-- a search that has found nothing so far
+pub find_more : {X : Type 0} (p : X → Bool) (xs : List X) (i : ℕ) (d : X) → i < length xs → find p (take i xs) ≡ None → p (get_or xs i d) ≡ false → find p (take (i + 1) xs) ≡ None
+find_more p xs i d l none fails = ap (find p) (take_more xs i d l) ∙ find_push p (take i xs) (get_or xs i d) none fails
+
+-- and that finds the next element
+pub find_here : {X : Type 0} (p : X → Bool) (xs : List X) (i : ℕ) (d : X) → i < length xs → find p (take i xs) ≡ None → p (get_or xs i d) ≡ true → find p xs ≡ Some (get_or xs i d)
+find_here p [] i d l none holds = absurd (omega arith)
+find_here p (x ∷ xs) zero d l none holds = rw holds refl
+find_here p (x ∷ xs) (suc i) d l none holds =
+    let h = cond_none (p x) x (find p (take i xs)) none in rw (h.0) (find_here p xs i d (omega arith) h.1 holds)
+
+pub list_any_here : {X : Type 0} (p : X → Bool) (xs : List X) (i : ℕ) (d : X) → i < length xs → p (get_or xs i d) ≡ true → true ≡ list_any p xs
+list_any_here p xs i d l holds = sym (list_any_at p xs i d l holds)
+
+pub list_any_next : {X : Type 0} (p : X → Bool) (xs : List X) (i : ℕ) (d : X) → i < length xs → list_any p (take i xs) ≡ false → p (get_or xs i d) ≡ false → list_any p (take (i + 1) xs) ≡ false
+list_any_next p xs i d l none fails = list_any_more p xs i d l ∙ or_from _ _ none fails
+
+-- the first of several answers
+pub first_some_none : {A : Type 0} (o : Option A) (rest : List (Option A)) → o ≡ None → first_some (o ∷ rest) ≡ first_some rest
+first_some_none o rest e = ap (λ z. first_some (z ∷ rest)) e
+
+pub first_some_some : {A : Type 0} (o : Option A) (a : A) (rest : List (Option A)) → o ≡ Some a → first_some (o ∷ rest) ≡ Some a
+first_some_some o a rest e = ap (λ z. first_some (z ∷ rest)) e
+
+pub first_some_parts : {A : Type 0} (o : Option A) (rest : List (Option A)) → first_some (o ∷ rest) ≡ None → (o ≡ None) × (first_some rest ≡ None)
+first_some_parts None rest h = (refl, h)
+first_some_parts (Some a) rest h = absurd (cc)
+
+first_some_push : {A : Type 0} (os : List (Option A)) (o : Option A) → first_some os ≡ None → o ≡ None → first_some (os ++ o ∷ []) ≡ None
+first_some_push [] o none e = first_some_none o [] e
+first_some_push (x ∷ os) o none e =
+    let h = first_some_parts x os none in first_some_none x (os ++ o ∷ []) h.0 ∙ first_some_push os o h.1 e
+
+pub first_some_more : {X A : Type 0} (f : X → Option A) (xs : List X) (i : ℕ) (d : X) → i < length xs → first_some (map f (take i xs)) ≡ None → f (get_or xs i d) ≡ None → first_some (map f (take (i + 1) xs)) ≡ None
+first_some_more f xs i d l none e = ap first_some (map_more f xs i d l) ∙ first_some_push (map f (take i xs)) (f (get_or xs i d)) none e
+
+pub first_some_here : {X A : Type 0} (f : X → Option A) (xs : List X) (i : ℕ) (d : X) (a : A) → i < length xs → first_some (map f (take i xs)) ≡ None → f (get_or xs i d) ≡ Some a → first_some (map f xs) ≡ Some a
+first_some_here f [] i d a l none e = absurd (omega arith)
+first_some_here f (x ∷ xs) zero d a l none e = first_some_some (f x) a (map f xs) e
+first_some_here f (x ∷ xs) (suc i) d a l none e =
+    let h = first_some_parts (f x) (map f (take i xs)) none in first_some_none (f x) (map f xs) h.0 ∙ first_some_here f xs i d a (omega arith) h.1 e

@@ -1,0 +1,22 @@
+use Rattle.std.proofs.Common.{◌≡◌, ◌+◌, cond, get_or, take, sym, ap, ◌∙◌}
+use Rattle.fdr_table.specs.Rows.{PlaceRow}
+use Rattle.fdr_check.specs.Occurrences.{is_part}
+use Rattle.fdr_check.specs.Faults.{count_of}
+use Rattle.fdr_check.specs.Walks.{starts_of}
+use Rattle.fdr_check.proofs.Counting.{count_of_none, count_more_place}
+use Rattle.fdr_check.proofs.parts.count_of.Goals as goal
+
+pub loop-place-init : goal.loop-place-init
+loop-place-init c = sym (count_of_none c.args.words c.args.param c.args.part)
+
+pub loop-place-preserved : goal.loop-place-preserved
+loop-place-preserved c =
+    let w = c.args.words in
+    let i = c.loop-place.place-index in
+    let p = c.place-item.result in
+    let t = is_part c.args.param c.args.part in
+    let more : c.count_in.result ≡ cond (t (get_or c.args.places.now i p)) (starts_of w (get_or c.args.places.now i p)) 0 =
+    c.count_in.ensures ∙ ap (λ (x : PlaceRow). cond (t x) (starts_of w x) 0) c.place-item.is in
+    c.in-Some.ensures.1 ∙ ap (λ n. n + c.count_in.result) c.loop-place.invariant
+    ∙ ap (λ n. count_of w (take i c.args.places.now) c.args.param c.args.part + n) more
+    ∙ sym (count_more_place w c.args.places.now c.args.param c.args.part i p c.loop-place-test.true)

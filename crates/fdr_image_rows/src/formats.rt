@@ -1,0 +1,75 @@
+use fdr_cases::{Ran, deck_of, run_words};
+use fdr_deck::MemDeck;
+use fdr_table::TableFault;
+use fdr_top::Outcome;
+use std::alloc::{AllocError, Global};
+use std::test::Fail;
+
+/// An altitude in word 10 of the first subframe, and the counter in word 2 of it.
+pub const ALTITUDE: &str = "F,64,2,1\nP,ALT,0,203,,11,12,U,1,1,0,0,16\nL,ALT,1,1,10,0,1,12,0,1\n";
+
+/// The header of an image of 4 slots of 64 bytes for subframes of 64 words, but for the zeros at its end.
+pub const HEADER: [u8; 20] = [
+    0x5a, 0, 0x46, 0x44, 0x52, 0x37, 0x31, 0x37, 0, 0, 0, 4, 0, 0, 0, 64, 0, 0, 0, 64,
+];
+
+/// An image of 4 slots of 64 bytes without blocks.
+pub fn fresh_image(alloc: Global) -> Result<Vec<u8>, AllocError> {
+    let mut image = Vec::new(alloc);
+    image.extend_from_slice(&HEADER)?;
+    for _ in HEADER.len()..384 {
+        image.push(0)?;
+    }
+    Ok(image)
+}
+
+fn format(alloc: Global, table: &str, slots: &str, deck: &mut MemDeck) -> Result<Ran, AllocError> {
+    let words = ["format", "t1.csv", "flight.img", slots, "--payload", "64"];
+    run_words(alloc, &words, table, deck, &[])
+}
+
+#[test]
+fn makes_an_image_once(rt: HostRuntime) -> Result<(), Fail> {
+    let alloc = rt.alloc();
+    let image = fresh_image(alloc)?;
+    let mut deck = deck_of(alloc, &[], &[], &[])?;
+    let made = format(alloc, ALTITUDE, "--slots=4", &mut deck)?;
+    assert_eq!(rt; made.outcome, Outcome::Done);
+    assert_eq!(rt; made.written.len(), 0);
+    assert_eq!(rt; deck.image(), image.as_slice());
+    let again = format(alloc, ALTITUDE, "--slots=4", &mut deck)?;
+    assert_eq!(rt; again.outcome, Outcome::NotEmpty);
+    let few = format(alloc, ALTITUDE, "--slots=3", &mut deck)?;
+    assert_eq!(rt; few.outcome, Outcome::Usage);
+    assert_eq!(rt; deck.image(), image.as_slice());
+    assert_eq!(rt; deck.told(), 0);
+    Ok(())
+}
+
+#[test]
+fn leaves_a_disk_that_it_does_not_make(rt: HostRuntime) -> Result<(), Fail> {
+    let alloc = rt.alloc();
+    let mut deck = deck_of(alloc, &[], &[], &[])?;
+    let refused = format(alloc, "X,1\n", "--slots=4", &mut deck)?;
+    let fault = TableFault::Shape;
+    assert_eq!(rt; refused.outcome, Outcome::TableRefused { row: 0, fault });
+    assert_eq!(rt; deck.calls(), 0);
+    let mut deck = deck_of(alloc, b"x", &[], &[])?;
+    let refused = format(alloc, ALTITUDE, "--slots=4", &mut deck)?;
+    assert_eq!(rt; refused.outcome, Outcome::NotEmpty);
+    assert_eq!(rt; deck.image(), b"x".as_slice());
+    Ok(())
+}
+
+// The calls are the size, the zeros, the header but for its gate, a sync, the gate, and a sync.
+#[test]
+fn says_that_the_disk_failed(rt: HostRuntime) -> Result<(), Fail> {
+    let alloc = rt.alloc();
+    for call in 0..6 {
+        let mut deck = deck_of(alloc, &[], &[], &[call])?;
+        let failed = format(alloc, ALTITUDE, "--slots=4", &mut deck)?;
+        assert_eq!(rt; failed.outcome, Outcome::DiskFault, "call {call}");
+        assert_eq!(rt; deck.calls(), call + 1, "call {call}");
+    }
+    Ok(())
+}

@@ -1,0 +1,9 @@
+//! Worked cases of images: how they are made, how they are refused, and what is recovered from them.
+#![tactic(auto)]
+
+#[cfg(test)]
+mod formats;
+#[cfg(test)]
+mod heads;
+#[cfg(test)]
+mod recoveries;

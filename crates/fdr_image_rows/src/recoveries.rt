@@ -1,0 +1,129 @@
+use crate::formats::{ALTITUDE, fresh_image};
+use fdr_cases::{Ran, deck_of, run_words};
+use fdr_deck::MemDeck;
+use fdr_ring::{Ring, RingFault, read_image_header};
+use fdr_slot::ImageFault;
+use fdr_top::Outcome;
+use std::alloc::{AllocError, Global};
+use std::test::Fail;
+
+/// Recovers an image. The table isn't read.
+pub fn recover(alloc: Global, deck: &mut MemDeck) -> Result<Ran, AllocError> {
+    run_words(alloc, &["recover", "flight.img"], "", deck, &[])
+}
+
+/// The 384 bytes of a frame with counter 0 and altitude 0.
+fn empty_frame(alloc: Global) -> Result<Vec<u8>, AllocError> {
+    let mut frame = vec![in alloc; 0; 384]?;
+    for (at, byte) in [
+        (0, 0x47),
+        (1, 0x02),
+        (96, 0xb8),
+        (97, 0x05),
+        (192, 0x47),
+        (193, 0x0a),
+        (288, 0xb8),
+        (289, 0x0d),
+    ] {
+        if let Some(place) = frame.get_mut(at) {
+            *place = byte;
+        }
+    }
+    Ok(frame)
+}
+
+/// Adds a block to the ring of an image, which has room for its bytes.
+fn add_block(deck: &mut MemDeck, bytes: &[u8]) -> Result<(), RingFault> {
+    let header = read_image_header(deck)?;
+    let ring = Ring::attach(deck, header)?;
+    if bytes.is_empty() || bytes.len() > header.payload as usize {
+        return Err(RingFault::SeqEnd);
+    }
+    let prepared = ring.prepare(deck, bytes)?;
+    prepared.commit(deck)?;
+    Ok(())
+}
+
+/// The image of 4 slots after the six blocks of a frame.
+pub fn image_of_a_frame(alloc: Global) -> Result<Vec<u8>, Fail> {
+    let frame = empty_frame(alloc)?;
+    let mut deck = deck_of(alloc, &fresh_image(alloc)?, &[], &[])?;
+    for block in frame.chunks(64) {
+        add_block(&mut deck, block).ok().ok_or("the disk")?;
+    }
+    Ok(deck.image().to_vec(alloc)?)
+}
+
+#[test]
+fn recovers_the_last_blocks_of_a_ring(rt: HostRuntime) -> Result<(), Fail> {
+    let alloc = rt.alloc();
+    let image = image_of_a_frame(alloc)?;
+    let mut deck = deck_of(alloc, &image, &[], &[])?;
+    let recovered = recover(alloc, &mut deck)?;
+    assert_eq!(rt; recovered.outcome, Outcome::Done);
+    let frame = empty_frame(alloc)?;
+    let last = frame.get(192..).ok_or("three blocks")?;
+    assert_eq!(rt; recovered.written.as_slice(), last);
+    assert_eq!(rt; deck.image(), image.as_slice());
+
+    let mut empty = deck_of(alloc, &fresh_image(alloc)?, &[], &[])?;
+    let recovered = recover(alloc, &mut empty)?;
+    assert_eq!(rt; recovered.outcome, Outcome::Done);
+    assert_eq!(rt; recovered.written.len(), 0);
+    Ok(())
+}
+
+/// What is answered where a byte of a fresh image is another, or bytes are missing at its end.
+fn refused(alloc: Global, at: usize, byte: u8, length: usize) -> Result<Outcome, Fail> {
+    let mut image = fresh_image(alloc)?;
+    *image.get_mut(at).ok_or("a byte")? = byte;
+    image.resize(length, 0)?;
+    let mut deck = deck_of(alloc, &image, &[], &[])?;
+    let recovered = recover(alloc, &mut deck)?;
+    if !recovered.written.is_empty() || deck.image() != image.as_slice() {
+        return Err("changed")?;
+    }
+    Ok(recovered.outcome)
+}
+
+#[test]
+fn refuses_what_is_no_image(rt: HostRuntime) -> Result<(), Fail> {
+    let alloc = rt.alloc();
+    let cases = [
+        (0, 0x5a, 0, Outcome::ImageRefused(ImageFault::Small)),
+        (0, 0x5a, 63, Outcome::ImageRefused(ImageFault::Small)),
+        (0, 0x00, 384, Outcome::ImageRefused(ImageFault::Closed)),
+        (2, 0x00, 384, Outcome::ImageRefused(ImageFault::Magic)),
+        (11, 3, 384, Outcome::ImageRefused(ImageFault::Geometry)),
+        (1, 0xa5, 384, Outcome::ImageRefused(ImageFault::Geometry)),
+        (0, 0x5a, 383, Outcome::ImageRefused(ImageFault::Short)),
+        (0, 0x5a, 385, Outcome::Done),
+    ];
+    for (at, byte, length, outcome) in cases {
+        assert_eq!(rt;
+            refused(alloc, at, byte, length)?,
+            outcome,
+            "byte {at}, {length} bytes"
+        );
+    }
+    Ok(())
+}
+
+#[test]
+fn says_what_failed(rt: HostRuntime) -> Result<(), Fail> {
+    let alloc = rt.alloc();
+    let image = image_of_a_frame(alloc)?;
+    // The size, the header, the heads of four slots, those of four numbers downward, and three blocks in two reads each.
+    for call in 0..16 {
+        let mut deck = deck_of(alloc, &image, &[], &[call])?;
+        let recovered = recover(alloc, &mut deck)?;
+        assert_eq!(rt; recovered.outcome, Outcome::DiskFault, "call {call}");
+        assert_eq!(rt; deck.image(), image.as_slice(), "call {call}");
+    }
+    let mut deck = deck_of(alloc, &image, &[], &[])?;
+    let words = ["recover", "flight.img"];
+    let unwritten = run_words(alloc, &words, ALTITUDE, &mut deck, &[0])?;
+    assert_eq!(rt; unwritten.outcome, Outcome::WriteFault);
+    assert_eq!(rt; unwritten.written.len(), 0);
+    Ok(())
+}

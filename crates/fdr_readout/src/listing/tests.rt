@@ -1,0 +1,80 @@
+//! The listing of worked frames.
+
+ghost use Rattle.std.specs.Prelude.{◌≡◌, ◌<◌, All};
+
+use super::*;
+use fdr_bits::pack_pair;
+use fdr_check::check;
+use fdr_frame::SYNC;
+use fdr_io::MemSink;
+use std::test::Fail;
+
+/// A position of two parts, one in each of two frames, and a signed altitude in steps of a half in each frame.
+const TABLE: &[u8] = b"F,64,2,1
+P,POS,1,310,,9,20,U,1,1,0,0,1
+L,POS,1,1,20,0,1,12,0,16
+L,POS,2,1,20,0,1,8,1,16
+P,ALT,0,203,,11,12,S,1,2,0,1,16
+L,ALT,1,1,10,0,1,12,0,1
+";
+
+/// More bytes than any of the lines has.
+const MANY: usize = 1000;
+
+/// A frame of four subframes of 64 words: its counter, and words 10 and 20 of its first subframe.
+fn frame_of(counter: u16, altitude: u16, position: u16) -> [u16; 256]
+    requires counter { counter < 4096 }
+    requires altitude { altitude < 4096 }
+    requires position { position < 4096 }
+    ensures { All (λ word. word < 4096) result }
+{
+    let mut words = [0; 256];
+    words[0] = SYNC[0];
+    words[1] = counter;
+    words[9] = altitude;
+    words[19] = position;
+    words[64] = SYNC[1];
+    words[128] = SYNC[2];
+    words[192] = SYNC[3];
+    words
+}
+
+fn add_frame(bytes: &mut Vec<u8>, words: &[u16; 256]) -> Result<(), Fail>
+    requires { All (λ word. word < 4096) words.now }
+{
+    for pair in 0..128 {
+        bytes.extend_from_slice(&pack_pair(words[2 * pair], words[2 * pair + 1]))?;
+    }
+    Ok(())
+}
+
+fn listing(alloc: Global, bytes: &[u8]) -> Result<Vec<u8>, Fail> {
+    let table = Table::read(alloc, TABLE).ok().ok_or("table")?;
+    let sound = check(alloc, table).ok().ok_or("sound")?;
+    if sound.table().frame().words != 64 || bytes.len() > MANY {
+        return Err("size")?;
+    }
+    let Ok(mut work) = Readout::new(alloc, &sound) else {
+        return Err("memory")?;
+    };
+    let mut out = MemSink::new(alloc, Vec::new(alloc));
+    write_listing(&mut work, &sound, bytes, &mut out)
+        .ok()
+        .ok_or("write")?;
+    Ok(Vec::from_slice(alloc, out.bytes())?)
+}
+
+// The position has its low twelve bits in the first frame. The rows of a frame stand in the order of their last parts.
+#[test]
+fn lists_the_values_of_two_frames(rt: HostRuntime) -> Result<(), Fail> {
+    let alloc = rt.alloc();
+    let mut bytes = Vec::new(alloc);
+    add_frame(&mut bytes, &frame_of(0, 0xfff, 0xcde))?;
+    add_frame(&mut bytes, &frame_of(1, 0, 0xab))?;
+    let text = listing(alloc, &bytes)?;
+    assert_eq!(rt;
+        text.as_slice(),
+        b"row,0,1,10,ALT,-0.1\nrow,1,1,10,ALT,0.0\nrow,0,1,20,POS,703710\n".as_slice()
+    );
+    Ok(())
+}

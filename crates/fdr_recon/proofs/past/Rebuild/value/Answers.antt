@@ -1,0 +1,46 @@
+use Rattle.std.proofs.Common.{◌≡◌, ◌<◌, ◌^◌, List, sym, ap, ◌∙◌, subst, arith}
+use Rattle.std.specs.Int.{w64}
+use Rattle.std.specs.List.{slice_index_or}
+use Rattle.std.proofs.lemmas.Int.{to_z-of_z}
+use Rattle.std.proofs.lemmas.Option.{get_or_from_slice_get}
+use Rattle.fdr_table.specs.Rows.{ParamRow}
+use Rattle.fdr_table.specs.Value.{value_of}
+use Rattle.fdr_recon.specs.Kept.{Kept, kept_raw, kept_cycle, kept_value}
+use Rattle.fdr_recon.specs.Rows.{param_at}
+use Rattle.fdr_recon.proofs.KeptRows.{kept_raw-below, kept_raw-small, param_at-sample}
+use Rattle.fdr_recon.proofs.past.Rebuild.value.Goals as goal
+
+pub overflow_cast-raw : goal.overflow_cast-raw
+overflow_cast-raw c =
+    let k = c.args.self.now in
+    let raw : c.raw-raw.result ≡ kept_raw k c.cycle.result c.args.sample.now.parts = c.raw-raw.ensures.raw ∙ ap (kept_raw k c.cycle.result) c.parts.ensures.parts in
+    let small = kept_raw-small k c.cycle.result c.args.sample.now c.requires in
+    omega (arith, raw, small)
+
+pub value-requires : goal.value-requires
+value-requires c =
+    let k = c.args.self.now in
+    let raw : c.raw-raw.result ≡ kept_raw k c.cycle.result c.args.sample.now.parts = c.raw-raw.ensures.raw ∙ ap (kept_raw k c.cycle.result) c.parts.ensures.parts in
+    let below = kept_raw-below k c.cycle.result c.args.sample.now c.requires in
+    let params : c.self.inside.params.items ≡ k.params = ap (λ (k : Kept). k.params) c.self.view_is in
+    let param : c.index-param.result.now ≡ c.requires.param =
+    c.index-param.ensures ∙ ap (λ (ps : List ParamRow). slice_index_or ps c.param.result c.index-param.result.now) params
+    ∙ ap (λ n. slice_index_or k.params n c.index-param.result.now) c.param.ensures
+    ∙ get_or_from_slice_get k.params c.args.sample.now.param c.requires.param c.index-param.result.now c.requires.is in
+    subst (λ n. c.raw-raw.result < 2 ^ n) (sym (ap (λ (p : ParamRow). p.width) param)) (subst (λ n. n < 2 ^ c.requires.param.width) (sym raw) below)
+
+pub returns : goal.returns
+unfolding kept_value
+returns c =
+    let k = c.args.self.now in
+    let s = c.args.sample.now in
+    let raw : c.raw-raw.result ≡ kept_raw k (kept_cycle k) s.parts =
+    c.raw-raw.ensures.raw ∙ ap (kept_raw k c.cycle.result) c.parts.ensures.parts ∙ ap (λ n. kept_raw k n s.parts) c.cycle.ensures.cycle in
+    let params : c.self.inside.params.items ≡ k.params = ap (λ (k : Kept). k.params) c.self.view_is in
+    let param : c.index-param.result.now ≡ c.requires.param =
+    c.index-param.ensures ∙ ap (λ (ps : List ParamRow). slice_index_or ps c.param.result c.index-param.result.now) params
+    ∙ ap (λ n. slice_index_or k.params n c.index-param.result.now) c.param.ensures
+    ∙ get_or_from_slice_get k.params s.param c.requires.param c.index-param.result.now c.requires.is in
+    to_z-of_z w64 c.value.result (record { sfits = c.value.type_inv }) ∙ c.value.ensures
+    ∙ ap (λ p. value_of p c.raw-raw.result) (param ∙ sym (param_at-sample k.params s c.requires))
+    ∙ ap (value_of (param_at k.params s.param)) raw

@@ -1,0 +1,61 @@
+use Rattle.std.proofs.Common.{◌≡◌, ◌<◌, ◌≤◌, ◌∙◌, ap, subst, false, true, length, arith}
+use Rattle.std.specs.Prelude.{is_some}
+use Rattle.csv.specs.Records.{fields_of}
+use Rattle.fdr_table.specs.DraftRows.{DraftRows}
+use Rattle.fdr_table.specs.DraftView.{draft_view}
+use Rattle.fdr_table.specs.Draft.{Fits, IsNextDraft, IsNextFault, index_named, with_entry}
+use Rattle.fdr_table.specs.declared.draft.Entry.TheVariants as entry
+use Rattle.fdr_table.specs.declared.fault.TableFault.TheVariants as fault
+use Rattle.fdr_table.proofs.DraftFacts.{name_in, none-from, param_row-misnamed, param_row-name, param_row-right}
+use Rattle.fdr_table.proofs.NextFacts.{named-right, param-misnamed, param-next, param-twice, too-many-params}
+use Rattle.fdr_table.proofs.draft.Draft.read_param.Goals as goal
+
+pub returns-in_default-clause-fault : goal.returns-in_default-clause-fault
+returns-in_default-clause-fault c =
+    let row = fields_of c.args.row.now in
+    let there : is_some c.self.inside.frame ≡ true = grind arith in
+    let wrong = param_row-misnamed c.self.inside.rows row c.requires c.in_ok-named.ensures.numbers (c.in_ok-named.ensures.read ∙ c.in_default.is) in
+    subst (λ (d : DraftRows). IsNextFault d row fault.Name) c.self.view_is
+    (param-misnamed (draft_view c.self.inside) row c.requires c.in_ok-named.ensures.numbers there wrong)
+
+pub returns-then-is_some-clause-fault : goal.returns-then-is_some-clause-fault
+returns-then-is_some-clause-fault c =
+    let row = fields_of c.args.row.now in
+    let there : is_some c.self.inside.frame ≡ true = grind arith in
+    let index = c.find.ensures ∙ ap (index_named c.self.inside.params) c.field_at.ensures in
+    let known : is_some (index_named c.self.inside.params (name_in row)) ≡ true = grind arith in
+    let named = named-right row c.in_ok-named.ensures.numbers (param_row-right c.self.inside.rows row c.in-Some.param (c.in_ok-named.ensures.read ∙ c.in-Some.is)) in
+    subst (λ (d : DraftRows). IsNextFault d row fault.Twice) c.self.view_is
+    (param-twice (draft_view c.self.inside) row c.requires c.in_ok-named.ensures.numbers there named known)
+
+pub returns-then-len-ge-MAX_PARAMS-clause-fault : goal.returns-then-len-ge-MAX_PARAMS-clause-fault
+returns-then-len-ge-MAX_PARAMS-clause-fault c =
+    let row = fields_of c.args.row.now in
+    let there : is_some c.self.inside.frame ≡ true = grind arith in
+    let index = c.find.ensures ∙ ap (index_named c.self.inside.params) c.field_at.ensures in
+    let fresh : is_some (index_named c.self.inside.params (name_in row)) ≡ false = grind arith in
+    let many : 2048 ≤ length c.self.inside.params = grind arith in
+    let named = named-right row c.in_ok-named.ensures.numbers (param_row-right c.self.inside.rows row c.in-Some.param (c.in_ok-named.ensures.read ∙ c.in-Some.is)) in
+    subst (λ (d : DraftRows). IsNextFault d row fault.Size) c.self.view_is
+    (too-many-params (draft_view c.self.inside) row c.requires c.in_ok-named.ensures.numbers there named fresh many)
+
+pub returns-clause-param : goal.returns-clause-param
+returns-clause-param c =
+    let row = fields_of c.args.row.now in
+    let there : is_some c.self.inside.frame ≡ true = grind arith in
+    let index = c.find.ensures ∙ ap (index_named c.self.inside.params) c.field_at.ensures in
+    let fresh : is_some (index_named c.self.inside.params (name_in row)) ≡ false = grind arith in
+    let few : length c.self.inside.params < 2048 = grind arith in
+    let read = c.in_ok-named.ensures.read ∙ c.in-Some.is in
+    subst (λ (d : DraftRows). IsNextDraft d row (with_entry d (entry.Param c.in-Some.param))) c.self.view_is
+    (param-next (draft_view c.self.inside) row c.in-Some.param c.requires c.in_ok-named.ensures.numbers read there fresh few)
+
+pub returns-clause-fits : goal.returns-clause-fits
+returns-clause-fits c =
+    let row = fields_of c.args.row.now in
+    let index = c.find.ensures ∙ ap (index_named c.self.inside.params) c.field_at.ensures in
+    let found : is_some c.find.result ≡ false = grind arith in
+    let name = param_row-name c.self.inside.rows row c.in-Some.param (c.in_ok-named.ensures.read ∙ c.in-Some.is) in
+    let few : length c.self.inside.params < 2048 = grind arith in
+    subst (λ (d : DraftRows). Fits d (entry.Param c.in-Some.param)) c.self.view_is
+    (none-from c.find.result (index_named c.self.inside.params c.in-Some.param.name) (index ∙ ap (index_named c.self.inside.params) name) found, few)

@@ -1,0 +1,52 @@
+-- The table of the rows above a row.
+use Rattle.std.specs.Prelude.{◌≡◌, ◌<◌, ◌+◌, ℕ, true, List, [], ◌∷◌, ◌++◌, length, All, map, take, bytes_eq, slice_index_or, Option, Some, None, IfSome, is_some, position}
+use Rattle.fdr_table.specs.Rows.{ParamRow, PlaceRow}
+use Rattle.fdr_table.specs.Ranges.{IsFrameInRange, IsPlaceInRange}
+use Rattle.fdr_table.specs.Reading.{Row, field, first_some, frame_row, is_place, kind_of, names_of, table_of}
+use Rattle.fdr_table.specs.Faults.{has_frame, has_name, place_count, row_fault}
+use Rattle.fdr_table.specs.declared.draft.Entry.{Entry}
+use Rattle.fdr_table.specs.declared.draft.Entry.TheVariants as entry
+use Rattle.fdr_table.specs.declared.fault.TableFault.{TableFault}
+use Rattle.fdr_table.specs.DraftRows.{DraftRows}
+
+-- the index of the parameter with this name
+abbrev pub index_named : List ParamRow → List ℕ → Option ℕ
+index_named params name = position (λ (p : ParamRow). bytes_eq p.name name) params
+
+-- what was read so far, and what one more row says
+abbrev pub with_entry : DraftRows → Entry → DraftRows
+with_entry d (entry.Frame f) = record d { frame = Some f; rows = d.rows + 1 }
+with_entry d (entry.Param p) = record d { params = d.params ++ p ∷ []; rows = d.rows + 1 }
+with_entry d (entry.Place l) = record d { places = d.places ++ l ∷ []; rows = d.rows + 1 }
+
+-- rows without faults, and what they say
+pub record IsDraft (above : List Row) (d : DraftRows) : Type 0 where
+  pub no_fault : (i : ℕ) → i < length above → row_fault (take i above) (slice_index_or above i []) ≡ None
+  pub frame : first_some (map frame_row above) ≡ d.frame
+  pub frame_there : has_frame above ≡ is_some d.frame
+  pub params : (table_of above).params ≡ d.params
+  pub names : names_of above ≡ map (λ (p : ParamRow). p.name) d.params
+  pub places : (table_of above).places ≡ d.places
+  pub count : place_count above ≡ length d.places
+  pub named : All (λ (fields : Row). is_place (kind_of fields) ≡ true → has_name above (field fields 1) ≡ true) above
+  pub rows : length above ≡ d.rows
+
+-- the fault of a row below the rows of the draft
+abbrev pub IsNextFault : DraftRows → Row → TableFault → Type 0
+IsNextFault d row f = (above : List Row) → IsDraft above d → row_fault above row ≡ Some f
+
+-- a draft with one more row
+abbrev pub IsNextDraft : DraftRows → Row → DraftRows → Type 0
+IsNextDraft d row next = (above : List Row) → IsDraft above d → IsDraft (above ++ row ∷ []) next
+
+-- a new name, of fewer than 2,049 parameters, or a place of one of the parameters
+abbrev pub Fits : DraftRows → Entry → Type 0
+Fits d (entry.Frame f) = Unit {0}
+Fits d (entry.Param p) = (index_named d.params p.name ≡ None) × (length d.params < 2048)
+Fits d (entry.Place l) = l.param < length d.params
+
+-- what the fields of a draft keep beside the ranges of its parameters
+pub record IsDraftInRange (d : DraftRows) : Type 0 where
+  pub frame : IfSome d.frame IsFrameInRange
+  pub places : All IsPlaceInRange d.places
+  pub owners : All (λ (l : PlaceRow). l.param < length d.params) d.places

@@ -1,0 +1,185 @@
+use fdr_cases::{deck_of, run_words};
+use fdr_table::TableFault;
+use fdr_top::Outcome;
+use std::alloc::Global;
+use std::test::Fail;
+
+/// What `check` answers to a table, and the report that it writes.
+fn checked(alloc: Global, table: &str) -> Result<(Outcome, Vec<u8>), Fail> {
+    let mut deck = deck_of(alloc, &[], &[], &[])?;
+    let ran = run_words(alloc, &["check", "t.csv"], table, &mut deck, &[])?;
+    Ok((ran.outcome, ran.written))
+}
+
+#[test]
+fn reports_on_sound_tables(rt: HostRuntime) -> Result<(), Fail> {
+    let cases = [
+        (
+            "F,64,2,1\nP,ALT,0,203,,11,12,U,1,1,0,0,16\nL,ALT,1,1,10,0,1,12,0,1\n",
+            "frame,64,1,16\nparam,ALT,16,even\n",
+        ),
+        // Two parameters that take turns in one bit.
+        (
+            "F,64,2,1\nP,A,0,1,,11,1,U,1,1,0,0,8\nL,A,1,1,20,0,3,1,0,2\nP,B,0,2,,11,1,U,1,1,0,0,4\nL,B,1,1,20,0,3,1,1,4\n",
+            "frame,64,2,12\nparam,A,8,even\nparam,B,4,even\n",
+        ),
+        ("F,1024,2,4\n", "frame,1024,0,0\n"),
+        (
+            "F,256,256,4
+P,ALT,0,203,0,12,18,S,1,1,0,0,64
+L,ALT,1,1234,20,0,1,12,0,1
+L,ALT,2,1234,21,0,1,6,0,1
+P,IAS,0,206,,17,12,U,1,2,0,1,64
+L,IAS,1,1234,30,0,1,12,0,1
+P,VRTG,1,333,,17,12,S,1,1,0,3,512
+L,VRTG,1,1234,8,32,1,12,0,1
+P,FLT,2,260,,11,12,U,1,1,0,0,1
+L,FLT,1,2,100,0,1,12,0,16
+P,GEAR,3,270,,11,1,U,1,1,0,0,64
+L,GEAR,1,1234,21,0,7,1,0,1
+P,HDG,1,320,,17,12,U,1,1,0,0,32
+L,HDG,1,13,50,0,1,12,0,1
+P,PIT,1,324,,17,12,S,1,1,0,1,32
+L,PIT,1,12,51,0,1,12,0,1
+",
+            "frame,256,7,833
+param,ALT,64,even
+param,IAS,64,even
+param,VRTG,512,even
+param,FLT,1,even
+param,GEAR,64,even
+param,HDG,32,even
+param,PIT,32,uneven
+",
+        ),
+    ];
+    for (table, report) in cases {
+        let (outcome, written) = checked(rt.alloc(), table)?;
+        assert_eq!(rt; outcome, Outcome::Done, "{table}");
+        assert_eq!(rt; written.as_slice(), report.as_bytes(), "{table}");
+    }
+    Ok(())
+}
+
+#[test]
+fn names_the_first_fault_of_the_rows(rt: HostRuntime) -> Result<(), Fail> {
+    let cases = [
+        ("", 0, TableFault::NoFrame),
+        ("X,1\n", 0, TableFault::Shape),
+        ("F,64,2\n", 0, TableFault::Shape),
+        ("F,65,2,1\n", 0, TableFault::Number { field: 1 }),
+        ("P,ALT,0,203,,11,12,U,1,1,0,0,16\n", 0, TableFault::NoFrame),
+        ("F,64,2,1\nF,64,2,1\n", 1, TableFault::TwoFrames),
+        (
+            "F,64,2,1\nP,A B,0,203,,11,12,U,1,1,0,0,16\nL,A B,1,1,10,0,1,12,0,1\n",
+            1,
+            TableFault::Name,
+        ),
+        (
+            "F,64,2,1\nP,ALT,0,203,,11,12,U,1,1,0,0,16\nP,ALT,0,203,,11,12,U,1,1,0,0,16\n",
+            2,
+            TableFault::Twice,
+        ),
+        (
+            "F,64,2,1\nL,ALT,1,1,10,0,1,12,0,1\n",
+            1,
+            TableFault::Unknown,
+        ),
+        (
+            "F,64,2,1\nP,ALT,0,203,,11,12,U,1,1,0,0,16\nL,ALT,1,1,10,0,1,12,1,1\n",
+            2,
+            TableFault::Number { field: 8 },
+        ),
+    ];
+    for (table, row, fault) in cases {
+        let (outcome, written) = checked(rt.alloc(), table)?;
+        assert_eq!(rt; outcome, Outcome::TableRefused { row, fault }, "{table}");
+        assert_eq!(rt; written.len(), 0, "{table}");
+    }
+    Ok(())
+}
+
+#[test]
+fn names_the_first_fault_of_places(rt: HostRuntime) -> Result<(), Fail> {
+    let cases = [
+        (
+            "F,64,2,1\nP,ALT,0,203,,11,12,U,1,1,0,0,16\nL,ALT,1,1,65,0,1,12,0,1\n",
+            2,
+            TableFault::Place,
+        ),
+        (
+            "F,64,65,1\nP,ALT,0,203,,11,12,U,1,1,0,0,16\nL,ALT,1,1,65,0,1,12,0,1\n",
+            0,
+            TableFault::Place,
+        ),
+        (
+            "F,64,2,1\nP,ALT,0,203,,11,12,U,1,1,0,0,16\nL,ALT,1,1,1,0,1,12,0,1\n",
+            2,
+            TableFault::OnSync,
+        ),
+        (
+            "F,64,2,1\nP,ALT,0,203,,11,12,U,1,1,0,0,16\nL,ALT,1,1,2,0,1,12,0,1\n",
+            2,
+            TableFault::OnCounter,
+        ),
+        (
+            "F,64,2,1\nP,A,0,1,,11,1,U,1,1,0,0,8\nL,A,1,1,20,0,3,1,0,2\nP,B,0,2,,11,1,U,1,1,0,0,4\nL,B,1,1,20,0,3,1,2,4\n",
+            4,
+            TableFault::Overlap {
+                first: 2,
+                second: 4,
+                word: 20,
+                bit: 3,
+            },
+        ),
+        (
+            "F,64,2,1\nP,ALT,0,203,,11,12,U,1,1,0,0,16\nL,ALT,1,1,10,0,1,11,0,1\n",
+            1,
+            TableFault::Parts,
+        ),
+        (
+            "F,64,2,1\nP,ALT,0,203,,11,12,U,1,1,0,0,64\nL,ALT,1,1,10,0,1,12,0,1\n",
+            1,
+            TableFault::Rate {
+                declared: 64,
+                counted: 16,
+            },
+        ),
+        // Five bits of each word from the third on.
+        (
+            "F,1024,2,1
+P,A,0,1,,11,1,U,1,1,0,0,65408
+L,A,1,1234,3,1,1,1,0,1
+P,B,0,2,,11,1,U,1,1,0,0,65408
+L,B,1,1234,3,1,2,1,0,1
+P,C,0,3,,11,1,U,1,1,0,0,65408
+L,C,1,1234,3,1,3,1,0,1
+P,D,0,4,,11,1,U,1,1,0,0,65408
+L,D,1,1234,3,1,4,1,0,1
+P,E,0,5,,11,1,U,1,1,0,0,65408
+L,E,1,1234,3,1,5,1,0,1
+",
+            11,
+            TableFault::TooMany,
+        ),
+    ];
+    for (table, row, fault) in cases {
+        let (outcome, written) = checked(rt.alloc(), table)?;
+        assert_eq!(rt; outcome, Outcome::TableRefused { row, fault }, "{table}");
+        assert_eq!(rt; written.len(), 0, "{table}");
+    }
+    Ok(())
+}
+
+#[test]
+fn refuses_a_table_of_a_byte_too_many(rt: HostRuntime) -> Result<(), Fail> {
+    let mut table = String::new(rt.alloc());
+    for _ in 0..1_048_577 {
+        table.push('X')?;
+    }
+    let (outcome, written) = checked(rt.alloc(), table.as_str())?;
+    let fault = TableFault::Size;
+    assert_eq!(rt; outcome, Outcome::TableRefused { row: 0, fault });
+    assert_eq!(rt; written.len(), 0);
+    Ok(())
+}

@@ -1,0 +1,53 @@
+use Rattle.std.proofs.Common.{◌∙◌, ⊎_elim, ap, sym, Err}
+use Rattle.fdr_top.specs.Images.{OnlyLooks}
+use Rattle.fdr_top.proofs.Images.{header_unread, nothing_recovered, run_recovered}
+use Rattle.fdr_top.proofs.recovering.recover_image.Goals as goal
+
+pub returns-in-Err-clause-recovers : goal.returns-in-Err-clause-recovers
+returns-in-Err-clause-recovers g c =
+    let looks : OnlyLooks g.D.Deck.tells (g.D.Deck.state c.args.deck.now) (g.D.Deck.state c.read_image_header.new.deck) = record {
+      learns = c.read_image_header.ensures.learns;
+      disk = c.read_image_header.ensures.disk;
+      quiet = c.read_image_header.ensures.quiet;
+    } in
+    rw c.refusal.ensures (header_unread _ _ _ _ c.in-Err.fault looks
+    (λ e. c.in-Err.ensures.only.0 (ap Err e)) (λ e. c.in-Err.ensures.only.1 (ap Err e))
+    (λ told why e. c.in-Err.ensures.first_fault told why (ap Err e))
+    (λ why e. c.in-Err.ensures.small why (ap Err e))
+    (λ e. c.in-Err.ensures.cause (ap Err e)))
+
+pub returns-in_default-clause-recovers : goal.returns-in_default-clause-recovers
+returns-in_default-clause-recovers g c =
+    let looks : OnlyLooks g.D.Deck.tells (g.D.Deck.state c.args.deck.now) (g.D.Deck.state c.read_image_header.new.deck) = record {
+      learns = c.read_image_header.ensures.learns;
+      disk = c.read_image_header.ensures.disk;
+      quiet = c.read_image_header.ensures.quiet;
+    } in
+    nothing_recovered _ _ _ _ _ looks (λ e. absurd (cc)) (λ no_fault read told. c.in-Ok.ensures.good told) (λ why e told. absurd (cc)) (λ why e. absurd (cc)) (λ e. absurd (cc))
+
+pub returns-in-Ok-write_run-clause-recovers : goal.returns-in-Ok-write_run-clause-recovers
+returns-in-Ok-write_run-clause-recovers g c =
+    let looks : OnlyLooks g.D.Deck.tells (g.D.Deck.state c.args.deck.now) (g.D.Deck.state c.read_image_header.new.deck) = record {
+      learns = c.read_image_header.ensures.learns;
+      disk = c.read_image_header.ensures.disk;
+      quiet = c.read_image_header.ensures.quiet;
+    } in
+    run_recovered _ _ _ _ c.in-Ok.header _ _ _ (g.met.D.Deck.sound c.args.deck.now) looks c.write_run.ensures.looks
+    c.in-Ok.ensures.read c.in-Ok.ensures.good
+    (λ done told. c.in-Ok-write_run.ensures.all told) (λ told. c.write_run.ensures.part told)
+    (λ why e. absurd (cc)) (c.in-Ok.ensures.succeeds (λ e. absurd (cc))).disk_faults (λ e. absurd (cc))
+
+pub returns-clause-recovers : goal.returns-clause-recovers
+returns-clause-recovers g c =
+    let looks : OnlyLooks g.D.Deck.tells (g.D.Deck.state c.args.deck.now) (g.D.Deck.state c.read_image_header.new.deck) = record {
+      learns = c.read_image_header.ensures.learns;
+      disk = c.read_image_header.ensures.disk;
+      quiet = c.read_image_header.ensures.quiet;
+    } in
+    run_recovered _ _ _ _ c.in-Ok.header _ _ c.in-Err-write_run.answer (g.met.D.Deck.sound c.args.deck.now) looks c.write_run.ensures.looks
+    c.in-Ok.ensures.read c.in-Ok.ensures.good
+    (λ done told. absurd (⊎_elim (λ disk. let e = sym disk ∙ done in absurd (cc)) (λ sink. let e = sym sink ∙ done in absurd (cc)) c.in-Err-write_run.ensures.answer))
+    (λ told. c.write_run.ensures.part told)
+    (λ why is. ⊎_elim (λ disk. let e = sym disk ∙ is in absurd (cc)) (λ sink. let e = sym sink ∙ is in absurd (cc)) c.in-Err-write_run.ensures.answer)
+    (c.in-Ok.ensures.succeeds (λ e. absurd (cc))).disk_faults
+    (λ e. c.write_run.ensures.disk_fault (c.in-Err-write_run.is ∙ ap Err e))

@@ -1,0 +1,28 @@
+-- What the program's words and uses stand for.
+use Rattle.std.specs.Prelude.{List, [], ◌∷◌, ℕ}
+use Rattle.std.specs.Option.{option_map}
+use Rattle.fdr_words.specs.Words.{Word, plain, named, given, wrong, Uses}
+use Rattle.fdr_words.specs.declared.uses.PlainWords.{PlainWords}
+use Rattle.fdr_words.specs.declared.uses.PlainWords.TheVariants as words
+use Rattle.fdr_words.specs.declared.uses.Word.{Word as Kind}
+use Rattle.fdr_words.specs.declared.uses.Word.TheVariants as kind
+use Rattle.fdr_words.specs.declared.uses.Uses.{Uses as Found}
+
+abbrev pub word_view : Kind → Word
+word_view kind.Plain = plain
+word_view (kind.Named option) = named option
+word_view (kind.Given option value) = given option value.now
+word_view kind.Wrong = wrong
+
+abbrev pub plain_view : PlainWords → List (List ℕ)
+plain_view words.None = []
+plain_view (words.One first) = first.now ∷ []
+plain_view (words.Two first second) = first.now ∷ second.now ∷ []
+plain_view (words.Three first second third) = first.now ∷ second.now ∷ third.now ∷ []
+
+abbrev pub uses_view : Found → Uses
+uses_view u = record {
+  plain = plain_view u.plain;
+  slots = option_map (λ value. value.now) u.slots;
+  payload = option_map (λ value. value.now) u.payload;
+}

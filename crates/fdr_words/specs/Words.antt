@@ -1,0 +1,68 @@
+-- What the words after the program's name give: the words of the form itself, and the values of options.
+use Rattle.std.specs.Prelude.{ℕ, Bool, false, not, ◌==◌, ◌&&◌, nat_le, nat_lt, if◌then◌else◌, List, [], ◌∷◌, length, take, drop, codes, bytes_eq, Option, Some, None, is_none}
+use Rattle.std.specs.Option.{option_and_then, option_map_or}
+use Rattle.fdr_table.specs.Fields.{number_in}
+use Rattle.fdr_words.specs.declared.uses.OptionName.{OptionName}
+use Rattle.fdr_words.specs.declared.uses.OptionName.TheVariants as name
+
+-- a word of the form's own: neither empty nor an option word, which begins with `-`
+abbrev pub is_plain : List ℕ → Bool
+is_plain [] = false
+is_plain (byte ∷ rest) = not (byte == 45)
+
+-- what a word is; a named option's value is the next word
+pub data Word : Type 0 where
+  plain : Word
+  named : (option : OptionName) → Word
+  given : (option : OptionName) (value : List ℕ) → Word
+  wrong : Word
+
+-- what follows a prefix of the word, where something does
+unfoldable pub value_after : List ℕ → List ℕ → Option (List ℕ)
+value_after prefix word =
+    if bytes_eq (take (length prefix) word) prefix && nat_lt (length prefix) (length word) then Some (drop (length prefix) word) else None
+
+-- `--NAME` and `--NAME=VALUE`, with a value that isn't empty; any other word that isn't plain is wrong
+unfoldable pub word_of : List ℕ → Word
+word_of word =
+    if is_plain word then plain
+    else if bytes_eq word (codes "--slots") then named name.Slots
+    else if bytes_eq word (codes "--payload") then named name.Payload
+    else option_map_or (λ value. given name.Slots value) (value_after (codes "--slots=") word)
+    (option_map_or (λ value. given name.Payload value) (value_after (codes "--payload=") word) wrong)
+
+-- The plain words in order, and the value that each option is given.
+pub record Uses : Type 0 where
+  pub plain : List (List ℕ)
+  pub slots : Option (List ℕ)
+  pub payload : Option (List ℕ)
+
+abbrev pub no_uses : Uses
+no_uses = record { plain = []; slots = None; payload = None }
+
+-- another plain word in front; no form has more than three
+abbrev pub with_plain : List ℕ → Uses → Option Uses
+with_plain word u = if nat_lt (length u.plain) 3 then Some (record { plain = word ∷ u.plain; slots = u.slots; payload = u.payload }) else None
+
+-- an option with its value; none may be given twice
+abbrev pub with_value : OptionName → List ℕ → Uses → Option Uses
+with_value name.Slots value u = if is_none u.slots then Some (record { plain = u.plain; slots = Some value; payload = u.payload }) else None
+with_value name.Payload value u = if is_none u.payload then Some (record { plain = u.plain; slots = u.slots; payload = Some value }) else None
+
+-- a word and what follows it: another word, and the uses of what comes after either
+abbrev pub followed : List ℕ → Word → Option (List ℕ) → Option Uses → Option Uses → Option Uses
+followed word plain next after_word after_next = option_and_then (with_plain word) after_word
+followed word (given option value) next after_word after_next = option_and_then (with_value option value) after_word
+followed word (named option) None after_word after_next = None
+followed word (named option) (Some value) after_word after_next = if is_plain value then option_and_then (with_value option value) after_next else None
+followed word wrong next after_word after_next = None
+
+-- what the words give, where each has its place
+abbrev pub uses_of : List (List ℕ) → Option Uses
+uses_of [] = Some no_uses
+uses_of (word ∷ []) = followed word (word_of word) None (Some no_uses) None
+uses_of (word ∷ next ∷ rest) = followed word (word_of word) (Some next) (uses_of (next ∷ rest)) (uses_of rest)
+
+-- an option's value: a number of 1 to 10 digits within bounds
+unfoldable pub value_in : ℕ → ℕ → List ℕ → Option ℕ
+value_in low high value = if nat_le (length value) 10 then number_in low high value else None

@@ -1,0 +1,190 @@
+//! Worked command lines.
+
+use crate::{Request, WordsFault, read_words};
+use std::alloc::Global;
+use std::test::Fail;
+
+fn read(alloc: Global, texts: &[&str]) -> Result<Result<Request, WordsFault>, Fail> {
+    let mut words = Vec::new(alloc);
+    for text in texts {
+        words.push(text.to_string(alloc)?)?;
+    }
+    Ok(read_words(alloc, words.as_slice()))
+}
+
+#[test]
+fn reads_the_commands_of_a_table(rt: HostRuntime) -> Result<(), Fail> {
+    for command in ["check", "stream", "listbits"] {
+        let request = read(rt.alloc(), &[command, "t1.csv"])?.ok().ok_or(command)?;
+        assert_eq!(rt;
+            matches!(&request, Request::CheckTable { .. }),
+            command == "check"
+        );
+        assert_eq!(rt;
+            matches!(&request, Request::StreamLine { .. }),
+            command == "stream"
+        );
+        assert_eq!(rt;
+            matches!(&request, Request::ListBits { .. }),
+            command == "listbits"
+        );
+        assert_eq!(rt; request.table(), Some("t1.csv"));
+        assert_eq!(rt; request.image(), None);
+        assert!(rt; !request.writes());
+    }
+    Ok(())
+}
+
+#[test]
+fn reads_the_commands_of_an_image(rt: HostRuntime) -> Result<(), Fail> {
+    let request = read(rt.alloc(), &["recover", "flight.img"])?
+        .ok()
+        .ok_or("recover")?;
+    assert!(rt; matches!(&request, Request::RecoverImage { .. }));
+    assert_eq!(rt;
+        (request.table(), request.image()),
+        (None, Some("flight.img"))
+    );
+    assert!(rt; !request.writes());
+
+    let lines: [&[&str]; 3] = [
+        &[
+            "format",
+            "t1.csv",
+            "flight.img",
+            "--payload=64",
+            "--slots",
+            "016",
+        ],
+        &[
+            "--slots=16",
+            "format",
+            "--payload",
+            "0000000064",
+            "t1.csv",
+            "flight.img",
+        ],
+        &[
+            "format",
+            "--slots",
+            "16",
+            "t1.csv",
+            "--payload",
+            "64",
+            "flight.img",
+        ],
+    ];
+    for line in lines {
+        let request = read(rt.alloc(), line)?.ok().ok_or("format")?;
+        assert_eq!(rt;
+            (request.table(), request.image()),
+            (Some("t1.csv"), Some("flight.img"))
+        );
+        assert!(rt; request.writes());
+        let Request::FormatImage { slots, payload, .. } = request else {
+            return Err("another command")?;
+        };
+        assert_eq!(rt; (slots, payload), (16, 64));
+    }
+    Ok(())
+}
+
+#[test]
+fn refuses_other_words(rt: HostRuntime) -> Result<(), Fail> {
+    let lines: [&[&str]; 24] = [
+        &[],
+        &["listbits"],
+        &["listbits", "t1.csv", "more"],
+        &["listbits", ""],
+        &["check", "-"],
+        &["check", "--"],
+        &["--help", "t1.csv"],
+        &["--version"],
+        &["list", "t1.csv"],
+        &["stream"],
+        &["recover", "flight.img", "--slots", "16"],
+        &["recover", "t1.csv", "flight.img"],
+        &["format", "t1.csv", "flight.img"],
+        &["format", "t1.csv", "flight.img", "--slots", "16"],
+        &[
+            "format",
+            "t1.csv",
+            "flight.img",
+            "--slots",
+            "16",
+            "--slots",
+            "16",
+            "--payload",
+            "64",
+        ],
+        &["format", "t1.csv", "flight.img", "--slots=16", "--payload="],
+        &["format", "t1.csv", "flight.img", "--slots=16", "--payload"],
+        &[
+            "format",
+            "t1.csv",
+            "flight.img",
+            "--payload",
+            "--slots=16",
+            "64",
+        ],
+        &[
+            "format",
+            "t1.csv",
+            "flight.img",
+            "--slots",
+            "3",
+            "--payload",
+            "64",
+        ],
+        &[
+            "format",
+            "t1.csv",
+            "flight.img",
+            "--slots",
+            "65537",
+            "--payload",
+            "64",
+        ],
+        &[
+            "format",
+            "t1.csv",
+            "flight.img",
+            "--slots",
+            "4",
+            "--payload",
+            "63",
+        ],
+        &[
+            "format",
+            "t1.csv",
+            "flight.img",
+            "--slots",
+            "4",
+            "--payload",
+            "4097",
+        ],
+        &[
+            "format",
+            "t1.csv",
+            "flight.img",
+            "--slots",
+            "00000000004",
+            "--payload",
+            "64",
+        ],
+        &[
+            "format",
+            "t1.csv",
+            "flight.img",
+            "--slots",
+            "+4",
+            "--payload",
+            "64",
+        ],
+    ];
+    for line in lines {
+        let answer = read(rt.alloc(), line)?;
+        assert_eq!(rt; answer.err(), Some(WordsFault::Usage));
+    }
+    Ok(())
+}

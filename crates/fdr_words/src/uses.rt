@@ -1,0 +1,162 @@
+//! What the words give: the words of the form itself, and the values of options.
+
+ghost use Rattle.std.specs.Prelude.{◌≡◌, ◌≤◌, Some, None, IfSome, map, string_bytes};
+ghost use Rattle.std.specs.Option.{option_map};
+ghost use Rattle.fdr_words.specs.Views.{uses_view, word_view};
+ghost use Rattle.fdr_words.specs.Words.{is_plain, value_after, word_of, with_plain, with_value, uses_of, value_in};
+
+/// An option of a command.
+#[derive(Clone, Copy)]
+pub(crate) enum OptionName {
+    /// How many blocks a ring has room for.
+    Slots,
+    /// How many bytes a block has at most.
+    Payload,
+}
+
+/// What a word is.
+#[derive(Clone, Copy)]
+enum Word<'a> {
+    /// A word of the form itself.
+    Plain,
+    /// `--NAME`: the option's value is the next word.
+    Named(OptionName),
+    /// `--NAME=VALUE`.
+    Given(OptionName, &'a [u8]),
+    /// A word that no form has.
+    Wrong,
+}
+
+/// The words of the form itself, of which no form has more than three.
+#[derive(Clone, Copy)]
+pub(crate) enum PlainWords<'a> {
+    None,
+    One(&'a str),
+    Two(&'a str, &'a str),
+    Three(&'a str, &'a str, &'a str),
+}
+
+/// The plain words in order, and the value that each option is given.
+#[derive(Clone, Copy)]
+pub(crate) struct Uses<'a> {
+    pub(crate) plain: PlainWords<'a>,
+    pub(crate) slots: Option<&'a [u8]>,
+    pub(crate) payload: Option<&'a [u8]>,
+}
+
+impl<'a> Uses<'a> {
+    /// Another plain word in front.
+    fn with_plain(self, word: &'a str) -> Option<Uses<'a>>
+        ensures { option_map uses_view result ≡ with_plain word.now (uses_view self.entry) }
+    {
+        let plain = match self.plain {
+            PlainWords::None => PlainWords::One(word),
+            PlainWords::One(first) => PlainWords::Two(word, first),
+            PlainWords::Two(first, second) => PlainWords::Three(word, first, second),
+            PlainWords::Three(..) => return None,
+        };
+        Some(Uses {
+            plain,
+            slots: self.slots,
+            payload: self.payload,
+        })
+    }
+
+    /// An option with its value, which isn't given yet.
+    fn with_value(self, option: OptionName, value: &'a [u8]) -> Option<Uses<'a>>
+        ensures { option_map uses_view result ≡ with_value option value.now (uses_view self.entry) }
+    {
+        match option {
+            OptionName::Slots => match self.slots {
+                None => Some(Uses {
+                    plain: self.plain,
+                    slots: Some(value),
+                    payload: self.payload,
+                }),
+                Some(_) => None,
+            },
+            OptionName::Payload => match self.payload {
+                None => Some(Uses {
+                    plain: self.plain,
+                    slots: self.slots,
+                    payload: Some(value),
+                }),
+                Some(_) => None,
+            },
+        }
+    }
+}
+
+/// Whether a word is neither empty nor an option word.
+fn is_plain(word: &str) -> bool
+    ensures { result ≡ is_plain word.now }
+{
+    match word.as_bytes() {
+        [] => false,
+        [byte, ..] => *byte != b'-',
+    }
+}
+
+/// What follows a prefix of a word, where something does.
+#[tactic(auto, unfolding(crate::specs::Words::value_after))]
+fn value_after<'a>(prefix: &[u8], word: &'a [u8]) -> Option<&'a [u8]>
+    ensures { option_map (λ value. value.now) result ≡ value_after prefix.now word.now }
+{
+    let value = word.strip_prefix(prefix)?;
+    if value.is_empty() {
+        return None;
+    }
+    Some(value)
+}
+
+/// What a word is.
+#[tactic(auto, unfolding(crate::specs::Words::word_of))]
+fn word_of(word: &str) -> Word<'_>
+    ensures { word_view result ≡ word_of word.now }
+{
+    if is_plain(word) {
+        return Word::Plain;
+    }
+    if word == "--slots" {
+        return Word::Named(OptionName::Slots);
+    }
+    if word == "--payload" {
+        return Word::Named(OptionName::Payload);
+    }
+    if let Some(value) = value_after(b"--slots=", word.as_bytes()) {
+        return Word::Given(OptionName::Slots, value);
+    }
+    match value_after(b"--payload=", word.as_bytes()) {
+        Some(value) => Word::Given(OptionName::Payload, value),
+        None => Word::Wrong,
+    }
+}
+
+/// What the words give, where each has its place. No form has more words than seven, and so deep this goes at most.
+#[tactic(auto, using(crate::proofs::UsesSteps::given_step))]
+pub(crate) fn uses_of(words: &[String]) -> Option<Uses<'_>>
+    ensures { option_map uses_view result ≡ uses_of (map string_bytes words.now) }
+{
+    let [word, rest @ ..] = words else {
+        return Some(Uses {
+            plain: PlainWords::None,
+            slots: None,
+            payload: None,
+        });
+    };
+    let word = word.as_str();
+    match word_of(word) {
+        Word::Plain => uses_of(rest)?.with_plain(word),
+        Word::Given(option, value) => uses_of(rest)?.with_value(option, value),
+        Word::Named(option) => {
+            let [next, rest @ ..] = rest else {
+                return None;
+            };
+            if !is_plain(next.as_str()) {
+                return None;
+            }
+            uses_of(rest)?.with_value(option, next.as_str().as_bytes())
+        }
+        Word::Wrong => None,
+    }
+}
