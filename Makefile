@@ -11,9 +11,10 @@ build:
 	mkdir -p bin
 	cp $(PROGRAM)/out/fdr_prog bin/fdr
 
-# Builds the program without its proofs, lists two recordings, and then streams a trace and lists what came out. The
-# stream goes by a file and not by a pipe, so that a failure of either command ends the demo.
+# Builds the program without its proofs, checks a table, lists two recordings, and then streams a trace and lists what
+# came out. The stream goes by a file and not by a pipe, so that a failure of either command ends the demo.
 demo:
+	cd $(PROGRAM) && rt try -- check $(CURDIR)/examples/ordinary.csv
 	cd $(PROGRAM) && rt try -- listbits $(CURDIR)/examples/t1.csv < ../../examples/frame.bin
 	cd $(PROGRAM) && rt try -- listbits $(CURDIR)/examples/t1.csv < ../../examples/two_frames.bin
 	mkdir -p bin
