@@ -1,8 +1,9 @@
 use crate::formats::{ALTITUDE, fresh_image};
 use fdr_cases::{Ran, deck_of, run_words};
 use fdr_deck::MemDeck;
+use fdr_recover::{Found, scan};
 use fdr_ring::{Ring, RingFault, read_image_header};
-use fdr_slot::ImageFault;
+use fdr_slot::{Header, ImageFault, OPEN, write_header, write_slot_head};
 use fdr_top::Outcome;
 use std::alloc::{AllocError, Global};
 use std::test::Fail;
@@ -125,5 +126,57 @@ fn says_what_failed(rt: HostRuntime) -> Result<(), Fail> {
     let unwritten = run_words(alloc, &words, ALTITUDE, &mut deck, &[0])?;
     assert_eq!(rt; unwritten.outcome, Outcome::WriteFault);
     assert_eq!(rt; unwritten.written.len(), 0);
+    Ok(())
+}
+
+/// An image of eight slots with blocks 2, 3, 4, 7 and 8, each in its slot. A block's bytes are its number.
+fn broken_ring(alloc: Global) -> Result<Vec<u8>, AllocError> {
+    let header = Header {
+        slots: 8,
+        payload: 64,
+        words: 64,
+        version: 1,
+    };
+    let mut image = Vec::from_slice(alloc, &write_header(&header))?;
+    for (open, number) in [
+        (true, 8),
+        (false, 1),
+        (true, 2),
+        (true, 3),
+        (true, 4),
+        (false, 5),
+        (false, 6),
+        (true, 7),
+    ] {
+        let mut head = write_slot_head(64, 0, u64::from(number));
+        if open {
+            head[0] = OPEN;
+        }
+        image.extend_from_slice(&head)?;
+        image.extend_from_slice(&[number; 64])?;
+    }
+    Ok(image)
+}
+
+/// The run of the image that a deck holds.
+fn found(deck: &mut MemDeck) -> Result<Found, RingFault> {
+    let header = read_image_header(deck)?;
+    match scan(deck, &header) {
+        Ok(found) => Ok(found),
+        Err(_) => Err(RingFault::DiskFault),
+    }
+}
+
+#[test]
+fn recovers_the_run_that_ends_at_the_greatest(rt: HostRuntime) -> Result<(), Fail> {
+    let alloc = rt.alloc();
+    let mut deck = deck_of(alloc, &broken_ring(alloc)?, &[], &[])?;
+    let run = Found { first: 7, next: 9 };
+    assert_eq!(rt; found(&mut deck).ok(), Some(run));
+    let recovered = recover(alloc, &mut deck)?;
+    assert_eq!(rt; recovered.outcome, Outcome::Done);
+    let mut blocks = vec![in alloc; 7; 64]?;
+    blocks.extend_from_slice(&[8; 64])?;
+    assert_eq!(rt; recovered.written, blocks);
     Ok(())
 }
