@@ -1,4 +1,5 @@
 pub mod WordLemmas
 pub mod PairLemmas
 pub mod FieldLemmas
+pub mod FieldsApart
 pub mod AppendLemmas

@@ -6,7 +6,7 @@ use Rattle.std.proofs.lemmas.Nat.Bits.{bit_at_cat_low, bit_at_cat_high}
 use Rattle.std.proofs.lemmas.Bool.{cases_lt}
 use Rattle.std.proofs.lemmas.List.Sums.{sum_by_push}
 use Rattle.std.specs.Int.{bit_at as nat_bit}
-use Rattle.fdr_bits.specs.Bits.{bit_at, word_at}
+use Rattle.fdr_bits.specs.Bits.{bit_at, number_of, word_at}
 
 -- every element is a byte
 abbrev pub AreBytes : List ℕ → Type 0
@@ -49,32 +49,40 @@ sum_of_bits m (suc n) =
     let before = sum_of_bits m n in
     rw e (omega (arith, more, split, before))
 
--- a number whose bits are given
-bits_value : (ℕ → ℕ) → ℕ → ℕ
-bits_value f n = sum_by (λ j. f j * 2 ^ j) (range_with_len 0 n)
+-- ---- a number whose bits are given
 
-bits_value_more : (f : ℕ → ℕ) (n : ℕ) → bits_value f (suc n) ≡ f n * 2 ^ n + bits_value f n
-unfolding bits_value
-bits_value_more f n = omega (arith, sum_more (λ j. f j * 2 ^ j) n)
+number_of-more : (f : ℕ → ℕ) (n : ℕ) → number_of f (suc n) ≡ f n * 2 ^ n + number_of f n
+unfolding number_of
+number_of-more f n = omega (arith, sum_more (λ j. f j * 2 ^ j) n)
 
-bits_value-below : (f : ℕ → ℕ) → ((j : ℕ) → f j < 2) → (n : ℕ) → bits_value f n < 2 ^ n
-bits_value-below f small zero = unfold bits_value in omega arith
-bits_value-below f small (suc n) =
+pub number_of-below : (f : ℕ → ℕ) → ((j : ℕ) → f j < 2) → (n : ℕ) → number_of f n < 2 ^ n
+number_of-below f small zero = unfold number_of in omega arith
+number_of-below f small (suc n) =
     let next : suc n ≡ 1 + n = omega arith in
     let twice : 2 ^ suc n ≡ 2 * 2 ^ n = ap (λ k. 2 ^ k) next ∙ pow-add 2 1 n in
     let one : f n * 2 ^ n ≤ 1 * 2 ^ n = mul-le (f n) (2 ^ n) 1 (2 ^ n) (omega (arith, small n)) (omega arith) in
-    omega (arith, bits_value_more f n, bits_value-below f small n, twice, one)
+    omega (arith, number_of-more f n, number_of-below f small n, twice, one)
 
-bits_value-bit : (f : ℕ → ℕ) → ((j : ℕ) → f j < 2) → (n j : ℕ) → j < n → nat_bit (bits_value f n) j ≡ f j
-bits_value-bit f small zero j h = absurd (omega arith)
-bits_value-bit f small (suc n) j h =
-    ap (λ v. nat_bit v j) (bits_value_more f n) ∙ ⊎_elim
-    (λ below. bit_at_cat_low (f n) n (bits_value f n) j below ∙ bits_value-bit f small n j below)
+pub number_of-bit : (f : ℕ → ℕ) → ((j : ℕ) → f j < 2) → (n j : ℕ) → j < n → nat_bit (number_of f n) j ≡ f j
+number_of-bit f small zero j h = absurd (omega arith)
+number_of-bit f small (suc n) j h =
+    ap (λ v. nat_bit v j) (number_of-more f n) ∙ ⊎_elim
+    (λ below. bit_at_cat_low (f n) n (number_of f n) j below ∙ number_of-bit f small n j below)
     (λ from. let here : j ≡ n = omega arith in
     let none : j - n ≡ 0 = omega arith in
     let lowest : nat_bit (f n) 0 ≡ f n = omega (arith, small n) in
-    bit_at_cat_high (f n) n (bits_value f n) j (bits_value-below f small n) from ∙ ap (nat_bit (f n)) none ∙ lowest ∙ ap f (sym here))
+    bit_at_cat_high (f n) n (number_of f n) j (number_of-below f small n) from ∙ ap (nat_bit (f n)) none ∙ lowest ∙ ap f (sym here))
     (cases_lt j n)
+
+-- numbers with the same bits are equal
+pub number_of-same : (f g : ℕ → ℕ) (n : ℕ) → ((j : ℕ) → j < n → f j ≡ g j) → number_of f n ≡ number_of g n
+unfolding number_of
+number_of-same f g n same = sum_agree (λ j. f j * 2 ^ j) (λ j. g j * 2 ^ j) n (λ j few. ap (λ x. x * 2 ^ j) (same j few))
+
+-- the low n bits of a number
+pub number_of-bits : (m n : ℕ) → number_of (nat_bit m) n ≡ m % 2 ^ n
+unfolding number_of
+number_of-bits m n = sum_of_bits m n
 
 -- bit 8 k + r of three bytes is bit r of byte k among them
 bit_of_three : (b : List ℕ) → AreBytes b → (q k r place i : ℕ) → k < 3 → r < 8 → place ≡ q + k → i ≡ 8 * k + r → nat_bit (three_bytes b q) i ≡ nat_bit (slice_index b place) r
@@ -102,20 +110,18 @@ pub word_at_by_bytes : (b : List ℕ) (p : ℕ) → AreBytes b → word_at b p �
 word_at_by_bytes b p bytes =
     let m = three_bytes b (p / 8) / 2 ^ (p % 8) in
     unfold word_at in
-    sum_agree (λ j. bit_at b (p + j) * 2 ^ j) (λ j. nat_bit m j * 2 ^ j) 12 (λ j few. ap (λ x. x * 2 ^ j) (bit_at_by_three b bytes p j few)) ∙ sum_of_bits m 12
-
-word_at_is_value : (b : List ℕ) (p : ℕ) → word_at b p ≡ bits_value (λ j. bit_at b (p + j)) 12
-unfolding word_at bits_value
-word_at_is_value b p = refl
+    number_of-same (λ j. bit_at b (p + j)) (nat_bit m) 12 (λ j few. bit_at_by_three b bytes p j few) ∙ number_of-bits m 12
 
 pub word_at_below : (b : List ℕ) (p : ℕ) → word_at b p < 4096
-word_at_below b p = rw word_at_is_value (bits_value-below (λ j. bit_at b (p + j)) (λ j. bit_at_below b (p + j)) 12)
+unfolding word_at
+word_at_below b p = number_of-below (λ j. bit_at b (p + j)) (λ j. bit_at_below b (p + j)) 12
 
 -- bit j of a word is bit p + j of the list
 pub word_at_bit : (b : List ℕ) (p j : ℕ) → j < 12 → word_at b p / 2 ^ j % 2 ≡ bit_at b (p + j)
-word_at_bit b p j h = rw word_at_is_value (bits_value-bit (λ i. bit_at b (p + i)) (λ i. bit_at_below b (p + i)) 12 j h)
+unfolding word_at
+word_at_bit b p j h = number_of-bit (λ i. bit_at b (p + i)) (λ i. bit_at_below b (p + i)) 12 j h
 
 -- words with the same bits are equal
 pub word_at_same : (b c : List ℕ) (p q : ℕ) → ((j : ℕ) → j < 12 → bit_at b (p + j) ≡ bit_at c (q + j)) → word_at b p ≡ word_at c q
 unfolding word_at
-word_at_same b c p q same = sum_agree (λ j. bit_at b (p + j) * 2 ^ j) (λ j. bit_at c (q + j) * 2 ^ j) 12 (λ j few. ap (λ x. x * 2 ^ j) (same j few))
+word_at_same b c p q same = number_of-same (λ j. bit_at b (p + j)) (λ j. bit_at c (q + j)) 12 same

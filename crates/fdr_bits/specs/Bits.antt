@@ -10,6 +10,10 @@ bits_in b = 8 * length b
 unfoldable pub bit_at : List ℕ → ℕ → ℕ
 bit_at b p = slice_index b (p / 8) / 2 ^ (p % 8) % 2
 
+-- the number of n bits whose bit j, from the least significant on, is `bits j`
+unfoldable pub number_of : (ℕ → ℕ) → ℕ → ℕ
+number_of bits n = sum_by (λ j. bits j * 2 ^ j) (range_with_len 0 n)
+
 -- the word of 12 bits that begins at bit p, its least significant bit first
 unfoldable pub word_at : List ℕ → ℕ → ℕ
-word_at b p = sum_by (λ j. bit_at b (p + j) * 2 ^ j) (range_with_len 0 12)
+word_at b p = number_of (λ j. bit_at b (p + j)) 12

@@ -1,13 +1,13 @@
 -- The good prefix of a trace that is read a record at a time, and its fault.
 use Rattle.std.proofs.Common.{◌≡◌, ◌≤◌, ◌<◌, ◌⊎◌, inl, inr, ⊎_elim, ℕ, ◌+◌, ◌-◌, ◌*◌, Bool, true, false, List, [], ◌∷◌, ◌++◌, Option, Some, None, length, get_or, take, refl, sym, ap, ◌∙◌, arith, length-append, eq-eqb}
-use Rattle.std.proofs.lemmas.Bool.{cases_Bool, cases_lt, or_cases, eqb-true, leb-true}
+use Rattle.std.proofs.lemmas.Bool.{cases_Bool, cases_lt}
 use Rattle.std.proofs.lemmas.Bool.Decides.{nat_tests}
-use Rattle.std.specs.Prelude.{◌==◌, ◌||◌, nat_le, nat_lt}
+use Rattle.std.specs.Prelude.{◌==◌, ◌||◌, nat_lt}
 use Rattle.std.proofs.lemmas.List.{append-nil, take-append-le, take_all, length-take, get_or-take}
 use Rattle.std.proofs.lemmas.List.Folds.{list_any-append}
 use Rattle.std.proofs.Math.Seq.{take-append-add}
 use Rattle.std.specs.Option.{option_map}
-use Rattle.fdr_bus.specs.Records.{record_bytes, whole_records, record_of, is_good, is_end, good_from, good_prefix, time_of, has_end, most_records, last_time, is_decided, IsDecided, IsOpen, record_fault, fault_after, trace_fault}
+use Rattle.fdr_bus.specs.Records.{record_bytes, whole_records, record_of, is_good, is_end, good_from, good_prefix, time_of, has_end, most_records, last_time, IsDecided, IsOpen, record_fault, fault_after, trace_fault}
 use Rattle.fdr_bus.specs.declared.BusRecord.{BusRecord}
 use Rattle.fdr_bus.specs.declared.TraceFault.{TraceFault}
 use Rattle.fdr_bus.specs.declared.TraceFault.TheVariants as fault
@@ -143,16 +143,6 @@ good_prefix_stays bytes next so_far sixteen bad =
     (λ full. good_prefix-decided bytes next (inr (inl (omega (arith, length-good_prefix-most bytes)))))
     (cases_lt n most_records)
 
--- the test of settled bytes, over plain values
-decided_test : (ended : Bool) (n most len : ℕ) → (ended ≡ true) ⊎ ((n ≡ most) ⊎ (16 * n + 16 ≤ len)) → (ended || (n == most) || nat_le (16 * n + 16) len) ≡ true
-decided_test ended n most len decided = grind (arith, nat_tests)
-
-decided_from_test : (ended : Bool) (n most len : ℕ) → (ended || (n == most) || nat_le (16 * n + 16) len) ≡ true → (ended ≡ true) ⊎ ((n ≡ most) ⊎ (16 * n + 16 ≤ len))
-decided_from_test ended n most len test = elim (or_cases (ended || (n == most)) (nat_le (16 * n + 16) len) test) [
-  | inl front ↦ elim (or_cases ended (n == most) front) [ inl e ↦ inl e | inr same ↦ inr (inl (eqb-true n most same)) ]
-  | inr long ↦ inr (inr (leb-true (16 * n + 16) len long))
-]
-
 -- what follows the end record changes nothing
 pub good_prefix-end : (bytes next more : List ℕ) → IsOpen bytes → length (good_prefix bytes) < most_records → length next ≡ 16 → is_good (time_of (good_prefix bytes)) next ≡ true → is_end (record_of next) ≡ true → good_prefix ((bytes ++ next) ++ more) ≡ good_prefix bytes ++ record_of next ∷ []
 good_prefix-end bytes next more so_far few sixteen good ends =
@@ -275,12 +265,6 @@ IsDecided-append bytes more decided =
       | inr (inl many) ↦ inr (inl (ap length same ∙ many))
       | inr (inr long) ↦ inr (inr (omega (arith, ap length same, length-append bytes more)))
     ]
-
-pub is_decided_true : (bytes : List ℕ) → IsDecided bytes → is_decided bytes ≡ true
-is_decided_true bytes decided = decided_test (has_end (good_prefix bytes)) (length (good_prefix bytes)) most_records (length bytes) decided
-
-pub IsDecided_from_test : (bytes : List ℕ) → is_decided bytes ≡ true → IsDecided bytes
-IsDecided_from_test bytes test = decided_from_test (has_end (good_prefix bytes)) (length (good_prefix bytes)) most_records (length bytes) test
 
 take_grows : (most : ℕ) (xs ys : List (List ℕ)) → (later : List (List ℕ)) × (take most (xs ++ ys) ≡ take most xs ++ later)
 take_grows most xs ys = ⊎_elim

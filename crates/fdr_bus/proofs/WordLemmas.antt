@@ -1,7 +1,12 @@
 -- The bits of a bus word, one after the other.
+use native.Mathlib.Nat.{div-div-eq-div-mul}
+use lib.Count.{ones, ones_step}
 use Rattle.std.proofs.Common.{◌≡◌, ℕ, suc, zero, ◌+◌, ◌-◌, ◌*◌, ◌/◌, ◌%◌, ◌^◌, ◌<◌, ◌≤◌, [], ◌∷◌, ◌++◌, fold, sum_by, refl, sym, ap, ◌∙◌, arith}
+use Rattle.std.specs.Prelude.{bit_and, count_ones}
+use Rattle.std.specs.Int.{bit_at, reverse_bits, reverse_bits_onto, w8}
 use Rattle.std.specs.List.{range_with_len}
-use Rattle.std.proofs.lemmas.Nat.{pow-add, pow_pos, mul-le}
+use Rattle.std.proofs.lemmas.Nat.{and_mask, div-add-mod', pow-add}
+use Rattle.std.proofs.lemmas.Nat.Bits.{bit_at_cat_low, shr_and_one}
 use Rattle.std.proofs.lemmas.List.Sums.{sum_by_push, fold-append}
 use Rattle.fdr_bus.specs.Words.{bus_bit, ones_to, reversed_to}
 
@@ -39,21 +44,68 @@ pub reversed_to_none : (word : ℕ) → reversed_to word 0 ≡ 0
 unfolding reversed_to
 reversed_to_none word = refl
 
-pub ones_to_at_most : (word n : ℕ) → ones_to word n ≤ n
-ones_to_at_most word zero = omega (arith, ones_to_none word)
-ones_to_at_most word (suc n) = omega (arith, ones_to_more word n, ones_to_at_most word n)
+-- each shift by one more halves what is left
+shift_more : (word n : ℕ) → word / 2 ^ n / 2 ≡ word / 2 ^ (n + 1)
+shift_more word n = div-div-eq-div-mul word (2 ^ n) 2 ∙ ap (λ d. word / d) (sym (pow-add 2 n 1))
 
-pub reversed_to_below : (word n : ℕ) → reversed_to word n < 2 ^ n
-reversed_to_below word zero = omega (arith, reversed_to_none word)
-reversed_to_below word (suc n) =
-    let next : suc n ≡ 1 + n = omega arith in
-    let twice : 2 ^ suc n ≡ 2 * 2 ^ n = ap (λ k. 2 ^ k) next ∙ pow-add 2 1 n in
-    omega (arith, reversed_to_more word n, reversed_to_below word n, twice)
+-- the bits up to one are counted, and what stands above it
+count_ones-split : (word n : ℕ) → count_ones word ≡ ones_to word n + count_ones (word / 2 ^ n)
+count_ones-split word zero = rw ones_to_none (grind arith)
+count_ones-split word (suc n) =
+    let next : n + 1 ≡ suc n = omega arith in
+    let half : count_ones (word / 2 ^ n / 2) ≡ count_ones (word / 2 ^ suc n) =
+    ap count_ones (shift_more word n) ∙ ap (λ k. count_ones (word / 2 ^ k)) next in
+    omega (arith, count_ones-split word n, ones_step (word / 2 ^ n), half, ones_to_more word n)
 
--- the first seven bits leave room for one more in a byte
-pub reversed_to_room : (word n : ℕ) → n < 8 → reversed_to word n < 128
-reversed_to_room word n few =
-    let rest : 7 - n + n ≡ 7 = omega arith in
-    let whole : 2 ^ (7 - n) * 2 ^ n ≡ 128 = sym (pow-add 2 (7 - n) n) ∙ ap (λ k. 2 ^ k) rest in
-    let more : 1 * 2 ^ n ≤ 2 ^ (7 - n) * 2 ^ n = mul-le 1 (2 ^ n) (2 ^ (7 - n)) (2 ^ n) (pow_pos (7 - n)) (omega arith) in
-    omega (arith, reversed_to_below word n, whole, more)
+-- all bits of a word of 32
+pub count_ones-word : (word : ℕ) → word < 2 ^ 32 → count_ones word ≡ ones_to word 32
+unfolding ones
+count_ones-word word fits =
+    let nothing : word / 2 ^ 32 ≡ 0 = omega arith in
+    let none : count_ones (word / 2 ^ 32) ≡ 0 = ap count_ones nothing ∙ refl in
+    omega (arith, count_ones-split word 32, none)
+
+-- the library's reversal of k bits takes one after the other
+reverse_bits_onto-bits : (k i word number : ℕ)
+    → reverse_bits_onto k (word / 2 ^ i) number ≡ fold (λ n j. n * 2 + bus_bit word j) number (range_with_len (1 + i) k)
+unfolding reverse_bits_onto
+reverse_bits_onto-bits zero i word number = refl
+reverse_bits_onto-bits (suc k) i word number =
+    let step : ℕ → ℕ → ℕ = λ n j. n * 2 + bus_bit word j in
+    let bit : word / 2 ^ i % 2 ≡ bus_bit word (1 + i) = sym (bus_bit_shift word i) in
+    let place : 1 + (i + 1) ≡ 1 + i + 1 = omega arith in
+    ap (λ rest. reverse_bits_onto k rest (number * 2 + word / 2 ^ i % 2)) (shift_more word i)
+    ∙ ap (λ b. reverse_bits_onto k (word / 2 ^ (i + 1)) (number * 2 + b)) bit
+    ∙ reverse_bits_onto-bits k (i + 1) word (number * 2 + bus_bit word (1 + i))
+    ∙ ap (λ first. fold step (number * 2 + bus_bit word (1 + i)) (range_with_len first k)) place
+
+-- bit n by the library's name
+shifted_bit : (word n : ℕ) → word / 2 ^ n % 2 ≡ bit_at word n
+shifted_bit word n = sym (and_mask (word / 2 ^ n) 1) ∙ shr_and_one word n
+
+-- the low bits of a word are those of its low part
+low_bit : (word m n : ℕ) → n < m → word % 2 ^ m / 2 ^ n % 2 ≡ word / 2 ^ n % 2
+low_bit word m n low =
+    shifted_bit (word % 2 ^ m) n
+    ∙ sym (bit_at_cat_low (word / 2 ^ m) m (word % 2 ^ m) n low)
+    ∙ ap (λ w. bit_at w n) (div-add-mod' word (2 ^ m))
+    ∙ sym (shifted_bit word n)
+
+reversed_to-low : (word m n : ℕ) → n ≤ m → reversed_to (word % 2 ^ m) n ≡ reversed_to word n
+reversed_to-low word m zero low = reversed_to_none (word % 2 ^ m) ∙ sym (reversed_to_none word)
+reversed_to-low word m (suc n) low = omega (
+  arith,
+  reversed_to_more (word % 2 ^ m) n,
+  reversed_to_more word n,
+  reversed_to-low word m n (omega arith),
+  low_bit word m n (omega arith),
+)
+
+-- a byte's bits the other way round
+pub reverse_bits-low : (word : ℕ) → reverse_bits w8 (bit_and word 0xff) ≡ reversed_to word 8
+unfolding reversed_to
+reverse_bits-low word =
+    let whole : word % 2 ^ 8 ≡ word % 2 ^ 8 / 2 ^ 0 = grind arith in
+    ap (λ byte. reverse_bits_onto 8 byte 0) (and_mask word 8 ∙ whole)
+    ∙ reverse_bits_onto-bits 8 0 (word % 2 ^ 8) 0
+    ∙ reversed_to-low word 8 8 (omega arith)

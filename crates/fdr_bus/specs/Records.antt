@@ -29,6 +29,7 @@ record_of bytes = record {
 abbrev pub last_time : ℕ
 last_time = 1440000000000
 
+-- how many good records a trace has at most
 unfoldable pub most_records : ℕ
 most_records = 2 ^ 32
 
@@ -72,11 +73,7 @@ time_of records = time_after 0 records
 abbrev pub has_end : List BusRecord → Bool
 has_end records = list_any is_end records
 
--- these bytes settle the trace, whatever follows them
-abbrev pub is_decided : List ℕ → Bool
-is_decided bytes = has_end (good_prefix bytes) || (length (good_prefix bytes) == most_records) || nat_le (16 * length (good_prefix bytes) + 16) (length bytes)
-
--- the same as a fact
+-- these bytes settle the trace, whatever follows them: an end, the most good records, or a record that isn't good
 abbrev pub IsDecided : List ℕ → Type 0
 IsDecided bytes = (has_end (good_prefix bytes) ≡ true) ⊎ ((length (good_prefix bytes) ≡ most_records) ⊎ (16 * length (good_prefix bytes) + 16 ≤ length bytes))
 

@@ -12,7 +12,7 @@ ghost use Rattle.fdr_bus.specs.declared.TraceFault.TheVariants as fault;
 use byteorder::{BigEndian, ByteOrder};
 
 /// The latest time that a record may have, in microseconds from the start of the recording.
-pub const LAST_TIME: u64 = 1_440_000_000_000;
+const LAST_TIME: u64 = 1_440_000_000_000;
 
 /// What a record of a trace is.
 #[derive(Clone, Copy, PartialEq, Eq, Debug)]
@@ -43,7 +43,7 @@ pub enum TraceFault {
     Kind,
     /// Its time is below that of the record before.
     Back,
-    /// Its time is over `LAST_TIME`.
+    /// Its time is over 1,440,000,000,000 microseconds.
     Late,
     /// The trace stops before an end record.
     Truncated,
@@ -97,15 +97,10 @@ pub fn parse(bytes: &[u8; 16], before: u64) -> Result<BusRecord, TraceFault>
 }
 
 /// The label, which stands in bits 1 to 8 of an ARINC 429 word with its most significant bit in bit 1.
-#[tactic(auto, using(std::proofs::lemmas::Nat::Bits::shr_and_one, crate::proofs::WordLemmas::reversed_to_more, crate::proofs::WordLemmas::reversed_to_none, crate::proofs::WordLemmas::reversed_to_room))]
 pub fn label(word: u32) -> u8
     ensures { result ≡ label_of word }
 {
-    let mut label: u8 = 0;
-    for i in 0..8u32 {
-        label = label * 2 + ((word >> i) & 1) as u8;
-    }
-    label
+    ((word & 0xff) as u8).reverse_bits()
 }
 
 /// The source or destination identifier, in bits 9 and 10 of an ARINC 429 word. Bit 9 is its lower bit.
@@ -117,15 +112,10 @@ pub fn sdi(word: u32) -> u8
 }
 
 /// Whether an odd number of the 32 bits are 1, as they are in an ARINC 429 word that came undamaged.
-#[tactic(auto, using(std::proofs::lemmas::Nat::Bits::shr_and_one, crate::proofs::WordLemmas::ones_to_more, crate::proofs::WordLemmas::ones_to_none, crate::proofs::WordLemmas::ones_to_at_most))]
 pub fn is_odd(word: u32) -> bool
     ensures { IsTrue result ↔ IsTrue (words.is_odd word) }
 {
-    let mut ones: u32 = 0;
-    for i in 0..32u32 {
-        ones += (word >> i) & 1;
-    }
-    ones % 2 == 1
+    word.count_ones() % 2 == 1
 }
 
 /// The number in the `width` bits from bit `lsb` on, where bit 1 is the least significant.

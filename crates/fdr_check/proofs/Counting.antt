@@ -37,7 +37,7 @@ sum_turned g xs (y ∷ ys) =
     ∙ ap (λ n. sum_by (λ x. g x y) xs + n) (sum_turned g xs ys)
     ∙ sym (sum_by-cons (λ y. sum_by (λ x. g x y) xs) y ys)
 
-length_at : (w : ℕ) (places : List PlaceRow) (x : ℕ) → length (occurrences_at w places x) ≡ count_by (begins_at w x) places
+pub length_at : (w : ℕ) (places : List PlaceRow) (x : ℕ) → length (occurrences_at w places x) ≡ count_by (begins_at w x) places
 length_at w places x = simp length-map (length-filter (begins_at w x) places)
 
 -- all places together occur as often as each does

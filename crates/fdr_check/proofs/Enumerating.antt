@@ -9,7 +9,7 @@ use Rattle.fdr_table.specs.declared.fault.TableFault.{TableFault}
 use Rattle.fdr_table.specs.declared.fault.TableFault.TheVariants as fault
 use Rattle.fdr_check.specs.Faults.{has_parts, parts_fault, rate_of, rate_fault}
 use Rattle.fdr_check.specs.Groups.{places_of, grouped}
-use Rattle.fdr_check.proofs.Searches.{cond_none, first_some_none, first_some_some, first_some_parts}
+use Rattle.fdr_check.proofs.Searches.{cond_none, first_some_none, first_some_some, first_later, first_at_last}
 use Rattle.fdr_check.proofs.Overlapping.{none_of}
 use Rattle.fdr_check.proofs.Grouping.{group_at, has_parts_of, rate_of_own}
 
@@ -35,28 +35,6 @@ find_at_last t a (x ∷ xs) (suc i) d l none holds =
     ap (λ b. cond b (Some (a, x)) (find t (enumerate_from (a + 1) xs))) h.0
     ∙ find_at_last t (a + 1) xs i d (omega arith) h.1 (ap (λ k. t (k, get_or xs i d)) (sym e) ∙ holds)
     ∙ ap (λ k. Some (k, get_or xs i d)) (sym e)
-
-first_later : {X A : Type 0} (f : ℕ × X → Option A) (a : ℕ) (xs : List X) (i : ℕ) (d : X) → i < length xs → first_some (map f (enumerate_from a (take i xs))) ≡ None → f (a + i, get_or xs i d) ≡ None → first_some (map f (enumerate_from a (take (suc i) xs))) ≡ None
-first_later f a [] i d l none fails = absurd (omega arith)
-first_later f a (x ∷ xs) zero d l none fails =
-    let e : a + zero ≡ a = omega arith in
-    first_some_none (f (a, x)) [] (ap (λ k. f (k, x)) (sym e) ∙ fails)
-first_later f a (x ∷ xs) (suc i) d l none fails =
-    let h = first_some_parts (f (a, x)) (map f (enumerate_from (a + 1) (take i xs))) none in
-    let e : a + suc i ≡ a + 1 + i = omega arith in
-    first_some_none (f (a, x)) (map f (enumerate_from (a + 1) (take (suc i) xs))) h.0
-    ∙ first_later f (a + 1) xs i d (omega arith) h.1 (ap (λ k. f (k, get_or xs i d)) (sym e) ∙ fails)
-
-first_at_last : {X A : Type 0} (f : ℕ × X → Option A) (a : ℕ) (xs : List X) (i : ℕ) (d : X) (r : A) → i < length xs → first_some (map f (enumerate_from a (take i xs))) ≡ None → f (a + i, get_or xs i d) ≡ Some r → first_some (map f (enumerate_from a xs)) ≡ Some r
-first_at_last f a [] i d r l none holds = absurd (omega arith)
-first_at_last f a (x ∷ xs) zero d r l none holds =
-    let e : a + zero ≡ a = omega arith in
-    first_some_some (f (a, x)) r (map f (enumerate_from (a + 1) xs)) (ap (λ k. f (k, x)) (sym e) ∙ holds)
-first_at_last f a (x ∷ xs) (suc i) d r l none holds =
-    let h = first_some_parts (f (a, x)) (map f (enumerate_from (a + 1) (take i xs))) none in
-    let e : a + suc i ≡ a + 1 + i = omega arith in
-    first_some_none (f (a, x)) (map f (enumerate_from (a + 1) xs)) h.0
-    ∙ first_at_last f (a + 1) xs i d r (omega arith) h.1 (ap (λ k. f (k, get_or xs i d)) (sym e) ∙ holds)
 
 -- a parameter that its parts don't make up, and its fault
 abbrev pub is_incomplete : List PlaceRow → ℕ × ParamRow → Bool

@@ -13,3 +13,4 @@ pub mod Sounding
 pub mod Laws
 pub mod Slotting
 pub mod Lines
+pub mod Sharing

@@ -8,8 +8,10 @@ use Rattle.std.proofs.lemmas.Bool.{and_from, and_parts, or_cases, eq-eqb, eqb-tr
 use Rattle.std.proofs.lemmas.List.FromFn.{length-range_with_len, get_or-range_with_len}
 use Rattle.std.proofs.lemmas.List.Folds.{list_any_at}
 use Rattle.fdr_frame.specs.Slots.{frame_of, subframe_of, word_of, is_counter}
+use Rattle.fdr_frame.proofs.WordCounts.{word_count_bounds}
 use Rattle.fdr_table.specs.Rows.{FrameRow, PlaceRow}
-use Rattle.fdr_table.specs.Ranges.{IsFrameInRange, IsPlaceInRange, periods, frame_sizes}
+use Rattle.fdr_table.specs.Bounds.{periods}
+use Rattle.fdr_table.specs.Ranges.{IsFrameInRange, IsPlaceInRange}
 use Rattle.fdr_table.specs.Fields.{is_among}
 use Rattle.fdr_check.specs.Occurrences.{has_subframe, is_on_word, occurs}
 use Rattle.fdr_check.specs.Faults.{meets_counter}
@@ -32,9 +34,6 @@ any_from_range t n k l h =
 pub period_few : (n : ℕ) → is_among periods n ≡ true → n ≤ 16
 period_few n h = grind (arith, nat_tests)
 
-pub words_some : (n : ℕ) → is_among frame_sizes n ≡ true → (64 ≤ n) × (n ≤ 1024)
-words_some n h = grind (arith, nat_tests)
-
 -- a slot in the counter's word of a frame that the place is in
 counter_slot : (w c s p : ℕ) → s < 4 → p < w → c < 16 → ((c * 4 + s) * w + p < 64 * w) × (frame_of w ((c * 4 + s) * w + p) ≡ c) × (subframe_of w ((c * 4 + s) * w + p) ≡ s + 1) × (word_of w ((c * 4 + s) * w + p) ≡ p + 1)
 counter_slot w c s p low within few =
@@ -47,7 +46,7 @@ pub meets_by_word : (f : FrameRow) (p : PlaceRow) → IsFrameInRange f → IsPla
 unfolding meets_counter
 meets_by_word f p fits in_range =
     let w = f.words in
-    let some = words_some w fits.words in
+    let some = word_count_bounds w fits.words in
     let t : ℕ → Bool = λ k. occurs w p k && is_counter w f.cword f.csub k in
     same_bool _ _
     (λ h.

@@ -1,17 +1,18 @@
 -- Overlaps, place by place.
-use Rattle.std.proofs.Common.{◌≡◌, ℕ, ◌+◌, ◌*◌, ◌<◌, ◌≤◌, Bool, true, false, ◌||◌, ◌&&◌, List, [], ◌∷◌, ◌++◌, Option, Some, None, option_map, length, get_or, take, map, cond, is_some, refl, subst, ap, sym, ◌∙◌, zero, suc, arith}
-use Rattle.std.specs.List.{find, list_any, range_with_len, All}
-use Rattle.std.proofs.lemmas.List.{append_assoc, append-nil, take_more}
+use Rattle.std.proofs.Common.{◌≡◌, ℕ, ◌+◌, ◌*◌, ◌<◌, ◌≤◌, Bool, true, false, ◌||◌, ◌&&◌, List, [], ◌∷◌, ◌++◌, Option, Some, None, option_map, length, get_or, take, map, cond, is_some, refl, subst, ap, sym, ◌∙◌, zero, suc, zero-add, arith}
+use Rattle.std.specs.List.{find, list_any, range_with_len, enumerate_from, All}
+use Rattle.std.proofs.lemmas.List.{take_more, take_all}
 use Rattle.std.proofs.lemmas.List.Folds.{list_any-append}
 use Rattle.std.proofs.lemmas.List.Elements.{All-head, All-tail}
 use Rattle.std.proofs.lemmas.Bool.{false_from_ne_true, and_parts, and_from, or_left, or_right, both_ways}
 use Rattle.fdr_table.specs.Rows.{PlaceRow}
+use Rattle.fdr_table.specs.Reading.{first_some}
 use Rattle.fdr_table.specs.declared.fault.TableFault.{TableFault}
 use Rattle.fdr_check.specs.Occurrences.{frame_bits}
 use Rattle.fdr_check.specs.Soundness.{covers}
 use Rattle.fdr_check.specs.Faults.{overlap_at, first_shared, overlap_with, overlap_among}
 use Rattle.fdr_check.specs.Walks.{is_marked, AreMarks}
-use Rattle.fdr_check.proofs.Searches.{first_some_none, first_some_some, first_some_parts, first_some_more, first_some_here}
+use Rattle.fdr_check.proofs.Searches.{first_some_none, first_some_more, first_some_here, first_later, first_at_last}
 use Rattle.fdr_check.proofs.Ranges.{fails_from_find, find_no}
 
 find_same : (t u : ℕ → Bool) (a n : ℕ) → ((x : ℕ) → a ≤ x → x < a + n → t x ≡ u x) → find t (range_with_len a n) ≡ find u (range_with_len a n)
@@ -96,29 +97,6 @@ none_by_marks w above q marks each none =
     both_ways (covers w q b && is_marked marks b) (fails_from_find (λ b. covers w q b && is_marked marks b) 0 (768 * w) b none (omega arith) (omega arith))
     (ap (λ m. covers w q b && m) (each b l) ∙ h)))
 
-pub overlap_among_more : (w : ℕ) (above xs : List PlaceRow) (q : PlaceRow) → overlap_among w above xs ≡ None → overlap_with w (above ++ xs) q ≡ None → overlap_among w above (xs ++ q ∷ []) ≡ None
-unfolding overlap_among
-overlap_among_more w above [] q none e =
-    first_some_none (overlap_with w above q) (None ∷ []) (ap (λ xs. overlap_with w xs q) (sym (append-nil above)) ∙ e)
-overlap_among_more w above (x ∷ xs) q none e =
-    let h = first_some_parts (overlap_with w above x) (overlap_among w (above ++ x ∷ []) xs ∷ []) none in
-    let rest = first_some_parts (overlap_among w (above ++ x ∷ []) xs) [] h.1 in
-    let later = overlap_among_more w (above ++ x ∷ []) xs q rest.0 (ap (λ ys. overlap_with w ys q) (append_assoc above (x ∷ []) xs) ∙ e) in
-    first_some_none (overlap_with w above x) (overlap_among w (above ++ x ∷ []) (xs ++ q ∷ []) ∷ []) h.0
-    ∙ first_some_none (overlap_among w (above ++ x ∷ []) (xs ++ q ∷ [])) [] later
-
-pub overlap_among_here : (w : ℕ) (above xs : List PlaceRow) (i : ℕ) (d : PlaceRow) (f : ℕ × TableFault) → i < length xs → overlap_among w above (take i xs) ≡ None → overlap_with w (above ++ take i xs) (get_or xs i d) ≡ Some f → overlap_among w above xs ≡ Some f
-unfolding overlap_among
-overlap_among_here w above [] i d f l none e = absurd (omega arith)
-overlap_among_here w above (x ∷ xs) zero d f l none e =
-    first_some_some (overlap_with w above x) f (overlap_among w (above ++ x ∷ []) xs ∷ []) (ap (λ ys. overlap_with w ys x) (sym (append-nil above)) ∙ e)
-overlap_among_here w above (x ∷ xs) (suc i) d f l none e =
-    let h = first_some_parts (overlap_with w above x) (overlap_among w (above ++ x ∷ []) (take i xs) ∷ []) none in
-    let rest = first_some_parts (overlap_among w (above ++ x ∷ []) (take i xs)) [] h.1 in
-    let later = overlap_among_here w (above ++ x ∷ []) xs i d f (omega arith) rest.0 (ap (λ ys. overlap_with w ys (get_or xs i d)) (append_assoc above (x ∷ []) (take i xs)) ∙ e) in
-    first_some_none (overlap_with w above x) (overlap_among w (above ++ x ∷ []) xs ∷ []) h.0
-    ∙ first_some_some (overlap_among w (above ++ x ∷ []) xs) f [] later
-
 pub overlap_found : (w : ℕ) (above : List PlaceRow) (q : PlaceRow) (i : ℕ) (p : PlaceRow) (b row : ℕ) (f : TableFault) → i < length above → p ≡ get_or above i p → overlap_with w (take i above) q ≡ None → first_shared w p q ≡ Some b → row ≡ q.row → f ≡ overlap_at w p q b → Some (row, f) ≡ overlap_with w above q
 overlap_found w above q i p b row f l is none shared row_is f_is =
     let here : first_shared w (get_or above i p) q ≡ Some b = ap (λ x. first_shared w x q) (sym is) ∙ shared in
@@ -133,19 +111,30 @@ pub none_of : {X : Type 0} (o : Option X) → is_some o ≡ false → o ≡ None
 none_of None h = refl
 none_of (Some x) h = absurd (cc)
 
-pub overlap_among_found : (w : ℕ) (places : List PlaceRow) (i : ℕ) (q : PlaceRow) (o : Option (ℕ × TableFault)) → i < length places → q ≡ get_or places i q → overlap_among w [] (take i places) ≡ None → o ≡ overlap_with w (take i places) q → is_some o ≡ true → o ≡ overlap_among w [] places
+-- the fault of a place, by its index
+abbrev pub overlap_by_index : ℕ → List PlaceRow → ℕ × PlaceRow → Option (ℕ × TableFault)
+overlap_by_index w places e = overlap_with w (take e.0 places) e.1
+
+overlap_here : (w : ℕ) (places : List PlaceRow) (i : ℕ) (q : PlaceRow) (o : Option (ℕ × TableFault)) → q ≡ get_or places i q → o ≡ overlap_with w (take i places) q → overlap_by_index w places (0 + i, get_or places i q) ≡ o
+overlap_here w places i q o is e =
+    ap (λ k. overlap_by_index w places (k, get_or places i q)) (zero-add i) ∙ ap (overlap_with w (take i places)) (sym is) ∙ sym e
+
+pub overlap_among_found : (w : ℕ) (places : List PlaceRow) (i : ℕ) (q : PlaceRow) (o : Option (ℕ × TableFault)) → i < length places → q ≡ get_or places i q → first_some (map (overlap_by_index w places) (enumerate_from 0 (take i places))) ≡ None → o ≡ overlap_with w (take i places) q → is_some o ≡ true → o ≡ overlap_among w places
+unfolding overlap_among
 overlap_among_found w places i q None l is none e some = absurd (cc)
 overlap_among_found w places i q (Some f) l is none e some =
-    sym (overlap_among_here w [] places i q f l none (ap (overlap_with w (take i places)) (sym is) ∙ sym e))
+    sym (first_at_last (overlap_by_index w places) 0 places i q f l none (overlap_here w places i q (Some f) is e))
 
-pub overlap_among_not_yet : (w : ℕ) (places : List PlaceRow) (i : ℕ) (q : PlaceRow) (o : Option (ℕ × TableFault)) → i < length places → q ≡ get_or places i q → overlap_among w [] (take i places) ≡ None → o ≡ overlap_with w (take i places) q → is_some o ≡ false → overlap_among w [] (take (i + 1) places) ≡ None
+pub overlap_among_not_yet : (w : ℕ) (places : List PlaceRow) (i : ℕ) (q : PlaceRow) (o : Option (ℕ × TableFault)) → i < length places → q ≡ get_or places i q → first_some (map (overlap_by_index w places) (enumerate_from 0 (take i places))) ≡ None → o ≡ overlap_with w (take i places) q → is_some o ≡ false → first_some (map (overlap_by_index w places) (enumerate_from 0 (take (i + 1) places))) ≡ None
 overlap_among_not_yet w places i q o l is none e some =
-    ap (overlap_among w []) (take_more places i q l)
-    ∙ overlap_among_more w [] (take i places) (get_or places i q) none (ap (overlap_with w (take i places)) (sym is) ∙ sym e ∙ none_of o some)
+    let next : suc i ≡ i + 1 = omega arith in
+    ap (λ k. first_some (map (overlap_by_index w places) (enumerate_from 0 (take k places)))) (sym next)
+    ∙ first_later (overlap_by_index w places) 0 places i q l none (overlap_here w places i q o is e ∙ none_of o some)
 
-pub no_overlap_among : (w : ℕ) → overlap_among w [] [] ≡ None
+pub no_overlap_among : (w : ℕ) (places : List PlaceRow) (i : ℕ) → length places ≤ i → first_some (map (overlap_by_index w places) (enumerate_from 0 (take i places))) ≡ None → None ≡ overlap_among w places
 unfolding overlap_among
-no_overlap_among w = refl
+no_overlap_among w places i all none =
+    sym (ap (λ ps. first_some (map (overlap_by_index w places) (enumerate_from 0 ps))) (sym (take_all i places all)) ∙ none)
 
 pub marks_next : (w : ℕ) (places : List PlaceRow) (i : ℕ) (p : PlaceRow) (old new : List Bool) → i < length places → p ≡ get_or places i p → AreMarks w (take i places) old → length new ≡ length old → ((b : ℕ) → b < 768 * w → is_marked new b ≡ (is_marked old b || covers w p b)) → AreMarks w (take (i + 1) places) new
 marks_next w places i p old new l is are len more =

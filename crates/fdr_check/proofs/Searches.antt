@@ -1,6 +1,6 @@
 -- Searches through a list, element by element.
 use Rattle.std.proofs.Common.{◌≡◌, ℕ, ◌+◌, ◌<◌, Bool, true, false, cond, List, [], ◌∷◌, ◌++◌, Option, Some, None, length, get_or, take, map, refl, ap, sym, ◌∙◌, zero, suc, arith}
-use Rattle.std.specs.List.{find, list_any}
+use Rattle.std.specs.List.{find, list_any, enumerate_from}
 use Rattle.std.proofs.lemmas.List.{take_more, map_more}
 use Rattle.std.proofs.lemmas.List.Folds.{list_any_more, list_any_at}
 use Rattle.std.proofs.lemmas.Bool.{or_from}
@@ -55,3 +55,26 @@ first_some_here f [] i d a l none e = absurd (omega arith)
 first_some_here f (x ∷ xs) zero d a l none e = first_some_some (f x) a (map f xs) e
 first_some_here f (x ∷ xs) (suc i) d a l none e =
     let h = first_some_parts (f x) (map f (take i xs)) none in first_some_none (f x) (map f xs) h.0 ∙ first_some_here f xs i d a (omega arith) h.1 e
+
+-- the same over numbered elements
+pub first_later : {X A : Type 0} (f : ℕ × X → Option A) (a : ℕ) (xs : List X) (i : ℕ) (d : X) → i < length xs → first_some (map f (enumerate_from a (take i xs))) ≡ None → f (a + i, get_or xs i d) ≡ None → first_some (map f (enumerate_from a (take (suc i) xs))) ≡ None
+first_later f a [] i d l none fails = absurd (omega arith)
+first_later f a (x ∷ xs) zero d l none fails =
+    let e : a + zero ≡ a = omega arith in
+    first_some_none (f (a, x)) [] (ap (λ k. f (k, x)) (sym e) ∙ fails)
+first_later f a (x ∷ xs) (suc i) d l none fails =
+    let h = first_some_parts (f (a, x)) (map f (enumerate_from (a + 1) (take i xs))) none in
+    let e : a + suc i ≡ a + 1 + i = omega arith in
+    first_some_none (f (a, x)) (map f (enumerate_from (a + 1) (take (suc i) xs))) h.0
+    ∙ first_later f (a + 1) xs i d (omega arith) h.1 (ap (λ k. f (k, get_or xs i d)) (sym e) ∙ fails)
+
+pub first_at_last : {X A : Type 0} (f : ℕ × X → Option A) (a : ℕ) (xs : List X) (i : ℕ) (d : X) (r : A) → i < length xs → first_some (map f (enumerate_from a (take i xs))) ≡ None → f (a + i, get_or xs i d) ≡ Some r → first_some (map f (enumerate_from a xs)) ≡ Some r
+first_at_last f a [] i d r l none holds = absurd (omega arith)
+first_at_last f a (x ∷ xs) zero d r l none holds =
+    let e : a + zero ≡ a = omega arith in
+    first_some_some (f (a, x)) r (map f (enumerate_from (a + 1) xs)) (ap (λ k. f (k, x)) (sym e) ∙ holds)
+first_at_last f a (x ∷ xs) (suc i) d r l none holds =
+    let h = first_some_parts (f (a, x)) (map f (enumerate_from (a + 1) (take i xs))) none in
+    let e : a + suc i ≡ a + 1 + i = omega arith in
+    first_some_none (f (a, x)) (map f (enumerate_from (a + 1) xs)) h.0
+    ∙ first_at_last f (a + 1) xs i d r (omega arith) h.1 (ap (λ k. f (k, get_or xs i d)) (sym e) ∙ holds)

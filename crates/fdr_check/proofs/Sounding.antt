@@ -1,9 +1,9 @@
 -- A table has no fault exactly where it is sound: the facts behind each fault.
-use Rattle.std.proofs.Common.{◌≡◌, ℕ, ◌+◌, ◌*◌, ◌<◌, ◌≤◌, ◌==◌, ◌&&◌, max, Bool, true, false, cond, List, [], ◌∷◌, ◌++◌, Option, Some, None, option_map, length, get_or, map, refl, subst, sym, ◌∙◌, zero, suc, arith}
+use Rattle.std.proofs.Common.{◌≡◌, ℕ, ◌+◌, ◌*◌, ◌<◌, ◌≤◌, ◌==◌, ◌&&◌, max, Bool, true, false, cond, List, [], ◌∷◌, Option, Some, None, option_map, length, get_or, take, map, refl, subst, sym, ◌∙◌, zero, suc, arith}
 use Rattle.std.specs.List.{range_with_len, filter, find, list_all, enumerate_from, slice_get, All, AllPairs, fold}
-use Rattle.std.proofs.lemmas.List.{append_assoc, append-nil, get_or_append_left, get_or_at, length-append}
+use Rattle.std.proofs.lemmas.List.{get_or-take, length-take}
+use Rattle.std.proofs.lemmas.Option.{slice_get-get_or, slice_get_within, get_or_from_slice_get}
 use Rattle.std.proofs.lemmas.List.Elements.{All-nil, All-cons, All-head, All-tail}
-use Rattle.std.proofs.lemmas.List.Quantifiers.{all_pairs_push}
 use Rattle.std.proofs.lemmas.Bool.{and_parts, and_from, eq-eqb, eqb-true, both_ways, cond-false, true_from_ne_false, false_from_ne_true}
 use Rattle.fdr_table.specs.Rows.{PlaceRow}
 use Rattle.fdr_table.specs.Reading.{first_some}
@@ -13,7 +13,7 @@ use Rattle.fdr_check.specs.Soundness.{covers, ShareNoBit}
 use Rattle.fdr_check.specs.Faults.{first_shared, overlap_with, overlap_among, overlap_at, last_part}
 use Rattle.fdr_check.proofs.Searches.{cond_none, first_some_none, first_some_parts}
 use Rattle.fdr_check.proofs.Ranges.{fails_from_find, find_no, not_all}
-use Rattle.fdr_check.proofs.Overlapping.{no_overlap_with}
+use Rattle.fdr_check.proofs.Overlapping.{no_overlap_with, overlap_by_index}
 
 pub option_map_none : {X Y : Type 0} (f : X → Y) (o : Option X) → option_map f o ≡ None → o ≡ None
 option_map_none f None h = refl
@@ -84,34 +84,25 @@ all_unshared w (p ∷ above) q none =
     let h = overlap_with_parts w p above q none in
     All-cons (λ p. ShareNoBit w p q) p above (unshared w p q h.0) (all_unshared w above q h.1)
 
-pairs_from : (w : ℕ) (above places : List PlaceRow) → AllPairs (ShareNoBit w) above → overlap_among w above places ≡ None → AllPairs (ShareNoBit w) (above ++ places)
+pub apart_from : (w : ℕ) (places : List PlaceRow) → overlap_among w places ≡ None → AllPairs (ShareNoBit w) places
 unfolding overlap_among
-pairs_from w above [] pairs none = subst (AllPairs (ShareNoBit w)) (sym (append-nil above)) pairs
-pairs_from w above (q ∷ below) pairs none =
-    let h = first_some_parts (overlap_with w above q) (overlap_among w (above ++ q ∷ []) below ∷ []) none in
-    let rest = first_some_parts (overlap_among w (above ++ q ∷ []) below) [] h.1 in
-    let more = all_pairs_push (ShareNoBit w) above q pairs (all_unshared w above q h.0) in
-    subst (AllPairs (ShareNoBit w)) (append_assoc above (q ∷ []) below) (pairs_from w (above ++ q ∷ []) below more rest.0)
+apart_from w places none = λ i j d low high.
+    let q = get_or places j d in
+    let all = all_none (overlap_by_index w places) (enumerate_from 0 places) none in
+    let here : overlap_with w (take (0 + j) places) q ≡ None = at_index (λ e. overlap_by_index w places e ≡ None) 0 places j q all (slice_get-get_or places j d high) in
+    let within : i < length (take (0 + j) places) = omega (arith, length-take (0 + j) places) in
+    subst (λ p. ShareNoBit w p q) (get_or-take (0 + j) places i d (omega arith)) (all_unshared w (take (0 + j) places) q here i d within)
 
-pub apart_from : (w : ℕ) (places : List PlaceRow) → overlap_among w [] places ≡ None → AllPairs (ShareNoBit w) places
-apart_from w places none = pairs_from w [] places (λ i j d low high. absurd (omega arith)) none
-
-none_among : (w : ℕ) (above places : List PlaceRow) → AllPairs (ShareNoBit w) (above ++ places) → overlap_among w above places ≡ None
+pub none_apart : (w : ℕ) (places : List PlaceRow) → AllPairs (ShareNoBit w) places → overlap_among w places ≡ None
 unfolding overlap_among
-none_among w above [] pairs = refl
-none_among w above (q ∷ below) pairs =
-    let unshared_here : overlap_with w above q ≡ None = no_overlap_with w above q (λ k d l.
-    let first : get_or (above ++ q ∷ below) k d ≡ get_or above k d = get_or_append_left above (q ∷ below) d k l in
-    let second : get_or (above ++ q ∷ below) (length above) d ≡ q = get_or_at above q below d (length above) refl in
-    let within : length above < length (above ++ q ∷ below) = omega (arith, length-append above (q ∷ below)) in
-    let pair : ShareNoBit w (get_or (above ++ q ∷ below) k d) (get_or (above ++ q ∷ below) (length above) d) = pairs k (length above) d l within in
-    shared_none w (get_or above k d) q (subst (λ p. ShareNoBit w p q) first (subst (ShareNoBit w (get_or (above ++ q ∷ below) k d)) second pair))) in
-    let rest = none_among w (above ++ q ∷ []) below (subst (AllPairs (ShareNoBit w)) (sym (append_assoc above (q ∷ []) below)) pairs) in
-    first_some_none (overlap_with w above q) (overlap_among w (above ++ q ∷ []) below ∷ []) unshared_here
-    ∙ first_some_none (overlap_among w (above ++ q ∷ []) below) [] rest
-
-pub none_apart : (w : ℕ) (places : List PlaceRow) → AllPairs (ShareNoBit w) places → overlap_among w [] places ≡ None
-none_apart w places pairs = none_among w [] places pairs
+none_apart w places pairs =
+    none_of_all (overlap_by_index w places) (enumerate_from 0 places) (from_index (λ e. overlap_by_index w places e ≡ None) 0 places
+    (λ n q at. no_overlap_with w (take (0 + n) places) q (λ k d l.
+    let len = length-take (0 + n) places in
+    let first : get_or (take (0 + n) places) k d ≡ get_or places k d = get_or-take (0 + n) places k d (omega (arith, len)) in
+    let second : get_or places n d ≡ q = get_or_from_slice_get places n q d at in
+    let pair : ShareNoBit w (get_or places k d) (get_or places n d) = pairs k n d (omega (arith, len)) (slice_get_within places n q at) in
+    shared_none w (get_or (take (0 + n) places) k d) q (subst (λ p. ShareNoBit w p q) (sym first) (subst (ShareNoBit w (get_or places k d)) second pair)))))
 
 -- the greatest part number
 abbrev greatest : ℕ → List PlaceRow → ℕ

@@ -1,5 +1,5 @@
 -- The faults of a table whose rows are read, in the order of their numbers.
-use Rattle.std.specs.Prelude.{ℕ, ◌+◌, ◌*◌, ◌/◌, ◌%◌, Bool, not, if◌then◌else◌, ◌==◌, ◌&&◌, nat_le, nat_lt, List, [], ◌∷◌, ◌++◌, length, map, filter, find, fold, max, sum_by, Option, Some, None, option_map}
+use Rattle.std.specs.Prelude.{ℕ, ◌+◌, ◌*◌, ◌/◌, ◌%◌, Bool, not, if◌then◌else◌, ◌==◌, ◌&&◌, nat_le, nat_lt, List, [], ◌∷◌, length, take, map, filter, find, fold, max, sum_by, Option, Some, None, option_map}
 use Rattle.std.specs.List.{list_all, list_any, enumerate_from, range_with_len}
 use Rattle.fdr_frame.specs.Slots.{is_counter, word_of}
 use Rattle.fdr_table.specs.Rows.{FrameRow, ParamRow, PlaceRow, TableRows}
@@ -45,12 +45,11 @@ unfoldable pub overlap_with : ℕ → List PlaceRow → PlaceRow → RowFault
 overlap_with w above q = first_some (map (λ (p : PlaceRow). option_map (λ b. (q.row, overlap_at w p q b)) (first_shared w p q)) above)
 
 -- the first place that shares a bit with a place above it
-unfoldable pub overlap_among : ℕ → List PlaceRow → List PlaceRow → RowFault
-overlap_among w above [] = None
-overlap_among w above (q ∷ below) = first_some (overlap_with w above q ∷ overlap_among w (above ++ q ∷ []) below ∷ [])
+unfoldable pub overlap_among : ℕ → List PlaceRow → RowFault
+overlap_among w places = first_some (map (λ (e : ℕ × PlaceRow). overlap_with w (take e.0 places) e.1) (enumerate_from 0 places))
 
 unfoldable pub overlap_fault : TableRows → RowFault
-overlap_fault t = overlap_among t.frame.words [] t.places
+overlap_fault t = overlap_among t.frame.words t.places
 
 -- the greatest number of a part of the parameter with this index, 0 where it has no place
 unfoldable pub last_part : List PlaceRow → ℕ → ℕ

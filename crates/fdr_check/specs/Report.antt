@@ -22,14 +22,16 @@ unfoldable pub is_even : ℕ → List PlaceRow → ℕ → ℕ → Bool
 is_even w places n rate = list_all (λ i. rate * (first_slot w places n i - first_slot w places n 0) == i * (64 * w)) (range_with_len 0 rate)
 
 -- `frame,W,PARAMS,PARTS`
-abbrev pub frame_line : TableRows → List ℕ
-frame_line t = codes "frame," ++ decimal t.frame.words ++ codes "," ++ decimal (length t.params) ++ codes "," ++ decimal (length (occurrences t.frame.words t.places)) ++ codes "\n"
+abbrev pub frame_line : ℕ → ℕ → ℕ → List ℕ
+frame_line words params parts = codes "frame," ++ decimal words ++ codes "," ++ decimal params ++ codes "," ++ decimal parts ++ codes "\n"
 
 -- `param,NAME,RATE,even` or `param,NAME,RATE,uneven`
-abbrev pub param_line : TableRows → ℕ → ParamRow → List ℕ
-param_line t n p =
-    codes "param," ++ p.name ++ codes "," ++ decimal p.rate
-    ++ (if is_even t.frame.words t.places n p.rate then codes ",even\n" else codes ",uneven\n")
+abbrev pub param_line : Bool → ParamRow → List ℕ
+param_line even p =
+    codes "param," ++ p.name ++ codes "," ++ decimal p.rate ++ (if even then codes ",even\n" else codes ",uneven\n")
 
+-- the frame's line, and one of each parameter
 unfoldable pub report_of : TableRows → List ℕ
-report_of t = frame_line t ++ flat_map (λ (e : ℕ × ParamRow). param_line t e.0 e.1) (enumerate_from 0 t.params)
+report_of t =
+    frame_line t.frame.words (length t.params) (length (occurrences t.frame.words t.places))
+    ++ flat_map (λ (e : ℕ × ParamRow). param_line (is_even t.frame.words t.places e.0 e.1.rate) e.1) (enumerate_from 0 t.params)

@@ -1,6 +1,6 @@
 //! The faults of a table whose rows are read, in their order.
 
-ghost use Rattle.std.specs.Prelude.{◌≡◌, ◌<◌, ◌≤◌, ◌==◌, nat_lt, length, IfOk, ◌∷◌, []};
+ghost use Rattle.std.specs.Prelude.{◌≡◌, ◌<◌, ◌≤◌, ◌==◌, ◌^◌, nat_lt, length, IfOk, ◌∷◌, []};
 ghost use Rattle.fdr_table.specs.Rows.{PlaceRow};
 ghost use Rattle.fdr_table.specs.Reading.{first_some};
 ghost use Rattle.fdr_table.specs.Ranges.{IsInRange};
@@ -111,7 +111,7 @@ fn are_too_many(words: u32, places: &[Place]) -> bool
 }
 
 /// The number of words in a subframe.
-#[tactic(auto, using(crate::proofs::Meeting::words_some))]
+#[tactic(auto, using(fdr_frame::proofs::WordCounts::word_count_bounds))]
 pub(crate) fn words_of(t: &Table) -> u32
     ensures words { result ≡ t.now.frame.words }
     ensures some { 0 < result }
@@ -142,19 +142,20 @@ fn parts_fault(t: &Table, groups: &[Group]) -> RowFault
 }
 
 /// The first parameter of which a part doesn't occur as often as its rate says.
-fn rate_fault(t: &Table, groups: &[Group]) -> Result<RowFault, NoMemory>
-    requires { groups.now ≡ grouped t.now.places (length t.now.params) }
-    ensures { IfOk result (λ f. f ≡ rate_fault t.now) }
+fn rate_fault(t: &Table, groups: &[Group]) -> RowFault
+    requires groups { groups.now ≡ grouped t.now.places (length t.now.params) }
+    requires fits { length (occurrences t.now.frame.words t.now.places) < 2 ^ 32 }
+    ensures { result ≡ rate_fault t.now }
 {
     let words = words_of(t);
     let params = t.params();
     for (index, param) in params.iter().enumerate() {
-        let fault = rate_of(words, groups[index].places(), index, param)?;
+        let fault = rate_of(words, groups[index].places(), index, param);
         if fault.is_some() {
-            return Ok(fault);
+            return fault;
         }
     }
-    Ok(None)
+    None
 }
 
 #[tactic(auto, unfolding(crate::specs::Faults::many_fault, crate::specs::Soundness::most_parts))]
@@ -183,20 +184,21 @@ fn places_fault(t: &Table) -> RowFault
     counter_fault(t)
 }
 
-/// The first fault of the parameters' parts.
-fn samples_fault(t: &Table, groups: &[Group]) -> Result<RowFault, NoMemory>
-    requires { groups.now ≡ grouped t.now.places (length t.now.params) }
-    ensures { IfOk result (λ f. f ≡ first_some (parts_fault t.now ∷ rate_fault t.now ∷ many_fault t.now ∷ [])) }
+/// The first fault of the parameters' parts. Places that share no bit occur fewer than 2^32 times.
+fn samples_fault(t: &Table, groups: &[Group]) -> RowFault
+    requires groups { groups.now ≡ grouped t.now.places (length t.now.params) }
+    requires fits { length (occurrences t.now.frame.words t.now.places) < 2 ^ 32 }
+    ensures { result ≡ first_some (parts_fault t.now ∷ rate_fault t.now ∷ many_fault t.now ∷ []) }
 {
     let fault = parts_fault(t, groups);
     if fault.is_some() {
-        return Ok(fault);
+        return fault;
     }
-    let fault = rate_fault(t, groups)?;
+    let fault = rate_fault(t, groups);
     if fault.is_some() {
-        return Ok(fault);
+        return fault;
     }
-    Ok(many_fault(t))
+    many_fault(t)
 }
 
 /// The first fault of a table.
@@ -213,5 +215,5 @@ pub(crate) fn table_fault(alloc: Global, t: &Table) -> Result<RowFault, NoMemory
         return Ok(fault);
     }
     let groups = places_by_param(alloc, t.params().len(), t.places())?;
-    samples_fault(t, &groups)
+    Ok(samples_fault(t, &groups))
 }

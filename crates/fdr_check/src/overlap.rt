@@ -82,7 +82,7 @@ pub(crate) fn overlap_among(
 ) -> Result<RowFault, NoMemory>
     requires some { 0 < words }
     requires few { words ≤ 1024 }
-    ensures { IfOk result (λ f. f ≡ overlap_among words [] places.now) }
+    ensures { IfOk result (λ f. f ≡ overlap_among words places.now) }
 {
     let mut marks = unmarked(alloc, words)?;
     for (index, place) in places.iter().enumerate() {

@@ -1,16 +1,16 @@
 //! The parts of a parameter.
 
-ghost use Rattle.std.specs.Prelude.{◌≡◌, ◌<◌, ◌≤◌, ◌==◌, sum_by, map, filter, if◌then◌else◌, IfOk};
+ghost use Rattle.std.specs.Prelude.{◌≡◌, ◌<◌, ◌≤◌, ◌==◌, ◌^◌, length, sum_by, map, filter, if◌then◌else◌};
 ghost use Rattle.std.specs.List.{list_all, range_with_len};
 ghost use Rattle.fdr_table.specs.Rows.{PlaceRow};
-ghost use Rattle.fdr_check.specs.Occurrences.{is_part, part_width};
+ghost use Rattle.fdr_check.specs.Occurrences.{is_part, part_width, occurrences};
 ghost use Rattle.fdr_check.specs.Soundness.{has_part};
 ghost use Rattle.fdr_check.specs.Faults.{last_part, has_parts, count_of, rate_of};
 ghost use Rattle.fdr_check.specs.Walks.{starts_of, off_rate_at};
 
 use crate::overlap::RowFault;
 use crate::walk::count_starts;
-use fdr_table::{NoMemory, Param, Place, TableFault};
+use fdr_table::{Param, Place, TableFault};
 use std::marker::Model;
 
 /// Whether a place carries this part of the parameter with this index.
@@ -148,60 +148,45 @@ fn count_in(words: u32, place: &Place, param: usize, part: u8) -> u32
 }
 
 /// How often a part occurs in a superframe.
-fn count_of(words: u32, places: &[Place], param: usize, part: u8) -> Result<u32, NoMemory>
+fn count_of(words: u32, places: &[Place], param: usize, part: u8) -> u32
     requires some { 0 < words }
     requires few { words ≤ 1024 }
-    ensures { IfOk result (λ n. n ≡ count_of words places.now param part) }
+    requires fits { length (occurrences words places.now) < 2 ^ 32 }
+    ensures { result ≡ count_of words places.now param part }
 {
-    let mut count = 0_u32;
+    let mut count = 0;
     for place in places {
-        let Some(more) = count.checked_add(count_in(words, place, param, part)) else {
-            return Err(NoMemory);
-        };
-        count = more;
+        count += count_in(words, place, param, part);
     }
-    Ok(count)
+    count
 }
 
 /// How often a part of a parameter occurs in a superframe, where that differs from the rate.
-fn off_rate(
-    words: u32,
-    places: &[Place],
-    param: usize,
-    part: u8,
-    rate: u32,
-) -> Result<Option<u32>, NoMemory>
+fn off_rate(words: u32, places: &[Place], param: usize, part: u8, rate: u32) -> Option<u32>
     requires some { 0 < words }
     requires few { words ≤ 1024 }
-    ensures { IfOk result (λ off. off ≡ off_rate_at words places.now param rate part) }
+    requires fits { length (occurrences words places.now) < 2 ^ 32 }
+    ensures { result ≡ off_rate_at words places.now param rate part }
 {
     if !has_part(places, param, part) {
-        return Ok(None);
+        return None;
     }
-    let count = count_of(words, places, param, part)?;
-    if count == rate {
-        Ok(None)
-    } else {
-        Ok(Some(count))
-    }
+    let count = count_of(words, places, param, part);
+    if count == rate { None } else { Some(count) }
 }
 
 /// The fault of the lowest part that doesn't occur as often as the parameter's rate says.
-pub(crate) fn rate_of(
-    words: u32,
-    places: &[Place],
-    index: usize,
-    param: &Param,
-) -> Result<RowFault, NoMemory>
+pub(crate) fn rate_of(words: u32, places: &[Place], index: usize, param: &Param) -> RowFault
     requires some { 0 < words }
     requires few { words ≤ 1024 }
-    ensures { IfOk result (λ f. f ≡ rate_of words places.now index param.now) }
+    requires fits { length (occurrences words places.now) < 2 ^ 32 }
+    ensures { result ≡ rate_of words places.now index param.now }
 {
     for part in 1..5_u8 {
-        if let Some(counted) = off_rate(words, places, index, part, param.rate)? {
+        if let Some(counted) = off_rate(words, places, index, part, param.rate) {
             let declared = param.rate;
-            return Ok(Some((param.row, TableFault::Rate { declared, counted })));
+            return Some((param.row, TableFault::Rate { declared, counted }));
         }
     }
-    Ok(None)
+    None
 }

@@ -3,8 +3,7 @@
 ghost use Rattle.std.specs.Prelude.{◌≡◌, ◌<◌, ◌≤◌, ◌++◌, length, codes, decimal, IfOk};
 ghost use Rattle.std.specs.List.{enumerate_from};
 ghost use Rattle.fdr_check.specs.Occurrences.{occurrences};
-ghost use Rattle.fdr_check.specs.Report.{is_even, report_of};
-ghost use Rattle.fdr_check.specs.Slots.{frame_text, param_text};
+ghost use Rattle.fdr_check.specs.Report.{is_even, frame_line, param_line, report_of};
 
 use crate::faults::words_of;
 use crate::groups::places_by_param;
@@ -32,7 +31,7 @@ fn count_parts(words: u32, places: &[Place]) -> u32
 
 /// `frame,W,PARAMS,PARTS`
 fn frame_line(alloc: Global, words: u32, params: usize, parts: u32) -> Result<Vec<u8>, NoMemory>
-    ensures { IfOk result (λ line. line.items ≡ frame_text words params parts) }
+    ensures { IfOk result (λ line. line.items ≡ frame_line words params parts) }
 {
     let mut digits = Buffer::new();
     let mut line = Vec::from_slice(alloc, b"frame,")?;
@@ -47,7 +46,7 @@ fn frame_line(alloc: Global, words: u32, params: usize, parts: u32) -> Result<Ve
 
 /// `param,NAME,RATE,even` or `param,NAME,RATE,uneven`
 fn param_line(alloc: Global, param: &Param, even: bool) -> Result<Vec<u8>, NoMemory>
-    ensures { IfOk result (λ line. line.items ≡ param_text even param.now) }
+    ensures { IfOk result (λ line. line.items ≡ param_line even param.now) }
 {
     let mut digits = Buffer::new();
     let mut line = Vec::from_slice(alloc, b"param,")?;
@@ -73,7 +72,7 @@ fn line_of(
     requires some { 0 < words }
     requires few { words ≤ 1024 }
     ensures { IfOk result (λ line. line.items
-        ≡ param_text (is_even words places.now index param.now.rate) param.now) }
+        ≡ param_line (is_even words places.now index param.now.rate) param.now) }
 {
     let even = is_even(alloc, words, places, index, param.rate)?;
     param_line(alloc, param, even)

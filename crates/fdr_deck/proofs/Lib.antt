@@ -7,3 +7,4 @@ mod MemoryDisk
 mod MemoryPass
 mod MemoryWrite
 mod MemoryStops
+pub mod Quiet

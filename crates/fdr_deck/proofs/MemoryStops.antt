@@ -1,10 +1,12 @@
 -- What stops leave of the calls of the deck in memory.
-use Rattle.std.proofs.Common.{◌≡◌, inl, inr, ℕ, zero, suc, ◌+◌, ◌<◌, ◌≤◌, List, [], ◌∷◌, ◌++◌, length, take, get_or, sym, ap, ◌∙◌, subst, arith}
-use Rattle.std.proofs.lemmas.List.{take_more}
+use Rattle.std.proofs.Common.{◌≡◌, inl, inr, ℕ, zero, suc, ◌+◌, ◌<◌, ◌≤◌, List, [], ◌∷◌, ◌++◌, length, take, get_or, refl, sym, ap, ◌∙◌, subst, length-append, arith}
+use Rattle.std.proofs.lemmas.List.{take_more, take_all}
 use Rattle.fdr_deck.specs.Memory.{held_by, left_by, left_within, held_after, left_after, IsInside, FitsIn, AreInside, IsStopped, IsStoppedAfter}
+use Rattle.fdr_deck.specs.Stops.{image_after, image_within, image_at}
 use Rattle.fdr_deck.specs.declared.calls.Call.{Call}
 use Rattle.fdr_deck.specs.declared.calls.Call.TheVariants.{Pass, Write, FailedWrite, Sync, Provide, FailedProvide}
 use Rattle.fdr_deck.specs.declared.calls.Entry.{Entry}
+use Rattle.fdr_deck.specs.declared.stops.Tear.{Tear}
 use Rattle.fdr_deck.proofs.MemoryCalls.{held_push, left_pushed}
 use Rattle.fdr_deck.proofs.Torn.{length-patched}
 
@@ -93,3 +95,51 @@ IsLeft-more es first i now image next_now next e h is all so_far replayed stoppe
           (stopped_after e.call (held_after (take i es) first) (left_after (take i es) first (λ c. c ≡ first)) image next so_far.left stopped_then));
       long = omega (arith, long, ap (λ (l : List ℕ). length l) now_held, ap (λ (l : List ℕ). length l) replayed);
     }
+
+-- one call more
+image_at-push : (tear : Tear) (es : List Entry) (e : Entry) (held image : List ℕ)
+    → image_at tear (es ++ e ∷ []) (suc (length es)) held image ≡ image_after tear e.call (held_after es held) (image_at tear es (length es) held image)
+unfolding held_after image_at
+image_at-push tear [] e held image = refl
+image_at-push tear (x ∷ es) e held image = image_at-push tear es e (held_by x.call held)
+    (image_after tear x.call held image)
+
+-- a stop within a call, by what one before it leaves
+pub image_at-within : (tear : Tear) (n : ℕ) (es : List Entry) (held image : List ℕ) (d : Entry) → n < length es
+    → image_at tear es n held image ≡ image_within tear (get_or es n d).call (image_at tear (take n es) (length (take n es)) held image)
+unfolding image_at
+image_at-within tear n [] held image d h = absurd (omega (arith, h))
+image_at-within tear zero (x ∷ es) held image d h = refl
+image_at-within tear (suc n) (x ∷ es) held image d h = image_at-within tear n es (held_by x.call held)
+    (image_after tear x.call held image) d (omega (arith, h))
+
+-- what a stop after the first i calls leaves
+pub image_before : Tear → List Entry → List ℕ → ℕ → List ℕ
+image_before tear es first i = image_at tear (take i es) (length (take i es)) first first
+
+pub image_before-start : (tear : Tear) (es : List Entry) (first left : List ℕ) → left ≡ first
+    → left ≡ image_before tear es first 0
+unfolding image_at image_before
+image_before-start tear es first left is = is
+
+pub image_before-more : (tear : Tear) (es : List Entry) (first : List ℕ) (i : ℕ) (now image next : List ℕ) (e : Entry)
+    → i < length es → e ≡ get_or es i e → IsLeft es first i now image → image ≡ image_before tear es first i
+    → next ≡ image_after tear e.call now image → next ≡ image_before tear es first (i + 1)
+unfolding image_before
+image_before-more tear es first i now image next e h is so_far was stopped =
+    let more : take (i + 1) es ≡ take i es ++ e ∷ [] = take_more es i e h ∙ ap (λ (x : Entry). take i es ++ x ∷ []) (sym is) in
+    let n : length (take (i + 1) es) ≡ suc (length (take i es)) =
+    omega (arith, ap (λ (l : List Entry). length l) more, length-append (take i es) (e ∷ [])) in
+    let here : image_after tear e.call now image ≡ image_after tear e.call (held_after (take i es) first) (image_before tear es first i) =
+    ap (λ (l : List ℕ). image_after tear e.call l image) so_far.held
+    ∙ ap (λ (l : List ℕ). image_after tear e.call (held_after (take i es) first) l) was in
+    stopped ∙ here ∙ sym (image_at-push tear (take i es) e first first)
+    ∙ sym (ap (λ (k : ℕ). image_at tear (take (i + 1) es) k first first) n
+    ∙ ap (λ (l : List Entry). image_at tear l (suc (length (take i es))) first first) more)
+
+pub image_before-all : (tear : Tear) (es : List Entry) (first image : List ℕ) (i : ℕ) → i ≡ length es
+    → image ≡ image_before tear es first i → image ≡ image_at tear es (length es) first first
+unfolding image_before
+image_before-all tear es first image i all is =
+    let whole : take i es ≡ es = ap (λ (k : ℕ). take k es) all ∙ take_all (length es) es (omega arith) in
+    is ∙ ap (λ (l : List Entry). image_at tear l (length l) first first) whole

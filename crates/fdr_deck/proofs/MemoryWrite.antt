@@ -1,17 +1,22 @@
 -- Writes of the deck in memory, and the call that provides its disk, as its methods tell them.
-use Rattle.std.proofs.Common.{◌≡◌, ◌⊎◌, inl, ⊎_elim, ℕ, ◌+◌, ◌≤◌, List, length, Vec, refl, sym, ap, ◌∙◌, subst, arith}
+use Rattle.std.proofs.Common.{◌≡◌, ◌⊎◌, inl, inr, ⊎_elim, ℕ, ◌+◌, ◌≤◌, List, length, Vec, refl, sym, ap, ◌∙◌, subst, arith}
 use Rattle.std.specs.Prelude.{replicate}
 use Rattle.std.specs.declared.alloc.Global.{Global}
 use Rattle.std.proofs.lemmas.List.{nil_from_length}
 use Rattle.fdr_deck.specs.State.{State, Tells}
-use Rattle.fdr_deck.specs.Disk.{KeepsDisk, Tears, Writes, Begins}
+use Rattle.fdr_deck.specs.Disk.{KeepsDisk, Tears, Writes, Begins, Torn, IsZeros}
 use Rattle.fdr_deck.specs.Moments.{Within, WithinProvide, EachMoment}
 use Rattle.fdr_deck.specs.Calls.{Passes}
-use Rattle.fdr_deck.specs.Memory.{Memory, memory_state, memory_tells, held_in, IsEntered, IsUnentered, KeepsPulled}
+use Rattle.fdr_deck.specs.Memory.{Memory, memory_state, memory_tells, held_in, left_in, IsEntered, IsUnentered, IsNumbered, KeepsPulled}
+use Rattle.fdr_deck.specs.declared.calls.Entry.{Entry}
 use Rattle.fdr_deck.specs.declared.calls.Call.TheVariants.{Write, FailedWrite, FailedProvide}
 use Rattle.fdr_deck.proofs.Torn.{Torn-same}
-use Rattle.fdr_deck.proofs.MemoryCalls.{passes_entered}
+use Rattle.fdr_deck.proofs.MemoryCalls.{passes_entered, entered_left}
 use Rattle.fdr_deck.proofs.MemoryDisk.{keeps_disk_unentered, passes_unentered, within_unentered, within_provide_unentered, within_write, within_failed_write, writes_write, extent_write, tears_write, tears_failed_write, within_failed_provide, begins_failed_provide}
+
+-- a call that wasn't entered has no number
+unnumbered : (old new : Memory) → IsUnentered old new → IsNumbered old new → ⊥
+unnumbered old new unentered numbered = omega (arith, numbered, ap (λ (l : List Entry). length l) unentered.entries)
 
 -- a write that did nothing
 Tears-keep : (tells : Tells) (at n : ℕ) (old new : State) → KeepsDisk old new → Tears tells at n old new
@@ -48,6 +53,14 @@ module _ (at : ℕ) (bytes : List ℕ) (old new : Memory) where
         (tears_unentered at (length bytes) old new)
         failed
 
+    pub pending_failed : IsNumbered old new → (from image : List ℕ) → left_in old from
+        → Torn at (length bytes) from image → left_in new image
+    pending_failed numbered from image left torn = ⊎_elim
+        (λ entered. entered_left (FailedWrite at entered.0) old new entered.2 image
+        (from, (left, subst (λ (l : List ℕ). Torn at (length l) from image) (sym entered.1) torn)))
+        (λ unentered. absurd (unnumbered old new unentered numbered))
+        failed
+
     pub extent_failed : length (held_in new) ≡ length (held_in old)
     extent_failed = (tears_failed.held refl).size
 
@@ -56,6 +69,14 @@ module _ (at : ℕ) (bytes : List ℕ) (old new : Memory) where
 
     pub within_failed : EachMoment memory_tells (memory_state old) (memory_state new) (Within (memory_state old) (memory_state new))
     within_failed = ⊎_elim (λ entered. within_failed_write at entered.0 old new entered.2) (within_unentered old new) failed
+
+pub pending_unentered : (at n : ℕ) (old new : Memory) → IsUnentered old new → IsNumbered old new
+    → (from image : List ℕ) → left_in old from → Torn at n from image → left_in new image
+pending_unentered at n old new unentered numbered from image left torn = absurd (unnumbered old new unentered numbered)
+
+pub zeros_unentered : (size : ℕ) (old new : Memory) → IsUnentered old new → IsNumbered old new
+    → length (held_in old) ≡ 0 → (image : List ℕ) → IsZeros size image → left_in new image
+zeros_unentered size old new unentered numbered empty image is = absurd (unnumbered old new unentered numbered)
 
 -- an empty disk that was to be provided, and for which there was no memory
 pub begins_unentered : (size : ℕ) (old new : Memory) → IsUnentered old new → length (held_in old) ≡ 0 → Begins memory_tells size (memory_state old) (memory_state new)
@@ -72,6 +93,12 @@ begins_unentered size old new unentered empty =
 module _ (size : ℕ) (old new : Memory) (failed : IsEntered (FailedProvide size) old new ⊎ IsUnentered old new) where
   pub begins_failed : length (held_in old) ≡ 0 → Begins memory_tells size (memory_state old) (memory_state new)
   begins_failed empty = ⊎_elim (λ entered. begins_failed_provide size old new entered empty) (λ unentered. begins_unentered size old new unentered empty) failed
+
+  pub zeros_failed : IsNumbered old new → (image : List ℕ) → IsZeros size image → left_in new image
+  zeros_failed numbered image is = ⊎_elim
+      (λ entered. entered_left (FailedProvide size) old new entered image (inr is))
+      (λ unentered. absurd (unnumbered old new unentered numbered))
+      failed
 
   pub passes_unprovided : KeepsPulled old new → old.disk_faults ≤ new.disk_faults → Passes memory_tells (memory_state old) (memory_state new)
   passes_unprovided kept faults = ⊎_elim (λ entered. passes_entered (FailedProvide size) old new entered kept faults) (λ unentered. passes_unentered old new unentered kept faults) failed

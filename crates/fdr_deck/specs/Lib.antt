@@ -7,4 +7,5 @@ pub mod Announced
 pub mod Sure
 pub mod Memory
 pub mod MemorySound
+pub mod Stops
 pub mod Marked

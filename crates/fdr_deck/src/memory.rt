@@ -4,13 +4,14 @@ ghost use Rattle.std.specs.declared.alloc.Global.{Global};
 ghost use Rattle.fdr_io.specs.Faults.{Rose, next_count};
 ghost use Rattle.fdr_io.specs.Told.{Gives};
 ghost use Rattle.fdr_deck.specs.State.{State};
-ghost use Rattle.fdr_deck.specs.Disk.{IsSettled, KeepsDisk, LearnsExtent, Reads, Tears, Writes, Provides, Begins};
+ghost use Rattle.fdr_deck.specs.Disk.{IsSettled, KeepsDisk, LearnsExtent, Reads, Tears, Writes, Provides, Begins, Torn, IsZeros};
 ghost use Rattle.fdr_deck.specs.Moments.{Elapses, EachMoment, IsNow, Within, WithinProvide};
 ghost use Rattle.fdr_deck.specs.Pull.{Pulls, KeepsLine};
 ghost use Rattle.fdr_deck.specs.Calls.{Passes, KeepsTold, IsFresh, Succeeds, LeavesDisk, Announces};
 ghost use Rattle.fdr_deck.specs.Announced.{least_of, greatest_of};
 ghost use Rattle.fdr_deck.specs.Memory.{memory_state, memory_tells, held_in, left_in, held_by, current, IsInside, MayStopWithin, IsEntered, IsUnentered, IsListed, IsNumbered, IsRefused, KeepsPulled};
 ghost use Rattle.fdr_deck.specs.MemorySound.{memory_is_sound};
+ghost use Rattle.fdr_deck.specs.Stops.{stopped_image};
 ghost use Rattle.fdr_deck.specs.declared.calls.Entry.{Entry};
 ghost use Rattle.fdr_deck.specs.declared.calls.Call.TheVariants.{Pass, Write, FailedWrite, Sync, Provide, FailedProvide};
 
@@ -128,7 +129,8 @@ impl MemDeck {
     /// One image that a stop within this call may leave: the pending ranges hold what `tear` says.
     pub fn stop(&self, alloc: Global, call: u64, tear: Tear) -> Result<Vec<u8>, NoMemory>
         requires { call < length self.now.entries }
-        ensures { IfOk result (λ image. MayStopWithin self.now call image.items) }
+        ensures left { IfOk result (λ image. MayStopWithin self.now call image.items) }
+        ensures image { IfOk result (λ image. image.items ≡ stopped_image tear self.now call) }
     {
         stop_at(alloc, &self.entries, call as usize, &self.first, tear)
     }
@@ -418,6 +420,9 @@ impl Deck for MemDeck {
         ensures unlisted { OnErr result (IsRefused self.old self.new) }
         ensures numbered { OnOk result (IsNumbered self.old self.new) }
         ensures failing { self.new.failing ≡ self.old.failing }
+        // one that failed and has a number may leave zeros of every length
+        ensures zeros { OnErr result (IsNumbered self.old self.new → length (held_in self.old) ≡ 0
+            → (image : List ℕ) → IsZeros size image → left_in self.new image) }
     {
         if !self.image().is_empty() {
             self.pass(Call::Pass)?;
@@ -463,6 +468,9 @@ impl Deck for MemDeck {
         ensures unlisted { OnErr result (IsRefused self.old self.new) }
         ensures numbered { OnOk result (IsNumbered self.old self.new) }
         ensures failing { self.new.failing ≡ self.old.failing }
+        // a failed write that has a number is pending
+        ensures torn { OnErr result (IsNumbered self.old self.new
+            → (from image : List ℕ) → left_in self.old from → Torn at (length bytes.now) from image → left_in self.new image) }
     {
         let at = at as usize;
         if self.fails() {

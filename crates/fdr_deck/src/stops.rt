@@ -2,6 +2,7 @@
 ghost use Rattle.std.specs.Prelude.{◌≡◌, ◌+◌, ◌<◌, ◌≤◌, length, take, slice_get, Some, replicate, IfOk, OnOk};
 ghost use Rattle.fdr_deck.specs.Disk.{Torn, IsZeros};
 ghost use Rattle.fdr_deck.specs.Memory.{held_by, held_after, left_after, left_within, IsInside, FitsIn, AreInside, IsStopped, IsStoppedAfter};
+ghost use Rattle.fdr_deck.specs.Stops.{torn_by, size_of, image_after, image_within, image_at};
 ghost use Rattle.fdr_deck.specs.declared.calls.Entry.{Entry};
 
 use crate::NoMemory;
@@ -25,7 +26,8 @@ pub enum Tear {
 // Tears a range that these bytes were to be written to.
 fn tear_range(image: &mut [u8], at: usize, bytes: &[u8], tear: Tear)
     requires { at + length bytes.now ≤ length image.old }
-    ensures { Torn at (length bytes.now) image.old image.new }
+    ensures torn { Torn at (length bytes.now) image.old image.new }
+    ensures image { image.new ≡ torn_by tear at bytes.now image.old }
 {
     match tear {
         Tear::Old => {}
@@ -37,7 +39,8 @@ fn tear_range(image: &mut [u8], at: usize, bytes: &[u8], tear: Tear)
 
 // The zeros of a disk that was to be provided.
 fn tear_zeros(alloc: Global, size: usize, tear: Tear) -> Result<Vec<u8>, NoMemory>
-    ensures { IfOk result (λ image. IsZeros size image.items) }
+    ensures zeros { IfOk result (λ image. IsZeros size image.items) }
+    ensures image { IfOk result (λ image. image.items ≡ replicate (size_of tear size) 0) }
 {
     let size = match tear {
         Tear::Old => 0,
@@ -55,7 +58,8 @@ fn stop_within(
     tear: Tear,
 ) -> Result<Vec<u8>, NoMemory>
     requires { FitsIn call.now (length left.items) }
-    ensures { IfOk result (λ image. IsStopped call.now left.items image.items) }
+    ensures stopped { IfOk result (λ image. IsStopped call.now left.items image.items) }
+    ensures image { IfOk result (λ image. image.items ≡ image_within tear call.now left.items) }
 {
     match call {
         Call::Pass | Call::Sync => Ok(left),
@@ -76,7 +80,8 @@ fn stop_after(
     tear: Tear,
 ) -> Result<Vec<u8>, NoMemory>
     requires { FitsIn call.now (length left.items) }
-    ensures { IfOk result (λ image. IsStoppedAfter call.now held.now left.items image.items) }
+    ensures stopped { IfOk result (λ image. IsStoppedAfter call.now held.now left.items image.items) }
+    ensures image { IfOk result (λ image. image.items ≡ image_after tear call.now held.now left.items) }
 {
     match call {
         Call::Sync => copy_of(alloc, held),
@@ -109,6 +114,7 @@ fn stop_before(
     requires { AreInside entries.now first.now }
     ensures left { IfOk result (λ image. left_after entries.now first.now (λ i. i ≡ first.now) image.items) }
     ensures long { IfOk result (λ image. length (held_after entries.now first.now) ≤ length image.items) }
+    ensures image { IfOk result (λ image. image.items ≡ image_at tear entries.now (length entries.now) first.now first.now) }
 {
     let mut held = copy_of(alloc, first)?;
     let mut left = copy_of(alloc, first)?;
@@ -129,7 +135,8 @@ pub fn stop_at(
 ) -> Result<Vec<u8>, NoMemory>
     requires inside { AreInside entries.now first.now }
     requires made { call < length entries.now }
-    ensures { IfOk result (λ image. (e : Entry) → slice_get entries.now call ≡ Some e
+    ensures image { IfOk result (λ image. image.items ≡ image_at tear entries.now call first.now first.now) }
+    ensures left { IfOk result (λ image. (e : Entry) → slice_get entries.now call ≡ Some e
         → left_within e.call (held_after (take call entries.now) first.now) (left_after (take call entries.now) first.now (λ i. i ≡ first.now)) image.items) }
 {
     let left = stop_before(alloc, &entries[..call], first, tear)?;

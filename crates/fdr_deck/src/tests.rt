@@ -88,6 +88,22 @@ fn a_stop_tears_what_is_pending(rt: HostRuntime) -> Result<(), Fail> {
 }
 
 #[test]
+fn a_stop_tears_what_failed(rt: HostRuntime) -> Result<(), Fail> {
+    let alloc = rt.alloc();
+    let image = vec![in alloc; 7, 7, 7, 7, 7, 7, 7]?;
+    let mut deck = MemDeck::new(alloc, image, Vec::new(alloc), vec![in alloc; 0]?);
+    assert!(rt; deck.image().len() == 7);
+    assert_eq!(rt; deck.write(1, &[1, 2, 3, 4, 5]), Err(Failed));
+    assert_eq!(rt; deck.size(), Ok(7));
+    assert_eq!(rt; deck.image(), [7; 7].as_slice());
+    assert!(rt; leaves(alloc, &deck, 1, Tear::Old, &[7; 7])?);
+    assert!(rt; leaves(alloc, &deck, 1, Tear::New, &[7, 1, 2, 3, 4, 5, 7])?);
+    assert!(rt; leaves(alloc, &deck, 1, Tear::Half, &[7, 1, 2, 7, 7, 7, 7])?);
+    assert!(rt; leaves(alloc, &deck, 1, Tear::Fill(9), &[7, 9, 9, 9, 9, 9, 7])?);
+    Ok(())
+}
+
+#[test]
 fn a_deck_is_provided_and_marked(rt: HostRuntime) -> Result<(), Fail> {
     let alloc = rt.alloc();
     let mut deck = MemDeck::new(alloc, Vec::new(alloc), Vec::new(alloc), Vec::new(alloc));

@@ -15,7 +15,7 @@ pub fn slot_kind(k: u64, words: u32, cword: u32, csub: u8) -> SlotKind
     let word = word_of(k, words);
     if word == 1 {
         SlotKind::Sync
-    } else if subframe_of(k, words) == csub && word == cword {
+    } else if word == cword && subframe_of(k, words) == csub {
         SlotKind::Counter
     } else {
         SlotKind::Plain

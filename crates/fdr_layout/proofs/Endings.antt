@@ -6,7 +6,8 @@ use Rattle.std.proofs.lemmas.Nat.{le-div}
 use Rattle.std.proofs.Math.Nat.{div-lt_iff_lt-mul, div-mul-le_self}
 use Rattle.fdr_table.specs.Rows.{ParamRow, PlaceRow, TableRows}
 use Rattle.fdr_check.specs.Occurrences.{frame_bits, cycle_of}
-use Rattle.fdr_layout.specs.Samples.{Part, earliest_of, first_at, last_at, Sample, parts_of, samples_of, samples, ending_at, ending_among, ending_in}
+use Rattle.fdr_layout.specs.Samples.{Part, earliest_of, first_at, last_at, Sample, parts_of, samples_of, samples, ending_in}
+use Rattle.fdr_layout.specs.Sorting.{ending_at, ending_among}
 use Rattle.fdr_layout.proofs.Ending.{EndsIn}
 use Rattle.fdr_layout.proofs.Lists.{slice_get-map-range_with_len}
 
@@ -98,7 +99,7 @@ ending_among_ends w all cycle some =
 
 -- each sample that ends in a cycle has its parts there and in the cycles before, back to that of the earliest
 pub ending_in_ends : (t : TableRows) (cycle : ℕ) → 0 < t.frame.words → All (EndsIn t.frame.words cycle) (ending_in t cycle)
-unfolding ending_in
+unfolding ending_in ending_among
 ending_in_ends t cycle some = ending_among_ends t.frame.words (samples t) cycle some
 
 -- ---- the parameters of samples
@@ -130,7 +131,7 @@ samples_params t =
 
 -- the parameter of each sample is one of the table's
 pub ending_in_params : (t : TableRows) (cycle : ℕ) → All (λ (s : Sample). s.param < length t.params) (ending_in t cycle)
-unfolding ending_in ending_among
+unfolding ending_in
 ending_in_params t cycle =
     let P : Sample → Type 0 = λ s. s.param < length t.params in
     pieces_hold P (ending_at (samples t)) (frame_bits t.frame.words * cycle) (frame_bits t.frame.words)

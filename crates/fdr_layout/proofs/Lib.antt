@@ -6,3 +6,4 @@ pub mod SlotLemmas
 pub mod Narrowing
 pub mod Filling
 pub mod SlotEndings
+pub mod Few

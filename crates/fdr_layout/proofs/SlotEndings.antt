@@ -6,7 +6,8 @@ use Rattle.std.proofs.lemmas.List.{get_or-map}
 use Rattle.std.proofs.lemmas.List.FromFn.{get_or-map-range_with_len}
 use Rattle.std.proofs.Math.Nat.{mul-le-mul_left}
 use Rattle.fdr_check.specs.Occurrences.{frame_bits}
-use Rattle.fdr_layout.specs.Samples.{Sample, last_at, ending_at, ending_from, ending_in_slot, ending_of_slots, ending_among}
+use Rattle.fdr_layout.specs.Samples.{Sample, last_at}
+use Rattle.fdr_layout.specs.Sorting.{ending_at, ending_from, ending_in_slot, ending_of_slots, ending_among}
 use Rattle.fdr_layout.proofs.Lists.{stretch_none, stretch_more, flat_map_step, flat_map_twelves, flat_map_agree, filter_of_filter}
 use Rattle.fdr_layout.proofs.SlotLemmas.{slot_of_bit}
 

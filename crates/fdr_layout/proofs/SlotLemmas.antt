@@ -5,8 +5,9 @@ use Rattle.std.proofs.lemmas.Bool.{eq-eqb}
 use Rattle.std.proofs.lemmas.List.Elements.{All-map, All-weaker, All-filter, All-same}
 use Rattle.fdr_table.specs.Rows.{FrameRow, ParamRow, PlaceRow, TableRows}
 use Rattle.fdr_layout.specs.declared.slots.SlotPart.{SlotPart}
-use Rattle.fdr_layout.specs.Samples.{Part, Sample, samples_of, samples, ending_among, ending_in}
-use Rattle.fdr_layout.specs.SlotParts.{numbered, parts_among, parts_at, standing_in, parts_of_slot, Laid, laid_of}
+use Rattle.fdr_layout.specs.Samples.{Part, Sample, samples_of, samples, ending_in}
+use Rattle.fdr_layout.specs.SlotParts.{numbered, parts_among, parts_at, parts_of_slot, Laid, laid_of}
+use Rattle.fdr_layout.specs.Sorting.{ending_among, standing_in}
 use Rattle.fdr_layout.proofs.Lists.{enumerate_from_step, flat_map_agree, filter_of_filter}
 use Rattle.fdr_layout.proofs.Endings.{pieces_hold, all_pieces, numbered_below}
 
@@ -59,15 +60,23 @@ slots_numbers samples slots n made =
 
 -- ---- the whole layout
 
--- a layout's lists, made of the samples of all parameters
+-- the samples of all parameters, by a table's rows
+pub samples_made : (t table : TableRows) (frame : FrameRow) (w : ℕ) (params : List ParamRow) (places : List PlaceRow) (all : List Sample) → w ≡ frame.words → frame ≡ table.frame → params ≡ table.params → places ≡ table.places → table ≡ t →
+    all ≡ flat_map (λ (e : ℕ × ParamRow). samples_of w places e.0 e.1.rate) (enumerate_from 0 params) → all ≡ samples t
+unfolding samples
+samples_made t table frame w params places all words frame_is params_is places_is table_is all_is =
+    let each : ℕ → List PlaceRow → List ParamRow → List Sample = λ v ls ps. flat_map (λ (e : ℕ × ParamRow). samples_of v ls e.0 e.1.rate) (enumerate_from 0 ps) in
+    all_is ∙ ap (λ v. each v places params) (words ∙ ap (λ (f : FrameRow). f.words) frame_is) ∙ ap (λ ls. each table.frame.words ls params) places_is
+    ∙ ap (λ ps. each table.frame.words table.places ps) params_is ∙ ap (λ (x : TableRows). each x.frame.words x.places x.params) table_is
+
+-- a layout's lists, made of a table's samples
 pub laid_made : (t : TableRows) (w : ℕ) (all : List Sample) (cycles : List (List Sample)) (slots : List (List SlotPart)) → w ≡ t.frame.words →
-    all ≡ flat_map (λ (e : ℕ × ParamRow). samples_of w t.places e.0 e.1.rate) (enumerate_from 0 t.params) →
+    all ≡ samples t →
     cycles ≡ map (ending_among w all) (range_with_len 0 16) →
     slots ≡ map (parts_of_slot (parts_among all)) (range_with_len 0 (64 * w)) →
     record { cycles = cycles; samples = all; slots = slots } ≡ laid_of t
-unfolding ending_in samples
+unfolding ending_in ending_among
 laid_made t w all cycles slots words all_is cycles_is slots_is =
-    let each : ℕ → List Sample = λ v. flat_map (λ (e : ℕ × ParamRow). samples_of v t.places e.0 e.1.rate) (enumerate_from 0 t.params) in
     let of : ℕ → List Sample → Laid = λ v ss. record {
       cycles = map (ending_among v ss) (range_with_len 0 16);
       samples = ss;
@@ -75,13 +84,4 @@ laid_made t w all cycles slots words all_is cycles_is slots_is =
     } in
     let first : List (List Sample) → Laid = λ cs. record { cycles = cs; samples = all; slots = slots } in
     let second : List (List SlotPart) → Laid = λ ps. record { cycles = map (ending_among w all) (range_with_len 0 16); samples = all; slots = ps } in
-    ap first cycles_is ∙ ap second slots_is ∙ ap (of w) all_is ∙ ap (λ v. of v (each v)) words
-
--- a layout rests on a table's frame, parameters and places alone
-pub laid_of_rows : (t : TableRows) (frame : FrameRow) (params : List ParamRow) (places : List PlaceRow) → frame ≡ t.frame → params ≡ t.params → places ≡ t.places →
-    laid_of (record { frame = frame; params = params; places = places; rows = 0 }) ≡ laid_of t
-unfolding ending_in samples
-laid_of_rows t frame params places f ps pl =
-    ap (λ (x : FrameRow). laid_of (record { frame = x; params = params; places = places; rows = 0 })) f
-    ∙ ap (λ (x : List ParamRow). laid_of (record { frame = t.frame; params = x; places = places; rows = 0 })) ps
-    ∙ ap (λ (x : List PlaceRow). laid_of (record { frame = t.frame; params = t.params; places = x; rows = 0 })) pl
+    ap first cycles_is ∙ ap second slots_is ∙ ap (of w) all_is ∙ ap (λ v. of v (samples t)) words

@@ -5,3 +5,4 @@ pub mod SlotParts
 pub mod LayoutView
 pub mod Narrowed
 pub mod Buckets
+pub mod Sorting

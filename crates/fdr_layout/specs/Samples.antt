@@ -2,7 +2,7 @@
 --
 -- A bit of the superframe is counted from 0 at its start: bit 12 k is the least significant bit of word slot k. A table's
 -- frame has four subframes of w words.
-use Rattle.std.specs.Prelude.{ℕ, ◌*◌, ◌/◌, max, min, ◌==◌, List, [], ◌∷◌, Option, option_map, map, filter, fold, slice_get, slice_index_or}
+use Rattle.std.specs.Prelude.{ℕ, ◌*◌, max, min, ◌==◌, List, [], ◌∷◌, Option, option_map, map, filter, fold, slice_get}
 use Rattle.std.specs.List.{filter_map, flat_map, range_with_len, enumerate_from}
 use Rattle.fdr_table.specs.Rows.{ParamRow, PlaceRow, TableRows}
 use Rattle.fdr_check.specs.Occurrences.{frame_bits, Occurrence, part_occurrences, shift_of}
@@ -55,27 +55,9 @@ first_at (p ∷ parts) = earliest_of p.at parts
 unfoldable pub last_at : List Part → ℕ
 last_at parts = fold (λ at (q : Part). max at q.at) 0 parts
 
--- those samples whose last part begins at bit x
-abbrev pub ending_at : List Sample → ℕ → List Sample
-ending_at samples x = filter (λ (s : Sample). last_at s.parts == x) samples
-
--- those whose last part begins at one of n bits from bit x on, in the order of last parts
-unfoldable pub ending_from : List Sample → ℕ → ℕ → List Sample
-ending_from samples x n = flat_map (ending_at samples) (range_with_len x n)
-
--- those samples whose last part stands in word slot k
-abbrev pub ending_in_slot : List Sample → ℕ → List Sample
-ending_in_slot samples k = filter (λ (s : Sample). last_at s.parts / 12 == k) samples
-
--- those samples whose last part lies in a cycle, in the order of last parts
-unfoldable pub ending_among : ℕ → List Sample → ℕ → List Sample
-ending_among w samples cycle = flat_map (ending_at samples) (range_with_len (frame_bits w * cycle) (frame_bits w))
-
--- the samples of a table whose last part lies in a cycle, in the order of last parts
+-- the samples of a table whose last part lies in a cycle, in the order of last parts: bit by bit of the cycle, those whose
+-- last part begins there
 unfoldable pub ending_in : TableRows → ℕ → List Sample
-ending_in t cycle = ending_among t.frame.words (samples t) cycle
-
--- those of a cycle, in the order of last parts, out of lists of the samples of each word slot
-unfoldable pub ending_of_slots : ℕ → List (List Sample) → ℕ → List Sample
-ending_of_slots w slots cycle =
-    flat_map (λ k. ending_from (slice_index_or slots k []) (12 * k) 12) (range_with_len (4 * w * cycle) (4 * w))
+ending_in t cycle =
+    flat_map (λ x. filter (λ (s : Sample). last_at s.parts == x) (samples t))
+    (range_with_len (frame_bits t.frame.words * cycle) (frame_bits t.frame.words))

@@ -1,5 +1,5 @@
 -- The parts of all samples by the word slot that they stand in.
-use Rattle.std.specs.Prelude.{ℕ, ◌*◌, ◌/◌, ◌<◌, ◌==◌, ◌^◌, List, filter, length, map}
+use Rattle.std.specs.Prelude.{ℕ, ◌*◌, ◌<◌, ◌==◌, ◌^◌, List, filter, length, map}
 use Rattle.std.specs.List.{All, flat_map, range_with_len, enumerate_from}
 use Rattle.fdr_table.specs.Rows.{TableRows}
 use Rattle.fdr_layout.specs.declared.slots.SlotPart.{SlotPart}
@@ -21,10 +21,6 @@ all_parts t = parts_among (samples t)
 -- those whose lowest bit is bit x of the superframe
 abbrev pub parts_at : List SlotPart → ℕ → List SlotPart
 parts_at parts x = filter (λ (a : SlotPart). a.part.at == x) parts
-
--- those that stand in word slot k
-abbrev pub standing_in : List SlotPart → ℕ → List SlotPart
-standing_in parts k = filter (λ (a : SlotPart). a.part.at / 12 == k) parts
 
 -- those that stand in word slot k, by lowest bit
 unfoldable pub parts_of_slot : List SlotPart → ℕ → List SlotPart

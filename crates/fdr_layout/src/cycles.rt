@@ -2,8 +2,8 @@
 
 ghost use Rattle.std.specs.Prelude.{◌≡◌, ◌<◌, ◌≤◌, ◌*◌, ◌++◌, ◌^◌, length, map, IfOk, OnOk};
 ghost use Rattle.std.specs.List.{range_with_len};
-ghost use Rattle.fdr_layout.specs.Samples.{ending_at, ending_from, ending_in_slot, ending_of_slots, ending_among};
 ghost use Rattle.fdr_layout.specs.Cycles.{AreCycles};
+ghost use Rattle.fdr_layout.specs.Sorting.{ending_at, ending_from, ending_in_slot, ending_of_slots, ending_among};
 
 use crate::buckets::{empty_lists, push_to};
 use crate::memory::push;
@@ -72,17 +72,12 @@ fn ending_of_slots(
     requires few_words { words ≤ 1024 }
     requires slots { length slots.now ≡ 64 * words }
     requires within { cycle < 16 }
-    ensures samples { IfOk result (λ v. v.items ≡ ending_of_slots words (map (λ s. s.items) slots.now) cycle) }
-    ensures few { IfOk result (λ v. length v.items < 2 ^ 32) }
+    ensures { IfOk result (λ v. v.items ≡ ending_of_slots words (map (λ s. s.items) slots.now) cycle) }
 {
     let start = 4 * words * cycle;
     let mut found = Vec::new(alloc);
     for slot in start..start + 4 * words {
         add_ending_in_slot(&mut found, alloc, &slots[slot as usize], slot)?;
-    }
-    // So many samples, 2^32 or more, would need more memory than there is.
-    if found.len() > u32::MAX as usize {
-        return Err(NoMemory);
     }
     Ok(found)
 }
@@ -94,6 +89,7 @@ pub(crate) fn cycles_of(
     samples: &[Sample],
 ) -> Result<Vec<Vec<Sample>>, NoMemory>
     requires few_words { words ≤ 1024 }
+    requires few_samples { length samples.now < 2 ^ 32 }
     ensures samples { IfOk result (λ v. map (λ c. c.items) v.items ≡ map (ending_among words samples.now) (range_with_len 0 16)) }
     ensures few { IfOk result (λ v. AreCycles (map (λ c. c.items) v.items)) }
 {

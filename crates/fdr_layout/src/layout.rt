@@ -8,7 +8,7 @@ use crate::parts::Sample;
 use crate::samples::all_samples;
 use crate::slots::{SlotPart, slots_of};
 use fdr_check::Sound;
-use fdr_table::{Frame, NoMemory, Param, Place};
+use fdr_table::NoMemory;
 use std::alloc::Global;
 use std::marker::Model;
 
@@ -38,23 +38,12 @@ impl Layout {
     pub fn make(alloc: Global, t: &Sound) -> Result<Layout, NoMemory>
         ensures { IfOk result (λ l. l ≡ laid_of t.now) }
     {
+        t.holds();
         let table = t.table();
-        Layout::of_rows(alloc, &table.frame(), table.params(), table.places())
-    }
-
-    /// The layout of the table with this frame, these parameters and these places.
-    pub fn of_rows(
-        alloc: Global,
-        frame: &Frame,
-        params: &[Param],
-        places: &[Place],
-    ) -> Result<Layout, NoMemory>
-        ensures { IfOk result (λ l. l
-            ≡ laid_of (record { frame = frame.now; params = params.now; places = places.now; rows = 0 })) }
-    {
-        let samples = all_samples(alloc, frame.words, params, places)?;
-        let cycles = cycles_of(alloc, frame.words, &samples)?;
-        let slots = slots_of(alloc, frame.words, &samples)?;
+        let words = table.frame().words;
+        let samples = all_samples(alloc, words, table.params(), table.places())?;
+        let cycles = cycles_of(alloc, words, &samples)?;
+        let slots = slots_of(alloc, words, &samples)?;
         Ok(Layout {
             cycles,
             samples,

@@ -1,6 +1,6 @@
 //! The samples of a table in a superframe.
 
-ghost use Rattle.std.specs.Prelude.{◌≡◌, ◌<◌, ◌≤◌, ◌*◌, ◌++◌, length, map, IfOk, OnOk};
+ghost use Rattle.std.specs.Prelude.{◌≡◌, ◌<◌, ◌≤◌, ◌*◌, ◌^◌, ◌++◌, length, map, IfOk, OnOk};
 ghost use Rattle.std.specs.Option.{option_to_list};
 ghost use Rattle.std.specs.List.{filter_map, flat_map, range_with_len, enumerate_from};
 ghost use Rattle.fdr_check.specs.Occurrences.{part_width, shift_of};
@@ -143,15 +143,13 @@ pub(crate) fn all_samples(
 ) -> Result<Vec<Sample>, NoMemory>
     requires some { 0 < words }
     requires few { words ≤ 1024 }
+    requires numbered { length params.now < 2 ^ 32 }
     ensures { IfOk result (λ v. v.items
         ≡ flat_map (λ e. samples_of words places.now e.0 e.1.rate) (enumerate_from 0 params.now)) }
 {
     let mut samples = Vec::new(alloc);
     for (index, param) in params.iter().enumerate() {
-        let Ok(index) = u32::try_from(index) else {
-            return Err(NoMemory);
-        };
-        add_samples(&mut samples, alloc, words, places, index, param.rate)?;
+        add_samples(&mut samples, alloc, words, places, index as u32, param.rate)?;
     }
     Ok(samples)
 }

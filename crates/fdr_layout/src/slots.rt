@@ -2,7 +2,8 @@
 
 ghost use Rattle.std.specs.Prelude.{◌≡◌, ◌<◌, ◌≤◌, ◌*◌, ◌++◌, ◌^◌, length, map, IfOk, OnOk};
 ghost use Rattle.std.specs.List.{range_with_len};
-ghost use Rattle.fdr_layout.specs.SlotParts.{numbered, parts_among, parts_at, standing_in, parts_of_slot};
+ghost use Rattle.fdr_layout.specs.SlotParts.{numbered, parts_among, parts_at, parts_of_slot};
+ghost use Rattle.fdr_layout.specs.Sorting.{standing_in};
 
 use crate::buckets::{empty_lists, push_to};
 use crate::memory::push;
@@ -33,16 +34,12 @@ fn add_numbered(found: &mut Vec<SlotPart>, number: u32, parts: &[Part]) -> Resul
     Ok(())
 }
 
-/// The parts of all samples, of which there are fewer than 2^32.
+/// The parts of all samples.
 fn parts_among(alloc: Global, samples: &[Sample]) -> Result<Vec<SlotPart>, NoMemory>
-    ensures parts { IfOk result (λ v. v.items ≡ parts_among samples.now) }
-    ensures few { IfOk result (λ v. length samples.now < 2 ^ 32) }
+    requires { length samples.now < 2 ^ 32 }
+    ensures { IfOk result (λ v. v.items ≡ parts_among samples.now) }
 {
     let mut found = Vec::new(alloc);
-    // So many samples, 2^32 or more, would need more memory than there is.
-    if samples.len() > u32::MAX as usize {
-        return Err(NoMemory);
-    }
     for (number, sample) in samples.iter().enumerate() {
         add_numbered(&mut found, number as u32, sample.parts())?;
     }
@@ -97,9 +94,9 @@ pub(crate) fn slots_of(
     samples: &[Sample],
 ) -> Result<Vec<Vec<SlotPart>>, NoMemory>
     requires few_words { words ≤ 1024 }
-    ensures slots { IfOk result (λ v. map (λ s. s.items) v.items
+    requires few_samples { length samples.now < 2 ^ 32 }
+    ensures { IfOk result (λ v. map (λ s. s.items) v.items
         ≡ map (parts_of_slot (parts_among samples.now)) (range_with_len 0 (64 * words))) }
-    ensures few { IfOk result (λ v. length samples.now < 2 ^ 32) }
 {
     let parts = parts_among(alloc, samples)?;
     let standing = parts_by_slot(alloc, words, &parts)?;

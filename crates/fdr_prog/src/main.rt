@@ -1,17 +1,20 @@
 //! The program `fdr`: the recorder's commands over files and standard streams.
 #![tactic(auto)]
 
-mod files;
-mod lines;
-mod outputs;
+mod file_deck;
+mod file_source;
+mod image_file;
+mod out_sink;
+mod system;
 #[cfg(test)]
 mod tests;
 
 use fdr_top::{Outcome, run};
 use fdr_words::{WordsFault, read_words};
-use files::FileSource;
-use lines::FileDeck;
-use outputs::OutSink;
+use file_deck::FileDeck;
+use file_source::FileSource;
+use image_file::ImageFile;
+use out_sink::OutSink;
 use std::alloc::Global;
 use std::env::Env;
 use std::io::Write;
@@ -42,13 +45,8 @@ fn run_on_files(rt: &HostRuntime, words: &[String]) -> Outcome {
         Err(WordsFault::NoMemory) => return Outcome::NoMemory,
     };
     let mut table = FileSource::new(rt, request.table().unwrap_or(""));
-    let mut deck = FileDeck::new(
-        rt,
-        request.image().unwrap_or(""),
-        request.writes(),
-        rt.stdin(),
-        rt.stderr(),
-    );
+    let image = ImageFile::new(rt, request.image().unwrap_or(""), request.writes());
+    let mut deck = FileDeck::new(image, rt.stdin(), rt.stderr());
     let mut out = OutSink::new(rt.stdout());
     run(rt.alloc(), words, &mut table, &mut deck, &mut out)
 }

@@ -1,10 +1,20 @@
-use crate::files::FileSource;
-use crate::lines::{FileDeck, ack_line};
-use crate::outputs::OutSink;
+//! The adapters over real files.
+
+mod fakes;
+
+use crate::file_deck::FileDeck;
+use crate::file_source::FileSource;
+use crate::image_file::ImageFile;
+use crate::out_sink::OutSink;
+use fakes::{Interrupted, Marked, OtherFolder};
 use fdr_deck::Deck;
-use fdr_io::{Failed, Sink, Source};
+use fdr_io::{Failed, Source};
 use fdr_top::{Outcome, run};
 use std::fs;
+use std::fs::File;
+use std::io::{Sink, sink};
+use std::os::unix::fs::{MetadataExt, symlink};
+use std::rt::Files;
 use std::test::Fail;
 
 fn read_some<S: Source>(source: &mut S) -> Result<(usize, [u8; 8]), Failed> {
@@ -13,7 +23,7 @@ fn read_some<S: Source>(source: &mut S) -> Result<(usize, [u8; 8]), Failed> {
     Ok((n, buf))
 }
 
-fn write_some<S: Sink>(sink: &mut S) -> Result<usize, Failed> {
+fn write_some<S: fdr_io::Sink>(sink: &mut S) -> Result<usize, Failed> {
     sink.write(b"three")
 }
 
@@ -21,6 +31,52 @@ fn pull_some<D: Deck>(deck: &mut D) -> Result<(usize, [u8; 2]), Failed> {
     let mut buf = [0; 2];
     let n = deck.pull(&mut buf)?;
     Ok((n, buf))
+}
+
+const SIZE: u64 = 4100;
+
+// The calls of a deck stand in functions without clauses, so that the tests are proved without those of a deck.
+
+fn make_some<D: Deck>(deck: &mut D) -> Result<(), Failed> {
+    deck.provide(SIZE)
+}
+
+fn measure<D: Deck>(deck: &mut D) -> Result<u64, Failed> {
+    deck.size()
+}
+
+fn announce_some<D: Deck>(deck: &mut D) {
+    deck.announce(0);
+    deck.announce(281_474_976_710_656);
+}
+
+// Two bytes over the border of a page, and what stands around them then.
+fn store_some<D: Deck>(deck: &mut D) -> Result<[u8; 4], Failed> {
+    if deck.size()? < SIZE {
+        return Err(Failed);
+    }
+    deck.write(4095, &[7, 8])?;
+    deck.sync()?;
+    let mut bytes = [9; 4];
+    deck.read(4094, &mut bytes)?;
+    Ok(bytes)
+}
+
+// Without a line, and with announcements that nobody reads.
+fn deck_over<'a, R: Files<File = File>>(
+    files: &'a R,
+    path: &'a str,
+    writes: bool,
+) -> FileDeck<'a, R, &'static [u8], Sink> {
+    FileDeck::new(ImageFile::new(files, path, writes), b"".as_slice(), sink())
+}
+
+fn make_at(files: &impl Files<File = File>, path: &str, writes: bool) -> Result<(), Failed> {
+    make_some(&mut deck_over(files, path, writes))
+}
+
+fn size_at(rt: &HostRuntime, path: &str, writes: bool) -> Result<u64, Failed> {
+    measure(&mut deck_over(rt, path, writes))
 }
 
 #[test]
@@ -47,34 +103,45 @@ fn a_writer_takes_bytes_or_faults(rt: HostRuntime) -> Result<(), Fail> {
 
 #[test]
 fn a_line_is_pulled_to_its_end(rt: HostRuntime) -> Result<(), Fail> {
-    let mut deck = FileDeck::new(&rt, "", false, b"abc".as_slice(), Vec::new(rt.alloc()));
-    assert_eq!(rt; pull_some(&mut deck), Ok((2, *b"ab")));
-    assert_eq!(rt; pull_some(&mut deck), Ok((1, *b"c\0")));
+    let image = ImageFile::new(&rt, "", false);
+    let mut deck = FileDeck::new(image, Interrupted::new(b"ab"), sink());
+    assert_eq!(rt; pull_some(&mut deck), Ok((1, *b"a\0")));
+    assert_eq!(rt; pull_some(&mut deck), Ok((1, *b"b\0")));
     assert_eq!(rt; pull_some(&mut deck), Ok((0, [0; 2])));
     Ok(())
 }
 
-fn store_some<D: Deck>(deck: &mut D) -> Result<[u8; 4], Failed> {
-    deck.provide(4)?;
-    if deck.size()? < 4 {
-        return Err(Failed);
+#[test]
+fn an_announcement_is_one_line_in_one_write(rt: HostRuntime) -> Result<(), Fail> {
+    let mut kept = Vec::new(rt.alloc());
+    {
+        let image = ImageFile::new(&rt, "", false);
+        let mut deck = FileDeck::new(image, b"".as_slice(), Marked::new(&mut kept));
+        announce_some(&mut deck);
     }
-    deck.write(1, &[7, 8])?;
-    deck.sync()?;
-    let mut bytes = [9; 4];
-    deck.read(0, &mut bytes)?;
-    Ok(bytes)
+    assert_eq!(rt;
+        kept.as_slice(),
+        b"ack 0\n|ack 281474976710656\n|".as_slice()
+    );
+    Ok(())
 }
 
 #[test]
-fn a_disk_is_a_file(rt: HostRuntime) -> Result<(), Fail> {
+fn a_disk_is_a_file_whose_room_is_taken(rt: HostRuntime) -> Result<(), Fail> {
     let path = "image.bin";
-    let mut deck = FileDeck::new(&rt, path, true, b"".as_slice(), Vec::new(rt.alloc()));
-    assert_eq!(rt; deck.size(), Ok(0));
+    let mut deck = deck_over(&rt, path, true);
+    assert_eq!(rt; measure(&mut deck), Ok(0));
+    assert_eq!(rt; make_some(&mut deck), Ok(()));
+    assert_eq!(rt;
+        fs::read(&rt, path)?,
+        vec![in rt.alloc(); 0; SIZE as usize]?
+    );
+    assert!(rt; fs::metadata(&rt, path)?.blocks() >= 9);
     assert_eq!(rt; store_some(&mut deck), Ok([0, 7, 8, 0]));
-    deck.announce(12);
-    assert_eq!(rt; ack_line(12).bytes(), b"ack 12\n".as_slice());
-    assert_eq!(rt; fs::read(&rt, path)?.as_slice(), [0, 7, 8, 0].as_slice());
+    assert_eq!(rt;
+        fs::read(&rt, path)?.get(4094..4098),
+        Some([0, 7, 8, 0].as_slice())
+    );
     fs::remove_file(&rt, path)?;
     Ok(())
 }
@@ -83,12 +150,66 @@ fn a_disk_is_a_file(rt: HostRuntime) -> Result<(), Fail> {
 fn a_file_that_has_bytes_stays(rt: HostRuntime) -> Result<(), Fail> {
     let path = "used.bin";
     fs::write(&rt, path, b"used".as_slice())?;
-    let mut deck = FileDeck::new(&rt, path, true, b"".as_slice(), Vec::new(rt.alloc()));
-    assert_eq!(rt; deck.provide(6), Err(Failed));
-    let mut reader = FileDeck::new(&rt, path, false, b"".as_slice(), Vec::new(rt.alloc()));
-    assert_eq!(rt; store_some(&mut reader), Err(Failed));
+    assert_eq!(rt; make_at(&rt, path, true), Err(Failed));
+    assert_eq!(rt; make_at(&rt, path, false), Err(Failed));
     assert_eq!(rt; fs::read(&rt, path)?.as_slice(), b"used".as_slice());
     fs::remove_file(&rt, path)?;
+    Ok(())
+}
+
+#[test]
+fn a_lock_that_another_holds_is_a_fault(rt: HostRuntime) -> Result<(), Fail> {
+    let path = "locked.bin";
+    {
+        let mut deck = deck_over(&rt, path, true);
+        assert_eq!(rt; make_some(&mut deck), Ok(()));
+        assert_eq!(rt; size_at(&rt, path, true), Err(Failed));
+        assert_eq!(rt; size_at(&rt, path, false), Err(Failed));
+    }
+    let mut reader = deck_over(&rt, path, false);
+    assert_eq!(rt; measure(&mut reader), Ok(SIZE));
+    assert_eq!(rt; size_at(&rt, path, false), Ok(SIZE));
+    assert_eq!(rt; size_at(&rt, path, true), Err(Failed));
+    fs::remove_file(&rt, path)?;
+    Ok(())
+}
+
+#[test]
+fn a_file_that_became_shorter_is_not_made_longer(rt: HostRuntime) -> Result<(), Fail> {
+    let path = "short.bin";
+    let mut deck = deck_over(&rt, path, true);
+    assert_eq!(rt; make_some(&mut deck), Ok(()));
+    fs::write(&rt, path, b"abc".as_slice())?;
+    assert_eq!(rt; store_some(&mut deck), Err(Failed));
+    assert_eq!(rt; fs::read(&rt, path)?.as_slice(), b"abc".as_slice());
+    fs::remove_file(&rt, path)?;
+    Ok(())
+}
+
+#[test]
+fn a_link_to_no_file_is_no_missing_image(rt: HostRuntime) -> Result<(), Fail> {
+    symlink(&rt, "target.bin", "link.bin")?;
+    assert_eq!(rt; size_at(&rt, "link.bin", true), Err(Failed));
+    assert_eq!(rt; make_at(&rt, "link.bin", true), Err(Failed));
+    assert!(rt; !fs::exists(&rt, "target.bin")?);
+    fs::remove_file(&rt, "link.bin")?;
+    Ok(())
+}
+
+#[test]
+fn an_image_that_cannot_be_made_leaves_no_file(rt: HostRuntime) -> Result<(), Fail> {
+    let path = "new.bin";
+    // A folder that can't be opened, and one that can't be synced.
+    for folder in ["missing", "/dev/null"] {
+        let files = OtherFolder::new(&rt, folder);
+        assert_eq!(rt; make_at(&files, path, true), Err(Failed));
+        assert!(rt; !fs::exists(&rt, path)?);
+        // One that was there stays, and is empty.
+        fs::write(&rt, path, b"".as_slice())?;
+        assert_eq!(rt; make_at(&files, path, true), Err(Failed));
+        assert_eq!(rt; fs::metadata(&rt, path)?.len(), 0);
+        fs::remove_file(&rt, path)?;
+    }
     Ok(())
 }
 
@@ -101,7 +222,7 @@ fn answer(rt: &HostRuntime, texts: &[&str], writes: bool) -> Result<Outcome, Fai
         words.push(text.to_string(alloc)?)?;
     }
     let mut table = FileSource::new(rt, "t1.csv");
-    let mut deck = FileDeck::new(rt, "flight.img", writes, b"".as_slice(), Vec::new(alloc));
+    let mut deck = deck_over(rt, "flight.img", writes);
     let mut out = OutSink::new(Vec::new(alloc));
     Ok(run(alloc, &words, &mut table, &mut deck, &mut out))
 }

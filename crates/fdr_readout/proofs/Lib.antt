@@ -2,7 +2,6 @@ pub mod Recordable
 pub mod SoFarLemmas
 pub mod Lines
 pub mod PackedWords
-pub mod FieldsApart
 pub mod SlotPlaces
 pub mod RecordedWords
 pub mod PartsApart

@@ -1,15 +1,14 @@
 -- A part of a slot's word reads back, where each other part of the word stands apart from it.
-use Rattle.std.proofs.Common.{◌≡◌, ℕ, ◌+◌, ◌/◌, ◌%◌, ◌^◌, ◌<◌, ◌≤◌, ◌⊎◌, zero, suc, List, [], ◌∷◌, fold, length, get_or, sym, ◌∙◌, subst, inl, inr, ⊎_elim, arith}
+use Rattle.std.proofs.Common.{◌≡◌, ℕ, ◌+◌, ◌/◌, ◌%◌, ◌^◌, ◌<◌, ◌≤◌, ◌⊎◌, zero, suc, List, [], ◌∷◌, fold, length, get_or, sym, ap, ◌∙◌, subst, inl, inr, ⊎_elim, arith}
 use Rattle.std.specs.Prelude.{All, Contains}
-use Rattle.std.proofs.lemmas.Nat.{mod_below, pow_pos}
 use Rattle.std.proofs.lemmas.List.Elements.{All-head, All-tail}
 use Rattle.fdr_bits.specs.Fields.{field_of}
 use Rattle.fdr_bits.proofs.FieldLemmas.{field_of-with_field}
+use Rattle.fdr_bits.proofs.FieldsApart.{field_of-with_field_apart}
 use Rattle.fdr_layout.specs.declared.slots.SlotPart.{SlotPart}
-use Rattle.fdr_layout.specs.Samples.{Part}
-use Rattle.fdr_sampler.specs.SlotWord.{piece_of, with_part, data_of}
+use Rattle.fdr_sampler.specs.SlotWord.{piece_of, data_of}
+use Rattle.fdr_sampler.proofs.DataWords.{with_part, piece_fits, IsWithin, data_of-fold}
 use Rattle.fdr_readout.proofs.Recordable.{AreApart}
-use Rattle.fdr_readout.proofs.FieldsApart.{field_of-with_field_apart}
 
 -- in the same slot b is a itself, or shares no bit with it
 pub record IsOther (a b : SlotPart) : Type 0 where
@@ -20,13 +19,10 @@ pub record IsOther (a b : SlotPart) : Type 0 where
 pub Carries : (ℕ → ℕ) → SlotPart → ℕ → Type 0
 Carries value a word = field_of word (a.part.at % 12) a.part.width ≡ piece_of (value a.sample) a.part
 
-piece_fits : (raw : ℕ) (p : Part) → piece_of raw p < 2 ^ p.width
-piece_fits raw p = mod_below (raw / 2 ^ p.shift) (2 ^ p.width) (pow_pos p.width)
-
 -- what is written reads back
 carries_itself : (value : ℕ → ℕ) (word : ℕ) (a : SlotPart) → Carries value a (with_part value word a)
 unfolding Carries
-carries_itself value word a = field_of-with_field word (a.part.at % 12) a.part.width (piece_of (value a.sample) a.part) (piece_fits (value a.sample) a.part)
+carries_itself value word a = field_of-with_field word (a.part.at % 12) a.part.width (piece_of (value a.sample) a.part) (piece_fits value a)
 
 -- parts that stand apart in one slot share no bit of its word
 bits_apart : (a b : SlotPart) → b.part.at / 12 ≡ a.part.at / 12 → AreApart a b →
@@ -44,7 +40,7 @@ carries_still value word a b other carries =
     ⊎_elim
     (λ (same : b ≡ a). subst (λ (x : SlotPart). Carries value a (with_part value word x)) (sym same) (carries_itself value word a))
     (λ (apart : AreApart a b).
-    field_of-with_field_apart word (b.part.at % 12) b.part.width (piece_of (value b.sample) b.part) (a.part.at % 12) a.part.width (piece_fits (value b.sample) b.part) (bits_apart a b other.slot apart)
+    field_of-with_field_apart word (b.part.at % 12) b.part.width (piece_of (value b.sample) b.part) (a.part.at % 12) a.part.width (piece_fits value b) (bits_apart a b other.slot apart)
     ∙ carries)
     other.apart
 
@@ -65,7 +61,9 @@ carries_from value a (b ∷ parts) word (suc k) others within is =
     carries_from value a parts (with_part value word b) k (All-tail (IsOther a) b parts others) (omega arith) is
 
 -- a word of data has each of its parts' pieces
-pub data_carries : (value : ℕ → ℕ) (a : SlotPart) (parts : List SlotPart) → All (IsOther a) parts → Contains parts a →
+pub data_carries : (value : ℕ → ℕ) (a : SlotPart) (parts : List SlotPart) → All IsWithin parts → All (IsOther a) parts → Contains parts a →
     data_of value parts / 2 ^ (a.part.at % 12) % 2 ^ a.part.width ≡ piece_of (value a.sample) a.part
 unfolding Carries
-data_carries value a parts others here = carries_from value a parts 0 here.0 others here.1 here.2
+data_carries value a parts within others here =
+    ap (λ word. word / 2 ^ (a.part.at % 12) % 2 ^ a.part.width) (data_of-fold value parts within)
+    ∙ carries_from value a parts 0 here.0 others here.1 here.2

@@ -12,16 +12,19 @@ use Rattle.fdr_bus.specs.declared.BusRecord.{BusRecord}
 use Rattle.fdr_table.specs.Rows.{ParamRow, TableRows}
 use Rattle.fdr_layout.specs.declared.slots.SlotPart.{SlotPart}
 use Rattle.fdr_check.specs.Occurrences.{frame_bits}
-use Rattle.fdr_layout.specs.Samples.{Part, Sample, samples, ending_at, ending_among, ending_in}
+use Rattle.fdr_layout.specs.Samples.{Part, Sample, samples, ending_in}
 use Rattle.fdr_layout.specs.SlotParts.{numbered, parts_among, all_parts, parts_at, parts_of_slot, parts_in}
+use Rattle.fdr_layout.specs.Sorting.{ending_at}
 use Rattle.fdr_layout.proofs.Endings.{pieces_hold}
 use Rattle.fdr_layout.proofs.SlotLemmas.{parts_of_slot_hold}
 use Rattle.fdr_sampler.specs.Held.{Source, source_of, held_record, raw_of, raw_value, first_slot}
 use Rattle.fdr_sampler.specs.SlotWord.{numbered_value, piece_of, data_word}
 use Rattle.fdr_sampler.proofs.Lists.{Contains-map, Contains-filter, Contains-flat_map, Contains-range, Contains-enumerate}
+use Rattle.fdr_sampler.proofs.DataWords.{IsWithin}
 use Rattle.fdr_sampler.proofs.SlotFacts.{parts_of_slot_in}
 use Rattle.fdr_sampler.proofs.Standing.{numbered_value_at}
 use Rattle.fdr_readout.proofs.Recordable.{IsPlaced, IsRecordable}
+use Rattle.fdr_readout.proofs.RecordedWords.{parts_in-placed}
 use Rattle.fdr_readout.proofs.PartsApart.{IsOther, data_carries}
 
 -- part p of sample n
@@ -56,7 +59,9 @@ pub data_word-piece : (t : TableRows) (records : List BusRecord) (start n : ℕ)
 data_word-piece t records start n s p h got here =
     let a = part_of n p in
     let in_all = all_parts-contain t n s p got here in
-    data_carries (numbered_value t records start) a (parts_in t (p.at / 12)) (others_in_slot t a h in_all) (parts_in-contain t a in_all)
+    let within : All IsWithin (parts_in t (p.at / 12)) =
+    All-weaker (λ (b : SlotPart). IsPlaced t.frame b.part) IsWithin (λ b placed. placed.within) (parts_in t (p.at / 12)) (parts_in-placed t (p.at / 12) h) in
+    data_carries (numbered_value t records start) a (parts_in t (p.at / 12)) within (others_in_slot t a h in_all) (parts_in-contain t a in_all)
     ∙ ap (λ raw. piece_of raw p) (numbered_value_at t records start n s got)
 
 -- a part of a sample lies in one word of data
@@ -96,7 +101,7 @@ pieces_make_up t records start n s bits h got each =
 -- ---- a sample that ends in a cycle is one of the table's
 
 pub ending_in-samples : (t : TableRows) (cycle : ℕ) → All (Contains (samples t)) (ending_in t cycle)
-unfolding ending_in ending_among
+unfolding ending_in
 ending_in-samples t cycle =
     let w = t.frame.words in
     pieces_hold (Contains (samples t)) (ending_at (samples t)) (frame_bits w * cycle) (frame_bits w)

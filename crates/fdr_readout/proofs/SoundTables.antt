@@ -1,15 +1,12 @@
 -- The samples of a sound table can be read back from their frames.
 use Rattle.std.proofs.Common.{◌≡◌, ℕ, ◌+◌, ◌%◌, ◌<◌, ◌≤◌, ◌⊎◌, inl, inr, ⊎_elim, List, Option, Some, None, get_or, refl, sym, ap, ◌∙◌, subst, arith}
-use Rattle.std.specs.Prelude.{IsTrue, All, AllPairs, Contains, slice_get, option_map}
+use Rattle.std.specs.Prelude.{All, AllPairs, Contains, slice_get, option_map}
 use Rattle.std.specs.List.{range_with_len, enumerate_from}
 use Rattle.std.proofs.lemmas.Bool.{cases_order}
-use Rattle.std.proofs.lemmas.Bool.Decides.{nat_tests}
 use Rattle.std.proofs.lemmas.Option.{slice_get_within, get_or_from_slice_get, same_Some}
 use Rattle.std.proofs.lemmas.List.Elements.{All-map, All-weaker, All-contains}
 use Rattle.std.proofs.Math.Nat.{mod-eq_of_lt}
-use Rattle.fdr_frame.specs.WordCount.{IsWordCount}
-use Rattle.fdr_table.specs.Fields.{is_among}
-use Rattle.fdr_table.specs.Ranges.{frame_sizes, IsInRange}
+use Rattle.fdr_table.specs.Ranges.{IsInRange}
 use Rattle.fdr_table.specs.Rows.{ParamRow, TableRows}
 use Rattle.fdr_layout.specs.declared.slots.SlotPart.{SlotPart}
 use Rattle.fdr_check.specs.Occurrences.{Occurrence, part_occurrences, shift_of}
@@ -210,14 +207,10 @@ samples_whole t n s range sound stands =
     let h : IsSampleOf t.params s = subst (IsSampleOf t.params) (get_or_from_slice_get (samples t) n s s stands) (samples_sound t range sound n s within) in
     (h.param, h.is, sample_whole t s h)
 
--- a frame row's number of words is one of the five
-word_count_of : (w : ℕ) → IsTrue (is_among frame_sizes w) → IsWordCount w
-word_count_of w among = grind (arith, nat_tests)
-
 -- the samples of a sound table can be read back from their frames
 pub sound_recordable : (t : TableRows) → IsInRange t → IsSound t → IsRecordable t
 sound_recordable t range sound = record {
-  words = word_count_of t.frame.words range.frame.words;
+  words = range.frame.words;
   cword_low = range.frame.cword_low;
   cword_high = sound.cword;
   csub_low = range.frame.csub_low;

@@ -60,7 +60,7 @@ module _ (t : TableRows) (records : List BusRecord) (h : IsRecordable t) where
       let low : w * i ≤ w * 3 = mul-le w i w 3 (omega arith) (omega arith) in
       let slot : w * (4 * j + i) < length (stream_words t records) = omega (arith, slot_within_frames j (w * i) early (omega arith)) in
       let number : (4 * j + i) % 4 + 1 ≡ i + 1 = omega arith in
-      ap (word_at (stream_of t records)) place ∙ word_at-stream t records (w * (4 * j + i)) h slot ∙ slot_word-sync t records (4 * j + i) h ∙ ap sync_word number
+      ap (word_at (stream_of t records)) place ∙ word_at-stream t records (w * (4 * j + i)) slot ∙ slot_word-sync t records (4 * j + i) h ∙ ap sync_word number
 
   -- a whole frame stands where it is recorded
   frame_stands : (j : ℕ) → j < whole_frames t records → IsFramePosition (stream_of t records) t.frame.words (frame_place t.frame.words j)

@@ -45,7 +45,7 @@ module _ (t : TableRows) (records : List BusRecord) (h : IsRecordable t) where
       let b = stream_of t records in
       let bit : frame_place w i + 12 * place ≡ 12 * (4 * w * i + place) = omega arith in
       get_or-map-range_with_len (λ k. word_at b (frame_place w i + 12 * k)) 0 (4 * w) place place 0 low (omega arith)
-      ∙ ap (word_at b) bit ∙ word_at-stream t records (4 * w * i + place) h (slot_within_frames t records h i place early low)
+      ∙ ap (word_at b) bit ∙ word_at-stream t records (4 * w * i + place) (slot_within_frames t records h i place early low)
 
   -- each but the first begins where the one before it ends
   adjacent_read : (i : ℕ) → 0 < i → i < whole_frames t records → (frame_read (stream_of t records) t.frame.words (frame_place t.frame.words i)).adjacent ≡ true

@@ -11,7 +11,8 @@ use Rattle.fdr_table.specs.Ranges.{IsParamInRange, IsPlaceInRange, IsInRange}
 use Rattle.fdr_table.specs.Rows.{ParamRow, PlaceRow, TableRows}
 use Rattle.fdr_check.specs.Occurrences.{frame_bits, begins_at, Occurrence, occurrences_at, occurrences, is_part, part_occurrences, part_width, shift_of}
 use Rattle.fdr_check.specs.Soundness.{has_part, HasParts, HasRate, IsSound}
-use Rattle.fdr_layout.specs.Samples.{Part, carrier_of, part_at, parts_of, Sample, samples_of, samples, ending_at, ending_among, ending_in}
+use Rattle.fdr_layout.specs.Samples.{Part, carrier_of, part_at, parts_of, Sample, samples_of, samples, ending_in}
+use Rattle.fdr_layout.specs.Sorting.{ending_at}
 use Rattle.fdr_layout.proofs.Lists.{range_more}
 use Rattle.fdr_layout.proofs.Endings.{pieces_hold, all_pieces}
 use Rattle.fdr_recon.specs.Kept.{FillUp, IsSampleOf}
@@ -235,7 +236,7 @@ samples_sound t range sound = All-weaker (IsMade t) (IsSampleOf t.params) (λ s 
 
 -- also those that end in a cycle
 pub ending_in_sound : (t : TableRows) (cycle : ℕ) → IsInRange t → IsSound t → All (IsSampleOf t.params) (ending_in t cycle)
-unfolding ending_in ending_among
+unfolding ending_in
 ending_in_sound t cycle range sound =
     pieces_hold (IsSampleOf t.params) (ending_at (samples t)) (frame_bits t.frame.words * cycle) (frame_bits t.frame.words)
     (λ x low high. All-filter _ (IsSampleOf t.params) (samples t) (samples_sound t range sound))

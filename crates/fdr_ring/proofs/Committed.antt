@@ -1,10 +1,12 @@
 -- The ring behind a block that has come.
-use Rattle.std.proofs.Common.{◌≡◌, ⊎_elim, ℕ, ◌+◌, ◌-◌, ◌%◌, ◌≤◌, List, [], ◌∷◌, length, take, drop, get_or, Option, Some, None, sym, ap, ◌∙◌, subst, arith}
+use Rattle.std.proofs.Common.{◌≡◌, ⊎_elim, ℕ, ◌+◌, ◌%◌, ◌≤◌, List, length, Option}
+use Rattle.std.proofs.Common.{Some, None, sym, ap, ◌∙◌, subst, arith}
 use Rattle.std.specs.Prelude.{IsTrue, IsSome, slice_index}
-use Rattle.std.proofs.lemmas.List.{get_or-append_right, length-take-le}
 use Rattle.fdr_deck.specs.State.{State, Tells}
-use Rattle.fdr_deck.specs.Disk.{Torn, IsSettled, patched}
+use Rattle.fdr_deck.specs.Disk.{Torn, IsSettled}
 use Rattle.fdr_deck.specs.Moments.{IsSound}
+use Rattle.fdr_deck.specs.Calls.{IsQuiet}
+use Rattle.fdr_deck.proofs.Quiet.{IsQuiet-weaken}
 use Rattle.fdr_slot.specs.declared.image.Header.{Header}
 use Rattle.fdr_slot.specs.Limits.{IsInLimits}
 use Rattle.fdr_slot.specs.Places.{slot_size, image_size}
@@ -13,22 +15,20 @@ use Rattle.fdr_recover.specs.Images.{next_of}
 use Rattle.fdr_recover.proofs.Standing.{some_or_none}
 use Rattle.fdr_ring.specs.Gates.{gate_at, IsClosed, opened, waiting}
 use Rattle.fdr_ring.specs.Runs.{HasAdded}
-use Rattle.fdr_ring.specs.Rings.{IsSureRing, IsPrepared}
-use Rattle.fdr_ring.proofs.Turning.{gate_within, opened_torn, opened_image, next_slot, other_gate}
-
-patched_byte : (at b : ℕ) (old : List ℕ) → at ≤ length old → slice_index (patched at (b ∷ []) old) at ≡ b
-patched_byte at b old within =
-    let none : at - at ≡ 0 = omega arith in
-    get_or-append_right (take at old) (b ∷ drop (at + 1) old) at at 0 (length-take-le at old within) (omega arith)
-    ∙ ap (λ k. get_or (b ∷ drop (at + 1) old) k 0) none
+use Rattle.fdr_ring.specs.Rings.{IsSureRing, IsPrepared, IsCommitting, OfSettled}
+use Rattle.fdr_ring.proofs.Bytes.{patched_byte}
+use Rattle.fdr_ring.proofs.Turning.{gate_within, commit_image, opened_torn, opened_image, next_slot, other_gate}
 
 -- the waiting block has come behind the run
-pub committed : (h : Header) (number : ℕ) (b : Block) (old new : List ℕ) → IsInLimits h → number ≡ next_of h old → IsClosed h old number → image_size h ≤ length old → waiting h old number ≡ Some b → new ≡ opened h old number → HasAdded h b old new
+pub committed : (h : Header) (number : ℕ) (b : Block) (old new : List ℕ) → IsInLimits h → number ≡ next_of h old
+    → IsClosed h old number → image_size h ≤ length old → waiting h old number ≡ Some b → new ≡ opened h old number
+    → HasAdded h b old new
 committed h number b old new limits next closed whole waits is =
     let within : gate_at h number + slot_size h ≤ length old = gate_within h number old limits whole in
     opened_image h number b old new limits next closed whole waits
     (subst (Torn (gate_at h number) 1 old) (sym is) (opened_torn h number old (omega (arith, within))))
-    (ap (λ (l : List ℕ). slice_index l (gate_at h number)) is ∙ patched_byte (gate_at h number) 0x5a old (omega (arith, within)))
+    (ap (λ (l : List ℕ). slice_index l (gate_at h number)) is
+    ∙ patched_byte (gate_at h number) 0x5a old (omega (arith, within)))
 
 some_is : (o : Option Block) → IsSome o → (b : Block) × (o ≡ Some b)
 some_is o some = ⊎_elim
@@ -37,17 +37,21 @@ some_is o some = ⊎_elim
     (some_or_none o)
 
 -- what the ring knows then
-pub committed_ring : (tells : Tells) (h : Header) (number : ℕ) (old new : State) → IsInLimits h → IsSound tells old → IsPrepared tells h number old → new.extent ≡ old.extent → (IsTrue tells.bytes → new.held ≡ opened h old.held number)
+pub committed_ring : (tells : Tells) (h : Header) (number : ℕ) (old new : State) → IsInLimits h → IsSound tells old
+    → IsPrepared tells h number old → new.extent ≡ old.extent
+    → (IsTrue tells.bytes → new.held ≡ opened h old.held number)
     → (IsTrue tells.stops → IsSettled new) → IsSureRing tells h (number + 1) new
 committed_ring tells h number old new limits sound prepared extent held settled = record {
   ring = record {
     extent = omega (arith, prepared.ring.extent, extent);
     next = λ told. let b = some_is (waiting h old.held number) (prepared.waits told) in
-        let added = committed h number b.0 old.held new.held limits (prepared.ring.next told) (prepared.ring.closed told) (whole told) b.1 (held told) in
+        let added = committed h number b.0 old.held new.held limits (prepared.ring.next told)
+        (prepared.ring.closed told) (whole told) b.1 (held told) in
         ap (λ k. k + 1) (prepared.ring.next told) ∙ sym added.next;
     closed = closed;
   };
-  stops = λ told image leaves. subst (λ (l : List ℕ). IsClosed h l (number + 1)) (sym (settled told image leaves)) (closed (sound.stops_need_bytes told));
+  stops = λ told image leaves. subst (λ (l : List ℕ). IsClosed h l (number + 1)) (sym (settled told image leaves))
+      (closed (sound.stops_need_bytes told));
 }
   where
     whole : IsTrue tells.bytes → image_size h ≤ length old.held
@@ -57,6 +61,34 @@ committed_ring tells h number old new limits sound prepared extent held settled 
     closed told open_gate =
         let within = gate_within h number old.held limits (whole told) in
         prepared.following told
-        (sym (other_gate h ((number + 1) % h.slots) (number % h.slots) old.held new.held (λ same. next_slot h number limits (sym same))
-        (subst (Torn (gate_at h number) 1 old.held) (sym (held told)) (opened_torn h number old.held (omega (arith, within)))))
+        (sym (other_gate h ((number + 1) % h.slots) (number % h.slots) old.held new.held
+        (λ same. next_slot h number limits (sym same))
+        (subst (Torn (gate_at h number) 1 old.held) (sym (held told))
+        (opened_torn h number old.held (omega (arith, within)))))
         ∙ open_gate)
+
+-- the gate of a waiting block is torn
+committing_image : (h : Header) (number at : ℕ) (old new : List ℕ) → IsInLimits h → number ≡ next_of h old
+    → IsClosed h old number → image_size h ≤ length old
+    → at ≡ gate_at h number → Torn at 1 old new → IsCommitting h number old new
+committing_image h number at old new limits next closed whole here torn =
+    let gate : Torn (gate_at h number) 1 old new = subst (λ k. Torn k 1 old new) here torn in
+    record { run = λ b waits. commit_image h number b old new limits next closed whole waits gate; bytes = gate }
+
+pub committing_deck : (tells : Tells) (h : Header) (number at : ℕ) (old : State) (image : List ℕ) → IsInLimits h
+    → IsSound tells old → IsPrepared tells h number old
+    → at ≡ gate_at h number → IsTrue tells.bytes → Torn at 1 old.held image → IsCommitting h number old.held image
+committing_deck tells h number at old image limits sound prepared here told =
+    committing_image h number at old.held image limits (prepared.ring.next told) (prepared.ring.closed told)
+    (omega (arith, prepared.ring.extent, sound.size told)) here
+
+-- the same at each moment
+pub committing_quiet : (tells : Tells) (h : Header) (number at : ℕ) (old new : State) → IsInLimits h → IsSound tells old
+    → IsPrepared tells h number old
+    → at ≡ gate_at h number → IsQuiet tells (λ image. IsSettled old → Torn at 1 old.held image) old new
+    → IsQuiet tells (OfSettled old (IsCommitting h number)) old new
+committing_quiet tells h number at old new limits sound prepared here quiet =
+    IsQuiet-weaken tells (λ image. IsSettled old → Torn at 1 old.held image)
+    (OfSettled old (IsCommitting h number)) old new quiet
+    (λ told image torn settled. committing_deck tells h number at old image limits sound prepared here
+    (sound.stops_need_bytes told) (torn settled))

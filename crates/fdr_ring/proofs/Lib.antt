@@ -1,8 +1,9 @@
-pub mod Quiet
+pub mod Results
 pub mod Slots
 pub mod Bytes
 pub mod Places
 pub mod Made
 pub mod Turning
+pub mod Placing
 pub mod Committed
 pub mod Attaching

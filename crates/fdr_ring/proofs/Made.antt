@@ -1,25 +1,29 @@
 -- Faults of images, and images that are made.
-use Rattle.std.proofs.Common.{◌≡◌, ◌≢◌, inl, inr, ⊎_elim, ℕ, zero, suc, ◌+◌, ◌-◌, ◌*◌, ◌%◌, ◌<◌, ◌≤◌, true, List, [], ◌∷◌, ◌++◌, length, take, drop, get_or, Some, None, refl, sym, ap, ◌∙◌, subst, arith, length-append}
+use Rattle.std.proofs.Common.{◌≡◌, ◌≢◌, ◌⊎◌, inl, inr, ⊎_elim, ℕ, zero, suc, ◌+◌, ◌-◌, ◌*◌, ◌%◌, ◌<◌, ◌≤◌, true, List, [], ◌∷◌, ◌++◌}
+use Rattle.std.proofs.Common.{length, take, drop, get_or, Some, None, refl, sym, ap, ◌∙◌, subst, arith, length-append}
 use Rattle.std.specs.Prelude.{nat_lt, slice_index, replicate, IsTrue}
 use Rattle.std.proofs.Math.Nat.{mul-le-mul_right, mod-lt}
 use Rattle.std.proofs.lemmas.Bool.{cases_eq, cases_lt, cases_Bool}
 use Rattle.std.proofs.lemmas.Bool.Decides.{nat_tests}
-use Rattle.std.proofs.lemmas.List.{get_or-take, get_or-replicate, get_or-append_right, take_at, drop_at, drop-replicate, length-replicate, length-take-le}
+use Rattle.std.proofs.lemmas.List.{get_or-take, get_or-replicate, get_or-append_right, take_at, drop_at, drop-replicate, length-replicate}
+use Rattle.std.proofs.lemmas.List.{length-take-le}
 use Rattle.fdr_deck.specs.State.{State, Tells}
-use Rattle.fdr_deck.specs.Disk.{Torn, Tears, IsSettled, IsZeros, patched}
-use Rattle.fdr_deck.specs.Moments.{IsSound, EachMoment, Within}
+use Rattle.fdr_deck.specs.Disk.{Torn, Tears, IsSettled, IsZeros, KeepsDisk, patched}
+use Rattle.fdr_deck.specs.Moments.{IsSound, EachMoment, Within, WithinProvide}
 use Rattle.fdr_deck.specs.Calls.{Passes, IsQuiet}
 use Rattle.fdr_deck.proofs.Moments.{IsQuiet-here, IsQuiet-write}
+use Rattle.fdr_deck.proofs.Quiet.{IsQuiet-look, IsQuiet-then, IsQuiet-provide}
 use Rattle.fdr_slot.specs.declared.image.Header.{Header}
 use Rattle.fdr_slot.specs.Limits.{in_limits, IsInLimits}
 use Rattle.fdr_slot.specs.Places.{slot_at, slot_size, image_size}
 use Rattle.fdr_slot.specs.Headers.{has_magic, header_of, header_bytes, image_fault}
-use Rattle.fdr_slot.proofs.HeaderLemmas.{image_fault_closed, image_fault_magic, image_fault_geometry, image_fault_short, image_fault_none, header_of-header_bytes, image_fault-header_bytes}
+use Rattle.fdr_slot.proofs.HeaderLemmas.{image_fault_closed, image_fault_magic, image_fault_geometry, image_fault_short, image_fault_none}
+use Rattle.fdr_slot.proofs.HeaderLemmas.{header_of-header_bytes, image_fault-header_bytes}
 use Rattle.fdr_slot.specs.declared.image.ImageFault.TheVariants as fault
 use Rattle.fdr_recover.specs.Blocks.{Slots, number_after, next_among, run_below}
 use Rattle.fdr_recover.specs.Images.{block_in, next_of, blocks_below, recovered_run}
 use Rattle.fdr_ring.specs.Gates.{gate_at}
-use Rattle.fdr_ring.specs.Formatting.{IsEmpty, IsFormatted, FormattingStop, fresh_image}
+use Rattle.fdr_ring.specs.Formatting.{IsEmpty, IsFormatted, FormattingStop, Making, fresh_image}
 use Rattle.fdr_ring.specs.Rings.{IsSureRing}
 use Rattle.fdr_ring.proofs.Bytes.{Torn-then, Torn-within, Torn-of-same, byte_front, torn_byte}
 use Rattle.fdr_ring.proofs.Places.{block_in-closed}
@@ -53,7 +57,8 @@ small_stop h image small = inl (small_fault (take 64 image) (length image) small
 pub closed_stop : (h : Header) (image : List ℕ) → slice_index image 0 ≢ 0x5a → FormattingStop h image
 closed_stop h image closed = ⊎_elim
     (λ small. small_stop h image small)
-    (λ whole. inr (inl (image_fault_closed (take 64 image) (length image) whole (λ is. closed (sym (get_or-take 64 image 0 0 (omega arith)) ∙ is)))))
+    (λ whole. inr (inl (image_fault_closed (take 64 image) (length image) whole
+    (λ is. closed (sym (get_or-take 64 image 0 0 (omega arith)) ∙ is)))))
     (cases_lt (length image) 64)
 
 zeros_first : (n : ℕ) → slice_index (replicate n 0) 0 ≡ 0
@@ -84,15 +89,18 @@ length-header_bytes : (h : Header) → length (header_bytes h) ≡ 64
 length-header_bytes h = ap length (header_tail h) ∙ omega (arith, length-header_tail h)
 
 -- the gate is opened over its bytes
-pub opened_fresh : (h : Header) → patched 0 (0x5a ∷ []) (patched 1 (take 63 (drop 1 (header_bytes h))) (replicate (image_size h) 0)) ≡ fresh_image h
+pub opened_fresh : (h : Header)
+    → patched 0 (0x5a ∷ []) (patched 1 (take 63 (drop 1 (header_bytes h))) (replicate (image_size h) 0)) ≡ fresh_image h
 opened_fresh h =
     let tail : List ℕ = take 63 (drop 1 (header_bytes h)) in
     let zeros : List ℕ = replicate (image_size h) 0 in
     let long : length tail ≡ 63 = length-header_tail h in
     let front : length (take 1 zeros) ≡ 1 = length-take-le 1 zeros (omega (arith, length-replicate {A = ℕ} (image_size h) 0)) in
-    let behind : drop 1 (patched 1 tail zeros) ≡ tail ++ drop (1 + length tail) zeros = drop_at (take 1 zeros) (tail ++ drop (1 + length tail) zeros) 1 front in
+    let behind : drop 1 (patched 1 tail zeros) ≡ tail ++ drop (1 + length tail) zeros =
+    drop_at (take 1 zeros) (tail ++ drop (1 + length tail) zeros) 1 front in
     let rest : drop (1 + length tail) zeros ≡ replicate (h.slots * slot_size h) 0 =
-    drop-replicate (1 + length tail) (image_size h) 0 ∙ ap (λ k. replicate k 0) (let count : image_size h - (1 + length tail) ≡ h.slots * slot_size h = omega (arith, long) in count) in
+    drop-replicate (1 + length tail) (image_size h) 0 ∙ ap (λ k. replicate k 0)
+    (let count : image_size h - (1 + length tail) ≡ h.slots * slot_size h = omega (arith, long) in count) in
     ap (λ l. 0x5a ∷ l) (behind ∙ ap (λ l. tail ++ l) rest) ∙ ap (λ l. l ++ replicate (h.slots * slot_size h) 0) (sym (header_tail h))
 
 -- the gates of a fresh image
@@ -108,13 +116,16 @@ pub fresh_empty : (h : Header) → IsEmpty h (fresh_image h)
 fresh_empty h i below = block_in-closed h (fresh_image h) i (λ open_gate. omega (arith, fresh_gate h i below, open_gate))
 
 pub length-fresh : (h : Header) → length (fresh_image h) ≡ image_size h
-length-fresh h = length-append (header_bytes h) (replicate (h.slots * slot_size h) 0) ∙ omega (arith, length-header_bytes h, length-replicate {A = ℕ} (h.slots * slot_size h) 0)
+length-fresh h = length-append (header_bytes h) (replicate (h.slots * slot_size h) 0)
+    ∙ omega (arith, length-header_bytes h, length-replicate {A = ℕ} (h.slots * slot_size h) 0)
 
 pub fresh_formatted : (h : Header) → IsInLimits h → IsFormatted h (fresh_image h)
 fresh_formatted h limits =
-    let first : take 64 (fresh_image h) ≡ header_bytes h = take_at (header_bytes h) (replicate (h.slots * slot_size h) 0) 64 (length-header_bytes h) in
+    let first : take 64 (fresh_image h) ≡ header_bytes h =
+    take_at (header_bytes h) (replicate (h.slots * slot_size h) 0) 64 (length-header_bytes h) in
     record {
-      no_fault = ap (λ bytes. image_fault bytes (length (fresh_image h))) first ∙ image_fault-header_bytes h (length (fresh_image h)) limits (omega (arith, length-fresh h));
+      no_fault = ap (λ bytes. image_fault bytes (length (fresh_image h))) first
+          ∙ image_fault-header_bytes h (length (fresh_image h)) limits (omega (arith, length-fresh h));
       header = ap header_of first ∙ header_of-header_bytes h limits;
       empty = fresh_empty h;
     }
@@ -135,23 +146,32 @@ unfolding blocks_below
 empty_run h image empty = ap (run_below h.slots (block_in h image)) (empty_next h image empty)
 
 -- the gate is torn over the bytes of the header
-pub gate_stop : (h : Header) (held image : List ℕ) → IsInLimits h → held ≡ patched 1 (take 63 (drop 1 (header_bytes h))) (replicate (image_size h) 0) → 0 < length held → Torn 0 1 held image → FormattingStop h image
+pub gate_stop : (h : Header) (held image : List ℕ) → IsInLimits h
+    → held ≡ patched 1 (take 63 (drop 1 (header_bytes h))) (replicate (image_size h) 0) → 0 < length held → Torn 0 1 held image
+    → FormattingStop h image
 gate_stop h held image limits is some torn = ⊎_elim
-    (λ open_gate. inr (inr (subst (IsFormatted h) (sym (torn_byte 0 held image 0x5a some torn open_gate ∙ ap (patched 0 (0x5a ∷ [])) is ∙ opened_fresh h)) (fresh_formatted h limits))))
+    (λ open_gate. inr (inr (subst (IsFormatted h) (sym
+    (torn_byte 0 held image 0x5a some torn open_gate ∙ ap (patched 0 (0x5a ∷ [])) is ∙ opened_fresh h)) (fresh_formatted h limits))))
     (λ closed. closed_stop h image closed)
     (cases_eq (slice_index image 0) 0x5a)
 
 -- the write of the header behind its gate
-pub lays_tail : (tells : Tells) (size n : ℕ) (old new : State) → IsSound tells old → (IsTrue tells.bytes → old.held ≡ replicate size 0) → (IsTrue tells.stops → IsSettled old) → n ≤ 63
-    → Passes tells old new → EachMoment tells old new (Within old new) → Tears tells 1 n old new → IsQuiet tells (Torn 1 63 (replicate size 0)) old new
+pub lays_tail : (tells : Tells) (size n : ℕ) (old new : State) → IsSound tells old → (IsTrue tells.bytes → old.held ≡ replicate size 0)
+    → (IsTrue tells.stops → IsSettled old) → n ≤ 63
+    → Passes tells old new → EachMoment tells old new (Within old new) → Tears tells 1 n old new
+    → IsQuiet tells (Torn 1 63 (replicate size 0)) old new
 lays_tail tells size n old new sound zeros settled few passes moments tears =
     IsQuiet-write tells (Torn 1 63 (replicate size 0)) old old new 1 n sound sound
-    (IsQuiet-here tells (Torn 1 63 (replicate size 0)) old sound (λ told image leaves. Torn-of-same 1 63 (replicate size 0) image (settled told image leaves ∙ zeros (sound.stops_need_bytes told))))
+    (IsQuiet-here tells (Torn 1 63 (replicate size 0)) old sound
+    (λ told image leaves. Torn-of-same 1 63 (replicate size 0) image (settled told image leaves ∙ zeros (sound.stops_need_bytes told))))
     passes moments tears
-    (λ told from image leaves has torn. Torn-then 1 63 (replicate size 0) from image has (Torn-within 1 63 1 n from image (omega arith) (omega arith) torn))
+    (λ told from image leaves has torn. Torn-then 1 63 (replicate size 0) from image has
+    (Torn-within 1 63 1 n from image (omega arith) (omega arith) torn))
 
 -- the ring of a fresh image
-pub fresh_ring : (tells : Tells) (h : Header) (d : State) → IsInLimits h → d.extent ≡ image_size h → (IsTrue tells.stops → IsTrue tells.bytes) → (IsTrue tells.bytes → d.held ≡ fresh_image h) → (IsTrue tells.stops → IsSettled d) → IsSureRing tells h 0 d
+pub fresh_ring : (tells : Tells) (h : Header) (d : State) → IsInLimits h → d.extent ≡ image_size h
+    → (IsTrue tells.stops → IsTrue tells.bytes) → (IsTrue tells.bytes → d.held ≡ fresh_image h) → (IsTrue tells.stops → IsSettled d)
+    → IsSureRing tells h 0 d
 fresh_ring tells h d limits extent needs held settled = record {
   ring = record {
     extent = omega (arith, extent);
@@ -168,7 +188,43 @@ fresh_ring tells h d limits extent needs held settled = record {
         absurd (omega (arith, here, open_gate))
 
 -- a settled disk without a byte
-pub empty_stop : (tells : Tells) (h : Header) (d : State) (image : List ℕ) → IsSound tells d → IsTrue tells.stops → d.extent ≡ 0 → IsSettled d → d.may_leave image → FormattingStop h image
+pub empty_stop : (tells : Tells) (h : Header) (d : State) (image : List ℕ) → IsSound tells d → IsTrue tells.stops → d.extent ≡ 0
+    → IsSettled d → d.may_leave image → FormattingStop h image
 empty_stop tells h d image sound told none settled leaves =
     let long : length image ≡ 0 = ap length (settled image leaves) ∙ sound.size (sound.stops_need_bytes told) ∙ none in
     small_stop h image (omega (arith, long))
+
+-- an image that could be left before anything was made
+kept_image : (tells : Tells) (h : Header) (d : State) (image : List ℕ) → IsSound tells d → IsTrue tells.stops → d.may_leave image
+    → Making h d image
+kept_image tells h d image sound told leaves = record {
+  made = λ none settled. empty_stop tells h d image sound told none settled leaves;
+  kept = λ some. leaves;
+}
+
+-- the length is asked for
+pub asks_length : (tells : Tells) (h : Header) (old new : State) → IsSound tells old → KeepsDisk old new → Passes tells old new
+    → EachMoment tells old new (Within old new) → IsQuiet tells (Making h old) old new
+asks_length tells h old new sound disk passes moments =
+    IsQuiet-look tells (Making h old) old new sound disk passes moments
+    (λ told image leaves. kept_image tells h old image sound told leaves)
+
+-- then the disk is provided
+pub provides_zeros : (tells : Tells) (h : Header) (size : ℕ) (old mid new : State) → IsSound tells old → IsSound tells mid
+    → (IsTrue tells.stops → old.extent ≡ 0) → KeepsDisk old mid → IsQuiet tells (Making h old) old mid
+    → Passes tells mid new → EachMoment tells mid new (WithinProvide size mid new) → IsQuiet tells (Making h old) old new
+provides_zeros tells h size old mid new sound sound_mid none disk first passes moments =
+    IsQuiet-then tells (Making h old) (λ image. mid.may_leave image ⊎ IsZeros size image) (Making h old) old mid new sound first
+    (IsQuiet-provide tells size mid new sound_mid passes moments)
+    (λ told image has. has)
+    (λ told image. ⊎_elim
+    (λ leaves. kept_image tells h old image sound told (disk.no_more image leaves))
+    (λ zeros. record { made = λ empty settled. zeros_stop h size image zeros; kept = λ some. absurd (omega (arith, some, none told)) }))
+
+-- and then the header is laid
+pub lays_header : (tells : Tells) (h : Header) (old mid new : State) → IsSound tells old → (IsTrue tells.stops → old.extent ≡ 0)
+    → IsQuiet tells (Making h old) old mid → IsQuiet tells (FormattingStop h) mid new → IsQuiet tells (Making h old) old new
+lays_header tells h old mid new sound none first second =
+    IsQuiet-then tells (Making h old) (FormattingStop h) (Making h old) old mid new sound first second
+    (λ told image has. has)
+    (λ told image has. record { made = λ empty settled. has; kept = λ some. absurd (omega (arith, some, none told)) })

@@ -1,5 +1,6 @@
 -- Slots of which one is emptied, or gets the next block.
-use Rattle.std.proofs.Common.{◌≡◌, ◌≢◌, ⊎_elim, ℕ, zero, suc, ◌+◌, ◌-◌, ◌/◌, ◌%◌, ◌<◌, ◌≤◌, List, [], ◌∷◌, ◌++◌, length, drop, Some, None, refl, sym, ap, ◌∙◌, arith, length-drop}
+use Rattle.std.proofs.Common.{◌≡◌, ◌≢◌, ⊎_elim, ℕ, zero, suc, ◌+◌, ◌-◌, ◌/◌, ◌%◌, ◌<◌, ◌≤◌, List, [], ◌∷◌, ◌++◌, length, drop, Some, None}
+use Rattle.std.proofs.Common.{refl, sym, ap, ◌∙◌, arith, length-drop}
 use Rattle.std.specs.Prelude.{max, min}
 use Rattle.std.proofs.Math.Nat.{mod-lt, div-add-mod, mul-le-mul_left}
 use Rattle.std.proofs.lemmas.Bool.{cases_lt, cases_eq}
@@ -23,7 +24,8 @@ turn_apart n a b same less = ⊎_elim
     (cases_lt (a / n) (b / n))
 
 -- the same blocks stand below a number
-pub run_below-same : (n : ℕ) (old new : Slots) (number : ℕ) → ((m : ℕ) → m < number → standing n new m ≡ standing n old m) → run_below n new number ≡ run_below n old number
+pub run_below-same : (n : ℕ) (old new : Slots) (number : ℕ) → ((m : ℕ) → m < number → standing n new m ≡ standing n old m)
+    → run_below n new number ≡ run_below n old number
 run_below-same n old new zero same = refl
 run_below-same n old new (suc number) same =
     ap (λ r. continued r (standing n new number)) (run_below-same n old new number (λ m less. same m (omega arith)))
@@ -60,14 +62,21 @@ drop-whole : (xs : List Block) → drop (length xs) xs ≡ []
 drop-whole [] = refl
 drop-whole (x ∷ xs) = drop-whole xs
 
-cut_below : (n k limit : ℕ) (old new : Slots) (number : ℕ) → 0 < n → IsEmptied n k old new → ((m : ℕ) → m < number → m % n ≡ k → m < limit) → IsCut limit number (run_below n old number) (run_below n new number)
+cut_below : (n k limit : ℕ) (old new : Slots) (number : ℕ) → 0 < n → IsEmptied n k old new → ((m : ℕ) → m < number → m % n ≡ k → m < limit)
+    → IsCut limit number (run_below n old number) (run_below n new number)
 cut_below n k limit old new zero some emptied late = record { lost = 0; within = omega arith; is = refl; enough = omega arith }
 cut_below n k limit old new (suc number) some emptied late =
     let before = cut_below n k limit old new number some emptied (λ m less same. late m (omega arith) same) in
     ⊎_elim
     (λ gone. let empty = run_below-none n new number (standing-here n k old new number emptied gone) in
     let far = late number (omega arith) gone in
-    record { lost = length (run_below n old (suc number)); within = omega arith; is = empty ∙ sym (drop-whole (run_below n old (suc number))); enough = omega (arith, far) })
+    record {
+      lost = length (run_below n old (suc number));
+      within = omega arith;
+      is = empty
+          ∙ sym (drop-whole (run_below n old (suc number)));
+      enough = omega (arith, far);
+    })
     (λ kept. let same = standing-elsewhere n k old new number some emptied kept in
     ⊎_elim
     (λ none. let whole = run_below-none n old number none in
@@ -80,14 +89,16 @@ cut_below n k limit old new (suc number) some emptied late =
     record {
       lost = before.lost;
       within = omega (arith, before.within, long);
-      is = part ∙ ap (λ r. r ++ held.0 ∷ []) before.is ∙ drop-more before.lost (run_below n old number) held.0 before.within ∙ ap (drop before.lost) (sym whole);
+      is = part ∙ ap (λ r. r ++ held.0 ∷ []) before.is ∙ drop-more before.lost (run_below n old number) held.0 before.within
+          ∙ ap (drop before.lost) (sym whole);
       enough = omega (arith, before.enough, long, left);
     })
     (some_or_none (standing n old number)))
     (cases_eq (number % n) k)
 
 -- the slot of the number that is so far ahead of the next one is emptied
-pub emptied_run : (n ahead : ℕ) (old new : Slots) (next : ℕ) → 0 < n → ahead < n → IsEmptied n ((next + ahead) % n) old new → IsTail (n - (1 + ahead)) (run_below n old next) (run_below n new next)
+pub emptied_run : (n ahead : ℕ) (old new : Slots) (next : ℕ) → 0 < n → ahead < n → IsEmptied n ((next + ahead) % n) old new
+    → IsTail (n - (1 + ahead)) (run_below n old next) (run_below n new next)
 emptied_run n ahead old new next some less emptied =
     let cut = cut_below n ((next + ahead) % n) (next + ahead + 1 - n) old new next some emptied
     (λ m below same. let far = turn_apart n m (next + ahead) same (omega arith) in omega (arith, far)) in
@@ -95,10 +106,12 @@ emptied_run n ahead old new next some less emptied =
     record { lost = cut.lost; within = cut.within; is = cut.is; enough = omega (arith, cut.enough, short) }
 
 -- and the next number stays
-pub emptied_next : (n ahead : ℕ) (old new : Slots) (next : ℕ) → 0 < n → ahead + 1 < n → IsEmptied n ((next + ahead) % n) old new → IsNext n old next → IsNext n new next
+pub emptied_next : (n ahead : ℕ) (old new : Slots) (next : ℕ) → 0 < n → ahead + 1 < n → IsEmptied n ((next + ahead) % n) old new
+    → IsNext n old next → IsNext n new next
 emptied_next n ahead old new next some less emptied is = record {
   above = λ b stands. ⊎_elim
-      (λ gone. absurd (let none : new (b.number % n) ≡ None = ap new gone ∙ emptied.here in let found : None ≡ Some b = sym none ∙ stands in cc))
+      (λ gone. absurd (let none : new (b.number % n) ≡ None = ap new gone ∙ emptied.here in let found : None ≡ Some b = sym none
+      ∙ stands in cc))
       (λ kept. is.above b (sym (emptied.others (b.number % n) (mod-lt b.number some) kept) ∙ stands))
       (cases_eq (b.number % n) ((next + ahead) % n));
   stands = λ positive. let top = is.stands positive in (
@@ -113,19 +126,22 @@ emptied_next n ahead old new next some less emptied is = record {
 }
 
 -- a number that doesn't stand ends the blocks below
-pub length-run_below-from : (n : ℕ) (slots : Slots) (number m : ℕ) → m < number → standing n slots m ≡ None → length (run_below n slots number) + m + 1 ≤ number
+pub length-run_below-from : (n : ℕ) (slots : Slots) (number m : ℕ) → m < number → standing n slots m ≡ None
+    → length (run_below n slots number) + m + 1 ≤ number
 length-run_below-from n slots zero m less none = absurd (omega arith)
 length-run_below-from n slots (suc number) m less none = ⊎_elim
     (λ empty. omega (arith, ap length (run_below-none n slots number empty), less))
     (λ held. let long = length-run_below n slots number held.0 held.1 in
     ⊎_elim
     (λ below. let rest = length-run_below-from n slots number m below none in omega (arith, rest, long))
-    (λ above. let same : m ≡ number = omega arith in absurd (let found : None ≡ Some held.0 = sym none ∙ ap (standing n slots) same ∙ held.1 in cc))
+    (λ above. let same : m ≡ number = omega arith in absurd
+    (let found : None ≡ Some held.0 = sym none ∙ ap (standing n slots) same ∙ held.1 in cc))
     (cases_lt m number))
     (some_or_none (standing n slots number))
 
 -- a closed slot so far ahead of the next number bounds the run
-pub run_below-bound : (n ahead : ℕ) (slots : Slots) (next : ℕ) → ahead < n → slots ((next + ahead) % n) ≡ None → ((m : ℕ) → m + n ≡ next + ahead → m % n ≡ (next + ahead) % n) → length (run_below n slots next) ≤ n - (1 + ahead)
+pub run_below-bound : (n ahead : ℕ) (slots : Slots) (next : ℕ) → ahead < n → slots ((next + ahead) % n) ≡ None
+    → ((m : ℕ) → m + n ≡ next + ahead → m % n ≡ (next + ahead) % n) → length (run_below n slots next) ≤ n - (1 + ahead)
 run_below-bound n ahead slots next less none turn = ⊎_elim
     (λ early. omega (arith, run_below-short n slots next, early))
     (λ late. let m : ℕ = next + ahead - n in
@@ -149,14 +165,16 @@ pub record IsAdded (n : ℕ) (b : Block) (old new : Slots) : Type 0 where
   pub before : old (b.number % n) ≡ None
   pub here : new (b.number % n) ≡ Some b
 
-added_below : (n : ℕ) (b : Block) (old new : Slots) (m : ℕ) → 0 < n → IsAdded n b old new → m < b.number → standing n new m ≡ standing n old m
+added_below : (n : ℕ) (b : Block) (old new : Slots) (m : ℕ) → 0 < n → IsAdded n b old new → m < b.number
+    → standing n new m ≡ standing n old m
 added_below n b old new m some added less = ⊎_elim
     (λ same. ap (λ j. numbered m (new j)) same ∙ ap (numbered m) added.here ∙ numbered_other m b (λ equal. omega (arith, equal, less))
     ∙ sym (ap (λ j. numbered m (old j)) same ∙ ap (numbered m) added.before))
     (λ other. ap (numbered m) (added.others (m % n) (mod-lt m some) other))
     (cases_eq (m % n) (b.number % n))
 
-pub added_run : (n : ℕ) (b : Block) (old new : Slots) → 0 < n → IsAdded n b old new → run_below n new (b.number + 1) ≡ run_below n old b.number ++ b ∷ []
+pub added_run : (n : ℕ) (b : Block) (old new : Slots) → 0 < n → IsAdded n b old new
+    → run_below n new (b.number + 1) ≡ run_below n old b.number ++ b ∷ []
 added_run n b old new some added =
     let here : standing n new b.number ≡ Some b = stands-standing n new b.number b added.here refl in
     let one : b.number + 1 ≡ suc b.number = omega arith in

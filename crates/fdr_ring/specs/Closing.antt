@@ -1,8 +1,20 @@
 -- A gate that is closed where it is open.
-use Rattle.std.specs.Prelude.{◌≡◌, ◌≢◌, ℕ, List, slice_index}
-use Rattle.fdr_deck.specs.Disk.{Torn}
+use Rattle.std.specs.Prelude.{◌≡◌, ◌≢◌, ℕ, ◌==◌, if◌then◌else◌, List, [], ◌∷◌, slice_index}
+use Rattle.fdr_deck.specs.State.{State}
+use Rattle.fdr_deck.specs.Disk.{Torn, patched}
+
+-- the image with the gate 00 where it was open, and as it was elsewhere
+abbrev pub shut : ℕ → List ℕ → List ℕ
+shut at image = if slice_index image at == 0x5a then patched at (0 ∷ []) image else image
 
 -- only this gate may be another, and only where it was open
 pub record IsTurned (at : ℕ) (old new : List ℕ) : Type 0 where
   pub torn : Torn at 1 old new
   pub same : slice_index old at ≢ 0x5a → new ≡ old
+
+-- an image that a stop at entry could leave, but for this gate where the disk held it open
+pub record Closing (at : ℕ) (entry : State) (image : List ℕ) : Type 0 where
+  pub from : List ℕ
+  pub left : entry.may_leave from
+  pub torn : Torn at 1 from image
+  pub same : slice_index entry.held at ≢ 0x5a → image ≡ from

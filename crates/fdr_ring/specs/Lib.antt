@@ -3,3 +3,4 @@ pub mod Formatting
 pub mod Runs
 pub mod Rings
 pub mod Closing
+pub mod Bodies

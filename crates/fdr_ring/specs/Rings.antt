@@ -1,12 +1,14 @@
 -- What a ring knows of its deck, and what its calls leave at each moment.
-use Rattle.std.specs.Prelude.{◌≡◌, ◌≤◌, ℕ, ◌+◌, List, Some, IsTrue, IsSome}
+use Rattle.std.specs.Prelude.{◌≡◌, ◌≤◌, ℕ, ◌+◌, ◌-◌, List, Some, IsTrue, IsSome}
 use Rattle.fdr_deck.specs.State.{State, Tells}
-use Rattle.fdr_deck.specs.Disk.{IsSettled}
+use Rattle.fdr_deck.specs.Disk.{IsSettled, Torn}
 use Rattle.fdr_slot.specs.declared.image.Header.{Header}
 use Rattle.fdr_slot.specs.Places.{image_size}
 use Rattle.fdr_recover.specs.Blocks.{Block}
 use Rattle.fdr_recover.specs.Images.{next_of}
-use Rattle.fdr_ring.specs.Gates.{IsClosed, waiting}
+use Rattle.fdr_ring.specs.Gates.{gate_at, IsClosed, waiting}
+use Rattle.fdr_ring.specs.Closing.{IsTurned}
+use Rattle.fdr_ring.specs.Bodies.{IsPlacing}
 use Rattle.fdr_ring.specs.Runs.{KeepsRun, MayAdd}
 
 -- The disk is long enough; where bytes are told, the next number is that of the held run, and the gate of its slot is closed.
@@ -26,10 +28,22 @@ pub record IsPrepared (tells : Tells) (h : Header) (number : ℕ) (d : State) : 
   pub waits : IsTrue tells.bytes → IsSome (waiting h d.held number)
   pub following : IsTrue tells.bytes → IsClosed h d.held (number + 1)
 
--- where the disk was settled, the run but for its oldest blocks
-abbrev pub Keeping : Header → ℕ → State → List ℕ → Type 0
-Keeping h least entry image = IsSettled entry → KeepsRun h least entry.held image
+-- What `attach` may leave of an image: the run but for its oldest block.
+-- Only the gate of the next number may be another, where it was open.
+pub record IsAttaching (h : Header) (old new : List ℕ) : Type 0 where
+  pub run : KeepsRun h (h.slots - 1) old new
+  pub bytes : IsTurned (gate_at h (next_of h old)) old new
 
--- where the disk was settled, the run, or the run with the block that waited
-abbrev pub Committing : Header → ℕ → State → List ℕ → Type 0
-Committing h next entry image = IsSettled entry → (b : Block) → waiting h entry.held next ≡ Some b → MayAdd h b entry.held image
+-- What `prepare` may leave of one: the run but for its two oldest blocks. Only what it writes may be other bytes.
+pub record IsPreparing (h : Header) (number size : ℕ) (old new : List ℕ) : Type 0 where
+  pub run : KeepsRun h (h.slots - 2) old new
+  pub bytes : IsPlacing h number size old new
+
+-- What `commit` may leave of one: the run, or the run with the block that waited. Only its gate may be another.
+pub record IsCommitting (h : Header) (number : ℕ) (old new : List ℕ) : Type 0 where
+  pub run : (b : Block) → waiting h old number ≡ Some b → MayAdd h b old new
+  pub bytes : Torn (gate_at h number) 1 old new
+
+-- where the disk was settled at entry, this is left of what it held
+abbrev pub OfSettled : State → (List ℕ → List ℕ → Type 0) → List ℕ → Type 0
+OfSettled entry Leaves image = IsSettled entry → Leaves entry.held image

@@ -1,23 +1,20 @@
 // A gate that is closed where it is open.
-ghost use Rattle.std.specs.Prelude.{◌≡◌, ◌≢◌, ◌+◌, ◌≤◌, false, IfOk, OnOk, OnErr, IsTrue, slice_index};
+ghost use Rattle.std.specs.Prelude.{◌≡◌, ◌+◌, ◌≤◌, OnOk, OnErr, IsTrue};
 ghost use Rattle.fdr_io.specs.Faults.{Rose};
-ghost use Rattle.fdr_deck.specs.Disk.{IsSettled, KeepsDisk};
 ghost use Rattle.fdr_deck.specs.Calls.{IsQuiet, Succeeds};
-ghost use Rattle.fdr_ring.specs.Closing.{IsTurned};
+ghost use Rattle.fdr_ring.specs.Closing.{IsTurned, Closing, shut};
 
 use fdr_deck::Deck;
 use fdr_io::Failed;
 use fdr_slot::OPEN;
 
-/// Writes a gate closed where it is open, and answers whether it did. Nothing else is written, and
-/// what was written isn't durable yet.
-pub fn close_open_gate<D: Deck>(deck: &mut D, at: u64) -> Result<bool, Failed>
+/// Writes a gate closed where it is open. Nothing else is written, and what was written isn't durable
+/// yet.
+pub fn close_open_gate<D: Deck>(deck: &mut D, at: u64) -> Result<(), Failed>
     requires { at + 1 ≤ (D.state deck.old).extent }
-    ensures quiet { IsQuiet D.tells (λ image. IsSettled (D.state deck.old) → IsTurned at (D.state deck.old).held image)
-        (D.state deck.old) (D.state deck.new) }
+    ensures quiet { IsQuiet D.tells (Closing at (D.state deck.old)) (D.state deck.old) (D.state deck.new) }
     ensures turned { IsTrue D.tells.bytes → IsTurned at (D.state deck.old).held (D.state deck.new).held }
-    ensures closed { IsTrue D.tells.bytes → OnOk result (slice_index (D.state deck.new).held at ≢ OPEN) }
-    ensures left { IfOk result (λ wrote. wrote ≡ false → KeepsDisk (D.state deck.old) (D.state deck.new)) }
+    ensures written { OnOk result (IsTrue D.tells.bytes → (D.state deck.new).held ≡ shut at (D.state deck.old).held) }
     ensures extent { (D.state deck.new).extent ≡ (D.state deck.old).extent }
     ensures succeeds { OnOk result (Succeeds (D.state deck.old) (D.state deck.new)) }
     ensures cause { OnErr result (Rose (D.state deck.old).disk_faults (D.state deck.new).disk_faults) }
@@ -26,8 +23,7 @@ pub fn close_open_gate<D: Deck>(deck: &mut D, at: u64) -> Result<bool, Failed>
     let mut gate = [0];
     deck.read(at, &mut gate)?;
     if gate[0] != OPEN {
-        return Ok(false);
+        return Ok(());
     }
-    deck.write(at, &[0])?;
-    Ok(true)
+    deck.write(at, &[0])
 }

@@ -1,9 +1,10 @@
 //! The ring of blocks in an image: makes an image, opens one, and adds blocks so that a stop at any
 //! moment loses none but the oldest.
 //!
-//! A ring of N slots promises the last N - 2 blocks. It takes no memory, and holds no deck: each call
-//! is handed the deck anew. Between two calls the deck may be read, synced and asked for its length,
-//! its line may be pulled, and numbers may be announced.
+//! A ring of N slots promises the last N - 2 blocks. A block takes at most six calls of the deck, of
+//! which two are syncs. A ring takes no memory, and holds no deck: each call is handed the deck anew.
+//! Between two calls the deck may be read, synced and asked for its length, its line may be pulled,
+//! and numbers may be announced.
 #![tactic(auto)]
 
 mod attach;

@@ -6,8 +6,9 @@ ghost use Rattle.fdr_deck.specs.Calls.{IsQuiet, Succeeds};
 ghost use Rattle.fdr_slot.specs.Limits.{IsInLimits};
 ghost use Rattle.fdr_recover.specs.Images.{recovered_run};
 ghost use Rattle.fdr_ring.specs.Gates.{waiting};
-ghost use Rattle.fdr_ring.specs.Runs.{KeepsRun, last_blocks};
-ghost use Rattle.fdr_ring.specs.Rings.{IsRing, IsPrepared, Keeping};
+ghost use Rattle.fdr_ring.specs.Bodies.{prepared};
+ghost use Rattle.fdr_ring.specs.Runs.{last_blocks};
+ghost use Rattle.fdr_ring.specs.Rings.{IsRing, IsPrepared, IsPreparing, OfSettled};
 
 use crate::close::close_open_gate;
 use crate::write::{gate_at, write_body};
@@ -15,29 +16,32 @@ use fdr_deck::Deck;
 use fdr_io::Failed;
 use fdr_slot::Header;
 
-/// Writes the block of the next number behind its closed gate, and closes the gate of the slot
-/// behind it, each durable before the next begins.
+/// Writes the block of the next number behind its closed gate, and the gate of the slot behind it
+/// closed, and makes both durable at once.
 pub fn place_block<D: Deck>(deck: &mut D, h: &Header, next: u64, bytes: &[u8]) -> Result<(), Failed>
     requires limits { IsInLimits h.now }
     requires number { next < 2 ^ 48 }
     requires fact { IsRing D.tells h.now next (D.state deck.old) }
     requires some { 0 < length bytes.now }
     requires fits { length bytes.now ≤ h.now.payload }
+    ensures held { OnOk result (IsTrue D.tells.bytes
+        → (D.state deck.new).held ≡ prepared h.now next bytes.now (D.state deck.old).held) }
     ensures fact { OnOk result (IsPrepared D.tells h.now next (D.state deck.new)) }
     ensures block { OnOk result (IsTrue D.tells.bytes
         → waiting h.now (D.state deck.new).held next ≡ Some (record { number = next; payload = bytes.now })) }
     ensures run { OnOk result (IsTrue D.tells.bytes → recovered_run h.now (D.state deck.new).held
         ≡ last_blocks (h.now.slots - 2) (recovered_run h.now (D.state deck.old).held)) }
-    ensures keeps { IsTrue D.tells.bytes → KeepsRun h.now (h.now.slots - 2) (D.state deck.old).held (D.state deck.new).held }
+    ensures keeps { IsTrue D.tells.bytes
+        → IsPreparing h.now next (length bytes.now) (D.state deck.old).held (D.state deck.new).held }
     ensures settled { OnOk result (IsTrue D.tells.stops → IsSettled (D.state deck.new)) }
     ensures extent { (D.state deck.new).extent ≡ (D.state deck.old).extent }
-    ensures quiet { IsQuiet D.tells (Keeping h.now (h.now.slots - 2) (D.state deck.old)) (D.state deck.old) (D.state deck.new) }
+    ensures quiet { IsQuiet D.tells (OfSettled (D.state deck.old) (IsPreparing h.now next (length bytes.now)))
+        (D.state deck.old) (D.state deck.new) }
     ensures succeeds { OnOk result (Succeeds (D.state deck.old) (D.state deck.new)) }
     ensures cause { OnErr result (Rose (D.state deck.old).disk_faults (D.state deck.new).disk_faults) }
     ensures rest { D.same_rest deck.old deck.new }
 {
     write_body(deck, h, next, bytes)?;
     close_open_gate(deck, gate_at(h, next + 1))?;
-    deck.sync()?;
-    Ok(())
+    deck.sync()
 }

@@ -55,13 +55,14 @@ impl Ring {
     ghost use Rattle.fdr_deck.specs.Calls.{IsQuiet, Succeeds};
     ghost use Rattle.fdr_recover.specs.Images.{recovered_run};
     ghost use Rattle.fdr_ring.specs.Gates.{waiting};
-    ghost use Rattle.fdr_ring.specs.Runs.{KeepsRun, last_blocks};
-    ghost use Rattle.fdr_ring.specs.Rings.{IsRing, IsPrepared, Keeping};
+    ghost use Rattle.fdr_ring.specs.Bodies.{prepared};
+    ghost use Rattle.fdr_ring.specs.Runs.{last_blocks};
+    ghost use Rattle.fdr_ring.specs.Rings.{IsRing, IsPrepared, IsPreparing, OfSettled};
 
     /// Writes a block of 1 to `payload` bytes behind the closed gate of its slot, and closes the gate
-    /// of the slot behind it, each durable before the next begins. At every moment a stop leaves all
-    /// blocks but the two oldest. `SeqEnd` is answered, without a call of the deck, exactly where there
-    /// is no number left, and otherwise `DiskFault`.
+    /// of the slot behind it, and makes both durable by one sync. Nothing else is written. At every
+    /// moment a stop leaves all blocks but the two oldest. `SeqEnd` is answered, without a call of the
+    /// deck, exactly where there is no number left, and otherwise `DiskFault`.
     pub fn prepare<D: Deck>(self, deck: &mut D, bytes: &[u8]) -> Result<Prepared, RingFault>
         requires fact { IsRing D.tells self.header self.next (D.state deck.old) }
         requires some { 0 < length bytes.now }
@@ -70,16 +71,20 @@ impl Ring {
         ensures untouched { result ≡ Err RingFault.SeqEnd → deck.new ≡ deck.old }
         ensures only { OnErr result (result ≡ Err RingFault.SeqEnd ⊎ result ≡ Err RingFault.DiskFault) }
         ensures prepared { IfOk result (λ p. (p.header ≡ self.header) × (p.next ≡ self.next)) }
+        ensures held { OnOk result (IsTrue D.tells.bytes
+            → (D.state deck.new).held ≡ prepared self.header self.next bytes.now (D.state deck.old).held) }
         ensures fact { IfOk result (λ p. IsPrepared D.tells p.header p.next (D.state deck.new)) }
         ensures block { OnOk result (IsTrue D.tells.bytes
-            → waiting self.header (D.state deck.new).held self.next ≡ Some (record { number = self.next; payload = bytes.now })) }
+            → waiting self.header (D.state deck.new).held self.next
+            ≡ Some (record { number = self.next; payload = bytes.now })) }
         ensures run { OnOk result (IsTrue D.tells.bytes → recovered_run self.header (D.state deck.new).held
             ≡ last_blocks (self.header.slots - 2) (recovered_run self.header (D.state deck.old).held)) }
-        ensures keeps { IsTrue D.tells.bytes
-            → KeepsRun self.header (self.header.slots - 2) (D.state deck.old).held (D.state deck.new).held }
+        ensures keeps { IsTrue D.tells.bytes → IsPreparing self.header self.next (length bytes.now)
+            (D.state deck.old).held (D.state deck.new).held }
         ensures settled { OnOk result (IsTrue D.tells.stops → IsSettled (D.state deck.new)) }
         ensures extent { (D.state deck.new).extent ≡ (D.state deck.old).extent }
-        ensures quiet { IsQuiet D.tells (Keeping self.header (self.header.slots - 2) (D.state deck.old))
+        ensures quiet { IsQuiet D.tells
+            (OfSettled (D.state deck.old) (IsPreparing self.header self.next (length bytes.now)))
             (D.state deck.old) (D.state deck.new) }
         ensures succeeds { OnOk result (Succeeds (D.state deck.old) (D.state deck.new)) }
         ensures cause { result ≡ Err RingFault.DiskFault
@@ -106,29 +111,30 @@ impl Ring {
     ghost use Rattle.fdr_slot.specs.Places.{image_size};
     ghost use Rattle.fdr_recover.specs.Images.{next_of, recovered_run};
     ghost use Rattle.fdr_ring.specs.Gates.{gate_at};
-    ghost use Rattle.fdr_ring.specs.Closing.{IsTurned};
-    ghost use Rattle.fdr_ring.specs.Runs.{KeepsRun, last_blocks};
-    ghost use Rattle.fdr_ring.specs.Rings.{IsRing, IsSureRing, Keeping};
+    ghost use Rattle.fdr_ring.specs.Closing.{shut};
+    ghost use Rattle.fdr_ring.specs.Runs.{last_blocks};
+    ghost use Rattle.fdr_ring.specs.Rings.{IsSureRing, IsAttaching, OfSettled};
 
-    /// Opens an image again: finds its next number, and closes the gate of that number's slot where
-    /// it is open. Nothing else is written. At every moment a stop leaves all blocks but the oldest.
-    /// Only `DiskFault` is answered besides.
+    /// Opens an image again: finds its next number, closes the gate of that number's slot where it is
+    /// open, and makes what the disk holds durable, whoever wrote it: a block that was found isn't
+    /// lost to a later stop. Nothing else is written. At every moment a stop leaves all blocks but the
+    /// oldest. Only `DiskFault` is answered besides.
     pub fn attach<D: Deck>(deck: &mut D, h: Header) -> Result<Ring, RingFault>
         requires limits { IsInLimits h }
         requires whole { image_size h ≤ (D.state deck.old).extent }
         ensures only { OnErr result (result ≡ Err RingFault.DiskFault) }
         ensures header { IfOk result (λ r. r.header ≡ h) }
         ensures next { IsTrue D.tells.bytes → IfOk result (λ r. r.next ≡ next_of h (D.state deck.old).held) }
-        ensures fact { IfOk result (λ r. IsRing D.tells r.header r.next (D.state deck.new)) }
-        ensures sure { IsSettled (D.state deck.old) → IfOk result (λ r. IsSureRing D.tells r.header r.next (D.state deck.new)) }
+        ensures held { OnOk result (IsTrue D.tells.bytes → (D.state deck.new).held
+            ≡ shut (gate_at h (next_of h (D.state deck.old).held)) (D.state deck.old).held) }
+        ensures fact { IfOk result (λ r. IsSureRing D.tells r.header r.next (D.state deck.new)) }
         ensures run { OnOk result (IsTrue D.tells.bytes → recovered_run h (D.state deck.new).held
             ≡ last_blocks (h.slots - 1) (recovered_run h (D.state deck.old).held)) }
-        ensures turned { IsTrue D.tells.bytes
-            → IsTurned (gate_at h (next_of h (D.state deck.old).held)) (D.state deck.old).held (D.state deck.new).held }
-        ensures keeps { IsTrue D.tells.bytes → KeepsRun h (h.slots - 1) (D.state deck.old).held (D.state deck.new).held }
-        ensures settled { OnOk result (IsTrue D.tells.stops → IsSettled (D.state deck.old) → IsSettled (D.state deck.new)) }
+        ensures keeps { IsTrue D.tells.bytes → IsAttaching h (D.state deck.old).held (D.state deck.new).held }
+        ensures settled { OnOk result (IsTrue D.tells.stops → IsSettled (D.state deck.new)) }
         ensures extent { (D.state deck.new).extent ≡ (D.state deck.old).extent }
-        ensures quiet { IsQuiet D.tells (Keeping h (h.slots - 1) (D.state deck.old)) (D.state deck.old) (D.state deck.new) }
+        ensures quiet { IsQuiet D.tells (OfSettled (D.state deck.old) (IsAttaching h))
+            (D.state deck.old) (D.state deck.new) }
         ensures succeeds { OnOk result (Succeeds (D.state deck.old) (D.state deck.new)) }
         ensures cause { OnErr result (Rose (D.state deck.old).disk_faults (D.state deck.new).disk_faults) }
         ensures rest { D.same_rest deck.old deck.new }
@@ -144,27 +150,28 @@ impl Prepared {
     ghost use Rattle.fdr_deck.specs.Disk.{IsSettled};
     ghost use Rattle.fdr_deck.specs.Calls.{IsQuiet, Succeeds};
     ghost use Rattle.fdr_recover.specs.Blocks.{Block};
-    ghost use Rattle.fdr_ring.specs.Gates.{waiting};
-    ghost use Rattle.fdr_ring.specs.Runs.{HasAdded, MayAdd};
-    ghost use Rattle.fdr_ring.specs.Rings.{IsPrepared, IsSureRing, Committing};
+    ghost use Rattle.fdr_ring.specs.Gates.{opened, waiting};
+    ghost use Rattle.fdr_ring.specs.Runs.{HasAdded};
+    ghost use Rattle.fdr_ring.specs.Rings.{IsPrepared, IsSureRing, IsCommitting, OfSettled};
 
     /// Opens the gate of the prepared block and makes that durable: the block is behind the run, and
-    /// the ring's next number is one more. At every moment a stop leaves the run as it was, or with
-    /// the block. Only `DiskFault` is answered besides.
+    /// the ring's next number is one more. Nothing else is written. At every moment a stop leaves the
+    /// run as it was, or with the block. Only `DiskFault` is answered besides.
     pub fn commit<D: Deck>(self, deck: &mut D) -> Result<Ring, RingFault>
         requires { IsPrepared D.tells self.header self.next (D.state deck.old) }
         ensures only { OnErr result (result ≡ Err RingFault.DiskFault) }
         ensures ring { IfOk result (λ r. (r.header ≡ self.header) × (r.next ≡ self.next + 1)) }
+        ensures held { OnOk result (IsTrue D.tells.bytes
+            → (D.state deck.new).held ≡ opened self.header (D.state deck.old).held self.next) }
         ensures fact { IfOk result (λ r. IsSureRing D.tells r.header r.next (D.state deck.new)) }
         ensures added { OnOk result (IsTrue D.tells.bytes
             → (b : Block) → waiting self.header (D.state deck.old).held self.next ≡ Some b
             → HasAdded self.header b (D.state deck.old).held (D.state deck.new).held) }
         ensures keeps { IsTrue D.tells.bytes
-            → (b : Block) → waiting self.header (D.state deck.old).held self.next ≡ Some b
-            → MayAdd self.header b (D.state deck.old).held (D.state deck.new).held }
+            → IsCommitting self.header self.next (D.state deck.old).held (D.state deck.new).held }
         ensures settled { OnOk result (IsTrue D.tells.stops → IsSettled (D.state deck.new)) }
         ensures extent { (D.state deck.new).extent ≡ (D.state deck.old).extent }
-        ensures quiet { IsQuiet D.tells (Committing self.header self.next (D.state deck.old))
+        ensures quiet { IsQuiet D.tells (OfSettled (D.state deck.old) (IsCommitting self.header self.next))
             (D.state deck.old) (D.state deck.new) }
         ensures succeeds { OnOk result (Succeeds (D.state deck.old) (D.state deck.new)) }
         ensures cause { OnErr result (Rose (D.state deck.old).disk_faults (D.state deck.new).disk_faults) }

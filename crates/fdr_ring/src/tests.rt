@@ -1,7 +1,8 @@
 use super::*;
-use fdr_deck::{MemDeck, SureDeck};
+use fdr_deck::{Deck, MemDeck, SureDeck, Tear};
 use fdr_recover::{Found, scan};
 use fdr_slot::{Header, ImageFault, OPEN, SEQUENCE_END, write_header, write_slot_head};
+use std::alloc::Global;
 use std::test::Fail;
 
 const SMALL: Header = Header {
@@ -62,5 +63,109 @@ fn names_what_is_no_image(rt: HostRuntime) -> Result<(), Fail> {
         read_image_header(&mut deck),
         Err(RingFault::Image(ImageFault::Small))
     );
+    Ok(())
+}
+
+// Adds a block of one byte to the image on the disk.
+fn add_block(deck: &mut MemDeck, byte: u8) -> Result<(), RingFault> {
+    let header = read_image_header(deck)?;
+    let ring = Ring::attach(deck, header)?;
+    ring.prepare(deck, &[byte])?.commit(deck)?;
+    Ok(())
+}
+
+// Four slots with blocks 3 to 5, and the numbers of calls as block 6 began, once it was prepared, and
+// once it was committed.
+fn seven_blocks(alloc: Global) -> Result<(MemDeck, [u64; 3]), Fail> {
+    let mut deck = MemDeck::new(alloc, Vec::new(alloc), Vec::new(alloc), Vec::new(alloc));
+    format(&mut deck, &SMALL)?;
+    for byte in 0..6 {
+        add_block(&mut deck, byte)?;
+    }
+    let header = read_image_header(&mut deck)?;
+    let ring = Ring::attach(&mut deck, header)?;
+    let before = deck.calls();
+    let prepared = ring.prepare(&mut deck, &[6; 64])?;
+    let between = deck.calls();
+    prepared.commit(&mut deck)?;
+    let calls = [before, between, deck.calls()];
+    Ok((deck, calls))
+}
+
+// The run of an image.
+fn run_in(alloc: Global, image: Vec<u8>) -> Result<(u64, u64), Fail> {
+    let mut deck = MemDeck::new(alloc, image, Vec::new(alloc), Vec::new(alloc));
+    let header = read_image_header(&mut deck)?;
+    let found = scan(&mut deck, &header)?;
+    Ok((found.first, found.next))
+}
+
+// The run that a stop within this call leaves.
+fn left_by(alloc: Global, deck: &MemDeck, call: u64, tear: Tear) -> Result<(u64, u64), Fail> {
+    if call >= deck.calls() {
+        return Err("no such call".into());
+    }
+    run_in(alloc, deck.stop(alloc, call, tear)?)
+}
+
+#[test]
+fn a_block_takes_six_calls(rt: HostRuntime) -> Result<(), Fail> {
+    let (deck, [before, between, after]) = seven_blocks(rt.alloc())?;
+    assert_eq!(rt; between.checked_sub(before), Some(4));
+    assert_eq!(rt; after.checked_sub(before), Some(6));
+    assert_eq!(rt;
+        run_in(rt.alloc(), deck.image().to_vec(rt.alloc())?)?,
+        (4, 7)
+    );
+    Ok(())
+}
+
+#[test]
+fn the_body_and_the_close_are_torn_together(rt: HostRuntime) -> Result<(), Fail> {
+    let (deck, [_, between, _]) = seven_blocks(rt.alloc())?;
+    let sync = between.saturating_sub(1);
+    for (tear, run) in [
+        (Tear::Old, (3, 6)),
+        (Tear::New, (4, 6)),
+        (Tear::Half, (3, 6)),
+        (Tear::Fill(OPEN), (3, 6)),
+        (Tear::Fill(0xee), (4, 6)),
+    ] {
+        assert_eq!(rt; left_by(rt.alloc(), &deck, sync, tear)?, run);
+    }
+    Ok(())
+}
+
+#[test]
+fn a_gate_is_torn_alone(rt: HostRuntime) -> Result<(), Fail> {
+    let (deck, [_, _, after]) = seven_blocks(rt.alloc())?;
+    let sync = after.saturating_sub(1);
+    assert_eq!(rt; left_by(rt.alloc(), &deck, sync, Tear::Old)?, (4, 6));
+    assert_eq!(rt; left_by(rt.alloc(), &deck, sync, Tear::New)?, (4, 7));
+    Ok(())
+}
+
+// A block whose last sync, that of its gate, failed, and the number of calls then.
+fn unsettled_block(alloc: Global) -> Result<(MemDeck, u64), Fail> {
+    let mut deck = MemDeck::new(alloc, Vec::new(alloc), Vec::new(alloc), vec![in alloc; 10]?);
+    let prepared = format(&mut deck, &SMALL)?.prepare(&mut deck, &[7; 9])?;
+    match prepared.commit(&mut deck) {
+        Err(RingFault::DiskFault) => {
+            let calls = deck.calls();
+            Ok((deck, calls))
+        }
+        _ => Err("the sync didn't fail".into()),
+    }
+}
+
+#[test]
+fn a_block_that_is_found_again_is_durable(rt: HostRuntime) -> Result<(), Fail> {
+    let (mut deck, before) = unsettled_block(rt.alloc())?;
+    let header = read_image_header(&mut deck)?;
+    assert_eq!(rt; left_by(rt.alloc(), &deck, before, Tear::Old)?, (0, 0));
+    assert_eq!(rt; Ring::attach(&mut deck, header)?.next(), 1);
+    let after = deck.calls();
+    deck.size()?;
+    assert_eq!(rt; left_by(rt.alloc(), &deck, after, Tear::Old)?, (0, 1));
     Ok(())
 }

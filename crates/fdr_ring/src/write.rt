@@ -1,12 +1,12 @@
 // The writes that bring a block into its slot.
-ghost use Rattle.std.specs.Prelude.{◌≡◌, ℕ, ◌+◌, ◌≤◌, ◌<◌, ◌^◌, List, [], ◌∷◌, drop, length, OnOk, OnErr, IsTrue};
+ghost use Rattle.std.specs.Prelude.{◌≡◌, ℕ, ◌+◌, ◌≤◌, ◌<◌, ◌^◌, List, [], ◌∷◌, take, length, OnOk, OnErr, IsTrue};
 ghost use Rattle.fdr_io.specs.Faults.{Rose};
 ghost use Rattle.fdr_deck.specs.Disk.{IsSettled, Torn, patched};
 ghost use Rattle.fdr_deck.specs.Calls.{IsQuiet, Succeeds};
 ghost use Rattle.fdr_slot.specs.Limits.{IsInLimits};
 ghost use Rattle.fdr_slot.specs.Places.{image_size};
-ghost use Rattle.fdr_slot.specs.Heads.{head_bytes};
 ghost use Rattle.fdr_ring.specs.Gates.{gate_at};
+ghost use Rattle.fdr_ring.specs.Bodies.{body_bytes, placed};
 
 use fdr_deck::Deck;
 use fdr_io::Failed;
@@ -22,29 +22,50 @@ pub fn gate_at(h: &Header, seq: u64) -> u64
     slot_at(h, (seq % u64::from(h.slots)) as u32)
 }
 
-/// Writes what stands behind the gate of a block's slot, and makes it durable.
+/// The rest of a head behind its gate, and the largest payload.
+const LARGEST: usize = 15 + 4_096;
+
+/// Puts the bytes there.
+fn put(room: &mut [u8], at: usize, bytes: &[u8])
+    requires { at + length bytes.now ≤ length room.old }
+    ensures { room.new ≡ patched at bytes.now room.old }
+{
+    room[at..at + bytes.len()].copy_from_slice(bytes);
+}
+
+/// What stands behind the gate of a block's slot, at the front of an array that has room for the
+/// largest.
+fn body_of(seq: u64, bytes: &[u8]) -> [u8; LARGEST]
+    requires { length bytes.now ≤ 4096 }
+    ensures { take (15 + length bytes.now) result ≡ body_bytes seq bytes.now }
+{
+    let head = write_slot_head(bytes.len() as u16, 0, seq);
+    let mut body = [0; LARGEST];
+    put(&mut body, 0, &head[1..]);
+    put(&mut body, 15, bytes);
+    body
+}
+
+/// Writes what stands behind the gate of a block's slot, in one write. It isn't durable yet.
 pub fn write_body<D: Deck>(deck: &mut D, h: &Header, seq: u64, bytes: &[u8]) -> Result<(), Failed>
     requires limits { IsInLimits h.now }
     requires fits { length bytes.now ≤ h.now.payload }
     requires whole { image_size h.now ≤ (D.state deck.old).extent }
     ensures quiet { IsQuiet D.tells
-        (λ image. IsSettled (D.state deck.old) → Torn (gate_at h.now seq + 1) (15 + h.now.payload) (D.state deck.old).held image)
+        (λ image. IsSettled (D.state deck.old)
+        → Torn (gate_at h.now seq + 1) (15 + length bytes.now) (D.state deck.old).held image)
         (D.state deck.old) (D.state deck.new) }
     ensures torn { IsTrue D.tells.bytes
-        → Torn (gate_at h.now seq + 1) (15 + h.now.payload) (D.state deck.old).held (D.state deck.new).held }
-    ensures written { OnOk result (IsTrue D.tells.bytes → (D.state deck.new).held
-        ≡ patched (gate_at h.now seq + 16) bytes.now (patched (gate_at h.now seq + 1) (drop 1 (head_bytes (length bytes.now) 0 seq)) (D.state deck.old).held)) }
-    ensures settled { OnOk result (IsTrue D.tells.stops → IsSettled (D.state deck.new)) }
+        → Torn (gate_at h.now seq + 1) (15 + length bytes.now) (D.state deck.old).held (D.state deck.new).held }
+    ensures written { OnOk result (IsTrue D.tells.bytes
+        → (D.state deck.new).held ≡ placed h.now seq bytes.now (D.state deck.old).held) }
     ensures extent { (D.state deck.new).extent ≡ (D.state deck.old).extent }
     ensures succeeds { OnOk result (Succeeds (D.state deck.old) (D.state deck.new)) }
     ensures cause { OnErr result (Rose (D.state deck.old).disk_faults (D.state deck.new).disk_faults) }
     ensures rest { D.same_rest deck.old deck.new }
 {
-    let gate = gate_at(h, seq);
-    let head = write_slot_head(bytes.len() as u16, 0, seq);
-    deck.write(gate + 1, &head[1..])?;
-    deck.write(gate + 16, bytes)?;
-    deck.sync()
+    let body = body_of(seq, bytes);
+    deck.write(gate_at(h, seq) + 1, &body[..15 + bytes.len()])
 }
 
 /// Opens a gate, and makes it durable.

@@ -1,21 +1,22 @@
 -- A word of data is drawn part by part.
-use Rattle.std.proofs.Common.{◌≡◌, ℕ, ◌+◌, ◌-◌, ◌*◌, ◌/◌, ◌%◌, ◌^◌, ◌<◌, ◌≢◌, ⊎_elim, ◌==◌, List, [], Some, length, get_or, set, take, refl, sym, ap, ◌∙◌, subst, get_or-set_same, get_or-set_other}
+use Rattle.std.proofs.Common.{◌≡◌, ℕ, ◌+◌, ◌-◌, ◌*◌, ◌/◌, ◌%◌, ◌^◌, ◌<◌, ◌≢◌, ⊎_elim, ◌==◌, List, [], ◌∷◌, ◌++◌, Some, length, get_or, set, take, sym, ap, ◌∙◌, subst, get_or-set_same, get_or-set_other}
 use Rattle.std.specs.Prelude.{bit_and, slice_get, slice_index, if◌then◌else◌}
 use Rattle.std.specs.Option.{option_map_or}
 use Rattle.std.proofs.lemmas.Bool.{cases_eq, cases_Bool, cond-true, cond-false}
 use Rattle.std.proofs.lemmas.List.Elements.{All-nil, All-weaker, All-more}
-use Rattle.std.proofs.lemmas.List.Sums.{fold_more}
+use Rattle.std.proofs.lemmas.List.{take_more}
 use Rattle.std.proofs.lemmas.Nat.{and_mask, one_shl}
 use Rattle.fdr_bits.specs.Fields.{with_field}
 use Rattle.fdr_layout.specs.declared.slots.SlotPart.{SlotPart}
 use Rattle.fdr_layout.specs.Samples.{Sample}
 use Rattle.fdr_layout.specs.SlotParts.{Laid}
 use Rattle.fdr_sampler.specs.Held.{first_slot}
-use Rattle.fdr_sampler.specs.SlotWord.{piece_of, with_part, data_of}
+use Rattle.fdr_sampler.specs.SlotWord.{piece_of, data_of}
 use Rattle.fdr_sampler.specs.Kept.{value_at, IsDrawn}
+use Rattle.fdr_sampler.proofs.DataWords.{with_part, data_of-none, data_of-more}
 
 pub IsDrawn-none : (value : ℕ → ℕ) (raws : List ℕ) → IsDrawn value [] raws raws 0
-IsDrawn-none value raws = record { word = refl; kept = λ n is. is; taken = All-nil (λ (a : SlotPart). slice_index raws a.sample ≡ value a.sample) }
+IsDrawn-none value raws = record { word = sym (data_of-none value); kept = λ n is. is; taken = All-nil (λ (a : SlotPart). slice_index raws a.sample ≡ value a.sample) }
 
 -- a raw value that is kept under its number changes no other
 kept_through : (value : ℕ → ℕ) (raws : List ℕ) (n raw m : ℕ) → raw ≡ value n → n < length raws → slice_index raws m ≡ value m → slice_index (set raws n raw) m ≡ value m
@@ -27,17 +28,17 @@ kept_through value raws n raw m is room before =
 
 -- one more part
 pub IsDrawn-more : (value : ℕ → ℕ) (parts : List SlotPart) (i : ℕ) (a : SlotPart) (before raws after : List ℕ) (word next raw : ℕ) → i < length parts → a ≡ get_or parts i a →
-    IsDrawn value (take i parts) before raws word → raw ≡ value a.sample → a.sample < length raws → after ≡ set raws a.sample raw →
+    IsDrawn value (take i parts) before raws word → raw ≡ value a.sample → a.sample < length raws → after ≡ set raws a.sample raw → next < 4096 →
     next ≡ with_field word (a.part.at % 12) a.part.width (piece_of raw a.part) → IsDrawn value (take (i + 1) parts) before after next
-IsDrawn-more value parts i a before raws after word next raw l is so_far raw_is room after_is next_is =
+IsDrawn-more value parts i a before raws after word next raw l is so_far raw_is room after_is next_fits next_is =
     let P : List ℕ → SlotPart → Type 0 = λ xs x. slice_index xs x.sample ≡ value x.sample in
     let new = set raws a.sample raw in
     let keeps : (m : ℕ) → slice_index raws m ≡ value m → slice_index new m ≡ value m = λ m before. kept_through value raws a.sample raw m raw_is room before in
     let here : P new a = get_or-set_same raws a.sample raw 0 room ∙ raw_is in
+    let written : next ≡ with_part value word a = next_is ∙ ap (λ v. with_field word (a.part.at % 12) a.part.width (piece_of v a.part)) raw_is in
+    let more : take i parts ++ a ∷ [] ≡ take (i + 1) parts = ap (λ x. take i parts ++ x ∷ []) is ∙ sym (take_more parts i a l) in
     let drawn : next ≡ data_of value (take (i + 1) parts) =
-    next_is ∙ ap (λ v. with_field word (a.part.at % 12) a.part.width (piece_of v a.part)) raw_is
-    ∙ ap (λ x. with_part value x a) so_far.word ∙ ap (λ x. with_part value (data_of value (take i parts)) x) is
-    ∙ sym (fold_more (with_part value) 0 parts i a l) in
+    written ∙ data_of-more value (take i parts) a word so_far.word (subst (λ w. w < 4096) written next_fits) ∙ ap (data_of value) more in
     let Q : List ℕ → Type 0 = λ xs. IsDrawn value (take (i + 1) parts) before xs next in
     subst Q (sym after_is) (record {
       word = drawn;

@@ -17,7 +17,8 @@ use Rattle.fdr_sampler.specs.SlotWord.{numbered_value, slot_within, start_of, wo
 use Rattle.fdr_sampler.specs.Stream.{slot_count, packed, stream_of}
 use Rattle.fdr_sampler.specs.Exchange.{AreTogether, AreExchanged}
 use Rattle.fdr_sampler.proofs.HeldFacts.{from_is}
-use Rattle.fdr_sampler.proofs.Streaming.{folds_agree, map_agree}
+use Rattle.fdr_sampler.proofs.DataWords.{data_of-agree}
+use Rattle.fdr_sampler.proofs.Streaming.{map_agree}
 
 -- where a test passes at most one of two elements, a search finds the same in either order
 find_one : {X : Type 0} (p : X → Bool) (a b : X) (m n : Bool) → p a ≡ m → p b ≡ n → (m ≡ true → n ≡ true → ⊥) → find p (b ∷ a ∷ []) ≡ find p (a ∷ b ∷ [])
@@ -78,7 +79,7 @@ slot_word-exchanged t k before a b after together =
     let other = numbered_value t (before ++ b ∷ a ∷ after) start in
     let parts = parts_in t (slot_within t.frame.words k) in
     ap (word_with t.frame k)
-    (folds_agree one other parts 0 (λ i d l. numbered_value-exchanged t start (get_or parts i d).sample before a b after together))
+    (data_of-agree one other parts (λ i d l. numbered_value-exchanged t start (get_or parts i d).sample before a b after together))
 
 -- and the time of the last record
 time_of-exchanged : (before : List BusRecord) (a b : BusRecord) (after : List BusRecord) → AreTogether a b → time_of (before ++ a ∷ b ∷ after) ≡ time_of (before ++ b ∷ a ∷ after)

@@ -1,6 +1,7 @@
 pub mod Lists
 pub mod Holding
 pub mod Indexing
+pub mod DataWords
 pub mod Drawing
 pub mod SlotFacts
 pub mod HeldFacts

@@ -1,32 +1,45 @@
 -- The words of a stream, as records are given.
-use Rattle.std.proofs.Common.{◌≡◌, ℕ, zero, suc, ◌+◌, ◌*◌, ◌%◌, ◌<◌, ◌≤◌, List, [], ◌∷◌, ◌++◌, fold, map, get_or, refl, sym, ap, ◌∙◌, arith}
+use Rattle.std.proofs.Common.{◌≡◌, ℕ, zero, suc, ◌+◌, ◌-◌, ◌*◌, ◌%◌, ◌<◌, ◌≤◌, slice_index, List, [], ◌∷◌, ◌++◌, map, get_or, refl, sym, ap, ◌∙◌, arith}
 use Rattle.std.specs.List.{All, range_with_len}
-use Rattle.std.proofs.lemmas.List.Elements.{All-head, All-tail}
+use Rattle.std.proofs.lemmas.Nat.{mod_below}
+use Rattle.std.proofs.lemmas.List.Elements.{All-map}
 use Rattle.std.proofs.lemmas.List.Sums.{fold_push}
-use Rattle.fdr_bits.specs.Fields.{with_field}
 use Rattle.fdr_bus.specs.declared.BusRecord.{BusRecord}
 use Rattle.fdr_bus.specs.Records.{time_of}
+use Rattle.fdr_frame.specs.declared.SlotKind.TheVariants.{Sync, Counter, Plain}
+use Rattle.fdr_frame.specs.Slots.{sync_words, sync_word, subframe_of, frame_of, kind_of}
 use Rattle.fdr_table.specs.Rows.{TableRows}
-use Rattle.fdr_layout.specs.declared.slots.SlotPart.{SlotPart}
 use Rattle.fdr_layout.specs.Samples.{samples, first_at}
 use Rattle.fdr_layout.specs.SlotParts.{parts_among, parts_in}
-use Rattle.fdr_sampler.specs.SlotWord.{numbered_value, piece_of, with_part, slot_within, start_of, word_with, slot_word}
+use Rattle.fdr_sampler.specs.SlotWord.{numbered_value, data_word, slot_within, start_of, word_with, slot_word}
 use Rattle.fdr_sampler.specs.Stream.{slot_count, stream_words}
 use Rattle.fdr_sampler.specs.Past.{Past, MayTake}
+use Rattle.fdr_sampler.proofs.DataWords.{data_of-below, data_of-agree}
+use Rattle.fdr_sampler.proofs.Packing.{IsWord}
 use Rattle.fdr_sampler.proofs.SlotFacts.{IsOfSample, parts_in_of, parts_of_slot_in}
 use Rattle.fdr_sampler.proofs.Standing.{raw_value-late, numbered_value_at, start_and_within, first_below}
 use Rattle.fdr_sampler.proofs.Counting.{slots_drawn, slot_count-below}
 
-part_agrees : (v v' : ℕ → ℕ) (word : ℕ) (a : SlotPart) → v a.sample ≡ v' a.sample → with_part v word a ≡ with_part v' word a
-part_agrees v v' word a same = ap (λ n. with_field word (a.part.at % 12) a.part.width (piece_of n a.part)) same
+sync_below : (n : ℕ) → slice_index sync_words n < 4096
+sync_below zero = omega arith
+sync_below (suc zero) = omega arith
+sync_below (suc (suc zero)) = omega arith
+sync_below (suc (suc (suc zero))) = omega arith
+sync_below (suc (suc (suc (suc n)))) = omega arith
 
--- the word of data rests on the raw values of the parts' samples alone
-pub folds_agree : (v v' : ℕ → ℕ) (parts : List SlotPart) (word : ℕ) → All (λ (a : SlotPart). v a.sample ≡ v' a.sample) parts → fold (with_part v) word parts ≡ fold (with_part v') word parts
-folds_agree v v' [] word same = refl
-folds_agree v v' (a ∷ parts) word same =
-    let P : SlotPart → Type 0 = λ a. v a.sample ≡ v' a.sample in
-    folds_agree v v' parts (with_part v word a) (All-tail P a parts same)
-    ∙ ap (λ n. fold (with_part v') n parts) (part_agrees v v' word a (All-head P a parts same))
+-- the word of each slot has twelve bits
+pub slot_word-below : (t : TableRows) (records : List BusRecord) (k : ℕ) → slot_word t records k < 4096
+slot_word-below t records k =
+    let f = t.frame in
+    let word = data_word t records (start_of f.words k) (slot_within f.words k) in
+    elim (kind_of f.words f.cword f.csub k) as (λ kind. elim kind [ Sync ↦ sync_word (subframe_of f.words k) | Counter ↦ frame_of f.words k % 4096 | Plain ↦ word ] < 4096) [
+      | Sync ↦ sync_below (subframe_of f.words k - 1)
+      | Counter ↦ mod_below (frame_of f.words k) 4096 (omega arith)
+      | Plain ↦ data_of-below (numbered_value t records (start_of f.words k)) (parts_in t (slot_within f.words k))
+    ]
+
+pub slot_words-below : (t : TableRows) (records : List BusRecord) (n : ℕ) → All IsWord (map (slot_word t records) (range_with_len 0 n))
+slot_words-below t records n = All-map IsWord (slot_word t records) (range_with_len 0 n) (λ i d l. slot_word-below t records _)
 
 -- a record that comes after a slot's time doesn't change the slot's word
 pub slot_word-late : (t : TableRows) (records : List BusRecord) (r : BusRecord) (k : ℕ) → k * 1000000 < r.time * t.frame.words → slot_word t (records ++ r ∷ []) k ≡ slot_word t records k
@@ -37,7 +50,7 @@ slot_word-late t records r k late =
     let after = numbered_value t (records ++ r ∷ []) start in
     let before = numbered_value t records start in
     ap (word_with t.frame k)
-    (folds_agree after before (parts_in t slot) 0
+    (data_of-agree after before (parts_in t slot)
     (λ i d l.
     let a = get_or (parts_in t slot) i d in
     let of : IsOfSample (samples t) a = parts_in_of t slot i d l in

@@ -1,7 +1,7 @@
 -- The word of a slot of the recording.
-use Rattle.std.specs.Prelude.{ℕ, ◌-◌, ◌*◌, ◌/◌, ◌%◌, ◌^◌, List, fold, slice_get}
+use Rattle.std.specs.Prelude.{ℕ, ◌+◌, ◌-◌, ◌*◌, ◌/◌, ◌%◌, ◌^◌, Bool, ◌&&◌, nat_le, nat_lt, List, find, reverse, slice_get}
 use Rattle.std.specs.Option.{option_map_or}
-use Rattle.fdr_bits.specs.Fields.{with_field}
+use Rattle.fdr_bits.specs.Bits.{number_of}
 use Rattle.fdr_bus.specs.declared.BusRecord.{BusRecord}
 use Rattle.fdr_frame.specs.declared.SlotKind.TheVariants.{Sync, Counter, Plain}
 use Rattle.fdr_frame.specs.Slots.{frame_of, subframe_of, sync_word, kind_of}
@@ -19,13 +19,22 @@ numbered_value t records start n = option_map_or (raw_value t records start) (sl
 abbrev pub piece_of : ℕ → Part → ℕ
 piece_of raw p = raw / 2 ^ p.shift % 2 ^ p.width
 
--- the word with the part's piece of its sample's raw value in the part's bits
-abbrev pub with_part : (ℕ → ℕ) → ℕ → SlotPart → ℕ
-with_part value word a = with_field word (a.part.at % 12) a.part.width (piece_of (value a.sample) a.part)
+-- the part has bit b of the word that it stands in
+abbrev pub has_bit : ℕ → SlotPart → Bool
+has_bit b a = nat_le (a.part.at % 12) b && nat_lt b (a.part.at % 12 + a.part.width)
 
--- a word with the pieces of these parts, and with 0 in all other bits, where this is the raw value of each sample
-abbrev pub data_of : (ℕ → ℕ) → List SlotPart → ℕ
-data_of value parts = fold (with_part value) 0 parts
+-- that bit of the part's piece of its sample's raw value
+abbrev pub bit_of_part : (ℕ → ℕ) → ℕ → SlotPart → ℕ
+bit_of_part value b a = piece_of (value a.sample) a.part / 2 ^ (b - a.part.at % 12) % 2
+
+-- Bit b of a word with the pieces of these parts, where this is the raw value of each sample: the bit of the part that has
+-- it, and 0 where no part has it. No two parts of a sound table have one bit; of several, the last would count.
+unfoldable pub data_bit : (ℕ → ℕ) → List SlotPart → ℕ → ℕ
+data_bit value parts b = option_map_or (bit_of_part value b) (find (has_bit b) (reverse parts)) 0
+
+-- the word of 12 bits with these pieces
+unfoldable pub data_of : (ℕ → ℕ) → List SlotPart → ℕ
+data_of value parts = number_of (data_bit value parts) 12
 
 -- the pieces of slot k of the superframe that begins at slot `start`
 abbrev pub data_word : TableRows → List BusRecord → ℕ → ℕ → ℕ

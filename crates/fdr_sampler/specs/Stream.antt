@@ -1,6 +1,7 @@
 -- The recorded stream.
-use Rattle.std.specs.Prelude.{ℕ, ◌+◌, ◌*◌, ◌/◌, ◌%◌, List, [], ◌∷◌, map}
+use Rattle.std.specs.Prelude.{ℕ, ◌+◌, ◌*◌, ◌/◌, ◌%◌, ◌^◌, List, length, map, slice_index}
 use Rattle.std.specs.List.{range_with_len}
+use Rattle.fdr_bits.specs.Bits.{number_of}
 use Rattle.fdr_bus.specs.declared.BusRecord.{BusRecord}
 use Rattle.fdr_bus.specs.Records.{time_of}
 use Rattle.fdr_table.specs.Rows.{TableRows}
@@ -14,12 +15,13 @@ slot_count w time = (time * w + 999999) / 1000000
 abbrev pub stream_words : TableRows → List BusRecord → List ℕ
 stream_words t records = map (slot_word t records) (range_with_len 0 (slot_count t.frame.words (time_of records)))
 
--- words of 12 bits as bytes, the least significant bit first: two words fill three bytes, and four zero bits follow an
--- odd number of words
-abbrev pub packed : List ℕ → List ℕ
-packed [] = []
-packed (a ∷ []) = a % 256 ∷ a / 256 ∷ []
-packed (a ∷ b ∷ words) = a % 256 ∷ (a / 256 + 16 * (b % 16)) ∷ b / 16 ∷ packed words
+-- bit p of words of 12 bits, one after another and each from its least significant bit on; 0 past their end
+abbrev pub word_bit : List ℕ → ℕ → ℕ
+word_bit words p = slice_index words (p / 12) / 2 ^ (p % 12) % 2
+
+-- these bits as bytes, 8 in each from its least significant bit on; zeros fill the last byte
+unfoldable pub packed : List ℕ → List ℕ
+packed words = map (λ i. number_of (λ j. word_bit words (8 * i + j)) 8) (range_with_len 0 ((12 * length words + 7) / 8))
 
 -- the recording of these records
 abbrev pub stream_of : TableRows → List BusRecord → List ℕ

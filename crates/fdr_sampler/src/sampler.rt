@@ -1,6 +1,7 @@
 //! The sampler.
 
 ghost use Rattle.std.specs.Prelude.{◌≡◌, ◌<◌, ◌≤◌, ◌*◌, ◌↔◌, All, IsTrue, IfOk, length, replicate};
+ghost use Rattle.fdr_bus.specs.Records.{last_time};
 ghost use Rattle.fdr_sampler.specs.SlotWord.{slot_word, slot_within, word_with};
 ghost use Rattle.fdr_layout.specs.SlotParts.{laid_of};
 ghost use Rattle.fdr_sampler.specs.Kept.{at_start, most_slots};
@@ -8,7 +9,7 @@ ghost use Rattle.fdr_sampler.specs.Past.{Past, made, with_record, with_word, May
 
 use crate::index::Sources;
 use crate::pieces::data_word;
-use fdr_bus::{BusRecord, LAST_TIME};
+use fdr_bus::BusRecord;
 use fdr_check::Sound;
 use fdr_frame::{SYNC, SlotKind, counter_of, slot_kind, subframe_of};
 use fdr_layout::Layout;
@@ -51,7 +52,7 @@ impl Sampler {
 
     /// Whether the next slot comes before this time, in microseconds from the start. Takes no memory.
     pub fn due(&self, time: u64) -> bool
-        requires { time ≤ LAST_TIME }
+        requires { time ≤ last_time }
         ensures { (past : Past) → Stands self.now past →
             IsTrue result ↔ (past.drawn * 1000000 < time * past.table.frame.words) }
     {

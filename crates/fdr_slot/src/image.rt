@@ -103,13 +103,13 @@ pub fn read_header(bytes: &[u8; 64], size: u64) -> Result<Header, ImageFault>
     ensures good { IsOk result ↔ (image_fault bytes.now size ≡ None) }
     ensures first_fault { IfErr result (λ why. image_fault bytes.now size ≡ Some why) }
 
-    ensures closed { (result ≡ Err fault.Closed) ↔ (slice_index bytes.now 0 ≢ OPEN) }
+    ensures closed { (result ≡ Err fault.Closed) ↔ (slice_index bytes.now 0 ≢ 0x5a) }
     ensures magic { (result ≡ Err fault.Magic)
-        ↔ ((slice_index bytes.now 0 ≡ OPEN) × (has_magic bytes.now ≡ false)) }
+        ↔ ((slice_index bytes.now 0 ≡ 0x5a) × (has_magic bytes.now ≡ false)) }
     ensures geometry { (result ≡ Err fault.Geometry)
-        ↔ ((slice_index bytes.now 0 ≡ OPEN) × (has_magic bytes.now ≡ true) × ¬ IsInLimits (header_of bytes.now)) }
+        ↔ ((slice_index bytes.now 0 ≡ 0x5a) × (has_magic bytes.now ≡ true) × ¬ IsInLimits (header_of bytes.now)) }
     ensures short { (result ≡ Err fault.Short)
-        ↔ ((slice_index bytes.now 0 ≡ OPEN) × (has_magic bytes.now ≡ true) × IsInLimits (header_of bytes.now)
+        ↔ ((slice_index bytes.now 0 ≡ 0x5a) × (has_magic bytes.now ≡ true) × IsInLimits (header_of bytes.now)
         × (size < places.image_size (header_of bytes.now))) }
 {
     if bytes[0] != OPEN {

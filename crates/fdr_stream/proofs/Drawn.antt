@@ -1,12 +1,14 @@
 -- What stands while words are drawn.
-use Rattle.std.proofs.Common.{◌≡◌, ℕ, ◌+◌, ◌-◌, ◌*◌, ◌/◌, ◌<◌, ◌≤◌, List, [], ◌∷◌, ◌++◌, length, take, drop, sym, ap, ◌∙◌, arith}
+use Rattle.std.proofs.Common.{◌≡◌, ℕ, ◌+◌, ◌-◌, ◌*◌, ◌/◌, ◌<◌, ◌≤◌, List, [], ◌∷◌, ◌++◌, length, take, drop, sym, ap, ◌∙◌, subst, arith}
+use Rattle.std.specs.List.{All}
 use Rattle.std.proofs.lemmas.List.{length-drop, drop-append-le, take-append-drop, take-append-le}
 use Rattle.std.proofs.lemmas.List.FromFn.{length-map-range_with_len, map-range_with_len_more, take-map-range_with_len}
 use Rattle.std.proofs.lemmas.Nat.{le-div, div_below}
 use Rattle.fdr_bus.specs.declared.BusRecord.{BusRecord}
 use Rattle.fdr_sampler.specs.SlotWord.{slot_word}
 use Rattle.fdr_sampler.specs.Stream.{packed, slot_count, stream_of}
-use Rattle.fdr_sampler.proofs.Streaming.{stream_words-push}
+use Rattle.fdr_sampler.proofs.Packing.{IsWord}
+use Rattle.fdr_sampler.proofs.Streaming.{slot_words-below, stream_words-push}
 use Rattle.fdr_stream.specs.Blocks.{block_at, due_blocks}
 use Rattle.fdr_stream.specs.Packing.{unpaired, whole_bytes, filled_by, unpaired_after}
 use Rattle.fdr_stream.specs.Kept.{Kept}
@@ -61,6 +63,16 @@ words_to-later past n m le =
     sym (take-append-drop n (words_to past m))
     ∙ ap (λ ws. ws ++ drop n (words_to past m)) (take-map-range_with_len (slot_word past.table past.records) 0 m n le)
 
+pub words_to-fit : (past : Past) (n : ℕ) → All IsWord (words_to past n)
+words_to-fit past n = slot_words-below past.table past.records n
+
+-- the bytes of the words up to a later slot begin with those that the words up to an earlier one fill
+pub packed-words_to : (past : Past) (n m : ℕ) → n ≤ m →
+    packed (words_to past m) ≡ whole_bytes (words_to past n) ++ bytes_after (unpaired (words_to past n)) (drop n (words_to past m))
+packed-words_to past n m le =
+    let later = words_to-later past n m le in
+    ap packed later ∙ packed-whole (words_to past n) (drop n (words_to past m)) (subst (All IsWord) later (words_to-fit past m))
+
 -- the bytes that wait begin the rest of the stream
 pub waiting_is : (k : Kept) (past : Past) (m : ℕ) → IsPacked k past → k.sampler.drawn ≤ m →
     (more : List ℕ) × (drop (past.payload * past.blocks) (packed (words_to past m)) ≡ k.bytes ++ more)
@@ -71,7 +83,7 @@ waiting_is k past m at le =
     let more = bytes_after (unpaired words) (drop n (words_to past m)) in
     let low : given ≤ length (whole_bytes words) = omega (arith, at.given, length-whole_to past n) in (
       more,
-      ap (λ ws. drop given (packed ws)) (words_to-later past n m le) ∙ ap (drop given) (packed-whole words (drop n (words_to past m)))
+      ap (drop given) (packed-words_to past n m le)
           ∙ drop-append-le given (whole_bytes words) more low ∙ ap (λ xs. xs ++ more) (sym at.bytes),
     )
 

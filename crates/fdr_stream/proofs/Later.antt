@@ -11,8 +11,8 @@ use Rattle.fdr_sampler.proofs.Streaming.{stream_words-push}
 use Rattle.fdr_stream.specs.Blocks.{block_at, due_blocks}
 use Rattle.fdr_stream.specs.Packing.{unpaired, whole_bytes, last_byte}
 use Rattle.fdr_stream.specs.Past.{Past, words_to}
-use Rattle.fdr_stream.proofs.PackingLemmas.{bytes_after, packed-whole, packed-last}
-use Rattle.fdr_stream.proofs.Drawn.{length-words_to, length-whole_to, words_to-later}
+use Rattle.fdr_stream.proofs.PackingLemmas.{bytes_after, packed-last}
+use Rattle.fdr_stream.proofs.Drawn.{length-words_to, length-whole_to, words_to-fit, packed-words_to}
 use Rattle.fdr_stream.proofs.Standing.{slot_count-later}
 
 -- a further block
@@ -41,6 +41,6 @@ stream_of-later t records r n order few =
     let whole = whole_bytes words in
     let count : 3 * length (stream_words t records) / 2 ≡ 3 * first / 2 = ap (λ m. 3 * m / 2) (length-words_to past first) in
     let within : n ≤ length whole = omega (arith, few, count, length-whole_to past first) in
-    ap (λ ws. take n (packed ws)) (stream_words-push t records r ∙ words_to-later past first all (slot_count-later t.frame.words (time_of records) r.time order))
-    ∙ ap (take n) (packed-whole words rest) ∙ take-append-le n whole (bytes_after (unpaired words) rest) within
-    ∙ sym (take-append-le n whole (last_byte (unpaired words)) within) ∙ ap (take n) (sym (packed-last words))
+    ap (λ ws. take n (packed ws)) (stream_words-push t records r)
+    ∙ ap (take n) (packed-words_to past first all (slot_count-later t.frame.words (time_of records) r.time order)) ∙ take-append-le n whole (bytes_after (unpaired words) rest) within
+    ∙ sym (take-append-le n whole (last_byte (unpaired words)) within) ∙ ap (take n) (sym (packed-last words (words_to-fit past first)))

@@ -1,6 +1,10 @@
 -- Words that are packed one after another.
-use Rattle.std.proofs.Common.{◌≡◌, ℕ, ◌+◌, ◌*◌, ◌/◌, ◌%◌, ◌≤◌, List, [], ◌∷◌, ◌++◌, Option, Some, None, length, refl, ap, arith}
+use Rattle.std.proofs.Common.{◌≡◌, ℕ, ◌+◌, ◌*◌, ◌/◌, ◌%◌, ◌≤◌, List, [], ◌∷◌, ◌++◌, Option, Some, None, length, refl, ap, ◌∙◌, arith}
+use Rattle.std.specs.List.{All}
+use Rattle.std.proofs.lemmas.List.Elements.{All-tail}
+use Rattle.fdr_bits.proofs.PairLemmas.{pair_bytes}
 use Rattle.fdr_sampler.specs.Stream.{packed}
+use Rattle.fdr_sampler.proofs.Packing.{IsWord, packed-none, packed-one, packed-pair}
 use Rattle.fdr_stream.specs.Packing.{unpaired, whole_bytes, filled_by, unpaired_after, last_byte}
 
 -- the word that waits after a further one
@@ -42,19 +46,26 @@ bytes_after None more = packed more
 bytes_after (Some a) [] = a / 256 ∷ []
 bytes_after (Some a) (b ∷ more) = (a / 256 + 16 * (b % 16)) ∷ b / 16 ∷ packed more
 
+tail_fits : (a b : ℕ) (words : List ℕ) → All IsWord (a ∷ b ∷ words) → All IsWord words
+tail_fits a b words fit = All-tail IsWord b words (All-tail IsWord a (b ∷ words) fit)
+
+-- a pair of words, and those behind it
+pair_first : (a b : ℕ) (words : List ℕ) → All IsWord (a ∷ b ∷ words) → packed (a ∷ b ∷ words) ≡ pair_bytes a b ++ packed words
+pair_first a b words fit = packed-pair a b words (fit 0 0 (omega arith)) (fit 1 0 (omega arith))
+
 -- more words change no whole byte
-pub packed-whole : (words more : List ℕ) → packed (words ++ more) ≡ whole_bytes words ++ bytes_after (unpaired words) more
+pub packed-whole : (words more : List ℕ) → All IsWord (words ++ more) → packed (words ++ more) ≡ whole_bytes words ++ bytes_after (unpaired words) more
 unfolding unpaired whole_bytes bytes_after
-packed-whole [] more = refl
-packed-whole (a ∷ []) [] = refl
-packed-whole (a ∷ []) (b ∷ more) = refl
-packed-whole (a ∷ b ∷ words) more =
-    ap (λ bytes. a % 256 ∷ (a / 256 + 16 * (b % 16)) ∷ b / 16 ∷ bytes) (packed-whole words more)
+packed-whole [] more fit = refl
+packed-whole (a ∷ []) [] fit = packed-one a (fit 0 0 (omega arith))
+packed-whole (a ∷ []) (b ∷ more) fit = pair_first a b more fit
+packed-whole (a ∷ b ∷ words) more fit =
+    pair_first a b (words ++ more) fit ∙ ap (λ bytes. pair_bytes a b ++ bytes) (packed-whole words more (tail_fits a b (words ++ more) fit))
 
 -- the bytes of some words and no more
-pub packed-last : (words : List ℕ) → packed words ≡ whole_bytes words ++ last_byte (unpaired words)
+pub packed-last : (words : List ℕ) → All IsWord words → packed words ≡ whole_bytes words ++ last_byte (unpaired words)
 unfolding unpaired whole_bytes last_byte
-packed-last [] = refl
-packed-last (a ∷ []) = refl
-packed-last (a ∷ b ∷ words) =
-    ap (λ bytes. a % 256 ∷ (a / 256 + 16 * (b % 16)) ∷ b / 16 ∷ bytes) (packed-last words)
+packed-last [] fit = packed-none
+packed-last (a ∷ []) fit = packed-one a (fit 0 0 (omega arith))
+packed-last (a ∷ b ∷ words) fit =
+    pair_first a b words fit ∙ ap (λ bytes. pair_bytes a b ++ bytes) (packed-last words (tail_fits a b words fit))

@@ -21,7 +21,7 @@ use Rattle.fdr_stream.specs.Packing.{unpaired, whole_bytes, last_byte}
 use Rattle.fdr_stream.specs.Kept.{Kept, at_start, with_word}
 use Rattle.fdr_stream.specs.Past.{Past, made, with_block, with_record, MayFeed, words_to, time_from, IsPacked, IsSampled, IsDrawing, Stands}
 use Rattle.fdr_stream.proofs.PackingLemmas.{packed-last, length-last_byte}
-use Rattle.fdr_stream.proofs.Drawn.{length-words_to, length-whole_to, length-waiting, IsPacked-word, none_due}
+use Rattle.fdr_stream.proofs.Drawn.{length-words_to, length-whole_to, words_to-fit, length-waiting, IsPacked-word, none_due}
 
 pub slot_count-later : (w a b : ℕ) → a ≤ b → slot_count w a ≤ slot_count w b
 slot_count-later w a b le = let more : a * w ≤ b * w = mul-le-mul_right w le in omega (arith, more)
@@ -196,7 +196,7 @@ rest_is k past st none =
     let low : given ≤ length (whole_bytes words) = omega (arith, st.packed.given, length-whole_to past n) in
     ap (λ xs. xs ++ last_byte k.odd) st.packed.bytes ∙ ap (λ o. drop given (whole_bytes words) ++ last_byte o) st.packed.odd
     ∙ sym (drop-append-le given (whole_bytes words) (last_byte (unpaired words)) low)
-    ∙ ap (drop given) (sym (packed-last words)) ∙ ap (λ m. drop given (packed (words_to past m))) is
+    ∙ ap (drop given) (sym (packed-last words (words_to-fit past n))) ∙ ap (λ m. drop given (packed (words_to past m))) is
 
 given_low : (k : Kept) (past : Past) → Stands k past → past.begun ≡ None → past.payload * past.blocks ≤ length (stream_of past.table past.records)
 unfolding time_from

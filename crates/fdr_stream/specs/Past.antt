@@ -81,3 +81,11 @@ pub record Stands (k : Kept) (past : Past) : Type 0 where
   pub drawn : slot_count past.table.frame.words (time_of past.records) ≤ k.sampler.drawn
   pub undrawn : k.sampler.drawn ≤ slot_count past.table.frame.words (time_reached past)
   pub blocks : past.begun ≡ None → past.blocks ≡ due_blocks past.table past.payload past.records
+
+-- All blocks of the stream were given, a short last one too: nothing waits, and the sampler is the one that stood for the
+-- records.
+pub record HasFinished (k : Kept) (past : Past) : Type 0 where
+  pub payload : k.payload ≡ past.payload
+  pub odd : k.odd ≡ None
+  pub bytes : k.bytes ≡ []
+  pub sampler : has_end past.records ≡ false → IsSampled k past

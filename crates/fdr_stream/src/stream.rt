@@ -1,16 +1,16 @@
 //! The stream.
 
 ghost use Rattle.std.specs.Prelude.{◌≡◌, ◌<◌, ◌≤◌, ◌+◌, ◌-◌, ◌*◌, ◌^◌, ◌↔◌, false, [], ◌∷◌, ◌++◌, None, length, min, take, drop, IfOk, IsTrue};
-ghost use Rattle.fdr_bus.specs.Records.{has_end};
+ghost use Rattle.fdr_bus.specs.Records.{has_end, last_time};
 ghost use Rattle.fdr_sampler.specs.Kept.{most_slots};
 ghost use Rattle.fdr_sampler.specs.Stream.{slot_count, stream_of};
 ghost use Rattle.fdr_stream.specs.Blocks.{block_at, blocks_of, due_blocks};
 ghost use Rattle.fdr_stream.specs.Kept.{at_start, padded, with_word};
-ghost use Rattle.fdr_stream.specs.Past.{Past, made, with_block, with_record, MayFeed, Stands, IsPacked, IsSampled, IsDrawing};
+ghost use Rattle.fdr_stream.specs.Past.{Past, made, with_block, with_record, HasFinished, MayFeed, Stands, IsPacked, IsSampled, IsDrawing};
 
 use circular_buffer::HeapCircularBuffer;
 use fdr_bits::pack_pair;
-use fdr_bus::{BusRecord, LAST_TIME, RecordKind};
+use fdr_bus::{BusRecord, RecordKind};
 use fdr_check::Sound;
 use fdr_layout::Layout;
 use fdr_sampler::Sampler;
@@ -64,7 +64,8 @@ impl Stream {
     }
 
     /// Feeds the next record of the trace. Where a whole block is due at it, the block is put at the front of `out`, and
-    /// the record has to be fed again; else the record is taken. `out` has room for a block at least.
+    /// the record has to be fed again; else the record is taken. `out` has room for a block at least, and what it holds
+    /// beyond the block stays.
     pub fn feed(&mut self, next: &BusRecord, out: &mut [u8]) -> Fed
         requires { (past : Past) × Stands self.old past × MayFeed past next.now × (past.payload ≤ length out.old) }
         ensures exactly { (past : Past) → Stands self.old past → MayFeed past next.now
@@ -75,6 +76,9 @@ impl Stream {
             → Stands self.new (with_block past next.now) }
         ensures taken { (past : Past) → Stands self.old past → MayFeed past next.now → result ≡ Fed.Taken
             → Stands self.new (with_record past next.now) }
+        ensures beyond { (past : Past) → Stands self.old past → result ≡ Fed.Block
+            → drop past.payload out.new ≡ drop past.payload out.old }
+        ensures untouched { result ≡ Fed.Taken → out.new ≡ out.old }
     {
         self.draw(next.time);
         if self.is_full() {
@@ -87,8 +91,8 @@ impl Stream {
     }
 
     /// Puts the rest of the stream, its last block, at the front of `out`, and answers its length: at most `payload`, and 0
-    /// where the blocks that were given hold the whole stream. Four zero bits follow an odd number of words. Nothing may be
-    /// fed after this.
+    /// where the blocks that were given hold the whole stream. Four zero bits follow an odd number of words. What `out`
+    /// holds beyond that stays. Nothing may be fed after this, and nothing waits then.
     pub fn finish(&mut self, out: &mut [u8]) -> usize
         requires { (past : Past) × Stands self.old past × (past.begun ≡ None) × (past.payload ≤ length out.old) }
         ensures rest { (past : Past) → Stands self.old past → past.begun ≡ None
@@ -101,6 +105,8 @@ impl Stream {
             → take result out.new ≡ block_at past.payload (stream_of past.table past.records) past.blocks }
         ensures few { (past : Past) → Stands self.old past → result ≤ past.payload }
         ensures within { result ≤ length out.new }
+        ensures beyond { drop result out.new ≡ drop result out.old }
+        ensures finished { (past : Past) → Stands self.old past → past.begun ≡ None → HasFinished self.new past }
     {
         self.pad();
         self.bytes.read_into(out)
@@ -124,7 +130,7 @@ impl Stream {
     fn draw(&mut self, time: u64)
         requires past { (past : Past) × IsDrawing self.old past time }
         requires room { length self.old.bytes < self.old.payload }
-        requires in_time { time ≤ LAST_TIME }
+        requires in_time { time ≤ last_time }
         ensures draws { (past : Past) → IsDrawing self.old past time → IsDrawing self.new past time }
         ensures all { (past : Past) → IsDrawing self.old past time → length self.new.bytes < self.new.payload
             → self.new.sampler.drawn ≡ slot_count past.table.frame.words time }
@@ -195,6 +201,7 @@ impl Stream {
         requires room { self.old.payload ≤ length out.old }
         ensures block { take self.old.payload out.new ≡ take self.old.payload self.old.bytes }
         ensures rest { self.new ≡ record self.old { bytes = drop self.old.payload self.old.bytes } }
+        ensures beyond { drop self.old.payload out.new ≡ drop self.old.payload out.old }
     {
         self.bytes.read_into(&mut out[..self.payload]);
     }

@@ -3,10 +3,11 @@ use Rattle.std.proofs.Common.{◌≡◌, ◌∙◌, ap, ℕ, ◌+◌, ◌<◌, �
 use Rattle.std.specs.Prelude.{is_some, nat_lt, ok_or, option_map}
 use Rattle.std.proofs.Math.Seq.{take-append_seam, get_or-append_seam}
 use Rattle.std.proofs.lemmas.Bool.{cases_lt, le-ltb}
-use Rattle.std.proofs.lemmas.List.{get_or-take, get_or_append_left, length-take-le, take-append-le, take-take}
+use Rattle.std.proofs.lemmas.List.{get_or_append_left, take-append-le}
 use Rattle.fdr_table.specs.Answers.{refused}
+use Rattle.fdr_table.specs.Bounds.{most_table_bytes}
 use Rattle.fdr_table.specs.Reading.{Row, records_of}
-use Rattle.fdr_table.specs.Faults.{fault_of, first_fault, most_bytes, row_fault}
+use Rattle.fdr_table.specs.Faults.{fault_of, first_fault, row_fault}
 use Rattle.fdr_table.specs.declared.fault.TableError.{TableError}
 use Rattle.fdr_table.specs.declared.fault.TableError.TheVariants as error
 use Rattle.fdr_table.specs.declared.fault.TableFault.{TableFault}
@@ -46,12 +47,17 @@ no-fault-push above row old here i lt =
     let below : i < length above + 1 = omega (arith, length-append above (row ∷ [])) in
     no-fault-split above row old here i (cases_lt i (length above)) below
 
-pub front-no-fault : (rows : List Row) (i : ℕ) → i ≤ length rows → ((j : ℕ) → j < length (take i rows) → fault-in (take i rows) j ≡ None) → (j : ℕ) → j < i → fault-in rows j ≡ None
-front-no-fault rows i le none j lt =
-    let short : j < length (take i rows) = omega (arith, length-take-le i rows le) in
-    let front : take j (take i rows) ≡ take j rows = take-take j i rows (omega arith) in
-    ap (λ (a : List Row). row_fault a (get_or rows j [])) (sym front)
-    ∙ ap (λ (r : Row). row_fault (take j (take i rows)) r) (sym (get_or-take i rows j [] lt)) ∙ none j short
+-- rows without faults and then one with a fault are refused there, whatever follows
+pub first-fault-after : (above : List Row) (row : Row) (rest : List Row) (f : TableFault)
+    → ((j : ℕ) → j < length above → fault-in above j ≡ None) → row_fault above row ≡ Some f
+    → first_fault (above ++ row ∷ rest) ≡ Some (length above, f)
+first-fault-after above row rest f none here =
+    let lt : length above < length (above ++ row ∷ rest) = omega (arith, length-append above (row ∷ rest)) in
+    first-fault-at (above ++ row ∷ rest) (length above) f lt
+    (λ j h. ap (λ (a : List Row). row_fault a (get_or (above ++ row ∷ rest) j [])) (take-append-le j above (row ∷ rest) (omega arith))
+    ∙ ap (λ (r : Row). row_fault (take j above) r) (get_or_append_left above (row ∷ rest) [] j h) ∙ none j h)
+    (ap (λ (a : List Row). row_fault a (get_or (above ++ row ∷ rest) (length above) [])) (take-append_seam above (row ∷ rest))
+    ∙ ap (λ (r : Row). row_fault above r) (get_or-append_seam above row rest []) ∙ here)
 
 abbrev pub at-row : ℕ → TableFault → Option (ℕ × TableFault)
 at-row i f = Some (i, f)
@@ -73,8 +79,8 @@ without-frame None g p e a b x f r made told is same =
 without-frame (Some y) g p e a b x f r made told is same = let ok = is ∙ ap (λ q. ok_or q e) made in cc
 
 -- the fault of a table's bytes that aren't too many
-pub fault-of-rows : (bytes : List ℕ) → length bytes ≤ 1048576 → fault_of bytes ≡ first_fault (records_of bytes)
-unfolding fault_of most_bytes
+pub fault-of-rows : (bytes : List ℕ) → length bytes ≤ most_table_bytes → fault_of bytes ≡ first_fault (records_of bytes)
+unfolding fault_of
 fault-of-rows bytes few =
-    let small : nat_lt 1048576 (length bytes) ≡ false = le-ltb 1048576 (length bytes) few in
+    let small : nat_lt most_table_bytes (length bytes) ≡ false = le-ltb most_table_bytes (length bytes) few in
     rw small refl

@@ -11,6 +11,7 @@ use Rattle.fdr_table.specs.Rows.{FrameRow, ParamRow, PlaceRow}
 use Rattle.fdr_table.specs.Reading.{Row, field, kind_of, is_frame, is_param, is_place, first_some, frame_misread, param_misread, place_misread, misnamed, frame_row, param_row, place_row, names_of, param_named, table_of}
 use Rattle.fdr_table.specs.Faults.{has_frame, has_name, kind_fault, param_count, place_count, row_fault, where_true}
 use Rattle.fdr_table.specs.DraftRows.{DraftRows}
+use Rattle.fdr_table.specs.Bounds.{most_params, most_places}
 use Rattle.fdr_table.specs.Draft.{IsDraft, IsNextDraft, IsNextFault, index_named, with_entry}
 use Rattle.fdr_table.specs.declared.draft.Entry.TheVariants as entry
 use Rattle.fdr_table.specs.declared.row.RowKind.{RowKind}
@@ -47,7 +48,7 @@ frame-fault d row k above h = by-kind above row kind.Frame k ∙ ap (frame-fault
 
 abbrev param-faults : Option TableFault → Bool → Option TableFault → Bool → ℕ → Option TableFault
 param-faults misread there named twice count = first_some (
-    misread ∷ where_true (not there) fault.NoFrame ∷ named ∷ where_true twice fault.Twice ∷ where_true (nat_le 2048 count) fault.Size ∷ [])
+    misread ∷ where_true (not there) fault.NoFrame ∷ named ∷ where_true twice fault.Twice ∷ where_true (nat_le most_params count) fault.Size ∷ [])
 
 param-fault : (d : DraftRows) (row : Row) → kind_of row ≡ Some kind.Param → (above : List Row) → IsDraft above d
     → row_fault above row ≡ param-faults (param_misread row) (is_some d.frame) (misnamed row) (is_some (index_named d.params (name_in row))) (length d.params)
@@ -59,7 +60,7 @@ param-fault d row k above h =
 
 abbrev place-faults : Option TableFault → Bool → Bool → ℕ → Option TableFault
 place-faults misread there known count = first_some (
-    misread ∷ where_true (not there) fault.NoFrame ∷ where_true (not known) fault.Unknown ∷ where_true (nat_le 8192 count) fault.Size ∷ [])
+    misread ∷ where_true (not there) fault.NoFrame ∷ where_true (not known) fault.Unknown ∷ where_true (nat_le most_places count) fault.Size ∷ [])
 
 place-fault : (d : DraftRows) (row : Row) → kind_of row ≡ Some kind.Place → (above : List Row) → IsDraft above d
     → row_fault above row ≡ place-faults (place_misread row) (is_some d.frame) (is_some (index_named d.params (name_in row))) (length d.places)
@@ -90,9 +91,9 @@ pub param-twice : (d : DraftRows) (row : Row) → kind_of row ≡ Some kind.Para
 param-twice d row k e there name twice above h = param-fault d row k above h ∙ rw (e, there, name, twice) refl
 
 pub too-many-params : (d : DraftRows) (row : Row) → kind_of row ≡ Some kind.Param → param_misread row ≡ None → is_some d.frame ≡ true → misnamed row ≡ None
-    → is_some (index_named d.params (name_in row)) ≡ false → 2048 ≤ length d.params → IsNextFault d row fault.Size
+    → is_some (index_named d.params (name_in row)) ≡ false → most_params ≤ length d.params → IsNextFault d row fault.Size
 too-many-params d row k e there name twice many above h =
-    let full : nat_le 2048 (length d.params) ≡ true = le-leb 2048 (length d.params) many in
+    let full : nat_le most_params (length d.params) ≡ true = le-leb most_params (length d.params) many in
     param-fault d row k above h ∙ rw (e, there, name, twice, full) refl
 
 pub place-misread : (d : DraftRows) (row : Row) (f : TableFault) → kind_of row ≡ Some kind.Place → place_misread row ≡ Some f → IsNextFault d row f
@@ -106,9 +107,9 @@ pub place-unknown : (d : DraftRows) (row : Row) → kind_of row ≡ Some kind.Pl
 place-unknown d row k e there known above h = place-fault d row k above h ∙ rw (e, there, known) refl
 
 pub too-many-places : (d : DraftRows) (row : Row) → kind_of row ≡ Some kind.Place → place_misread row ≡ None → is_some d.frame ≡ true
-    → is_some (index_named d.params (name_in row)) ≡ true → 8192 ≤ length d.places → IsNextFault d row fault.Size
+    → is_some (index_named d.params (name_in row)) ≡ true → most_places ≤ length d.places → IsNextFault d row fault.Size
 too-many-places d row k e there known many above h =
-    let full : nat_le 8192 (length d.places) ≡ true = le-leb 8192 (length d.places) many in
+    let full : nat_le most_places (length d.places) ≡ true = le-leb most_places (length d.places) many in
     place-fault d row k above h ∙ rw (e, there, known, full) refl
 
 -- what one more row of another kind leaves
@@ -182,10 +183,10 @@ frame-next d row f k e there above h =
     }
 
 pub param-next : (d : DraftRows) (row : Row) (p : ParamRow) → kind_of row ≡ Some kind.Param → param_misread row ≡ None → param_row d.rows row ≡ Some p → is_some d.frame ≡ true
-    → is_some (index_named d.params (name_in row)) ≡ false → length d.params < 2048 → IsNextDraft d row (with_entry d (entry.Param p))
+    → is_some (index_named d.params (name_in row)) ≡ false → length d.params < most_params → IsNextDraft d row (with_entry d (entry.Param p))
 param-next d row p k m e there twice few above h =
     let named = named-right row m (param_row-right d.rows row p e) in
-    let room : nat_le 2048 (length d.params) ≡ false = lt-leb 2048 (length d.params) few in
+    let room : nat_le most_params (length d.params) ≡ false = lt-leb most_params (length d.params) few in
     let fault = param-fault d row k above h ∙ rw (m, there, named, twice, room) refl in
     record {
       no_fault = no-fault-push above row h.no_fault fault;
@@ -202,11 +203,11 @@ param-next d row p k m e there twice few above h =
     }
 
 pub place-next : (d : DraftRows) (row : Row) (l : PlaceRow) → kind_of row ≡ Some kind.Place → place_row (unwrap_or (index_named d.params (name_in row)) 0) d.rows row ≡ Some l
-    → is_some d.frame ≡ true → is_some (index_named d.params (name_in row)) ≡ true → length d.places < 8192 → IsNextDraft d row (with_entry d (entry.Place l))
+    → is_some d.frame ≡ true → is_some (index_named d.params (name_in row)) ≡ true → length d.places < most_places → IsNextDraft d row (with_entry d (entry.Place l))
 place-next d row l k e there known few above h =
     let name = has_name-is above d (name_in row) h ∙ known in
     let param = param_named-push above row (name_in row) name ∙ param_named-is above d (name_in row) h in
-    let room : nat_le 8192 (length d.places) ≡ false = lt-leb 8192 (length d.places) few in
+    let room : nat_le most_places (length d.places) ≡ false = lt-leb most_places (length d.places) few in
     let right = place_row-right (unwrap_or (index_named d.params (name_in row)) 0) d.rows row l e in
     let fault : row_fault above row ≡ None = place-fault d row k above h ∙ rw (right, there, known, room) refl in
     record {

@@ -1,5 +1,5 @@
 -- The records that a reader gives one after the other are all records of its text.
-use Rattle.std.proofs.Common.{◌≡◌, ap, subst, refl, ℕ, zero, suc, ◌+◌, ◌<◌, ◌≤◌, Bool, true, false, List, [], ◌∷◌, ◌++◌, length, Option, Some, None, arith}
+use Rattle.std.proofs.Common.{◌≡◌, ap, subst, refl, ℕ, zero, suc, ◌+◌, ◌<◌, ◌≤◌, Bool, true, false, List, [], ◌∷◌, ◌++◌, length, Option, Some, None, arith, length-append}
 use Rattle.std.proofs.lemmas.Bool.{false≢true}
 use Rattle.std.specs.Prelude.{if◌then◌else◌, ◌==◌, ◌||◌}
 use Rattle.csv.specs.Machine.{Read, next_record, step, ends_at_end, is_end, fields_after, field_after}
@@ -87,6 +87,27 @@ all-reached (row ∷ rows) (suc n) s s2 xs ys open_end r e lt =
     let more = all-reached rows n p.1 s2 p.2 ys (shrinks s [] [] xs p next).0 r.3 e (omega (arith, small)) in
     rw (next, r.2) (ap (λ (rest : List (List (List ℕ))). p.0 ∷ rest) more)
 
+-- the records that a reader has reached are the first of all records
+reached-front : (rows : List (List (List ℕ))) (n : ℕ) (s s2 : State) (xs ys : List ℕ) → ends_at_end s ≡ false
+    → Reached default_config s xs rows s2 ys → length xs < n
+    → (rest : List (List (List ℕ))) × (records_from default_config n s xs ≡ rows ++ rest)
+unfolding Reached records_from
+reached-front rows zero s s2 xs ys open_end r lt = absurd (omega arith)
+reached-front [] (suc n) s s2 xs ys open_end r lt = (records_from default_config (suc n) s xs, refl)
+reached-front (row ∷ rows) (suc n) s s2 xs ys open_end r lt =
+    let p = r.0 in
+    let next = r.1 in
+    let small = takes-byte s xs p open_end next in
+    let more = reached-front rows n p.1 s2 p.2 ys (shrinks s [] [] xs p next).0 r.3 (omega (arith, small)) in
+    (more.0, rw (next, r.2) (ap (λ (rest : List (List (List ℕ))). p.0 ∷ rest) more.1))
+
+pub records-front : (bytes : List ℕ) (rows : List (List (List ℕ))) (s2 : State) (ys : List ℕ)
+    → Reached default_config st.StartRecord (strip_bom bytes) rows s2 ys
+    → (rest : List (List (List ℕ))) × (records_of bytes ≡ rows ++ rest)
+unfolding records_of
+records-front bytes rows s2 ys h =
+    reached-front rows (length (strip_bom bytes) + 1) st.StartRecord s2 (strip_bom bytes) ys refl h (omega arith)
+
 pub records-are : (xs : List ℕ) (rows : List (List (List ℕ))) → AreRecords default_config st.StartRecord xs rows → rows ≡ records default_config xs
 records-are xs rows h = all-reached rows (length xs + 1) st.StartRecord h.0 xs h.1 refl h.2 h.3 (omega arith)
 
@@ -119,3 +140,11 @@ record-count bytes =
     let few = few-records (length (strip_bom bytes) + 1) st.StartRecord (strip_bom bytes) in
     let less = short bytes in
     omega (arith, few, less)
+
+-- a reader has reached no more records than there are bytes, and one more
+pub front-few : (bytes : List ℕ) (rows : List (List (List ℕ))) (s2 : State) (ys : List ℕ)
+    → Reached default_config st.StartRecord (strip_bom bytes) rows s2 ys → length rows ≤ length bytes + 1
+front-few bytes rows s2 ys h =
+    let front = records-front bytes rows s2 ys h in
+    let all = record-count bytes in
+    omega (arith, all, ap (length {A = List (List ℕ)}) front.1, length-append rows front.0)

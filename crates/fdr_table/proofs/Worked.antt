@@ -1,7 +1,7 @@
 -- The faults of some small tables.
 use Rattle.std.proofs.Common.{◌≡◌, refl, ℕ, List, [], ◌∷◌, Some, None}
 use Rattle.std.specs.Prelude.{codes}
-use Rattle.fdr_table.specs.Fields.{decimal_of, number_in, number_of, signed_within, label_of, sdi_of, subframes_of, sign_of, is_name}
+use Rattle.fdr_table.specs.Fields.{decimal_of, word_count_of, number_in, number_of, signed_within, label_of, sdi_of, subframes_of, sign_of, is_name}
 use Rattle.fdr_table.specs.Reading.{Row, field, kind_of, frame_misread, param_misread, place_misread, misnamed}
 use Rattle.fdr_table.specs.Faults.{first_fault}
 use Rattle.fdr_table.specs.declared.fault.TableFault.TheVariants as fault
@@ -27,7 +27,7 @@ unfolding kind_of field
 count = refl
 
 words : first_fault ((codes "F" ∷ codes "65" ∷ codes "2" ∷ codes "1" ∷ []) ∷ []) ≡ Some (0, fault.Number 1)
-unfolding kind_of field frame_misread number_of number_in decimal_of
+unfolding kind_of field frame_misread word_count_of number_in decimal_of
 words = refl
 
 param-alone : first_fault (param (codes "ALT") ∷ []) ≡ Some (0, fault.NoFrame)
@@ -35,36 +35,36 @@ unfolding kind_of field param_misread number_in number_of decimal_of signed_with
 param-alone = refl
 
 two-frames : first_fault (frame ∷ frame ∷ []) ≡ Some (1, fault.TwoFrames)
-unfolding kind_of field frame_misread number_of number_in decimal_of
+unfolding kind_of field frame_misread word_count_of number_in decimal_of
 two-frames = refl
 
 name : first_fault (frame ∷ param (codes "A B") ∷ place (codes "A B") (codes "0") (codes "1") ∷ []) ≡ Some (1, fault.Name)
-unfolding kind_of field frame_misread param_misread place_misread misnamed number_in number_of decimal_of signed_within label_of sdi_of sign_of subframes_of is_name
+unfolding kind_of field frame_misread param_misread place_misread misnamed word_count_of number_in number_of decimal_of signed_within label_of sdi_of sign_of subframes_of is_name
 name = refl
 
 twice : first_fault (frame ∷ param (codes "ALT") ∷ param (codes "ALT") ∷ []) ≡ Some (2, fault.Twice)
-unfolding kind_of field frame_misread param_misread place_misread misnamed number_in number_of decimal_of signed_within label_of sdi_of sign_of subframes_of is_name
+unfolding kind_of field frame_misread param_misread place_misread misnamed word_count_of number_in number_of decimal_of signed_within label_of sdi_of sign_of subframes_of is_name
 twice = refl
 
 unknown : first_fault (frame ∷ place (codes "ALT") (codes "0") (codes "1") ∷ []) ≡ Some (1, fault.Unknown)
-unfolding kind_of field frame_misread param_misread place_misread misnamed number_in number_of decimal_of signed_within label_of sdi_of sign_of subframes_of is_name
+unfolding kind_of field frame_misread param_misread place_misread misnamed word_count_of number_in number_of decimal_of signed_within label_of sdi_of sign_of subframes_of is_name
 unknown = refl
 
 abbrev with_cycle : List ℕ → List ℕ → List Row
 with_cycle cycle period = frame ∷ param (codes "ALT") ∷ place (codes "ALT") cycle period ∷ []
 
 cycle-not-below : first_fault (with_cycle (codes "1") (codes "1")) ≡ Some (2, fault.Number 8)
-unfolding kind_of field frame_misread param_misread place_misread misnamed number_in number_of decimal_of signed_within label_of sdi_of sign_of subframes_of is_name
+unfolding kind_of field frame_misread param_misread place_misread misnamed word_count_of number_in number_of decimal_of signed_within label_of sdi_of sign_of subframes_of is_name
 cycle-not-below = refl
 
 cycle-right : first_fault (with_cycle (codes "5") (codes "3")) ≡ Some (2, fault.Number 9)
-unfolding kind_of field frame_misread param_misread place_misread misnamed number_in number_of decimal_of signed_within label_of sdi_of sign_of subframes_of is_name
+unfolding kind_of field frame_misread param_misread place_misread misnamed word_count_of number_in number_of decimal_of signed_within label_of sdi_of sign_of subframes_of is_name
 cycle-right = refl
 
 cycle-out : first_fault (with_cycle (codes "16") (codes "3")) ≡ Some (2, fault.Number 8)
-unfolding kind_of field frame_misread param_misread place_misread misnamed number_in number_of decimal_of signed_within label_of sdi_of sign_of subframes_of is_name
+unfolding kind_of field frame_misread param_misread place_misread misnamed word_count_of number_in number_of decimal_of signed_within label_of sdi_of sign_of subframes_of is_name
 cycle-out = refl
 
 no-fault : first_fault (with_cycle (codes "3") (codes "4")) ≡ None
-unfolding kind_of field frame_misread param_misread place_misread misnamed number_in number_of decimal_of signed_within label_of sdi_of sign_of subframes_of is_name
+unfolding kind_of field frame_misread param_misread place_misread misnamed word_count_of number_in number_of decimal_of signed_within label_of sdi_of sign_of subframes_of is_name
 no-fault = refl

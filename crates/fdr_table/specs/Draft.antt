@@ -1,5 +1,6 @@
 -- The table of the rows above a row.
 use Rattle.std.specs.Prelude.{◌≡◌, ◌<◌, ◌+◌, ℕ, true, List, [], ◌∷◌, ◌++◌, length, All, map, take, bytes_eq, slice_index_or, Option, Some, None, IfSome, is_some, position}
+use Rattle.fdr_table.specs.Bounds.{most_params}
 use Rattle.fdr_table.specs.Rows.{ParamRow, PlaceRow}
 use Rattle.fdr_table.specs.Ranges.{IsFrameInRange, IsPlaceInRange}
 use Rattle.fdr_table.specs.Reading.{Row, field, first_some, frame_row, is_place, kind_of, names_of, table_of}
@@ -42,7 +43,7 @@ IsNextDraft d row next = (above : List Row) → IsDraft above d → IsDraft (abo
 -- a new name, of fewer than 2,049 parameters, or a place of one of the parameters
 abbrev pub Fits : DraftRows → Entry → Type 0
 Fits d (entry.Frame f) = Unit {0}
-Fits d (entry.Param p) = (index_named d.params p.name ≡ None) × (length d.params < 2048)
+Fits d (entry.Param p) = (index_named d.params p.name ≡ None) × (length d.params < most_params)
 Fits d (entry.Place l) = l.param < length d.params
 
 -- what the fields of a draft keep beside the ranges of its parameters

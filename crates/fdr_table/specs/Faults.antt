@@ -2,6 +2,7 @@
 use Rattle.std.specs.Prelude.{ℕ, Bool, not, nat_le, nat_lt, if◌then◌else◌, List, [], ◌∷◌, length, map, filter, take, bytes_eq, slice_index_or, Option, Some, None, option_map}
 use Rattle.std.specs.Option.{option_map_or}
 use Rattle.std.specs.List.{list_any, range_with_len}
+use Rattle.fdr_table.specs.Bounds.{most_table_bytes, most_params, most_places}
 use Rattle.fdr_table.specs.Reading.{Row, records_of, field, kind_of, is_frame, is_param, is_place, first_some, frame_misread, param_misread, place_misread, misnamed, names_of}
 use Rattle.fdr_table.specs.declared.row.RowKind.{RowKind}
 use Rattle.fdr_table.specs.declared.row.RowKind.TheVariants as kind
@@ -34,12 +35,12 @@ kind_fault above fields kind.Param = first_some (
     ∷ where_true (not (has_frame above)) fault.NoFrame
     ∷ misnamed fields
     ∷ where_true (has_name above (field fields 1)) fault.Twice
-    ∷ where_true (nat_le 2048 (param_count above)) fault.Size ∷ [])
+    ∷ where_true (nat_le most_params (param_count above)) fault.Size ∷ [])
 kind_fault above fields kind.Place = first_some (
     place_misread fields
     ∷ where_true (not (has_frame above)) fault.NoFrame
     ∷ where_true (not (has_name above (field fields 1))) fault.Unknown
-    ∷ where_true (nat_le 8192 (place_count above)) fault.Size ∷ [])
+    ∷ where_true (nat_le most_places (place_count above)) fault.Size ∷ [])
 
 -- the fault of a row below the rows `above`
 abbrev pub row_fault : List Row → Row → Option TableFault
@@ -52,10 +53,6 @@ first_fault (first ∷ rest) =
     let rows = first ∷ rest in
     first_some (map (λ i. option_map (λ f. (i, f)) (row_fault (take i rows) (slice_index_or rows i []))) (range_with_len 0 (length rows)))
 
--- how many bytes a table may have
-unfoldable pub most_bytes : ℕ
-most_bytes = 1048576
-
 -- the first fault of a table's bytes, and its row: their number comes before the rows
 unfoldable pub fault_of : List ℕ → Option (ℕ × TableFault)
-fault_of bytes = if nat_lt most_bytes (length bytes) then Some (0, fault.Size) else first_fault (records_of bytes)
+fault_of bytes = if nat_lt most_table_bytes (length bytes) then Some (0, fault.Size) else first_fault (records_of bytes)

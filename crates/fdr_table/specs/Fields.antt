@@ -2,6 +2,8 @@
 use Rattle.std.specs.Prelude.{ℕ, ◌-◌, ◌^◌, ℤ, pos, neg_ℤ, drop, Bool, true, false, ◌==◌, ◌&&◌, ◌||◌, nat_le, nat_lt, if◌then◌else◌, List, [], ◌∷◌, length, sum_by, codes, bytes_eq, Option, Some, None, option_map}
 use Rattle.std.specs.List.{list_all, list_any}
 use Rattle.std.specs.Str.Parse.{digits_value, starts_with_minus}
+use Rattle.fdr_frame.specs.WordCount.{is_word_count}
+use Rattle.fdr_table.specs.Bounds.{most_label, most_name_bytes, most_sdi}
 
 abbrev pub is_digit : ℕ → Bool
 is_digit byte = nat_le 48 byte && nat_le byte 57
@@ -28,6 +30,10 @@ is_among allowed n = list_any (λ m. m == n) allowed
 unfoldable pub number_of : List ℕ → List ℕ → Option ℕ
 number_of allowed field = passing (is_among allowed) (decimal_of field)
 
+-- a decimal number that is one of words in a subframe
+unfoldable pub word_count_of : List ℕ → Option ℕ
+word_count_of field = passing is_word_count (decimal_of field)
+
 -- a decimal number of at most this size, with one `-` in front or none; `-0` is 0
 unfoldable pub signed_within : ℕ → List ℕ → Option ℤ
 signed_within most field =
@@ -40,11 +46,11 @@ is_octal_digit byte = nat_le 48 byte && nat_le byte 55
 unfoldable pub label_of : List ℕ → Option ℕ
 label_of field =
     if nat_le 1 (length field) && nat_le (length field) 3 && list_all is_octal_digit field
-    then passing (λ n. nat_le n 255) (Some (digits_value 8 field)) else None
+    then passing (λ n. nat_le n most_label) (Some (digits_value 8 field)) else None
 
 -- the SDI that is asked for: any, where the field is empty, or this one
 unfoldable pub sdi_of : List ℕ → Option (Option ℕ)
-sdi_of field = if length field == 0 then Some None else option_map (λ sdi. Some sdi) (number_in 0 3 field)
+sdi_of field = if length field == 0 then Some None else option_map (λ sdi. Some sdi) (number_in 0 most_sdi field)
 
 -- each number is above the one before it
 abbrev pub is_increasing : List ℕ → Bool
@@ -74,4 +80,4 @@ is_name_byte byte = (nat_le 65 byte && nat_le byte 90) || (nat_le 97 byte && nat
 
 -- a parameter's name: 1 to 16 such bytes
 unfoldable pub is_name : List ℕ → Bool
-is_name field = nat_le 1 (length field) && nat_le (length field) 16 && list_all is_name_byte field
+is_name field = nat_le 1 (length field) && nat_le (length field) most_name_bytes && list_all is_name_byte field

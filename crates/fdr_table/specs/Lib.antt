@@ -1,3 +1,4 @@
+pub mod Bounds
 pub mod Rows
 pub mod Ranges
 pub mod Views

@@ -1,52 +1,48 @@
 -- The ranges that the fields of a table keep.
-use Rattle.std.specs.Prelude.{ℕ, ◌+◌, ◌<◌, ◌≤◌, pos, negsuc, ◌≤ℤ◌, IsTrue, true, nat_le, List, [], ◌∷◌, length, All}
+use Rattle.std.specs.Prelude.{◌+◌, ◌<◌, ◌≤◌, neg_ℤ, pos, ◌≤ℤ◌, IsTrue, true, nat_le, length, All}
 use Rattle.std.specs.Option.{option_map_or}
+use Rattle.fdr_frame.specs.WordCount.{IsWordCount}
+use Rattle.fdr_table.specs.Bounds.{most_words, subframe_count, least_counter_word, frame_word_bits, most_parts, periods}
+use Rattle.fdr_table.specs.Bounds.{bus_word_bits, most_bus, most_label, most_sdi, most_scale, most_offset, most_decimals, most_rate}
 use Rattle.fdr_table.specs.Fields.{is_among}
 use Rattle.fdr_table.specs.Rows.{FrameRow, ParamRow, PlaceRow, TableRows}
 
--- how many words a subframe may have
-abbrev pub frame_sizes : List ℕ
-frame_sizes = 64 ∷ 128 ∷ 256 ∷ 512 ∷ 1024 ∷ []
-
--- in how many frames a place may come once
-abbrev pub periods : List ℕ
-periods = 1 ∷ 2 ∷ 4 ∷ 8 ∷ 16 ∷ []
-
 pub record IsFrameInRange (f : FrameRow) : Type 0 where
-  pub words : IsTrue (is_among frame_sizes f.words)
-  pub cword_low : 2 ≤ f.cword
-  pub cword_high : f.cword ≤ 1024
+  pub words : IsWordCount f.words
+  pub cword_low : least_counter_word ≤ f.cword
+  pub cword_high : f.cword ≤ most_words
   pub csub_low : 1 ≤ f.csub
-  pub csub_high : f.csub ≤ 4
+  pub csub_high : f.csub ≤ subframe_count
 
 pub record IsParamInRange (p : ParamRow) : Type 0 where
-  pub bus : p.bus ≤ 255
-  pub label : p.label ≤ 255
-  pub sdi : IsTrue (option_map_or (λ sdi. nat_le sdi 3) p.sdi true)
+  pub bus : p.bus ≤ most_bus
+  pub label : p.label ≤ most_label
+  pub sdi : IsTrue (option_map_or (λ sdi. nat_le sdi most_sdi) p.sdi true)
   pub lsb_low : 1 ≤ p.lsb
   pub width_low : 1 ≤ p.width
-  pub bits : p.lsb + p.width ≤ 33
-  pub num_low : negsuc 999999999 ≤ℤ p.num
-  pub num_high : p.num ≤ℤ pos 1000000000
+  pub bits : p.lsb + p.width ≤ bus_word_bits + 1
+  pub num_low : neg_ℤ (pos most_scale) ≤ℤ p.num
+  pub num_high : p.num ≤ℤ pos most_scale
   pub den_low : pos 1 ≤ℤ p.den
-  pub den_high : p.den ≤ℤ pos 1000000000
-  pub offset_low : negsuc 999999999999999 ≤ℤ p.offset
-  pub offset_high : p.offset ≤ℤ pos 1000000000000000
-  pub decimals : p.decimals ≤ 9
+  pub den_high : p.den ≤ℤ pos most_scale
+  pub offset_low : neg_ℤ (pos most_offset) ≤ℤ p.offset
+  pub offset_high : p.offset ≤ℤ pos most_offset
+  pub decimals : p.decimals ≤ most_decimals
   pub rate_low : 1 ≤ p.rate
-  pub rate_high : p.rate ≤ 262144
+  pub rate_high : p.rate ≤ most_rate
 
+-- a set of subframes has some of the bits of subframes 1 to 4, so it is 1 to 15
 pub record IsPlaceInRange (p : PlaceRow) : Type 0 where
   pub part_low : 1 ≤ p.part
-  pub part_high : p.part ≤ 4
+  pub part_high : p.part ≤ most_parts
   pub subs_low : 1 ≤ p.subs
   pub subs_high : p.subs ≤ 15
   pub word_low : 1 ≤ p.word
-  pub word_high : p.word ≤ 1024
-  pub step : p.step ≤ 1024
+  pub word_high : p.word ≤ most_words
+  pub step : p.step ≤ most_words
   pub lsb_low : 1 ≤ p.lsb
   pub width_low : 1 ≤ p.width
-  pub bits : p.lsb + p.width ≤ 13
+  pub bits : p.lsb + p.width ≤ frame_word_bits + 1
   pub cycle : p.cycle < p.period
   pub period : IsTrue (is_among periods p.period)
 

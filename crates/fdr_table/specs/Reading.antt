@@ -1,10 +1,11 @@
 -- What the rows of a table say. Rows and fields are numbered from 0; field 0 is the letter.
-use Rattle.std.specs.Prelude.{ℕ, ◌+◌, ◌-◌, ◌==◌, ◌&&◌, Bool, true, false, if◌then◌else◌, List, [], ◌∷◌, length, codes, bytes_eq, slice_index_or, map, filter, filter_map, pos, Option, Some, None, is_none, unwrap_or, position}
+use Rattle.std.specs.Prelude.{ℕ, ◌+◌, ◌-◌, ◌==◌, ◌&&◌, Bool, true, false, if◌then◌else◌, List, [], ◌∷◌, length, codes, bytes_eq, slice_index_or, map, filter, filter_map, ℤ, pos, Option, Some, None, is_none, unwrap_or, position}
 use Rattle.std.specs.List.{enumerate_from}
 use Rattle.csv.specs.Reading.{default_config, records, strip_bom}
 use Rattle.fdr_table.specs.Rows.{FrameRow, ParamRow, PlaceRow, TableRows}
-use Rattle.fdr_table.specs.Ranges.{frame_sizes, periods}
-use Rattle.fdr_table.specs.Fields.{number_in, number_of, signed_within, label_of, sdi_of, subframes_of, sign_of, is_name}
+use Rattle.fdr_table.specs.Bounds.{most_words, subframe_count, least_counter_word, frame_word_bits, most_parts, periods}
+use Rattle.fdr_table.specs.Bounds.{bus_word_bits, most_bus, most_scale, most_offset, most_decimals, most_rate}
+use Rattle.fdr_table.specs.Fields.{number_in, number_of, word_count_of, signed_within, label_of, sdi_of, subframes_of, sign_of, is_name}
 use Rattle.fdr_table.specs.declared.row.RowKind.{RowKind}
 use Rattle.fdr_table.specs.declared.row.RowKind.TheVariants as kind
 use Rattle.fdr_table.specs.declared.fault.TableFault.{TableFault}
@@ -69,84 +70,153 @@ abbrev pub bits_from : ℕ → Option ℕ → ℕ
 bits_from size None = size
 bits_from size (Some lsb) = size + 1 - lsb
 
+-- the numbers in the fields of a frame row
+abbrev pub words_in : Row → Option ℕ
+words_in fields = word_count_of (field fields 1)
+
+abbrev pub cword_in : Row → Option ℕ
+cword_in fields = number_in least_counter_word most_words (field fields 2)
+
+abbrev pub csub_in : Row → Option ℕ
+csub_in fields = number_in 1 subframe_count (field fields 3)
+
 -- the first field of a frame row that isn't right
 unfoldable pub frame_misread : Row → Option TableFault
 frame_misread fields = first_some (
-    misread 1 (number_of frame_sizes (field fields 1))
-    ∷ misread 2 (number_in 2 1024 (field fields 2))
-    ∷ misread 3 (number_in 1 4 (field fields 3)) ∷ [])
-
--- the first field of a parameter's row that isn't right, the name aside
-unfoldable pub param_misread : Row → Option TableFault
-param_misread fields = first_some (
-    misread 2 (number_in 0 255 (field fields 2))
-    ∷ misread 3 (label_of (field fields 3))
-    ∷ misread 4 (sdi_of (field fields 4))
-    ∷ misread 5 (number_in 1 32 (field fields 5))
-    ∷ misread 6 (number_in 1 (bits_from 32 (number_in 1 32 (field fields 5))) (field fields 6))
-    ∷ misread 7 (sign_of (field fields 7))
-    ∷ misread 8 (signed_within 1000000000 (field fields 8))
-    ∷ misread 9 (number_in 1 1000000000 (field fields 9))
-    ∷ misread 10 (signed_within 1000000000000000 (field fields 10))
-    ∷ misread 11 (number_in 0 9 (field fields 11))
-    ∷ misread 12 (number_in 1 262144 (field fields 12)) ∷ [])
-
--- the first field of a place's row that isn't right, the name aside
-unfoldable pub place_misread : Row → Option TableFault
-place_misread fields = first_some (
-    misread 2 (number_in 1 4 (field fields 2))
-    ∷ misread 3 (subframes_of (field fields 3))
-    ∷ misread 4 (number_in 1 1024 (field fields 4))
-    ∷ misread 5 (number_in 0 1024 (field fields 5))
-    ∷ misread 6 (number_in 1 12 (field fields 6))
-    ∷ misread 7 (number_in 1 (bits_from 12 (number_in 1 12 (field fields 6))) (field fields 7))
-    ∷ misread 8 (number_in 0 (last_cycle (number_of periods (field fields 9))) (field fields 8))
-    ∷ misread 9 (number_of periods (field fields 9)) ∷ [])
-
-unfoldable pub misnamed : Row → Option TableFault
-misnamed fields = if is_name (field fields 1) then None else Some fault.Name
+    misread 1 (words_in fields)
+    ∷ misread 2 (cword_in fields)
+    ∷ misread 3 (csub_in fields) ∷ [])
 
 -- what a frame row says
 unfoldable pub frame_row : Row → Option FrameRow
 frame_row fields =
     if is_frame (kind_of fields) && is_none (frame_misread fields) then Some (record {
-      words = unwrap_or (number_of frame_sizes (field fields 1)) 0;
-      cword = unwrap_or (number_in 2 1024 (field fields 2)) 0;
-      csub = unwrap_or (number_in 1 4 (field fields 3)) 0;
+      words = unwrap_or (words_in fields) 0;
+      cword = unwrap_or (cword_in fields) 0;
+      csub = unwrap_or (csub_in fields) 0;
     }) else None
+
+-- the numbers in the fields of a parameter's row
+abbrev pub bus_in : Row → Option ℕ
+bus_in fields = number_in 0 most_bus (field fields 2)
+
+abbrev pub label_in : Row → Option ℕ
+label_in fields = label_of (field fields 3)
+
+abbrev pub sdi_in : Row → Option (Option ℕ)
+sdi_in fields = sdi_of (field fields 4)
+
+abbrev pub bus_lsb_in : Row → Option ℕ
+bus_lsb_in fields = number_in 1 bus_word_bits (field fields 5)
+
+abbrev pub bus_width_in : Row → Option ℕ
+bus_width_in fields = number_in 1 (bits_from bus_word_bits (bus_lsb_in fields)) (field fields 6)
+
+abbrev pub sign_in : Row → Option Bool
+sign_in fields = sign_of (field fields 7)
+
+abbrev pub num_in : Row → Option ℤ
+num_in fields = signed_within most_scale (field fields 8)
+
+abbrev pub den_in : Row → Option ℕ
+den_in fields = number_in 1 most_scale (field fields 9)
+
+abbrev pub offset_in : Row → Option ℤ
+offset_in fields = signed_within most_offset (field fields 10)
+
+abbrev pub decimals_in : Row → Option ℕ
+decimals_in fields = number_in 0 most_decimals (field fields 11)
+
+abbrev pub rate_in : Row → Option ℕ
+rate_in fields = number_in 1 most_rate (field fields 12)
+
+-- the first field of a parameter's row that isn't right, the name aside
+unfoldable pub param_misread : Row → Option TableFault
+param_misread fields = first_some (
+    misread 2 (bus_in fields)
+    ∷ misread 3 (label_in fields)
+    ∷ misread 4 (sdi_in fields)
+    ∷ misread 5 (bus_lsb_in fields)
+    ∷ misread 6 (bus_width_in fields)
+    ∷ misread 7 (sign_in fields)
+    ∷ misread 8 (num_in fields)
+    ∷ misread 9 (den_in fields)
+    ∷ misread 10 (offset_in fields)
+    ∷ misread 11 (decimals_in fields)
+    ∷ misread 12 (rate_in fields) ∷ [])
+
+unfoldable pub misnamed : Row → Option TableFault
+misnamed fields = if is_name (field fields 1) then None else Some fault.Name
 
 -- what a parameter's row says, as row `number` of its table
 unfoldable pub param_row : ℕ → Row → Option ParamRow
 param_row number fields =
     if is_param (kind_of fields) && is_none (first_some (param_misread fields ∷ misnamed fields ∷ [])) then Some (record {
       name = field fields 1;
-      bus = unwrap_or (number_in 0 255 (field fields 2)) 0;
-      label = unwrap_or (label_of (field fields 3)) 0;
-      sdi = unwrap_or (sdi_of (field fields 4)) None;
-      lsb = unwrap_or (number_in 1 32 (field fields 5)) 0;
-      width = unwrap_or (number_in 1 (bits_from 32 (number_in 1 32 (field fields 5))) (field fields 6)) 0;
-      signed = unwrap_or (sign_of (field fields 7)) false;
-      num = unwrap_or (signed_within 1000000000 (field fields 8)) (pos 0);
-      den = pos (unwrap_or (number_in 1 1000000000 (field fields 9)) 0);
-      offset = unwrap_or (signed_within 1000000000000000 (field fields 10)) (pos 0);
-      decimals = unwrap_or (number_in 0 9 (field fields 11)) 0;
-      rate = unwrap_or (number_in 1 262144 (field fields 12)) 0;
+      bus = unwrap_or (bus_in fields) 0;
+      label = unwrap_or (label_in fields) 0;
+      sdi = unwrap_or (sdi_in fields) None;
+      lsb = unwrap_or (bus_lsb_in fields) 0;
+      width = unwrap_or (bus_width_in fields) 0;
+      signed = unwrap_or (sign_in fields) false;
+      num = unwrap_or (num_in fields) (pos 0);
+      den = pos (unwrap_or (den_in fields) 0);
+      offset = unwrap_or (offset_in fields) (pos 0);
+      decimals = unwrap_or (decimals_in fields) 0;
+      rate = unwrap_or (rate_in fields) 0;
       row = number;
     }) else None
+
+-- the numbers in the fields of a place's row
+abbrev pub part_in : Row → Option ℕ
+part_in fields = number_in 1 most_parts (field fields 2)
+
+abbrev pub subframes_in : Row → Option ℕ
+subframes_in fields = subframes_of (field fields 3)
+
+abbrev pub word_in : Row → Option ℕ
+word_in fields = number_in 1 most_words (field fields 4)
+
+abbrev pub step_in : Row → Option ℕ
+step_in fields = number_in 0 most_words (field fields 5)
+
+abbrev pub frame_lsb_in : Row → Option ℕ
+frame_lsb_in fields = number_in 1 frame_word_bits (field fields 6)
+
+abbrev pub frame_width_in : Row → Option ℕ
+frame_width_in fields = number_in 1 (bits_from frame_word_bits (frame_lsb_in fields)) (field fields 7)
+
+abbrev pub period_in : Row → Option ℕ
+period_in fields = number_of periods (field fields 9)
+
+abbrev pub cycle_in : Row → Option ℕ
+cycle_in fields = number_in 0 (last_cycle (period_in fields)) (field fields 8)
+
+-- the first field of a place's row that isn't right, the name aside
+unfoldable pub place_misread : Row → Option TableFault
+place_misread fields = first_some (
+    misread 2 (part_in fields)
+    ∷ misread 3 (subframes_in fields)
+    ∷ misread 4 (word_in fields)
+    ∷ misread 5 (step_in fields)
+    ∷ misread 6 (frame_lsb_in fields)
+    ∷ misread 7 (frame_width_in fields)
+    ∷ misread 8 (cycle_in fields)
+    ∷ misread 9 (period_in fields) ∷ [])
 
 -- what a place's row says, as row `number` of its table, of the parameter with index `param`
 unfoldable pub place_row : ℕ → ℕ → Row → Option PlaceRow
 place_row param number fields =
     if is_place (kind_of fields) && is_none (place_misread fields) then Some (record {
       param = param;
-      part = unwrap_or (number_in 1 4 (field fields 2)) 0;
-      subs = unwrap_or (subframes_of (field fields 3)) 0;
-      word = unwrap_or (number_in 1 1024 (field fields 4)) 0;
-      step = unwrap_or (number_in 0 1024 (field fields 5)) 0;
-      lsb = unwrap_or (number_in 1 12 (field fields 6)) 0;
-      width = unwrap_or (number_in 1 (bits_from 12 (number_in 1 12 (field fields 6))) (field fields 7)) 0;
-      cycle = unwrap_or (number_in 0 (last_cycle (number_of periods (field fields 9))) (field fields 8)) 0;
-      period = unwrap_or (number_of periods (field fields 9)) 0;
+      part = unwrap_or (part_in fields) 0;
+      subs = unwrap_or (subframes_in fields) 0;
+      word = unwrap_or (word_in fields) 0;
+      step = unwrap_or (step_in fields) 0;
+      lsb = unwrap_or (frame_lsb_in fields) 0;
+      width = unwrap_or (frame_width_in fields) 0;
+      cycle = unwrap_or (cycle_in fields) 0;
+      period = unwrap_or (period_in fields) 0;
       row = number;
     }) else None
 

@@ -1,9 +1,10 @@
-ghost use Rattle.std.specs.Prelude.{◌≡◌, ◌<◌, ◌^◌, ℕ, [], IfOk, IfErr, Err, Some, None, length, map};
+ghost use Rattle.std.specs.Prelude.{◌≡◌, ◌<◌, ◌≤◌, ℕ, [], IfOk, IfErr, Err, Some, None, length};
 ghost use Rattle.csv.specs.Records.{fields_of};
 ghost use Rattle.fdr_table.specs.Answers.{refused};
+ghost use Rattle.fdr_table.specs.Bounds.{most_table_bytes};
 ghost use Rattle.fdr_table.specs.Draft.{Fits, IsDraft, IsNextDraft, IsNextFault, with_entry};
 ghost use Rattle.fdr_table.specs.Faults.{first_fault};
-ghost use Rattle.fdr_table.specs.Reading.{kind_of};
+ghost use Rattle.fdr_table.specs.Reading.{kind_of, records_of};
 ghost use Rattle.fdr_table.specs.declared.draft.Entry.TheVariants as entry;
 ghost use Rattle.fdr_table.specs.declared.fault.TableFault.{TableFault};
 ghost use Rattle.fdr_table.specs.declared.row.RowKind.TheVariants as kind;
@@ -14,7 +15,8 @@ use crate::param::Param;
 use crate::params::Params;
 use crate::place::Place;
 use crate::row::{RowKind, field_at, kind_of, read_frame_row, read_param_row, read_place_row};
-use csv::ByteRecord;
+use crate::rows::want_of_memory;
+use csv::{ByteRecord, ReaderBuilder};
 use std::alloc::Global;
 use std::marker::Model;
 
@@ -55,15 +57,24 @@ impl Model for Draft {
 }
 
 impl Draft {
-    /// The draft of all these rows, or the first fault of the rows.
-    pub(crate) fn read(alloc: Global, rows: &[ByteRecord]) -> Result<Draft, TableError>
-        requires { length rows.now < 2 ^ 32 }
-        ensures draft { IfOk result (λ d. IsDraft (map fields_of rows.now) d) }
-        ensures refused { (row : ℕ) (f : TableFault) → result ≡ Err (refused row f) → first_fault (map fields_of rows.now) ≡ Some (row, f) }
+    /// The draft of the rows of these bytes, or the first fault of the rows.
+    pub(crate) fn read(alloc: Global, bytes: &[u8]) -> Result<Draft, TableError>
+        requires { length bytes.now ≤ most_table_bytes }
+        ensures draft { IfOk result (λ d. IsDraft (records_of bytes.now) d) }
+        ensures refused { (row : ℕ) (f : TableFault) → result ≡ Err (refused row f)
+            → first_fault (records_of bytes.now) ≡ Some (row, f) }
     {
+        let reader = ReaderBuilder::new()
+            .has_headers(false)
+            .flexible(true)
+            .from_reader(alloc, bytes);
         let mut draft = Draft::new(alloc);
-        for row in rows {
-            match draft.read_row(row) {
+        for row in reader.into_byte_records() {
+            let row = match row {
+                Ok(row) => row,
+                Err(error) => return Err(want_of_memory(&error).into()),
+            };
+            match draft.read_row(&row) {
                 Ok(entry) => draft.add(alloc, entry)?,
                 Err(fault) => return Err(refused(draft.rows, fault)),
             }

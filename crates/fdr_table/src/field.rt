@@ -2,7 +2,9 @@ ghost use Rattle.std.specs.Prelude.{◌≡◌, ◌<◌, ◌≤◌, ◌^◌, ◌�
 ghost use Rattle.std.specs.List.{list_all};
 ghost use Rattle.std.specs.Option.{option_map_or};
 ghost use Rattle.std.specs.Str.Parse.{digits_value};
-ghost use Rattle.fdr_table.specs.Fields.{is_digit, is_octal_digit, decimal_of, number_in, number_of, is_among, signed_within, label_of, sdi_of, is_subframe_digit, subframe_bit, subframes_of, sign_of};
+ghost use Rattle.fdr_frame.specs.WordCount.{is_word_count, IsWordCount};
+ghost use Rattle.fdr_table.specs.Bounds.{most_sdi};
+ghost use Rattle.fdr_table.specs.Fields.{is_digit, is_octal_digit, decimal_of, number_in, number_of, word_count_of, is_among, signed_within, label_of, sdi_of, is_subframe_digit, subframe_bit, subframes_of, sign_of};
 
 /// The number that digits write to a base.
 fn value(digits: &[u8], base: u64) -> u64
@@ -78,6 +80,27 @@ pub(crate) fn number_of(field: &[u8], allowed: &[u64]) -> Option<u64>
     }
 }
 
+/// Whether a subframe may have so many words.
+fn is_word_count(number: u64) -> bool
+    ensures { result ≡ is_word_count number }
+{
+    matches!(number, 64 | 128 | 256 | 512 | 1024)
+}
+
+/// A number of words in a subframe: 64, 128, 256, 512 or 1024.
+#[tactic(auto, unfolding(crate::specs::Fields::word_count_of), using(fdr_frame::proofs::WordCounts::word_count_bounds))]
+pub(crate) fn word_count(field: &[u8]) -> Option<u32>
+    ensures exactly { result ≡ word_count_of field.now }
+    ensures allowed { IfSome result IsWordCount }
+{
+    let number = decimal(field)?;
+    if is_word_count(number) {
+        Some(number as u32)
+    } else {
+        None
+    }
+}
+
 /// A decimal number of at most `most` in size, with a `-` in front or none.
 #[tactic(auto, unfolding(crate::specs::Fields::signed_within))]
 pub(crate) fn signed_within(field: &[u8], most: u64) -> Option<i64>
@@ -112,7 +135,7 @@ pub(crate) fn label(field: &[u8]) -> Option<u8>
 #[tactic(auto, unfolding(crate::specs::Fields::sdi_of))]
 pub(crate) fn sdi(field: &[u8]) -> Option<Option<u8>>
     ensures exactly { result ≡ sdi_of field.now }
-    ensures within { IfSome result (λ sdi. IsTrue (option_map_or (λ n. nat_le n 3) sdi true)) }
+    ensures within { IfSome result (λ sdi. IsTrue (option_map_or (λ n. nat_le n most_sdi) sdi true)) }
 {
     if field.is_empty() {
         return Some(None);

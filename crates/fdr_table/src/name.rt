@@ -1,5 +1,6 @@
 ghost use Rattle.std.specs.Prelude.{◌≡◌, ◌↔◌, IsTrue, IsSome, IfSome, ◌≤◌, length};
 ghost use Rattle.std.specs.List.{list_all};
+ghost use Rattle.fdr_table.specs.Bounds.{most_name_bytes};
 ghost use Rattle.fdr_table.specs.Fields.{is_name, is_name_byte};
 
 use std::marker::Model;
@@ -13,13 +14,14 @@ pub struct Name {
 
 impl Model for Name {
     ghost use Rattle.std.specs.Prelude.{ℕ, List, ◌≤◌, take, IsTrue};
+    ghost use Rattle.fdr_table.specs.Bounds.{most_name_bytes};
     ghost use Rattle.fdr_table.specs.Fields.{is_name};
 
     ghost Value = { List ℕ };
 
     ghost view = { λ n. take n.len n.bytes };
 
-    ghost invariant = { λ n. (n.len ≤ 16) × IsTrue (is_name (take n.len n.bytes)) };
+    ghost invariant = { λ n. (n.len ≤ most_name_bytes) × IsTrue (is_name (take n.len n.bytes)) };
 }
 
 impl Name {
@@ -42,7 +44,7 @@ impl Name {
     /// The name's bytes.
     pub fn bytes(&self) -> &[u8]
         ensures bytes { result.now ≡ self.now }
-        ensures few { length result.now ≤ 16 }
+        ensures few { length result.now ≤ most_name_bytes }
     {
         &self.bytes[..self.len]
     }
@@ -73,7 +75,7 @@ fn are_name_bytes(bytes: &[u8]) -> bool
 #[tactic(auto, using(crate::proofs::FieldFacts::names))]
 fn is_name(bytes: &[u8]) -> bool
     ensures exactly { result ≡ is_name bytes.now }
-    ensures length { IsTrue result → length bytes.now ≤ 16 }
+    ensures length { IsTrue result → length bytes.now ≤ most_name_bytes }
 {
     if bytes.is_empty() || 16 < bytes.len() {
         return false;

@@ -1,5 +1,6 @@
-ghost use Rattle.std.specs.Prelude.{◌≡◌, ◌<◌, ◌^◌, ◌*ℤ◌, ◌≤ℤ◌, pos, neg_ℤ, negsuc};
+ghost use Rattle.std.specs.Prelude.{◌≡◌, ◌<◌, ◌^◌, ◌*ℤ◌, ◌≤ℤ◌, pos, neg_ℤ};
 ghost use Rattle.std.specs.Int.{int_div_euclid};
+ghost use Rattle.fdr_table.specs.Bounds.{most_scale};
 ghost use Rattle.fdr_table.specs.Value.{signed_of, value_of};
 
 use crate::name::Name;
@@ -102,8 +103,8 @@ impl Param {
 fn scaled(raw: i64, num: i64, den: i64) -> i64
     requires raw_low { neg_ℤ (pos 4294967296) ≤ℤ raw }
     requires raw_high { raw ≤ℤ pos 4294967296 }
-    requires num_low { neg_ℤ (pos 1000000000) ≤ℤ num }
-    requires num_high { num ≤ℤ pos 1000000000 }
+    requires num_low { neg_ℤ (pos most_scale) ≤ℤ num }
+    requires num_high { num ≤ℤ pos most_scale }
     requires den_low { pos 1 ≤ℤ den }
     ensures exactly { result ≡ int_div_euclid (raw *ℤ num) den }
     ensures low { neg_ℤ (pos 4294967296000000000) ≤ℤ result }

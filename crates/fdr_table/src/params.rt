@@ -1,4 +1,5 @@
 ghost use Rattle.std.specs.Prelude.{◌≡◌, ◌<◌, ◌++◌, [], ◌∷◌, All, IfErr, IfOk, None, length};
+ghost use Rattle.fdr_table.specs.Bounds.{most_params};
 ghost use Rattle.fdr_table.specs.Draft.{index_named};
 ghost use Rattle.fdr_table.specs.Ranges.{IsParamInRange};
 
@@ -56,7 +57,7 @@ impl Params {
     /// Adds a parameter, whose name is new.
     pub(crate) fn push(&mut self, alloc: Global, param: Param) -> Result<(), NoMemory>
         requires new { index_named self.old param.name ≡ None }
-        requires room { length self.old < 2048 }
+        requires room { length self.old < most_params }
         ensures added { IfOk result (λ _. self.new ≡ self.old ++ param ∷ []) }
         ensures kept { IfErr result (λ _. self.new ≡ self.old) }
     {

@@ -1,6 +1,6 @@
-ghost use Rattle.std.specs.Prelude.{◌≡◌, ◌<◌, ◌≤◌, ◌^◌, ◌≤ℤ◌, neg_ℤ, pos, Some, None, IsTrue, IfOk, IfErr, IfSome, [], ◌∷◌};
+ghost use Rattle.std.specs.Prelude.{◌≡◌, ◌<◌, ◌≤◌, ◌^◌, ◌≤ℤ◌, neg_ℤ, pos, Some, None, IfOk, IfErr, IfSome, [], ◌∷◌};
 ghost use Rattle.csv.specs.Records.{fields_of};
-ghost use Rattle.fdr_table.specs.Fields.{number_in, number_of, signed_within, is_among};
+ghost use Rattle.fdr_table.specs.Fields.{number_in, signed_within};
 ghost use Rattle.fdr_table.specs.Reading.{field, kind_of, first_some, frame_misread, frame_row, last_cycle, misnamed, param_misread, param_row, place_misread, place_row};
 ghost use Rattle.fdr_table.specs.declared.row.RowKind.TheVariants as kind;
 ghost use Rattle.fdr_table.specs.declared.fault.TableFault.TheVariants as fault;
@@ -20,9 +20,6 @@ pub(crate) enum RowKind {
     Param,
     Place,
 }
-
-/// How many words a subframe may have.
-pub(crate) const FRAME_SIZES: [u64; 5] = [64, 128, 256, 512, 1024];
 
 /// In how many frames a place may come once.
 pub(crate) const PERIODS: [u64; 5] = [1, 2, 4, 8, 16];
@@ -47,15 +44,6 @@ fn number_in(row: &ByteRecord, index: u8, low: u64, high: u64) -> Result<u64, Ta
     field::number_in(field_at(row, index), low, high).ok_or(TableFault::Number { field: index })
 }
 
-/// The decimal number in a field of a row, one of `allowed`.
-fn number_of(row: &ByteRecord, index: u8, allowed: &[u64]) -> Result<u64, TableFault>
-    ensures read { IfOk result (λ n. number_of allowed.now (field (fields_of row.now) index) ≡ Some n) }
-    ensures among { IfOk result (λ n. IsTrue (is_among allowed.now n)) }
-    ensures misread { IfErr result (λ f. (number_of allowed.now (field (fields_of row.now) index) ≡ None) × (f ≡ fault.Number index)) }
-{
-    field::number_of(field_at(row, index), allowed).ok_or(TableFault::Number { field: index })
-}
-
 /// The signed number in a field of a row, at most `most` in size.
 fn signed_within(row: &ByteRecord, index: u8, most: u64) -> Result<i64, TableFault>
     requires { most < 2 ^ 63 }
@@ -74,11 +62,11 @@ pub(crate) fn read_frame_row(row: &ByteRecord) -> Result<Frame, TableFault>
     ensures read { IfOk result (λ frame. frame_row (fields_of row.now) ≡ Some frame) }
     ensures misread { IfErr result (λ f. frame_misread (fields_of row.now) ≡ Some f) }
 {
-    let words = number_of(row, 1, &FRAME_SIZES)?;
+    let words = field::word_count(field_at(row, 1)).ok_or(TableFault::Number { field: 1 })?;
     let cword = number_in(row, 2, 2, 1024)?;
     let csub = number_in(row, 3, 1, 4)?;
     Ok(Frame {
-        words: words as u32,
+        words,
         cword: cword as u32,
         csub: csub as u8,
     })

@@ -1,27 +1,19 @@
-ghost use Rattle.std.specs.Prelude.{◌≡◌, IfOk, map};
-ghost use Rattle.csv.specs.Records.{fields_of};
-ghost use Rattle.fdr_table.specs.Reading.{records_of};
+ghost use Rattle.std.specs.Prelude.{◌≡◌, true};
+ghost use Rattle.csv.specs.Reading.{error_kind, stops_reader};
 
 use crate::fault::NoMemory;
-use csv::{ByteRecord, ReaderBuilder};
-use std::alloc::Global;
+use csv::{Error, ErrorKind};
 
-/// The rows of a table's bytes. Reading bytes in memory fails for want of memory alone.
-pub(crate) fn read_rows(alloc: Global, bytes: &[u8]) -> Result<Vec<ByteRecord>, NoMemory>
-    ensures { IfOk result (λ rows. map fields_of rows.items ≡ records_of bytes.now) }
+/// Why the next row of a table's bytes didn't come. The bytes are in memory, so that their source doesn't fail, and any
+/// bytes and any count of fields are a row: memory alone is left.
+pub(crate) fn want_of_memory(error: &Error) -> NoMemory
+    requires { stops_reader (error_kind error.now) ≡ true }
 {
-    let reader = ReaderBuilder::new()
-        .has_headers(false)
-        .flexible(true)
-        .from_reader(alloc, bytes);
-    let mut rows = Vec::new(alloc);
-    for row in reader.into_byte_records() {
-        let Ok(row) = row else {
-            return Err(NoMemory);
-        };
-        if rows.push(row).is_err() {
-            return Err(NoMemory);
-        }
+    match error.kind() {
+        ErrorKind::Io(_) | ErrorKind::OutOfMemory => NoMemory,
+        ErrorKind::Utf8 { .. }
+        | ErrorKind::UnequalLengths { .. }
+        | ErrorKind::Serialize(_)
+        | ErrorKind::Deserialize { .. } => unreachable!(),
     }
-    Ok(rows)
 }

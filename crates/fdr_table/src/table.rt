@@ -1,5 +1,6 @@
 ghost use Rattle.std.specs.Prelude.{◌≡◌, ◌<◌, ℕ, Err, Some, None, IfOk, length, option_map};
 ghost use Rattle.fdr_table.specs.Answers.{refused};
+ghost use Rattle.fdr_table.specs.Bounds.{most_table_bytes};
 ghost use Rattle.fdr_table.specs.Faults.{fault_of};
 ghost use Rattle.fdr_table.specs.Reading.{records_of, table_of};
 ghost use Rattle.fdr_table.specs.declared.fault.TableFault.{TableFault};
@@ -10,7 +11,6 @@ use crate::fault::{TableError, TableFault, refused};
 use crate::frame::Frame;
 use crate::param::Param;
 use crate::place::Place;
-use crate::rows::read_rows;
 use std::alloc::Global;
 use std::marker::Model;
 
@@ -42,19 +42,19 @@ impl Model for Table {
 impl Table {
     /// The table of these bytes, or the first fault of its bytes and rows.
     ///
-    /// A table of more than 1,048,576 bytes is refused for its size, before any memory is taken.
-    #[tactic(auto, unfolding(crate::specs::Faults::fault_of, crate::specs::Faults::most_bytes))]
+    /// A table of more than 1,048,576 bytes is refused for its size, before any memory is taken. Of any other each row is
+    /// judged before the next is read, so that memory is held for one row beside what the rows above it say.
+    #[tactic(auto, unfolding(crate::specs::Faults::fault_of))]
     pub fn read(alloc: Global, bytes: &[u8]) -> Result<Table, TableError>
         ensures table { IfOk result (λ t. t ≡ table_of (records_of bytes.now)) }
         ensures no_fault { IfOk result (λ t. fault_of bytes.now ≡ None) }
         ensures refused { (row : ℕ) (f : TableFault) → result ≡ Err (refused row f) → fault_of bytes.now ≡ Some (row, f) }
-        ensures too_large { 1048576 < length bytes.now → result ≡ Err (refused 0 fault.Size) }
+        ensures too_large { most_table_bytes < length bytes.now → result ≡ Err (refused 0 fault.Size) }
     {
         if MAX_BYTES < bytes.len() {
             return Err(refused(0, TableFault::Size));
         }
-        let rows = read_rows(alloc, bytes)?;
-        let draft = Draft::read(alloc, rows.as_slice())?;
+        let draft = Draft::read(alloc, bytes)?;
         Table::of(draft).ok_or(refused(0, TableFault::NoFrame))
     }
 

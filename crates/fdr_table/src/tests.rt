@@ -166,6 +166,19 @@ fn refuses_too_many_bytes(rt: HostRuntime) -> Result<(), Fail> {
     Ok(())
 }
 
+#[test]
+fn refuses_the_first_of_many_wrong_rows(rt: HostRuntime) -> Result<(), Fail> {
+    let mut text = String::new(rt.alloc());
+    for _ in 0..400 {
+        text.push_str("x\n")?;
+    }
+    assert!(rt; is_refused(rt.alloc(), text.as_bytes(), 0, TableFault::Shape));
+    let mut below = "F,64,2,1\n".to_string(rt.alloc())?;
+    below.push_str(text.as_str())?;
+    assert!(rt; is_refused(rt.alloc(), below.as_bytes(), 1, TableFault::Shape));
+    Ok(())
+}
+
 /// A table with the first row and then so many rows with a parameter each.
 fn with_params(alloc: Global, count: u32) -> Result<String, AllocError> {
     let mut text = "F,64,2,1\n".to_string(alloc)?;

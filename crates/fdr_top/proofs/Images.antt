@@ -15,7 +15,7 @@ use Rattle.fdr_recover.specs.Looks.{Looks}
 use Rattle.fdr_ring.specs.Formatting.{fault_of, header_in}
 use Rattle.fdr_ring.specs.declared.error.RingFault.{RingFault}
 use Rattle.fdr_ring.specs.declared.error.RingFault.TheVariants as ring
-use Rattle.fdr_ring.proofs.Quiet.{IsQuiet-then}
+use Rattle.fdr_deck.proofs.Quiet.{IsQuiet-then}
 use Rattle.fdr_top.specs.declared.outcome.Outcome.{Outcome}
 use Rattle.fdr_top.specs.declared.outcome.Outcome.TheVariants as outcome
 use Rattle.fdr_top.specs.Answers.{IsOfRecovery}

@@ -9,13 +9,13 @@ use Rattle.fdr_io.specs.declared.Input.TheVariants as input
 use Rattle.fdr_io.proofs.Telling.{preceded_by-end}
 use Rattle.fdr_deck.specs.State.{State, Tells}
 use Rattle.fdr_table.specs.Rows.{TableRows}
-use Rattle.fdr_table.specs.Faults.{fault_of, most_bytes}
+use Rattle.fdr_table.specs.Bounds.{most_table_bytes}
+use Rattle.fdr_table.specs.Faults.{fault_of}
 use Rattle.fdr_table.specs.declared.fault.TableFault.{TableFault}
 use Rattle.fdr_table.specs.declared.fault.TableFault.TheVariants as fault
 use Rattle.fdr_top.specs.declared.outcome.Outcome.{Outcome}
 use Rattle.fdr_top.specs.declared.outcome.Outcome.TheVariants as outcome
-use Rattle.fdr_top.specs.declared.reading.TheConstants.{MOST_TABLE_BYTES}
-use Rattle.fdr_top.specs.declared.pulling.TheConstants.{MOST_LINE_BYTES}
+use Rattle.fdr_top.specs.Limits.{most_line_bytes}
 use Rattle.fdr_top.specs.Answers.{IsOfTable, IsPastTable, Lists}
 use Rattle.fdr_readout.specs.Listing.{listing_of}
 use Rattle.fdr_top.specs.Tables.{IsAccepted, IsRefused, fault_in}
@@ -44,23 +44,23 @@ longer old (Some left) taken bytes whole told =
     omega (arith, length-append taken left, ap length e)
 
 -- too many bytes are refused for their number
-too_many : (bytes : List ℕ) → MOST_TABLE_BYTES < length bytes → fault_in bytes ≡ Some (0, fault.Size)
-unfolding fault_in fault_of most_bytes
+too_many : (bytes : List ℕ) → most_table_bytes < length bytes → fault_in bytes ≡ Some (0, fault.Size)
+unfolding fault_in fault_of
 too_many bytes many =
     let test : nat_lt 1048576 (length bytes) ≡ true = grind (arith, nat_tests) in
     rw test refl
 
 -- what was refused of a front part is refused of all that was told, where the part is all or too large
 pub refused_told : (old new : Option (List ℕ)) (taken bytes : List ℕ) (row : ℕ) (f : TableFault) → IsRefused taken row f → old ≡ preceded_by taken new
-    → (length taken ≤ MOST_TABLE_BYTES → IfSome new (λ left. left ≡ [])) → old ≡ Some bytes → IsRefused bytes row f
+    → (length taken ≤ most_table_bytes → IfSome new (λ left. left ≡ [])) → old ≡ Some bytes → IsRefused bytes row f
 refused_told old new taken bytes row f refused whole end told = ⊎_elim
-    (λ (many : MOST_TABLE_BYTES < length taken). too_many bytes (omega (arith, many, longer old new taken bytes whole told)) ∙ sym (too_many taken many) ∙ refused)
-    (λ (few : length taken ≤ MOST_TABLE_BYTES). subst (λ (x : List ℕ). IsRefused x row f) (sym (taken_is_all old new taken bytes whole (end few) told)) refused)
-    (cases_lt MOST_TABLE_BYTES (length taken))
+    (λ (many : most_table_bytes < length taken). too_many bytes (omega (arith, many, longer old new taken bytes whole told)) ∙ sym (too_many taken many) ∙ refused)
+    (λ (few : length taken ≤ most_table_bytes). subst (λ (x : List ℕ). IsRefused x row f) (sym (taken_is_all old new taken bytes whole (end few) told)) refused)
+    (cases_lt most_table_bytes (length taken))
 
 -- a told source of few bytes was taken to its end
-pub taken_to_end : (old new : Option (List ℕ)) (taken bytes : List ℕ) → old ≡ preceded_by taken new → (length taken ≤ MOST_TABLE_BYTES → IfSome new (λ left. left ≡ []))
-    → old ≡ Some bytes → length bytes ≤ MOST_TABLE_BYTES → new ≡ Some []
+pub taken_to_end : (old new : Option (List ℕ)) (taken bytes : List ℕ) → old ≡ preceded_by taken new → (length taken ≤ most_table_bytes → IfSome new (λ left. left ≡ []))
+    → old ≡ Some bytes → length bytes ≤ most_table_bytes → new ≡ Some []
 unfolding preceded_by
 taken_to_end old None taken bytes whole end told few = cc
 taken_to_end old (Some left) taken bytes whole end told few = ap Some (end (omega (arith, longer old (Some left) taken bytes whole told)))
@@ -106,4 +106,4 @@ pub whole_line : (t : TableRows) (tells : Tells) (old new : State) (before now :
 whole_line t tells old new before now answer lists done told =
     let line : old.line ≡ lists.pulled = lists.takes.line told ∙ ap (λ (x : List ℕ). lists.pulled ++ x) (lists.end done told) ∙ append-nil lists.pulled in
     lists.text (λ e. let c : outcome.Done ≡ outcome.WriteFault = sym done ∙ e in cc)
-    ∙ ap (λ (x : List ℕ). followed_by before (listing_of t x)) (take_all MOST_LINE_BYTES lists.pulled (lists.few done) ∙ sym line)
+    ∙ ap (λ (x : List ℕ). followed_by before (listing_of t x)) (take_all most_line_bytes lists.pulled (lists.few done) ∙ sym line)

@@ -1,5 +1,5 @@
 -- Which answers a command gives, and what they leave.
-use Rattle.std.specs.Prelude.{◌≡◌, ◌≢◌, ℕ, ◌<◌, ◌≤◌, List, [], true, length, take, Option, Some, IsSome, IsTrue}
+use Rattle.std.specs.Prelude.{◌≡◌, ◌≢◌, ℕ, ◌+◌, ◌<◌, ◌≤◌, List, [], true, length, take, Option, Some, IsSome, IsTrue}
 use Rattle.fdr_io.specs.Told.{followed_by}
 use Rattle.fdr_io.specs.declared.Input.TheVariants as input
 use Rattle.fdr_deck.specs.State.{State, Tells}
@@ -17,11 +17,11 @@ use Rattle.fdr_trace.specs.Pulls.{PullsMore}
 use Rattle.fdr_trace.specs.declared.TraceStop.{TraceStop}
 use Rattle.fdr_trace.specs.declared.TraceStop.TheVariants as stop
 use Rattle.fdr_readout.specs.Listing.{listing_of}
+use Rattle.fdr_top.specs.Limits.{most_line_bytes, piece_bytes}
 use Rattle.fdr_top.specs.declared.outcome.Outcome.{Outcome}
 use Rattle.fdr_top.specs.declared.outcome.Outcome.TheVariants as outcome
 use Rattle.fdr_top.specs.declared.pulling.LineEnd.{LineEnd}
 use Rattle.fdr_top.specs.declared.pulling.LineEnd.TheVariants as line_end
-use Rattle.fdr_top.specs.declared.pulling.TheConstants.{MOST_LINE_BYTES}
 
 -- the answers that reading the table gives
 abbrev pub IsOfTable : Outcome → Type 0
@@ -217,11 +217,12 @@ pub record KeepsLineAndFaults (old new : State) : Type 0 where
 pub record Lists (t : TableRows) (tells : Tells) (old new : State) (written_before written_now : Option (List ℕ)) (answer : Outcome) : Type 0 where
   pub pulled : List ℕ
   pub takes : TakesLine tells old new pulled
-  pub text : answer ≢ outcome.WriteFault → written_now ≡ followed_by written_before (listing_of t (take MOST_LINE_BYTES pulled))
-  pub part : (k : ℕ) × (written_now ≡ followed_by written_before (take k (listing_of t (take MOST_LINE_BYTES pulled))))
-  pub few : answer ≡ outcome.Done → length pulled ≤ MOST_LINE_BYTES
-  pub fault_few : answer ≡ outcome.ReadFault input.Line → length pulled ≤ MOST_LINE_BYTES
-  pub many : answer ≡ outcome.TooLong → MOST_LINE_BYTES < length pulled
+  pub text : answer ≢ outcome.WriteFault → written_now ≡ followed_by written_before (listing_of t (take most_line_bytes pulled))
+  pub part : (k : ℕ) × (written_now ≡ followed_by written_before (take k (listing_of t (take most_line_bytes pulled))))
+  pub few : answer ≡ outcome.Done → length pulled ≤ most_line_bytes
+  pub fault_few : answer ≡ outcome.ReadFault input.Line → length pulled ≤ most_line_bytes
+  pub many : answer ≡ outcome.TooLong → most_line_bytes < length pulled
+  pub bounded : length pulled ≤ most_line_bytes + piece_bytes
   pub end : answer ≡ outcome.Done → IsTrue tells.line → new.line ≡ []
 
 -- the answer where a table isn't read, or isn't sound

@@ -1,4 +1,5 @@
 pub mod Outcome
+pub mod Limits
 pub mod Tables
 pub mod Answers
 pub mod Streaming

@@ -1,16 +1,17 @@
 //! The listing of the bits of a deck's line.
 
-ghost use Rattle.std.specs.Prelude.{◌≡◌, ◌≢◌, ◌*◌, ◌≤◌, ◌<◌, ◌^◌, ℕ, List, [], length, take, vec_len, OnOk, OnErr, IfOk, ◌⊎◌};
+ghost use Rattle.std.specs.Prelude.{◌≡◌, ◌≢◌, ◌+◌, ◌*◌, ◌≤◌, ◌<◌, ◌^◌, ℕ, List, [], length, take, vec_len, OnOk, OnErr, IfOk, ◌⊎◌};
 ghost use Rattle.fdr_io.specs.Faults.{Rose};
 ghost use Rattle.fdr_io.specs.Told.{followed_by};
 ghost use Rattle.fdr_deck.specs.Calls.{LeavesDisk};
 ghost use Rattle.fdr_frame.specs.WordCount.{IsWordCount};
 ghost use Rattle.fdr_recon.specs.Past.{Stands};
 ghost use Rattle.fdr_top.specs.Answers.{IsOfListing, Lists, answer_of};
+ghost use Rattle.fdr_top.specs.Limits.{most_line_bytes, piece_bytes};
 ghost use Rattle.fdr_readout.specs.Listing.{listing_of};
 
 use crate::outcome::Outcome;
-use crate::pulling::{LineEnd, MOST_LINE_BYTES, PulledLine, pull_line};
+use crate::pulling::{LineEnd, MAX_LINE_BYTES, PulledLine, pull_line};
 use fdr_check::Sound;
 use fdr_deck::Deck;
 use fdr_io::{Failed, Input, Sink};
@@ -19,10 +20,10 @@ use std::alloc::Global;
 
 /// The bytes that are listed: as many as were pulled, or the most that are listed.
 fn listed(line: &PulledLine) -> &[u8]
-    ensures bytes { result.now ≡ take MOST_LINE_BYTES line.now.bytes.items }
-    ensures few { length result.now ≤ MOST_LINE_BYTES }
+    ensures bytes { result.now ≡ take most_line_bytes line.now.bytes.items }
+    ensures few { length result.now ≤ most_line_bytes }
 {
-    let count = line.bytes.len().min(MOST_LINE_BYTES);
+    let count = line.bytes.len().min(MAX_LINE_BYTES);
     &line.bytes[..count]
 }
 
@@ -45,9 +46,9 @@ fn write_line<O: Sink>(work: &mut Readout, sound: &Sound, line: &PulledLine, out
     requires empty { work.old.buffer ≡ [] }
     ensures answer { (result ≡ Outcome.WriteFault) ⊎ (result ≡ answer_of line.now.end) }
     ensures text { result ≢ Outcome.WriteFault
-        → O.written out.new ≡ followed_by (O.written out.old) (listing_of sound.now (take MOST_LINE_BYTES line.now.bytes.items)) }
+        → O.written out.new ≡ followed_by (O.written out.old) (listing_of sound.now (take most_line_bytes line.now.bytes.items)) }
     ensures part { (k : ℕ) × (O.written out.new
-        ≡ followed_by (O.written out.old) (take k (listing_of sound.now (take MOST_LINE_BYTES line.now.bytes.items)))) }
+        ≡ followed_by (O.written out.old) (take k (listing_of sound.now (take most_line_bytes line.now.bytes.items)))) }
     ensures cause { result ≡ Outcome.WriteFault → Rose (O.faults out.old) (O.faults out.new) }
     ensures monotone { O.faults out.old ≤ O.faults out.new }
 {
@@ -74,6 +75,7 @@ pub fn list_line<D: Deck, O: Sink>(
     ensures no_memory_faults { result ≡ Outcome.NoMemory → O.faults out.new ≡ O.faults out.old }
     ensures disk { LeavesDisk (D.state deck.old) (D.state deck.new) }
     ensures told { (D.state deck.new).told ≡ (D.state deck.old).told }
+    ensures bounded { (D.state deck.new).taken ≤ (D.state deck.old).taken + most_line_bytes + piece_bytes }
 {
     let Ok(mut work) = Readout::new(alloc, sound) else {
         return Outcome::NoMemory;

@@ -1,17 +1,19 @@
 //! Reading and checking the table of a command.
 
-ghost use Rattle.std.specs.Prelude.{◌≡◌, ◌≤◌, ℕ, List, [], length, IfOk, IfErr, IfSome, Err};
+ghost use Rattle.std.specs.Prelude.{◌≡◌, ◌+◌, ◌≤◌, ℕ, List, [], length, IfOk, IfErr, IfSome, Err};
 ghost use Rattle.fdr_io.specs.Faults.{Rose};
 ghost use Rattle.fdr_io.specs.Told.{preceded_by};
 ghost use Rattle.fdr_frame.specs.WordCount.{IsWordCount};
+ghost use Rattle.fdr_table.specs.Bounds.{most_table_bytes};
 ghost use Rattle.fdr_table.specs.Ranges.{IsInRange};
 ghost use Rattle.fdr_table.specs.declared.fault.TableFault.{TableFault};
 ghost use Rattle.fdr_check.specs.Soundness.{IsSound};
 ghost use Rattle.fdr_top.specs.Answers.{IsOfTable, refusal};
+ghost use Rattle.fdr_top.specs.Limits.{TakesAtMost, piece_bytes};
 ghost use Rattle.fdr_top.specs.Tables.{IsAccepted, IsRefused, table_in};
 
 use crate::outcome::Outcome;
-use crate::reading::{MOST_TABLE_BYTES, ReadError, read_table_bytes};
+use crate::reading::{ReadError, read_table_bytes};
 use fdr_check::{Sound, check};
 use fdr_io::{Input, Source};
 use fdr_table::{Table, TableError};
@@ -35,7 +37,7 @@ fn refusal(error: TableError) -> Outcome
 fn table_of(alloc: Global, bytes: &[u8]) -> Result<Sound, Outcome>
     ensures table { IfOk result (λ s. s ≡ table_in bytes.now) }
     ensures accepted { IfOk result (λ s. IsAccepted bytes.now) }
-    ensures few { IfOk result (λ s. length bytes.now ≤ MOST_TABLE_BYTES) }
+    ensures few { IfOk result (λ s. length bytes.now ≤ most_table_bytes) }
     ensures in_range { IfOk result IsInRange }
     ensures sound { IfOk result IsSound }
     ensures word_count { IfOk result (λ s. IsWordCount s.frame.words) }
@@ -63,11 +65,13 @@ pub fn load_table<T: Source>(alloc: Global, source: &mut T) -> Result<Sound, Out
     ensures word_count { IfOk result (λ s. IsWordCount s.frame.words) }
     ensures refused { (row : ℕ) (f : TableFault) → result ≡ Err (Outcome.TableRefused row f)
         → (bytes : List ℕ) × IsRefused bytes row f × (T.rest source.old ≡ preceded_by bytes (T.rest source.new))
-        × (length bytes ≤ MOST_TABLE_BYTES → IfSome (T.rest source.new) (λ left. left ≡ [])) }
+        × (length bytes ≤ most_table_bytes → IfSome (T.rest source.new) (λ left. left ≡ []))
+        × (length bytes ≤ most_table_bytes + piece_bytes) }
     ensures answers { IfErr result IsOfTable }
     ensures fault { result ≡ Err (Outcome.ReadFault Input.Table) → Rose (T.faults source.old) (T.faults source.new) }
     ensures fault_few { result ≡ Err (Outcome.ReadFault Input.Table)
-        → (bytes : List ℕ) × (length bytes ≤ MOST_TABLE_BYTES) × (T.rest source.old ≡ preceded_by bytes (T.rest source.new)) }
+        → (bytes : List ℕ) × (length bytes ≤ most_table_bytes) × (T.rest source.old ≡ preceded_by bytes (T.rest source.new)) }
+    ensures bounded { TakesAtMost (most_table_bytes + piece_bytes) (T.rest source.old) (T.rest source.new) }
     ensures monotone { T.faults source.old ≤ T.faults source.new }
 {
     match read_table_bytes(alloc, source) {

@@ -4,6 +4,7 @@ ghost use Rattle.std.specs.Prelude.{◌≡◌, ◌+◌, ◌≤◌, ◌<◌, ◌^
 ghost use Rattle.fdr_io.specs.Faults.{Rose};
 ghost use Rattle.fdr_deck.specs.Calls.{LeavesDisk};
 ghost use Rattle.fdr_deck.specs.Pull.{TakesLine, KeepsLine};
+ghost use Rattle.fdr_top.specs.Limits.{most_line_bytes, piece_bytes};
 
 use crate::reading::ReadError;
 use fdr_deck::Deck;
@@ -12,7 +13,7 @@ use fdr_table::NoMemory;
 use std::alloc::Global;
 
 /// The most bytes of a line that are listed.
-pub const MOST_LINE_BYTES: usize = 268435456;
+pub const MAX_LINE_BYTES: usize = 268_435_456;
 
 /// How many bytes are pulled at a time, at most.
 const PIECE: usize = 4096;
@@ -47,6 +48,7 @@ fn pull_piece<D: Deck>(deck: &mut D, bytes: &mut Vec<u8>) -> Result<usize, ReadE
     ensures monotone { (D.state deck.old).line_faults ≤ (D.state deck.new).line_faults }
     ensures disk { LeavesDisk (D.state deck.old) (D.state deck.new) }
     ensures told { (D.state deck.new).told ≡ (D.state deck.old).told }
+    ensures bounded { (D.state deck.new).taken ≤ (D.state deck.old).taken + piece_bytes }
 {
     let mut piece = [0; PIECE];
     match deck.pull(&mut piece) {
@@ -58,20 +60,21 @@ fn pull_piece<D: Deck>(deck: &mut D, bytes: &mut Vec<u8>) -> Result<usize, ReadE
     }
 }
 
-/// Pulls the line to its end, or until more bytes came than are listed, or a pull failed.
+/// Pulls the line to its end, or until more bytes came than are listed, at most one piece more, or a pull failed.
 pub fn pull_line<D: Deck>(alloc: Global, deck: &mut D) -> Result<PulledLine, NoMemory>
     ensures taken { IfOk result (λ line. TakesLine D.tells (D.state deck.old) (D.state deck.new) line.bytes.items) }
     ensures end { IfOk result (λ line. line.end ≡ LineEnd.End → IsTrue D.tells.line → (D.state deck.new).line ≡ []) }
     ensures fault { IfOk result (λ line. line.end ≡ LineEnd.Fault → Rose (D.state deck.old).line_faults (D.state deck.new).line_faults) }
-    ensures too_long { IfOk result (λ line. line.end ≡ LineEnd.TooLong → MOST_LINE_BYTES < vec_len line.bytes) }
-    ensures end_few { IfOk result (λ line. line.end ≡ LineEnd.End → vec_len line.bytes ≤ MOST_LINE_BYTES) }
-    ensures fault_few { IfOk result (λ line. line.end ≡ LineEnd.Fault → vec_len line.bytes ≤ MOST_LINE_BYTES) }
+    ensures too_long { IfOk result (λ line. line.end ≡ LineEnd.TooLong → most_line_bytes < vec_len line.bytes) }
+    ensures end_few { IfOk result (λ line. line.end ≡ LineEnd.End → vec_len line.bytes ≤ most_line_bytes) }
+    ensures fault_few { IfOk result (λ line. line.end ≡ LineEnd.Fault → vec_len line.bytes ≤ most_line_bytes) }
     ensures monotone { (D.state deck.old).line_faults ≤ (D.state deck.new).line_faults }
     ensures disk { LeavesDisk (D.state deck.old) (D.state deck.new) }
     ensures told { (D.state deck.new).told ≡ (D.state deck.old).told }
+    ensures bounded { (D.state deck.new).taken ≤ (D.state deck.old).taken + most_line_bytes + piece_bytes }
 {
     let mut bytes = Vec::new(alloc);
-    while bytes.len() <= MOST_LINE_BYTES {
+    while bytes.len() <= MAX_LINE_BYTES {
         match pull_piece(deck, &mut bytes) {
             Ok(0) => {
                 return Ok(PulledLine {

@@ -3,13 +3,15 @@
 ghost use Rattle.std.specs.Prelude.{◌≡◌, ◌+◌, ◌≤◌, ◌<◌, ◌≢◌, ◌^◌, ℕ, List, [], length, IsSome, IfSome, IfOk, IfErr, OnOk, OnErr, vec_len, IsErrOf, IsTrue};
 ghost use Rattle.fdr_io.specs.Faults.{Rose};
 ghost use Rattle.fdr_io.specs.Told.{preceded_by};
+ghost use Rattle.fdr_table.specs.Bounds.{most_table_bytes};
+ghost use Rattle.fdr_top.specs.Limits.{TakesAtMost, piece_bytes};
 
 use fdr_io::{Failed, Source};
 use fdr_table::NoMemory;
 use std::alloc::Global;
 
 /// The most bytes that a table has.
-pub const MOST_TABLE_BYTES: usize = 1048576;
+const MAX_TABLE_BYTES: usize = 1_048_576;
 
 /// How many bytes are asked for at a time.
 const PIECE: usize = 4096;
@@ -30,6 +32,8 @@ fn read_piece<T: Source>(source: &mut T, bytes: &mut Vec<u8>) -> Result<usize, R
     ensures failed { IsErrOf result ReadError.Failed → Rose (T.faults source.old) (T.faults source.new) }
     ensures kept { IsErrOf result ReadError.Failed → T.rest source.new ≡ T.rest source.old }
     ensures same { IsErrOf result ReadError.Failed → bytes.new.items ≡ bytes.old.items }
+    ensures few { IfOk result (λ n. n ≤ piece_bytes) }
+    ensures bounded { TakesAtMost piece_bytes (T.rest source.old) (T.rest source.new) }
     ensures monotone { T.faults source.old ≤ T.faults source.new }
 {
     let mut piece = [0; PIECE];
@@ -42,18 +46,20 @@ fn read_piece<T: Source>(source: &mut T, bytes: &mut Vec<u8>) -> Result<usize, R
     }
 }
 
-/// Reads the source to its end, or until more than the most bytes of a table are read.
+/// Reads the source to its end, or until more than the most bytes of a table are read: then at most one piece more.
 pub fn read_table_bytes<T: Source>(alloc: Global, source: &mut T) -> Result<Vec<u8>, ReadError>
     ensures taken { IfOk result (λ bytes. T.rest source.old ≡ preceded_by bytes.items (T.rest source.new)) }
-    ensures whole { IfOk result (λ bytes. vec_len bytes ≤ MOST_TABLE_BYTES → IfSome (T.rest source.new) (λ left. left ≡ [])) }
+    ensures whole { IfOk result (λ bytes. vec_len bytes ≤ most_table_bytes → IfSome (T.rest source.new) (λ left. left ≡ [])) }
     ensures failed { IsErrOf result ReadError.Failed → Rose (T.faults source.old) (T.faults source.new) }
-    ensures few { IsErrOf result ReadError.Failed → ((bytes : List ℕ) × (length bytes ≤ MOST_TABLE_BYTES) × (T.rest source.old ≡ preceded_by bytes (T.rest source.new))) }
+    ensures few { IsErrOf result ReadError.Failed → ((bytes : List ℕ) × (length bytes ≤ most_table_bytes) × (T.rest source.old ≡ preceded_by bytes (T.rest source.new))) }
+    ensures bounded { TakesAtMost (most_table_bytes + piece_bytes) (T.rest source.old) (T.rest source.new) }
+    ensures within { IfOk result (λ bytes. vec_len bytes ≤ most_table_bytes + piece_bytes) }
     ensures monotone { T.faults source.old ≤ T.faults source.new }
 {
     let mut bytes = Vec::new(alloc);
-    while bytes.len() <= MOST_TABLE_BYTES {
+    while bytes.len() <= MAX_TABLE_BYTES {
         match read_piece(source, &mut bytes) {
-            Ok(0) => break,
+            Ok(0) => return Ok(bytes),
             Ok(_) => {}
             Err(error) => return Err(error),
         }

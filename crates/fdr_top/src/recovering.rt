@@ -20,7 +20,7 @@ use fdr_slot::Header;
 use std::alloc::Global;
 
 /// How many bytes a payload has at most.
-const MOST_PAYLOAD: usize = 4096;
+const MAX_PAYLOAD: usize = 4096;
 
 /// The answer where the header of an image isn't read.
 fn refusal(fault: RingFault) -> Outcome
@@ -55,7 +55,7 @@ fn add_block<D: Deck, O: Sink>(
     ensures sink_quiet { OnOk result (O.faults out.new ≡ O.faults out.old) }
     ensures looks { Looks D.tells (D.state deck.old) (D.state deck.new) }
 {
-    let mut payload = [0; MOST_PAYLOAD];
+    let mut payload = [0; MAX_PAYLOAD];
     let length = match block(deck, h, number, &mut payload) {
         Ok(length) => length,
         Err(Failed) => return Err(Outcome::DiskFault),

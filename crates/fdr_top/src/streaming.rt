@@ -115,6 +115,8 @@ fn stream_records<D: Deck, O: Sink>(
         IsStreamedPart t D.tells (D.state deck.old) (D.state deck.new) (O.written out.old) (O.written out.new)) }
     ensures cause { OnErr result (Rose (O.faults out.old) (O.faults out.new)) }
     ensures monotone { O.faults out.old ≤ O.faults out.new }
+    ensures disk { LeavesDisk (D.state deck.old) (D.state deck.new) }
+    ensures told { (D.state deck.new).told ≡ (D.state deck.old).told }
 {
     loop {
         let next = match recording.trace.next(deck) {
@@ -137,6 +139,8 @@ fn stream_trace<D: Deck, O: Sink>(recording: &mut Recording, deck: &mut D, out: 
         → Streams t D.tells (D.state deck.old) (D.state deck.new) (O.written out.old) (O.written out.new) result }
     ensures line_fault { result ≡ Outcome.ReadFault Input.Line → Rose (D.state deck.old).line_faults (D.state deck.new).line_faults }
     ensures write_fault { result ≡ Outcome.WriteFault → Rose (O.faults out.old) (O.faults out.new) }
+    ensures disk { LeavesDisk (D.state deck.old) (D.state deck.new) }
+    ensures told { (D.state deck.new).told ≡ (D.state deck.old).told }
 {
     let mut block = [0; PAYLOAD];
     let answer = match stream_records(recording, &mut block, deck, out) {
@@ -164,8 +168,8 @@ pub fn stream_line<D: Deck, O: Sink>(
     ensures no_memory { result ≡ Outcome.NoMemory → O.written out.new ≡ O.written out.old }
     ensures no_memory_faults { result ≡ Outcome.NoMemory → O.faults out.new ≡ O.faults out.old }
     ensures no_memory_line { result ≡ Outcome.NoMemory → KeepsLineAndFaults (D.state deck.old) (D.state deck.new) }
-    ensures no_memory_disk { result ≡ Outcome.NoMemory → LeavesDisk (D.state deck.old) (D.state deck.new) }
-    ensures no_memory_told { result ≡ Outcome.NoMemory → (D.state deck.new).told ≡ (D.state deck.old).told }
+    ensures disk { LeavesDisk (D.state deck.old) (D.state deck.new) }
+    ensures told { (D.state deck.new).told ≡ (D.state deck.old).told }
 {
     match Recording::new(alloc, sound) {
         Ok(mut recording) => stream_trace(&mut recording, deck, out),

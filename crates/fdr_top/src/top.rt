@@ -15,6 +15,7 @@ ghost use Rattle.fdr_slot.specs.declared.image.ImageFault.TheVariants as image_f
 ghost use Rattle.fdr_ring.specs.Formatting.{IsFormatted, Making, fault_of, fresh_image};
 ghost use Rattle.fdr_words.specs.Forms.{Form, IsInBounds, form_of, check_table, format_image, list_bits, recover_image, stream_line};
 ghost use Rattle.fdr_words.specs.Request.{form_of_request};
+ghost use Rattle.fdr_table.specs.Bounds.{most_table_bytes};
 ghost use Rattle.fdr_table.specs.Rows.{TableRows};
 ghost use Rattle.fdr_table.specs.declared.fault.TableFault.{TableFault};
 ghost use Rattle.fdr_check.specs.Report.{report_of};
@@ -25,6 +26,7 @@ ghost use Rattle.fdr_readout.specs.Listing.{listing_of};
 ghost use Rattle.fdr_readout.specs.SampledRows.{sampled_listing};
 ghost use Rattle.fdr_top.specs.Answers.{HasImage, IsBeforeLine, IsFormat, IsOfListing, IsOfTable, IsOfTrace, IsPastTable, KeepsLineAndFaults, Lists, MayAnswer, PullsLine, ReadsTable, Reports, Streams, WritesNothing};
 ghost use Rattle.fdr_top.specs.Images.{Makes, OnlyLooks, new_header, payloads_of, run_in};
+ghost use Rattle.fdr_top.specs.Limits.{TakesAtMost, most_line_bytes, piece_bytes};
 ghost use Rattle.fdr_top.specs.Tables.{IsAccepted, IsRefused, table_in};
 
 use crate::checking::write_report;
@@ -32,8 +34,6 @@ use crate::formatting::make_image;
 use crate::list_bits::list_line;
 use crate::load::load_table;
 use crate::outcome::Outcome;
-use crate::pulling::MOST_LINE_BYTES;
-use crate::reading::MOST_TABLE_BYTES;
 use crate::recovering::recover_image;
 use crate::streaming::stream_line;
 use fdr_check::Sound;
@@ -67,6 +67,8 @@ fn carry_out<D: Deck, O: Sink>(
     ensures reports { (path : List ℕ) → form_of_request request.now ≡ check_table path
         → Reports sound.now (O.written out.old) (O.written out.new) result }
     ensures check_leaves_deck { (path : List ℕ) → form_of_request request.now ≡ check_table path → deck.new ≡ deck.old }
+    ensures line_bounded { (path : List ℕ) → form_of_request request.now ≡ list_bits path
+        → (D.state deck.new).taken ≤ (D.state deck.old).taken + most_line_bytes + piece_bytes }
     ensures lists { (path : List ℕ) → form_of_request request.now ≡ list_bits path → result ≢ Outcome.NoMemory
         → Lists sound.now D.tells (D.state deck.old) (D.state deck.new) (O.written out.old) (O.written out.new) result }
     ensures streams { (path : List ℕ) → form_of_request request.now ≡ stream_line path → result ≢ Outcome.NoMemory
@@ -81,7 +83,7 @@ fn carry_out<D: Deck, O: Sink>(
         Request::StreamLine { .. } => stream_line(alloc, sound, deck, out),
         Request::ListBits { .. } => list_line(alloc, sound, deck, out),
         Request::FormatImage { slots, payload, .. } => make_image(sound, *slots, *payload, deck),
-        Request::RecoverImage { .. } => unreachable!(),
+        Request::RecoverImage { .. } => recover_image(alloc, deck, out),
     }
 }
 
@@ -114,12 +116,13 @@ pub fn run<T: Source, D: Deck, O: Sink>(
     ensures refused { (row : ℕ) (f : TableFault) (bytes : List ℕ) → result ≡ Outcome.TableRefused row f
         → T.rest table.old ≡ Some bytes → IsRefused bytes row f }
     ensures refused_taken { (row : ℕ) (f : TableFault) → result ≡ Outcome.TableRefused row f
-        → (taken : List ℕ) × IsRefused taken row f × (T.rest table.old ≡ preceded_by taken (T.rest table.new)) }
+        → (taken : List ℕ) × IsRefused taken row f × (T.rest table.old ≡ preceded_by taken (T.rest table.new))
+        × (length taken ≤ most_table_bytes + piece_bytes) }
     ensures refused_always { (form : Form) (row : ℕ) (f : TableFault) (bytes : List ℕ)
         → form_of (map string_bytes words.now) ≡ Some form → ReadsTable form
         → T.rest table.old ≡ Some bytes → IsRefused bytes row f → IsOfTable result }
     ensures refused_at_end { (row : ℕ) (f : TableFault) (bytes : List ℕ) → result ≡ Outcome.TableRefused row f
-        → T.rest table.old ≡ Some bytes → length bytes ≤ MOST_TABLE_BYTES → T.rest table.new ≡ Some [] }
+        → T.rest table.old ≡ Some bytes → length bytes ≤ most_table_bytes → T.rest table.new ≡ Some [] }
     ensures accepted { (form : Form) → form_of (map string_bytes words.now) ≡ Some form → ReadsTable form
         → IsPastTable result → IfSome (T.rest table.old) IsAccepted }
     ensures accepted_at_end { (form : Form) → form_of (map string_bytes words.now) ≡ Some form → ReadsTable form
@@ -128,7 +131,9 @@ pub fn run<T: Source, D: Deck, O: Sink>(
         → IsPastTable result → T.rest table.old ≡ Some bytes → IsSound (table_in bytes) }
     ensures table_fault { result ≡ Outcome.ReadFault Input.Table → Rose (T.faults table.old) (T.faults table.new) }
     ensures table_fault_few { result ≡ Outcome.ReadFault Input.Table
-        → (taken : List ℕ) × (length taken ≤ MOST_TABLE_BYTES) × (T.rest table.old ≡ preceded_by taken (T.rest table.new)) }
+        → (taken : List ℕ) × (length taken ≤ most_table_bytes) × (T.rest table.old ≡ preceded_by taken (T.rest table.new)) }
+
+    ensures table_bounded { TakesAtMost (most_table_bytes + piece_bytes) (T.rest table.old) (T.rest table.new) }
 
     // What a refusal leaves: it writes nothing and changes no device.
     ensures nothing_written { WritesNothing result → O.written out.new ≡ O.written out.old }
@@ -136,6 +141,9 @@ pub fn run<T: Source, D: Deck, O: Sink>(
     ensures disk_kept { WritesNothing result → KeepsDisk (D.state deck.old) (D.state deck.new) }
     ensures length_kept { WritesNothing result → LearnsExtent D.tells (D.state deck.old) (D.state deck.new) }
     ensures line_kept { IsBeforeLine result → KeepsLineAndFaults (D.state deck.old) (D.state deck.new) }
+
+    ensures refused_leaves_deck { (row : ℕ) (f : TableFault) → result ≡ Outcome.TableRefused row f → deck.new ≡ deck.old }
+    ensures unread_leaves_deck { result ≡ Outcome.ReadFault Input.Table → deck.new ≡ deck.old }
 
     // What a command doesn't use is as it was.
     ensures pulls_nothing { (form : Form) → form_of (map string_bytes words.now) ≡ Some form → (PullsLine form → ⊥)
@@ -174,9 +182,11 @@ pub fn run<T: Source, D: Deck, O: Sink>(
         → (t : TableRows) × ((bytes : List ℕ) → T.rest table.old ≡ Some bytes → t ≡ table_in bytes)
         × Lists t D.tells (D.state deck.old) (D.state deck.new) (O.written out.old) (O.written out.new) result }
     ensures too_long { result ≡ Outcome.TooLong
-        → (D.state deck.old).taken + MOST_LINE_BYTES < (D.state deck.new).taken }
+        → (D.state deck.old).taken + most_line_bytes < (D.state deck.new).taken }
+    ensures line_bounded { (path : List ℕ) → form_of (map string_bytes words.now) ≡ Some (list_bits path)
+        → (D.state deck.new).taken ≤ (D.state deck.old).taken + most_line_bytes + piece_bytes }
     ensures too_long_always { (path : List ℕ) → form_of (map string_bytes words.now) ≡ Some (list_bits path)
-        → IsPastTable result → (D.state deck.old).taken + MOST_LINE_BYTES < (D.state deck.new).taken
+        → IsPastTable result → (D.state deck.old).taken + most_line_bytes < (D.state deck.new).taken
         → (result ≡ Outcome.TooLong) ⊎ (result ≡ Outcome.WriteFault) }
 
     // `stream`: the recording of the good records of the line, which lists back as what was sampled.
@@ -263,7 +273,7 @@ pub fn run<T: Source, D: Deck, O: Sink>(
         → (result ≡ Outcome.Done) ⊎ (result ≡ Outcome.NoMemory) }
     ensures complete { (path bytes : List ℕ) → form_of (map string_bytes words.now) ≡ Some (list_bits path)
         → T.rest table.old ≡ Some bytes → IsAccepted bytes
-        → IsTrue D.tells.line → length (D.state deck.old).line ≤ MOST_LINE_BYTES
+        → IsTrue D.tells.line → length (D.state deck.old).line ≤ most_line_bytes
         → ¬ Rose (T.faults table.old) (T.faults table.new)
         → ¬ Rose (D.state deck.old).line_faults (D.state deck.new).line_faults
         → ¬ Rose (O.faults out.old) (O.faults out.new)

@@ -5,7 +5,6 @@ use Rattle.fdr_bus.specs.declared.BusRecord.{BusRecord}
 use Rattle.fdr_bus.specs.declared.TraceFault.TheVariants as fault
 use Rattle.fdr_bus.specs.Records.{most_records}
 use Rattle.fdr_deck.specs.State.{State, Tells}
-use Rattle.fdr_deck.specs.Calls.{LeavesDisk}
 use Rattle.fdr_trace.specs.Kept.{Kept}
 use Rattle.fdr_trace.specs.Pulls.{Pulled, PullsMore}
 use Rattle.fdr_trace.specs.Reading.{Reads, IsRefused, IsCutOff}
@@ -18,9 +17,10 @@ Reads-piece k k' bytes more piece records reads waiting time count =
     subst (λ (x : List ℕ). Reads k' x records) (append_assoc bytes more piece) (Reads-pull k k' (bytes ++ more) piece records reads waiting time count)
 
 pub PullsMore-piece : (tells : Tells) (a b c : State) (k : Kept) (bytes more piece : List ℕ) (records : List BusRecord) → PullsMore tells a b bytes more → Reads k (bytes ++ more) records → length k.waiting < 16 → length records < most_records →
-    Pulled tells b c piece → b.line_faults ≤ c.line_faults → LeavesDisk b c → c.told ≡ b.told → PullsMore tells a c bytes (more ++ piece)
-PullsMore-piece tells a b c k bytes more piece records pulls reads waits few pull faults disk told =
-    PullsMore-pull tells a b c bytes more piece pulls (Reads-undecided k (bytes ++ more) records reads waits few) pull faults disk told
+    Pulled tells b c piece → b.line_faults ≤ c.line_faults → PullsMore tells a c bytes (more ++ piece)
+PullsMore-piece tells a b c k bytes more piece records pulls reads waits few pull faults =
+    PullsMore-pull tells a b c bytes more piece pulls (Reads-undecided k (bytes ++ more) records reads waits few) pull
+    faults
 
 -- the line is at its end before a whole record
 pub IsRefused-end : (tells : Tells) (b c : State) (k k' : Kept) (bytes more piece : List ℕ) (records : List BusRecord) → Reads k (bytes ++ more) records → length k.waiting < 16 → length records < most_records → Pulled tells b c piece → length piece ≡ 0 →

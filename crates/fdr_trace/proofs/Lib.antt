@@ -2,3 +2,5 @@ pub mod Pulling
 pub mod Records
 pub mod Filling
 pub mod Next
+pub mod PullMoments
+pub mod Lag

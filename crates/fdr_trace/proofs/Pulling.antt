@@ -34,11 +34,10 @@ PullsMore-none tells s bytes = record {
   takes = TakesLine-from_keeps tells s s (record { line = refl; taken = refl; before = refl });
   none = λ e. refl;
   begins = λ some. absurd (omega (arith, some));
+  some = λ some. absurd (omega (arith, some));
   few = λ some. absurd (omega (arith, some));
   undecided = λ some. absurd (omega (arith, some));
   faults = omega arith;
-  disk = LeavesDisk-here s;
-  told = refl;
 }
 
 -- the bytes up to the last pull of two stretches, where the second pulled something
@@ -65,6 +64,12 @@ PullsMore-then tells a b c bytes more later first second = record {
       (λ none. let same = second.none (omega (arith, none)) in
       let earlier = first.begins (omega (arith, length-append more later, none)) in omega (arith, same, earlier))
       (cases_lt 0 (length later));
+  some = λ some. ⊎_elim
+      (λ here. second.some here)
+      (λ none. let same = second.none (omega (arith, none)) in
+      let earlier = first.some (omega (arith, length-append more later, none)) in omega
+      (arith, same, earlier, second.takes.taken, none))
+      (cases_lt 0 (length later));
   few = λ some. ⊎_elim
       (λ here. second.few here)
       (λ none. let same = second.none (omega (arith, none)) in
@@ -84,36 +89,34 @@ PullsMore-then tells a b c bytes more later first second = record {
       first.undecided some_first (subst IsDecided (ap (λ (x : List ℕ). bytes ++ x) (ap (λ n. take n (more ++ later)) (ap (λ n. n - a.taken) same) ∙ nothing_more more later (b.before - a.taken) (omega (arith, none)))) decided))
       (cases_lt 0 (length later));
   faults = omega (arith, first.faults, second.faults);
-  disk = LeavesDisk-then a b c first.disk second.disk;
-  told = second.told ∙ first.told;
 }
 
 -- one pull more, where the bytes before it don't decide the trace
-pub PullsMore-pull : (tells : Tells) (a b c : State) (bytes more piece : List ℕ) → PullsMore tells a b bytes more → (IsDecided (bytes ++ more) → ⊥) → Pulled tells b c piece → b.line_faults ≤ c.line_faults → LeavesDisk b c → c.told ≡ b.told →
-    PullsMore tells a c bytes (more ++ piece)
-PullsMore-pull tells a b c bytes more piece first undecided pull faults disk told =
+pub PullsMore-pull : (tells : Tells) (a b c : State) (bytes more piece : List ℕ) → PullsMore tells a b bytes more
+    → (IsDecided (bytes ++ more) → ⊥) → Pulled tells b c piece → b.line_faults ≤ c.line_faults
+    → PullsMore tells a c bytes (more ++ piece)
+PullsMore-pull tells a b c bytes more piece first undecided pull faults =
     PullsMore-then tells a b c bytes more piece first (record {
       takes = pull.takes;
       none = pull.none;
       begins = λ some. omega (arith, pull.began some);
+      some = λ some. omega (arith, pull.began some, pull.takes.taken, some);
       few = λ some. omega (arith, pull.began some, pull.takes.taken, pull.few);
       undecided = λ some decided. undecided (subst IsDecided (ap (λ (x : List ℕ). (bytes ++ more) ++ x) (ap (λ n. take n piece) (front_none b.taken c.before (pull.began some))) ∙ append-nil (bytes ++ more)) decided);
       faults = faults;
-      disk = disk;
-      told = told;
     })
 
 -- a pull that failed
-pub PullsMore-kept : (tells : Tells) (a b c : State) (bytes more : List ℕ) → PullsMore tells a b bytes more → KeepsLine b c → b.line_faults ≤ c.line_faults → LeavesDisk b c → c.told ≡ b.told → PullsMore tells a c bytes more
-PullsMore-kept tells a b c bytes more first kept faults disk told =
+pub PullsMore-kept : (tells : Tells) (a b c : State) (bytes more : List ℕ) → PullsMore tells a b bytes more
+    → KeepsLine b c → b.line_faults ≤ c.line_faults → PullsMore tells a c bytes more
+PullsMore-kept tells a b c bytes more first kept faults =
     subst (PullsMore tells a c bytes) (append-nil more)
     (PullsMore-then tells a b c bytes more [] first (record {
       takes = TakesLine-from_keeps tells b c kept;
       none = λ e. kept.before;
       begins = λ some. absurd (omega (arith, some));
+      some = λ some. absurd (omega (arith, some));
       few = λ some. absurd (omega (arith, some));
       undecided = λ some. absurd (omega (arith, some));
       faults = faults;
-      disk = disk;
-      told = told;
     }))

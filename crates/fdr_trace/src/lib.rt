@@ -3,10 +3,12 @@
 
 ghost use Rattle.std.specs.Prelude.{◌≡◌, ◌≢◌, ◌<◌, ◌≤◌, ◌+◌, ℕ, List, [], ◌++◌, length, Err, IfOk, IfErr, OnOk, OnErr, MatchResult, IsTrue};
 ghost use Rattle.fdr_io.specs.Faults.{Rose};
-ghost use Rattle.fdr_deck.specs.Calls.{LeavesDisk};
+ghost use Rattle.fdr_deck.specs.Calls.{KeepsTold, IsFresh, LeavesDisk};
+ghost use Rattle.fdr_deck.specs.Moments.{Elapses, EachMoment, Within};
 ghost use Rattle.fdr_deck.specs.Pull.{KeepsLine};
 ghost use Rattle.fdr_bus.specs.Records.{most_records};
 ghost use Rattle.fdr_bus.specs.declared.BusRecord.{BusRecord};
+ghost use Rattle.fdr_trace.specs.Moments.{PullsFor};
 ghost use Rattle.fdr_trace.specs.Pulls.{Pulled, PullsMore};
 ghost use Rattle.fdr_trace.specs.Reading.{Reads, IsNext, IsStopped, IsFilled, TakesRecord, RefusesRecord};
 
@@ -68,14 +70,21 @@ impl TraceLine {
         })
     }
 
-    /// The next record of the trace, which may be its end. It pulls only where less than a record waits.
+    /// The next record of the trace, which may be its end. It pulls only where less than a record waits. It
+    /// leaves the deck's disk and its announced number.
     pub fn next<D: Deck>(&mut self, deck: &mut D) -> Result<BusRecord, TraceStop>
         requires { (bytes : List ℕ) × (records : List BusRecord) × Reads self.old bytes records }
         ensures next { (bytes : List ℕ) (records : List BusRecord) → Reads self.old bytes records
             → (more : List ℕ) × PullsMore D.tells (D.state deck.old) (D.state deck.new) bytes more
             × MatchResult result (IsNext self.new (bytes ++ more) records)
-            (IsStopped D.tells (D.state deck.old) (D.state deck.new) (bytes ++ more) records) }
+            (IsStopped D.tells (D.state deck.old) (D.state deck.new) (bytes ++ more) records)
+            × PullsFor D.tells (D.state deck.old) (D.state deck.new) bytes more records }
         ensures quiet { result ≢ Err TraceStop.Failed → (D.state deck.new).line_faults ≡ (D.state deck.old).line_faults }
+        ensures disk { LeavesDisk (D.state deck.old) (D.state deck.new) }
+        ensures told { KeepsTold (D.state deck.old) (D.state deck.new) }
+        ensures fresh { (D.state deck.old).taken < (D.state deck.new).taken → IsFresh (D.state deck.new) }
+        ensures time { Elapses D.tells (D.state deck.old) (D.state deck.new) }
+        ensures rest { D.same_rest deck.old deck.new }
     {
         if self.count() == MOST_RECORDS {
             return Err(self.refused(TraceFault::Many));
@@ -96,7 +105,7 @@ impl TraceLine {
     /// Reads the record that waits.
     fn read(&mut self) -> Result<BusRecord, TraceStop>
         requires waits { 16 ≤ length self.old.waiting }
-        requires few { self.old.count < MOST_RECORDS }
+        requires few { self.old.count < most_records }
         ensures good { IfOk result (TakesRecord self.old self.new) }
         ensures bad { IfErr result (RefusesRecord self.old self.new) }
     {
@@ -118,7 +127,7 @@ impl TraceLine {
 
     /// Counts a record of this time.
     fn count_one(&mut self, time: u64)
-        requires { self.old.count < MOST_RECORDS }
+        requires { self.old.count < most_records }
         ensures { self.new ≡ record self.old { time = time; count = self.old.count + 1 } }
     {
         self.time = time;
@@ -148,8 +157,14 @@ impl TraceLine {
             → length records < most_records
             → (more : List ℕ) × PullsMore D.tells (D.state deck.old) (D.state deck.new) bytes more
             × MatchResult result (λ done. IsFilled self.new (bytes ++ more) records)
-            (IsStopped D.tells (D.state deck.old) (D.state deck.new) (bytes ++ more) records) }
+            (IsStopped D.tells (D.state deck.old) (D.state deck.new) (bytes ++ more) records)
+            × PullsFor D.tells (D.state deck.old) (D.state deck.new) bytes more records }
         ensures quiet { result ≢ Err TraceStop.Failed → (D.state deck.new).line_faults ≡ (D.state deck.old).line_faults }
+        ensures disk { LeavesDisk (D.state deck.old) (D.state deck.new) }
+        ensures told { KeepsTold (D.state deck.old) (D.state deck.new) }
+        ensures fresh { (D.state deck.old).taken < (D.state deck.new).taken → IsFresh (D.state deck.new) }
+        ensures time { Elapses D.tells (D.state deck.old) (D.state deck.new) }
+        ensures rest { D.same_rest deck.old deck.new }
     {
         while self.waiting() < RECORD {
             match self.pull(deck) {
@@ -169,11 +184,15 @@ impl TraceLine {
         ensures kept { OnErr result (KeepsLine (D.state deck.old) (D.state deck.new)) }
         ensures same { OnErr result (self.new.waiting ≡ self.old.waiting) }
         ensures cause { OnErr result (Rose (D.state deck.old).line_faults (D.state deck.new).line_faults) }
-        ensures disk { LeavesDisk (D.state deck.old) (D.state deck.new) }
-        ensures told { (D.state deck.new).told ≡ (D.state deck.old).told }
         ensures monotone { (D.state deck.old).line_faults ≤ (D.state deck.new).line_faults }
-        ensures time { self.new.time ≡ self.old.time }
-        ensures count { self.new.count ≡ self.old.count }
+        ensures disk { LeavesDisk (D.state deck.old) (D.state deck.new) }
+        ensures told { KeepsTold (D.state deck.old) (D.state deck.new) }
+        ensures fresh { OnOk result (IsFresh (D.state deck.new)) }
+        ensures time { Elapses D.tells (D.state deck.old) (D.state deck.new) }
+        ensures moments { EachMoment D.tells (D.state deck.old) (D.state deck.new) (Within (D.state deck.old) (D.state deck.new)) }
+        ensures rest { D.same_rest deck.old deck.new }
+        ensures kept_time { self.new.time ≡ self.old.time }
+        ensures kept_count { self.new.count ≡ self.old.count }
     {
         let mut piece = [0; PIECE];
         let n = deck.pull(&mut piece)?;

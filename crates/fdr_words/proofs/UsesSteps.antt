@@ -1,9 +1,12 @@
 -- What the words give, one word at a time.
-use Rattle.std.proofs.Common.{◌≡◌, ◌∙◌, ap, subst, sym, ℕ, suc, ◌-◌, ◌≤◌, List, [], ◌∷◌, Some, None, length, get_or, take, drop, map, arith}
+use Rattle.std.proofs.Common.{◌≡◌, ◌∙◌, ap, subst, sym, refl, ℕ, suc, ◌+◌, ◌-◌, ◌<◌, ◌≤◌, Bool, true, false, List, [], ◌∷◌, Option, Some, None, length, get_or, take, drop, map, arith}
+use Rattle.std.specs.Prelude.{if◌then◌else◌, is_none, nat_lt}
 use Rattle.std.proofs.Math.Seq.{take-length}
 use Rattle.std.specs.Option.{option_and_then}
+use Rattle.std.proofs.lemmas.Bool.{ltb-true}
 use Rattle.fdr_words.specs.declared.uses.OptionName.{OptionName}
-use Rattle.fdr_words.specs.Words.{Word, given, word_of, Uses, no_uses, with_value, followed, uses_of}
+use Rattle.fdr_words.specs.declared.uses.OptionName.TheVariants as name
+use Rattle.fdr_words.specs.Words.{Word, plain, named, given, wrong, is_plain, word_of, Uses, no_uses, with_plain, with_value, followed, most_form_words, uses_of}
 
 -- a word that gives an option its value
 pub given_step : (word : List ℕ) (rest : List (List ℕ)) (option : OptionName) (value : List ℕ) → word_of word ≡ given option value → uses_of (word ∷ rest) ≡ option_and_then (with_value option value) (uses_of rest)
@@ -19,3 +22,94 @@ given_first {A = A} bytes (word ∷ words) first option value u some is kind res
     let after : Some u ≡ uses_of (map bytes words) = rest ∙ ap (λ n. uses_of (map bytes (take n words))) count ∙ ap (λ ws. uses_of (map bytes ws)) all in
     ap (option_and_then (with_value option value)) after
     ∙ sym (given_step (bytes word) (map bytes words) option value (subst (λ (w : A). word_of (bytes w) ≡ given option value) is kind))
+
+-- ---- no more words than the longest form has
+
+-- the words that an option takes
+abbrev taken : Option (List ℕ) → ℕ
+taken None = 0
+taken (Some value) = 2
+
+taken_few : (o : Option (List ℕ)) → taken o ≤ 2
+taken_few None = omega arith
+taken_few (Some value) = omega arith
+
+taken_none : (o : Option (List ℕ)) → is_none o ≡ true → taken o ≡ 0
+taken_none None e = refl
+taken_none (Some value) e = cc
+
+-- these uses are of so many words at least
+record AreOf (n : ℕ) (u : Uses) : Type 0 where
+  words : n ≤ length u.plain + taken u.slots + taken u.payload
+  few : length u.plain ≤ 3
+
+where_some : {A : Type 0} (b : Bool) (x y : A) → (if b then Some x else None) ≡ Some y → (b ≡ true) × (x ≡ y)
+where_some true x y e = (refl, cc)
+where_some false x y e = cc
+
+then_some : {A B : Type 0} (f : A → Option B) (o : Option A) (b : B) → option_and_then f o ≡ Some b → (a : A) × (o ≡ Some a) × (f a ≡ Some b)
+then_some f None b e = cc
+then_some f (Some a) b e = (a, refl, e)
+
+plain_more : (word : List ℕ) (u v : Uses) (n : ℕ) → AreOf n u → with_plain word u ≡ Some v → AreOf (n + 1) v
+plain_more word u v n h e =
+    let more = where_some (nat_lt (length u.plain) 3) (record { plain = word ∷ u.plain; slots = u.slots; payload = u.payload }) v e in
+    let room = ltb-true (length u.plain) 3 more.0 in
+    subst (AreOf (n + 1)) more.1 (record { words = omega (arith, h.words); few = omega (arith, room) })
+
+value_more : (option : OptionName) (value : List ℕ) (u v : Uses) (n : ℕ) → AreOf n u → with_value option value u ≡ Some v → AreOf (n + 2) v
+value_more name.Slots value u v n h e =
+    let more = where_some (is_none u.slots) (record { plain = u.plain; slots = Some value; payload = u.payload }) v e in
+    let free = taken_none u.slots more.0 in
+    subst (AreOf (n + 2)) more.1 (record { words = omega (arith, h.words, free); few = h.few })
+value_more name.Payload value u v n h e =
+    let more = where_some (is_none u.payload) (record { plain = u.plain; slots = u.slots; payload = Some value }) v e in
+    let free = taken_none u.payload more.0 in
+    subst (AreOf (n + 2)) more.1 (record { words = omega (arith, h.words, free); few = h.few })
+
+fewer : (m n : ℕ) (u : Uses) → m ≤ n → AreOf n u → AreOf m u
+fewer m n u le h = record { words = omega (arith, h.words, le); few = h.few }
+
+abbrev Each : ℕ → Option Uses → Type 0
+Each n o = (u : Uses) → o ≡ Some u → AreOf n u
+
+-- an option and the word that is its value
+named_words : (option : OptionName) (value : List ℕ) (free : Bool) (after_next : Option Uses) (a b : ℕ) → a ≤ b + 1 → Each b after_next
+    → Each (a + 1) (if free then option_and_then (with_value option value) after_next else None)
+named_words option value true after_next a b le more v e =
+    let from = then_some (with_value option value) after_next v e in
+    fewer (a + 1) (b + 2) v (omega (arith, le)) (value_more option value from.0 v b (more from.0 from.1) from.2)
+named_words option value false after_next a b le more v e = cc
+
+followed_words : (word : List ℕ) (w : Word) (next : Option (List ℕ)) (after_word after_next : Option Uses) (a b : ℕ) → a ≤ b + 1
+    → Each a after_word → Each b after_next → Each (a + 1) (followed word w next after_word after_next)
+followed_words word plain next after_word after_next a b le rest more v e =
+    let from = then_some (with_plain word) after_word v e in
+    plain_more word from.0 v a (rest from.0 from.1) from.2
+followed_words word (given option value) next after_word after_next a b le rest more v e =
+    let from = then_some (with_value option value) after_word v e in
+    fewer (a + 1) (a + 2) v (omega arith) (value_more option value from.0 v a (rest from.0 from.1) from.2)
+followed_words word (named option) None after_word after_next a b le rest more v e = cc
+followed_words word (named option) (Some value) after_word after_next a b le rest more v e =
+    named_words option value (is_plain value) after_next a b le more v e
+followed_words word wrong next after_word after_next a b le rest more v e = cc
+
+uses_words : (words : List (List ℕ)) → Each (length words) (uses_of words)
+uses_words [] u e = let same : no_uses ≡ u = cc in subst (AreOf 0) same (record { words = omega arith; few = omega arith })
+uses_words (word ∷ []) u e =
+    followed_words word (word_of word) None (Some no_uses) None 0 0 (omega arith)
+    (λ v h. uses_words [] v h) (λ v h. cc) u e
+uses_words (word ∷ next ∷ rest) u e =
+    fewer (length (word ∷ next ∷ rest)) (length (next ∷ rest) + 1) u (omega arith)
+    (followed_words word (word_of word) (Some next) (uses_of (next ∷ rest)) (uses_of rest) (length (next ∷ rest)) (length rest) (omega arith)
+    (λ v h. uses_words (next ∷ rest) v h) (λ v h. uses_words rest v h) u e)
+
+none_else : (o : Option Uses) (n : ℕ) → Each n o → most_form_words < n → None ≡ o
+none_else None n each many = refl
+none_else (Some u) n each many =
+    let h = each u refl in
+    absurd (omega (arith, h.words, h.few, taken_few u.slots, taken_few u.payload))
+
+-- more words than the longest form has give nothing
+pub too_many_words : (words : List (List ℕ)) → most_form_words < length words → None ≡ uses_of words
+too_many_words words many = none_else (uses_of words) (length words) (uses_words words) many

@@ -26,10 +26,24 @@ format_form table image None payload = None
 format_form table image (Some slots) None = None
 format_form table image (Some slots) (Some payload) = Some (format_image table image slots payload)
 
--- the form of a command with two paths and the options of a ring: 4 to 65,536 slots, 64 to 4,096 bytes of payload
+-- how many slots a ring may have, and how many bytes of payload
+abbrev pub least_slots : ℕ
+least_slots = 4
+
+abbrev pub most_slots : ℕ
+most_slots = 65536
+
+abbrev pub least_payload : ℕ
+least_payload = 64
+
+abbrev pub most_payload : ℕ
+most_payload = 4096
+
+-- the form of a command with two paths and the options of a ring
 abbrev pub ring_form : List ℕ → List ℕ → List ℕ → List ℕ → List ℕ → Option Form
 ring_form command table image slots payload =
-    if bytes_eq command (codes "format") then format_form table image (value_in 4 65536 slots) (value_in 64 4096 payload) else None
+    if bytes_eq command (codes "format")
+    then format_form table image (value_in least_slots most_slots slots) (value_in least_payload most_payload payload) else None
 
 -- the form that has these words and options, all of them and no others
 abbrev pub form_with : List (List ℕ) → Option (List ℕ) → Option (List ℕ) → Option Form
@@ -74,5 +88,6 @@ abbrev pub IsInBounds : Form → Type 0
 IsInBounds (check_table table) = Unit {0}
 IsInBounds (stream_line table) = Unit {0}
 IsInBounds (list_bits table) = Unit {0}
-IsInBounds (format_image table image slots payload) = (4 ≤ slots) × (slots ≤ 65536) × (64 ≤ payload) × (payload ≤ 4096)
+IsInBounds (format_image table image slots payload) =
+    (least_slots ≤ slots) × (slots ≤ most_slots) × (least_payload ≤ payload) × (payload ≤ most_payload)
 IsInBounds (recover_image image) = Unit {0}

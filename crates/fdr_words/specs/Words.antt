@@ -57,6 +57,10 @@ followed word (named option) None after_word after_next = None
 followed word (named option) (Some value) after_word after_next = if is_plain value then option_and_then (with_value option value) after_next else None
 followed word wrong next after_word after_next = None
 
+-- how many words the longest form has: three plain words, and two options of two words each
+abbrev pub most_form_words : ℕ
+most_form_words = 7
+
 -- what the words give, where each has its place
 abbrev pub uses_of : List (List ℕ) → Option Uses
 uses_of [] = Some no_uses

@@ -188,3 +188,14 @@ fn refuses_other_words(rt: HostRuntime) -> Result<(), Fail> {
     }
     Ok(())
 }
+
+#[test]
+fn refuses_any_number_of_words(rt: HostRuntime) -> Result<(), Fail> {
+    let mut words = Vec::new(rt.alloc());
+    for _ in 0..20_000 {
+        words.push("check".to_string(rt.alloc())?)?;
+    }
+    let answer = read_words(rt.alloc(), words.as_slice());
+    assert_eq!(rt; answer.err(), Some(WordsFault::Usage));
+    Ok(())
+}

@@ -1,9 +1,12 @@
 //! What the words give: the words of the form itself, and the values of options.
 
-ghost use Rattle.std.specs.Prelude.{◌≡◌, ◌≤◌, Some, None, IfSome, map, string_bytes};
+ghost use Rattle.std.specs.Prelude.{◌≡◌, ◌≤◌, Some, None, IfSome, length, map, string_bytes};
 ghost use Rattle.std.specs.Option.{option_map};
 ghost use Rattle.fdr_words.specs.Views.{uses_view, word_view};
-ghost use Rattle.fdr_words.specs.Words.{is_plain, value_after, word_of, with_plain, with_value, uses_of, value_in};
+ghost use Rattle.fdr_words.specs.Words.{is_plain, most_form_words, value_after, word_of, with_plain, with_value, uses_of, value_in};
+
+/// How many words the longest form has.
+const MOST_WORDS: usize = 7;
 
 /// An option of a command.
 #[derive(Clone, Copy)]
@@ -132,9 +135,21 @@ fn word_of(word: &str) -> Word<'_>
     }
 }
 
-/// What the words give, where each has its place. No form has more words than seven, and so deep this goes at most.
-#[tactic(auto, using(crate::proofs::UsesSteps::given_step))]
+/// What the words give, where each has its place. More words than the longest form has give nothing.
 pub(crate) fn uses_of(words: &[String]) -> Option<Uses<'_>>
+    ensures { option_map uses_view result ≡ uses_of (map string_bytes words.now) }
+{
+    if MOST_WORDS < words.len() {
+        return None;
+    }
+    uses_of_few(words)
+}
+
+/// What no more words give than the longest form has. It calls itself for the words after the first, so that a bound on
+/// their number is a bound on the stack.
+#[tactic(auto, using(crate::proofs::UsesSteps::given_step))]
+fn uses_of_few(words: &[String]) -> Option<Uses<'_>>
+    requires { length words.now ≤ most_form_words }
     ensures { option_map uses_view result ≡ uses_of (map string_bytes words.now) }
 {
     let [word, rest @ ..] = words else {
@@ -146,8 +161,8 @@ pub(crate) fn uses_of(words: &[String]) -> Option<Uses<'_>>
     };
     let word = word.as_str();
     match word_of(word) {
-        Word::Plain => uses_of(rest)?.with_plain(word),
-        Word::Given(option, value) => uses_of(rest)?.with_value(option, value),
+        Word::Plain => uses_of_few(rest)?.with_plain(word),
+        Word::Given(option, value) => uses_of_few(rest)?.with_value(option, value),
         Word::Named(option) => {
             let [next, rest @ ..] = rest else {
                 return None;
@@ -155,7 +170,7 @@ pub(crate) fn uses_of(words: &[String]) -> Option<Uses<'_>>
             if !is_plain(next.as_str()) {
                 return None;
             }
-            uses_of(rest)?.with_value(option, next.as_str().as_bytes())
+            uses_of_few(rest)?.with_value(option, next.as_str().as_bytes())
         }
         Word::Wrong => None,
     }

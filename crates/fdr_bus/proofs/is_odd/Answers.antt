@@ -1,9 +1,8 @@
-use Rattle.std.proofs.Common.{arith, ◌≡◌, suc, ◌+◌}
-use Rattle.std.proofs.lemmas.Nat.Bits.{shr_and_one}
-use Rattle.fdr_bus.proofs.WordLemmas.{ones_to_more}
+use Rattle.std.proofs.Common.{◌<◌, ◌^◌, arith}
+use Rattle.fdr_bus.proofs.WordLemmas.{count_ones-word}
 use Rattle.fdr_bus.proofs.is_odd.Goals as goal
 
-pub loop-i-preserved : goal.loop-i-preserved
-loop-i-preserved c =
-    let next : c.loop-i.i + 1 ≡ suc c.loop-i.i = omega arith in
-    rw next (omega (arith, shr_and_one c.args.word c.loop-i.i, ones_to_more c.args.word c.loop-i.i, c.loop-i.invariant))
+pub returns : goal.returns
+returns c =
+    let fits : c.args.word < 2 ^ 32 = omega arith in
+    rw (count_ones-word c.args.word fits) (λ odd. odd, λ odd. odd)

@@ -1,9 +1,6 @@
-use Rattle.std.proofs.Common.{arith, ◌≡◌, suc, ◌+◌}
-use Rattle.std.proofs.lemmas.Nat.Bits.{shr_and_one}
-use Rattle.fdr_bus.proofs.WordLemmas.{reversed_to_more}
+use Rattle.std.proofs.Common.{◌∙◌}
+use Rattle.fdr_bus.proofs.WordLemmas.{reverse_bits-low}
 use Rattle.fdr_bus.proofs.label.Goals as goal
 
-pub loop-i-preserved : goal.loop-i-preserved
-loop-i-preserved c =
-    let next : c.loop-i.i + 1 ≡ suc c.loop-i.i = omega arith in
-    rw next (omega (arith, shr_and_one c.args.word c.loop-i.i, reversed_to_more c.args.word c.loop-i.i, c.loop-i.invariant))
+pub returns : goal.returns
+returns c = c.reverse_bits.ensures ∙ reverse_bits-low c.args.word

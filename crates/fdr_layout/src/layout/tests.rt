@@ -1,85 +1,37 @@
 //! Layouts of worked tables.
 
-ghost use Rattle.std.specs.Prelude.{◌+◌, ◌<◌, ◌≤◌, IsTrue};
-ghost use Rattle.fdr_table.specs.Fields.{is_among};
-ghost use Rattle.fdr_table.specs.Ranges.{periods};
+ghost use Rattle.std.specs.Prelude.{◌≤◌, IfOk, length};
 
 use super::*;
 use crate::parts::Part;
 use crate::slots::SlotPart;
 use fdr_check::check;
-use fdr_table::{Name, Table};
+use fdr_table::Table;
 use std::test::Fail;
 
-fn param(name: &[u8], lsb: u8, width: u8, rate: u32, row: u32) -> Option<Param>
-    requires lsb_low { 1 ≤ lsb }
-    requires width_low { 1 ≤ width }
-    requires bits { lsb + width ≤ 33 }
-    requires rate_low { 1 ≤ rate }
-    requires rate_high { rate ≤ 262144 }
+/// A position of two parts, one in each of two frames, and an altitude in every frame.
+const TWO_FRAMES: &[u8] =
+    b"F,64,2,1\nP,POS,0,1,,9,20,U,1,1,0,0,1\nL,POS,1,1,20,0,1,12,0,16\nL,POS,2,1,20,0,1,8,1,16\nP,ALT,0,2,,11,12,U,1,1,0,0,16\nL,ALT,1,1,10,0,1,12,0,1\n";
+
+/// One altitude in every frame, in word 10 of the first subframe.
+const EACH_FRAME: &[u8] = b"F,64,2,1\nP,ALT,0,203,,11,12,U,1,1,0,0,16\nL,ALT,1,1,10,0,1,12,0,1\n";
+
+/// The layout of a table. The shortest superframe has 4,096 word slots.
+fn layout_of(alloc: Global, text: &[u8]) -> Result<Layout, Fail>
+    ensures { IfOk result (λ l. 4096 ≤ length l.slots) }
 {
-    Some(Param {
-        name: Name::new(name)?,
-        bus: 0,
-        label: 0,
-        sdi: None,
-        lsb,
-        width,
-        signed: false,
-        num: 1,
-        den: 1,
-        offset: 0,
-        decimals: 0,
-        rate,
-        row,
-    })
+    let table = Table::read(alloc, text).ok().ok_or("table")?;
+    let sound = check(alloc, table).ok().ok_or("sound")?;
+    sound.holds();
+    let Ok(layout) = Layout::make(alloc, &sound) else {
+        return Err("memory")?;
+    };
+    Ok(layout)
 }
 
-fn place(param: u32, part: u8, word: u32, width: u8, cycle: u8, period: u8) -> Place
-    requires part_low { 1 ≤ part }
-    requires part_high { part ≤ 4 }
-    requires word_low { 1 ≤ word }
-    requires word_high { word ≤ 1024 }
-    requires width_low { 1 ≤ width }
-    requires width_high { width ≤ 12 }
-    requires cycle { cycle < period }
-    requires period { IsTrue (is_among periods period) }
-{
-    Place {
-        param,
-        part,
-        subs: 1,
-        word,
-        step: 0,
-        lsb: 1,
-        width,
-        cycle,
-        period,
-        row: 0,
-    }
-}
-
-// A position of two parts, one in each of two frames, and an altitude in every frame.
 #[test]
 fn a_sample_ends_in_the_cycle_of_its_last_part(rt: HostRuntime) -> Result<(), Fail> {
-    let alloc = rt.alloc();
-    let frame = Frame {
-        words: 64,
-        cword: 2,
-        csub: 1,
-    };
-    let params = [
-        param(b"POS", 9, 20, 1, 1).ok_or("name")?,
-        param(b"ALT", 11, 12, 16, 4).ok_or("name")?,
-    ];
-    let places = [
-        place(0, 1, 20, 12, 0, 16),
-        place(0, 2, 20, 8, 1, 16),
-        place(1, 1, 10, 12, 0, 1),
-    ];
-    let layout = Layout::of_rows(alloc, &frame, &params, &places)
-        .ok()
-        .ok_or("memory")?;
+    let layout = layout_of(rt.alloc(), TWO_FRAMES)?;
 
     let samples = layout.ending_in(1);
     assert_eq!(rt; samples.len(), 2);
@@ -120,14 +72,9 @@ fn a_sample_ends_in_the_cycle_of_its_last_part(rt: HostRuntime) -> Result<(), Fa
     Ok(())
 }
 
-// One altitude in every frame, in word 10 of the first subframe.
 #[test]
 fn a_sample_of_one_part_ends_in_each_cycle(rt: HostRuntime) -> Result<(), Fail> {
-    let alloc = rt.alloc();
-    let text = b"F,64,2,1\nP,ALT,0,203,,11,12,U,1,1,0,0,16\nL,ALT,1,1,10,0,1,12,0,1\n";
-    let table = Table::read(alloc, text).ok().ok_or("table")?;
-    let sound = check(alloc, table).ok().ok_or("sound")?;
-    let layout = Layout::make(alloc, &sound).ok().ok_or("memory")?;
+    let layout = layout_of(rt.alloc(), EACH_FRAME)?;
     for cycle in 0..16u8 {
         let samples = layout.ending_in(cycle);
         assert_eq!(rt; samples.len(), 1);

@@ -1,22 +1,25 @@
 //! Words of worked recordings.
 
 ghost use Rattle.std.specs.Prelude.{◌≡◌, ◌+◌, ◌<◌, ◌≤◌, IfOk, IsTrue};
+ghost use Rattle.fdr_bus.specs.Records.{last_time};
 ghost use Rattle.fdr_bus.specs.declared.RecordKind.TheVariants.{Word};
-ghost use Rattle.fdr_table.specs.Fields.{is_among};
-ghost use Rattle.fdr_table.specs.Ranges.{periods};
 ghost use Rattle.fdr_table.specs.Rows.{TableRows};
 ghost use Rattle.fdr_sampler.specs.Past.{made, Stands};
 
 use super::*;
 use fdr_bus::RecordKind;
 use fdr_check::check;
-use fdr_table::{Name, Place, Table};
+use fdr_table::Table;
 use std::test::Fail;
 
 const COUNTER_SECOND: &[u8] =
     b"F,64,2,1\nP,ALT,0,203,,11,12,U,1,1,0,0,16\nL,ALT,1,1,10,0,1,12,0,1\n";
 
 const COUNTER_LAST: &[u8] = b"F,64,64,4\nP,ALT,0,203,,11,12,U,1,1,0,0,16\nL,ALT,1,1,2,0,1,12,0,1\n";
+
+/// A position of two parts, one in each of two frames.
+const POSITION: &[u8] =
+    b"F,64,2,1\nP,POS,1,310,,9,20,U,1,1,0,0,1\nL,POS,1,1,20,0,1,12,0,16\nL,POS,2,1,20,0,1,8,1,16\n";
 
 fn sampler_of(alloc: Global, table: &[u8]) -> Result<Sampler, Fail>
     ensures { IfOk result (λ s. (t : TableRows) × Stands s (made t)) }
@@ -48,7 +51,7 @@ fn word(bus: u8, word: u32, time: u64) -> BusRecord
 fn words_of(alloc: Global, sampler: Sampler, r: &BusRecord, count: usize) -> Result<Vec<u16>, Fail>
     requires stands { (t : TableRows) × Stands sampler (made t) }
     requires kind { r.now.kind ≡ Word }
-    requires in_time { r.now.time ≤ LAST_TIME }
+    requires in_time { r.now.time ≤ last_time }
     requires few { count ≤ 4096 }
 {
     let mut sampler = sampler;
@@ -107,76 +110,11 @@ fn holds_a_word_at_the_time_of_a_slot(rt: HostRuntime) -> Result<(), Fail> {
     Ok(())
 }
 
-fn param(name: &[u8], bus: u8, label: u8, lsb: u8, width: u8, rate: u32) -> Option<Param>
-    requires lsb_low { 1 ≤ lsb }
-    requires width_low { 1 ≤ width }
-    requires bits { lsb + width ≤ 33 }
-    requires rate_low { 1 ≤ rate }
-    requires rate_high { rate ≤ 262144 }
-{
-    Some(Param {
-        name: Name::new(name)?,
-        bus,
-        label,
-        sdi: None,
-        lsb,
-        width,
-        signed: false,
-        num: 1,
-        den: 1,
-        offset: 0,
-        decimals: 0,
-        rate,
-        row: 0,
-    })
-}
-
-fn place(part: u8, width: u8, cycle: u8) -> Place
-    requires part_low { 1 ≤ part }
-    requires part_high { part ≤ 4 }
-    requires width_low { 1 ≤ width }
-    requires width_high { width ≤ 12 }
-    requires cycle { cycle < 16 }
-{
-    Place {
-        param: 0,
-        part,
-        subs: 1,
-        word: 20,
-        step: 0,
-        lsb: 1,
-        width,
-        cycle,
-        period: 16,
-        row: 0,
-    }
-}
-
-/// A position of two parts, one in each of two frames.
-fn position(alloc: Global) -> Result<Sampler, Fail>
-    ensures { IfOk result (λ s. (t : TableRows) × Stands s (made t)) }
-{
-    let frame = Frame {
-        words: 64,
-        cword: 2,
-        csub: 1,
-    };
-    let params = [param(b"POS", 1, 0o310, 9, 20, 1).ok_or("name")?];
-    let places = [place(1, 12, 0), place(2, 8, 1)];
-    let Ok(layout) = Layout::of_rows(alloc, &frame, &params, &places) else {
-        return Err("memory")?;
-    };
-    let Ok(sampler) = Sampler::with_layout(alloc, frame, &params, layout) else {
-        return Err("memory")?;
-    };
-    Ok(sampler)
-}
-
 // Both parts have pieces of the value at the first part's slot, which is sampled at 296,875 microseconds.
 #[test]
 fn takes_a_value_at_its_first_part(rt: HostRuntime) -> Result<(), Fail> {
     for (time, low, high) in [(0, 0xcde, 0xab), (296_875, 0xcde, 0xab), (1_000_000, 0, 0)] {
-        let sampler = position(rt.alloc())?;
+        let sampler = sampler_of(rt.alloc(), POSITION)?;
         let words = words_of(rt.alloc(), sampler, &word(1, 0x8abc_de13, time), 512)?;
         assert_eq!(rt; words.get(19).copied(), Some(low), "at {time}");
         assert_eq!(rt; words.get(275).copied(), Some(high), "at {time}");

@@ -1,6 +1,7 @@
 //! Worked recordings.
 
 ghost use Rattle.std.specs.Prelude.{◌≡◌, ◌≤◌, ℕ, None, IfOk, OnOk};
+ghost use Rattle.fdr_bus.specs.Records.{last_time};
 ghost use Rattle.fdr_table.specs.Rows.{TableRows};
 ghost use Rattle.fdr_stream.specs.Past.{Past, made, with_record, MayFeed, Stands};
 
@@ -45,7 +46,7 @@ fn feed(stream: &mut Stream, next: &BusRecord, bytes: &mut Vec<u8>) -> Result<us
 
 /// The recording of a bus word at its start and of an end: how many blocks were given before the rest, and all bytes.
 fn recording(alloc: Global, word: u32, end: u64) -> Result<(usize, Vec<u8>), Fail>
-    requires { end ≤ LAST_TIME }
+    requires { end ≤ last_time }
 {
     let mut stream = stream_by(alloc, TABLE)?;
     let mut bytes = Vec::new(alloc);

@@ -1,4 +1,4 @@
-use Rattle.std.proofs.Common.{◌≡◌, ℕ, ◌<◌, ◌*◌, ◌+◌, ◌||◌, take, drop, ◌++◌, length, subst, sym, ap, ◌∙◌}
+use Rattle.std.proofs.Common.{◌≡◌, ℕ, ◌<◌, ◌*◌, ◌+◌, ◌||◌, take, drop, ◌++◌, length, refl, subst, sym, ap, ◌∙◌}
 use Rattle.std.proofs.lemmas.List.{take_at}
 use Rattle.fdr_check.specs.Soundness.{covers}
 use Rattle.fdr_check.specs.Walks.{AreMarks, is_marked}
@@ -6,7 +6,7 @@ use Rattle.fdr_check.proofs.Overlapping.{no_overlap_among, overlap_among_not_yet
 use Rattle.fdr_check.proofs.overlap.overlap_among.Goals as goal
 
 pub loop-index-init : goal.loop-index-init
-loop-index-init c = record { marks = c.in_ok-marks.ensures; none = no_overlap_among c.args.words }
+loop-index-init c = record { marks = c.in_ok-marks.ensures; none = refl }
 
 pub returns-then-is_some : goal.returns-then-is_some
 returns-then-is_some c =
@@ -30,3 +30,6 @@ loop-index-preserved c =
           (marks_next w c.args.places.now i q old new c.loop-index-test.true c.index-places-index.is c.loop-index.invariant.marks len more);
       none = overlap_among_not_yet w c.args.places.now i q c.in_ok-overlap.overlap c.loop-index-test.true c.index-places-index.is c.loop-index.invariant.none c.in_ok-overlap.ensures (sym c.if-is_some.ensures);
     }
+
+pub returns : goal.returns
+returns c = no_overlap_among c.args.words c.args.places.now c.loop-index.index c.loop-index-test.false c.loop-index.invariant.none

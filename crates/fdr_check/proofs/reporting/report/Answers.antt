@@ -2,11 +2,10 @@ use Rattle.std.proofs.Common.{◌≡◌, ◌++◌, length, ap, ◌∙◌, arith}
 use Rattle.fdr_table.specs.Rows.{TableRows}
 use Rattle.fdr_check.specs.Occurrences.{occurrences}
 use Rattle.fdr_check.specs.Soundness.{most_parts}
-use Rattle.fdr_check.specs.Report.{is_even, frame_line}
+use Rattle.fdr_check.specs.Report.{is_even, param_line}
 use Rattle.fdr_check.specs.Groups.{grouped}
-use Rattle.fdr_check.specs.Slots.{param_text}
 use Rattle.fdr_check.proofs.Grouping.{length_grouped}
-use Rattle.fdr_check.proofs.Lines.{line_step, all_lines}
+use Rattle.fdr_check.proofs.Lines.{first_line, line_step, all_lines}
 use Rattle.fdr_check.proofs.reporting.report.Goals as goal
 
 pub count_parts-parts-requires-clause-fits : goal.count_parts-parts-requires-clause-fits
@@ -37,11 +36,11 @@ loop-index-preserved c =
     let words : w ≡ t.frame.words = c.words_of-words.ensures.words ∙ ap (λ (x : TableRows). x.frame.words) same in
     let places : c.places.result.now ≡ t.places = c.places.ensures ∙ ap (λ (x : TableRows). x.places) same in
     let groups : c.in_ok-groups.groups.items ≡ grouped t.places (length params) = c.in_ok-groups.ensures ∙ ap (λ ps. grouped ps (length params)) places in
-    let line : c.in_ok-line.line.items ≡ param_text (is_even w g i p.rate) p =
-    c.in_ok-line.ensures ∙ ap (λ ps. param_text (is_even w ps i p.rate) p) c.places-in-loop-index.ensures in
+    let line : c.in_ok-line.line.items ≡ param_line (is_even w g i p.rate) p =
+    c.in_ok-line.ensures ∙ ap (λ ps. param_line (is_even w ps i p.rate) p) c.places-in-loop-index.ensures in
     let more : c.extend_from_slice.new.self.items ≡ c.loop-index.text.items ++ c.in_ok-line.line.items =
     c.in_ok-extend_from_slice.ensures.items ∙ ap (λ xs. c.loop-index.text.items ++ xs) c.deref.ensures.value in
-    line_step t params c.in_ok-groups.groups.items i p g w (frame_line t) c.loop-index.text.items c.extend_from_slice.new.self.items c.in_ok-line.line.items words groups c.loop-index-test.true c.index-params-index.is c.index.ensures c.loop-index.invariant line more
+    line_step t params c.in_ok-groups.groups.items i p g w (first_line t) c.loop-index.text.items c.extend_from_slice.new.self.items c.in_ok-line.line.items words groups c.loop-index-test.true c.index-params-index.is c.index.ensures c.loop-index.invariant line more
 
 pub returns : goal.returns
 returns c =

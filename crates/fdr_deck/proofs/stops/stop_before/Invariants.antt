@@ -1,5 +1,9 @@
-use Rattle.fdr_deck.proofs.MemoryStops.{IsLeft}
+use Rattle.std.proofs.Common.{◌≡◌}
+use Rattle.fdr_deck.proofs.MemoryStops.{IsLeft, image_before}
 use Rattle.fdr_deck.proofs.stops.stop_before.Given as goal
 
 abbrev pub invariant-loop-entry : goal.invariant-loop-entry
-invariant-loop-entry l = IsLeft l.entries l.first l.entry-index l.held.items l.left.items
+invariant-loop-entry l = record {
+  left : IsLeft l.entries l.first l.entry-index l.held.items l.left.items;
+  image : l.left.items ≡ image_before l.tear l.entries l.first l.entry-index;
+}

@@ -1,5 +1,5 @@
 use Rattle.std.proofs.Common.{◌≡◌, ◌++◌, take}
-use Rattle.fdr_layout.specs.Samples.{ending_at}
+use Rattle.fdr_layout.specs.Sorting.{ending_at}
 use Rattle.fdr_layout.proofs.cycles.add_ending_at.Given as goal
 
 abbrev pub invariant-loop-sample : goal.invariant-loop-sample

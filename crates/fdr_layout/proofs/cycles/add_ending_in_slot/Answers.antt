@@ -1,5 +1,5 @@
 use Rattle.std.proofs.Common.{◌≡◌, ◌*◌, ◌-◌, ◌++◌, ap, ◌∙◌, arith}
-use Rattle.fdr_layout.specs.Samples.{ending_from}
+use Rattle.fdr_layout.specs.Sorting.{ending_from}
 use Rattle.fdr_layout.proofs.SlotEndings.{none_ending, ending_more}
 use Rattle.fdr_layout.proofs.cycles.add_ending_in_slot.Goals as goal
 

@@ -1,5 +1,5 @@
 use Rattle.std.proofs.Common.{◌≡◌, ◌++◌, ◌*◌, ◌-◌}
-use Rattle.fdr_layout.specs.Samples.{ending_from}
+use Rattle.fdr_layout.specs.Sorting.{ending_from}
 use Rattle.fdr_layout.proofs.cycles.add_ending_in_slot.Given as goal
 
 abbrev pub invariant-loop-bit : goal.invariant-loop-bit

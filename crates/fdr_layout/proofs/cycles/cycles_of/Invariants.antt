@@ -1,6 +1,6 @@
 use Rattle.std.proofs.Common.{◌≡◌, ◌<◌, ◌^◌, map, length}
 use Rattle.std.specs.List.{range_with_len, All}
-use Rattle.fdr_layout.specs.Samples.{ending_among}
+use Rattle.fdr_layout.specs.Sorting.{ending_among}
 use Rattle.fdr_layout.proofs.cycles.cycles_of.Given as goal
 
 abbrev pub invariant-loop-cycle : goal.invariant-loop-cycle

@@ -1,7 +1,7 @@
 use Rattle.std.proofs.Common.{◌≡◌, ◌*◌, ◌-◌, ◌<◌, ◌≤◌, [], ◌++◌, map, length, ap, ◌∙◌, arith}
 use Rattle.std.proofs.Math.Nat.{mul-le-mul_left}
 use Rattle.std.specs.List.{flat_map, range_with_len, slice_index_or}
-use Rattle.fdr_layout.specs.Samples.{ending_from, ending_of_slots}
+use Rattle.fdr_layout.specs.Sorting.{ending_from, ending_of_slots}
 use Rattle.fdr_layout.proofs.SlotEndings.{slot_more}
 use Rattle.fdr_layout.proofs.cycles.ending_of_slots.Goals as goal
 
@@ -14,9 +14,9 @@ loop-slot-preserved c =
     c.index-slots-slot.is c.loop-slot.invariant
     (c.in_ok-add_ending_in_slot.ensures ∙ ap (λ ss. c.loop-slot.found.items ++ ending_from ss (12 * c.loop-slot.slot) 12) c.deref.ensures.value) (omega arith) (omega arith)
 
-pub returns-clause-samples : goal.returns-clause-samples
+pub returns : goal.returns
 unfolding ending_of_slots
-returns-clause-samples c =
+returns c =
     let start = 4 * c.args.words * c.args.cycle in
     let lists = map (λ s. s.items) c.args.slots.now in
     let whole : c.loop-slot.slot - start ≡ 4 * c.args.words = omega arith in

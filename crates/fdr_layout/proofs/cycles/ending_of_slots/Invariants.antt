@@ -1,6 +1,6 @@
 use Rattle.std.proofs.Common.{◌≡◌, ◌*◌, ◌-◌, [], map}
 use Rattle.std.specs.List.{flat_map, range_with_len, slice_index_or}
-use Rattle.fdr_layout.specs.Samples.{ending_from}
+use Rattle.fdr_layout.specs.Sorting.{ending_from}
 use Rattle.fdr_layout.proofs.cycles.ending_of_slots.Given as goal
 
 abbrev pub invariant-loop-slot : goal.invariant-loop-slot

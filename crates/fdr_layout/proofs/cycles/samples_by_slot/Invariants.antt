@@ -1,6 +1,6 @@
 use Rattle.std.proofs.Common.{◌≡◌, ◌*◌, map, take}
 use Rattle.std.specs.List.{range_with_len}
-use Rattle.fdr_layout.specs.Samples.{ending_in_slot}
+use Rattle.fdr_layout.specs.Sorting.{ending_in_slot}
 use Rattle.fdr_layout.proofs.cycles.samples_by_slot.Given as goal
 
 abbrev pub invariant-loop-sample : goal.invariant-loop-sample

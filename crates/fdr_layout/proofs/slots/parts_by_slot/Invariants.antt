@@ -1,6 +1,6 @@
 use Rattle.std.proofs.Common.{◌≡◌, ◌*◌, map, take}
 use Rattle.std.specs.List.{range_with_len}
-use Rattle.fdr_layout.specs.SlotParts.{standing_in}
+use Rattle.fdr_layout.specs.Sorting.{standing_in}
 use Rattle.fdr_layout.proofs.slots.parts_by_slot.Given as goal
 
 abbrev pub invariant-loop-part : goal.invariant-loop-part

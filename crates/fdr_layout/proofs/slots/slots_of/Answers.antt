@@ -1,5 +1,6 @@
 use Rattle.std.proofs.Common.{◌≡◌, ◌*◌, ◌∙◌, ap, length, arith}
-use Rattle.fdr_layout.specs.SlotParts.{standing_in, parts_of_slot}
+use Rattle.fdr_layout.specs.SlotParts.{parts_of_slot}
+use Rattle.fdr_layout.specs.Sorting.{standing_in}
 use Rattle.fdr_layout.proofs.Lists.{views_step, view_at, view_length}
 use Rattle.fdr_layout.proofs.SlotLemmas.{standing_suffice}
 use Rattle.fdr_layout.proofs.slots.slots_of.Goals as goal

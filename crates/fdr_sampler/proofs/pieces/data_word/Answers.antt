@@ -3,8 +3,11 @@ use Rattle.std.proofs.lemmas.List.{take_all}
 use Rattle.std.proofs.lemmas.Option.{get_or_from_slice_get}
 use Rattle.fdr_layout.specs.declared.slots.SlotPart.{SlotPart}
 use Rattle.fdr_sampler.specs.Kept.{slot_parts, value_at, IsDrawn}
-use Rattle.fdr_sampler.proofs.Drawing.{IsDrawn-more, value_taken}
+use Rattle.fdr_sampler.proofs.Drawing.{IsDrawn-none, IsDrawn-more, value_taken}
 use Rattle.fdr_sampler.proofs.pieces.data_word.Goals as goal
+
+pub loop-part-init : goal.loop-part-init
+loop-part-init c = record { small = omega arith; drawn = λ value have. IsDrawn-none value c.args.raws.now }
 
 pub loop-part-preserved : goal.loop-part-preserved
 loop-part-preserved c =
@@ -26,7 +29,7 @@ loop-part-preserved c =
           let so_far = c.loop-part.invariant.drawn value have in
           let At : SlotPart → Type 0 = λ x. value_at laid slot c.args.held.now before x.sample ≡ value x.sample in
           let raw_is = value_taken value laid slot c.args.held.now before c.loop-part.raws a.sample c.sample-sample.result.now c.value_at-raw.result (subst At (sym is) (have i a l)) c.sample-sample.ensures so_far.kept c.value_at-raw.ensures.value in
-          IsDrawn-more value parts i a before c.loop-part.raws c.value_at-raw.new.raws c.loop-part.word c.with_piece-word.result c.value_at-raw.result l is so_far raw_is room c.value_at-raw.ensures.kept c.with_piece-word.ensures.value;
+          IsDrawn-more value parts i a before c.loop-part.raws c.value_at-raw.new.raws c.loop-part.word c.with_piece-word.result c.value_at-raw.result l is so_far raw_is room c.value_at-raw.ensures.kept c.with_piece-word.ensures.small c.with_piece-word.ensures.value;
     }
 
 pub returns-clause-drawn : goal.returns-clause-drawn

@@ -2,7 +2,7 @@ use Rattle.std.proofs.Common.{◌≡◌, ◌∙◌, Result, Err, refl, [], ◌�
 use Rattle.std.proofs.lemmas.Result.{err_from_is_err_and}
 use Rattle.fdr_bus.specs.declared.BusRecord.{BusRecord}
 use Rattle.fdr_trace.specs.declared.TraceStop.{TraceStop}
-use Rattle.fdr_trace.proofs.Pulling.{PullsMore-none}
+use Rattle.fdr_trace.proofs.Pulling.{LeavesDisk-here, LeavesDisk-then, PullsMore-none}
 use Rattle.fdr_top.proofs.Records.{IsStreamed-made, ComesNext-read, PullsMore-next, IsStreamedTo-end, IsStreamedTo-stop, IsStreamedPart-next, good_with_next, is_end-yes, is_end-no, count_rises}
 use Rattle.fdr_top.proofs.streaming.stream_records.Goals as goal
 
@@ -14,6 +14,8 @@ loop-next-init g c = record {
   streamed = λ t fresh. ([], [], PullsMore-none _ _ [], fresh.trace, IsStreamed-made _ t _ fresh.stream);
   room = c.requires.room;
   quiet = refl;
+  disk = LeavesDisk-here _;
+  told = refl;
   monotone = omega arith;
 }
 
@@ -70,5 +72,16 @@ loop-next-preserved g c = record {
       );
   room = omega (arith, c.write_record.auto.block, c.loop-next.invariant.room);
   quiet = c.in-Ok.ensures.quiet (λ e. absurd (cc)) ∙ c.loop-next.invariant.quiet;
+  disk = LeavesDisk-then _ _ _ c.loop-next.invariant.disk c.in-Ok.ensures.disk;
+  told = c.in-Ok.ensures.told.told ∙ c.loop-next.invariant.told;
   monotone = omega (arith, c.loop-next.invariant.monotone, c.write_record.ensures.monotone);
 }
+
+pub returns-in-Err-clause-disk : goal.returns-in-Err-clause-disk
+returns-in-Err-clause-disk g c = LeavesDisk-then _ _ _ c.loop-next.invariant.disk c.in-Err.ensures.disk
+
+pub returns-in_err-write_record-clause-disk : goal.returns-in_err-write_record-clause-disk
+returns-in_err-write_record-clause-disk g c = LeavesDisk-then _ _ _ c.loop-next.invariant.disk c.in-Ok.ensures.disk
+
+pub returns-in-End-clause-disk : goal.returns-in-End-clause-disk
+returns-in-End-clause-disk g c = LeavesDisk-then _ _ _ c.loop-next.invariant.disk c.in-Ok.ensures.disk

@@ -1,5 +1,6 @@
 use Rattle.std.proofs.Common.{◌≡◌, ◌≤◌, ◌-◌, ℕ, List, [], length}
 use Rattle.fdr_bus.specs.declared.BusRecord.{BusRecord}
+use Rattle.fdr_deck.specs.Calls.{LeavesDisk}
 use Rattle.fdr_table.specs.Rows.{TableRows}
 use Rattle.fdr_trace.specs.Pulls.{PullsMore}
 use Rattle.fdr_trace.specs.Reading.{Reads}
@@ -13,6 +14,8 @@ invariant-loop-next g l = record {
       × Reads l.recording.trace bytes records × IsStreamed l.recording.stream t records (g.O.Sink.written l.fn.out) (g.O.Sink.written l.out);
   room : length l.block ≡ 4096;
   quiet : (g.D.Deck.state l.deck).line_faults ≡ (g.D.Deck.state l.fn.deck).line_faults;
+  disk : LeavesDisk (g.D.Deck.state l.fn.deck) (g.D.Deck.state l.deck);
+  told : (g.D.Deck.state l.deck).told ≡ (g.D.Deck.state l.fn.deck).told;
   monotone : g.O.Sink.faults l.fn.out ≤ g.O.Sink.faults l.out;
 }
 

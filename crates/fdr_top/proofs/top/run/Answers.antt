@@ -21,6 +21,7 @@ use Rattle.fdr_top.proofs.Making.{IsFormatOf, format_of, making_alone, making_do
 use Rattle.fdr_top.proofs.TableAnswers.{taken_is_all, told_all, not_both, refused_told, taken_to_end, memory_is_left, past_not_memory, whole_line}
 use Rattle.fdr_top.proofs.TraceAnswers.{told_stream, fault_answered, stream_done, refused_told_trace, same_form}
 use Rattle.fdr_top.proofs.Commands.{past_trace}
+use Rattle.fdr_top.proofs.Pieces.{TakesAtMost-none}
 use Rattle.fdr_top.proofs.top.run.Goals as goal
 
 pub returns-in-Ok-load_table-clause-refused_always :
@@ -279,3 +280,12 @@ pub returns-in-Ok-load_table-clause-exchanged : goal.returns-in-Ok-load_table-cl
 returns-in-Ok-load_table-clause-exchanged g c = λ path bytes others is done told line_told x.
     returns-in-Ok-load_table-clause-stream g c path bytes is done told line_told
     ∙ ap (followed_by (g.O.Sink.written c.args.out.now)) (stream_of-exchanged (table_in bytes) _ others x)
+
+pub returns-in-Err-Usage-clause-table_bounded : goal.returns-in-Err-Usage-clause-table_bounded
+returns-in-Err-Usage-clause-table_bounded g c = TakesAtMost-none 1052672 (g.T.Source.rest c.args.table.now)
+
+pub returns-in-Err-NoMemory-clause-table_bounded : goal.returns-in-Err-NoMemory-clause-table_bounded
+returns-in-Err-NoMemory-clause-table_bounded g c = TakesAtMost-none 1052672 (g.T.Source.rest c.args.table.now)
+
+pub returns-in-RecoverImage-clause-table_bounded : goal.returns-in-RecoverImage-clause-table_bounded
+returns-in-RecoverImage-clause-table_bounded g c = TakesAtMost-none 1052672 (g.T.Source.rest c.args.table.now)

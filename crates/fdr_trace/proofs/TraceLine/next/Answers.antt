@@ -6,7 +6,9 @@ use Rattle.fdr_bus.specs.Records.{most_records}
 use Rattle.fdr_deck.specs.State.{State, Tells}
 use Rattle.fdr_trace.specs.Kept.{Kept}
 use Rattle.fdr_trace.specs.Reading.{Reads, IsRefused}
-use Rattle.fdr_trace.proofs.Pulling.{PullsMore-none}
+use Rattle.fdr_deck.proofs.Moments.{Elapses-here, KeepsTold-here}
+use Rattle.fdr_trace.proofs.Pulling.{LeavesDisk-here, PullsMore-none}
+use Rattle.fdr_trace.proofs.PullMoments.{PullsFor-none}
 use Rattle.fdr_trace.proofs.Records.{Reads-few, Reads-many}
 use Rattle.fdr_trace.proofs.Next.{next_of}
 use Rattle.fdr_trace.proofs.TraceLine.next.Goals as goal
@@ -26,8 +28,27 @@ not_most : (k : Kept) (n : ℕ) → n ≡ k.count → n ≢ 4294967296 → k.cou
 not_most k n is not = λ e. not (is ∙ e)
 
 pub returns-then-count-eq-MOST_RECORDS-clause-next : goal.returns-then-count-eq-MOST_RECORDS-clause-next
-returns-then-count-eq-MOST_RECORDS-clause-next g c = λ bytes records reads.
-    ([], PullsMore-none _ _ bytes, rw c.refused.ensures (many_refused _ _ c.args.self.now bytes records reads (sym c.count.ensures ∙ c.if-count-eq-MOST_RECORDS.true)))
+returns-then-count-eq-MOST_RECORDS-clause-next g c = λ bytes records reads. (
+  [],
+  PullsMore-none _ _ bytes,
+  rw c.refused.ensures
+      (many_refused _ _ c.args.self.now bytes records reads
+      (sym c.count.ensures ∙ c.if-count-eq-MOST_RECORDS.true)),
+  PullsFor-none _ _ bytes records
+      (g.met.D.Deck.sound c.args.deck.now),
+)
+
+pub returns-then-count-eq-MOST_RECORDS-clause-disk : goal.returns-then-count-eq-MOST_RECORDS-clause-disk
+returns-then-count-eq-MOST_RECORDS-clause-disk g c = LeavesDisk-here _
+
+pub returns-then-count-eq-MOST_RECORDS-clause-told : goal.returns-then-count-eq-MOST_RECORDS-clause-told
+returns-then-count-eq-MOST_RECORDS-clause-told g c = KeepsTold-here _
+
+pub returns-then-count-eq-MOST_RECORDS-clause-time : goal.returns-then-count-eq-MOST_RECORDS-clause-time
+returns-then-count-eq-MOST_RECORDS-clause-time g c = Elapses-here _ _ (g.met.D.Deck.sound c.args.deck.now)
+
+pub returns-then-count-eq-MOST_RECORDS-clause-rest : goal.returns-then-count-eq-MOST_RECORDS-clause-rest
+returns-then-count-eq-MOST_RECORDS-clause-rest g c = g.met.D.Deck.rest_here c.args.deck.now
 
 pub fill-requires : goal.fill-requires
 fill-requires g c =
@@ -45,8 +66,8 @@ read-requires-clause-waits g c =
     let few = Reads-few c.args.self.now r.0 r.1 r.2 (not_most c.args.self.now c.count.result c.count.ensures c.if-count-eq-MOST_RECORDS.false) in
     (c.in-Ok.ensures.filled r.0 r.1 r.2 few).2.waits
 
-few_now : (k : Kept) (bytes : List ℕ) (records : List BusRecord) → Reads k bytes records → length records < most_records → k.count < 4294967296
-unfolding most_records
+few_now : (k : Kept) (bytes : List ℕ) (records : List BusRecord) → Reads k bytes records
+    → length records < most_records → k.count < most_records
 few_now k bytes records reads few = omega (arith, few, reads.count)
 
 pub read-requires-clause-few : goal.read-requires-clause-few
@@ -59,5 +80,10 @@ read-requires-clause-few g c =
 pub returns-in-Ok-clause-next : goal.returns-in-Ok-clause-next
 returns-in-Ok-clause-next g c = λ bytes records reads.
     let few = Reads-few c.args.self.now bytes records reads (not_most c.args.self.now c.count.result c.count.ensures c.if-count-eq-MOST_RECORDS.false) in
-    let filled = c.in-Ok.ensures.filled bytes records reads few in
-    (filled.0, filled.1, next_of _ _ _ c.fill.new.self c.read.new.self (bytes ++ filled.0) records c.read.result filled.2.reads few c.read.ensures.good c.read.ensures.bad)
+    let filled = c.in-Ok.ensures.filled bytes records reads few in (
+      filled.0,
+      filled.1,
+      next_of _ _ _ c.fill.new.self c.read.new.self (bytes ++ filled.0) records c.read.result
+          filled.2.reads few c.read.ensures.good c.read.ensures.bad,
+      filled.3,
+    )

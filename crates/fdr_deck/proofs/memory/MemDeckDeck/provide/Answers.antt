@@ -1,10 +1,10 @@
-use Rattle.std.proofs.Common.{◌≡◌, length, inl, rules}
-use Rattle.fdr_deck.specs.Memory.{held_in, memory_state, memory_tells}
-use Rattle.fdr_deck.specs.Disk.{Begins}
+use Rattle.std.proofs.Common.{◌≡◌, List, ℕ, length, inl, rules}
+use Rattle.fdr_deck.specs.Memory.{held_in, left_in, IsNumbered, memory_state, memory_tells}
+use Rattle.fdr_deck.specs.Disk.{Begins, IsZeros}
 use Rattle.fdr_deck.specs.declared.calls.Call.TheVariants.{Provide}
 use Rattle.fdr_deck.proofs.MemoryCalls.{passes_entered}
 use Rattle.fdr_deck.proofs.MemoryDisk.{passes_unentered, within_provide_unentered, provides_provide, within_provide}
-use Rattle.fdr_deck.proofs.MemoryWrite.{begins_unentered, begins_failed, passes_unprovided, within_unprovided}
+use Rattle.fdr_deck.proofs.MemoryWrite.{begins_unentered, zeros_unentered, begins_failed, zeros_failed, passes_unprovided, within_unprovided}
 use Rattle.fdr_deck.proofs.MemoryPass.{extent_passed, disk_passed, passes_passed, within_provide_passed}
 use Rattle.fdr_deck.proofs.memory.MemDeckDeck.provide.Goals as goal
 
@@ -58,3 +58,13 @@ returns-clause-passes c = passes_entered (Provide c.args.size) c.args.self.now c
 
 pub returns-clause-moments : goal.returns-clause-moments
 returns-clause-moments c = let empty : length (held_in c.args.self.now) ≡ 0 = search rules in within_provide c.args.size c.args.self.now c.make.new.self c.in_ok-make.ensures.entered c.make.ensures.pulled empty
+
+pub returns-then-fails-clause-zeros : goal.returns-then-fails-clause-zeros
+returns-then-fails-clause-zeros c = λ numbered empty. zeros_failed c.args.size c.args.self.now c.fail.new.self
+    c.fail.ensures.entered numbered
+
+pub returns-in_err-make-clause-zeros : goal.returns-in_err-make-clause-zeros
+returns-in_err-make-clause-zeros c =
+    let zeros : IsNumbered c.args.self.now c.make.new.self → length (held_in c.args.self.now) ≡ 0 → (image : List ℕ)
+    → IsZeros c.args.size image → left_in c.make.new.self image =
+    zeros_unentered c.args.size c.args.self.now c.make.new.self c.in_err-make.ensures.unentered in search rules

@@ -1,6 +1,8 @@
-use Rattle.std.proofs.Common.{length}
+use Rattle.std.proofs.Common.{List, ℕ, length, rules}
+use Rattle.fdr_deck.specs.Disk.{Torn}
+use Rattle.fdr_deck.specs.Memory.{left_in, IsNumbered}
 use Rattle.fdr_deck.proofs.MemoryDisk.{passes_unentered, within_unentered}
-use Rattle.fdr_deck.proofs.MemoryWrite.{tears_unentered, writes_put, tears_put, extent_put, passes_put, within_put, tears_failed, extent_failed, passes_failed, within_failed}
+use Rattle.fdr_deck.proofs.MemoryWrite.{tears_unentered, pending_unentered, writes_put, tears_put, extent_put, passes_put, within_put, tears_failed, pending_failed, extent_failed, passes_failed, within_failed}
 use Rattle.fdr_deck.proofs.memory.MemDeckDeck.write.Goals as goal
 
 pub returns-then-fails-clause-tears : goal.returns-then-fails-clause-tears
@@ -38,3 +40,14 @@ returns-clause-passes c = passes_put c.args.at c.args.bytes.now c.args.self.now 
 
 pub returns-clause-moments : goal.returns-clause-moments
 returns-clause-moments c = within_put c.args.at c.args.bytes.now c.args.self.now c.put.new.self c.in_ok-put.ensures.entered
+
+pub returns-then-fails-clause-torn : goal.returns-then-fails-clause-torn
+returns-then-fails-clause-torn c = pending_failed c.args.at c.args.bytes.now c.args.self.now c.fail_write.new.self
+    c.fail_write.ensures.entered
+
+pub returns-in_err-put-clause-torn : goal.returns-in_err-put-clause-torn
+returns-in_err-put-clause-torn c =
+    let torn : IsNumbered c.args.self.now c.put.new.self → (from image : List ℕ) → left_in c.args.self.now from
+    → Torn c.args.at (length c.args.bytes.now) from image → left_in c.put.new.self image =
+    pending_unentered c.args.at (length c.args.bytes.now) c.args.self.now c.put.new.self
+    c.in_err-put.ensures.unentered in search rules

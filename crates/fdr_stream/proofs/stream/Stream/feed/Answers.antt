@@ -1,4 +1,4 @@
-use Rattle.std.proofs.Common.{◌≡◌, ℕ, ◌<◌, ◌≤◌, ⊎_elim, Bool, false, length, take, refl, sym, ap, ◌∙◌, arith}
+use Rattle.std.proofs.Common.{◌≡◌, ℕ, ◌<◌, ◌≤◌, ⊎_elim, Bool, false, length, take, drop, refl, sym, ap, ◌∙◌, arith}
 use Rattle.std.specs.Prelude.{◌↔◌, IsTrue}
 use Rattle.std.proofs.lemmas.Bool.{cases_lt, iff_false}
 use Rattle.fdr_stream.specs.Kept.{Kept}
@@ -47,6 +47,13 @@ returns-then-is_full-clause-begun c past st may given =
     let at = c.draw.ensures.draws past (IsDrawing-fed c.args.self.now past c.args.next.now st may) in
     let whole = c.is_full.ensures.0 c.if-is_full.true in
     Stands-block c.args.self.now c.draw.new.self c.give.new.self past c.args.next.now st at c.draw.ensures.on whole c.draw.ensures.few c.give.ensures.rest
+
+pub returns-then-is_full-clause-beyond : goal.returns-then-is_full-clause-beyond
+returns-then-is_full-clause-beyond c past st given =
+    let known = c.requires in
+    let at = c.draw.ensures.draws known.0 (IsDrawing-fed c.args.self.now known.0 c.args.next.now known.1 known.2) in
+    let size : c.draw.new.self.payload ≡ past.payload = at.packed.payload ∙ sym known.1.packed.payload ∙ st.packed.payload in
+    ap (λ n. drop n c.give.new.out) (sym size) ∙ c.give.ensures.beyond ∙ ap (λ n. drop n c.args.out.now) size
 
 pub returns-else-is_full-clause-exactly : goal.returns-else-is_full-clause-exactly
 returns-else-is_full-clause-exactly c past st may =

@@ -1,7 +1,9 @@
-use Rattle.std.proofs.Common.{◌≡◌, ℕ, ◌+◌, ◌*◌, ◌≤◌, List, ◌++◌, length, take, drop, min, sym, ap, ◌∙◌, arith}
-use Rattle.std.proofs.lemmas.List.{take-append-le, take_all, length-drop}
+use Rattle.std.proofs.Common.{◌≡◌, ℕ, ◌+◌, ◌*◌, ◌≤◌, List, ◌++◌, length, take, drop, min, sym, subst, ap, ◌∙◌, arith}
+use Rattle.std.proofs.lemmas.List.{drop_all, take-append-le, take_all, length-drop}
 use Rattle.std.proofs.Math.Seq.{take-length}
 use Rattle.fdr_sampler.specs.Stream.{stream_of}
+use Rattle.fdr_sampler.specs.Kept.{Kept as Sampled}
+use Rattle.fdr_sampler.specs.Past.{Stands as SamplerStands}
 use Rattle.fdr_stream.specs.Packing.{last_byte}
 use Rattle.fdr_stream.specs.Kept.{Kept}
 use Rattle.fdr_stream.proofs.Standing.{rest_is, few_left, blocks_left}
@@ -50,3 +52,19 @@ returns-clause-few c past st =
     let items = c.self.inside.bytes.items in
     let left : items ≡ k.bytes ++ last_byte k.odd = ap (λ (x : Kept). x.bytes) (c.self.view_is ∙ c.pad.ensures) in
     omega (arith, c.read_into.ensures.count, few_left k past items st left)
+
+pub returns-clause-finished : goal.returns-clause-finished
+returns-clause-finished c past st none =
+    let k = c.args.self.now in
+    let items = c.self.inside.bytes.items in
+    let padded_is = c.self.view_is ∙ c.pad.ensures in
+    let left : items ≡ k.bytes ++ last_byte k.odd = ap (λ (x : Kept). x.bytes) padded_is in
+    let all : length items ≤ c.read_into.result = omega (arith, c.read_into.ensures.count, few_left k past items st left, few_left k c.requires.0 items c.requires.1 left, c.requires.3) in
+    let same : c.self.inside.sampler ≡ k.sampler = ap (λ (x : Kept). x.sampler) padded_is in
+    let IsOf : Sampled → Type 0 = λ s. SamplerStands s (record { table = past.table; records = past.records; drawn = s.drawn }) in
+    record {
+      payload = ap (λ (x : Kept). x.payload) padded_is ∙ st.packed.payload;
+      odd = ap (λ (x : Kept). x.odd) padded_is;
+      bytes = ap (λ b. b.items) c.read_into.ensures.items ∙ drop_all c.read_into.result items all;
+      sampler = λ unended. subst IsOf (sym same) (st.sampler unended);
+    }

@@ -3,6 +3,7 @@ use Rattle.std.specs.Prelude.{is_some}
 use Rattle.csv.specs.Records.{fields_of}
 use Rattle.fdr_table.specs.DraftRows.{DraftRows}
 use Rattle.fdr_table.specs.DraftView.{draft_view}
+use Rattle.fdr_table.specs.Bounds.{most_params}
 use Rattle.fdr_table.specs.Draft.{Fits, IsNextDraft, IsNextFault, index_named, with_entry}
 use Rattle.fdr_table.specs.declared.draft.Entry.TheVariants as entry
 use Rattle.fdr_table.specs.declared.fault.TableFault.TheVariants as fault
@@ -34,7 +35,7 @@ returns-then-len-ge-MAX_PARAMS-clause-fault c =
     let there : is_some c.self.inside.frame ≡ true = grind arith in
     let index = c.find.ensures ∙ ap (index_named c.self.inside.params) c.field_at.ensures in
     let fresh : is_some (index_named c.self.inside.params (name_in row)) ≡ false = grind arith in
-    let many : 2048 ≤ length c.self.inside.params = grind arith in
+    let many : most_params ≤ length c.self.inside.params = grind arith in
     let named = named-right row c.in_ok-named.ensures.numbers (param_row-right c.self.inside.rows row c.in-Some.param (c.in_ok-named.ensures.read ∙ c.in-Some.is)) in
     subst (λ (d : DraftRows). IsNextFault d row fault.Size) c.self.view_is
     (too-many-params (draft_view c.self.inside) row c.requires c.in_ok-named.ensures.numbers there named fresh many)
@@ -45,7 +46,7 @@ returns-clause-param c =
     let there : is_some c.self.inside.frame ≡ true = grind arith in
     let index = c.find.ensures ∙ ap (index_named c.self.inside.params) c.field_at.ensures in
     let fresh : is_some (index_named c.self.inside.params (name_in row)) ≡ false = grind arith in
-    let few : length c.self.inside.params < 2048 = grind arith in
+    let few : length c.self.inside.params < most_params = grind arith in
     let read = c.in_ok-named.ensures.read ∙ c.in-Some.is in
     subst (λ (d : DraftRows). IsNextDraft d row (with_entry d (entry.Param c.in-Some.param))) c.self.view_is
     (param-next (draft_view c.self.inside) row c.in-Some.param c.requires c.in_ok-named.ensures.numbers read there fresh few)
@@ -56,6 +57,6 @@ returns-clause-fits c =
     let index = c.find.ensures ∙ ap (index_named c.self.inside.params) c.field_at.ensures in
     let found : is_some c.find.result ≡ false = grind arith in
     let name = param_row-name c.self.inside.rows row c.in-Some.param (c.in_ok-named.ensures.read ∙ c.in-Some.is) in
-    let few : length c.self.inside.params < 2048 = grind arith in
+    let few : length c.self.inside.params < most_params = grind arith in
     subst (λ (d : DraftRows). Fits d (entry.Param c.in-Some.param)) c.self.view_is
     (none-from c.find.result (index_named c.self.inside.params c.in-Some.param.name) (index ∙ ap (index_named c.self.inside.params) name) found, few)

@@ -3,6 +3,7 @@ use Rattle.std.specs.Prelude.{is_some, unwrap_or}
 use Rattle.csv.specs.Records.{fields_of}
 use Rattle.fdr_table.specs.DraftRows.{DraftRows}
 use Rattle.fdr_table.specs.DraftView.{draft_view}
+use Rattle.fdr_table.specs.Bounds.{most_places}
 use Rattle.fdr_table.specs.Draft.{Fits, IsNextDraft, IsNextFault, index_named, with_entry}
 use Rattle.fdr_table.specs.Reading.{place_row}
 use Rattle.fdr_table.specs.declared.draft.Entry.TheVariants as entry
@@ -34,7 +35,7 @@ returns-then-len-ge-MAX_PLACES-clause-fault c =
     let index = c.find-param.ensures ∙ ap (index_named c.self.inside.params) c.field_at.ensures in
     let known : is_some (index_named c.self.inside.params (name_in row)) ≡ true = grind arith in
     let right = place_row-right c.unwrap_or.result c.self.inside.rows row c.in_ok-place.place c.in_ok-place.ensures.read in
-    let many : 8192 ≤ length c.self.inside.places.items = grind arith in
+    let many : most_places ≤ length c.self.inside.places.items = grind arith in
     subst (λ (d : DraftRows). IsNextFault d row fault.Size) c.self.view_is (too-many-places (draft_view c.self.inside) row c.requires right there known many)
 
 pub returns-clause-place : goal.returns-clause-place
@@ -45,7 +46,7 @@ returns-clause-place c =
     let known : is_some (index_named c.self.inside.params (name_in row)) ≡ true = grind arith in
     let param = c.unwrap_or.ensures ∙ ap (λ (i : Option ℕ). unwrap_or i 0) index in
     let read = ap (λ (k : ℕ). place_row k c.self.inside.rows row) (sym param) ∙ c.in_ok-place.ensures.read in
-    let few : length c.self.inside.places.items < 8192 = grind arith in
+    let few : length c.self.inside.places.items < most_places = grind arith in
     subst (λ (d : DraftRows). IsNextDraft d row (with_entry d (entry.Place c.in_ok-place.place))) c.self.view_is
     (place-next (draft_view c.self.inside) row c.in_ok-place.place c.requires read there known few)
 

@@ -1,0 +1,64 @@
+-- Quiet calls, one behind another.
+use Rattle.std.proofs.Common.{◌⊎◌, inl, inr, ⊎_elim, ℕ, ◌≤◌, List, ◌∙◌, arith}
+use Rattle.std.specs.Prelude.{IsTrue}
+use Rattle.fdr_deck.specs.State.{State, Tells, Moment}
+use Rattle.fdr_deck.specs.Disk.{KeepsDisk, IsZeros}
+use Rattle.fdr_deck.specs.Moments.{IsSound, EachMoment, Within, WithinProvide}
+use Rattle.fdr_deck.specs.Calls.{Passes, IsQuiet, IsQuietMoment}
+use Rattle.fdr_deck.proofs.Moments.{Passes-then, EachMoment-then, IsQuiet-here, IsQuiet-keep}
+
+-- the property is weakened
+pub IsQuiet-weaken : (tells : Tells) (P Q : List ℕ → Type 0) (old new : State) → IsQuiet tells P old new → (IsTrue tells.stops → (image : List ℕ) → P image → Q image) → IsQuiet tells Q old new
+IsQuiet-weaken tells P Q old new quiet weaker = record {
+  passes = quiet.passes;
+  moments = λ told m since. let is = quiet.moments told m since in
+      record { image = weaker told m.image is.image; least = is.least; greatest = is.greatest; pulled = is.pulled };
+}
+
+-- a stretch with one property, and then one with another
+pub IsQuiet-then : (tells : Tells) (P Q R : List ℕ → Type 0) (old mid new : State) → IsSound tells old → IsQuiet tells P old mid → IsQuiet tells Q mid new
+    → (IsTrue tells.stops → (image : List ℕ) → P image → R image) → (IsTrue tells.stops → (image : List ℕ) → Q image → R image) → IsQuiet tells R old new
+IsQuiet-then tells P Q R old mid new sound first second one two = record {
+  passes = Passes-then tells old mid new first.passes second.passes;
+  moments = EachMoment-then tells old mid new (IsQuietMoment R old) first.passes.time second.passes.time (IsQuiet-weaken tells P R old mid first one).moments
+      (λ told m since. widen told m (second.moments told m since));
+}
+  where
+    least : old.least ≤ mid.least
+    least = ⊎_elim (λ fresh. omega (arith, fresh.0, first.passes.told.told, sound.least)) (λ kept. omega (arith, kept.0)) first.passes.told.numbers
+
+    greatest : mid.greatest ≤ old.greatest
+    greatest = ⊎_elim (λ fresh. omega (arith, fresh.1, first.passes.told.told, sound.greatest)) (λ kept. omega (arith, kept.1)) first.passes.told.numbers
+
+    widen : IsTrue tells.stops → (m : Moment) → IsQuietMoment Q mid m → IsQuietMoment R old m
+    widen told m quiet = record {
+      image = two told m.image quiet.image;
+      least = omega (arith, least, quiet.least);
+      greatest = omega (arith, greatest, quiet.greatest);
+      pulled = record {
+        taken = quiet.pulled.taken ∙ first.passes.line.taken;
+        before = quiet.pulled.before ∙ first.passes.line.before;
+      };
+    }
+
+-- one call that leaves the disk
+pub IsQuiet-look : (tells : Tells) (P : List ℕ → Type 0) (old new : State) → IsSound tells old → KeepsDisk old new → Passes tells old new → EachMoment tells old new (Within old new)
+    → (IsTrue tells.stops → (image : List ℕ) → old.may_leave image → P image) → IsQuiet tells P old new
+IsQuiet-look tells P old new sound disk passes moments here =
+    IsQuiet-keep tells P old old new sound sound (IsQuiet-here tells P old sound here) passes moments disk.no_more
+
+-- a call that provides the disk
+pub IsQuiet-provide : (tells : Tells) (size : ℕ) (old new : State) → IsSound tells old → Passes tells old new → EachMoment tells old new (WithinProvide size old new)
+    → IsQuiet tells (λ image. old.may_leave image ⊎ IsZeros size image) old new
+IsQuiet-provide tells size old new sound passes moments = record {
+  passes = passes;
+  moments = λ told m since. ⊎_elim
+      (λ now. record { image = inl now.image; least = now.least; greatest = now.greatest; pulled = now.pulled })
+      (λ amid. record {
+        image = ⊎_elim (λ was. inl was) (λ zeros. inr zeros.1) amid.image;
+        least = omega (arith, amid.told, sound.least);
+        greatest = omega (arith, amid.told, sound.greatest);
+        pulled = amid.pulled;
+      })
+      (moments told m since);
+}

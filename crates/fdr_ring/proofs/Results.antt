@@ -1,0 +1,10 @@
+-- What holds of a result where it is Ok.
+use Rattle.std.specs.Prelude.{Result, Ok, Err, OnOk}
+
+pub always_ok : {T E : Type 0} (r : Result T E) (P : Type 0) → P → OnOk r P
+always_ok (Ok x) P p = p
+always_ok (Err e) P p = tt
+
+pub map_ok : {T E : Type 0} (r : Result T E) (P Q : Type 0) → (P → Q) → OnOk r P → OnOk r Q
+map_ok (Ok x) P Q f p = f p
+map_ok (Err e) P Q f p = tt

@@ -1,0 +1,235 @@
+-- What pulls leave of a deck, and their moments.
+use Rattle.std.proofs.Common.{◌≡◌, ◌⊎◌, inl, inr, ⊎_elim, ℕ, ◌+◌, ◌-◌, ◌<◌, ◌≤◌, List, [], ◌++◌, length, take, ap, sym, ◌∙◌, subst, length-append, arith}
+use Rattle.std.proofs.lemmas.Bool.{cases_lt}
+use Rattle.std.proofs.lemmas.List.{append-nil, take-append-le, take_at}
+use Rattle.fdr_bus.specs.declared.BusRecord.{BusRecord}
+use Rattle.fdr_bus.specs.Records.{IsDecided, good_prefix, most_records}
+use Rattle.fdr_deck.specs.State.{State, Tells, Moment}
+use Rattle.fdr_deck.specs.Calls.{KeepsTold, IsFresh, LeavesDisk}
+use Rattle.fdr_deck.specs.Moments.{HasPulled, IsNow, IsInside, Within, Elapses, EachMoment, IsSound}
+use Rattle.fdr_deck.specs.Pull.{KeepsLine}
+use Rattle.fdr_deck.proofs.Moments.{Elapses-here, Elapses-then, EachMoment-then, EachMoment-weaken, KeepsTold-here, KeepsTold-then}
+use Rattle.fdr_trace.specs.Kept.{Kept}
+use Rattle.fdr_trace.specs.Moments.{IsLastPull, IsPulling, IsTraceMoment, PullsFor}
+use Rattle.fdr_trace.specs.Pulls.{Pulled, PullsMore}
+use Rattle.fdr_trace.specs.Reading.{Reads}
+use Rattle.fdr_trace.proofs.Pulling.{LeavesDisk-here, LeavesDisk-then}
+use Rattle.fdr_trace.proofs.Records.{Reads-good, Reads-undecided}
+
+-- what pulls leave of a deck
+pub record KeepsDeck (tells : Tells) (old new : State) : Type 0 where
+  pub disk : LeavesDisk old new
+  pub told : KeepsTold old new
+  pub fresh : old.taken < new.taken → IsFresh new
+  pub time : Elapses tells old new
+
+pub KeepsDeck-here : (tells : Tells) (d : State) → IsSound tells d → KeepsDeck tells d d
+KeepsDeck-here tells d sound = record {
+  disk = LeavesDisk-here d;
+  told = KeepsTold-here d;
+  fresh = λ more. absurd (omega (arith, more));
+  time = Elapses-here tells d sound;
+}
+
+pub KeepsDeck-then : (tells : Tells) (a b c : State) → KeepsDeck tells a b → LeavesDisk b c → KeepsTold b c
+    → (a.taken < c.taken → IsFresh c) → Elapses tells b c → KeepsDeck tells a c
+KeepsDeck-then tells a b c first disk told fresh time = record {
+  disk = LeavesDisk-then a b c first.disk disk;
+  told = KeepsTold-then a b c first.told told;
+  fresh = fresh;
+  time = Elapses-then tells a b c first.time time;
+}
+
+-- a pull that took nothing leaves the numbers fresh
+fresh_kept : (a b c : State) → (a.taken < b.taken → IsFresh b) → KeepsLine b c → KeepsTold b c → a.taken < c.taken
+    → IsFresh c
+fresh_kept a b c fresh line told more = ⊎_elim
+    (λ anew. record { least = anew.0; greatest = anew.1 })
+    (λ kept. let was = fresh (omega (arith, line.taken, more)) in
+    record { least = kept.0 ∙ was.least ∙ sym told.told; greatest = kept.1 ∙ was.greatest ∙ sym told.told })
+    told.numbers
+
+pub KeepsDeck-kept : (tells : Tells) (a b c : State) → KeepsDeck tells a b → LeavesDisk b c → KeepsTold b c
+    → KeepsLine b c → Elapses tells b c → KeepsDeck tells a c
+KeepsDeck-kept tells a b c first disk told line time = KeepsDeck-then tells a b c first disk told
+    (fresh_kept a b c first.fresh line told) time
+
+-- bytes pulled behind the last pull leave it as it is
+pub IsLastPull-more : (start : ℕ) (bytes more later : List ℕ) (records : List BusRecord) (before taken : ℕ)
+    → IsLastPull start bytes more records before taken → IsLastPull start bytes (more ++ later) records before taken
+IsLastPull-more start bytes more later records before taken last =
+    let inside : before - start ≤ length more = omega (arith, last.begins, last.some, last.within) in
+    let front = ap (λ (x : List ℕ). bytes ++ x) (take-append-le (before - start) more later inside) in
+    record {
+      begins = last.begins;
+      some = last.some;
+      few = last.few;
+      within = omega (arith, last.within, length-append more later);
+      read = ap good_prefix front ∙ last.read;
+      undecided = λ decided. last.undecided (subst IsDecided front decided);
+    }
+
+pub IsTraceMoment-more : (old : State) (bytes more later : List ℕ) (records : List BusRecord) (m : Moment)
+    → IsTraceMoment old bytes more records m → IsTraceMoment old bytes (more ++ later) records m
+IsTraceMoment-more old bytes more later records m is = record {
+  image = is.image;
+  least = is.least;
+  greatest = is.greatest;
+  pulled = ⊎_elim
+      (λ here. inl here)
+      (λ pulling. inr (record {
+        told = pulling.told;
+        last = IsLastPull-more old.taken bytes more later records
+            m.before m.taken pulling.last;
+      }))
+      is.pulled;
+}
+
+-- a pull that gave bytes, where those before it held no whole record that wasn't read
+pub IsLastPull-pull : (tells : Tells) (a b c : State) (k : Kept) (bytes more piece : List ℕ) (records : List BusRecord)
+    → b.taken ≡ a.taken + length more → Reads k (bytes ++ more) records → length k.waiting < 16
+    → length records < most_records → Pulled tells b c piece → 0 < length piece
+    → IsLastPull a.taken bytes (more ++ piece) records c.before c.taken
+IsLastPull-pull tells a b c k bytes more piece records taken reads waits few pull some =
+    let began = pull.began some in
+    let n : length more ≡ c.before - a.taken = omega (arith, began, taken) in
+    let front : take (c.before - a.taken) (more ++ piece) ≡ more = take_at more piece (c.before - a.taken) n in
+    let before = ap (λ (x : List ℕ). bytes ++ x) front in
+    record {
+      begins = omega (arith, began, taken);
+      some = omega (arith, began, pull.takes.taken, some);
+      few = omega (arith, began, pull.takes.taken, pull.few);
+      within = omega (arith, taken, pull.takes.taken, length-append more piece);
+      read = ap good_prefix before ∙ Reads-good k (bytes ++ more) records reads waits;
+      undecided = λ decided. Reads-undecided k (bytes ++ more) records reads waits few (subst IsDecided before decided);
+    }
+
+-- the last pull after one pull more
+pub last_pulled : (tells : Tells) (a b c : State) (k : Kept) (bytes more piece : List ℕ) (records : List BusRecord)
+    → PullsMore tells a b bytes more → PullsFor tells a b bytes more records → Reads k (bytes ++ more) records
+    → length k.waiting < 16 → length records < most_records
+    → Pulled tells b c piece → 0 < length (more ++ piece) → IsLastPull a.taken bytes (more ++ piece) records c.before
+    c.taken
+last_pulled tells a b c k bytes more piece records pulls was reads waits few pull some = ⊎_elim
+    (λ here. IsLastPull-pull tells a b c k bytes more piece records pulls.takes.taken reads waits few pull here)
+    (λ none.
+    let last = was.last (omega (arith, some, length-append more piece, none)) in
+    let taken : b.taken ≡ c.taken = omega (arith, pull.takes.taken, none) in
+    let before = sym (pull.none (omega (arith, none))) in
+    IsLastPull-more a.taken bytes more piece records c.before c.taken
+    (subst (λ n. IsLastPull a.taken bytes more records n c.taken) before
+    (subst (λ n. IsLastPull a.taken bytes more records b.before n) taken last)))
+    (cases_lt 0 (length piece))
+
+-- the last pull after one that failed
+pub last_kept : (tells : Tells) (a b c : State) (bytes more : List ℕ) (records : List BusRecord)
+    → PullsFor tells a b bytes more records → KeepsLine b c → 0 < length more
+    → IsLastPull a.taken bytes more records c.before c.taken
+last_kept tells a b c bytes more records was line some =
+    subst (λ n. IsLastPull a.taken bytes more records n c.taken) (sym line.before)
+    (subst (λ n. IsLastPull a.taken bytes more records b.before n) (sym line.taken) (was.last some))
+
+-- a moment whose numbers of bytes are those of a deck from which so much was pulled
+pulled_since : (tells : Tells) (a s : State) (bytes more : List ℕ) (records : List BusRecord) (m : Moment)
+    → PullsMore tells a s bytes more → (0 < length more → IsLastPull a.taken bytes more records s.before s.taken)
+    → (0 < length more → m.told ≡ a.told) → HasPulled s m
+    → HasPulled a m ⊎ IsPulling a bytes more records m
+pulled_since tells a s bytes more records m pulls last told here = ⊎_elim
+    (λ some. inr (record {
+      told = told some;
+      last = subst (λ n. IsLastPull a.taken bytes more records n m.taken) (sym here.before)
+          (subst (λ n. IsLastPull a.taken bytes more records s.before n) (sym here.taken) (last some));
+    }))
+    (λ none. inl (record {
+      taken = omega (arith, here.taken, pulls.takes.taken, none);
+      before = here.before
+          ∙ pulls.none (omega (arith, none));
+    }))
+    (cases_lt 0 (length more))
+
+-- Nothing was pulled yet.
+pub PullsFor-none : (tells : Tells) (d : State) (bytes : List ℕ) (records : List BusRecord) → IsSound tells d
+    → PullsFor tells d d bytes [] records
+PullsFor-none tells d bytes records sound = record {
+  last = λ some. absurd (omega (arith, some));
+  moments = λ told m since.
+      let now = sound.only_now told m since in
+      record { image = now.image; least = now.least; greatest = now.greatest; pulled = inl now.pulled };
+}
+
+-- One pull more, whatever it answered.
+pub PullsFor-then : (tells : Tells) (a b c : State) (bytes more piece : List ℕ) (records : List BusRecord)
+    → IsSound tells a → KeepsDeck tells a b → PullsMore tells a b bytes more → PullsFor tells a b bytes more records
+    → LeavesDisk b c → Elapses tells b c
+    → EachMoment tells b c (Within b c) → PullsMore tells a c bytes (more ++ piece)
+    → (0 < length (more ++ piece) → IsLastPull a.taken bytes (more ++ piece) records c.before c.taken) → PullsFor
+    tells a c bytes (more ++ piece) records
+PullsFor-then tells a b c bytes more piece records sound deck pulls was disk time moments pulls_now last = record {
+  last = last;
+  moments = EachMoment-then tells a b c (IsTraceMoment a bytes (more ++ piece) records) deck.time time
+      (EachMoment-weaken tells a b (IsTraceMoment a bytes more records)
+      (IsTraceMoment a bytes (more ++ piece) records) (λ m is. IsTraceMoment-more a bytes more piece records m is)
+      was.moments)
+      (λ told m since. ⊎_elim (λ now. at_start m now) (λ inside. amid m inside) (moments told m since));
+}
+  where
+    least : a.least ≤ b.least
+    least = ⊎_elim (λ fresh. omega (arith, fresh.0, deck.told.told, sound.least)) (λ kept. omega (arith, kept.0))
+        deck.told.numbers
+
+    greatest : b.greatest ≤ a.greatest
+    greatest = ⊎_elim (λ fresh. omega (arith, fresh.1, deck.told.told, sound.greatest))
+        (λ kept. omega (arith, kept.1)) deck.told.numbers
+
+    widen : (m : Moment) → HasPulled a m ⊎ IsPulling a bytes more records m
+        → HasPulled a m ⊎ IsPulling a bytes (more ++ piece) records m
+    widen m pulled = ⊎_elim
+        (λ here. inl here)
+        (λ pulling. inr (record {
+          told = pulling.told;
+          last = IsLastPull-more a.taken bytes more piece records
+              m.before m.taken pulling.last;
+        }))
+        pulled
+
+    told_fresh : (m : Moment) → IsNow b m → 0 < length more → m.told ≡ a.told
+    told_fresh m now some =
+        let fresh = deck.fresh (omega (arith, pulls.takes.taken, some)) in
+        omega (arith, now.least, now.greatest, fresh.least, fresh.greatest, deck.told.told)
+
+    at_start : (m : Moment) → IsNow b m → IsTraceMoment a bytes (more ++ piece) records m
+    at_start m now = record {
+      image = deck.disk.disk.no_more m.image now.image;
+      least = omega (arith, least, now.least);
+      greatest = omega (arith, greatest, now.greatest);
+      pulled = widen m (pulled_since tells a b bytes more records m pulls was.last (told_fresh m now) now.pulled);
+    }
+
+    amid : (m : Moment) → IsInside b c m → IsTraceMoment a bytes (more ++ piece) records m
+    amid m inside =
+        let told : m.told ≡ a.told = inside.told ∙ deck.told.told in
+        record {
+          image = ⊎_elim (λ left. deck.disk.disk.no_more m.image left)
+              (λ left. deck.disk.disk.no_more m.image (disk.disk.no_more m.image left)) inside.image;
+          least = omega (arith, told, sound.least);
+          greatest = omega (arith, told, sound.greatest);
+          pulled = ⊎_elim
+              (λ here. widen m (pulled_since tells a b bytes more records m pulls was.last (λ some. told) here))
+              (λ there. pulled_since tells a c bytes (more ++ piece) records m pulls_now last (λ some. told) there)
+              inside.pulled;
+        }
+
+-- One pull more, which failed.
+pub PullsFor-kept : (tells : Tells) (a b c : State) (bytes more : List ℕ) (records : List BusRecord) → IsSound tells a
+    → KeepsDeck tells a b → PullsMore tells a b bytes more → PullsFor tells a b bytes more records → LeavesDisk b c
+    → Elapses tells b c
+    → EachMoment tells b c (Within b c) → PullsMore tells a c bytes more → KeepsLine b c → PullsFor tells a c bytes
+    more records
+PullsFor-kept tells a b c bytes more records sound deck pulls was disk time moments pulls_now line =
+    let nothing : more ++ [] ≡ more = append-nil more in
+    let now : PullsMore tells a c bytes (more ++ []) = subst (PullsMore tells a c bytes) (sym nothing) pulls_now in
+    let last : 0 < length (more ++ []) → IsLastPull a.taken bytes (more ++ []) records c.before c.taken = λ some.
+    subst (λ (x : List ℕ). IsLastPull a.taken bytes x records c.before c.taken) (sym nothing)
+    (last_kept tells a b c bytes more records was line (subst (λ (x : List ℕ). 0 < length x) nothing some)) in
+    subst (λ (x : List ℕ). PullsFor tells a c bytes x records) nothing
+    (PullsFor-then tells a b c bytes more [] records sound deck pulls was disk time moments now last)
