@@ -1,0 +1,306 @@
+#!/usr/bin/env python3
+"""Keeps the documents true to the source.
+
+    tools/documents.py write    writes docs/clauses/CRATE.md anew from the source
+    tools/documents.py check    prints what differs, and ends with 1 where something does
+
+The check wants: the pages of docs/clauses as the source says; each name in `these marks` of docs/GUARANTEES.md to be one
+of the source; README.md to say of how many definitions the contract of `run` speaks; docs/MODEL.md to list exactly the
+public definitions of specs/, crate by crate; the crates' edges in docs/ARCHITECTURE.md to be those of crates.txt; the
+forms, statuses and texts of docs/fdr.1 to be those of the source; and each link to lead to a file and heading.
+"""
+
+import pathlib
+import re
+import sys
+
+TOP = pathlib.Path(__file__).resolve().parent.parent
+CRATES = TOP / "crates"
+CLAUSES = TOP / "docs" / "clauses"
+
+
+def crate_lines():
+    """The crates in the order of crates.txt, each with what it stands on."""
+    for line in (TOP / "crates.txt").read_text().splitlines():
+        line = line.split("#")[0].strip()
+        if line:
+            name, needs = line.split(":")
+            yield name.strip(), needs.split()
+
+
+def source_files(crate):
+    """The source files of a crate but its tests, the root file first and then by name."""
+    source = CRATES / crate / "src"
+    files = [path for path in source.rglob("*.rt") if path.name != "tests.rt" and "tests" not in path.parts]
+    return sorted(files, key=lambda path: (path.name not in ("lib.rt", "main.rt"), path.as_posix()))
+
+
+def exported(crate):
+    """The names that a crate's root file hands out."""
+    names = set()
+    for path in source_files(crate)[:1]:
+        text = path.read_text()
+        for group in re.findall(r"^pub use ([^;]*);", text, re.M):
+            names.update(re.findall(r"\w+", group.split("::", 1)[-1]))
+        names.update(re.findall(r"^pub (?:const fn|fn|struct|enum|trait) (\w+)", text, re.M))
+    return names
+
+
+def owner_of(line):
+    """The type or trait whose block a line begins, and whether all functions in it are public."""
+    trait = re.match(r"pub trait (\w+)", line)
+    if trait:
+        return trait.group(1), True
+    block = re.match(r"impl(?:<[^{]*?>)? (?:(\w+)(?:<[^{]*>)? for )?&?(\w+)", line)
+    if block:
+        return block.group(2), block.group(1) is not None
+    return None
+
+
+def functions(path):
+    """The functions of a file: owner, name, whether public, and the lines of signature and contract."""
+    owner, all_public = None, False
+    lines = path.read_text().splitlines()
+    at = 0
+    while at < len(lines):
+        line = lines[at]
+        if line.startswith("#[cfg(test)]"):
+            return
+        if owner_of(line):
+            owner, all_public = owner_of(line)
+        elif line == "}":
+            owner, all_public = None, False
+        start = re.match(r"( *)(pub |pub\(crate\) )?(?:const )?fn (\w+)", line)
+        if start:
+            indent, public, name = start.groups()
+            contract = []
+            while at < len(lines):
+                text = lines[at][len(indent):]
+                if text == "{" or text == "}":
+                    break
+                ends = text.endswith((" {", ";")) and not text.startswith(("    ensures", "    requires", "        "))
+                contract.append(text.removesuffix(" {").removesuffix(";") if ends else text)
+                at += 1
+                if ends:
+                    break
+                if contract[-1].endswith(";") and contract[-1].startswith("    ensures"):
+                    contract[-1] = contract[-1][:-1]
+                    break
+            yield owner, name, public == "pub " or (all_public and not public), contract
+        at += 1
+
+
+def clause_page(crate):
+    """The contracts of a crate's public functions, as a page."""
+    names = exported(crate)
+    parts = [
+        f"# Clauses of {crate}\n",
+        "The contracts of the public functions, word for word. Written by `tools/documents.py` from the source; edit that.",
+    ]
+    for path in source_files(crate):
+        for owner, name, public, contract in functions(path):
+            if public and (owner or name) in names and any("ensures" in line or "requires" in line for line in contract):
+                title = f"{owner}::{name}" if owner else name
+                parts.append(f"\n## `{title}`\n\n```text\n" + "\n".join(contract).rstrip() + "\n```")
+    return "\n".join(parts) + "\n" if len(parts) > 2 else None
+
+
+def pages():
+    return {name: page for name, _ in crate_lines() if (page := clause_page(name))}
+
+
+def definitions(crate):
+    """The public definitions of a crate's specs/, by name, each with its module."""
+    found = {}
+    for path in sorted((CRATES / crate / "specs").glob("*.antt")):
+        for line in path.read_text().splitlines():
+            name = re.match(r"(?:(?:abbrev|unfoldable) )?pub (?:record |data )?([^\s:{(]+)", line)
+            if name and not line.startswith(("pub mod", "pub use")):
+                found[name.group(1)] = path.stem
+    return found
+
+
+def imports(text, line):
+    """The names that a file's lines of this kind bring in: each with the crate and module that it comes from."""
+    found = {}
+    for crate, module, names in re.findall(rf"^{line} Rattle\.(fdr_\w+)\.specs\.(\w+)\.\{{([^}}]*)\}}", text, re.M):
+        for name in names.split(","):
+            original, _, other = name.strip().partition(" as ")
+            found[other or original] = crate, module, original
+    return found
+
+
+def names_in(text, near, brought):
+    """The definitions that a text names: those of its own file, and those that are brought in."""
+    for word in set(re.findall(r"[A-Za-z_][\w'-]*", text)):
+        if word in near:
+            yield near[word]
+        elif word in brought:
+            yield brought[word]
+
+
+def reached():
+    """How many definitions the contract of `run` speaks of, and how many there are."""
+    bodies = {}
+    for crate, _ in crate_lines():
+        for path in (CRATES / crate / "specs").glob("*.antt"):
+            text, name, own = path.read_text(), None, {}
+            for line in text.splitlines():
+                begins = re.match(r"(?:(?:abbrev|unfoldable) )?pub (?:record |data )?([^\s:{(]+)", line)
+                if begins and not line.startswith(("pub mod", "pub use")):
+                    name = crate, path.stem, begins.group(1)
+                    own[begins.group(1)] = name
+                if name:
+                    bodies.setdefault(name, ([], own, imports(text, "use")))[0].append(line)
+    top = (CRATES / "fdr_top" / "src" / "top.rt").read_text()
+    contract = re.search(r"^pub fn run.*?^\{", top, re.M | re.S).group()
+    waiting, seen = list(names_in(contract, {}, imports(top, "ghost use"))), set()
+    while waiting:
+        name = waiting.pop()
+        if name in bodies and name not in seen:
+            seen.add(name)
+            lines, own, brought = bodies[name]
+            waiting.extend(names_in("\n".join(lines), own, brought))
+    return len(seen), len(bodies)
+
+
+def check_readme():
+    spoken_of, all_of_them = reached()
+    if f"{spoken_of} of the {all_of_them} definitions" not in (TOP / "README.md").read_text():
+        yield f"README.md: `run` speaks of {spoken_of} of the {all_of_them} definitions"
+
+
+def check_clauses():
+    want = pages()
+    for name, page in want.items():
+        path = CLAUSES / f"{name}.md"
+        if not path.is_file() or path.read_text() != page:
+            yield f"docs/clauses/{name}.md isn't what the source says: run tools/documents.py write"
+    for path in CLAUSES.glob("*.md"):
+        if path.stem not in want:
+            yield f"docs/clauses/{path.name} is of no crate with clauses"
+
+
+def check_model():
+    """Each crate's section of MODEL.md has tables whose first cells list exactly its definitions, with their modules."""
+    listed, crate = {}, None
+    for number, line in enumerate((TOP / "docs" / "MODEL.md").read_text().splitlines(), 1):
+        heading = re.match(r"## .*`(fdr_\w+)`", line)
+        if line.startswith("## "):
+            crate = heading.group(1) if heading else None
+        cells = line.split("|")
+        if crate and line.startswith("| `") and len(cells) > 3:
+            for name in re.findall(r"`([^`]+)`", cells[1]):
+                listed.setdefault(crate, {})[name] = cells[2].strip(), number
+    for crate, _ in crate_lines():
+        real = definitions(crate)
+        for name, module in real.items():
+            if name not in listed.get(crate, {}):
+                yield f"docs/MODEL.md: `{name}` of {crate} ({module}) isn't listed"
+            elif listed[crate][name][0] != module:
+                where, number = listed[crate][name]
+                yield f"docs/MODEL.md:{number}: `{name}` stands in {module} and not in {where}"
+        for name, (_, number) in listed.get(crate, {}).items():
+            if name not in real:
+                yield f"docs/MODEL.md:{number}: {crate} has no public definition `{name}`"
+
+
+def check_guarantees():
+    """Names in code marks of GUARANTEES.md are names of the source."""
+    known = set()
+    for crate, _ in crate_lines():
+        known.add(crate)
+        known.update(definitions(crate))
+        for path in (CRATES / crate).rglob("*.rt"):
+            known.update(re.findall(r"[A-Za-z_]\w*", path.read_text()))
+        for path in (CRATES / crate / "specs").glob("*.antt"):
+            known.update(re.findall(r"[A-Za-z_]\w*", path.read_text()))
+        known.update(path.stem for path in (CRATES / crate / "must-fail").glob("*.edit"))
+    text = (TOP / "docs" / "GUARANTEES.md").read_text()
+    for number, line in enumerate(re.sub(r"```.*?```", lambda m: "\n" * m.group().count("\n"), text, flags=re.S).splitlines(), 1):
+        for mark in re.findall(r"`([^`]+)`", line):
+            if re.search(r"[^\w:]|^_|^[0-9a-f]{16}$", mark):
+                continue
+            for name in re.findall(r"\w+", mark):
+                if name not in known:
+                    yield f"docs/GUARANTEES.md:{number}: nothing is named `{name}`"
+
+
+def check_edges():
+    """The table of crates in ARCHITECTURE.md has the edges of crates.txt."""
+    rows = {}
+    for line in (TOP / "docs" / "ARCHITECTURE.md").read_text().splitlines():
+        cells = line.split("|")
+        if re.match(r"\| `fdr_\w+` \|", line) and len(cells) > 4:
+            rows[cells[1].strip(" `")] = set(re.findall(r"`(\w+)`", cells[3]))
+    edges = dict(crate_lines())
+    for crate, needs in edges.items():
+        if rows.get(crate) != set(needs):
+            yield f"docs/ARCHITECTURE.md: {crate} stands on {' '.join(needs) or 'nothing'} in crates.txt"
+    for crate in rows.keys() - edges.keys():
+        yield f"docs/ARCHITECTURE.md: there is no crate {crate}"
+
+
+def outcomes():
+    """The statuses and texts of the outcomes, as specs/Outcome of fdr_top has them."""
+    text = (CRATES / "fdr_top" / "specs" / "Outcome.antt").read_text()
+    statuses = dict(re.findall(r"^status_of \(?outcome\.(\w+)[^=]*= (\d+)", text, re.M))
+    texts = re.findall(r"^text_of \(?outcome\.(\w+)[^=]*= (.*)", text, re.M)
+    inputs = re.findall(r'^input_text \S+ = codes "(.*)"', text, re.M)
+    for name, says in texts:
+        words = re.sub(r"decimal row", '"ROW"', re.sub(r"decimal index", '"INDEX"', re.sub(r"\w+ f$", '"FAULT"', says)))
+        for line in inputs if "input_text" in says else ["".join(re.findall(r'"(.*?)"', words))]:
+            yield statuses[name], line
+
+
+def check_manual():
+    """The man page has the forms, the statuses and the texts."""
+    manual = (TOP / "docs" / "fdr.1").read_text()
+    rows = set(re.findall(r"^(\d+)\|(.*)$", manual, re.M))
+    for row in sorted(set(outcomes()) ^ rows):
+        yield f"docs/fdr.1: status {row[0]}, text '{row[1]}': the page and specs/Outcome differ"
+    words = (TOP / "docs" / "FORMATS.md").read_text()
+    forms = re.search(r"## The words of the command line\n\n```\n(.*?)```", words, re.S).group(1).splitlines()
+    page = [line.removeprefix(".B ").replace("\\-", "-") for line in manual.splitlines() if line.startswith(".B fdr ")]
+    if forms != page:
+        yield "docs/fdr.1: its forms aren't those of docs/FORMATS.md"
+
+
+def anchors(path):
+    for heading in re.findall(r"^#+ (.*)$", path.read_text(), re.M):
+        plain = re.sub(r"[^\w\- ]", "", heading.lower())
+        yield plain.replace(" ", "-")
+
+
+def check_links():
+    for path in [*TOP.glob("*.md"), *(TOP / "docs").rglob("*.md"), *(TOP / "examples").glob("*.md")]:
+        for target in re.findall(r"\]\(([^)\s]+)\)", path.read_text()):
+            if re.match(r"\w+:", target):
+                continue
+            file, _, anchor = target.partition("#")
+            there = (path.parent / file).resolve() if file else path
+            if not there.exists():
+                yield f"{path.relative_to(TOP)}: {target} leads nowhere"
+            elif anchor and there.suffix == ".md" and anchor not in anchors(there):
+                yield f"{path.relative_to(TOP)}: {target} leads to no heading"
+
+
+def main(command):
+    if command == "write":
+        CLAUSES.mkdir(exist_ok=True)
+        for path in CLAUSES.glob("*.md"):
+            path.unlink()
+        for name, page in pages().items():
+            (CLAUSES / f"{name}.md").write_text(page)
+        return 0
+    if command != "check":
+        print(__doc__)
+        return 2
+    checks = (check_readme, check_clauses, check_model, check_guarantees, check_edges, check_manual, check_links)
+    faults = [fault for check in checks for fault in check()]
+    print("\n".join(faults) if faults else "documents: as the source says")
+    return 1 if faults else 0
+
+
+if __name__ == "__main__":
+    sys.exit(main(sys.argv[1] if len(sys.argv) == 2 else ""))
