@@ -3,7 +3,7 @@
 PREFIX ?= /usr/local
 PROGRAM = crates/fdr_prog
 
-.PHONY: build demo test install clean
+.PHONY: build demo streams test install clean
 
 # Proves the program and everything below it, and puts it at bin/fdr.
 build:
@@ -11,15 +11,14 @@ build:
 	mkdir -p bin
 	cp $(PROGRAM)/out/fdr_prog bin/fdr
 
-# Builds the program without its proofs, checks a table, lists two recordings, and then streams a trace and lists what
-# came out. The stream goes by a file and not by a pipe, so that a failure of either command ends the demo.
+# Builds the program once, without its proofs, and runs each command on the cases of examples/, whose output is compared.
 demo:
-	cd $(PROGRAM) && rt try -- check $(CURDIR)/examples/ordinary.csv
-	cd $(PROGRAM) && rt try -- listbits $(CURDIR)/examples/t1.csv < ../../examples/frame.bin
-	cd $(PROGRAM) && rt try -- listbits $(CURDIR)/examples/t1.csv < ../../examples/two_frames.bin
-	mkdir -p bin
-	cd $(PROGRAM) && rt try -- stream $(CURDIR)/examples/t1.csv < ../../examples/trace.bin > ../../bin/stream.bin
-	cd $(PROGRAM) && rt try -- listbits $(CURDIR)/examples/t1.csv < ../../bin/stream.bin
+	cd $(PROGRAM) && rt try --cases ../../examples/cases --data t1.csv=../../examples/t1.csv \
+		--data ordinary.csv=../../examples/ordinary.csv --data ring.img=../../examples/ring.img
+
+# Runs the built program with each of its standard streams closed.
+streams: build
+	examples/closed_streams.sh bin/fdr
 
 # The gate: every proof, must-fail edit, test and program.
 test:
@@ -27,6 +26,7 @@ test:
 
 install: build
 	install -D -m 755 bin/fdr $(DESTDIR)$(PREFIX)/bin/fdr
+	install -D -m 644 docs/fdr.1 $(DESTDIR)$(PREFIX)/share/man/man1/fdr.1
 
 clean:
 	rm -rf bin crates/*/out

@@ -1,0 +1,56 @@
+#!/bin/sh
+# Runs the program with each of its standard streams closed at the start, and compares its answers. The files that it
+# opens then must not take the place of a stream: a closed input is a fault of the input, a closed output one of the
+# output, and what would go to a closed standard error is dropped.
+#
+# Usage: examples/closed_streams.sh [PROGRAM]
+
+fdr=${1:-bin/fdr}
+here=$(dirname "$0")
+room=$(mktemp -d) || exit 1
+trap 'rm -rf "$room"' EXIT
+failed=0
+
+# Compares the status that the last command ended with.
+expect() {
+    if [ "$2" -ne "$1" ]; then
+        echo "closed streams: $3 ended with $2 and not $1" >&2
+        failed=1
+    fi
+}
+
+same() {
+    if ! cmp -s "$1" "$2"; then
+        echo "closed streams: $3 made another image" >&2
+        failed=1
+    fi
+}
+
+make_image() { "$fdr" format "$here/t1.csv" "$1" --slots 4 --payload 64; }
+
+"$fdr" listbits "$here/t1.csv" <&- 2>/dev/null
+expect 8 $? "listbits without an input"
+"$fdr" stream "$here/t1.csv" <&- >/dev/null 2>&1
+expect 8 $? "stream without an input"
+"$fdr" listbits "$here/t1.csv" <"$here/cases/listbits_a_frame" >&- 2>/dev/null
+expect 9 $? "listbits without an output"
+"$fdr" check "$here/t1.csv" >&- 2>/dev/null
+expect 9 $? "check without an output"
+
+make_image "$room/open.img"
+expect 0 $? "format"
+make_image "$room/no_error.img" 2>&-
+expect 0 $? "format without a standard error"
+same "$room/open.img" "$room/no_error.img" "format without a standard error"
+make_image "$room/no_error.img" 2>&-
+expect 5 $? "a second format without a standard error"
+same "$room/open.img" "$room/no_error.img" "a second format without a standard error"
+make_image "$room/none.img" <&- >&- 2>&-
+expect 0 $? "format without any stream"
+same "$room/open.img" "$room/none.img" "format without any stream"
+"$fdr" recover "$room/none.img" <&- >&- 2>&-
+expect 0 $? "recover of an empty image without any stream"
+same "$room/open.img" "$room/none.img" "recover without any stream"
+
+[ "$failed" -eq 0 ] && echo "closed streams: as they should be"
+exit "$failed"
