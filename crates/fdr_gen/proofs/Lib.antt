@@ -1,0 +1,3 @@
+pub mod Tracing
+pub mod Following
+pub mod Reading

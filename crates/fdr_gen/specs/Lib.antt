@@ -1,0 +1,4 @@
+pub mod Draws
+pub mod Trace
+pub mod Past
+pub mod View

@@ -1,0 +1,192 @@
+-- A block that is prepared, committed and announced.
+use Rattle.std.proofs.Common.{◌≡◌, ⊎_elim, ℕ, ◌+◌, ◌-◌, List, [], ◌∷◌, ◌++◌, sym, ◌∙◌, ap, subst, arith, Some}
+use Rattle.std.specs.Prelude.{IsTrue}
+use Rattle.fdr_deck.specs.State.{State, Tells}
+use Rattle.fdr_deck.specs.Disk.{IsSettled}
+use Rattle.fdr_deck.specs.Pull.{KeepsLine}
+use Rattle.fdr_deck.specs.Moments.{IsNow, Elapses, EachMoment, IsSound}
+use Rattle.fdr_deck.specs.Calls.{IsQuiet, Succeeds, Announces, LeavesDisk}
+use Rattle.fdr_deck.proofs.Moments.{EachMoment-then, Elapses-then}
+use Rattle.fdr_slot.specs.declared.image.Header.{Header}
+use Rattle.fdr_slot.specs.Limits.{IsInLimits}
+use Rattle.fdr_recover.specs.Blocks.{Block}
+use Rattle.fdr_recover.specs.Images.{recovered_run, next_of}
+use Rattle.fdr_ring.specs.Gates.{IsClosed, waiting}
+use Rattle.fdr_ring.specs.Runs.{KeepsRun, HasSame, HasAdded, last_blocks}
+use Rattle.fdr_ring.specs.Rings.{IsRing, IsSureRing, IsPreparing, IsCommitting, OfSettled}
+use Rattle.fdr_recorder.specs.Keeping.{Keeps, KeepsAll}
+use Rattle.fdr_recorder.specs.Recording.{IsReady, IsNear, IsRecording, IsClose, Records, HasRecorded}
+use Rattle.fdr_recorder.proofs.Steps.{keeps_run, keeps_may, keeps_added, all_added, last_one_more}
+
+-- the fact of a ring after an announcement
+pub IsRing-told : (tells : Tells) (h : Header) (number : ℕ) (old new : State) → LeavesDisk old new → IsRing tells h number old → IsRing tells h number new
+IsRing-told tells h number old new leaves ring = record {
+  extent = omega (arith, ring.extent, leaves.extent);
+  next = λ told. ring.next told ∙ ap (λ (l : List ℕ). next_of h l) (sym leaves.disk.held);
+  closed = λ told. subst (λ (l : List ℕ). IsClosed h l number) (sym leaves.disk.held) (ring.closed told);
+}
+
+pub IsSureRing-told : (tells : Tells) (h : Header) (number : ℕ) (old new : State) → LeavesDisk old new → IsSureRing tells h number old
+    → IsSureRing tells h number new
+IsSureRing-told tells h number old new leaves sure = record {
+  ring = IsRing-told tells h number old new leaves sure.ring;
+  stops = λ stops image left. sure.stops stops image (leaves.disk.no_more image left);
+}
+
+module _ (tells : Tells) (h : Header) (next size : ℕ) (d0 d1 : State) (sound : IsSound tells d0) (ring : IsRing tells h next d0)
+    (extent : d1.extent ≡ d0.extent)
+    (quiet : IsQuiet tells (OfSettled d0 (IsPreparing h next size)) d0 d1)
+  where
+    number : IsTrue tells.stops → next ≡ next_of h d0.held
+    number stops = ring.next (sound.stops_need_bytes stops)
+
+    preparing : (new : List Block) → IsReady next d0 → EachMoment tells d0 d1 (IsRecording h d0 new)
+    preparing new ready stops m since = let q = quiet.moments stops m since in record {
+      image = keeps_run h d0.held m.image new m.told (q.image ready.settled).run (omega (arith, q.greatest, ready.greatest, number stops));
+      least = q.least;
+      pulled = q.pulled;
+    }
+
+    preparing_close : (mark : ℕ) → IsReady next d0 → IsNear next mark d0 → EachMoment tells d0 d1 (IsClose h mark)
+    preparing_close mark ready near stops m since = let q = quiet.moments stops m since in
+        omega (arith, (q.image ready.settled).run.next, number stops, near.least, q.least)
+
+    -- the block wasn't prepared
+    pub Records-unprepared : (new : List Block) → Records tells h next new d0 d1
+    Records-unprepared new = record {
+      time = quiet.passes.time;
+      moments = preparing new;
+      close = preparing_close;
+      line = quiet.passes.line;
+      line_faults = quiet.passes.line_faults;
+      disk_faults = quiet.passes.disk_faults;
+      extent = extent;
+    }
+
+    module _ (b : Block) (settled : IsTrue tells.stops → IsSettled d1) (succeeds : Succeeds d0 d1) (keeps : IsTrue tells.bytes
+        → IsPreparing h next size d0.held d1.held)
+        (waits : IsTrue tells.bytes
+        → waiting h d1.held next ≡ Some b) (d2 : State) (extent2 : d2.extent ≡ d1.extent) (quiet2 : IsQuiet tells (OfSettled d1
+        (IsCommitting h next)) d1 d2)
+      where
+        run1 : IsTrue tells.stops → KeepsRun h (h.slots - 2) d0.held d1.held
+        run1 stops = (keeps (sound.stops_need_bytes stops)).run
+
+        told1 : d1.told ≡ d0.told
+        told1 = quiet.passes.told.told
+
+        committing : IsReady next d0 → EachMoment tells d1 d2 (IsRecording h d0 (b ∷ []))
+        committing ready stops m since = let q = quiet2.moments stops m since in record {
+          image = keeps_may h b d0.held d1.held m.image m.told (run1 stops) ((q.image (settled stops)).run b (waits (sound.stops_need_bytes stops)))
+              (omega (arith, q.greatest, succeeds.fresh.greatest, told1, sound.greatest, ready.greatest, number stops));
+          least = omega (arith, q.least, succeeds.fresh.least, told1, sound.least);
+          pulled = record { taken = q.pulled.taken ∙ quiet.passes.line.taken; before = q.pulled.before ∙ quiet.passes.line.before };
+        }
+
+        committing_close : (mark : ℕ) → IsNear next mark d0 → EachMoment tells d1 d2 (IsClose h mark)
+        committing_close mark near stops m since = let q = quiet2.moments stops m since in
+            ⊎_elim {C = IsClose h mark m}
+            (λ (same : HasSame h d1.held m.image). omega (arith, same.next, (run1 stops).next, number stops, near.told, q.least, succeeds.fresh.least, told1))
+            (λ (added : HasAdded h b d1.held m.image). omega (
+              arith,
+              added.next,
+              (run1 stops).next,
+              number stops,
+              near.told,
+              q.least,
+              succeeds.fresh.least,
+              told1,
+            ))
+            ((q.image (settled stops)).run b (waits (sound.stops_need_bytes stops)))
+
+        -- the block wasn't committed, or it wasn't announced yet
+        pub Records-prepared : Records tells h next (b ∷ []) d0 d2
+        Records-prepared = record {
+          time = Elapses-then tells d0 d1 d2 quiet.passes.time quiet2.passes.time;
+          moments = λ ready. EachMoment-then tells d0 d1 d2 (IsRecording h d0 (b ∷ [])) quiet.passes.time quiet2.passes.time (preparing
+              (b ∷ []) ready) (committing ready);
+          close = λ mark ready near. EachMoment-then tells d0 d1 d2 (IsClose h mark) quiet.passes.time quiet2.passes.time
+              (preparing_close mark ready near) (committing_close mark near);
+          line = record {
+            line = quiet2.passes.line.line ∙ quiet.passes.line.line;
+            taken = quiet2.passes.line.taken ∙ quiet.passes.line.taken;
+            before = quiet2.passes.line.before ∙ quiet.passes.line.before;
+          };
+          line_faults = quiet2.passes.line_faults ∙ quiet.passes.line_faults;
+          disk_faults = omega (arith, quiet.passes.disk_faults, quiet2.passes.disk_faults);
+          extent = extent2 ∙ extent;
+        }
+
+        module _ (limits : IsInLimits h) (settled2 : IsTrue tells.stops → IsSettled d2) (succeeds2 : Succeeds d1 d2) (sure2 : IsSureRing tells h (next + 1) d2)
+            (run : IsTrue tells.bytes → recovered_run h d1.held ≡ last_blocks (h.slots - 2) (recovered_run h d0.held))
+            (added : IsTrue tells.bytes → HasAdded h b d1.held d2.held) (d3 : State) (announces : Announces (next + 1) d2 d3) (leaves : LeavesDisk d2 d3)
+          where
+            told2 : d2.told ≡ d1.told
+            told2 = quiet2.passes.told.told
+
+            announcing : (line3 : KeepsLine d2 d3) → EachMoment tells d2 d3 (IsNow d3) → IsReady next d0 → EachMoment tells d2 d3 (IsRecording h d0 (b ∷ []))
+            announcing line3 moments ready stops m since =
+                let now = moments stops m since in
+                let image : m.image ≡ d2.held = settled2 stops m.image (leaves.disk.no_more m.image now.image) in
+                record {
+                  image = subst (λ (l : List ℕ). Keeps h d0.held (recovered_run h d0.held) (b ∷ []) m.told l) (sym image)
+                      (keeps_added h b d0.held d1.held d2.held m.told (run1 stops) (added (sound.stops_need_bytes stops))
+                      (omega (arith, now.greatest, announces.greatest, succeeds2.fresh.greatest, told2, told1, sound.greatest, ready.greatest, number stops)));
+                  least = omega (arith, now.least, announces.least, succeeds2.fresh.least, told2, told1, sound.least, sound.greatest, ready.greatest);
+                  pulled = record {
+                    taken = now.pulled.taken ∙ line3.taken ∙ quiet2.passes.line.taken ∙ quiet.passes.line.taken;
+                    before = now.pulled.before ∙ line3.before ∙ quiet2.passes.line.before ∙ quiet.passes.line.before;
+                  };
+                }
+
+            announcing_close : EachMoment tells d2 d3 (IsNow d3) → (mark : ℕ) → IsNear next mark d0 → EachMoment tells d2 d3 (IsClose h mark)
+            announcing_close moments mark near stops m since =
+                let now = moments stops m since in
+                let image : m.image ≡ d2.held = settled2 stops m.image (leaves.disk.no_more m.image now.image) in
+                let at : next_of h m.image ≡ next_of h d2.held = ap (λ (l : List ℕ). next_of h l) image in
+                omega (
+                  arith,
+                  at,
+                  (added (sound.stops_need_bytes stops)).next,
+                  (run1 stops).next,
+                  number stops,
+                  now.least,
+                  announces.least,
+                  succeeds2.fresh.least,
+                  told2,
+                  told1,
+                  near.told,
+                )
+
+            pub Records-added : KeepsLine d2 d3 → d3.line_faults ≡ d2.line_faults → Elapses tells d2 d3 → EachMoment tells d2 d3 (IsNow d3)
+                → Records tells h next (b ∷ []) d0 d3
+            Records-added line3 line_faults3 time3 moments = let was = Records-prepared in record {
+              time = Elapses-then tells d0 d2 d3 was.time time3;
+              moments = λ ready. EachMoment-then tells d0 d2 d3 (IsRecording h d0 (b ∷ [])) was.time time3 (was.moments ready) (announcing line3 moments ready);
+              close = λ mark ready near. EachMoment-then tells d0 d2 d3 (IsClose h mark) was.time time3 (was.close mark ready near)
+                  (announcing_close moments mark near);
+              line = record { line = line3.line ∙ was.line.line; taken = line3.taken ∙ was.line.taken; before = line3.before ∙ was.line.before };
+              line_faults = line_faults3 ∙ was.line_faults;
+              disk_faults = omega (arith, was.disk_faults, leaves.disk_faults);
+              extent = leaves.extent ∙ was.extent;
+            }
+
+            pub HasRecorded-added : HasRecorded tells h next (b ∷ []) d0 d3
+            HasRecorded-added = record {
+              fact = λ is. IsRing-told tells h (next + 1) d2 d3 leaves sure2.ring;
+              sure = λ is. IsSureRing-told tells h (next + 1) d2 d3 leaves sure2;
+              keeps = λ told. subst (λ (l : List ℕ). KeepsAll h d0.held (recovered_run h d0.held) (b ∷ []) l) (sym leaves.disk.held)
+                  (all_added h b d0.held d1.held d2.held (keeps told).run (added told));
+              last = λ told whole is. ap (λ (l : List ℕ). recovered_run h l) leaves.disk.held ∙ (added told).run
+                  ∙ ap (λ (l : List Block). l ++ b ∷ []) (run told)
+                  ∙ last_one_more h.slots whole (recovered_run h d0.held) b (omega (arith, limits.least_slots)) is;
+              settled = λ stops is image left. settled2 stops image (leaves.disk.no_more image left) ∙ sym leaves.disk.held;
+              told = λ is. announces.told;
+              greatest = λ le. omega (arith, announces.greatest, succeeds2.fresh.greatest, told2, told1, sound.greatest, le);
+              least = λ le. omega (arith, announces.least, succeeds2.fresh.least, told2, told1, sound.least, sound.greatest, le);
+              near = λ mark near. record {
+                told = announces.told;
+                least = omega (arith, announces.least, succeeds2.fresh.least, told2, told1, near.told);
+              };
+              disk_faults = leaves.disk_faults ∙ succeeds2.disk_faults ∙ succeeds.disk_faults;
+            }

@@ -1,0 +1,30 @@
+-- Why a call of the ring was refused, by why the session's call was.
+use Rattle.std.proofs.Common.{◌≡◌, ◌⊎◌, ⊎_elim, Result, Err, ap, sym, ◌∙◌}
+use Rattle.fdr_ring.specs.declared.ring.Ring.{Ring}
+use Rattle.fdr_ring.specs.declared.error.RingFault.{RingFault}
+use Rattle.fdr_ring.specs.declared.error.RingFault.TheVariants as ring
+use Rattle.fdr_recorder.specs.declared.error.SessionFault.{SessionFault}
+use Rattle.fdr_recorder.specs.declared.error.SessionFault.TheVariants as fault
+use Rattle.fdr_recorder.specs.Faults.{session_fault}
+
+err_same : {T E : Type 0} (x y : E) → ◌≡◌ {A = Result T E} (Err x) (Err y) → x ≡ y
+err_same x y e = cc
+
+is_seq_end : (e : RingFault) → session_fault e ≡ fault.SeqEnd → e ≡ ring.SeqEnd
+is_seq_end ring.NotEmpty is = absurd (cc)
+is_seq_end (ring.Image why) is = absurd (cc)
+is_seq_end ring.DiskFault is = absurd (cc)
+is_seq_end ring.SeqEnd is = cc
+
+pub ring_seq_end : {T : Type 0} (r : Result T SessionFault) (e : RingFault) (y : SessionFault) → r ≡ Err y → y ≡ session_fault e
+    → r ≡ Err fault.SeqEnd → ◌≡◌ {A = Result Ring RingFault} (Err e) (Err ring.SeqEnd)
+ring_seq_end r e y was is ends = ap Err (is_seq_end e (sym is ∙ err_same y fault.SeqEnd (sym was ∙ ends)))
+
+pub ring_disk_fault : {T : Type 0} (r : Result T SessionFault) (e : RingFault) (y : SessionFault) → r ≡ Err y → y ≡ session_fault e → r ≡ Err fault.DiskFault
+    → ◌≡◌ {A = Result Ring RingFault} (Err e) (Err ring.SeqEnd) ⊎ ◌≡◌ {A = Result Ring RingFault} (Err e) (Err ring.DiskFault)
+    → ◌≡◌ {A = Result Ring RingFault} (Err e) (Err ring.DiskFault)
+ring_disk_fault r e y was is fails only = ⊎_elim
+    (λ ended. let at : e ≡ ring.SeqEnd = err_same e ring.SeqEnd ended in let no : fault.DiskFault ≡ fault.SeqEnd = sym (err_same y fault.DiskFault
+    (sym was ∙ fails)) ∙ is ∙ ap session_fault at in absurd (cc))
+    (λ failed. failed)
+    only

@@ -1,0 +1,95 @@
+-- The blocks that the calls of a session record, one call's behind another's.
+use Rattle.std.proofs.Common.{◌≡◌, ℕ, zero, suc, ◌+◌, ◌-◌, ◌*◌, ◌/◌, ◌≤◌, min, List, [], ◌∷◌, ◌++◌, length, map, drop, ap, sym, refl, ◌∙◌, arith, append_assoc}
+use Rattle.std.specs.List.{range_with_len}
+use Rattle.std.proofs.lemmas.List.{drop-take}
+use Rattle.std.proofs.lemmas.List.FromFn.{length-map-range_with_len, map-range_with_len_more}
+use Rattle.std.proofs.lemmas.Nat.{mul-le}
+use Rattle.std.proofs.Math.Nat.{mul_comm}
+use Rattle.std.proofs.lemmas.Nat.{le-div}
+use Rattle.fdr_bus.specs.declared.BusRecord.{BusRecord}
+use Rattle.fdr_bus.specs.Records.{time_of}
+use Rattle.fdr_slot.specs.Limits.{IsInLimits}
+use Rattle.fdr_recover.specs.Blocks.{Block}
+use Rattle.fdr_sampler.specs.SlotWord.{slot_word}
+use Rattle.fdr_sampler.specs.Stream.{slot_count, stream_words}
+use Rattle.fdr_stream.specs.Blocks.{block_at, blocks_of}
+use Rattle.fdr_stream.proofs.Later.{due_blocks-fill, stream_of-later}
+use Rattle.fdr_stream.proofs.Standing.{slot_count-later, time_of-push}
+use Rattle.fdr_recorder.specs.Past.{Past, MayFeed, with_record, bytes_of, due, numbered_block, blocks_from, due_at, recorded_of, all_blocks, rest_of}
+use Rattle.fdr_recorder.proofs.Steps.{nil_behind}
+
+map_join : (f : ℕ → Block) (a n k : ℕ) → map f (range_with_len a (n + k)) ≡ map f (range_with_len a n) ++ map f (range_with_len (a + n) k)
+map_join f a n zero = let none : n + zero ≡ n = omega arith in ap (λ m. map f (range_with_len a m)) none ∙ sym (nil_behind (map f (range_with_len a n)))
+map_join f a n (suc k) =
+    let up : n + suc k ≡ n + k + 1 = omega arith in
+    let one : k + 1 ≡ suc k = omega arith in
+    let b : List Block = f (a + n + k) ∷ [] in
+    let at : a + (n + k) ≡ a + n + k = omega arith in
+    ap (λ m. map f (range_with_len a m)) up ∙ map-range_with_len_more f a (n + k) (a + n + k) at
+    ∙ ap (λ (l : List Block). l ++ b) (map_join f a n k)
+    ∙ append_assoc (map f (range_with_len a n)) (map f (range_with_len (a + n) k)) b
+    ∙ ap (λ (l : List Block). map f (range_with_len a n) ++ l) (sym (map-range_with_len_more f (a + n) k (a + n + k) refl)
+    ∙ ap (λ m. map f (range_with_len (a + n) m)) one)
+
+map_same : (f f' : ℕ → Block) (most n : ℕ) → n ≤ most → ((i : ℕ) → i + 1 ≤ most → f i ≡ f' i) → map f (range_with_len 0 n) ≡ map f' (range_with_len 0 n)
+map_same f f' most zero le same = refl
+map_same f f' most (suc n) le same =
+    let one : suc n ≡ n + 1 = omega arith in
+    let at : 0 + n ≡ n = omega arith in
+    ap (λ m. map f (range_with_len 0 m)) one ∙ map-range_with_len_more f 0 n n at
+    ∙ ap (λ (l : List Block). l ++ f n ∷ []) (map_same f f' most n (omega (arith, le)) same)
+    ∙ ap (λ (x : Block). map f' (range_with_len 0 n) ++ x ∷ []) (same n (omega (arith, le)))
+    ∙ sym (map-range_with_len_more f' 0 n n at) ∙ sym (ap (λ m. map f' (range_with_len 0 m)) one)
+
+-- a block that was due is the same with a further record
+same_block : (past : Past) (r : BusRecord) → MayFeed past r → (i : ℕ) → i + 1 ≤ due past → numbered_block (with_record past r) i ≡ numbered_block past i
+same_block past r may i before =
+    let p = past.header.payload in
+    let whole = p * i + p in
+    let fill = due_blocks-fill past.table p past.records in
+    let within : p * (i + 1) ≤ p * due past = mul-le p (i + 1) p (due past) (omega arith) before in
+    let few : whole ≤ 3 * length (stream_words past.table past.records) / 2 = omega (arith, fill, within) in
+    let same = stream_of-later past.table past.records r whole may.order few in
+    let is : block_at p (bytes_of (with_record past r)) i ≡ block_at p (bytes_of past) i =
+    sym (drop-take (p * i) p (bytes_of (with_record past r))) ∙ ap (λ (l : List ℕ). drop (p * i) l) same ∙ drop-take (p * i) p (bytes_of past) in
+    ap (λ (l : List ℕ). record { number = past.first + i; payload = l }) is
+
+-- no block is due less with a further record
+pub due-grows : (past : Past) (r : BusRecord) → IsInLimits past.header → MayFeed past r → due past ≤ due (with_record past r)
+due-grows past r limits may =
+    let t = past.table in
+    let p = past.header.payload in
+    let w = t.frame.words in
+    let more = past.records ++ r ∷ [] in
+    let was : length (stream_words t past.records) ≡ slot_count w (time_of past.records) =
+    length-map-range_with_len (slot_word t past.records) 0 (slot_count w (time_of past.records)) in
+    let is : length (stream_words t more) ≡ slot_count w r.time =
+    length-map-range_with_len (slot_word t more) 0 (slot_count w (time_of more)) ∙ ap (slot_count w) (time_of-push past.records r) in
+    let longer = slot_count-later w (time_of past.records) r.time may.order in
+    let fill = due_blocks-fill t p past.records in
+    let room : 3 * length (stream_words t past.records) / 2 ≤ 3 * length (stream_words t more) / 2 = omega (arith, was, is, longer) in
+    let turned : due past * p ≡ p * due past = mul_comm (due past) p in
+    le-div (due past) (3 * length (stream_words t more) / 2) p (omega (arith, limits.least_payload)) (omega (arith, turned, fill, room))
+
+-- all blocks so far are those before the record, and those due at it
+pub recorded_of-fed : (past : Past) (r : BusRecord) → IsInLimits past.header → MayFeed past r
+    → recorded_of (with_record past r) ≡ recorded_of past ++ due_at past r
+recorded_of-fed past r limits may =
+    let grows = due-grows past r limits may in
+    let count : due past + (due (with_record past r) - due past) ≡ due (with_record past r) = omega (arith, grows) in
+    let zero_on : 0 + due past ≡ due past = omega arith in
+    ap (λ m. blocks_from (with_record past r) 0 m) (sym count)
+    ∙ map_join (numbered_block (with_record past r)) 0 (due past) (due (with_record past r) - due past)
+    ∙ ap (λ (l : List Block). l ++ map (numbered_block (with_record past r)) (range_with_len (0 + due past) (due (with_record past r) - due past)))
+    (map_same (numbered_block (with_record past r)) (numbered_block past) (due past) (due past) (omega arith) (same_block past r may))
+    ∙ ap (λ m. recorded_of past ++ map (numbered_block (with_record past r)) (range_with_len m (due (with_record past r) - due past))) zero_on
+
+-- and with the rest they are all blocks of the stream
+pub all_blocks-rest : (past : Past) (n : ℕ) → length (blocks_of past.header.payload (bytes_of past)) ≡ due past + min n 1
+    → all_blocks past ≡ recorded_of past ++ rest_of past
+all_blocks-rest past n count =
+    let whole = length (blocks_of past.header.payload (bytes_of past)) in
+    let long : due past + (whole - due past) ≡ whole = omega (arith, count) in
+    let zero_on : 0 + due past ≡ due past = omega arith in
+    ap (λ m. blocks_from past 0 m) (sym long) ∙ map_join (numbered_block past) 0 (due past) (whole - due past)
+    ∙ ap (λ m. recorded_of past ++ map (numbered_block past) (range_with_len m (whole - due past))) zero_on

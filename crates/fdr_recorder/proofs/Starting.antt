@@ -1,0 +1,123 @@
+-- The moments while a session starts.
+use Rattle.std.proofs.Common.{◌≡◌, ℕ, ◌+◌, ◌-◌, ◌≤◌, List, [], refl, sym, ◌∙◌, ap, subst, arith, None}
+use Rattle.std.specs.Prelude.{IsTrue}
+use Rattle.fdr_deck.specs.State.{State, Tells, Moment}
+use Rattle.fdr_deck.specs.Disk.{IsSettled, KeepsDisk}
+use Rattle.fdr_deck.specs.Pull.{KeepsLine}
+use Rattle.fdr_deck.specs.Moments.{HasPulled, IsNow, Elapses, EachMoment, IsSound}
+use Rattle.fdr_deck.specs.Calls.{IsFresh, IsQuiet, Passes, Announces, LeavesDisk}
+use Rattle.fdr_deck.proofs.Moments.{EachMoment-then, Elapses-then}
+use Rattle.fdr_slot.specs.declared.image.Header.{Header}
+use Rattle.fdr_recover.specs.Images.{recovered_run, next_of}
+use Rattle.fdr_ring.specs.Runs.{KeepsRun}
+use Rattle.fdr_ring.specs.Rings.{IsAttaching, OfSettled}
+use Rattle.fdr_table.specs.Rows.{TableRows}
+use Rattle.fdr_stream.specs.Kept.{Kept}
+use Rattle.fdr_stream.specs.Blocks.{due_blocks}
+use Rattle.fdr_stream.specs.Past.{made, Stands as StandsFor}
+use Rattle.fdr_recorder.specs.Recording.{IsReady}
+use Rattle.fdr_recorder.specs.Starting.{IsStarting, Starts}
+use Rattle.fdr_recorder.proofs.Steps.{keeps_run, tail_same}
+
+weaker : (h : Header) (old new : List ℕ) → KeepsRun h (h.slots - 1) old new → KeepsRun h (h.slots - 2) old new
+weaker h old new keeps = record {
+  kept = keeps.kept;
+  run = record { lost = keeps.run.lost; within = keeps.run.within; is = keeps.run.is; enough = omega (arith, keeps.run.enough) };
+  next = keeps.next;
+}
+
+attaching_same : (h : Header) (image : List ℕ) → IsAttaching h image image
+attaching_same h image = record {
+  run = record { kept = record { size = refl; header = refl }; run = tail_same (h.slots - 1) (recovered_run h image); next = refl };
+  bytes = record { torn = record { size = refl; front = refl; behind = refl }; same = λ closed. refl };
+}
+
+-- an image that may be left while the session starts
+starting : (h : Header) (entry : State) (m : Moment) → IsAttaching h entry.held m.image → m.told ≤ next_of h entry.held → entry.least ≤ m.told
+    → HasPulled entry m → IsStarting h entry m
+starting h entry m image told least pulled = record {
+  recording = record { image = keeps_run h entry.held m.image [] m.told (weaker h entry.held m.image image.run) told; least = least; pulled = pulled };
+  image = image;
+}
+
+module _ (tells : Tells) (h : Header) (d0 d1 : State) (sound : IsSound tells d0) (quiet : IsQuiet tells d0.may_leave d0 d1) where
+  looking : IsReady (next_of h d0.held) d0 → EachMoment tells d0 d1 (IsStarting h d0)
+  looking ready stops m since = let q = quiet.moments stops m since in
+      starting h d0 m (subst (λ (l : List ℕ). IsAttaching h d0.held l) (sym (ready.settled m.image q.image)) (attaching_same h d0.held))
+      (omega (arith, q.greatest, ready.greatest)) q.least q.pulled
+
+  -- only the header was read
+  pub Starts-looked : Starts tells h d0 d1
+  Starts-looked = record {
+    time = quiet.passes.time;
+    moments = looking;
+    line = quiet.passes.line;
+    line_faults = quiet.passes.line_faults;
+    disk_faults = quiet.passes.disk_faults;
+  }
+
+  module _ (disk : KeepsDisk d0 d1) (fresh : IsFresh d1) (d2 : State) (passes2 : Passes tells d1 d2) (quiet2 : IsTrue tells.stops
+      → IsQuiet tells (OfSettled d1 (IsAttaching h)) d1 d2) where
+    settled1 : IsSettled d0 → IsSettled d1
+    settled1 settled image left = settled image (disk.no_more image left) ∙ sym disk.held
+
+    attaching : IsReady (next_of h d0.held) d0 → EachMoment tells d1 d2 (IsStarting h d0)
+    attaching ready stops m since =
+        let q = (quiet2 stops).moments stops m since in
+        let told = quiet.passes.told.told in
+        starting h d0 m (subst (λ (l : List ℕ). IsAttaching h l m.image) disk.held (q.image (settled1 ready.settled)))
+        (omega (arith, q.greatest, fresh.greatest, told, sound.greatest, ready.greatest))
+        (omega (arith, q.least, fresh.least, told, sound.least))
+        (record { taken = q.pulled.taken ∙ quiet.passes.line.taken; before = q.pulled.before ∙ quiet.passes.line.before })
+
+    -- the ring was attached, or the disk failed then
+    pub Starts-attached : Starts tells h d0 d2
+    Starts-attached = record {
+      time = Elapses-then tells d0 d1 d2 quiet.passes.time passes2.time;
+      moments = λ ready. EachMoment-then tells d0 d1 d2 (IsStarting h d0) quiet.passes.time passes2.time (looking ready) (attaching ready);
+      line = record {
+        line = passes2.line.line ∙ quiet.passes.line.line;
+        taken = passes2.line.taken ∙ quiet.passes.line.taken;
+        before = passes2.line.before ∙ quiet.passes.line.before;
+      };
+      line_faults = passes2.line_faults ∙ quiet.passes.line_faults;
+      disk_faults = omega (arith, quiet.passes.disk_faults, passes2.disk_faults);
+    }
+
+    module _ (fresh2 : IsFresh d2) (next : ℕ) (d3 : State) (announces : Announces next d2 d3) where
+      told2 : d2.told ≡ d0.told
+      told2 = passes2.told.told ∙ quiet.passes.told.told
+
+      pub greatest-started : d0.greatest ≤ next → d3.greatest ≤ next
+      greatest-started le = omega (arith, announces.greatest, fresh2.greatest, told2, sound.greatest, le)
+
+      pub least-started : d0.greatest ≤ next → d0.least ≤ d3.least
+      least-started le = omega (arith, announces.least, fresh2.least, told2, sound.least, sound.greatest, le)
+
+      pub Starts-announced : (IsTrue tells.stops → IsSettled d2) → (IsTrue tells.stops → IsAttaching h d1.held d2.held) → (IsTrue tells.stops
+          → next ≡ next_of h d1.held) → LeavesDisk d2 d3 → KeepsLine d2 d3 →
+          d3.line_faults ≡ d2.line_faults → Elapses tells d2 d3 → EachMoment tells d2 d3 (IsNow d3) → Starts tells h d0 d3
+      Starts-announced settled2 keeps number leaves line3 line_faults3 time3 moments = let was = Starts-attached in record {
+        time = Elapses-then tells d0 d2 d3 was.time time3;
+        moments = λ ready. EachMoment-then tells d0 d2 d3 (IsStarting h d0) was.time time3 (was.moments ready) (λ stops m since.
+            let now = moments stops m since in
+            let at : next ≡ next_of h d0.held = number stops ∙ ap (λ (l : List ℕ). next_of h l) disk.held in
+            let image : m.image ≡ d2.held = settled2 stops m.image (leaves.disk.no_more m.image now.image) in
+            let kept : IsAttaching h d0.held d2.held = subst (λ (l : List ℕ). IsAttaching h l d2.held) disk.held (keeps stops) in
+            starting h d0 m (subst (λ (l : List ℕ). IsAttaching h d0.held l) (sym image) kept)
+            (omega (arith, now.greatest, announces.greatest, fresh2.greatest, told2, sound.greatest, ready.greatest, at))
+            (omega (arith, now.least, announces.least, fresh2.least, told2, sound.least, sound.greatest, ready.greatest, at))
+            (record { taken = now.pulled.taken ∙ line3.taken ∙ was.line.taken; before = now.pulled.before ∙ line3.before ∙ was.line.before }));
+        line = record { line = line3.line ∙ was.line.line; taken = line3.taken ∙ was.line.taken; before = line3.before ∙ was.line.before };
+        line_faults = line_faults3 ∙ was.line_faults;
+        disk_faults = omega (arith, was.disk_faults, leaves.disk_faults);
+      }
+
+-- no block is due before the first record
+pub stream-started : (k : Kept) (t : TableRows) (payload : ℕ) → StandsFor k (made t payload)
+    → StandsFor k (record { table = t; payload = payload; records = []; begun = None; blocks = due_blocks t payload [] })
+stream-started k t payload stands =
+    subst (λ n. StandsFor k (record { table = t; payload = payload; records = []; begun = None; blocks = n })) (stands.blocks refl) stands
+
+pub next-started : (k : Kept) (t : TableRows) (payload next : ℕ) → StandsFor k (made t payload) → next ≡ next + due_blocks t payload []
+next-started k t payload next stands = let none : 0 ≡ due_blocks t payload [] = stands.blocks refl in omega (arith, none)

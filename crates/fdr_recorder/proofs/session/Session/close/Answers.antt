@@ -1,0 +1,95 @@
+use Rattle.std.proofs.Common.{◌≡◌, List, [], ◌∷◌, length, take, ap, sym, subst, refl, arith}
+use Rattle.std.proofs.lemmas.List.{length-take}
+use Rattle.std.proofs.lemmas.Result.{err_from_is_err_and}
+use Rattle.fdr_recover.specs.Blocks.{Block}
+use Rattle.fdr_recorder.specs.Recording.{Records, HasRecorded, HasEnded}
+use Rattle.fdr_recorder.specs.Past.{rest_of, stream_past}
+use Rattle.fdr_recorder.proofs.Composing.{Records-here, HasRecorded-here}
+use Rattle.fdr_recorder.proofs.Ended.{ring_seq_end}
+use Rattle.fdr_recorder.proofs.Closing.{rest-none, rest-one, HasEnded-rest}
+use Rattle.fdr_recorder.proofs.Joined.{all_blocks-rest}
+use Rattle.fdr_recorder.proofs.session.Session.close.Goals as goal
+
+pub returns-then-count-eq0-clause-next : goal.returns-then-count-eq0-clause-next
+returns-then-count-eq0-clause-next g c past stands =
+    let none = rest-none past c.finish-count.result (c.finish-count.ensures.blocks (stream_past past) stands.stream refl) c.if-count-eq0.true in
+    let long : length (rest_of past) ≡ 0 = ap (λ (l : List Block). length l) none in
+    omega (arith, c.next.ensures.is, long)
+
+pub returns-then-count-eq0-clause-records : goal.returns-then-count-eq0-clause-records
+returns-then-count-eq0-clause-records g c past stands =
+    Records-here _ _ _ _ _ (g.met.D.Deck.sound c.args.deck.now) c.requires.fact
+
+pub returns-then-count-eq0-clause-recorded : goal.returns-then-count-eq0-clause-recorded
+returns-then-count-eq0-clause-recorded g c past stands =
+    let d = g.D.Deck.state c.args.deck.now in
+    let none = rest-none past c.finish-count.result (c.finish-count.ensures.blocks (stream_past past) stands.stream refl) c.if-count-eq0.true in
+    subst (λ (l : List Block). HasRecorded g.D.Deck.tells c.args.self.ring.header c.args.self.ring.next l d d) (sym none) (HasRecorded-here _ _ _ d)
+
+pub add-requires-clause-fits : goal.add-requires-clause-fits
+add-requires-clause-fits g c =
+    let past = c.requires.stands.0 in
+    let stands = c.requires.stands.1 in
+    let few = c.finish-count.ensures.few (stream_past past) stands.stream in
+    let same : c.args.self.ring.header.payload ≡ past.header.payload = ap (λ h. h.payload) stands.header in
+    omega (arith, few, same, length-take c.finish-count.result c.finish-count.new.out)
+
+pub returns-in_err-ring-clause-records : goal.returns-in_err-ring-clause-records
+returns-in_err-ring-clause-records g c past stands =
+    let one = rest-one past c.finish-count.result c.args.self.ring.next (take c.finish-count.result c.finish-count.new.out)
+    (c.finish-count.ensures.blocks (stream_past past) stands.stream refl) (omega (arith, c.if-count-eq0.false)) stands.next
+    (c.finish-count.ensures.last (stream_past past) stands.stream refl) in
+    subst (λ (l : List Block). Records g.D.Deck.tells c.args.self.ring.header c.args.self.ring.next l (g.D.Deck.state c.args.deck.now)
+    (g.D.Deck.state c.add.new.deck)) (sym one) c.add.ensures.records
+
+pub returns-in_err-ring-clause-seq_end : goal.returns-in_err-ring-clause-seq_end
+returns-in_err-ring-clause-seq_end g c past stands ends =
+    let one = rest-one past c.finish-count.result c.args.self.ring.next (take c.finish-count.result c.finish-count.new.out)
+    (c.finish-count.ensures.blocks (stream_past past) stands.stream refl) (omega (arith, c.if-count-eq0.false)) stands.next
+    (c.finish-count.ensures.last (stream_past past) stands.stream refl) in
+    let p = err_from_is_err_and c.from_residual.result c.from_residual.ensures.1 in
+    let t = g.D.Deck.tells in
+    let h = c.args.self.ring.header in
+    let next = c.args.self.ring.next in
+    let d = g.D.Deck.state c.args.deck.now in
+    let a = c.in_err-ring.ensures in
+    let why = ring_seq_end c.from_residual.result c.in_err-ring.field-0.0 p.0 p.1 p.2 ends in
+    let b : Block = record { number = next; payload = take c.finish-count.result c.finish-count.new.out } in
+    subst (λ (l : List Block). HasEnded t h next l d (g.D.Deck.state c.add.new.deck)) (sym one)
+    (subst (λ deck. HasEnded t h next (b ∷ []) d (g.D.Deck.state deck)) (sym (a.untouched why))
+    (HasEnded-rest t h next b d (a.seq_end.0 why)))
+
+pub returns-clause-next : goal.returns-clause-next
+returns-clause-next g c past stands =
+    let one = rest-one past c.finish-count.result c.args.self.ring.next (take c.finish-count.result c.finish-count.new.out)
+    (c.finish-count.ensures.blocks (stream_past past) stands.stream refl) (omega (arith, c.if-count-eq0.false)) stands.next
+    (c.finish-count.ensures.last (stream_past past) stands.stream refl) in
+    let long : length (rest_of past) ≡ 1 = ap (λ (l : List Block). length l) one in
+    omega (arith, c.next-2.ensures.is, c.in_ok-ring.ensures.ring.1, long)
+
+pub returns-clause-records : goal.returns-clause-records
+returns-clause-records g c past stands =
+    let one = rest-one past c.finish-count.result c.args.self.ring.next (take c.finish-count.result c.finish-count.new.out)
+    (c.finish-count.ensures.blocks (stream_past past) stands.stream refl) (omega (arith, c.if-count-eq0.false)) stands.next
+    (c.finish-count.ensures.last (stream_past past) stands.stream refl) in
+    subst (λ (l : List Block). Records g.D.Deck.tells c.args.self.ring.header c.args.self.ring.next l (g.D.Deck.state c.args.deck.now)
+    (g.D.Deck.state c.add.new.deck)) (sym one) c.add.ensures.records
+
+pub returns-clause-recorded : goal.returns-clause-recorded
+returns-clause-recorded g c past stands =
+    let one = rest-one past c.finish-count.result c.args.self.ring.next (take c.finish-count.result c.finish-count.new.out)
+    (c.finish-count.ensures.blocks (stream_past past) stands.stream refl) (omega (arith, c.if-count-eq0.false)) stands.next
+    (c.finish-count.ensures.last (stream_past past) stands.stream refl) in
+    subst (λ (l : List Block). HasRecorded g.D.Deck.tells c.args.self.ring.header c.args.self.ring.next l (g.D.Deck.state c.args.deck.now)
+    (g.D.Deck.state c.add.new.deck)) (sym one) c.in_ok-ring.ensures.recorded
+
+pub returns-then-count-eq0-clause-all : goal.returns-then-count-eq0-clause-all
+returns-then-count-eq0-clause-all g c past stands = all_blocks-rest past c.finish-count.result (c.finish-count.ensures.blocks
+    (stream_past past) stands.stream refl)
+
+pub returns-in_err-ring-clause-all : goal.returns-in_err-ring-clause-all
+returns-in_err-ring-clause-all g c past stands = all_blocks-rest past c.finish-count.result (c.finish-count.ensures.blocks
+    (stream_past past) stands.stream refl)
+
+pub returns-clause-all : goal.returns-clause-all
+returns-clause-all g c past stands = all_blocks-rest past c.finish-count.result (c.finish-count.ensures.blocks (stream_past past) stands.stream refl)

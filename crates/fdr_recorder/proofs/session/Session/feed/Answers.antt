@@ -1,0 +1,153 @@
+use Rattle.std.proofs.Common.{◌≡◌, ◌+◌, ◌∙◌, ⊎_elim, ◌∷◌, [], take, refl, arith, None, sym, ap, subst}
+use Rattle.std.proofs.lemmas.Result.{err_from_is_err_and}
+use Rattle.fdr_io.specs.Faults.{Rose}
+use Rattle.fdr_slot.specs.declared.image.Header.{Header}
+use Rattle.fdr_recover.specs.Blocks.{Block}
+use Rattle.fdr_stream.specs.Blocks.{block_at}
+use Rattle.fdr_recorder.specs.Recording.{Records, HasRecorded, HasEnded}
+use Rattle.fdr_recorder.specs.Past.{due, due_at, bytes_of, with_record, numbered_block}
+use Rattle.fdr_recorder.proofs.Ended.{ring_seq_end, ring_disk_fault}
+use Rattle.fdr_recorder.proofs.Feeding.{IsFeeding-first, IsFeeding-step, MayStream-giving, Records-step, Records-due, block_is}
+use Rattle.fdr_recorder.proofs.Feeding.{due-few, stream-taken, number-taken, next-taken, Records-taken, HasRecorded-taken, HasEnded-due}
+use Rattle.fdr_recorder.proofs.session.Session.feed.Goals as goal
+
+pub loop-i-init : goal.loop-i-init
+loop-i-init g c = record {
+  feeding = λ past stands may. (None, due past, IsFeeding-first _ _ _ past _ _ _ (g.met.D.Deck.sound c.args.deck.now) c.requires.fact stands.stream);
+  header = refl;
+  fact = c.requires.fact;
+  room = refl;
+  rest = g.met.D.Deck.rest_here c.args.deck.now;
+}
+
+pub feed-requires : goal.feed-requires
+feed-requires g c =
+    let r = c.requires.stands in
+    let at = c.loop-i.invariant.feeding r.0 r.1 r.2 in
+    (_, at.2.stands, MayStream-giving r.0 c.args.r.now at.0 at.1 r.2 at.2.same, omega (arith, c.loop-i.invariant.room, at.2.stands.high))
+
+pub returns-in-Taken-clause-stands : goal.returns-in-Taken-clause-stands
+returns-in-Taken-clause-stands g c past stands may =
+    let at = c.loop-i.invariant.feeding past stands may in
+    let taken = c.in-Taken.ensures.taken _ at.2.stands (MayStream-giving past c.args.r.now at.0 at.1 may at.2.same) refl in
+    record {
+      header = c.loop-i.invariant.header ∙ stands.header;
+      stream = stream-taken _ _ _ past c.args.r.now _ _ _ _ _ at.0 at.1 at.2 _ taken;
+      next = number-taken _ _ _ past c.args.r.now _ _ _ _ _ at.0 at.1 at.2 _ taken stands.next;
+    }
+
+pub returns-in-Taken-clause-next : goal.returns-in-Taken-clause-next
+returns-in-Taken-clause-next g c past stands may =
+    let at = c.loop-i.invariant.feeding past stands may in
+    let taken = c.in-Taken.ensures.taken _ at.2.stands (MayStream-giving past c.args.r.now at.0 at.1 may at.2.same) refl in
+    next-taken _ _ _ past c.args.r.now _ _ _ _ _ at.0 at.1 at.2 _ taken
+
+pub returns-in-Taken-clause-records : goal.returns-in-Taken-clause-records
+returns-in-Taken-clause-records g c past stands may =
+    let at = c.loop-i.invariant.feeding past stands may in
+    let taken = c.in-Taken.ensures.taken _ at.2.stands (MayStream-giving past c.args.r.now at.0 at.1 may at.2.same) refl in
+    Records-taken _ _ _ past c.args.r.now _ _ _ _ _ at.0 at.1 at.2 _ taken
+
+pub returns-in-Taken-clause-recorded : goal.returns-in-Taken-clause-recorded
+returns-in-Taken-clause-recorded g c past stands may =
+    let at = c.loop-i.invariant.feeding past stands may in
+    let taken = c.in-Taken.ensures.taken _ at.2.stands (MayStream-giving past c.args.r.now at.0 at.1 may at.2.same) refl in
+    HasRecorded-taken _ _ _ past c.args.r.now _ _ _ _ _ at.0 at.1 at.2 _ taken
+
+pub returns-in-Taken-clause-room : goal.returns-in-Taken-clause-room
+returns-in-Taken-clause-room g c past stands may =
+    let at = c.loop-i.invariant.feeding past stands may in
+    let taken = c.in-Taken.ensures.taken _ at.2.stands (MayStream-giving past c.args.r.now at.0 at.1 may at.2.same) refl in
+    let next = next-taken _ _ _ past c.args.r.now _ _ _ _ _ at.0 at.1 at.2 _ taken in
+    omega (arith, next, c.loop-i.ring.bound)
+
+pub returns-in_err-ring-in-Block-clause-records : goal.returns-in_err-ring-in-Block-clause-records
+returns-in_err-ring-in-Block-clause-records g c past stands may =
+    let is = g.met.D.Deck.sound in
+    let s = g.D.Deck.state in
+    let r = c.args.r.now in
+    let at = c.loop-i.invariant.feeding past stands may in
+    let stream = MayStream-giving past r at.0 at.1 may at.2.same in
+    let more = (c.in-Block.ensures.exactly _ at.2.stands stream).0 refl in
+    let payload : c.header-payload.result.payload ≡ past.header.payload = ap (λ (h : Header). h.payload) (c.header-payload.ensures.is ∙ stands.header) in
+    let bytes : take c.header-payload.result.payload c.feed.new.out ≡ block_at past.header.payload (bytes_of (with_record past r)) at.1 =
+    ap (λ n. take n c.feed.new.out) payload ∙ c.in-Block.ensures.block _ at.2.stands stream refl in
+    let b : Block = record { number = c.loop-i.ring.next; payload = take c.header-payload.result.payload c.feed.new.out } in
+    let same : b ≡ numbered_block
+    (with_record past r) at.1 = block_is past r c.args.self.ring.next c.loop-i.ring.next at.1 _ stands.next at.2.number at.2.since bytes in
+    let added : Records g.D.Deck.tells c.args.self.ring.header c.loop-i.ring.next (b ∷ []) (s c.loop-i.deck) (s c.add.new.deck) =
+    subst (λ (h : Header). Records g.D.Deck.tells h c.loop-i.ring.next (b ∷ []) (s c.loop-i.deck)
+    (s c.add.new.deck)) c.loop-i.invariant.header c.add.ensures.records in
+    Records-due _ _ _ past r (at.1 + 1) _ _ (omega (arith, more))
+    (Records-step _ _ _ past r _ _ _ _ _ _ at.0 at.1 (is c.args.deck.now) stands.next at.2 b same added)
+
+pub returns-in_err-ring-in-Block-clause-seq_end : goal.returns-in_err-ring-in-Block-clause-seq_end
+returns-in_err-ring-in-Block-clause-seq_end g c past stands may ends =
+    let t = g.D.Deck.tells in
+    let h = c.args.self.ring.header in
+    let first = c.args.self.ring.next in
+    let r = c.args.r.now in
+    let old = g.D.Deck.state c.args.deck.now in
+    let at = c.loop-i.invariant.feeding past stands may in
+    let more = (c.in-Block.ensures.exactly _ at.2.stands (MayStream-giving past r at.0 at.1 may at.2.same)).0 refl in
+    let a = c.in_err-ring-in-Block.ensures in
+    let p = err_from_is_err_and c.from_residual.result c.from_residual.ensures.1 in
+    let why = ring_seq_end c.from_residual.result c.in_err-ring-in-Block.field-0.0 p.0 p.1 p.2 ends in
+    subst (λ deck. HasEnded t h first (due_at past r) old (g.D.Deck.state deck)) (sym (a.untouched why))
+    (HasEnded-due t h first past r _ c.loop-i.ring.next _ old (g.D.Deck.state c.loop-i.deck) at.0 at.1 at.2 (a.seq_end.0 why) more)
+
+pub returns-in_err-ring-in-Block-clause-cause : goal.returns-in_err-ring-in-Block-clause-cause
+returns-in_err-ring-in-Block-clause-cause g c fails =
+    let r = c.requires.stands in
+    let at = c.loop-i.invariant.feeding r.0 r.1 r.2 in
+    let a = c.in_err-ring-in-Block.ensures in
+    let p = err_from_is_err_and c.from_residual.result c.from_residual.ensures.1 in
+    let rose : Rose (g.D.Deck.state c.loop-i.deck).disk_faults (g.D.Deck.state c.add.new.deck).disk_faults =
+    a.cause (ring_disk_fault c.from_residual.result c.in_err-ring-in-Block.field-0.0 p.0 p.1 p.2 fails a.only) in
+    subst (λ n. Rose n (g.D.Deck.state c.add.new.deck).disk_faults) at.2.recorded.disk_faults rose
+
+pub returns-in_err-ring-in-Block-clause-rest : goal.returns-in_err-ring-in-Block-clause-rest
+returns-in_err-ring-in-Block-clause-rest g c = g.met.D.Deck.rest_then c.args.deck.now c.loop-i.deck c.add.new.deck c.loop-i.invariant.rest c.add.ensures.rest
+
+pub loop-i-preserved : goal.loop-i-preserved
+loop-i-preserved g c = record {
+  feeding = λ past stands may.
+      let is = g.met.D.Deck.sound in
+      let s = g.D.Deck.state in
+      let r = c.args.r.now in
+      let at = c.loop-i.invariant.feeding past stands may in
+      let stream = MayStream-giving past r at.0 at.1 may at.2.same in
+      let more = (c.in-Block.ensures.exactly _ at.2.stands stream).0 refl in
+      let payload : c.header-payload.result.payload ≡ past.header.payload = ap (λ (h : Header). h.payload) (c.header-payload.ensures.is ∙ stands.header) in
+      let bytes : take c.header-payload.result.payload c.feed.new.out ≡ block_at past.header.payload (bytes_of (with_record past r)) at.1 =
+      ap (λ n. take n c.feed.new.out) payload ∙ c.in-Block.ensures.block _ at.2.stands stream refl in
+      let b : Block = record { number = c.loop-i.ring.next; payload = take c.header-payload.result.payload c.feed.new.out } in
+      let same : b ≡ numbered_block
+      (with_record past r) at.1 = block_is past r c.args.self.ring.next c.loop-i.ring.next at.1 _ stands.next at.2.number at.2.since bytes in
+      let ok = c.in_ok-ring-in-Block.ensures in
+      let added : Records g.D.Deck.tells c.args.self.ring.header c.loop-i.ring.next (b ∷ []) (s c.loop-i.deck) (s c.add.new.deck) =
+      subst (λ (h : Header). Records g.D.Deck.tells h c.loop-i.ring.next (b ∷ []) (s c.loop-i.deck)
+      (s c.add.new.deck)) c.loop-i.invariant.header c.add.ensures.records in
+      let recorded : HasRecorded g.D.Deck.tells c.args.self.ring.header c.loop-i.ring.next (b ∷ []) (s c.loop-i.deck) (s c.add.new.deck) =
+      subst (λ (h : Header). HasRecorded g.D.Deck.tells h c.loop-i.ring.next (b ∷ []) (s c.loop-i.deck)
+      (s c.add.new.deck)) c.loop-i.invariant.header ok.recorded in (
+        _,
+        at.1 + 1,
+        IsFeeding-step _ _ _ past r _ _ _ _ _ _ at.0 at.1 (is c.args.deck.now) stands.next at.2 b same _ _
+            (c.in-Block.ensures.begun _ at.2.stands stream refl) ok.ring.1 more added recorded,
+      );
+  header = c.in_ok-ring-in-Block.ensures.ring.0 ∙ c.loop-i.invariant.header;
+  fact = c.in_ok-ring-in-Block.ensures.fact;
+  room = omega (arith, c.feed.auto.out, c.loop-i.invariant.room);
+  rest = g.met.D.Deck.rest_then c.args.deck.now c.loop-i.deck c.add.new.deck c.loop-i.invariant.rest c.add.ensures.rest;
+}
+
+pub unreachable-requires : goal.unreachable-requires
+unreachable-requires g c =
+    let r = c.requires.stands in
+    let at = c.loop-i.invariant.feeding r.0 r.1 r.2 in
+    let few = due-few r.0 c.args.r.now at.2.stands.packed.words r.2.in_time in
+    ⊎_elim
+    (λ none. absurd (omega (arith, none, c.loop-i-test.false)))
+    (λ within. absurd (omega (arith, within, few, at.2.rises, c.loop-i-test.false)))
+    at.2.within

@@ -1,0 +1,111 @@
+use Rattle.std.proofs.Common.{◌≡◌, ◌∙◌, ◌+◌, ◌-◌, ℕ, List, ap, refl, sym, subst}
+use Rattle.std.specs.Prelude.{IsTrue}
+use Rattle.fdr_deck.specs.Calls.{IsQuiet, Announces}
+use Rattle.fdr_slot.specs.declared.image.Header.{Header}
+use Rattle.fdr_recover.specs.Images.{recovered_run, next_of}
+use Rattle.fdr_ring.specs.Formatting.{header_in}
+use Rattle.fdr_ring.specs.Closing.{shut}
+use Rattle.fdr_ring.specs.Gates.{gate_at}
+use Rattle.fdr_ring.specs.Runs.{last_blocks}
+use Rattle.fdr_ring.specs.Rings.{IsAttaching, OfSettled}
+use Rattle.fdr_table.specs.Rows.{FrameRow, TableRows}
+use Rattle.fdr_stream.specs.Past.{Stands as StandsFor}
+use Rattle.fdr_recorder.specs.Past.{due, started, stream_past}
+use Rattle.fdr_recorder.proofs.Adding.{IsSureRing-told}
+use Rattle.fdr_recorder.proofs.Starting.{Starts-looked, Starts-attached, Starts-announced, greatest-started, least-started, stream-started, next-started}
+use Rattle.fdr_recorder.proofs.session.Session.start.Goals as goal
+
+pub returns-in_err-header-clause-starts : goal.returns-in_err-header-clause-starts
+returns-in_err-header-clause-starts g c =
+    Starts-looked _ _ _ _ (g.met.D.Deck.sound c.args.deck.now) c.read_image_header.ensures.quiet
+
+pub returns-then-header-words-clause-starts : goal.returns-then-header-words-clause-starts
+returns-then-header-words-clause-starts g c =
+    Starts-looked _ _ _ _ (g.met.D.Deck.sound c.args.deck.now) c.read_image_header.ensures.quiet
+
+pub returns-in_err-stream-clause-starts : goal.returns-in_err-stream-clause-starts
+returns-in_err-stream-clause-starts g c =
+    Starts-looked _ _ _ _ (g.met.D.Deck.sound c.args.deck.now) c.read_image_header.ensures.quiet
+
+pub returns-in_err-ring-clause-starts : goal.returns-in_err-ring-clause-starts
+returns-in_err-ring-clause-starts g c =
+    let t = g.D.Deck.tells in
+    let s = g.D.Deck.state in
+    let is = g.met.D.Deck.sound in
+    let d0 = c.args.deck.now in
+    let d1 = c.read_image_header.new.deck in
+    let d2 = c.attach.new.deck in
+    let read = c.read_image_header.ensures in
+    let same : IsTrue t.stops → c.in_ok-header.header ≡ header_in (s d0).held = (λ stops. c.in_ok-header.ensures.read ((is d0).stops_need_bytes stops)) in
+    let fresh = (c.in_ok-header.ensures.succeeds (λ e. absurd (cc))).fresh in
+    Starts-attached t (header_in (s d0).held) (s d0) (s d1) (is d0) read.quiet read.disk fresh (s d2) c.attach.ensures.quiet.passes
+    (λ stops. subst (λ (h : Header). IsQuiet t (OfSettled (s d1) (IsAttaching h)) (s d1) (s d2)) (same stops) c.attach.ensures.quiet)
+
+pub returns-clause-starts : goal.returns-clause-starts
+returns-clause-starts g c =
+    let t = g.D.Deck.tells in
+    let s = g.D.Deck.state in
+    let is = g.met.D.Deck.sound in
+    let d0 = c.args.deck.now in
+    let d1 = c.read_image_header.new.deck in
+    let d2 = c.attach.new.deck in
+    let d3 = c.announce.new.self in
+    let read = c.read_image_header.ensures in
+    let ok = c.in_ok-ring.ensures in
+    let same : IsTrue t.stops → c.in_ok-header.header ≡ header_in (s d0).held = (λ stops. c.in_ok-header.ensures.read ((is d0).stops_need_bytes stops)) in
+    let fresh = (c.in_ok-header.ensures.succeeds (λ e. absurd (cc))).fresh in
+    Starts-announced t (header_in (s d0).held) (s d0) (s d1) (is d0) read.quiet read.disk fresh (s d2) c.attach.ensures.quiet.passes
+    (λ stops. subst (λ (h : Header). IsQuiet t (OfSettled (s d1) (IsAttaching h)) (s d1) (s d2)) (same stops) c.attach.ensures.quiet)
+    ok.succeeds.fresh c.next.result (s d3) c.announce.ensures.announces ok.settled
+    (λ stops. subst (λ (h : Header). IsAttaching h (s d1).held (s d2).held) (same stops) (c.attach.ensures.keeps ((is d0).stops_need_bytes stops)))
+    (λ stops. c.next.ensures.is ∙ ok.next ((is d0).stops_need_bytes stops) ∙ ap (λ (h : Header). next_of h (s d1).held) (same stops))
+    c.announce.ensures.disk c.announce.ensures.line c.announce.ensures.line_faults c.announce.ensures.time c.announce.ensures.moments
+
+pub returns-clause-started : goal.returns-clause-started
+returns-clause-started g c =
+    let t = g.D.Deck.tells in
+    let s = g.D.Deck.state in
+    let is = g.met.D.Deck.sound in
+    let d0 = c.args.deck.now in
+    let d1 = c.read_image_header.new.deck in
+    let d2 = c.attach.new.deck in
+    let d3 = c.announce.new.self in
+    let read = c.read_image_header.ensures in
+    let ok = c.in_ok-ring.ensures in
+    let table = c.args.sound.now in
+    let h = c.in_ok-header.header in
+    let r = c.in_ok-ring.ring in
+    let same : r.header ≡ h = ok.header in
+    let k = c.in_ok-stream.stream in
+    let words : h.words ≡ table.frame.words = c.if-header-words.false ∙ ap (λ (f : FrameRow). f.words) (c.words.view_is ∙ c.frame.ensures
+    ∙ ap (λ (t : TableRows). t.frame) c.table.ensures) in
+    let held01 : (s d1).held ≡ (s d0).held = read.disk.held in
+    let held23 : (s d3).held ≡ (s d2).held = c.announce.ensures.disk.disk.held in
+    let fresh = (c.in_ok-header.ensures.succeeds (λ e. absurd (cc))).fresh in
+    let announces : Announces r.next (s d2) (s d3) = subst (λ (n : ℕ). Announces n (s d2) (s d3)) c.next.ensures.is c.announce.ensures.announces in
+    let next : IsTrue t.bytes → r.next ≡ next_of r.header (s d0).held =
+    (λ told. ok.next told ∙ ap (λ (l : List ℕ). next_of h l) held01 ∙ ap (λ (hh : Header). next_of hh (s d0).held) (sym same)) in
+    record {
+      stands = record {
+        header = refl;
+        stream = subst (λ (hh : Header). StandsFor k (stream_past (started table hh r.next))) (sym same)
+            (stream-started k table h.payload c.in_ok-stream.ensures);
+        next = subst (λ (hh : Header). r.next ≡ r.next + due (started table hh r.next)) (sym same)
+            (next-started k table h.payload r.next c.in_ok-stream.ensures);
+      };
+      words = ap (λ (hh : Header). hh.words) same ∙ words;
+      header = λ told. same ∙ c.in_ok-header.ensures.read told;
+      next = next;
+      held = λ told. held23 ∙ ok.held told ∙ ap (λ (l : List ℕ). shut (gate_at h (next_of h l)) l) held01
+          ∙ ap (λ (hh : Header). shut (gate_at hh (next_of hh (s d0).held)) (s d0).held) (sym same);
+      run = λ told. ap (λ (l : List ℕ). recovered_run r.header l) held23 ∙ ap (λ (hh : Header). recovered_run hh (s d2).held) same ∙ ok.run told
+          ∙ ap (λ (l : List ℕ). last_blocks (h.slots - 1) (recovered_run h l)) held01
+          ∙ ap (λ (hh : Header). last_blocks (hh.slots - 1) (recovered_run hh (s d0).held)) (sym same);
+      fact = IsSureRing-told _ _ _ _ _ c.announce.ensures.disk ok.fact;
+      settled = λ stops image left. ok.settled stops image (c.announce.ensures.disk.disk.no_more image left) ∙ sym held23;
+      told = announces.told;
+      greatest = greatest-started t h (s d0) (s d1) (is d0) read.quiet read.disk fresh (s d2) c.attach.ensures.quiet.passes
+          (λ stops. c.attach.ensures.quiet) ok.succeeds.fresh r.next (s d3) announces;
+      least = least-started t h (s d0) (s d1) (is d0) read.quiet read.disk fresh (s d2) c.attach.ensures.quiet.passes
+          (λ stops. c.attach.ensures.quiet) ok.succeeds.fresh r.next (s d3) announces;
+    }

@@ -1,0 +1,5 @@
+pub mod Keeping
+pub mod Recording
+pub mod Past
+pub mod Starting
+pub mod Faults

@@ -1,0 +1,23 @@
+// What follows of the definitions of a recording.
+ghost use Rattle.std.specs.Prelude.{◌≡◌, ℕ, List, ◌++◌, ◌-◌};
+ghost use Rattle.fdr_bus.specs.declared.BusRecord.{BusRecord};
+ghost use Rattle.fdr_slot.specs.Limits.{IsInLimits};
+ghost use Rattle.fdr_slot.specs.declared.image.Header.{Header};
+ghost use Rattle.fdr_recover.specs.Blocks.{Block};
+ghost use Rattle.fdr_ring.specs.Runs.{IsTail};
+ghost use Rattle.fdr_recorder.specs.Keeping.{Keeps, KeepsBehind};
+ghost use Rattle.fdr_recorder.specs.Past.{Past, MayFeed, with_record, recorded_of, due_at};
+
+/// What is promised doesn't wear away over recordings of which each begins on the image that the one before it left, however
+/// it was stopped. It does no work.
+pub fn keeps_chain()
+    ensures { (h : Header) (entry image : List ℕ) (whole old new : List Block) (told : ℕ)
+        → IsTail (h.slots - 2) whole old → Keeps h entry old new told image → KeepsBehind h whole new image }
+{}
+
+/// A further record changes none of the blocks that were due before it: those of all records one after another are those of
+/// the whole stream. It does no work.
+pub fn blocks_join()
+    ensures { (past : Past) (r : BusRecord) → IsInLimits past.header → MayFeed past r
+        → recorded_of (with_record past r) ≡ recorded_of past ++ due_at past r }
+{}

@@ -1,0 +1,179 @@
+// A recording of a trace.
+ghost use Rattle.std.specs.Prelude.{◌≡◌, ◌≢◌, ◌⊎◌, ◌↔◌, ◌<◌, ◌≤◌, ◌^◌, ◌+◌, ℕ, [], ◌∷◌, ◌++◌, Err, Some, None, length, IfOk, OnOk, OnErr, IsTrue};
+ghost use Rattle.fdr_io.specs.Faults.{Rose};
+ghost use Rattle.fdr_deck.specs.Disk.{KeepsDisk};
+ghost use Rattle.fdr_deck.specs.Calls.{KeepsTold};
+ghost use Rattle.fdr_slot.specs.declared.image.ImageFault.{ImageFault};
+ghost use Rattle.fdr_slot.specs.declared.image.ImageFault.TheVariants as image_fault;
+ghost use Rattle.fdr_ring.specs.Formatting.{fault_of, header_in};
+ghost use Rattle.fdr_ring.specs.Rings.{IsRing, IsSureRing};
+ghost use Rattle.fdr_recorder.specs.Recording.{Records, HasRecorded, HasEnded};
+ghost use Rattle.fdr_recorder.specs.Past.{Past, MayFeed, Stands, with_record, due_at, rest_of, recorded_of, all_blocks};
+ghost use Rattle.fdr_recorder.specs.Starting.{Starts, IsFor, IsStarted};
+
+use crate::SessionFault;
+use fdr_bus::BusRecord;
+use fdr_check::Sound;
+use fdr_deck::Deck;
+use fdr_ring::{Ring, RingFault, read_image_header};
+use fdr_stream::{Fed, Stream};
+use std::alloc::Global;
+
+/// The most bytes of a block.
+const LARGEST_BLOCK: usize = 4096;
+
+/// More blocks than a recording has.
+const MANY_BLOCKS: u32 = 3_000_000_000;
+
+/// A recording of a trace in the image on a deck's disk. A call that is refused consumes it.
+#[derive(Drop)]
+pub struct Session {
+    ring: Ring,
+    stream: Stream,
+}
+
+impl Session {
+    /// Starts a recording by a table in the image on the disk, and announces its next number. `Image` names the first fault
+    /// of the length and the bytes; `WordsDiffer` is answered where the image is for other words than the table has. Only
+    /// where a session is answered or the disk failed was the disk written, and announced was nothing but `next`.
+    pub fn start<D: Deck>(
+        alloc: Global,
+        sound: &Sound,
+        deck: &mut D,
+    ) -> Result<Session, SessionFault>
+        ensures numbers { result ≢ Err SessionFault.SeqEnd }
+        ensures image { IsTrue D.tells.bytes
+            → (why : ImageFault) → result ≡ Err (SessionFault.Image why) → fault_of (D.state deck.old).held ≡ Some why }
+        ensures small { (why : ImageFault) → result ≡ Err (SessionFault.Image why)
+            → (why ≡ image_fault.Small) ↔ ((D.state deck.new).extent < 64) }
+        ensures words { (image table : ℕ) → result ≡ Err (SessionFault.WordsDiffer image table)
+            → (table ≡ sound.now.frame.words) × (image ≢ table)
+            × (IsTrue D.tells.bytes → IsFor image (D.state deck.old).held) }
+        ensures no_memory { IsTrue D.tells.bytes → result ≡ Err SessionFault.NoMemory
+            → IsFor sound.now.frame.words (D.state deck.old).held }
+        ensures good { IsTrue D.tells.bytes → OnOk result (IsFor sound.now.frame.words (D.state deck.old).held) }
+        ensures started { IfOk result (λ s. IsStarted D.tells sound.now s (D.state deck.old) (D.state deck.new)) }
+        ensures starts { Starts D.tells (header_in (D.state deck.old).held) (D.state deck.old) (D.state deck.new) }
+        ensures refused { OnErr result (KeepsTold (D.state deck.old) (D.state deck.new)) }
+        ensures untouched { result ≢ Err SessionFault.DiskFault
+            → OnErr result (KeepsDisk (D.state deck.old) (D.state deck.new)) }
+        ensures quiet { result ≢ Err SessionFault.DiskFault
+            → (D.state deck.new).disk_faults ≡ (D.state deck.old).disk_faults }
+        ensures cause { result ≡ Err SessionFault.DiskFault
+            → Rose (D.state deck.old).disk_faults (D.state deck.new).disk_faults }
+        ensures rest { D.same_rest deck.old deck.new }
+    {
+        let header = read_image_header(deck)?;
+        let words = sound.table().frame().words;
+        if header.words != words {
+            return Err(SessionFault::WordsDiffer {
+                image: header.words,
+                table: words,
+            });
+        }
+        let stream = Stream::new(alloc, sound, header.payload)?;
+        let ring = Ring::attach(deck, header)?;
+        deck.announce(ring.next());
+        Ok(Session { ring, stream })
+    }
+
+    /// Feeds the next record of the trace: each block that is due at it is added to the image, and announced once it is
+    /// durable. `SeqEnd` is answered where there is no number left for one of them, and the blocks before it stand.
+    pub fn feed<D: Deck>(self, deck: &mut D, r: &BusRecord) -> Result<Session, SessionFault>
+        requires stands { (past : Past) × Stands self past × MayFeed past r.now }
+        requires fact { IsRing D.tells self.ring.header self.ring.next (D.state deck.old) }
+        ensures only { OnErr result (result ≡ Err SessionFault.DiskFault ⊎ result ≡ Err SessionFault.SeqEnd) }
+        ensures stands { (past : Past) → Stands self past → MayFeed past r.now
+            → IfOk result (λ s. Stands s (with_record past r.now)) }
+        ensures header { IfOk result (λ s. s.ring.header ≡ self.ring.header) }
+        ensures next { (past : Past) → Stands self past → MayFeed past r.now
+            → IfOk result (λ s. s.ring.next ≡ self.ring.next + length (due_at past r.now)) }
+        ensures fact { IfOk result (λ s. IsRing D.tells s.ring.header s.ring.next (D.state deck.new)) }
+        ensures records { (past : Past) → Stands self past → MayFeed past r.now
+            → Records D.tells self.ring.header self.ring.next (due_at past r.now) (D.state deck.old) (D.state deck.new) }
+        ensures recorded { (past : Past) → Stands self past → MayFeed past r.now → OnOk result
+            (HasRecorded D.tells self.ring.header self.ring.next (due_at past r.now) (D.state deck.old) (D.state deck.new)) }
+        ensures seq_end { (past : Past) → Stands self past → MayFeed past r.now → result ≡ Err SessionFault.SeqEnd
+            → HasEnded D.tells self.ring.header self.ring.next (due_at past r.now) (D.state deck.old) (D.state deck.new) }
+        ensures room { (past : Past) → Stands self past → MayFeed past r.now
+            → OnOk result (self.ring.next + length (due_at past r.now) ≤ 2 ^ 48) }
+        ensures cause { result ≡ Err SessionFault.DiskFault
+            → Rose (D.state deck.old).disk_faults (D.state deck.new).disk_faults }
+        ensures rest { D.same_rest deck.old deck.new }
+    {
+        let Session {
+            mut ring,
+            mut stream,
+        } = self;
+        let payload = ring.header().payload as usize;
+        let mut block = [0; LARGEST_BLOCK];
+        for i in 0..MANY_BLOCKS {
+            match stream.feed(r, &mut block) {
+                Fed::Taken => return Ok(Session { ring, stream }),
+                Fed::Block => ring = add(ring, deck, &block[..payload])?,
+            }
+        }
+        unreachable!()
+    }
+
+    /// Ends the recording: what is left of the stream is added as a last block, and announced. Answers the next number of
+    /// the image.
+    pub fn close<D: Deck>(self, deck: &mut D) -> Result<u64, SessionFault>
+        requires stands { (past : Past) × Stands self past }
+        requires fact { IsRing D.tells self.ring.header self.ring.next (D.state deck.old) }
+        ensures only { OnErr result (result ≡ Err SessionFault.DiskFault ⊎ result ≡ Err SessionFault.SeqEnd) }
+        ensures all { (past : Past) → Stands self past → all_blocks past ≡ recorded_of past ++ rest_of past }
+        ensures next { (past : Past) → Stands self past
+            → IfOk result (λ n. n ≡ self.ring.next + length (rest_of past)) }
+        ensures records { (past : Past) → Stands self past
+            → Records D.tells self.ring.header self.ring.next (rest_of past) (D.state deck.old) (D.state deck.new) }
+        ensures recorded { (past : Past) → Stands self past → OnOk result
+            (HasRecorded D.tells self.ring.header self.ring.next (rest_of past) (D.state deck.old) (D.state deck.new)) }
+        ensures seq_end { (past : Past) → Stands self past → result ≡ Err SessionFault.SeqEnd
+            → HasEnded D.tells self.ring.header self.ring.next (rest_of past) (D.state deck.old) (D.state deck.new) }
+        ensures room { IfOk result (λ n. n ≤ 2 ^ 48) }
+        ensures cause { result ≡ Err SessionFault.DiskFault
+            → Rose (D.state deck.old).disk_faults (D.state deck.new).disk_faults }
+        ensures rest { D.same_rest deck.old deck.new }
+    {
+        let Session { ring, mut stream } = self;
+        let mut block = [0; LARGEST_BLOCK];
+        let count = stream.finish(&mut block);
+        if count == 0 {
+            return Ok(ring.next());
+        }
+        let ring = add(ring, deck, &block[..count])?;
+        Ok(ring.next())
+    }
+
+    /// The number of the image's next block.
+    pub fn next(&self) -> u64
+        ensures { result ≡ self.now.ring.next }
+    {
+        self.ring.next()
+    }
+}
+
+/// Adds a block and announces it.
+fn add<D: Deck>(ring: Ring, deck: &mut D, bytes: &[u8]) -> Result<Ring, RingFault>
+    requires fact { IsRing D.tells ring.header ring.next (D.state deck.old) }
+    requires some { 0 < length bytes.now }
+    requires fits { length bytes.now ≤ ring.header.payload }
+    ensures seq_end { (result ≡ Err RingFault.SeqEnd) ↔ (ring.next ≡ 2 ^ 48) }
+    ensures untouched { result ≡ Err RingFault.SeqEnd → deck.new ≡ deck.old }
+    ensures only { OnErr result (result ≡ Err RingFault.SeqEnd ⊎ result ≡ Err RingFault.DiskFault) }
+    ensures ring { IfOk result (λ r. (r.header ≡ ring.header) × (r.next ≡ ring.next + 1)) }
+    ensures fact { IfOk result (λ r. IsRing D.tells r.header r.next (D.state deck.new)) }
+    ensures records { Records D.tells ring.header ring.next
+        (record { number = ring.next; payload = bytes.now } ∷ []) (D.state deck.old) (D.state deck.new) }
+    ensures recorded { OnOk result (HasRecorded D.tells ring.header ring.next
+        (record { number = ring.next; payload = bytes.now } ∷ []) (D.state deck.old) (D.state deck.new)) }
+    ensures cause { result ≡ Err RingFault.DiskFault
+        → Rose (D.state deck.old).disk_faults (D.state deck.new).disk_faults }
+    ensures rest { D.same_rest deck.old deck.new }
+{
+    let prepared = ring.prepare(deck, bytes)?;
+    let ring = prepared.commit(deck)?;
+    deck.announce(ring.next());
+    Ok(ring)
+}
