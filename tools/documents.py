@@ -206,8 +206,8 @@ def check_model():
 
 
 def check_guarantees():
-    """Names in code marks of GUARANTEES.md are names of the source."""
-    known = set()
+    """Names in code marks of GUARANTEES.md are names of the source; `clause.field` names a field of a record in specs/."""
+    known, fields = set(), {"old", "new", "now"}
     for crate, _ in crate_lines():
         known.add(crate)
         known.update(definitions(crate))
@@ -215,12 +215,16 @@ def check_guarantees():
             known.update(re.findall(r"[A-Za-z_]\w*", path.read_text()))
         for path in (CRATES / crate / "specs").glob("*.antt"):
             known.update(re.findall(r"[A-Za-z_]\w*", path.read_text()))
+            fields.update(re.findall(r"^ +pub (\w+) :", path.read_text(), flags=re.M))
         known.update(path.stem for path in (CRATES / crate / "must-fail").glob("*.edit"))
     text = (TOP / "docs" / "GUARANTEES.md").read_text()
     for number, line in enumerate(re.sub(r"```.*?```", lambda m: "\n" * m.group().count("\n"), text, flags=re.S).splitlines(), 1):
         for mark in re.findall(r"`([^`]+)`", line):
-            if re.search(r"[^\w:]|^_|^[0-9a-f]{16}$", mark):
+            if re.search(r"[^\w:.]|\.\w+\(|^_|^[0-9a-f]{16}$", mark):
                 continue
+            promise = re.fullmatch(r"([a-z]\w*)\.([a-z]\w*)", mark)
+            if promise and promise[2] not in fields:
+                yield f"docs/GUARANTEES.md:{number}: no record has a promise `{promise[2]}`"
             for name in re.findall(r"\w+", mark):
                 if name not in known:
                     yield f"docs/GUARANTEES.md:{number}: nothing is named `{name}`"

@@ -4,7 +4,8 @@ use Rattle.fdr_io.specs.declared.Input.TheVariants as input
 use Rattle.fdr_words.specs.Forms.{Form, check_table, stream_line, list_bits, format_image, recover_image}
 use Rattle.fdr_top.specs.declared.outcome.Outcome.{Outcome}
 use Rattle.fdr_top.specs.declared.outcome.Outcome.TheVariants as outcome
-use Rattle.fdr_top.specs.Answers.{IsOfListing, IsOfMaking, IsOfRecovery, IsOfReport, IsOfTable, IsOfTrace, IsPastTable, MayAnswer, ReadsTable, Reports}
+use Rattle.fdr_top.specs.Answers.{IsOfListing, IsOfMaking, IsOfRecovery, IsOfReport, IsOfTable, IsOfTrace, IsPastTable, MayAnswer, ReadsTable}
+use Rattle.fdr_top.specs.Check.{Reports}
 use Rattle.fdr_io.proofs.Telling.{followed_by-nil}
 use Rattle.fdr_table.specs.Rows.{TableRows}
 

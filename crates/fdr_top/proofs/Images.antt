@@ -15,11 +15,12 @@ use Rattle.fdr_recover.specs.Looks.{Looks}
 use Rattle.fdr_ring.specs.Formatting.{fault_of, header_in}
 use Rattle.fdr_ring.specs.declared.error.RingFault.{RingFault}
 use Rattle.fdr_ring.specs.declared.error.RingFault.TheVariants as ring
+use Rattle.fdr_deck.proofs.Moments.{IsQuiet-here}
 use Rattle.fdr_deck.proofs.Quiet.{IsQuiet-then}
 use Rattle.fdr_top.specs.declared.outcome.Outcome.{Outcome}
 use Rattle.fdr_top.specs.declared.outcome.Outcome.TheVariants as outcome
 use Rattle.fdr_top.specs.Answers.{IsOfRecovery}
-use Rattle.fdr_top.specs.Images.{OnlyLooks, Recovers, header_refusal, payloads_of, run_in}
+use Rattle.fdr_top.specs.Recover.{OnlyLooks, Recovers, RecoversImage, header_refusal, payloads_of, run_in}
 
 -- one look behind another
 OnlyLooks-then : (tells : Tells) (old mid new : State) → IsSound tells old → OnlyLooks tells old mid → Looks tells mid new → OnlyLooks tells old new
@@ -105,3 +106,20 @@ refusal_answered tells old new before now outcome.WriteFault why of recovers lef
 refusal_answered tells old new before now outcome.DiskFault why of recovers left told first = inr refl
 refusal_answered tells old new before now outcome.TooLong why of recovers left told first = absurd of
 refusal_answered tells old new before now outcome.NoMemory why of recovers left told first = absurd (left refl)
+
+-- where memory ends before the disk is looked at
+pub recovers_nothing : (tells : Tells) (d : State) (written : Option (List ℕ)) → IsSound tells d
+    → RecoversImage tells d d written written outcome.NoMemory
+recovers_nothing tells d written sound = record {
+  looks = record {
+    learns = record { bytes = λ told. refl; stops = λ told. refl; known = λ some. refl };
+    disk = record { held = refl; no_more = λ image leaves. leaves; no_less = λ image leaves. leaves };
+    quiet = IsQuiet-here tells d.may_leave d sound (λ told image leaves. leaves);
+  };
+  all = λ done told. absurd (cc);
+  part = λ told. (0, sym (followed_by-nil written));
+  good = λ done told. absurd (cc);
+  refused = λ why e told. absurd (cc);
+  small = λ why e. absurd (cc);
+  refused_always = λ why left told first. absurd (left refl);
+}

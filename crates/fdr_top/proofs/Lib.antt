@@ -9,3 +9,5 @@ pub mod Commands
 pub mod Recovery
 pub mod Images
 pub mod Making
+pub mod ItsTable
+pub mod Answering

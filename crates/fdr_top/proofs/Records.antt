@@ -28,7 +28,7 @@ use Rattle.fdr_trace.proofs.Pulling.{PullsMore-then}
 use Rattle.fdr_trace.proofs.Records.{Reads-counts}
 use Rattle.fdr_top.specs.declared.outcome.Outcome.{Outcome}
 use Rattle.fdr_top.specs.declared.outcome.Outcome.TheVariants as outcome
-use Rattle.fdr_top.specs.Answers.{Streams, answer_of_stop}
+use Rattle.fdr_top.specs.Stream.{Streams, answer_of_stop}
 use Rattle.fdr_top.specs.Streaming.{due_text, ComesNext, IsStreamed, IsStreamedTo, IsStreamedPart}
 use Rattle.fdr_top.proofs.Longer.{stream_of-good}
 use Rattle.fdr_top.proofs.Blocks.{take_min}

@@ -13,7 +13,7 @@ use Rattle.fdr_recover.specs.Blocks.{Block, Stands, IsNumbered}
 use Rattle.fdr_recover.specs.Images.{block_at, block_in, payload_at, payload_of, recovered_run, next_of, IsRecovered, IsNextNumber}
 use Rattle.fdr_recover.proofs.Standing.{stands-standing}
 use Rattle.fdr_recover.proofs.Nexts.{IsNext-one}
-use Rattle.fdr_top.specs.Images.{payloads_of}
+use Rattle.fdr_top.specs.Recover.{payloads_of}
 
 -- nothing was written
 pub nothing_emitted : (written : Option (List ℕ)) (waiting text : List ℕ) → EmitsPart written written waiting text

@@ -18,7 +18,8 @@ use Rattle.fdr_table.specs.Rows.{TableRows}
 use Rattle.fdr_sampler.specs.Stream.{stream_of}
 use Rattle.fdr_top.specs.declared.outcome.Outcome.{Outcome}
 use Rattle.fdr_top.specs.declared.outcome.Outcome.TheVariants as outcome
-use Rattle.fdr_top.specs.Answers.{IsOfTrace, MayAnswer, Streams}
+use Rattle.fdr_top.specs.Answers.{IsOfTrace, MayAnswer}
+use Rattle.fdr_top.specs.Stream.{Streams}
 
 answer_to : Option (ℕ × TraceFault) → Outcome
 answer_to None = outcome.Done

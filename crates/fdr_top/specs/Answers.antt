@@ -1,27 +1,16 @@
 -- Which answers a command gives, and what they leave.
-use Rattle.std.specs.Prelude.{◌≡◌, ◌≢◌, ℕ, ◌+◌, ◌<◌, ◌≤◌, List, [], true, length, take, Option, Some, IsSome, IsTrue}
-use Rattle.fdr_io.specs.Told.{followed_by}
+use Rattle.std.specs.Prelude.{◌≡◌, ℕ, List, IsSome, Some}
 use Rattle.fdr_io.specs.declared.Input.TheVariants as input
-use Rattle.fdr_deck.specs.State.{State, Tells}
-use Rattle.fdr_deck.specs.Pull.{TakesLine}
-use Rattle.fdr_bus.specs.Records.{IsDecided, good_prefix, has_end, trace_fault}
-use Rattle.fdr_bus.specs.declared.TraceFault.{TraceFault}
-use Rattle.fdr_bus.specs.declared.TraceFault.TheVariants as trace
-use Rattle.fdr_table.specs.Rows.{TableRows}
+use Rattle.fdr_deck.specs.State.{State}
 use Rattle.fdr_table.specs.declared.fault.TableError.{TableError}
 use Rattle.fdr_table.specs.declared.fault.TableError.TheVariants as error
-use Rattle.fdr_check.specs.Report.{report_of}
-use Rattle.fdr_words.specs.Forms.{Form, check_table, stream_line, list_bits, format_image, recover_image, table_path, image_path}
-use Rattle.fdr_sampler.specs.Stream.{stream_of}
-use Rattle.fdr_trace.specs.Pulls.{PullsMore}
-use Rattle.fdr_trace.specs.declared.TraceStop.{TraceStop}
-use Rattle.fdr_trace.specs.declared.TraceStop.TheVariants as stop
-use Rattle.fdr_readout.specs.Listing.{listing_of}
-use Rattle.fdr_top.specs.Limits.{most_line_bytes, piece_bytes}
+use Rattle.fdr_words.specs.Forms.{Form, form_of, check_table, stream_line, list_bits, format_image, recover_image, table_path, image_path}
 use Rattle.fdr_top.specs.declared.outcome.Outcome.{Outcome}
 use Rattle.fdr_top.specs.declared.outcome.Outcome.TheVariants as outcome
-use Rattle.fdr_top.specs.declared.pulling.LineEnd.{LineEnd}
-use Rattle.fdr_top.specs.declared.pulling.LineEnd.TheVariants as line_end
+
+-- the words ask for the command of this form
+abbrev pub Asks : List (List ℕ) → Form → Type 0
+Asks words form = form_of words ≡ Some form
 
 -- the answers that reading the table gives
 abbrev pub IsOfTable : Outcome → Type 0
@@ -143,6 +132,21 @@ IsBeforeLine outcome.DiskFault = ⊥
 IsBeforeLine outcome.TooLong = ⊥
 IsBeforeLine outcome.NoMemory = ⊥
 
+-- the answers before which the deck isn't asked for anything, want of memory aside
+abbrev pub EndsBeforeDeck : Outcome → Type 0
+EndsBeforeDeck outcome.Done = ⊥
+EndsBeforeDeck outcome.Usage = Unit {0}
+EndsBeforeDeck (outcome.TableRefused row f) = Unit {0}
+EndsBeforeDeck (outcome.TraceRefused index why) = ⊥
+EndsBeforeDeck (outcome.ImageRefused why) = ⊥
+EndsBeforeDeck outcome.NotEmpty = ⊥
+EndsBeforeDeck (outcome.ReadFault input.Table) = Unit {0}
+EndsBeforeDeck (outcome.ReadFault input.Line) = ⊥
+EndsBeforeDeck outcome.WriteFault = ⊥
+EndsBeforeDeck outcome.DiskFault = ⊥
+EndsBeforeDeck outcome.TooLong = ⊥
+EndsBeforeDeck outcome.NoMemory = ⊥
+
 -- the answers after which no device is changed and nothing is written
 abbrev pub WritesNothing : Outcome → Type 0
 WritesNothing outcome.Done = ⊥
@@ -190,6 +194,14 @@ IsFormat (list_bits table) = ⊥
 IsFormat (format_image table image slots payload) = Unit {0}
 IsFormat (recover_image image) = ⊥
 
+-- the commands that use the deck
+abbrev pub UsesDeck : Form → Type 0
+UsesDeck (check_table table) = ⊥
+UsesDeck (stream_line table) = Unit {0}
+UsesDeck (list_bits table) = Unit {0}
+UsesDeck (format_image table image slots payload) = Unit {0}
+UsesDeck (recover_image image) = Unit {0}
+
 -- which command may give an answer
 abbrev pub MayAnswer : Form → Outcome → Type 0
 MayAnswer form outcome.Done = Unit {0}
@@ -212,49 +224,7 @@ pub record KeepsLineAndFaults (old new : State) : Type 0 where
   pub before : new.before ≡ old.before
   pub faults : new.line_faults ≡ old.line_faults
 
--- Of the line these bytes were pulled, and of the listing of as many as are listed a front part was written, all of it
--- but where the answer is a fault of writing.
-pub record Lists (t : TableRows) (tells : Tells) (old new : State) (written_before written_now : Option (List ℕ)) (answer : Outcome) : Type 0 where
-  pub pulled : List ℕ
-  pub takes : TakesLine tells old new pulled
-  pub text : answer ≢ outcome.WriteFault → written_now ≡ followed_by written_before (listing_of t (take most_line_bytes pulled))
-  pub part : (k : ℕ) × (written_now ≡ followed_by written_before (take k (listing_of t (take most_line_bytes pulled))))
-  pub few : answer ≡ outcome.Done → length pulled ≤ most_line_bytes
-  pub fault_few : answer ≡ outcome.ReadFault input.Line → length pulled ≤ most_line_bytes
-  pub many : answer ≡ outcome.TooLong → most_line_bytes < length pulled
-  pub bounded : length pulled ≤ most_line_bytes + piece_bytes
-  pub end : answer ≡ outcome.Done → IsTrue tells.line → new.line ≡ []
-
 -- the answer where a table isn't read, or isn't sound
 abbrev pub refusal : TableError → Outcome
 refusal (error.Refused r) = outcome.TableRefused r.row r.fault
 refusal error.NoMemory = outcome.NoMemory
-
--- All of a table's report was written, or a front part of it and the answer says why.
-pub record Reports (t : TableRows) (written_before written_now : Option (List ℕ)) (answer : Outcome) : Type 0 where
-  pub text : answer ≡ outcome.Done → written_now ≡ followed_by written_before (report_of t)
-  pub part : (k : ℕ) × (written_now ≡ followed_by written_before (take k (report_of t)))
-
--- the answer where all was written
-abbrev pub answer_of : LineEnd → Outcome
-answer_of line_end.End = outcome.Done
-answer_of line_end.Fault = outcome.ReadFault input.Line
-answer_of line_end.TooLong = outcome.TooLong
-
--- the answer where no further record of a trace comes and all was written
-abbrev pub answer_of_stop : TraceStop → Outcome
-answer_of_stop (stop.Refused index why) = outcome.TraceRefused index why
-answer_of_stop stop.Failed = outcome.ReadFault input.Line
-
--- Of the line these bytes were pulled as those of a trace, and of the stream of their good records a front part was
--- written, all of it but where the answer is a fault of writing.
-pub record Streams (t : TableRows) (tells : Tells) (old new : State) (written_before written_now : Option (List ℕ)) (answer : Outcome) : Type 0 where
-  pub pulled : List ℕ
-  pub pulls : PullsMore tells old new [] pulled
-  pub text : answer ≢ outcome.WriteFault → written_now ≡ followed_by written_before (stream_of t (good_prefix pulled))
-  pub part : (k : ℕ) × (written_now ≡ followed_by written_before (take k (stream_of t (good_prefix pulled))))
-  pub ended : answer ≡ outcome.Done → has_end (good_prefix pulled) ≡ true
-  pub refused : (index : ℕ) (why : TraceFault) → answer ≡ outcome.TraceRefused index why → trace_fault pulled ≡ Some (index, why)
-  pub truncated : (index : ℕ) → answer ≡ outcome.TraceRefused index trace.Truncated → IsTrue tells.line → new.line ≡ []
-  pub undecided : answer ≡ outcome.ReadFault input.Line → IsDecided pulled → ⊥
-  pub quiet : answer ≢ outcome.ReadFault input.Line → answer ≢ outcome.WriteFault → new.line_faults ≡ old.line_faults

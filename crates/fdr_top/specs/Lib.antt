@@ -3,4 +3,10 @@ pub mod Limits
 pub mod Tables
 pub mod Answers
 pub mod Streaming
-pub mod Images
+pub mod Check
+pub mod Listbits
+pub mod Stream
+pub mod Format
+pub mod Recover
+pub mod Leaves
+pub mod Complete

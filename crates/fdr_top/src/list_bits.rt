@@ -6,15 +6,23 @@ ghost use Rattle.fdr_io.specs.Told.{followed_by};
 ghost use Rattle.fdr_deck.specs.Calls.{LeavesDisk};
 ghost use Rattle.fdr_frame.specs.WordCount.{IsWordCount};
 ghost use Rattle.fdr_recon.specs.Past.{Stands};
-ghost use Rattle.fdr_top.specs.Answers.{IsOfListing, Lists, answer_of};
-ghost use Rattle.fdr_top.specs.Limits.{most_line_bytes, piece_bytes};
+ghost use Rattle.fdr_top.specs.Answers.{EndsBeforeDeck, IsOfListing, IsPastTable, MayAnswer, WritesNothing};
+ghost use Rattle.fdr_top.specs.Listbits.{Lists, ListsLine, answer_of};
+ghost use Rattle.fdr_top.specs.Limits.{TakesAtMost, most_line_bytes, piece_bytes};
 ghost use Rattle.fdr_readout.specs.Listing.{listing_of};
+ghost use Rattle.fdr_table.specs.Bounds.{most_table_bytes};
+ghost use Rattle.fdr_table.specs.Rows.{TableRows};
+ghost use Rattle.fdr_words.specs.Forms.{list_bits};
+ghost use Rattle.fdr_top.specs.Complete.{IsFaultless, IsWhole};
+ghost use Rattle.fdr_top.specs.Leaves.{Causes, LeavesAll, LeavesUnused};
+ghost use Rattle.fdr_top.specs.Tables.{ByTable, ReadsItsTable};
 
+use crate::load::load_table;
 use crate::outcome::Outcome;
 use crate::pulling::{LineEnd, MAX_LINE_BYTES, PulledLine, pull_line};
 use fdr_check::Sound;
 use fdr_deck::Deck;
-use fdr_io::{Failed, Input, Sink};
+use fdr_io::{Failed, Input, Sink, Source};
 use fdr_readout::{Readout, write_listing};
 use std::alloc::Global;
 
@@ -84,4 +92,34 @@ pub fn list_line<D: Deck, O: Sink>(
         return Outcome::NoMemory;
     };
     write_line(&mut work, sound, &line, out)
+}
+
+/// `listbits`: reads a table and lists the bits of the line.
+pub fn listbits<T: Source, D: Deck, O: Sink>(
+    alloc: Global,
+    table: &mut T,
+    deck: &mut D,
+    out: &mut O,
+) -> Outcome
+    ensures answers { (path : List ℕ) → MayAnswer (list_bits path) result }
+    ensures table { ReadsItsTable (T.rest table.old) (T.rest table.new) result }
+    ensures bounded { TakesAtMost (most_table_bytes + piece_bytes) (T.rest table.old) (T.rest table.new) }
+    ensures deck_untouched { EndsBeforeDeck result → deck.new ≡ deck.old }
+    ensures refusal { WritesNothing result → LeavesAll D.tells (D.state deck.old) (D.state deck.new)
+        (O.written out.old) (O.written out.new) (O.faults out.old) (O.faults out.new) result }
+    ensures unused { (path : List ℕ) → LeavesUnused (list_bits path) (D.state deck.old) (D.state deck.new) result }
+    ensures causes { Causes result (T.faults table.old) (T.faults table.new) (D.state deck.old) (D.state deck.new)
+        (O.faults out.old) (O.faults out.new) }
+    ensures listbits { IsPastTable result
+        → ByTable (T.rest table.old) (λ (t : TableRows). ListsLine t D.tells (D.state deck.old) (D.state deck.new)
+        (O.written out.old) (O.written out.new) result) }
+    ensures complete { (path : List ℕ) → IsWhole (list_bits path) (T.rest table.old) D.tells (D.state deck.old)
+        → IsFaultless (list_bits path) (T.faults table.old) (T.faults table.new) (D.state deck.old) (D.state deck.new)
+        (O.faults out.old) (O.faults out.new)
+        → (result ≡ Outcome.Done) ⊎ (result ≡ Outcome.NoMemory) }
+{
+    match load_table(alloc, table) {
+        Ok(sound) => list_line(alloc, &sound, deck, out),
+        Err(answer) => answer,
+    }
 }

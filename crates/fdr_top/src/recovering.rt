@@ -1,6 +1,6 @@
 //! The payloads of the blocks that an image holds.
 
-ghost use Rattle.std.specs.Prelude.{◌≡◌, ◌≢◌, ◌⊎◌, ◌<◌, ◌≤◌, ◌^◌, ℕ, [], take, Err, IfErr, OnOk, OnErr, IsTrue};
+ghost use Rattle.std.specs.Prelude.{◌≡◌, ◌≢◌, ◌⊎◌, ◌<◌, ◌≤◌, ◌^◌, ℕ, List, Option, [], take, Err, IfErr, OnOk, OnErr, IsTrue};
 ghost use Rattle.fdr_io.specs.Faults.{Rose};
 ghost use Rattle.fdr_io.specs.Told.{followed_by};
 ghost use Rattle.fdr_io.specs.Output.{Emits, EmitsPart};
@@ -8,8 +8,11 @@ ghost use Rattle.fdr_slot.specs.Limits.{IsInLimits};
 ghost use Rattle.fdr_slot.specs.Places.{image_size};
 ghost use Rattle.fdr_recover.specs.Images.{payload_at, recovered_run};
 ghost use Rattle.fdr_recover.specs.Looks.{Looks};
-ghost use Rattle.fdr_top.specs.Answers.{IsOfRecovery};
-ghost use Rattle.fdr_top.specs.Images.{Recovers, header_refusal, payloads_of};
+ghost use Rattle.fdr_top.specs.Answers.{EndsBeforeDeck, IsOfRecovery, MayAnswer, WritesNothing};
+ghost use Rattle.fdr_top.specs.Recover.{Recovers, RecoversImage, header_refusal, payloads_of};
+ghost use Rattle.fdr_words.specs.Forms.{recover_image};
+ghost use Rattle.fdr_top.specs.Complete.{IsFaultless, IsWhole};
+ghost use Rattle.fdr_top.specs.Leaves.{Causes, LeavesAll, LeavesUnused};
 
 use crate::outcome::Outcome;
 use fdr_deck::Deck;
@@ -99,7 +102,7 @@ fn write_run<D: Deck, O: Sink>(
 }
 
 /// Writes the payloads of the blocks that the deck's image holds, and gives the answer.
-pub fn recover_image<D: Deck, O: Sink>(alloc: Global, deck: &mut D, out: &mut O) -> Outcome
+fn recover_image<D: Deck, O: Sink>(alloc: Global, deck: &mut D, out: &mut O) -> Outcome
     ensures answer { IsOfRecovery result }
     ensures recovers { Recovers D.tells (D.state deck.old) (D.state deck.new) (O.written out.old) (O.written out.new) result }
     ensures write_fault { result ≡ Outcome.WriteFault → Rose (O.faults out.old) (O.faults out.new) }
@@ -116,4 +119,23 @@ pub fn recover_image<D: Deck, O: Sink>(alloc: Global, deck: &mut D, out: &mut O)
         Ok(()) => Outcome::Done,
         Err(answer) => answer,
     }
+}
+
+/// `recover`: writes the payloads of the blocks that the deck's image holds.
+pub fn recover<D: Deck, O: Sink>(alloc: Global, deck: &mut D, out: &mut O) -> Outcome
+    ensures answers { (image : List ℕ) → MayAnswer (recover_image image) result }
+    ensures before_deck { EndsBeforeDeck result → ⊥ }
+    ensures refusal { WritesNothing result → LeavesAll D.tells (D.state deck.old) (D.state deck.new)
+        (O.written out.old) (O.written out.new) (O.faults out.old) (O.faults out.new) result }
+    ensures unused { (image : List ℕ) → LeavesUnused (recover_image image) (D.state deck.old) (D.state deck.new) result }
+    ensures causes { (faults : ℕ) → Causes result faults faults (D.state deck.old) (D.state deck.new)
+        (O.faults out.old) (O.faults out.new) }
+    ensures recover { RecoversImage D.tells (D.state deck.old) (D.state deck.new) (O.written out.old) (O.written out.new) result }
+    ensures complete { (image : List ℕ) (rest : Option (List ℕ)) (faults : ℕ)
+        → IsWhole (recover_image image) rest D.tells (D.state deck.old)
+        → IsFaultless (recover_image image) faults faults (D.state deck.old) (D.state deck.new)
+        (O.faults out.old) (O.faults out.new)
+        → (result ≡ Outcome.Done) ⊎ (result ≡ Outcome.NoMemory) }
+{
+    recover_image(alloc, deck, out)
 }

@@ -1,21 +1,29 @@
 //! The stream of the trace on a deck's line.
 
-ghost use Rattle.std.specs.Prelude.{◌≡◌, ◌≢◌, ◌≤◌, ℕ, List, [], ◌∷◌, ◌++◌, Option, length, take, OnOk, OnErr, IfOk, ◌⊎◌};
+ghost use Rattle.std.specs.Prelude.{◌≡◌, ◌≢◌, ◌≤◌, ◌+◌, ℕ, List, [], ◌∷◌, ◌++◌, Option, length, take, OnOk, OnErr, IfOk, ◌⊎◌};
 ghost use Rattle.fdr_io.specs.Faults.{Rose};
 ghost use Rattle.fdr_io.specs.Told.{followed_by};
 ghost use Rattle.fdr_deck.specs.Calls.{LeavesDisk};
 ghost use Rattle.fdr_sampler.specs.Stream.{stream_of};
 ghost use Rattle.fdr_bus.specs.declared.BusRecord.{BusRecord};
-ghost use Rattle.fdr_table.specs.Rows.{TableRows};
 ghost use Rattle.fdr_stream.specs.Past.{Stands as StandsFor};
-ghost use Rattle.fdr_top.specs.Answers.{IsOfTrace, KeepsLineAndFaults, Streams, answer_of_stop};
+ghost use Rattle.fdr_top.specs.Answers.{EndsBeforeDeck, IsOfTrace, IsPastTable, KeepsLineAndFaults, MayAnswer, WritesNothing};
+ghost use Rattle.fdr_top.specs.Stream.{Streams, StreamsLine, answer_of_stop};
 ghost use Rattle.fdr_top.specs.Streaming.{past_of, due_text, ComesNext, IsStreamed, IsStreamedTo, IsStreamedPart, IsFresh};
+ghost use Rattle.fdr_table.specs.Bounds.{most_table_bytes};
+ghost use Rattle.fdr_table.specs.Rows.{TableRows};
+ghost use Rattle.fdr_words.specs.Forms.{stream_line};
+ghost use Rattle.fdr_top.specs.Complete.{IsFaultless, IsWhole};
+ghost use Rattle.fdr_top.specs.Leaves.{Causes, LeavesAll, LeavesUnused};
+ghost use Rattle.fdr_top.specs.Tables.{ByTable, ReadsItsTable};
+ghost use Rattle.fdr_top.specs.Limits.{TakesAtMost, piece_bytes};
 
+use crate::load::load_table;
 use crate::outcome::Outcome;
 use fdr_bus::{BusRecord, RecordKind};
 use fdr_check::Sound;
 use fdr_deck::Deck;
-use fdr_io::{Failed, Input, Sink, write_whole};
+use fdr_io::{Failed, Input, Sink, Source, write_whole};
 use fdr_stream::{Fed, Stream};
 use fdr_table::NoMemory;
 use fdr_trace::{TraceLine, TraceStop};
@@ -154,7 +162,7 @@ fn stream_trace<D: Deck, O: Sink>(recording: &mut Recording, deck: &mut D, out: 
 }
 
 /// Streams the trace of the deck's line by a table.
-pub fn stream_line<D: Deck, O: Sink>(
+fn stream_sound<D: Deck, O: Sink>(
     alloc: Global,
     sound: &Sound,
     deck: &mut D,
@@ -174,5 +182,35 @@ pub fn stream_line<D: Deck, O: Sink>(
     match Recording::new(alloc, sound) {
         Ok(mut recording) => stream_trace(&mut recording, deck, out),
         Err(NoMemory) => Outcome::NoMemory,
+    }
+}
+
+/// `stream`: reads a table and writes the recorded stream of the trace on the line.
+pub fn stream<T: Source, D: Deck, O: Sink>(
+    alloc: Global,
+    table: &mut T,
+    deck: &mut D,
+    out: &mut O,
+) -> Outcome
+    ensures answers { (path : List ℕ) → MayAnswer (stream_line path) result }
+    ensures table { ReadsItsTable (T.rest table.old) (T.rest table.new) result }
+    ensures bounded { TakesAtMost (most_table_bytes + piece_bytes) (T.rest table.old) (T.rest table.new) }
+    ensures deck_untouched { EndsBeforeDeck result → deck.new ≡ deck.old }
+    ensures refusal { WritesNothing result → LeavesAll D.tells (D.state deck.old) (D.state deck.new)
+        (O.written out.old) (O.written out.new) (O.faults out.old) (O.faults out.new) result }
+    ensures unused { (path : List ℕ) → LeavesUnused (stream_line path) (D.state deck.old) (D.state deck.new) result }
+    ensures causes { Causes result (T.faults table.old) (T.faults table.new) (D.state deck.old) (D.state deck.new)
+        (O.faults out.old) (O.faults out.new) }
+    ensures stream { IsPastTable result
+        → ByTable (T.rest table.old) (λ (t : TableRows). StreamsLine t D.tells (D.state deck.old) (D.state deck.new)
+        (O.written out.old) (O.written out.new) result) }
+    ensures complete { (path : List ℕ) → IsWhole (stream_line path) (T.rest table.old) D.tells (D.state deck.old)
+        → IsFaultless (stream_line path) (T.faults table.old) (T.faults table.new) (D.state deck.old) (D.state deck.new)
+        (O.faults out.old) (O.faults out.new)
+        → (result ≡ Outcome.Done) ⊎ (result ≡ Outcome.NoMemory) }
+{
+    match load_table(alloc, table) {
+        Ok(sound) => stream_sound(alloc, &sound, deck, out),
+        Err(answer) => answer,
     }
 }

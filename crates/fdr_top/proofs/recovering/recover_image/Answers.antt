@@ -1,5 +1,5 @@
 use Rattle.std.proofs.Common.{◌∙◌, ⊎_elim, ap, sym, Err}
-use Rattle.fdr_top.specs.Images.{OnlyLooks}
+use Rattle.fdr_top.specs.Recover.{OnlyLooks}
 use Rattle.fdr_top.proofs.Images.{header_unread, nothing_recovered, run_recovered}
 use Rattle.fdr_top.proofs.recovering.recover_image.Goals as goal
 

@@ -3,7 +3,7 @@ use Rattle.std.specs.Prelude.{IsTrue}
 use Rattle.fdr_io.specs.Output.{Emits}
 use Rattle.fdr_recover.specs.Images.{recovered_run}
 use Rattle.fdr_recover.specs.Looks.{Looks}
-use Rattle.fdr_top.specs.Images.{payloads_of}
+use Rattle.fdr_top.specs.Recover.{payloads_of}
 use Rattle.fdr_top.proofs.recovering.write_run.Given as goal
 
 abbrev pub invariant-loop-number : goal.invariant-loop-number

@@ -1,26 +1,20 @@
--- What the commands do with an image.
-use Rattle.std.specs.Prelude.{◌≡◌, ℕ, ◌<◌, ◌↔◌, List, Option, Some, None, IsTrue, take}
+-- What `recover` promises: the payloads of the recovered run of what the disk holds.
+use Rattle.std.specs.Prelude.{◌≡◌, ℕ, ◌<◌, ◌↔◌, ◌≢◌, ◌⊎◌, List, Option, Some, None, IsTrue, take}
 use Rattle.std.specs.List.{flat_map}
 use Rattle.fdr_io.specs.Faults.{Rose}
 use Rattle.fdr_io.specs.Told.{followed_by}
 use Rattle.fdr_deck.specs.State.{State, Tells}
 use Rattle.fdr_deck.specs.Calls.{IsQuiet}
-use Rattle.fdr_deck.specs.Disk.{IsSettled, KeepsDisk, LearnsExtent}
-use Rattle.fdr_slot.specs.declared.image.Header.{Header}
+use Rattle.fdr_deck.specs.Disk.{KeepsDisk, LearnsExtent}
 use Rattle.fdr_slot.specs.declared.image.ImageFault.{ImageFault}
 use Rattle.fdr_slot.specs.declared.image.ImageFault.TheVariants as fault
-use Rattle.fdr_slot.specs.Places.{image_size}
 use Rattle.fdr_recover.specs.Blocks.{Block}
 use Rattle.fdr_recover.specs.Images.{recovered_run}
 use Rattle.fdr_ring.specs.declared.error.RingFault.{RingFault}
 use Rattle.fdr_ring.specs.declared.error.RingFault.TheVariants as ring
-use Rattle.fdr_ring.specs.Formatting.{IsFormatted, Making, fault_of, fresh_image, header_in}
+use Rattle.fdr_ring.specs.Formatting.{fault_of, header_in}
 use Rattle.fdr_top.specs.declared.outcome.Outcome.{Outcome}
 use Rattle.fdr_top.specs.declared.outcome.Outcome.TheVariants as outcome
-
--- the header of a new image
-abbrev pub new_header : ℕ → ℕ → ℕ → Header
-new_header slots payload words = record { slots = slots; payload = payload; words = words; version = 1 }
 
 -- the payloads of blocks, one behind another
 abbrev pub payloads_of : List Block → List ℕ
@@ -37,19 +31,6 @@ header_refusal ring.NotEmpty = outcome.DiskFault
 header_refusal ring.DiskFault = outcome.DiskFault
 header_refusal ring.SeqEnd = outcome.DiskFault
 
--- The image with this header was made, or the answer says why it wasn't.
-pub record Makes (h : Header) (tells : Tells) (old new : State) (answer : Outcome) : Type 0 where
-  pub empty : answer ≡ outcome.Done → old.extent ≡ 0
-  pub held : answer ≡ outcome.Done → IsTrue tells.bytes → new.held ≡ fresh_image h
-  pub formatted : answer ≡ outcome.Done → IsTrue tells.bytes → IsFormatted h new.held
-  pub settled : answer ≡ outcome.Done → IsTrue tells.stops → IsSettled new
-  pub extent : answer ≡ outcome.Done → new.extent ≡ image_size h
-  pub not_empty : answer ≡ outcome.NotEmpty → 0 < new.extent
-  pub learns : answer ≡ outcome.NotEmpty → LearnsExtent tells old new
-  pub kept : answer ≡ outcome.NotEmpty → KeepsDisk old new
-  pub quiet : IsQuiet tells (Making h old) old new
-  pub cause : answer ≡ outcome.DiskFault → Rose old.disk_faults new.disk_faults
-
 -- The disk was only looked at: it is as it was, but for a length that is asked for the first time, and a stop leaves what it could leave.
 pub record OnlyLooks (tells : Tells) (old new : State) : Type 0 where
   pub learns : LearnsExtent tells old new
@@ -65,3 +46,14 @@ pub record Recovers (tells : Tells) (old new : State) (written_before written_no
   pub refused : (why : ImageFault) → answer ≡ outcome.ImageRefused why → IsTrue tells.bytes → fault_of old.held ≡ Some why
   pub small : (why : ImageFault) → answer ≡ outcome.ImageRefused why → (why ≡ fault.Small) ↔ (new.extent < 64)
   pub cause : answer ≡ outcome.DiskFault → Rose old.disk_faults new.disk_faults
+
+-- The image was recovered: what was written, and which refusal is answered.
+pub record RecoversImage (tells : Tells) (old new : State) (written_before written_now : Option (List ℕ)) (answer : Outcome) : Type 0 where
+  pub looks : OnlyLooks tells old new
+  pub all : answer ≡ outcome.Done → IsTrue tells.bytes → written_now ≡ followed_by written_before (payloads_of (run_in old.held))
+  pub part : IsTrue tells.bytes → (k : ℕ) × (written_now ≡ followed_by written_before (take k (payloads_of (run_in old.held))))
+  pub good : answer ≡ outcome.Done → IsTrue tells.bytes → fault_of old.held ≡ None
+  pub refused : (why : ImageFault) → answer ≡ outcome.ImageRefused why → IsTrue tells.bytes → fault_of old.held ≡ Some why
+  pub small : (why : ImageFault) → answer ≡ outcome.ImageRefused why → (why ≡ fault.Small) ↔ (new.extent < 64)
+  pub refused_always : (why : ImageFault) → answer ≢ outcome.NoMemory → IsTrue tells.bytes → fault_of old.held ≡ Some why
+      → (answer ≡ outcome.ImageRefused why) ⊎ (answer ≡ outcome.DiskFault)

@@ -1,0 +1,37 @@
+-- When a command does all that it is asked, or memory ends.
+use Rattle.std.specs.Prelude.{◌≡◌, ℕ, ◌≤◌, true, List, length, Option, Some, None, IsTrue}
+use Rattle.fdr_io.specs.Faults.{Rose}
+use Rattle.fdr_bus.specs.Records.{good_prefix, has_end}
+use Rattle.fdr_deck.specs.State.{State, Tells}
+use Rattle.fdr_ring.specs.Formatting.{fault_of}
+use Rattle.fdr_words.specs.Forms.{Form, check_table, stream_line, list_bits, format_image, recover_image}
+use Rattle.fdr_top.specs.Limits.{most_line_bytes}
+use Rattle.fdr_top.specs.Tables.{IsAccepted}
+
+-- a source that tells its bytes, whose table is accepted
+abbrev pub TellsAccepted : Option (List ℕ) → Type 0
+TellsAccepted rest = (bytes : List ℕ) × (rest ≡ Some bytes) × IsAccepted bytes
+
+-- the input of the command of a form is whole
+abbrev pub IsWhole : Form → Option (List ℕ) → Tells → State → Type 0
+IsWhole (check_table path) rest tells d = TellsAccepted rest
+IsWhole (stream_line path) rest tells d = TellsAccepted rest × IsTrue tells.line × (has_end (good_prefix d.line) ≡ true)
+IsWhole (list_bits path) rest tells d = TellsAccepted rest × IsTrue tells.line × (length d.line ≤ most_line_bytes)
+IsWhole (format_image path image slots payload) rest tells d = TellsAccepted rest × IsTrue tells.bytes × (d.extent ≡ 0)
+IsWhole (recover_image image) rest tells d = IsTrue tells.bytes × (fault_of d.held ≡ None)
+
+-- no fault was counted
+abbrev pub IsQuietCount : ℕ → ℕ → Type 0
+IsQuietCount before now = Rose before now → ⊥
+
+-- of what the command of a form uses, nothing failed: counts of the table's source, states of the deck, counts of the sink
+abbrev pub IsFaultless : Form → ℕ → ℕ → State → State → ℕ → ℕ → Type 0
+IsFaultless (check_table path) t u old new s v = IsQuietCount t u × IsQuietCount s v
+IsFaultless (stream_line path) t u old new s v =
+    IsQuietCount t u × IsQuietCount old.line_faults new.line_faults × IsQuietCount s v
+IsFaultless (list_bits path) t u old new s v =
+    IsQuietCount t u × IsQuietCount old.line_faults new.line_faults × IsQuietCount s v
+IsFaultless (format_image path image slots payload) t u old new s v =
+    IsQuietCount t u × IsQuietCount old.disk_faults new.disk_faults
+IsFaultless (recover_image image) t u old new s v =
+    IsQuietCount old.disk_faults new.disk_faults × IsQuietCount s v

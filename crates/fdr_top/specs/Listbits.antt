@@ -1,0 +1,39 @@
+-- What `listbits` promises: the listing of all bits of the line.
+use Rattle.std.specs.Prelude.{◌≡◌, ◌≢◌, ℕ, ◌+◌, ◌<◌, ◌≤◌, ◌⊎◌, List, [], length, take, Option, IsTrue}
+use Rattle.fdr_io.specs.Told.{followed_by}
+use Rattle.fdr_io.specs.declared.Input.TheVariants as input
+use Rattle.fdr_deck.specs.State.{State, Tells}
+use Rattle.fdr_deck.specs.Pull.{TakesLine}
+use Rattle.fdr_table.specs.Rows.{TableRows}
+use Rattle.fdr_readout.specs.Listing.{listing_of}
+use Rattle.fdr_top.specs.Limits.{most_line_bytes, piece_bytes}
+use Rattle.fdr_top.specs.declared.pulling.LineEnd.{LineEnd}
+use Rattle.fdr_top.specs.declared.pulling.LineEnd.TheVariants as line_end
+use Rattle.fdr_top.specs.declared.outcome.Outcome.{Outcome}
+use Rattle.fdr_top.specs.declared.outcome.Outcome.TheVariants as outcome
+
+-- the answer where all was written
+abbrev pub answer_of : LineEnd → Outcome
+answer_of line_end.End = outcome.Done
+answer_of line_end.Fault = outcome.ReadFault input.Line
+answer_of line_end.TooLong = outcome.TooLong
+
+-- Of the line these bytes were pulled, and of the listing of as many as are listed a front part was written, all of it
+-- but where the answer is a fault of writing.
+pub record Lists (t : TableRows) (tells : Tells) (old new : State) (written_before written_now : Option (List ℕ)) (answer : Outcome) : Type 0 where
+  pub pulled : List ℕ
+  pub takes : TakesLine tells old new pulled
+  pub text : answer ≢ outcome.WriteFault → written_now ≡ followed_by written_before (listing_of t (take most_line_bytes pulled))
+  pub part : (k : ℕ) × (written_now ≡ followed_by written_before (take k (listing_of t (take most_line_bytes pulled))))
+  pub few : answer ≡ outcome.Done → length pulled ≤ most_line_bytes
+  pub fault_few : answer ≡ outcome.ReadFault input.Line → length pulled ≤ most_line_bytes
+  pub many : answer ≡ outcome.TooLong → most_line_bytes < length pulled
+  pub bounded : length pulled ≤ most_line_bytes + piece_bytes
+  pub end : answer ≡ outcome.Done → IsTrue tells.line → new.line ≡ []
+
+-- The line was listed: what was pulled, and what of it was written.
+pub record ListsLine (t : TableRows) (tells : Tells) (old new : State) (written_before written_now : Option (List ℕ)) (answer : Outcome) : Type 0 where
+  pub lists : Lists t tells old new written_before written_now answer
+  pub whole : answer ≡ outcome.Done → IsTrue tells.line → written_now ≡ followed_by written_before (listing_of t old.line)
+  pub too_long : answer ≡ outcome.TooLong → old.taken + most_line_bytes < new.taken
+  pub too_long_always : old.taken + most_line_bytes < new.taken → (answer ≡ outcome.TooLong) ⊎ (answer ≡ outcome.WriteFault)
