@@ -7,7 +7,9 @@
 The check wants: the pages of docs/clauses as the source says; each name in `these marks` of docs/GUARANTEES.md to be one
 of the source; README.md to say of how many definitions the contract of `run` speaks; docs/MODEL.md to list exactly the
 public definitions of specs/, crate by crate; the crates' edges in docs/ARCHITECTURE.md to be those of crates.txt; the
-forms, statuses and texts of docs/fdr.1 to be those of the source; and each link to lead to a file and heading.
+forms, statuses and texts of docs/fdr.1 to be those of the source; README.md, CHANGELOG.md and docs/fdr.1 to name the
+version of VERSION; each link to lead to a file and heading; no two public definitions of specs/ to share a name; and no
+line of specs/ and proofs/ to be over 160 columns.
 """
 
 import pathlib
@@ -17,6 +19,7 @@ import sys
 TOP = pathlib.Path(__file__).resolve().parent.parent
 CRATES = TOP / "crates"
 CLAUSES = TOP / "docs" / "clauses"
+MOST_COLUMNS = 160
 
 
 def crate_lines():
@@ -109,15 +112,20 @@ def pages():
     return {name: page for name, _ in crate_lines() if (page := clause_page(name))}
 
 
-def definitions(crate):
-    """The public definitions of a crate's specs/, by name, each with its module."""
-    found = {}
-    for path in sorted((CRATES / crate / "specs").glob("*.antt")):
+def all_definitions(crate):
+    """The public definitions of a crate's specs/: each name with its module."""
+    folder = CRATES / crate / "specs"
+    for path in sorted(folder.rglob("*.antt")):
+        module = ".".join(path.relative_to(folder).with_suffix("").parts)
         for line in path.read_text().splitlines():
             name = re.match(r"(?:(?:abbrev|unfoldable) )?pub (?:record |data )?([^\s:{(]+)", line)
             if name and not line.startswith(("pub mod", "pub use")):
-                found[name.group(1)] = path.stem
-    return found
+                yield name.group(1), module
+
+
+def definitions(crate):
+    """The public definitions of a crate's specs/, by name, each with its module."""
+    return dict(all_definitions(crate))
 
 
 def imports(text, line):
@@ -276,6 +284,38 @@ def anchors(path):
         yield plain.replace(" ", "-")
 
 
+def check_names():
+    """No two public definitions of the repository share a name."""
+    found = {}
+    for crate, _ in crate_lines():
+        for name, module in all_definitions(crate):
+            found.setdefault(name, []).append(f"{crate} ({module})")
+    for name, places in sorted(found.items()):
+        if len(places) > 1:
+            yield f"specs: `{name}` is defined in {' and in '.join(places)}"
+
+
+def check_columns():
+    """No line of specs/ and proofs/ is too long to read."""
+    for folder in ("specs", "proofs"):
+        for path in sorted(CRATES.glob(f"*/{folder}/**/*.antt")):
+            for number, line in enumerate(path.read_text().splitlines(), 1):
+                if len(line) > MOST_COLUMNS:
+                    yield f"{path.relative_to(TOP)}:{number}: {len(line)} columns, over {MOST_COLUMNS}"
+
+
+def check_version():
+    """README.md and docs/fdr.1 name the version of VERSION, and CHANGELOG.md begins with it."""
+    version = (TOP / "VERSION").read_text().strip()
+    if f"Version {version}" not in (TOP / "README.md").read_text():
+        yield f"README.md doesn't name version {version}"
+    if f'"fdr {version}"' not in (TOP / "docs" / "fdr.1").read_text().split("\n.SH")[0]:
+        yield f"docs/fdr.1 doesn't name version {version}"
+    newest = re.search(r"^## (.*)$", (TOP / "CHANGELOG.md").read_text(), re.M)
+    if not newest or newest.group(1) != version:
+        yield f"CHANGELOG.md doesn't begin with version {version}"
+
+
 def check_links():
     for path in [*TOP.glob("*.md"), *(TOP / "docs").rglob("*.md"), *(TOP / "examples").glob("*.md")]:
         for target in re.findall(r"\]\(([^)\s]+)\)", path.read_text()):
@@ -300,7 +340,10 @@ def main(command):
     if command != "check":
         print(__doc__)
         return 2
-    checks = (check_readme, check_clauses, check_model, check_guarantees, check_edges, check_manual, check_links)
+    checks = (
+        *(check_readme, check_clauses, check_model, check_guarantees, check_edges, check_manual),
+        *(check_version, check_links, check_names, check_columns),
+    )
     faults = [fault for check in checks for fault in check()]
     print("\n".join(faults) if faults else "documents: as the source says")
     return 1 if faults else 0

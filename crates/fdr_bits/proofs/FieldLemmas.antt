@@ -1,7 +1,8 @@
 -- A field of a word is written by a mask.
 use Rattle.std.proofs.Common.{◌≡◌, ℕ, suc, zero, ◌+◌, ◌-◌, ◌*◌, ◌/◌, ◌%◌, ◌^◌, ◌<◌, ◌≤◌, sym, ap, ◌∙◌, arith, add-zero}
 use Rattle.std.specs.Prelude.{bit_and, bit_or}
-use Rattle.std.proofs.lemmas.Nat.{pow-add, shr-shr, shr_split, shr_high, mod_low, mod_below, pow_pos, and_mask, and_block, or_block, and_comm, or_comm, or_shifted, mul-le, one_shl, shl_whole, shr_below, div-add-mod'}
+use Rattle.std.proofs.lemmas.Nat.{pow-add, shr-shr, shr_split, shr_high, mod_low, mod_below, pow_pos, and_mask, and_block, or_block, and_comm, or_comm}
+use Rattle.std.proofs.lemmas.Nat.{or_shifted, mul-le, one_shl, shl_whole, shr_below, div-add-mod'}
 use Rattle.std.proofs.Math.Nat.{mod-eq_of_lt}
 use Rattle.fdr_bits.specs.Fields.{field_of, with_field}
 
@@ -41,17 +42,15 @@ and_zero x = and_comm x 0
 or_zero : (x : ℕ) → bit_or x 0 ≡ x
 or_zero x = or_comm x 0
 
-mod_small : (x k : ℕ) → x < k → x % k ≡ x
-mod_small x k h = mod-eq_of_lt h
-
 -- the word without its field
-cleared_parts : (high field low a n m : ℕ) → high < 2 ^ m → field < 2 ^ n → low < 2 ^ a → bit_and (parts high field low a n) (parts (2 ^ m - 1) 0 (2 ^ a - 1) a n) ≡ parts high 0 low a n
+cleared_parts : (high field low a n m : ℕ) → high < 2 ^ m → field < 2 ^ n → low < 2 ^ a
+    → bit_and (parts high field low a n) (parts (2 ^ m - 1) 0 (2 ^ a - 1) a n) ≡ parts high 0 low a n
 unfolding parts
 cleared_parts high field low a n m high_fits field_fits low_fits =
     and_block a (high * 2 ^ n + field) ((2 ^ m - 1) * 2 ^ n + 0) low (2 ^ a - 1) low_fits (omega (arith, pow_pos a))
     ∙ ap (λ h. h * 2 ^ a + bit_and low (2 ^ a - 1)) (and_block n high (2 ^ m - 1) field 0 field_fits (pow_pos n))
-    ∙ ap (λ l. (bit_and high (2 ^ m - 1) * 2 ^ n + bit_and field 0) * 2 ^ a + l) (and_mask low a ∙ mod_small low (2 ^ a) low_fits)
-    ∙ ap (λ h. (h * 2 ^ n + bit_and field 0) * 2 ^ a + low) (and_mask high m ∙ mod_small high (2 ^ m) high_fits)
+    ∙ ap (λ l. (bit_and high (2 ^ m - 1) * 2 ^ n + bit_and field 0) * 2 ^ a + l) (and_mask low a ∙ mod-eq_of_lt low_fits)
+    ∙ ap (λ h. (h * 2 ^ n + bit_and field 0) * 2 ^ a + low) (and_mask high m ∙ mod-eq_of_lt high_fits)
     ∙ ap (λ f. (high * 2 ^ n + f) * 2 ^ a + low) (and_zero field)
 
 -- the word with the field's new bits
@@ -80,7 +79,8 @@ mask_order a n within =
     omega (arith, field_shift a n within, pow-add 2 a n, over)
 
 -- the word is written by its mask
-pub with_field_by_mask : (word a n v : ℕ) → IsField word a n v → bit_or (bit_and word (65535 - (1 * 2 ^ (a + n) % 65536 - 1 * 2 ^ a % 65536))) (v * 2 ^ a % 65536) ≡ with_field word a n v
+pub with_field_by_mask : (word a n v : ℕ) → IsField word a n v
+    → bit_or (bit_and word (65535 - (1 * 2 ^ (a + n) % 65536 - 1 * 2 ^ a % 65536))) (v * 2 ^ a % 65536) ≡ with_field word a n v
 with_field_by_mask word a n v h =
     let high = word / 2 ^ (a + n) in
     let low = word % 2 ^ a in

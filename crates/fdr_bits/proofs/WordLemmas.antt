@@ -1,5 +1,6 @@
 -- Words of a byte list by whole bytes, and by single bits.
-use Rattle.std.proofs.Common.{◌≡◌, ℕ, suc, zero, ◌+◌, ◌-◌, ◌*◌, ◌/◌, ◌%◌, ◌^◌, ◌<◌, ◌≤◌, List, [], ◌∷◌, ◌++◌, sum_by, slice_index, refl, sym, ap, ◌∙◌, ⊎_elim, arith}
+use Rattle.std.proofs.Common.{◌≡◌, ℕ, suc, zero, ◌+◌, ◌-◌, ◌*◌, ◌/◌, ◌%◌, ◌^◌, ◌<◌, ◌≤◌, List, sum_by, slice_index, refl, sym, ap, ◌∙◌, ⊎_elim}
+use Rattle.std.proofs.Common.{arith}
 use Rattle.std.specs.List.{range_with_len}
 use Rattle.std.proofs.lemmas.Nat.{pow-add, shr-shr, mod-pow-add, mod_below, mul-le}
 use Rattle.std.proofs.lemmas.Nat.Bits.{bit_at_cat_low, bit_at_cat_high}
@@ -7,6 +8,7 @@ use Rattle.std.proofs.lemmas.Bool.{cases_lt}
 use Rattle.std.proofs.lemmas.List.Sums.{sum_by_push}
 use Rattle.std.specs.Int.{bit_at as nat_bit}
 use Rattle.fdr_bits.specs.Bits.{bit_at, number_of, word_at}
+use Rattle.fdr_lists.proofs.Ranges.{range_suc}
 
 -- every element is a byte
 abbrev pub AreBytes : List ℕ → Type 0
@@ -20,17 +22,11 @@ pub bit_at_below : (b : List ℕ) (p : ℕ) → bit_at b p < 2
 unfolding bit_at
 bit_at_below b p = mod_below (slice_index b (p / 8) / 2 ^ (p % 8)) 2 (omega arith)
 
-range_push : (a n : ℕ) → range_with_len a (suc n) ≡ range_with_len a n ++ (a + n) ∷ []
-range_push a zero = let e : a ≡ a + 0 = omega arith in ap (λ x. x ∷ []) e
-range_push a (suc n) =
-    let e : a + 1 + n ≡ a + suc n = omega arith in
-    ap (λ xs. a ∷ xs) (range_push (a + 1) n) ∙ ap (λ x. a ∷ (range_with_len (a + 1) n ++ x ∷ [])) e
-
 -- a sum over the numbers below n + 1
 sum_more : (f : ℕ → ℕ) (n : ℕ) → sum_by f (range_with_len 0 (suc n)) ≡ sum_by f (range_with_len 0 n) + f n
 sum_more f n =
     let e : 0 + n ≡ n = omega arith in
-    ap (sum_by f) (range_push 0 n) ∙ sum_by_push f (range_with_len 0 n) (0 + n) ∙ ap (λ x. sum_by f (range_with_len 0 n) + f x) e
+    ap (sum_by f) (range_suc 0 n) ∙ sum_by_push f (range_with_len 0 n) (0 + n) ∙ ap (λ x. sum_by f (range_with_len 0 n) + f x) e
 
 sum_agree : (f g : ℕ → ℕ) (n : ℕ) → ((j : ℕ) → j < n → f j ≡ g j) → sum_by f (range_with_len 0 n) ≡ sum_by g (range_with_len 0 n)
 sum_agree f g zero same = refl
@@ -85,25 +81,32 @@ unfolding number_of
 number_of-bits m n = sum_of_bits m n
 
 -- bit 8 k + r of three bytes is bit r of byte k among them
-bit_of_three : (b : List ℕ) → AreBytes b → (q k r place i : ℕ) → k < 3 → r < 8 → place ≡ q + k → i ≡ 8 * k + r → nat_bit (three_bytes b q) i ≡ nat_bit (slice_index b place) r
+bit_of_three : (b : List ℕ) → AreBytes b → (q k r place i : ℕ) → k < 3 → r < 8 → place ≡ q + k → i ≡ 8 * k + r
+    → nat_bit (three_bytes b q) i ≡ nat_bit (slice_index b place) r
 bit_of_three b bytes q zero r place i few low at is =
     let same : i ≡ r = omega arith in
     let here : q ≡ place = omega arith in
-    bit_at_cat_low (slice_index b (q + 2) * 256 + slice_index b (q + 1)) 8 (slice_index b q) i (omega arith) ∙ ap (nat_bit (slice_index b q)) same ∙ ap (λ x. nat_bit (slice_index b x) r) here
+    bit_at_cat_low (slice_index b (q + 2) * 256 + slice_index b (q + 1)) 8 (slice_index b q) i (omega arith) ∙ ap (nat_bit (slice_index b q)) same
+    ∙ ap (λ x. nat_bit (slice_index b x) r) here
 bit_of_three b bytes q (suc zero) r place i few low at is =
     let same : i - 8 ≡ r = omega arith in
     let here : q + 1 ≡ place = omega arith in
-    bit_at_cat_high (slice_index b (q + 2) * 256 + slice_index b (q + 1)) 8 (slice_index b q) i (bytes q) (omega arith) ∙ bit_at_cat_low (slice_index b (q + 2)) 8 (slice_index b (q + 1)) (i - 8) (omega arith) ∙ ap (nat_bit (slice_index b (q + 1))) same ∙ ap (λ x. nat_bit (slice_index b x) r) here
+    bit_at_cat_high (slice_index b (q + 2) * 256 + slice_index b (q + 1)) 8 (slice_index b q) i (bytes q) (omega arith)
+    ∙ bit_at_cat_low (slice_index b (q + 2)) 8 (slice_index b (q + 1)) (i - 8) (omega arith) ∙ ap (nat_bit (slice_index b (q + 1))) same
+    ∙ ap (λ x. nat_bit (slice_index b x) r) here
 bit_of_three b bytes q (suc (suc zero)) r place i few low at is =
     let same : i - 8 - 8 ≡ r = omega arith in
     let here : q + 2 ≡ place = omega arith in
-    bit_at_cat_high (slice_index b (q + 2) * 256 + slice_index b (q + 1)) 8 (slice_index b q) i (bytes q) (omega arith) ∙ bit_at_cat_high (slice_index b (q + 2)) 8 (slice_index b (q + 1)) (i - 8) (bytes (q + 1)) (omega arith) ∙ ap (nat_bit (slice_index b (q + 2))) same ∙ ap (λ x. nat_bit (slice_index b x) r) here
+    bit_at_cat_high (slice_index b (q + 2) * 256 + slice_index b (q + 1)) 8 (slice_index b q) i (bytes q) (omega arith)
+    ∙ bit_at_cat_high (slice_index b (q + 2)) 8 (slice_index b (q + 1)) (i - 8) (bytes (q + 1)) (omega arith) ∙ ap (nat_bit (slice_index b (q + 2))) same
+    ∙ ap (λ x. nat_bit (slice_index b x) r) here
 bit_of_three b bytes q (suc (suc (suc k))) r place i few low at is = absurd (omega arith)
 
 bit_at_by_three : (b : List ℕ) → AreBytes b → (p j : ℕ) → j < 12 → bit_at b (p + j) ≡ nat_bit (three_bytes b (p / 8) / 2 ^ (p % 8)) j
 unfolding bit_at
 bit_at_by_three b bytes p j few =
-    sym (ap (λ v. v % 2) (shr-shr (three_bytes b (p / 8)) (p % 8) j) ∙ bit_of_three b bytes (p / 8) ((p + j) / 8 - p / 8) ((p + j) % 8) ((p + j) / 8) (p % 8 + j) (omega arith) (omega arith) (omega arith) (omega arith))
+    sym (ap (λ v. v % 2) (shr-shr (three_bytes b (p / 8)) (p % 8) j)
+    ∙ bit_of_three b bytes (p / 8) ((p + j) / 8 - p / 8) ((p + j) % 8) ((p + j) / 8) (p % 8 + j) (omega arith) (omega arith) (omega arith) (omega arith))
 
 -- a word by three whole bytes
 pub word_at_by_bytes : (b : List ℕ) (p : ℕ) → AreBytes b → word_at b p ≡ three_bytes b (p / 8) / 2 ^ (p % 8) % 2 ^ 12
@@ -115,11 +118,6 @@ word_at_by_bytes b p bytes =
 pub word_at_below : (b : List ℕ) (p : ℕ) → word_at b p < 4096
 unfolding word_at
 word_at_below b p = number_of-below (λ j. bit_at b (p + j)) (λ j. bit_at_below b (p + j)) 12
-
--- bit j of a word is bit p + j of the list
-pub word_at_bit : (b : List ℕ) (p j : ℕ) → j < 12 → word_at b p / 2 ^ j % 2 ≡ bit_at b (p + j)
-unfolding word_at
-word_at_bit b p j h = number_of-bit (λ i. bit_at b (p + i)) (λ i. bit_at_below b (p + i)) 12 j h
 
 -- words with the same bits are equal
 pub word_at_same : (b c : List ℕ) (p q : ℕ) → ((j : ℕ) → j < 12 → bit_at b (p + j) ≡ bit_at c (q + j)) → word_at b p ≡ word_at c q

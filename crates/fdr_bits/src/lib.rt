@@ -34,7 +34,7 @@ pub fn word12(bytes: &[u8], p: u64) -> u16
 pub fn get_bits(word: u16, lsb: u8, width: u8) -> u16
     requires twelve_bits { word < 4096 }
     requires from_first { 1 ≤ lsb }
-    requires some { 1 ≤ width }
+    requires some_bits { 1 ≤ width }
     requires within { lsb + width ≤ 13 }
     ensures value { result ≡ field_of word (lsb - 1) width }
     ensures fits { result < 2 ^ width }
@@ -47,7 +47,7 @@ pub fn get_bits(word: u16, lsb: u8, width: u8) -> u16
 pub fn put_bits(word: u16, lsb: u8, width: u8, v: u16) -> u16
     requires twelve_bits { word < 4096 }
     requires from_first { 1 ≤ lsb }
-    requires some { 1 ≤ width }
+    requires some_bits { 1 ≤ width }
     requires within { lsb + width ≤ 13 }
     requires fits { v < 2 ^ width }
     ensures value { result ≡ with_field word (lsb - 1) width v }

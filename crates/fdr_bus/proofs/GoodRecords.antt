@@ -1,19 +1,20 @@
 -- The good records at the front of a list of records.
-use Rattle.std.proofs.Common.{◌≡◌, ◌≤◌, ◌<◌, ◌⊎◌, inl, inr, ⊎_elim, ℕ, true, false, List, [], ◌∷◌, ◌++◌, length, get_or, refl, sym, ap, ◌∙◌, arith}
+use Rattle.std.proofs.Common.{◌≡◌, ◌≤◌, ◌<◌, ◌⊎◌, inl, inr, ⊎_elim, ℕ, true, false, List, [], ◌∷◌, ◌++◌, length, refl, sym, ap, ◌∙◌, arith}
 use Rattle.std.proofs.lemmas.Bool.{cases_Bool, cases_lt}
 use Rattle.std.proofs.lemmas.List.{append-nil}
 use Rattle.fdr_bus.specs.declared.BusRecord.{BusRecord}
-use Rattle.fdr_bus.specs.Records.{record_of, is_good, is_end, good_from, time_after, has_end, last_time}
-use Rattle.fdr_bus.proofs.ParseLemmas.{is_good_in_time}
+use Rattle.fdr_bus.specs.Records.{record_of, is_good, is_end, good_from, time_after, has_end}
 
 -- a record that isn't good ends the list
 pub good_from_bad : (before : ℕ) (bytes : List ℕ) (rest : List (List ℕ)) → is_good before bytes ≡ false → good_from before (bytes ∷ rest) ≡ []
 good_from_bad before bytes rest bad = rw bad refl
 
-good_from_end : (before : ℕ) (bytes : List ℕ) (rest : List (List ℕ)) → is_good before bytes ≡ true → is_end (record_of bytes) ≡ true → good_from before (bytes ∷ rest) ≡ record_of bytes ∷ []
+good_from_end : (before : ℕ) (bytes : List ℕ) (rest : List (List ℕ)) → is_good before bytes ≡ true → is_end (record_of bytes) ≡ true
+    → good_from before (bytes ∷ rest) ≡ record_of bytes ∷ []
 good_from_end before bytes rest good ends = rw (good, ends) refl
 
-good_from_more : (before : ℕ) (bytes : List ℕ) (rest : List (List ℕ)) → is_good before bytes ≡ true → is_end (record_of bytes) ≡ false → good_from before (bytes ∷ rest) ≡ record_of bytes ∷ good_from (record_of bytes).time rest
+good_from_more : (before : ℕ) (bytes : List ℕ) (rest : List (List ℕ)) → is_good before bytes ≡ true → is_end (record_of bytes) ≡ false
+    → good_from before (bytes ∷ rest) ≡ record_of bytes ∷ good_from (record_of bytes).time rest
 good_from_more before bytes rest good goes_on = rw (good, goes_on) refl
 
 -- one record by itself
@@ -23,12 +24,14 @@ good_from_one before bytes good =
 
 -- the three things that the first record may be
 First : ℕ → List ℕ → Type 0
-First before bytes = (is_good before bytes ≡ false) ⊎ (((is_good before bytes ≡ true) × (is_end (record_of bytes) ≡ true)) ⊎ ((is_good before bytes ≡ true) × (is_end (record_of bytes) ≡ false)))
+First before bytes = (is_good before bytes ≡ false)
+    ⊎ (((is_good before bytes ≡ true) × (is_end (record_of bytes) ≡ true)) ⊎ ((is_good before bytes ≡ true) × (is_end (record_of bytes) ≡ false)))
 
 first_cases : (before : ℕ) (bytes : List ℕ) → First before bytes
 unfolding First
 first_cases before bytes =
-    ⊎_elim (λ good. inr (⊎_elim (λ ends. inl (good, ends)) (λ goes_on. inr (good, goes_on)) (cases_Bool (is_end (record_of bytes))))) (λ bad. inl bad) (cases_Bool (is_good before bytes))
+    ⊎_elim (λ good. inr (⊎_elim (λ ends. inl (good, ends)) (λ goes_on. inr (good, goes_on)) (cases_Bool (is_end (record_of bytes))))) (λ bad. inl bad)
+    (cases_Bool (is_good before bytes))
 
 pub length-good_from : (before : ℕ) (xs : List (List ℕ)) → length (good_from before xs) ≤ length xs
 unfolding First
@@ -40,7 +43,8 @@ length-good_from before (bytes ∷ rest) = elim (first_cases before bytes) [
 ]
 
 -- records that follow good ones, with no end among them
-pub good_from-append : (before : ℕ) (xs ys : List (List ℕ)) → has_end (good_from before xs) ≡ false → length (good_from before xs) ≡ length xs → good_from before (xs ++ ys) ≡ good_from before xs ++ good_from (time_after before (good_from before xs)) ys
+pub good_from-append : (before : ℕ) (xs ys : List (List ℕ)) → has_end (good_from before xs) ≡ false → length (good_from before xs) ≡ length xs
+    → good_from before (xs ++ ys) ≡ good_from before xs ++ good_from (time_after before (good_from before xs)) ys
 unfolding First
 good_from-append before [] ys unended full = refl
 good_from-append before (bytes ∷ rest) ys unended full = elim (first_cases before bytes) [
@@ -75,16 +79,6 @@ good_from-stopped before (bytes ∷ rest) ys fewer = elim (first_cases before by
       rw (more.0, more.1) (ap (λ good. record_of bytes ∷ good) (good_from-stopped (record_of bytes).time rest ys fewer_rest)))
 ]
 
--- no good record is too late
-pub time_after-good_from : (before : ℕ) (xs : List (List ℕ)) → before ≤ last_time → time_after before (good_from before xs) ≤ last_time
-unfolding First
-time_after-good_from before [] in_time = in_time
-time_after-good_from before (bytes ∷ rest) in_time = elim (first_cases before bytes) [
-  | inl bad ↦ rw bad in_time
-  | inr (inl last) ↦ rw (last.0, last.1) (is_good_in_time before bytes last.0)
-  | inr (inr more) ↦ rw (more.0, more.1) (time_after-good_from (record_of bytes).time rest (is_good_in_time before bytes more.0))
-]
-
 -- records that follow can only add good ones
 pub good_from-grows : (before : ℕ) (xs ys : List (List ℕ)) → (later : List BusRecord) × (good_from before (xs ++ ys) ≡ good_from before xs ++ later)
 good_from-grows before xs ys = ⊎_elim
@@ -95,16 +89,3 @@ good_from-grows before xs ys = ⊎_elim
     (good_from (time_after before (good_from before xs)) ys, good_from-append before xs ys unended full))
     (cases_lt (length (good_from before xs)) (length xs)))
     (cases_Bool (has_end (good_from before xs)))
-
--- the record after the good ones, with no end among them, isn't good
-pub is_good-after : (before : ℕ) (xs : List (List ℕ)) → has_end (good_from before xs) ≡ false → length (good_from before xs) < length xs → is_good (time_after before (good_from before xs)) (get_or xs (length (good_from before xs)) []) ≡ false
-unfolding First
-is_good-after before [] unended fewer = absurd (omega arith)
-is_good-after before (bytes ∷ rest) unended fewer = elim (first_cases before bytes) [
-  | inl bad ↦ rw (good_from_bad before bytes rest bad) bad
-  | inr (inl last) ↦ (let h = rw (last.0, last.1) at unended in absurd (cc))
-  | inr (inr more) ↦ (let here = good_from_more before bytes rest more.0 more.1 in
-      let unended_rest = rw (more.0, more.1) at unended in
-      let fewer_rest : length (good_from (record_of bytes).time rest) < length rest = omega (arith, ap length here) in
-      rw here (is_good-after (record_of bytes).time rest unended_rest fewer_rest))
-]

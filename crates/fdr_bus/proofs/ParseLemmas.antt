@@ -1,7 +1,6 @@
 -- What the bytes of a record say, and whether it may follow.
-use Rattle.std.proofs.Common.{◌≡◌, ◌≤◌, ◌<◌, ⊎_elim, ℕ, Bool, true, false, List, Some, None, drop, slice_index, sym, ap, ◌∙◌, refl, arith}
+use Rattle.std.proofs.Common.{◌≡◌, ◌≤◌, ◌<◌, ℕ, Bool, true, false, List, Some, None, drop, slice_index, sym, ap, ◌∙◌, refl, arith}
 use Rattle.std.specs.Prelude.{nat_le, nat_lt, ◌&&◌, ◌==◌, if◌then◌else◌}
-use Rattle.std.proofs.lemmas.Bool.{cases_Bool, cases_lt}
 use Rattle.std.proofs.lemmas.Bool.Decides.{nat_tests}
 use Rattle.byteorder.specs.Endian.{big_number}
 use Rattle.fdr_bus.specs.Records.{has_kind, record_of, is_good, record_fault, last_time}
@@ -23,7 +22,8 @@ late_tests kind before time last late = grind (arith, nat_tests)
 unnamed_tests : (kind : Bool) (before time last : ℕ) → kind ≡ false → (kind && nat_le before time && nat_le time last) ≡ false
 unnamed_tests kind before time last unnamed = grind (arith, nat_tests)
 
-pub is_good_yes : (before : ℕ) (bytes : List ℕ) → has_kind bytes ≡ true → before ≤ (record_of bytes).time → (record_of bytes).time ≤ last_time → is_good before bytes ≡ true
+pub is_good_yes : (before : ℕ) (bytes : List ℕ) → has_kind bytes ≡ true → before ≤ (record_of bytes).time → (record_of bytes).time ≤ last_time
+    → is_good before bytes ≡ true
 unfolding is_good
 is_good_yes before bytes named order in_time = good_tests (has_kind bytes) before (record_of bytes).time last_time named order in_time
 
@@ -49,14 +49,16 @@ record_fault_early before bytes named early =
     let test : nat_lt (record_of bytes).time before ≡ true = grind (arith, nat_tests) in
     rw (named, test) refl
 
-pub record_fault_late : (before : ℕ) (bytes : List ℕ) → has_kind bytes ≡ true → before ≤ (record_of bytes).time → last_time < (record_of bytes).time → record_fault before bytes ≡ Some fault.Late
+pub record_fault_late : (before : ℕ) (bytes : List ℕ) → has_kind bytes ≡ true → before ≤ (record_of bytes).time → last_time < (record_of bytes).time
+    → record_fault before bytes ≡ Some fault.Late
 unfolding record_fault
 record_fault_late before bytes named order late =
     let back : nat_lt (record_of bytes).time before ≡ false = grind (arith, nat_tests) in
     let test : nat_lt last_time (record_of bytes).time ≡ true = grind (arith, nat_tests) in
     rw (named, back, test) refl
 
-pub record_fault_none : (before : ℕ) (bytes : List ℕ) → has_kind bytes ≡ true → before ≤ (record_of bytes).time → (record_of bytes).time ≤ last_time → record_fault before bytes ≡ None
+pub record_fault_none : (before : ℕ) (bytes : List ℕ) → has_kind bytes ≡ true → before ≤ (record_of bytes).time → (record_of bytes).time ≤ last_time
+    → record_fault before bytes ≡ None
 unfolding record_fault
 record_fault_none before bytes named order in_time =
     let back : nat_lt (record_of bytes).time before ≡ false = grind (arith, nat_tests) in
@@ -78,24 +80,12 @@ pub is_good_in_order : (before : ℕ) (bytes : List ℕ) → is_good before byte
 unfolding is_good
 is_good_in_order before bytes good = order_tests (has_kind bytes) before (record_of bytes).time last_time good
 
--- a record that isn't good has a fault
-pub record_fault_some : (before : ℕ) (bytes : List ℕ) → is_good before bytes ≡ false → record_fault before bytes ≡ None → ⊥
-record_fault_some before bytes bad none = ⊎_elim
-    (λ named. ⊎_elim
-    (λ early. (let e = record_fault_early before bytes named early in absurd (cc)))
-    (λ order. ⊎_elim
-    (λ late. (let e = record_fault_late before bytes named order late in absurd (cc)))
-    (λ in_time. (let e = is_good_yes before bytes named order in_time in absurd (cc)))
-    (cases_lt last_time (record_of bytes).time))
-    (cases_lt (record_of bytes).time before))
-    (λ unnamed. (let e = record_fault_unnamed before bytes unnamed in absurd (cc)))
-    (cases_Bool (has_kind bytes))
-
 -- a record by its kind and its numbers
 abbrev pub record_with : RecordKind → ℕ → ℕ → ℕ → BusRecord
 record_with kind bus word time = record { kind = kind; bus = bus; word = word; time = time }
 
-pub record_of_word : (bytes : List ℕ) (word time : ℕ) → slice_index bytes 0 ≡ 1 → word ≡ big_number 4 (drop 4 bytes) → time ≡ big_number 8 (drop 8 bytes) → (record_with Word (slice_index bytes 1) word time ≡ record_of bytes) × (has_kind bytes ≡ true)
+pub record_of_word : (bytes : List ℕ) (word time : ℕ) → slice_index bytes 0 ≡ 1 → word ≡ big_number 4 (drop 4 bytes) → time ≡ big_number 8 (drop 8 bytes)
+    → (record_with Word (slice_index bytes 1) word time ≡ record_of bytes) × (has_kind bytes ≡ true)
 unfolding record_of
 record_of_word bytes word time one word_is time_is = (
   ap (λ x. record_with Word (slice_index bytes 1) x time) word_is
@@ -104,7 +94,8 @@ record_of_word bytes word time one word_is time_is = (
   rw one refl,
 )
 
-pub record_of_end : (bytes : List ℕ) (word time : ℕ) → slice_index bytes 0 ≡ 2 → word ≡ big_number 4 (drop 4 bytes) → time ≡ big_number 8 (drop 8 bytes) → (record_with End (slice_index bytes 1) word time ≡ record_of bytes) × (has_kind bytes ≡ true)
+pub record_of_end : (bytes : List ℕ) (word time : ℕ) → slice_index bytes 0 ≡ 2 → word ≡ big_number 4 (drop 4 bytes) → time ≡ big_number 8 (drop 8 bytes)
+    → (record_with End (slice_index bytes 1) word time ≡ record_of bytes) × (has_kind bytes ≡ true)
 unfolding record_of
 record_of_end bytes word time two word_is time_is = (
   ap (λ x. record_with End (slice_index bytes 1) x time) word_is

@@ -1,7 +1,7 @@
 -- The bits of a bus word, one after the other.
 use native.Mathlib.Nat.{div-div-eq-div-mul}
 use lib.Count.{ones, ones_step}
-use Rattle.std.proofs.Common.{◌≡◌, ℕ, suc, zero, ◌+◌, ◌-◌, ◌*◌, ◌/◌, ◌%◌, ◌^◌, ◌<◌, ◌≤◌, [], ◌∷◌, ◌++◌, fold, sum_by, refl, sym, ap, ◌∙◌, arith}
+use Rattle.std.proofs.Common.{◌≡◌, ℕ, suc, zero, ◌+◌, ◌-◌, ◌*◌, ◌/◌, ◌%◌, ◌^◌, ◌<◌, ◌≤◌, [], ◌∷◌, fold, sum_by, refl, sym, ap, ◌∙◌, arith}
 use Rattle.std.specs.Prelude.{bit_and, count_ones}
 use Rattle.std.specs.Int.{bit_at, reverse_bits, reverse_bits_onto, w8}
 use Rattle.std.specs.List.{range_with_len}
@@ -9,12 +9,7 @@ use Rattle.std.proofs.lemmas.Nat.{and_mask, div-add-mod', pow-add}
 use Rattle.std.proofs.lemmas.Nat.Bits.{bit_at_cat_low, shr_and_one}
 use Rattle.std.proofs.lemmas.List.Sums.{sum_by_push, fold-append}
 use Rattle.fdr_bus.specs.Words.{bus_bit, ones_to, reversed_to}
-
-range_push : (a n : ℕ) → range_with_len a (suc n) ≡ range_with_len a n ++ (a + n) ∷ []
-range_push a zero = let e : a ≡ a + 0 = omega arith in ap (λ x. x ∷ []) e
-range_push a (suc n) =
-    let e : a + 1 + n ≡ a + suc n = omega arith in
-    ap (λ xs. a ∷ xs) (range_push (a + 1) n) ∙ ap (λ x. a ∷ (range_with_len (a + 1) n ++ x ∷ [])) e
+use Rattle.fdr_lists.proofs.Ranges.{range_suc}
 
 -- bit n + 1 by a shift
 bus_bit_shift : (word n : ℕ) → bus_bit word (1 + n) ≡ word / 2 ^ n % 2
@@ -24,7 +19,7 @@ bus_bit_shift word n = let e : 1 + n - 1 ≡ n = omega arith in ap (λ i. word /
 pub ones_to_more : (word n : ℕ) → ones_to word (suc n) ≡ ones_to word n + word / 2 ^ n % 2
 unfolding ones_to
 ones_to_more word n =
-    ap (sum_by (bus_bit word)) (range_push 1 n)
+    ap (sum_by (bus_bit word)) (range_suc 1 n)
     ∙ sum_by_push (bus_bit word) (range_with_len 1 n) (1 + n)
     ∙ ap (λ x. sum_by (bus_bit word) (range_with_len 1 n) + x) (bus_bit_shift word n)
 
@@ -32,7 +27,7 @@ pub reversed_to_more : (word n : ℕ) → reversed_to word (suc n) ≡ reversed_
 unfolding reversed_to
 reversed_to_more word n =
     let step : ℕ → ℕ → ℕ = λ number i. number * 2 + bus_bit word i in
-    ap (fold step 0) (range_push 1 n)
+    ap (fold step 0) (range_suc 1 n)
     ∙ fold-append step 0 (range_with_len 1 n) ((1 + n) ∷ [])
     ∙ ap (λ x. fold step 0 (range_with_len 1 n) * 2 + x) (bus_bit_shift word n)
 

@@ -12,7 +12,7 @@ ghost use Rattle.fdr_bus.specs.declared.TraceFault.TheVariants as fault;
 use byteorder::{BigEndian, ByteOrder};
 
 /// The latest time that a record may have, in microseconds from the start of the recording.
-const LAST_TIME: u64 = 1_440_000_000_000;
+const MAX_TIME: u64 = 1_440_000_000_000;
 
 /// What a record of a trace is.
 #[derive(Clone, Copy, PartialEq, Eq, Debug)]
@@ -90,7 +90,7 @@ pub fn parse(bytes: &[u8; 16], before: u64) -> Result<BusRecord, TraceFault>
     if record.time < before {
         return Err(TraceFault::Back);
     }
-    if record.time > LAST_TIME {
+    if record.time > MAX_TIME {
         return Err(TraceFault::Late);
     }
     Ok(record)
@@ -121,7 +121,7 @@ pub fn is_odd(word: u32) -> bool
 /// The number in the `width` bits from bit `lsb` on, where bit 1 is the least significant.
 pub fn field(word: u32, lsb: u8, width: u8) -> u32
     requires from_first { 1 ≤ lsb }
-    requires some { 1 ≤ width }
+    requires some_bits { 1 ≤ width }
     requires within { lsb + width ≤ 33 }
     ensures value { result ≡ bits_at word lsb width }
     ensures fits { result < 2 ^ width }

@@ -1,9 +1,12 @@
 //! A command over objects in memory: what it answers and writes. For the tests of worked cases.
 #![tactic(auto)]
 
+mod fixtures;
+
 use fdr_deck::MemDeck;
 use fdr_io::{MemSink, MemSource};
 use fdr_top::{Outcome, run};
+pub use fixtures::{ALTITUDE, END_AT_4000000, WORD_AT_0};
 use std::alloc::{AllocError, Global};
 
 /// What a command answered and wrote.

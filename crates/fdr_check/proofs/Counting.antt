@@ -1,5 +1,6 @@
 -- How often places occur in a superframe.
-use Rattle.std.proofs.Common.{◌≡◌, ℕ, ◌+◌, ◌*◌, ◌<◌, ◌≤◌, ◌==◌, Bool, true, false, cond, List, [], ◌∷◌, length, get_or, take, max, refl, ap, sym, ◌∙◌, zero, suc, arith}
+use Rattle.std.proofs.Common.{◌≡◌, ℕ, ◌+◌, ◌*◌, ◌<◌, ◌≤◌, ◌==◌, Bool, true, false, cond, List, [], ◌∷◌, length, get_or, take, max, refl, ap, sym, ◌∙◌, zero}
+use Rattle.std.proofs.Common.{suc, arith}
 use Rattle.std.specs.List.{range_with_len, count_by, sum_by, filter, list_all, fold}
 use Rattle.std.proofs.lemmas.List.{length-map}
 use Rattle.std.proofs.lemmas.List.Concat.{length-flat_map}
@@ -10,13 +11,7 @@ use Rattle.fdr_table.specs.Rows.{PlaceRow}
 use Rattle.fdr_check.specs.Occurrences.{frame_bits, begins_at, occurrences_at, occurrences, is_part, part_occurrences}
 use Rattle.fdr_check.specs.Faults.{count_of, last_part}
 use Rattle.fdr_check.specs.Walks.{starts_of}
-
-pub sum_by_same : {X : Type 0} (f g : X → ℕ) (xs : List X) → ((x : X) → f x ≡ g x) → sum_by f xs ≡ sum_by g xs
-sum_by_same f g [] same = refl
-sum_by_same f g (x ∷ xs) same =
-    let here = same x in
-    let rest = sum_by_same f g xs same in
-    omega (arith, sum_by-cons f x xs, sum_by-cons g x xs)
+use Rattle.fdr_lists.proofs.Sums.{sum_by_same}
 
 sum_by_add : {X : Type 0} (f g : X → ℕ) (xs : List X) → sum_by (λ x. f x + g x) xs ≡ sum_by f xs + sum_by g xs
 sum_by_add f g [] = refl
@@ -50,7 +45,8 @@ length_occurrences w places =
     ∙ sum_turned (λ x p. cond (begins_at w x p) 1 0) (range_with_len 0 (16 * frame_bits w)) places
     ∙ ap (λ n. sum_by (λ (p : PlaceRow). count_by (λ x. begins_at w x p) (range_with_len 0 n)) places) e
 
-pub occurrences_more : (w : ℕ) (places : List PlaceRow) (i : ℕ) (d : PlaceRow) → i < length places → length (occurrences w (take (i + 1) places)) ≡ length (occurrences w (take i places)) + starts_of w (get_or places i d)
+pub occurrences_more : (w : ℕ) (places : List PlaceRow) (i : ℕ) (d : PlaceRow) → i < length places
+    → length (occurrences w (take (i + 1) places)) ≡ length (occurrences w (take i places)) + starts_of w (get_or places i d)
 occurrences_more w places i d l =
     length_occurrences w (take (i + 1) places) ∙ sum_by_more (starts_of w) places i d l
     ∙ ap (λ n. n + starts_of w (get_or places i d)) (sym (length_occurrences w (take i places)))
@@ -66,7 +62,9 @@ sum_of_one : {X : Type 0} (f : X → ℕ) (b : Bool) (x : X) → sum_by f (cond 
 sum_of_one f true x = omega (arith, sum_by-cons f x [])
 sum_of_one f false x = refl
 
-pub count_more_place : (w : ℕ) (places : List PlaceRow) (n part i : ℕ) (d : PlaceRow) → i < length places → count_of w (take (i + 1) places) n part ≡ count_of w (take i places) n part + cond (is_part n part (get_or places i d)) (starts_of w (get_or places i d)) 0
+pub count_more_place : (w : ℕ) (places : List PlaceRow) (n part i : ℕ) (d : PlaceRow) → i < length places
+    → count_of w (take (i + 1) places) n part ≡ count_of w (take i places) n part + cond (is_part n part (get_or places i d)) (starts_of w (get_or places i d))
+    0
 unfolding part_occurrences
 count_more_place w places n part i d l =
     let t = is_part n part in
@@ -90,7 +88,8 @@ max_of_one : (b : Bool) (m : ℕ) (p : PlaceRow) → fold (λ n (l : PlaceRow). 
 max_of_one true m p = refl
 max_of_one false m p = omega arith
 
-pub last_part_more : (places : List PlaceRow) (n i : ℕ) (d : PlaceRow) → i < length places → last_part (take (i + 1) places) n ≡ max (last_part (take i places) n) (cond ((get_or places i d).param == n) (get_or places i d).part 0)
+pub last_part_more : (places : List PlaceRow) (n i : ℕ) (d : PlaceRow) → i < length places
+    → last_part (take (i + 1) places) n ≡ max (last_part (take i places) n) (cond ((get_or places i d).param == n) (get_or places i d).part 0)
 unfolding last_part
 last_part_more places n i d l =
     let t : PlaceRow → Bool = λ p. p.param == n in
@@ -105,7 +104,8 @@ keeps_false t true x rest fails = and_right (t x) (list_all t rest) fails
 keeps_false t false x rest fails = fails
 
 -- one element that passes the filter and fails the test
-pub not_all_filtered : {X : Type 0} (f t : X → Bool) (xs : List X) (i : ℕ) (d : X) → i < length xs → f (get_or xs i d) ≡ true → t (get_or xs i d) ≡ false → list_all t (filter f xs) ≡ false
+pub not_all_filtered : {X : Type 0} (f t : X → Bool) (xs : List X) (i : ℕ) (d : X) → i < length xs → f (get_or xs i d) ≡ true → t (get_or xs i d) ≡ false
+    → list_all t (filter f xs) ≡ false
 not_all_filtered f t [] i d l kept fails = absurd (omega arith)
 not_all_filtered f t (x ∷ xs) zero d l kept fails =
     ap (λ b. list_all t (cond b (x ∷ filter f xs) (filter f xs))) kept ∙ and_left (t x) (list_all t (filter f xs)) fails

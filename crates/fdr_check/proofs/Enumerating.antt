@@ -1,5 +1,6 @@
 -- Searches through the parameters, by index.
-use Rattle.std.proofs.Common.{◌≡◌, ℕ, ◌+◌, ◌<◌, ◌≤◌, not, Bool, true, false, cond, List, [], ◌∷◌, ◌++◌, Option, Some, None, is_some, option_map, length, get_or, take, map, refl, ap, sym, ◌∙◌, zero, suc, zero-add, arith}
+use Rattle.std.proofs.Common.{◌≡◌, ℕ, ◌+◌, ◌<◌, ◌≤◌, not, Bool, true, false, cond, List, [], ◌∷◌, ◌++◌, Option, Some, None, is_some, option_map, length, get_or}
+use Rattle.std.proofs.Common.{take, map, refl, ap, sym, ◌∙◌, zero, suc, zero-add, arith}
 use Rattle.std.specs.List.{find, enumerate_from}
 use Rattle.std.proofs.lemmas.List.{take_all}
 use Rattle.std.proofs.lemmas.Bool.{not_from_false, not_from_true}
@@ -9,11 +10,13 @@ use Rattle.fdr_table.specs.declared.fault.TableFault.{TableFault}
 use Rattle.fdr_table.specs.declared.fault.TableFault.TheVariants as fault
 use Rattle.fdr_check.specs.Faults.{has_parts, parts_fault, rate_of, rate_fault}
 use Rattle.fdr_check.specs.Groups.{places_of, grouped}
-use Rattle.fdr_check.proofs.Searches.{cond_none, first_some_none, first_some_some, first_later, first_at_last}
+use Rattle.fdr_check.proofs.Searches.{first_some_none, first_some_some, first_later, first_at_last}
 use Rattle.fdr_check.proofs.Overlapping.{none_of}
 use Rattle.fdr_check.proofs.Grouping.{group_at, has_parts_of, rate_of_own}
+use Rattle.fdr_lists.proofs.Searches.{cond_none}
 
-find_later : {X : Type 0} (t : ℕ × X → Bool) (a : ℕ) (xs : List X) (i : ℕ) (d : X) → i < length xs → find t (enumerate_from a (take i xs)) ≡ None → t (a + i, get_or xs i d) ≡ false → find t (enumerate_from a (take (suc i) xs)) ≡ None
+find_later : {X : Type 0} (t : ℕ × X → Bool) (a : ℕ) (xs : List X) (i : ℕ) (d : X) → i < length xs → find t (enumerate_from a (take i xs)) ≡ None
+    → t (a + i, get_or xs i d) ≡ false → find t (enumerate_from a (take (suc i) xs)) ≡ None
 find_later t a [] i d l none fails = absurd (omega arith)
 find_later t a (x ∷ xs) zero d l none fails =
     let e : a + zero ≡ a = omega arith in
@@ -24,7 +27,8 @@ find_later t a (x ∷ xs) (suc i) d l none fails =
     ap (λ b. cond b (Some (a, x)) (find t (enumerate_from (a + 1) (take (suc i) xs)))) h.0
     ∙ find_later t (a + 1) xs i d (omega arith) h.1 (ap (λ k. t (k, get_or xs i d)) (sym e) ∙ fails)
 
-find_at_last : {X : Type 0} (t : ℕ × X → Bool) (a : ℕ) (xs : List X) (i : ℕ) (d : X) → i < length xs → find t (enumerate_from a (take i xs)) ≡ None → t (a + i, get_or xs i d) ≡ true → find t (enumerate_from a xs) ≡ Some (a + i, get_or xs i d)
+find_at_last : {X : Type 0} (t : ℕ × X → Bool) (a : ℕ) (xs : List X) (i : ℕ) (d : X) → i < length xs → find t (enumerate_from a (take i xs)) ≡ None
+    → t (a + i, get_or xs i d) ≡ true → find t (enumerate_from a xs) ≡ Some (a + i, get_or xs i d)
 find_at_last t a [] i d l none holds = absurd (omega arith)
 find_at_last t a (x ∷ xs) zero d l none holds =
     let e : a + zero ≡ a = omega arith in
@@ -43,7 +47,9 @@ is_incomplete places e = not (has_parts places e.0 e.1)
 abbrev pub incomplete_row : ℕ × ParamRow → ℕ × TableFault
 incomplete_row e = (e.1.row, fault.Parts)
 
-pub parts_found : (t : TableRows) (params : List ParamRow) (groups : List (List PlaceRow)) (i : ℕ) (p : ParamRow) (g : List PlaceRow) (row : ℕ) → params ≡ t.params → groups ≡ grouped t.places (length t.params) → i < length params → p ≡ get_or params i p → g ≡ get_or groups i g → find (is_incomplete t.places) (enumerate_from 0 (take i params)) ≡ None → has_parts g i p ≡ false → row ≡ p.row → Some (row, fault.Parts) ≡ parts_fault t
+pub parts_found : (t : TableRows) (params : List ParamRow) (groups : List (List PlaceRow)) (i : ℕ) (p : ParamRow) (g : List PlaceRow) (row : ℕ)
+    → params ≡ t.params → groups ≡ grouped t.places (length t.params) → i < length params → p ≡ get_or params i p → g ≡ get_or groups i g
+    → find (is_incomplete t.places) (enumerate_from 0 (take i params)) ≡ None → has_parts g i p ≡ false → row ≡ p.row → Some (row, fault.Parts) ≡ parts_fault t
 unfolding parts_fault
 parts_found t params groups i p g row same are l is read none lacks row_is =
     let own : g ≡ places_of t.places i = group_at t.places (length t.params) i groups g are (omega (arith, ap length same)) read in
@@ -54,7 +60,10 @@ parts_found t params groups i p g row same are l is read none lacks row_is =
     ap (λ r. Some (r, fault.Parts)) (row_is ∙ ap (λ (x : ParamRow). x.row) is)
     ∙ sym (ap (option_map incomplete_row) (ap (λ ps. find (is_incomplete t.places) (enumerate_from 0 ps)) (sym same) ∙ found))
 
-pub parts_not_yet : (t : TableRows) (params : List ParamRow) (groups : List (List PlaceRow)) (i : ℕ) (p : ParamRow) (g : List PlaceRow) → params ≡ t.params → groups ≡ grouped t.places (length t.params) → i < length params → p ≡ get_or params i p → g ≡ get_or groups i g → find (is_incomplete t.places) (enumerate_from 0 (take i params)) ≡ None → has_parts g i p ≡ true → find (is_incomplete t.places) (enumerate_from 0 (take (i + 1) params)) ≡ None
+pub parts_not_yet : (t : TableRows) (params : List ParamRow) (groups : List (List PlaceRow)) (i : ℕ) (p : ParamRow) (g : List PlaceRow) → params ≡ t.params
+    → groups ≡ grouped t.places (length t.params) → i < length params → p ≡ get_or params i p → g ≡ get_or groups i g
+    → find (is_incomplete t.places) (enumerate_from 0 (take i params)) ≡ None → has_parts g i p ≡ true
+    → find (is_incomplete t.places) (enumerate_from 0 (take (i + 1) params)) ≡ None
 parts_not_yet t params groups i p g same are l is read none has =
     let own : g ≡ places_of t.places i = group_at t.places (length t.params) i groups g are (omega (arith, ap length same)) read in
     let here : is_incomplete t.places (0 + i, get_or params i p) ≡ false =
@@ -63,7 +72,8 @@ parts_not_yet t params groups i p g same are l is read none has =
     let e : suc i ≡ i + 1 = omega arith in
     ap (λ k. find (is_incomplete t.places) (enumerate_from 0 (take k params))) (sym e) ∙ find_later (is_incomplete t.places) 0 params i p l none here
 
-pub parts_none : (t : TableRows) (params : List ParamRow) (i : ℕ) → params ≡ t.params → length params ≤ i → find (is_incomplete t.places) (enumerate_from 0 (take i params)) ≡ None → None ≡ parts_fault t
+pub parts_none : (t : TableRows) (params : List ParamRow) (i : ℕ) → params ≡ t.params → length params ≤ i
+    → find (is_incomplete t.places) (enumerate_from 0 (take i params)) ≡ None → None ≡ parts_fault t
 unfolding parts_fault
 parts_none t params i same all none =
     sym (ap (option_map incomplete_row) (ap (λ ps. find (is_incomplete t.places) (enumerate_from 0 ps)) (sym same ∙ sym (take_all i params all)) ∙ none))
@@ -72,26 +82,35 @@ parts_none t params i same all none =
 abbrev pub rate_row_of : TableRows → ℕ × ParamRow → Option (ℕ × TableFault)
 rate_row_of t e = rate_of t.frame.words t.places e.0 e.1
 
-rate_here : (t : TableRows) (params : List ParamRow) (groups : List (List PlaceRow)) (i : ℕ) (p : ParamRow) (g : List PlaceRow) (w : ℕ) (o : Option (ℕ × TableFault)) → w ≡ t.frame.words → params ≡ t.params → groups ≡ grouped t.places (length t.params) → i < length params → p ≡ get_or params i p → g ≡ get_or groups i g → o ≡ rate_of w g i p → rate_row_of t (0 + i, get_or params i p) ≡ o
+rate_here : (t : TableRows) (params : List ParamRow) (groups : List (List PlaceRow)) (i : ℕ) (p : ParamRow) (g : List PlaceRow) (w : ℕ)
+    (o : Option (ℕ × TableFault)) → w ≡ t.frame.words → params ≡ t.params → groups ≡ grouped t.places (length t.params) → i < length params
+    → p ≡ get_or params i p → g ≡ get_or groups i g → o ≡ rate_of w g i p → rate_row_of t (0 + i, get_or params i p) ≡ o
 rate_here t params groups i p g w o words same are l is read fault_is =
     let own : g ≡ places_of t.places i = group_at t.places (length t.params) i groups g are (omega (arith, ap length same)) read in
     ap (λ k. rate_row_of t (k, get_or params i p)) (zero-add i) ∙ ap (λ (x : ParamRow). rate_row_of t (i, x)) (sym is)
     ∙ sym (fault_is ∙ ap (λ k. rate_of k g i p) words ∙ ap (λ ps. rate_of t.frame.words ps i p) own ∙ rate_of_own t.frame.words t.places i p)
 
-pub rate_is_found : (t : TableRows) (params : List ParamRow) (groups : List (List PlaceRow)) (i : ℕ) (p : ParamRow) (g : List PlaceRow) (w : ℕ) (o : Option (ℕ × TableFault)) → w ≡ t.frame.words → params ≡ t.params → groups ≡ grouped t.places (length t.params) → i < length params → p ≡ get_or params i p → g ≡ get_or groups i g → o ≡ rate_of w g i p → first_some (map (rate_row_of t) (enumerate_from 0 (take i params))) ≡ None → is_some o ≡ true → o ≡ rate_fault t
+pub rate_is_found : (t : TableRows) (params : List ParamRow) (groups : List (List PlaceRow)) (i : ℕ) (p : ParamRow) (g : List PlaceRow) (w : ℕ)
+    (o : Option (ℕ × TableFault)) → w ≡ t.frame.words → params ≡ t.params → groups ≡ grouped t.places (length t.params) → i < length params
+    → p ≡ get_or params i p → g ≡ get_or groups i g → o ≡ rate_of w g i p → first_some (map (rate_row_of t) (enumerate_from 0 (take i params))) ≡ None
+    → is_some o ≡ true → o ≡ rate_fault t
 unfolding rate_fault
 rate_is_found t params groups i p g w None words same are l is read fault_is none some = absurd (cc)
 rate_is_found t params groups i p g w (Some r) words same are l is read fault_is none some =
     sym (ap (λ ps. first_some (map (rate_row_of t) (enumerate_from 0 ps))) (sym same)
     ∙ first_at_last (rate_row_of t) 0 params i p r l none (rate_here t params groups i p g w (Some r) words same are l is read fault_is))
 
-pub rate_not_yet : (t : TableRows) (params : List ParamRow) (groups : List (List PlaceRow)) (i : ℕ) (p : ParamRow) (g : List PlaceRow) (w : ℕ) (o : Option (ℕ × TableFault)) → w ≡ t.frame.words → params ≡ t.params → groups ≡ grouped t.places (length t.params) → i < length params → p ≡ get_or params i p → g ≡ get_or groups i g → o ≡ rate_of w g i p → first_some (map (rate_row_of t) (enumerate_from 0 (take i params))) ≡ None → is_some o ≡ false → first_some (map (rate_row_of t) (enumerate_from 0 (take (i + 1) params))) ≡ None
+pub rate_not_yet : (t : TableRows) (params : List ParamRow) (groups : List (List PlaceRow)) (i : ℕ) (p : ParamRow) (g : List PlaceRow) (w : ℕ)
+    (o : Option (ℕ × TableFault)) → w ≡ t.frame.words → params ≡ t.params → groups ≡ grouped t.places (length t.params) → i < length params
+    → p ≡ get_or params i p → g ≡ get_or groups i g → o ≡ rate_of w g i p → first_some (map (rate_row_of t) (enumerate_from 0 (take i params))) ≡ None
+    → is_some o ≡ false → first_some (map (rate_row_of t) (enumerate_from 0 (take (i + 1) params))) ≡ None
 rate_not_yet t params groups i p g w o words same are l is read fault_is none some =
     let e : suc i ≡ i + 1 = omega arith in
     ap (λ k. first_some (map (rate_row_of t) (enumerate_from 0 (take k params)))) (sym e)
     ∙ first_later (rate_row_of t) 0 params i p l none (rate_here t params groups i p g w o words same are l is read fault_is ∙ none_of o some)
 
-pub rate_none : (t : TableRows) (params : List ParamRow) (i : ℕ) → params ≡ t.params → length params ≤ i → first_some (map (rate_row_of t) (enumerate_from 0 (take i params))) ≡ None → None ≡ rate_fault t
+pub rate_none : (t : TableRows) (params : List ParamRow) (i : ℕ) → params ≡ t.params → length params ≤ i
+    → first_some (map (rate_row_of t) (enumerate_from 0 (take i params))) ≡ None → None ≡ rate_fault t
 unfolding rate_fault
 rate_none t params i same all none =
     sym (ap (λ ps. first_some (map (rate_row_of t) (enumerate_from 0 ps))) (sym same ∙ sym (take_all i params all)) ∙ none)
@@ -104,10 +123,6 @@ first_some_now o (Some a) rest e h = sym (first_some_some o a rest (sym e))
 pub first_some_on : {A : Type 0} (o r : Option A) (rest : List (Option A)) → r ≡ o → is_some r ≡ false → first_some (o ∷ rest) ≡ first_some rest
 first_some_on o r rest e h = first_some_none o rest (sym e ∙ none_of r h)
 
-pub first_some_last : {A : Type 0} (o : Option A) → first_some (o ∷ []) ≡ o
-first_some_last None = refl
-first_some_last (Some a) = refl
-
 -- the same over two runs of answers
 pub first_some_front : {A : Type 0} (os rest : List (Option A)) (r : Option A) → r ≡ first_some os → is_some r ≡ true → r ≡ first_some (os ++ rest)
 first_some_front [] rest None e h = absurd (cc)
@@ -115,7 +130,8 @@ first_some_front [] rest (Some a) e h = absurd (cc)
 first_some_front (None ∷ os) rest r e h = first_some_front os rest r e h
 first_some_front (Some a ∷ os) rest r e h = e
 
-pub first_some_back : {A : Type 0} (os rest : List (Option A)) (r : Option A) → r ≡ first_some os → is_some r ≡ false → first_some (os ++ rest) ≡ first_some rest
+pub first_some_back : {A : Type 0} (os rest : List (Option A)) (r : Option A) → r ≡ first_some os → is_some r ≡ false
+    → first_some (os ++ rest) ≡ first_some rest
 first_some_back [] rest r e h = refl
 first_some_back (None ∷ os) rest r e h = first_some_back os rest r e h
 first_some_back (Some a ∷ os) rest None e h = absurd (cc)

@@ -1,11 +1,11 @@
 -- The places of a parameter, apart from the others.
-use Rattle.std.proofs.Common.{◌≡◌, ℕ, ◌+◌, ◌<◌, ◌==◌, ◌&&◌, ◌||◌, not, nat_le, Bool, true, false, cond, List, [], ◌∷◌, ◌++◌, Option, Some, None, option_map, length, get_or, set, take, max, inl, inr, refl, subst, ap, sym, ◌∙◌, zero-add, arith}
-use Rattle.std.specs.List.{range_with_len, filter, find, list_any, list_all, sum_by, All, fold}
+use Rattle.std.proofs.Common.{◌≡◌, ℕ, ◌+◌, ◌<◌, ◌==◌, ◌&&◌, ◌||◌, not, nat_le, Bool, true, false, cond, List, [], ◌∷◌, ◌++◌, Option, Some, None, option_map}
+use Rattle.std.proofs.Common.{length, get_or, set, take, max, inl, inr, refl, ap, sym, ◌∙◌, zero-add, arith}
+use Rattle.std.specs.List.{range_with_len, filter, find, list_any, list_all, sum_by, fold}
 use Rattle.std.specs.Option.{option_map_or}
 use Rattle.std.proofs.lemmas.List.{length-set, get_or-set_same, get_or-set_other, append-nil}
-use Rattle.std.proofs.lemmas.List.Elements.{filter_more, All-more}
+use Rattle.std.proofs.lemmas.List.Elements.{filter_more}
 use Rattle.std.proofs.lemmas.List.FromFn.{fill_by_all, get_or-map-range_with_len, length-map-range_with_len, map-range_with_len_more}
-use Rattle.std.proofs.lemmas.List.Sums.{sum_by-cons}
 use Rattle.std.proofs.lemmas.Bool.{cases_eq, and_parts, eq-eqb, ne_eqb, cond-false}
 use Rattle.fdr_table.specs.Rows.{ParamRow, PlaceRow}
 use Rattle.fdr_table.specs.declared.fault.TableFault.{TableFault}
@@ -14,8 +14,11 @@ use Rattle.fdr_check.specs.Occurrences.{is_part, part_width, part_occurrences, o
 use Rattle.fdr_check.specs.Soundness.{has_part}
 use Rattle.fdr_check.specs.Faults.{last_part, has_parts, count_of, off_rate, rate_of}
 use Rattle.fdr_check.specs.Groups.{places_of, grouped}
+use Rattle.fdr_lists.proofs.Sums.{sum_by_same}
+use Rattle.fdr_lists.proofs.Filters.{list_all_same, filter_of_filter}
 
-places_more : (places : List PlaceRow) (n i : ℕ) (p : PlaceRow) → i < length places → p ≡ get_or places i p → places_of (take (i + 1) places) n ≡ places_of (take i places) n ++ cond (p.param == n) (p ∷ []) []
+places_more : (places : List PlaceRow) (n i : ℕ) (p : PlaceRow) → i < length places → p ≡ get_or places i p
+    → places_of (take (i + 1) places) n ≡ places_of (take i places) n ++ cond (p.param == n) (p ∷ []) []
 places_more places n i p l is =
     filter_more (λ (x : PlaceRow). x.param == n) places i p l
     ∙ ap (λ (x : PlaceRow). places_of (take i places) n ++ cond (x.param == n) (x ∷ []) []) (sym is)
@@ -24,7 +27,9 @@ pub length_grouped : (places : List PlaceRow) (count : ℕ) → length (grouped 
 length_grouped places count = length-map-range_with_len (places_of places) 0 count
 
 -- one more place in its group
-pub grouped_step : (places : List PlaceRow) (count i : ℕ) (p : PlaceRow) (groups : List (List PlaceRow)) (old new : List PlaceRow) → i < length places → p ≡ get_or places i p → p.param < count → groups ≡ grouped (take i places) count → old ≡ get_or groups p.param old → new ≡ old ++ p ∷ [] → set groups p.param new ≡ grouped (take (i + 1) places) count
+pub grouped_step : (places : List PlaceRow) (count i : ℕ) (p : PlaceRow) (groups : List (List PlaceRow)) (old new : List PlaceRow) → i < length places
+    → p ≡ get_or places i p → p.param < count → groups ≡ grouped (take i places) count → old ≡ get_or groups p.param old → new ≡ old ++ p ∷ []
+    → set groups p.param new ≡ grouped (take (i + 1) places) count
 grouped_step places count i p groups old new l is within so_far read more =
     let f = places_of (take i places) in
     let len : length groups ≡ count = ap length so_far ∙ length_grouped (take i places) count in
@@ -43,7 +48,8 @@ grouped_step places count i p groups old new l is within so_far read more =
           ∙ sym (places_more places k i p l is)
     ])
 
-pub group_at : (places : List PlaceRow) (count n : ℕ) (groups : List (List PlaceRow)) (g : List PlaceRow) → groups ≡ grouped places count → n < count → g ≡ get_or groups n g → g ≡ places_of places n
+pub group_at : (places : List PlaceRow) (count n : ℕ) (groups : List (List PlaceRow)) (g : List PlaceRow) → groups ≡ grouped places count → n < count
+    → g ≡ get_or groups n g → g ≡ places_of places n
 group_at places count n groups g are within read =
     read ∙ ap (λ gs. get_or gs n g) are ∙ get_or-map-range_with_len (places_of places) 0 count n n g within (omega arith)
 
@@ -51,16 +57,8 @@ fails_too : (t : Bool) → (t ≡ true → false ≡ true) → t ≡ false
 fails_too true h = sym (h refl)
 fails_too false h = refl
 
-filter_kept_one : {X : Type 0} (t : X → Bool) (b : Bool) (x : X) (kept rest : List X) → (t x ≡ true → b ≡ true) → filter t kept ≡ rest → filter t (cond b (x ∷ kept) kept) ≡ cond (t x) (x ∷ rest) rest
-filter_kept_one t true x kept rest h e = ap (λ ys. cond (t x) (x ∷ ys) ys) e
-filter_kept_one t false x kept rest h e = e ∙ sym (cond-false (t x) (x ∷ rest) rest (fails_too (t x) h))
-
--- a search for some of what was kept
-filter_kept : {X : Type 0} (t f : X → Bool) (xs : List X) → ((x : X) → t x ≡ true → f x ≡ true) → filter t (filter f xs) ≡ filter t xs
-filter_kept t f [] h = refl
-filter_kept t f (x ∷ xs) h = filter_kept_one t (f x) x (filter f xs) (filter t xs) (h x) (filter_kept t f xs h)
-
-find_kept_one : {X : Type 0} (t : X → Bool) (b : Bool) (x : X) (kept : List X) (rest : Option X) → (t x ≡ true → b ≡ true) → find t kept ≡ rest → find t (cond b (x ∷ kept) kept) ≡ cond (t x) (Some x) rest
+find_kept_one : {X : Type 0} (t : X → Bool) (b : Bool) (x : X) (kept : List X) (rest : Option X) → (t x ≡ true → b ≡ true) → find t kept ≡ rest
+    → find t (cond b (x ∷ kept) kept) ≡ cond (t x) (Some x) rest
 find_kept_one t true x kept rest h e = ap (λ o. cond (t x) (Some x) o) e
 find_kept_one t false x kept rest h e = e ∙ sym (cond-false (t x) (Some x) rest (fails_too (t x) h))
 
@@ -68,21 +66,14 @@ find_kept : {X : Type 0} (t f : X → Bool) (xs : List X) → ((x : X) → t x �
 find_kept t f [] h = refl
 find_kept t f (x ∷ xs) h = find_kept_one t (f x) x (filter f xs) (find t xs) (h x) (find_kept t f xs h)
 
-any_kept_one : {X : Type 0} (t : X → Bool) (b : Bool) (x : X) (kept : List X) (rest : Bool) → (t x ≡ true → b ≡ true) → list_any t kept ≡ rest → list_any t (cond b (x ∷ kept) kept) ≡ (t x || rest)
+any_kept_one : {X : Type 0} (t : X → Bool) (b : Bool) (x : X) (kept : List X) (rest : Bool) → (t x ≡ true → b ≡ true) → list_any t kept ≡ rest
+    → list_any t (cond b (x ∷ kept) kept) ≡ (t x || rest)
 any_kept_one t true x kept rest h e = ap (λ o. t x || o) e
 any_kept_one t false x kept rest h e = e ∙ ap (λ b. b || rest) (sym (fails_too (t x) h))
 
 any_kept : {X : Type 0} (t f : X → Bool) (xs : List X) → ((x : X) → t x ≡ true → f x ≡ true) → list_any t (filter f xs) ≡ list_any t xs
 any_kept t f [] h = refl
 any_kept t f (x ∷ xs) h = any_kept_one t (f x) x (filter f xs) (list_any t xs) (h x) (any_kept t f xs h)
-
-pub all_same : {X : Type 0} (t u : X → Bool) (xs : List X) → ((x : X) → t x ≡ u x) → list_all t xs ≡ list_all u xs
-all_same t u [] h = refl
-all_same t u (x ∷ xs) h = ap (λ b. b && list_all t xs) (h x) ∙ ap (λ b. u x && b) (all_same t u xs h)
-
-sum_same : {X : Type 0} (f g : X → ℕ) (xs : List X) → ((x : X) → f x ≡ g x) → sum_by f xs ≡ sum_by g xs
-sum_same f g [] h = refl
-sum_same f g (x ∷ xs) h = let here = h x in let rest = sum_same f g xs h in omega (arith, sum_by-cons f x xs, sum_by-cons g x xs)
 
 find_same : {X : Type 0} (t u : X → Bool) (xs : List X) → ((x : X) → t x ≡ u x) → find t xs ≡ find u xs
 find_same t u [] h = refl
@@ -105,10 +96,10 @@ part_width_of places n part =
 pub part_occurrences_of : (w : ℕ) (places : List PlaceRow) (n part : ℕ) → part_occurrences w (places_of places n) n part ≡ part_occurrences w places n part
 unfolding part_occurrences
 part_occurrences_of w places n part =
-    ap (occurrences w) (filter_kept (is_part n part) (λ (p : PlaceRow). p.param == n) places (is_of n part))
+    ap (occurrences w) (filter_of_filter (is_part n part) (λ (p : PlaceRow). p.param == n) (is_of n part) places)
 
 twice : (places : List PlaceRow) (n : ℕ) → places_of (places_of places n) n ≡ places_of places n
-twice places n = filter_kept (λ (p : PlaceRow). p.param == n) (λ (p : PlaceRow). p.param == n) places (itself n)
+twice places n = filter_of_filter (λ (p : PlaceRow). p.param == n) (λ (p : PlaceRow). p.param == n) (itself n) places
 
 last_part_of : (places : List PlaceRow) (n : ℕ) → last_part (places_of places n) n ≡ last_part places n
 unfolding last_part
@@ -120,11 +111,18 @@ unfolding has_parts
 has_parts_of places n p =
     let own = places_of places n in
     let last = last_part places n in
-    ap (λ k. ((nat_le 1 k && list_all (has_part own n) (range_with_len 1 k)) && list_all (λ (l : PlaceRow). l.width == part_width own n l.part) (places_of own n)) && (p.width == sum_by (part_width own n) (range_with_len 1 k))) (last_part_of places n)
-    ∙ ap (λ b. ((nat_le 1 last && b) && list_all (λ (l : PlaceRow). l.width == part_width own n l.part) (places_of own n)) && (p.width == sum_by (part_width own n) (range_with_len 1 last))) (all_same (has_part own n) (has_part places n) (range_with_len 1 last) (has_part_of places n))
-    ∙ ap (λ xs. ((nat_le 1 last && list_all (has_part places n) (range_with_len 1 last)) && list_all (λ (l : PlaceRow). l.width == part_width own n l.part) xs) && (p.width == sum_by (part_width own n) (range_with_len 1 last))) (twice places n)
-    ∙ ap (λ b. ((nat_le 1 last && list_all (has_part places n) (range_with_len 1 last)) && b) && (p.width == sum_by (part_width own n) (range_with_len 1 last))) (all_same (λ (l : PlaceRow). l.width == part_width own n l.part) (λ (l : PlaceRow). l.width == part_width places n l.part) own (λ l. ap (λ k. l.width == k) (part_width_of places n l.part)))
-    ∙ ap (λ k. ((nat_le 1 last && list_all (has_part places n) (range_with_len 1 last)) && list_all (λ (l : PlaceRow). l.width == part_width places n l.part) own) && (p.width == k)) (sum_same (part_width own n) (part_width places n) (range_with_len 1 last) (part_width_of places n))
+    ap (λ k. ((nat_le 1 k && list_all (has_part own n) (range_with_len 1 k)) && list_all (λ (l : PlaceRow). l.width == part_width own n l.part)
+    (places_of own n)) && (p.width == sum_by (part_width own n) (range_with_len 1 k))) (last_part_of places n)
+    ∙ ap (λ b. ((nat_le 1 last && b) && list_all (λ (l : PlaceRow). l.width == part_width own n l.part) (places_of own n)) &&
+    (p.width == sum_by (part_width own n) (range_with_len 1 last)))
+    (list_all_same (has_part own n) (has_part places n) (range_with_len 1 last) (has_part_of places n))
+    ∙ ap (λ xs. ((nat_le 1 last && list_all (has_part places n) (range_with_len 1 last)) && list_all (λ (l : PlaceRow). l.width == part_width own n l.part) xs)
+    && (p.width == sum_by (part_width own n) (range_with_len 1 last))) (twice places n)
+    ∙ ap (λ b. ((nat_le 1 last && list_all (has_part places n) (range_with_len 1 last)) && b) && (p.width == sum_by (part_width own n) (range_with_len 1 last)))
+    (list_all_same (λ (l : PlaceRow). l.width == part_width own n l.part) (λ (l : PlaceRow). l.width == part_width places n l.part) own
+    (λ l. ap (λ k. l.width == k) (part_width_of places n l.part)))
+    ∙ ap (λ k. ((nat_le 1 last && list_all (has_part places n) (range_with_len 1 last)) && list_all (λ (l : PlaceRow). l.width == part_width places n l.part)
+    own) && (p.width == k)) (sum_by_same (part_width own n) (part_width places n) (range_with_len 1 last) (part_width_of places n))
 
 abbrev rate_row : ParamRow → (ℕ → ℕ) → ℕ → ℕ × TableFault
 rate_row p f part = (p.row, fault.Rate p.rate (f part))
@@ -141,14 +139,13 @@ pub rate_of_own : (w : ℕ) (places : List PlaceRow) (n : ℕ) (p : ParamRow) �
 unfolding rate_of off_rate
 rate_of_own w places n p =
     let own = places_of places n in
-    let same = find_same (λ part. has_part own n part && not (count_of w own n part == p.rate)) (λ part. has_part places n part && not (count_of w places n part == p.rate)) (range_with_len 1 4)
-    (λ part. ap (λ b. b && not (count_of w own n part == p.rate)) (has_part_of places n part) ∙ ap (λ k. has_part places n part && not (k == p.rate)) (count_of_own w places n part)) in
+    let same = find_same (λ part. has_part own n part && not (count_of w own n part == p.rate))
+    (λ part. has_part places n part && not (count_of w places n part == p.rate)) (range_with_len 1 4)
+    (λ part. ap (λ b. b && not (count_of w own n part == p.rate)) (has_part_of places n part)
+    ∙ ap (λ k. has_part places n part && not (k == p.rate)) (count_of_own w places n part)) in
     ap (option_map (λ part. (p.row, fault.Rate p.rate (count_of w own n part)))) same
-    ∙ counted_same (find (λ part. has_part places n part && not (count_of w places n part == p.rate)) (range_with_len 1 4)) (λ part. count_of w own n part) (λ part. count_of w places n part) p (count_of_own w places n)
-
--- what holds of each element of a list that was gone through
-pub All_step : {X : Type 0} (P : X → Type 0) (xs : List X) (i : ℕ) (x : X) → i < length xs → x ≡ get_or xs i x → All P (take i xs) → P x → All P (take (i + 1) xs)
-All_step P xs i x l is so_far here = All-more P xs i x l so_far (subst P is here)
+    ∙ counted_same (find (λ part. has_part places n part && not (count_of w places n part == p.rate)) (range_with_len 1 4)) (λ part. count_of w own n part)
+    (λ part. count_of w places n part) p (count_of_own w places n)
 
 -- one more group with no place
 pub group_more : (n : ℕ) (old new : List (List PlaceRow)) → old ≡ grouped [] n → new ≡ old ++ [] ∷ [] → new ≡ grouped [] (n + 1)

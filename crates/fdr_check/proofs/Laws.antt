@@ -1,21 +1,28 @@
 -- A table whose rows are in their ranges has no fault exactly where it is sound.
-use Rattle.std.proofs.Common.{◌≡◌, ◌≢◌, ℕ, ◌+◌, ◌*◌, ◌≤◌, ◌==◌, ◌&&◌, not, nat_le, nat_lt, Bool, true, false, List, [], ◌∷◌, Some, None, option_map, length, get_or, subst, ap, sym, ◌∙◌, arith}
+use Rattle.std.proofs.Common.{◌≡◌, ◌≢◌, ℕ, ◌+◌, ◌*◌, ◌≤◌, ◌==◌, ◌&&◌, not, nat_le, nat_lt, Bool, true, false, List, [], ◌∷◌, Some, None, option_map, length}
+use Rattle.std.proofs.Common.{get_or, subst, ap, sym, ◌∙◌, arith}
 use Rattle.std.specs.List.{range_with_len, filter, find, list_all, enumerate_from, slice_get, sum_by, All, AllPairs}
 use Rattle.std.proofs.lemmas.List.Elements.{All-weaker}
 use Rattle.std.proofs.lemmas.List.Folds.{Any-from_list_any}
-use Rattle.std.proofs.lemmas.Bool.{and_parts, and_from, eq-eqb, eqb-true, eqb-false, ne_eqb, ltb-false, le-ltb, le-leb, leb-true, both_ways, true_from_ne_false, false_from_ne_true, not-false, not_from_true, cond-false}
+use Rattle.std.proofs.lemmas.Bool.{and_parts, and_from, eq-eqb, eqb-true, eqb-false, ne_eqb, ltb-false, le-ltb, le-leb, leb-true, both_ways, true_from_ne_false}
+use Rattle.std.proofs.lemmas.Bool.{false_from_ne_true, not-false, not_from_true, cond-false}
 use Rattle.fdr_frame.specs.Slots.{is_counter}
 use Rattle.fdr_table.specs.Rows.{FrameRow, ParamRow, PlaceRow, TableRows}
 use Rattle.fdr_table.specs.Ranges.{IsPlaceInRange, IsInRange}
 use Rattle.fdr_table.specs.declared.fault.TableFault.TheVariants as fault
 use Rattle.fdr_check.specs.Occurrences.{is_part, part_width, occurrences, occurs}
-use Rattle.fdr_check.specs.Soundness.{has_part, HasParts, HasRate, IsOffCounter, ShareNoBit, IsSound, most_parts}
-use Rattle.fdr_check.specs.Faults.{RowFault, first_place, place_fault, sync_fault, meets_counter, counter_fault, overlap_fault, last_part, has_parts, parts_fault, count_of, off_rate, rate_of, rate_fault, many_fault, table_fault}
-use Rattle.fdr_check.proofs.Searches.{cond_none, first_some_none, first_some_parts}
+use Rattle.fdr_check.specs.Soundness.{has_part, HasParts, HasRate, IsOffCounter, ShareNoBit, IsSound, most_superframe_parts}
+use Rattle.fdr_check.specs.Faults.{RowFault, first_place, place_fault, sync_fault, meets_counter, counter_fault, overlap_fault, last_part, has_parts}
+use Rattle.fdr_check.specs.Faults.{parts_fault, count_of, off_rate, rate_of, rate_fault, many_fault, table_fault}
+use Rattle.fdr_check.proofs.Searches.{first_some_none, first_some_parts}
 use Rattle.fdr_check.proofs.Ranges.{fails_from_find, find_no}
 use Rattle.fdr_check.proofs.Meeting.{any_in_range, any_from_range}
 use Rattle.fdr_check.proofs.Enumerating.{is_incomplete, incomplete_row, rate_row_of}
-use Rattle.fdr_check.proofs.Sounding.{option_map_none, all_fail, none_found, all_none, none_of_all, at_index, from_index, apart_from, none_apart, parts_up_to, last_low, kept_pass, pass_kept, pass_each, pass_all}
+use Rattle.fdr_check.proofs.Sounding.{all_fail, none_found, all_none, none_of_all, at_index, from_index, apart_from, none_apart, parts_up_to}
+use Rattle.fdr_check.proofs.Sounding.{last_low, kept_pass, pass_kept, pass_each}
+use Rattle.fdr_lists.proofs.Searches.{cond_none}
+use Rattle.fdr_lists.proofs.Ranges.{list_all-range}
+use Rattle.fdr_lists.proofs.Options.{option_map_none}
 
 -- the first two, of words
 words_from : (t : TableRows) → place_fault t ≡ None → (t.frame.cword ≤ t.frame.words) × All (λ (p : PlaceRow). p.word ≤ t.frame.words) t.places
@@ -120,16 +127,19 @@ holds_parts places n p h =
     let widths = list_all same (filter own places) in
     and_from ((some && all) && widths) (p.width == sum_by (part_width places n) (range_with_len 1 last))
     (and_from (some && all) widths
-    (and_from some all (le-leb _ _ (omega (arith, e, h.some))) (pass_all (has_part places n) 1 last (λ part low high. h.none_missing part low (omega (arith, e, high)))))
+    (and_from some all (le-leb _ _ (omega (arith, e, h.some)))
+    (list_all-range (has_part places n) 1 last (λ part low high. h.none_missing part low (omega (arith, e, high)))))
     (pass_kept same own places (λ k d l mine. eq-eqb _ _ (h.widths k d l (eqb-true _ _ mine)))))
     (eq-eqb _ _ (h.whole ∙ ap (λ k. sum_by (part_width places n) (range_with_len 1 k)) (sym e)))
 
 parts_from : (t : TableRows) → parts_fault t ≡ None → (n : ℕ) (p : ParamRow) → slice_get t.params n ≡ Some p → HasParts t.places n p
 unfolding parts_fault
 parts_from t none n p at =
-    let all = all_fail (is_incomplete t.places) (enumerate_from 0 t.params) (option_map_none incomplete_row (find (is_incomplete t.places) (enumerate_from 0 t.params)) none) in
+    let all = all_fail (is_incomplete t.places) (enumerate_from 0 t.params)
+    (option_map_none incomplete_row (find (is_incomplete t.places) (enumerate_from 0 t.params)) none) in
     let k : 0 + n ≡ n = omega arith in
-    let here : is_incomplete t.places (n, p) ≡ false = subst (λ j. is_incomplete t.places (j, p) ≡ false) k (at_index (λ e. is_incomplete t.places e ≡ false) 0 t.params n p all at) in
+    let here : is_incomplete t.places (n, p) ≡ false =
+    subst (λ j. is_incomplete t.places (j, p) ≡ false) k (at_index (λ e. is_incomplete t.places e ≡ false) 0 t.params n p all at) in
     parts_hold t.places n p (not-false (has_parts t.places n p) here)
 
 parts_no_fault : (t : TableRows) → ((n : ℕ) (p : ParamRow) → slice_get t.params n ≡ Some p → HasParts t.places n p) → parts_fault t ≡ None
@@ -138,7 +148,8 @@ parts_no_fault t holds =
     let each : (n : ℕ) (p : ParamRow) → slice_get t.params n ≡ Some p → is_incomplete t.places (0 + n, p) ≡ false = λ n p at.
     let k : n ≡ 0 + n = omega arith in
     subst (λ j. is_incomplete t.places (j, p) ≡ false) k (not_from_true (has_parts t.places n p) (holds_parts t.places n p (holds n p at))) in
-    ap (option_map incomplete_row) (none_found (is_incomplete t.places) (enumerate_from 0 t.params) (from_index (λ e. is_incomplete t.places e ≡ false) 0 t.params each))
+    ap (option_map incomplete_row) (none_found (is_incomplete t.places) (enumerate_from 0 t.params)
+    (from_index (λ e. is_incomplete t.places e ≡ false) 0 t.params each))
 
 -- the rates
 rate_holds : (w : ℕ) (places : List PlaceRow) (n : ℕ) (p : ParamRow) → All IsPlaceInRange places → rate_of w places n p ≡ None → HasRate w places n p
@@ -163,7 +174,8 @@ holds_rate w places n p rate =
     let parts = and_parts (has_part places n part) (not (count_of w places n part == p.rate)) h in
     both_ways (not (count_of w places n part == p.rate)) (not_from_true (count_of w places n part == p.rate) (eq-eqb _ _ (rate part parts.0))) parts.1)))
 
-rates_from : (t : TableRows) → All IsPlaceInRange t.places → rate_fault t ≡ None → (n : ℕ) (p : ParamRow) → slice_get t.params n ≡ Some p → HasRate t.frame.words t.places n p
+rates_from : (t : TableRows) → All IsPlaceInRange t.places → rate_fault t ≡ None → (n : ℕ) (p : ParamRow) → slice_get t.params n ≡ Some p
+    → HasRate t.frame.words t.places n p
 unfolding rate_fault
 rates_from t in_range none n p at =
     let all = all_none (rate_row_of t) (enumerate_from 0 t.params) none in
@@ -178,13 +190,13 @@ rates_no_fault t holds =
     subst (λ j. rate_row_of t (j, p) ≡ None) k (holds_rate t.frame.words t.places n p (holds n p at)) in
     none_of_all (rate_row_of t) (enumerate_from 0 t.params) (from_index (λ e. rate_row_of t e ≡ None) 0 t.params each)
 
-few_from : (t : TableRows) → many_fault t ≡ None → length (occurrences t.frame.words t.places) ≤ most_parts
+few_from : (t : TableRows) → many_fault t ≡ None → length (occurrences t.frame.words t.places) ≤ most_superframe_parts
 unfolding many_fault
-few_from t none = ltb-false _ _ (cond_none (nat_lt most_parts (length (occurrences t.frame.words t.places))) (t.rows, fault.TooMany) None none).0
+few_from t none = ltb-false _ _ (cond_none (nat_lt most_superframe_parts (length (occurrences t.frame.words t.places))) (t.rows, fault.TooMany) None none).0
 
-few_none : (t : TableRows) → length (occurrences t.frame.words t.places) ≤ most_parts → many_fault t ≡ None
+few_none : (t : TableRows) → length (occurrences t.frame.words t.places) ≤ most_superframe_parts → many_fault t ≡ None
 unfolding many_fault
-few_none t few = cond-false (nat_lt most_parts (length (occurrences t.frame.words t.places))) (Some (t.rows, fault.TooMany)) None (le-ltb _ _ few)
+few_none t few = cond-false (nat_lt most_superframe_parts (length (occurrences t.frame.words t.places))) (Some (t.rows, fault.TooMany)) None (le-ltb _ _ few)
 
 overlap_from : (t : TableRows) → overlap_fault t ≡ None → AllPairs (ShareNoBit t.frame.words) t.places
 unfolding overlap_fault

@@ -1,5 +1,6 @@
 -- When a place meets the counter's word.
-use Rattle.std.proofs.Common.{◌≡◌, ℕ, ◌+◌, ◌-◌, ◌*◌, ◌/◌, ◌%◌, ◌<◌, ◌≤◌, Bool, true, false, ◌&&◌, ◌==◌, nat_le, length, get_or, inl, inr, ap, sym, ◌∙◌, zero, suc, zero-add, arith}
+use Rattle.std.proofs.Common.{◌≡◌, ℕ, ◌+◌, ◌-◌, ◌*◌, ◌/◌, ◌%◌, ◌<◌, ◌≤◌, Bool, true, false, ◌&&◌, ◌==◌, nat_le, length, get_or, inl, inr, ap, sym, ◌∙◌, zero}
+use Rattle.std.proofs.Common.{suc, zero-add, arith}
 use Rattle.std.specs.List.{list_any, range_with_len}
 use Rattle.std.proofs.Math.Nat.{mod-eq_of_lt}
 use Rattle.std.proofs.lemmas.Nat.{mul-add-lt, div-mul-add, mod-mul-add, mod_below}
@@ -35,14 +36,21 @@ pub period_few : (n : ℕ) → is_among periods n ≡ true → n ≤ 16
 period_few n h = grind (arith, nat_tests)
 
 -- a slot in the counter's word of a frame that the place is in
-counter_slot : (w c s p : ℕ) → s < 4 → p < w → c < 16 → ((c * 4 + s) * w + p < 64 * w) × (frame_of w ((c * 4 + s) * w + p) ≡ c) × (subframe_of w ((c * 4 + s) * w + p) ≡ s + 1) × (word_of w ((c * 4 + s) * w + p) ≡ p + 1)
+counter_slot : (w c s p : ℕ) → s < 4 → p < w → c < 16
+    → ((c * 4 + s) * w + p < 64 * w) × (frame_of w ((c * 4 + s) * w + p) ≡ c) × (subframe_of w ((c * 4 + s) * w + p) ≡ s + 1)
+    × (word_of w ((c * 4 + s) * w + p) ≡ p + 1)
 counter_slot w c s p low within few =
     let at = (c * 4 + s) * w + p in
     let row : at / w ≡ c * 4 + s = div-mul-add (c * 4 + s) w p within in
-    let below : at < w * 64 = mul-add-lt (c * 4 + s) w p 64 (omega arith) within in
-    (omega (arith, below), frame_by_subframe w at ∙ ap (λ q. q / 4) row ∙ (omega arith), ap (λ q. q % 4 + 1) row ∙ (omega arith), ap (λ q. q + 1) (mod-mul-add (c * 4 + s) w p within))
+    let below : at < w * 64 = mul-add-lt (c * 4 + s) w p 64 (omega arith) within in (
+      omega (arith, below),
+      frame_by_subframe w at ∙ ap (λ q. q / 4) row ∙ (omega arith),
+      ap (λ q. q % 4 + 1) row ∙ (omega arith),
+      ap (λ q. q + 1) (mod-mul-add (c * 4 + s) w p within),
+    )
 
-pub meets_by_word : (f : FrameRow) (p : PlaceRow) → IsFrameInRange f → IsPlaceInRange p → ((nat_le f.cword f.words && has_subframe p.subs f.csub) && is_on_word p f.cword) ≡ meets_counter f p
+pub meets_by_word : (f : FrameRow) (p : PlaceRow) → IsFrameInRange f → IsPlaceInRange p
+    → ((nat_le f.cword f.words && has_subframe p.subs f.csub) && is_on_word p f.cword) ≡ meets_counter f p
 unfolding meets_counter
 meets_by_word f p fits in_range =
     let w = f.words in
@@ -54,7 +62,8 @@ meets_by_word f p fits in_range =
     let inner = and_parts (nat_le f.cword w) (has_subframe p.subs f.csub) outer.0 in
     let few : p.cycle < 16 = omega (arith, in_range.cycle, period_few p.period in_range.period) in
     let at = (p.cycle * 4 + (f.csub - 1)) * w + (f.cword - 1) in
-    let slot = counter_slot w p.cycle (f.csub - 1) (f.cword - 1) (omega (arith, fits.csub_low, fits.csub_high)) (omega (arith, leb-true _ _ inner.0, fits.cword_low)) few in
+    let slot = counter_slot w p.cycle (f.csub - 1) (f.cword - 1) (omega (arith, fits.csub_low, fits.csub_high))
+    (omega (arith, leb-true _ _ inner.0, fits.cword_low)) few in
     let sub : subframe_of w at ≡ f.csub = omega (arith, slot.2, fits.csub_low) in
     let word : word_of w at ≡ f.cword = omega (arith, slot.3, fits.cword_low) in
     let cycle : frame_of w at % p.period ≡ p.cycle = ap (λ q. q % p.period) slot.1 ∙ mod-eq_of_lt in_range.cycle in
@@ -62,7 +71,8 @@ meets_by_word f p fits in_range =
     and_from ((frame_of w at % p.period == p.cycle) && has_subframe p.subs (subframe_of w at)) (is_on_word p (word_of w at))
     (and_from (frame_of w at % p.period == p.cycle) (has_subframe p.subs (subframe_of w at)) (eq-eqb _ _ cycle) (ap (has_subframe p.subs) sub ∙ inner.1))
     (ap (is_on_word p) word ∙ outer.1) in
-    any_from_range t (64 * w) at slot.0 (and_from (occurs w p at) (is_counter w f.cword f.csub at) here (and_from (subframe_of w at == f.csub) (word_of w at == f.cword) (eq-eqb _ _ sub) (eq-eqb _ _ word))))
+    any_from_range t (64 * w) at slot.0 (and_from (occurs w p at) (is_counter w f.cword f.csub at) here
+    (and_from (subframe_of w at == f.csub) (word_of w at == f.cword) (eq-eqb _ _ sub) (eq-eqb _ _ word))))
     (λ h.
     let found = any_in_range t 0 (64 * w) h in
     let k = found.0 in
@@ -80,15 +90,18 @@ meets_by_word f p fits in_range =
 -- the same by cases
 pub meets_no_word : (f : FrameRow) (p : PlaceRow) → IsFrameInRange f → IsPlaceInRange p → f.words < f.cword → false ≡ meets_counter f p
 meets_no_word f p fits in_range above =
-    sym (and_left (nat_le f.cword f.words && has_subframe p.subs f.csub) (is_on_word p f.cword) (and_left (nat_le f.cword f.words) (has_subframe p.subs f.csub) (lt-leb _ _ above)))
+    sym (and_left (nat_le f.cword f.words && has_subframe p.subs f.csub) (is_on_word p f.cword)
+    (and_left (nat_le f.cword f.words) (has_subframe p.subs f.csub) (lt-leb _ _ above)))
     ∙ meets_by_word f p fits in_range
 
 pub meets_no_subframe : (f : FrameRow) (p : PlaceRow) → IsFrameInRange f → IsPlaceInRange p → has_subframe p.subs f.csub ≡ false → false ≡ meets_counter f p
 meets_no_subframe f p fits in_range out =
-    sym (and_left (nat_le f.cword f.words && has_subframe p.subs f.csub) (is_on_word p f.cword) (and_right (nat_le f.cword f.words) (has_subframe p.subs f.csub) out))
+    sym (and_left (nat_le f.cword f.words && has_subframe p.subs f.csub) (is_on_word p f.cword)
+    (and_right (nat_le f.cword f.words) (has_subframe p.subs f.csub) out))
     ∙ meets_by_word f p fits in_range
 
-pub meets_word : (f : FrameRow) (p : PlaceRow) → IsFrameInRange f → IsPlaceInRange p → has_subframe p.subs f.csub ≡ true → f.cword ≤ f.words → is_on_word p f.cword ≡ meets_counter f p
+pub meets_word : (f : FrameRow) (p : PlaceRow) → IsFrameInRange f → IsPlaceInRange p → has_subframe p.subs f.csub ≡ true → f.cword ≤ f.words
+    → is_on_word p f.cword ≡ meets_counter f p
 meets_word f p fits in_range here within =
     ap (λ b. b && is_on_word p f.cword) (sym (and_from (nat_le f.cword f.words) (has_subframe p.subs f.csub) (le-leb _ _ within) here))
     ∙ meets_by_word f p fits in_range

@@ -1,20 +1,13 @@
 -- Searches and counts over ranges.
-use Rattle.std.proofs.Common.{◌≡◌, ℕ, ◌+◌, ◌-◌, ◌<◌, ◌≤◌, Bool, true, false, ◌&&◌, cond, [], ◌∷◌, ◌++◌, Some, None, zero, suc, add-one, inl, inr, sym, ap, ◌∙◌, refl, arith}
+use Rattle.std.proofs.Common.{◌≡◌, ℕ, ◌+◌, ◌-◌, ◌<◌, ◌≤◌, Bool, true, false, ◌&&◌, cond, [], ◌∷◌, Some, None, zero, suc, inl, inr, sym, ap, ◌∙◌}
+use Rattle.std.proofs.Common.{refl, arith}
 use Rattle.std.specs.List.{range_with_len, count_by, find, sum_by, list_all}
 use Rattle.std.proofs.lemmas.List.FromFn.{length-range_with_len}
 use Rattle.std.proofs.lemmas.List.Folds.{list_all-append}
 use Rattle.std.proofs.lemmas.List.Sums.{sum_by_push, count_by-le-length}
 use Rattle.std.proofs.lemmas.Bool.{cond-true, cond-false, true≢false, and_from, and_left, and_right, cases_eq, cases_Bool}
 use Rattle.std.proofs.lemmas.Option.{none-some}
-
-range_suc : (a n : ℕ) → range_with_len a (suc n) ≡ range_with_len a n ++ (a + n) ∷ []
-range_suc a zero = let e : a ≡ a + zero = omega arith in ap (λ x. x ∷ []) e
-range_suc a (suc n) =
-    let e : a + 1 + n ≡ a + suc n = omega arith in
-    ap (λ xs. a ∷ xs) (range_suc (a + 1) n ∙ ap (λ x. range_with_len (a + 1) n ++ x ∷ []) e)
-
-pub range_more : (a n : ℕ) → range_with_len a (n + 1) ≡ range_with_len a n ++ (a + n) ∷ []
-range_more a n = rw add-one (range_suc a n)
+use Rattle.fdr_lists.proofs.Ranges.{range_more}
 
 count_more : (t : ℕ → Bool) (n : ℕ) → count_by t (range_with_len 0 (n + 1)) ≡ count_by t (range_with_len 0 n) + cond (t n) 1 0
 count_more t n =
@@ -23,7 +16,8 @@ count_more t n =
     ∙ ap (λ k. count_by t (range_with_len 0 n) + cond (t k) 1 0) e
 
 -- a stretch in which no number passes
-pub count_stays : (t : ℕ → Bool) (from n : ℕ) → ((x : ℕ) → from ≤ x → x < from + n → t x ≡ false) → count_by t (range_with_len 0 (from + n)) ≡ count_by t (range_with_len 0 from)
+pub count_stays : (t : ℕ → Bool) (from n : ℕ) → ((x : ℕ) → from ≤ x → x < from + n → t x ≡ false)
+    → count_by t (range_with_len 0 (from + n)) ≡ count_by t (range_with_len 0 from)
 count_stays t from zero none = let e : from + zero ≡ from = omega arith in ap (λ k. count_by t (range_with_len 0 k)) e
 count_stays t from (suc n) none =
     let e : from + suc n ≡ from + n + 1 = omega arith in
@@ -35,14 +29,16 @@ count_stays t from (suc n) none =
     ∙ count_stays t from n (λ x low high. none x low (omega arith))
 
 -- and the next that passes
-pub count_next : (t : ℕ → Bool) (from at : ℕ) → from ≤ at → t at ≡ true → ((x : ℕ) → from ≤ x → x < at → t x ≡ false) → count_by t (range_with_len 0 (at + 1)) ≡ count_by t (range_with_len 0 from) + 1
+pub count_next : (t : ℕ → Bool) (from at : ℕ) → from ≤ at → t at ≡ true → ((x : ℕ) → from ≤ x → x < at → t x ≡ false)
+    → count_by t (range_with_len 0 (at + 1)) ≡ count_by t (range_with_len 0 from) + 1
 count_next t from at low passes none =
     let e : from + (at - from) ≡ at = omega arith in
     let stays : count_by t (range_with_len 0 at) ≡ count_by t (range_with_len 0 from) =
     ap (λ k. count_by t (range_with_len 0 k)) (sym e) ∙ count_stays t from (at - from) (λ x l h. none x l (omega arith)) in
     count_more t at ∙ ap (λ b. count_by t (range_with_len 0 at) + cond b 1 0) passes ∙ ap (λ k. k + 1) stays
 
-pub count_past : (t : ℕ → Bool) (from n : ℕ) → from ≤ n → ((x : ℕ) → from ≤ x → x < n → t x ≡ false) → count_by t (range_with_len 0 from) ≡ count_by t (range_with_len 0 n)
+pub count_past : (t : ℕ → Bool) (from n : ℕ) → from ≤ n → ((x : ℕ) → from ≤ x → x < n → t x ≡ false)
+    → count_by t (range_with_len 0 from) ≡ count_by t (range_with_len 0 n)
 count_past t from n low none =
     let e : from + (n - from) ≡ n = omega arith in
     sym (ap (λ k. count_by t (range_with_len 0 k)) (sym e) ∙ count_stays t from (n - from) (λ x l h. none x l (omega arith)))
@@ -51,12 +47,14 @@ pub count_few : (t : ℕ → Bool) (n : ℕ) → count_by t (range_with_len 0 n)
 count_few t n = omega (arith, count_by-le-length t (range_with_len 0 n), length-range_with_len 0 n)
 
 -- the first number of a range that passes
-pub find_first : (t : ℕ → Bool) (a n at : ℕ) → a ≤ at → at < a + n → t at ≡ true → ((x : ℕ) → a ≤ x → x < at → t x ≡ false) → find t (range_with_len a n) ≡ Some at
+pub find_first : (t : ℕ → Bool) (a n at : ℕ) → a ≤ at → at < a + n → t at ≡ true → ((x : ℕ) → a ≤ x → x < at → t x ≡ false)
+    → find t (range_with_len a n) ≡ Some at
 find_first t a zero at low high passes none = absurd (omega arith)
 find_first t a (suc n) at low high passes none =
     let later : t a ≡ false → find t (range_with_len a (suc n)) ≡ Some at = λ fails.
     cond-false (t a) (Some a) (find t (range_with_len (a + 1) n)) fails
-    ∙ find_first t (a + 1) n at (elim (cases_eq a at) [ inl e ↦ absurd (true≢false (sym passes ∙ ap t (sym e) ∙ fails)) | inr apart ↦ omega arith ]) (omega arith) passes (λ x l h. none x (omega arith) h) in
+    ∙ find_first t (a + 1) n at (elim (cases_eq a at) [ inl e ↦ absurd (true≢false (sym passes ∙ ap t (sym e) ∙ fails)) | inr apart ↦ omega arith ])
+    (omega arith) passes (λ x l h. none x (omega arith) h) in
     elim (cases_eq a at) [
       | inl e ↦ cond-true (t a) (Some a) (find t (range_with_len (a + 1) n)) (ap t e ∙ passes) ∙ ap Some e
       | inr apart ↦ later (none a (omega arith) (omega arith))

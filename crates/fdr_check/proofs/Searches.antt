@@ -1,34 +1,17 @@
 -- Searches through a list, element by element.
-use Rattle.std.proofs.Common.{◌≡◌, ℕ, ◌+◌, ◌<◌, Bool, true, false, cond, List, [], ◌∷◌, ◌++◌, Option, Some, None, length, get_or, take, map, refl, ap, sym, ◌∙◌, zero, suc, arith}
-use Rattle.std.specs.List.{find, list_any, enumerate_from}
-use Rattle.std.proofs.lemmas.List.{take_more, map_more}
+use Rattle.std.proofs.Common.{◌≡◌, ℕ, ◌+◌, ◌<◌, Bool, true, false, List, [], ◌∷◌, ◌++◌, Option, Some, None, length, get_or, take, map, refl, ap, sym, ◌∙◌}
+use Rattle.std.proofs.Common.{zero, suc, arith}
+use Rattle.std.specs.List.{list_any, enumerate_from}
+use Rattle.std.proofs.lemmas.List.{map_more}
 use Rattle.std.proofs.lemmas.List.Folds.{list_any_more, list_any_at}
 use Rattle.std.proofs.lemmas.Bool.{or_from}
 use Rattle.fdr_table.specs.Reading.{first_some}
 
-pub cond_none : {X : Type 0} (b : Bool) (x : X) (o : Option X) → cond b (Some x) o ≡ None → (b ≡ false) × (o ≡ None)
-cond_none true x o h = absurd (cc)
-cond_none false x o h = (refl, h)
-
-find_push : {X : Type 0} (p : X → Bool) (xs : List X) (y : X) → find p xs ≡ None → p y ≡ false → find p (xs ++ y ∷ []) ≡ None
-find_push p [] y none fails = rw fails refl
-find_push p (x ∷ xs) y none fails = let h = cond_none (p x) x (find p xs) none in rw (h.0) (find_push p xs y h.1 fails)
-
--- a search that has found nothing so far
-pub find_more : {X : Type 0} (p : X → Bool) (xs : List X) (i : ℕ) (d : X) → i < length xs → find p (take i xs) ≡ None → p (get_or xs i d) ≡ false → find p (take (i + 1) xs) ≡ None
-find_more p xs i d l none fails = ap (find p) (take_more xs i d l) ∙ find_push p (take i xs) (get_or xs i d) none fails
-
--- and that finds the next element
-pub find_here : {X : Type 0} (p : X → Bool) (xs : List X) (i : ℕ) (d : X) → i < length xs → find p (take i xs) ≡ None → p (get_or xs i d) ≡ true → find p xs ≡ Some (get_or xs i d)
-find_here p [] i d l none holds = absurd (omega arith)
-find_here p (x ∷ xs) zero d l none holds = rw holds refl
-find_here p (x ∷ xs) (suc i) d l none holds =
-    let h = cond_none (p x) x (find p (take i xs)) none in rw (h.0) (find_here p xs i d (omega arith) h.1 holds)
-
 pub list_any_here : {X : Type 0} (p : X → Bool) (xs : List X) (i : ℕ) (d : X) → i < length xs → p (get_or xs i d) ≡ true → true ≡ list_any p xs
 list_any_here p xs i d l holds = sym (list_any_at p xs i d l holds)
 
-pub list_any_next : {X : Type 0} (p : X → Bool) (xs : List X) (i : ℕ) (d : X) → i < length xs → list_any p (take i xs) ≡ false → p (get_or xs i d) ≡ false → list_any p (take (i + 1) xs) ≡ false
+pub list_any_next : {X : Type 0} (p : X → Bool) (xs : List X) (i : ℕ) (d : X) → i < length xs → list_any p (take i xs) ≡ false → p (get_or xs i d) ≡ false
+    → list_any p (take (i + 1) xs) ≡ false
 list_any_next p xs i d l none fails = list_any_more p xs i d l ∙ or_from _ _ none fails
 
 -- the first of several answers
@@ -47,17 +30,21 @@ first_some_push [] o none e = first_some_none o [] e
 first_some_push (x ∷ os) o none e =
     let h = first_some_parts x os none in first_some_none x (os ++ o ∷ []) h.0 ∙ first_some_push os o h.1 e
 
-pub first_some_more : {X A : Type 0} (f : X → Option A) (xs : List X) (i : ℕ) (d : X) → i < length xs → first_some (map f (take i xs)) ≡ None → f (get_or xs i d) ≡ None → first_some (map f (take (i + 1) xs)) ≡ None
+pub first_some_more : {X A : Type 0} (f : X → Option A) (xs : List X) (i : ℕ) (d : X) → i < length xs → first_some (map f (take i xs)) ≡ None
+    → f (get_or xs i d) ≡ None → first_some (map f (take (i + 1) xs)) ≡ None
 first_some_more f xs i d l none e = ap first_some (map_more f xs i d l) ∙ first_some_push (map f (take i xs)) (f (get_or xs i d)) none e
 
-pub first_some_here : {X A : Type 0} (f : X → Option A) (xs : List X) (i : ℕ) (d : X) (a : A) → i < length xs → first_some (map f (take i xs)) ≡ None → f (get_or xs i d) ≡ Some a → first_some (map f xs) ≡ Some a
+pub first_some_here : {X A : Type 0} (f : X → Option A) (xs : List X) (i : ℕ) (d : X) (a : A) → i < length xs → first_some (map f (take i xs)) ≡ None
+    → f (get_or xs i d) ≡ Some a → first_some (map f xs) ≡ Some a
 first_some_here f [] i d a l none e = absurd (omega arith)
 first_some_here f (x ∷ xs) zero d a l none e = first_some_some (f x) a (map f xs) e
 first_some_here f (x ∷ xs) (suc i) d a l none e =
     let h = first_some_parts (f x) (map f (take i xs)) none in first_some_none (f x) (map f xs) h.0 ∙ first_some_here f xs i d a (omega arith) h.1 e
 
 -- the same over numbered elements
-pub first_later : {X A : Type 0} (f : ℕ × X → Option A) (a : ℕ) (xs : List X) (i : ℕ) (d : X) → i < length xs → first_some (map f (enumerate_from a (take i xs))) ≡ None → f (a + i, get_or xs i d) ≡ None → first_some (map f (enumerate_from a (take (suc i) xs))) ≡ None
+pub first_later : {X A : Type 0} (f : ℕ × X → Option A) (a : ℕ) (xs : List X) (i : ℕ) (d : X) → i < length xs
+    → first_some (map f (enumerate_from a (take i xs))) ≡ None → f (a + i, get_or xs i d) ≡ None
+    → first_some (map f (enumerate_from a (take (suc i) xs))) ≡ None
 first_later f a [] i d l none fails = absurd (omega arith)
 first_later f a (x ∷ xs) zero d l none fails =
     let e : a + zero ≡ a = omega arith in
@@ -68,7 +55,8 @@ first_later f a (x ∷ xs) (suc i) d l none fails =
     first_some_none (f (a, x)) (map f (enumerate_from (a + 1) (take (suc i) xs))) h.0
     ∙ first_later f (a + 1) xs i d (omega arith) h.1 (ap (λ k. f (k, get_or xs i d)) (sym e) ∙ fails)
 
-pub first_at_last : {X A : Type 0} (f : ℕ × X → Option A) (a : ℕ) (xs : List X) (i : ℕ) (d : X) (r : A) → i < length xs → first_some (map f (enumerate_from a (take i xs))) ≡ None → f (a + i, get_or xs i d) ≡ Some r → first_some (map f (enumerate_from a xs)) ≡ Some r
+pub first_at_last : {X A : Type 0} (f : ℕ × X → Option A) (a : ℕ) (xs : List X) (i : ℕ) (d : X) (r : A) → i < length xs
+    → first_some (map f (enumerate_from a (take i xs))) ≡ None → f (a + i, get_or xs i d) ≡ Some r → first_some (map f (enumerate_from a xs)) ≡ Some r
 first_at_last f a [] i d r l none holds = absurd (omega arith)
 first_at_last f a (x ∷ xs) zero d r l none holds =
     let e : a + zero ≡ a = omega arith in

@@ -1,5 +1,6 @@
 -- Places that share no bit: at most one of them begins at each bit, so that they occur at most once in each.
-use Rattle.std.proofs.Common.{◌≡◌, ℕ, ◌+◌, ◌*◌, ◌<◌, ◌≤◌, ◌/◌, ◌%◌, ◌==◌, nat_le, nat_lt, ◌&&◌, Bool, true, false, cond, List, [], ◌∷◌, None, length, refl, ap, zero, suc, arith}
+use Rattle.std.proofs.Common.{◌≡◌, ℕ, ◌+◌, ◌*◌, ◌<◌, ◌≤◌, ◌/◌, ◌%◌, ◌==◌, nat_le, nat_lt, ◌&&◌, Bool, true, false, cond, List, [], ◌∷◌, None, length, refl, ap}
+use Rattle.std.proofs.Common.{zero, suc, arith}
 use Rattle.std.specs.List.{range_with_len, filter, count_by, sum_by, All, AllPairs}
 use Rattle.std.proofs.lemmas.List.Concat.{length-flat_map}
 use Rattle.std.proofs.lemmas.List.Elements.{All-head, All-tail}
@@ -14,6 +15,7 @@ use Rattle.fdr_check.specs.Faults.{count_of, overlap_fault}
 use Rattle.fdr_check.specs.Walks.{starts_of}
 use Rattle.fdr_check.proofs.Sounding.{apart_from}
 use Rattle.fdr_check.proofs.Counting.{length_at, length_occurrences}
+use Rattle.fdr_lists.proofs.Pairs.{AllPairs-head, AllPairs-tail}
 
 -- an occurrence takes the bit at which it begins
 begins_covers : (w x : ℕ) (p : PlaceRow) → IsPlaceInRange p → begins_at w x p ≡ true → covers w p x ≡ true
@@ -25,31 +27,30 @@ begins_covers w x p in_range begins =
     (and_from (occurs w p (x / 12)) (nat_le p.lsb (x % 12 + 1)) parts.1 (le-leb _ _ (omega (arith, low))))
     (lt-ltb _ _ (omega (arith, low, in_range.width_low)))
 
-none_begins : (w x : ℕ) (p : PlaceRow) (places : List PlaceRow) → x < 16 * frame_bits w → covers w p x ≡ true → All IsPlaceInRange places → All (ShareNoBit w p) places → count_by (begins_at w x) places ≡ 0
+none_begins : (w x : ℕ) (p : PlaceRow) (places : List PlaceRow) → x < 16 * frame_bits w → covers w p x ≡ true → All IsPlaceInRange places
+    → All (ShareNoBit w p) places → count_by (begins_at w x) places ≡ 0
 none_begins w x p [] within here in_range apart = refl
 none_begins w x p (q ∷ places) within here in_range apart =
     let own = All-head IsPlaceInRange q places in_range in
-    let off : begins_at w x q ≡ false = false_from_ne_true (begins_at w x q) (λ begins. All-head (ShareNoBit w p) q places apart x within here (begins_covers w x q own begins)) in
+    let off : begins_at w x q ≡ false = false_from_ne_true (begins_at w x q)
+    (λ begins. All-head (ShareNoBit w p) q places apart x within here (begins_covers w x q own begins)) in
     let more = none_begins w x p places within here (All-tail IsPlaceInRange q places in_range) (All-tail (ShareNoBit w p) q places apart) in
     let one : cond {A = ℕ} (begins_at w x q) 1 0 ≡ 0 = ap (λ b. cond {A = ℕ} b 1 0) off in
     omega (arith, more, one, sum_by-cons (λ (r : PlaceRow). cond (begins_at w x r) 1 0) q places)
 
-later : {X : Type 0} (R : X → X → Type 0) (x : X) (xs : List X) → AllPairs R (x ∷ xs) → All (R x) xs
-later R x xs pairs = λ k d l. pairs 0 (suc k) d (omega arith) (omega arith)
-
-rest : {X : Type 0} (R : X → X → Type 0) (x : X) (xs : List X) → AllPairs R (x ∷ xs) → AllPairs R xs
-rest R x xs pairs = λ i j d low high. pairs (suc i) (suc j) d (omega arith) (omega arith)
-
-one_begins_by : (w x : ℕ) (p : PlaceRow) (places : List PlaceRow) (b : Bool) → begins_at w x p ≡ b → x < 16 * frame_bits w → IsPlaceInRange p → All IsPlaceInRange places → All (ShareNoBit w p) places → count_by (begins_at w x) places ≤ 1 → cond b 1 0 + count_by (begins_at w x) places ≤ 1
+one_begins_by : (w x : ℕ) (p : PlaceRow) (places : List PlaceRow) (b : Bool) → begins_at w x p ≡ b → x < 16 * frame_bits w → IsPlaceInRange p
+    → All IsPlaceInRange places → All (ShareNoBit w p) places → count_by (begins_at w x) places ≤ 1 → cond b 1 0 + count_by (begins_at w x) places ≤ 1
 one_begins_by w x p places true begins within own in_range apart few =
     let none = none_begins w x p places within (begins_covers w x p own begins) in_range apart in omega (arith, none)
 one_begins_by w x p places false begins within own in_range apart few = omega (arith, few)
 
-one_begins : (w x : ℕ) (places : List PlaceRow) → x < 16 * frame_bits w → All IsPlaceInRange places → AllPairs (ShareNoBit w) places → count_by (begins_at w x) places ≤ 1
+one_begins : (w x : ℕ) (places : List PlaceRow) → x < 16 * frame_bits w → All IsPlaceInRange places → AllPairs (ShareNoBit w) places
+    → count_by (begins_at w x) places ≤ 1
 one_begins w x [] within in_range apart = omega arith
 one_begins w x (p ∷ places) within in_range apart =
     let both = one_begins_by w x p places (begins_at w x p) refl within (All-head IsPlaceInRange p places in_range) (All-tail IsPlaceInRange p places in_range)
-    (later (ShareNoBit w) p places apart) (one_begins w x places within (All-tail IsPlaceInRange p places in_range) (rest (ShareNoBit w) p places apart)) in
+    (AllPairs-head (ShareNoBit w) p places apart) (one_begins w x places within (All-tail IsPlaceInRange p places in_range)
+    (AllPairs-tail (ShareNoBit w) p places apart)) in
     omega (arith, both, sum_by-cons (λ (r : PlaceRow). cond (begins_at w x r) 1 0) p places)
 
 sum_of_ones : (f : ℕ → ℕ) (a n : ℕ) → ((x : ℕ) → x < a + n → f x ≤ 1) → sum_by f (range_with_len a n) ≤ n

@@ -1,5 +1,6 @@
 -- A table has no fault exactly where it is sound: the facts behind each fault.
-use Rattle.std.proofs.Common.{◌≡◌, ℕ, ◌+◌, ◌*◌, ◌<◌, ◌≤◌, ◌==◌, ◌&&◌, max, Bool, true, false, cond, List, [], ◌∷◌, Option, Some, None, option_map, length, get_or, take, map, refl, subst, sym, ◌∙◌, zero, suc, arith}
+use Rattle.std.proofs.Common.{◌≡◌, ℕ, ◌+◌, ◌*◌, ◌<◌, ◌≤◌, ◌==◌, ◌&&◌, max, Bool, true, false, cond, List, [], ◌∷◌, Option, Some, None, option_map, length}
+use Rattle.std.proofs.Common.{get_or, take, map, refl, subst, sym, ◌∙◌, zero, suc, arith}
 use Rattle.std.specs.List.{range_with_len, filter, find, list_all, enumerate_from, slice_get, All, AllPairs, fold}
 use Rattle.std.proofs.lemmas.List.{get_or-take, length-take}
 use Rattle.std.proofs.lemmas.Option.{slice_get-get_or, slice_get_within, get_or_from_slice_get}
@@ -11,13 +12,11 @@ use Rattle.fdr_table.specs.declared.fault.TableFault.{TableFault}
 use Rattle.fdr_check.specs.Occurrences.{frame_bits}
 use Rattle.fdr_check.specs.Soundness.{covers, ShareNoBit}
 use Rattle.fdr_check.specs.Faults.{first_shared, overlap_with, overlap_among, overlap_at, last_part}
-use Rattle.fdr_check.proofs.Searches.{cond_none, first_some_none, first_some_parts}
+use Rattle.fdr_check.proofs.Searches.{first_some_none, first_some_parts}
 use Rattle.fdr_check.proofs.Ranges.{fails_from_find, find_no, not_all}
 use Rattle.fdr_check.proofs.Overlapping.{no_overlap_with, overlap_by_index}
-
-pub option_map_none : {X Y : Type 0} (f : X → Y) (o : Option X) → option_map f o ≡ None → o ≡ None
-option_map_none f None h = refl
-option_map_none f (Some x) h = absurd (cc)
+use Rattle.fdr_lists.proofs.Searches.{cond_none}
+use Rattle.fdr_lists.proofs.Options.{option_map_none}
 
 pub all_fail : {X : Type 0} (t : X → Bool) (xs : List X) → find t xs ≡ None → All (λ x. t x ≡ false) xs
 all_fail t [] none = All-nil (λ x. t x ≡ false)
@@ -50,7 +49,8 @@ at_index P a (y ∷ ys) (suc n) x all h =
     let k : a + 1 + n ≡ a + suc n = omega arith in
     subst (λ j. P (j, x)) k (at_index P (a + 1) ys n x (All-tail P (a, y) (enumerate_from (a + 1) ys) all) h)
 
-pub from_index : {X : Type 0} (P : ℕ × X → Type 0) (a : ℕ) (xs : List X) → ((n : ℕ) (x : X) → slice_get xs n ≡ Some x → P (a + n, x)) → All P (enumerate_from a xs)
+pub from_index : {X : Type 0} (P : ℕ × X → Type 0) (a : ℕ) (xs : List X) → ((n : ℕ) (x : X) → slice_get xs n ≡ Some x → P (a + n, x))
+    → All P (enumerate_from a xs)
 from_index P a [] h = All-nil P
 from_index {X} P a (y ∷ ys) h =
     let k : a + zero ≡ a = omega arith in
@@ -59,7 +59,8 @@ from_index {X} P a (y ∷ ys) h =
     All-cons P (a, y) (enumerate_from (a + 1) ys) (subst (λ i. P (i, y)) k (h zero y refl)) (from_index P (a + 1) ys later)
 
 -- overlaps and pairs of places
-overlap_with_parts : (w : ℕ) (p : PlaceRow) (above : List PlaceRow) (q : PlaceRow) → overlap_with w (p ∷ above) q ≡ None → (first_shared w p q ≡ None) × (overlap_with w above q ≡ None)
+overlap_with_parts : (w : ℕ) (p : PlaceRow) (above : List PlaceRow) (q : PlaceRow) → overlap_with w (p ∷ above) q ≡ None
+    → (first_shared w p q ≡ None) × (overlap_with w above q ≡ None)
 unfolding overlap_with
 overlap_with_parts w p above q none =
     let f : PlaceRow → Option (ℕ × TableFault) = λ p. option_map (λ b. (q.row, overlap_at w p q b)) (first_shared w p q) in
@@ -89,7 +90,8 @@ unfolding overlap_among
 apart_from w places none = λ i j d low high.
     let q = get_or places j d in
     let all = all_none (overlap_by_index w places) (enumerate_from 0 places) none in
-    let here : overlap_with w (take (0 + j) places) q ≡ None = at_index (λ e. overlap_by_index w places e ≡ None) 0 places j q all (slice_get-get_or places j d high) in
+    let here : overlap_with w (take (0 + j) places) q ≡ None =
+    at_index (λ e. overlap_by_index w places e ≡ None) 0 places j q all (slice_get-get_or places j d high) in
     let within : i < length (take (0 + j) places) = omega (arith, length-take (0 + j) places) in
     subst (λ p. ShareNoBit w p q) (get_or-take (0 + j) places i d (omega arith)) (all_unshared w (take (0 + j) places) q here i d within)
 
@@ -108,7 +110,8 @@ none_apart w places pairs =
 abbrev greatest : ℕ → List PlaceRow → ℕ
 greatest a xs = fold (λ n (p : PlaceRow). max n p.part) a xs
 
-greatest_from_one : (b : Bool) (x : PlaceRow) (kept : List PlaceRow) (a : ℕ) → a ≤ greatest a kept → max a x.part ≤ greatest (max a x.part) kept → a ≤ greatest a (cond b (x ∷ kept) kept)
+greatest_from_one : (b : Bool) (x : PlaceRow) (kept : List PlaceRow) (a : ℕ) → a ≤ greatest a kept → max a x.part ≤ greatest (max a x.part) kept
+    → a ≤ greatest a (cond b (x ∷ kept) kept)
 greatest_from_one true x kept a h g = omega arith
 greatest_from_one false x kept a h g = h
 
@@ -116,14 +119,16 @@ greatest_from : (t : PlaceRow → Bool) (xs : List PlaceRow) (a : ℕ) → a ≤
 greatest_from t [] a = omega arith
 greatest_from t (x ∷ xs) a = greatest_from_one (t x) x (filter t xs) a (greatest_from t xs a) (greatest_from t xs (max a x.part))
 
-greatest_here : (b : Bool) (x : PlaceRow) (kept : List PlaceRow) (a : ℕ) → max a x.part ≤ greatest (max a x.part) kept → b ≡ true → x.part ≤ greatest a (cond b (x ∷ kept) kept)
+greatest_here : (b : Bool) (x : PlaceRow) (kept : List PlaceRow) (a : ℕ) → max a x.part ≤ greatest (max a x.part) kept → b ≡ true
+    → x.part ≤ greatest a (cond b (x ∷ kept) kept)
 greatest_here true x kept a g e = omega arith
 greatest_here false x kept a g e = absurd (cc)
 
 abbrev IsUpTo : (PlaceRow → Bool) → ℕ → PlaceRow → Type 0
 IsUpTo t m p = t p ≡ true → p.part ≤ m
 
-greatest_later : (t : PlaceRow → Bool) (b : Bool) (x : PlaceRow) (xs : List PlaceRow) (a : ℕ) → All (IsUpTo t (greatest a (filter t xs))) xs → All (IsUpTo t (greatest (max a x.part) (filter t xs))) xs → All (IsUpTo t (greatest a (cond b (x ∷ filter t xs) (filter t xs)))) xs
+greatest_later : (t : PlaceRow → Bool) (b : Bool) (x : PlaceRow) (xs : List PlaceRow) (a : ℕ) → All (IsUpTo t (greatest a (filter t xs))) xs
+    → All (IsUpTo t (greatest (max a x.part) (filter t xs))) xs → All (IsUpTo t (greatest a (cond b (x ∷ filter t xs) (filter t xs)))) xs
 greatest_later t true x xs a h g = g
 greatest_later t false x xs a h g = h
 
@@ -134,7 +139,8 @@ greatest_each t (x ∷ xs) a =
     (λ e. greatest_here (t x) x (filter t xs) a (greatest_from t xs (max a x.part)) e)
     (greatest_later t (t x) x xs a (greatest_each t xs a) (greatest_each t xs (max a x.part)))
 
-greatest_low_one : (b : Bool) (x : PlaceRow) (kept : List PlaceRow) (a m : ℕ) → a ≤ m → (b ≡ true → x.part ≤ m) → ((k : ℕ) → k ≤ m → greatest k kept ≤ m) → greatest a (cond b (x ∷ kept) kept) ≤ m
+greatest_low_one : (b : Bool) (x : PlaceRow) (kept : List PlaceRow) (a m : ℕ) → a ≤ m → (b ≡ true → x.part ≤ m) → ((k : ℕ) → k ≤ m → greatest k kept ≤ m)
+    → greatest a (cond b (x ∷ kept) kept) ≤ m
 greatest_low_one true x kept a m low here later = let h = here refl in later (max a x.part) (omega arith)
 greatest_low_one false x kept a m low here later = later a low
 
@@ -153,7 +159,8 @@ unfolding last_part
 last_low places n m all = greatest_low (λ (p : PlaceRow). p.param == n) places m 0 (omega arith) (λ k d l e. all k d l (eqb-true _ _ e))
 
 -- a test of what was kept
-list_all_one : {X : Type 0} (t : X → Bool) (b : Bool) (x : X) (kept : List X) → list_all t (cond b (x ∷ kept) kept) ≡ true → (b ≡ true → t x ≡ true) × (list_all t kept ≡ true)
+list_all_one : {X : Type 0} (t : X → Bool) (b : Bool) (x : X) (kept : List X) → list_all t (cond b (x ∷ kept) kept) ≡ true
+    → (b ≡ true → t x ≡ true) × (list_all t kept ≡ true)
 list_all_one t true x kept h = let parts = and_parts (t x) (list_all t kept) h in (λ e. parts.0, parts.1)
 list_all_one t false x kept h = (λ e. absurd (cc), h)
 
@@ -163,18 +170,16 @@ kept_pass t f (x ∷ xs) h =
     let parts = list_all_one t (f x) x (filter f xs) h in
     All-cons (λ x. f x ≡ true → t x ≡ true) x xs parts.0 (kept_pass t f xs parts.1)
 
-list_all_from_one : {X : Type 0} (t : X → Bool) (b : Bool) (x : X) (kept : List X) → (b ≡ true → t x ≡ true) → list_all t kept ≡ true → list_all t (cond b (x ∷ kept) kept) ≡ true
+list_all_from_one : {X : Type 0} (t : X → Bool) (b : Bool) (x : X) (kept : List X) → (b ≡ true → t x ≡ true) → list_all t kept ≡ true
+    → list_all t (cond b (x ∷ kept) kept) ≡ true
 list_all_from_one t true x kept here rest = and_from (t x) (list_all t kept) (here refl) rest
 list_all_from_one t false x kept here rest = rest
 
 pub pass_kept : {X : Type 0} (t f : X → Bool) (xs : List X) → All (λ x. f x ≡ true → t x ≡ true) xs → list_all t (filter f xs) ≡ true
 pass_kept t f [] all = refl
 pass_kept t f (x ∷ xs) all =
-    list_all_from_one t (f x) x (filter f xs) (All-head (λ x. f x ≡ true → t x ≡ true) x xs all) (pass_kept t f xs (All-tail (λ x. f x ≡ true → t x ≡ true) x xs all))
+    list_all_from_one t (f x) x (filter f xs) (All-head (λ x. f x ≡ true → t x ≡ true) x xs all)
+    (pass_kept t f xs (All-tail (λ x. f x ≡ true → t x ≡ true) x xs all))
 
 pub pass_each : (t : ℕ → Bool) (a n k : ℕ) → list_all t (range_with_len a n) ≡ true → a ≤ k → k < a + n → t k ≡ true
 pass_each t a n k all low high = true_from_ne_false (t k) (λ fails. both_ways (list_all t (range_with_len a n)) (not_all t a n k low high fails) all)
-
-pub pass_all : (t : ℕ → Bool) (a n : ℕ) → ((k : ℕ) → a ≤ k → k < a + n → t k ≡ true) → list_all t (range_with_len a n) ≡ true
-pass_all t a zero h = refl
-pass_all t a (suc n) h = and_from (t a) (list_all t (range_with_len (a + 1) n)) (h a (omega arith) (omega arith)) (pass_all t (a + 1) n (λ k low high. h k (omega arith) (omega arith)))

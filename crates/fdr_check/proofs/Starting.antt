@@ -3,7 +3,7 @@ use Rattle.std.proofs.Common.{◌≡◌, ℕ, ◌+◌, ◌-◌, ◌*◌, ◌/◌
 use Rattle.std.proofs.lemmas.Bool.{and_from, and_left, and_right, and_parts, eq-eqb, eqb-true, ne_eqb, cases_eq}
 use Rattle.fdr_table.specs.Rows.{PlaceRow}
 use Rattle.fdr_check.specs.Occurrences.{occurs, begins_at}
-use Rattle.fdr_check.specs.Walks.{IsNext, IsPast}
+use Rattle.fdr_check.specs.Walks.{IsNextOccurrence, IsPast}
 
 begins_in : (w slot low : ℕ) (p : PlaceRow) → low + 1 ≡ p.lsb → low < 12 → occurs w p slot ≡ true → begins_at w (12 * slot + low) p ≡ true
 unfolding begins_at
@@ -35,7 +35,8 @@ unfolding begins_at
 no_slot w x p e h = let yes : (x % 12 + 1 == p.lsb) ≡ true = eq-eqb _ _ e in grind arith
 
 -- from the first slot on that may have its lowest bit
-pub next_by_slot : (w from slot low : ℕ) (p : PlaceRow) → low + 1 ≡ p.lsb → low < 12 → (from + 11 - low) / 12 ≤ slot → slot < 64 * w → occurs w p slot ≡ true → ((k : ℕ) → (from + 11 - low) / 12 ≤ k → k < slot → occurs w p k ≡ false) → IsNext w p from (12 * slot + low)
+pub next_by_slot : (w from slot low : ℕ) (p : PlaceRow) → low + 1 ≡ p.lsb → low < 12 → (from + 11 - low) / 12 ≤ slot → slot < 64 * w → occurs w p slot ≡ true
+    → ((k : ℕ) → (from + 11 - low) / 12 ≤ k → k < slot → occurs w p k ≡ false) → IsNextOccurrence w p from (12 * slot + low)
 next_by_slot w from slot low p e l first within here none = record {
   within = omega arith;
   low = omega arith;
@@ -43,6 +44,7 @@ next_by_slot w from slot low p e l first within here none = record {
   none = λ x above below. begins_not w x p (λ bit. none (x / 12) (omega arith) (omega arith));
 }
 
-pub past_by_slot : (w from slot low : ℕ) (p : PlaceRow) → low + 1 ≡ p.lsb → low < 12 → 64 * w ≤ slot → ((k : ℕ) → (from + 11 - low) / 12 ≤ k → k < slot → occurs w p k ≡ false) → IsPast w p from
+pub past_by_slot : (w from slot low : ℕ) (p : PlaceRow) → low + 1 ≡ p.lsb → low < 12 → 64 * w ≤ slot
+    → ((k : ℕ) → (from + 11 - low) / 12 ≤ k → k < slot → occurs w p k ≡ false) → IsPast w p from
 past_by_slot w from slot low p e l past none =
     λ x above below. begins_not w x p (λ bit. none (x / 12) (omega arith) (omega arith))

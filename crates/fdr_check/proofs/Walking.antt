@@ -38,7 +38,8 @@ none_in_subframe w p s k some out low high =
     and_left (is_in_subframe w p k) (is_on_word p (word_of w k)) (same_in_subframe w p s k (same_subframe w s k some low high) ∙ out)
 
 -- nor has one whose words come later
-pub none_to_word : (w : ℕ) (p : PlaceRow) (s k n : ℕ) → 0 < w → ((d : ℕ) → d < n → is_on_word p (s % w + 1 + d) ≡ false) → s ≤ k → k < s + n → k < (s / w + 1) * w → occurs w p k ≡ false
+pub none_to_word : (w : ℕ) (p : PlaceRow) (s k n : ℕ) → 0 < w → ((d : ℕ) → d < n → is_on_word p (s % w + 1 + d) ≡ false) → s ≤ k → k < s + n
+    → k < (s / w + 1) * w → occurs w p k ≡ false
 none_to_word w p s k n some none low near high =
     let e : word_of w k ≡ s % w + 1 + (k - s) = omega (arith, later_word w s k some low high) in
     and_right (is_in_subframe w p k) (is_on_word p (word_of w k)) (ap (is_on_word p) e ∙ none (k - s) (omega arith))

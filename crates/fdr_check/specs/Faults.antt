@@ -1,5 +1,6 @@
 -- The faults of a table whose rows are read, in the order of their numbers.
-use Rattle.std.specs.Prelude.{ℕ, ◌+◌, ◌*◌, ◌/◌, ◌%◌, Bool, not, if◌then◌else◌, ◌==◌, ◌&&◌, nat_le, nat_lt, List, [], ◌∷◌, length, take, map, filter, find, fold, max, sum_by, Option, Some, None, option_map}
+use Rattle.std.specs.Prelude.{ℕ, ◌+◌, ◌*◌, ◌/◌, ◌%◌, Bool, not, if◌then◌else◌, ◌==◌, ◌&&◌, nat_le, nat_lt, List, [], ◌∷◌, length, take, map, filter, find, fold}
+use Rattle.std.specs.Prelude.{max, sum_by, Option, Some, None, option_map}
 use Rattle.std.specs.List.{list_all, list_any, enumerate_from, range_with_len}
 use Rattle.fdr_frame.specs.Slots.{is_counter, word_of}
 use Rattle.fdr_table.specs.Rows.{FrameRow, ParamRow, PlaceRow, TableRows}
@@ -7,7 +8,7 @@ use Rattle.fdr_table.specs.Reading.{first_some}
 use Rattle.fdr_table.specs.declared.fault.TableFault.{TableFault}
 use Rattle.fdr_table.specs.declared.fault.TableFault.TheVariants as fault
 use Rattle.fdr_check.specs.Occurrences.{frame_bits, occurs, occurrences, part_occurrences, part_width}
-use Rattle.fdr_check.specs.Soundness.{covers, has_part, most_parts}
+use Rattle.fdr_check.specs.Soundness.{covers, has_part, most_superframe_parts}
 
 -- a row and its fault, where there is one
 abbrev pub RowFault : Type 0
@@ -19,7 +20,8 @@ first_place test f places = option_map (λ (p : PlaceRow). (p.row, f)) (find tes
 
 -- the counter's word or a place's word is above the number of words; the frame row is row 0
 unfoldable pub place_fault : TableRows → RowFault
-place_fault t = if nat_lt t.frame.words t.frame.cword then Some (0, fault.Place) else first_place (λ (p : PlaceRow). nat_lt t.frame.words p.word) fault.Place t.places
+place_fault t = if nat_lt t.frame.words t.frame.cword then Some (0, fault.Place) else first_place (λ (p : PlaceRow). nat_lt t.frame.words p.word)
+    fault.Place t.places
 
 -- a place stands on the sync words
 unfoldable pub sync_fault : TableRows → RowFault
@@ -64,7 +66,8 @@ has_parts places n p =
     && (p.width == sum_by (part_width places n) (range_with_len 1 (last_part places n)))
 
 unfoldable pub parts_fault : TableRows → RowFault
-parts_fault t = option_map (λ (e : ℕ × ParamRow). (e.1.row, fault.Parts)) (find (λ (e : ℕ × ParamRow). not (has_parts t.places e.0 e.1)) (enumerate_from 0 t.params))
+parts_fault t = option_map (λ (e : ℕ × ParamRow). (e.1.row, fault.Parts))
+    (find (λ (e : ℕ × ParamRow). not (has_parts t.places e.0 e.1)) (enumerate_from 0 t.params))
 
 -- how often a part occurs in a superframe
 abbrev pub count_of : ℕ → List PlaceRow → ℕ → ℕ → ℕ
@@ -82,7 +85,7 @@ rate_fault t = first_some (map (λ (e : ℕ × ParamRow). rate_of t.frame.words 
 
 -- all parts together occur too often; the row is the number of the table's rows
 unfoldable pub many_fault : TableRows → RowFault
-many_fault t = if nat_lt most_parts (length (occurrences t.frame.words t.places)) then Some (t.rows, fault.TooMany) else None
+many_fault t = if nat_lt most_superframe_parts (length (occurrences t.frame.words t.places)) then Some (t.rows, fault.TooMany) else None
 
 -- the first fault, by its number and then by its row
 unfoldable pub table_fault : TableRows → RowFault

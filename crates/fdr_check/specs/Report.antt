@@ -6,7 +6,8 @@ use Rattle.fdr_check.specs.Occurrences.{Occurrence, occurrences, part_occurrence
 
 -- the slots of the parts of sample i of the parameter with this index
 unfoldable pub sample_slots : ℕ → List PlaceRow → ℕ → ℕ → List ℕ
-sample_slots w places n i = filter_map (λ part. option_map (λ (o : Occurrence). o.at / 12) (slice_get (part_occurrences w places n part) i)) (range_with_len 1 4)
+sample_slots w places n i = filter_map (λ part. option_map (λ (o : Occurrence). o.at / 12) (slice_get (part_occurrences w places n part) i))
+    (range_with_len 1 4)
 
 -- the least of these, or 0 where there are none
 abbrev pub least : List ℕ → ℕ

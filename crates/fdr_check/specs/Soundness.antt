@@ -1,5 +1,6 @@
 -- The tables that a recorder can be built from.
-use Rattle.std.specs.Prelude.{ℕ, ◌+◌, ◌*◌, ◌/◌, ◌%◌, ◌<◌, ◌≤◌, ◌≡◌, ◌≢◌, Bool, ◌&&◌, nat_le, nat_lt, IsTrue, List, length, Some, All, AllPairs, slice_get, sum_by}
+use Rattle.std.specs.Prelude.{ℕ, ◌+◌, ◌*◌, ◌/◌, ◌%◌, ◌<◌, ◌≤◌, ◌≡◌, ◌≢◌, Bool, ◌&&◌, nat_le, nat_lt, IsTrue, List, length, Some, All, AllPairs, slice_get}
+use Rattle.std.specs.Prelude.{sum_by}
 use Rattle.std.specs.List.{list_any, range_with_len}
 use Rattle.fdr_frame.specs.Slots.{is_counter}
 use Rattle.fdr_table.specs.Rows.{FrameRow, ParamRow, PlaceRow, TableRows}
@@ -36,8 +37,8 @@ abbrev pub HasRate : ℕ → List PlaceRow → ℕ → ParamRow → Type 0
 HasRate w places param p = (part : ℕ) → IsTrue (has_part places param part) → length (part_occurrences w places param part) ≡ p.rate
 
 -- how many parts a superframe may have
-unfoldable pub most_parts : ℕ
-most_parts = 262144
+unfoldable pub most_superframe_parts : ℕ
+most_superframe_parts = 262144
 
 pub record IsSound (t : TableRows) : Type 0 where
   pub cword : t.frame.cword ≤ t.frame.words
@@ -47,4 +48,4 @@ pub record IsSound (t : TableRows) : Type 0 where
   pub apart : AllPairs (ShareNoBit t.frame.words) t.places
   pub parts : (n : ℕ) (p : ParamRow) → slice_get t.params n ≡ Some p → HasParts t.places n p
   pub rates : (n : ℕ) (p : ParamRow) → slice_get t.params n ≡ Some p → HasRate t.frame.words t.places n p
-  pub few : length (occurrences t.frame.words t.places) ≤ most_parts
+  pub few : length (occurrences t.frame.words t.places) ≤ most_superframe_parts

@@ -1,5 +1,6 @@
 -- A walk over the occurrences of a place in a superframe, and marks on its bits.
-use Rattle.std.specs.Prelude.{ℕ, ◌*◌, ◌<◌, ◌≤◌, ◌≡◌, ◌%◌, ◌==◌, ◌&&◌, Bool, true, false, List, length, slice_index_or, count_by, not, if◌then◌else◌, Option, Some, None}
+use Rattle.std.specs.Prelude.{ℕ, ◌*◌, ◌<◌, ◌≤◌, ◌≡◌, ◌%◌, ◌==◌, ◌&&◌, Bool, true, false, List, length, slice_index_or, count_by, not, if◌then◌else◌, Option}
+use Rattle.std.specs.Prelude.{Some, None}
 use Rattle.std.specs.List.{list_any, range_with_len}
 use Rattle.fdr_frame.specs.Slots.{frame_of, subframe_of}
 use Rattle.fdr_table.specs.Rows.{PlaceRow}
@@ -12,7 +13,7 @@ abbrev pub is_in_subframe : ℕ → PlaceRow → ℕ → Bool
 is_in_subframe w p k = (frame_of w k % p.period == p.cycle) && has_subframe p.subs (subframe_of w k)
 
 -- bit `at` of the superframe is the first, from bit `from` on, at which an occurrence of the place begins
-pub record IsNext (w : ℕ) (p : PlaceRow) (from at : ℕ) : Type 0 where
+pub record IsNextOccurrence (w : ℕ) (p : PlaceRow) (from at : ℕ) : Type 0 where
   pub within : at < 768 * w
   pub low : from ≤ at
   pub begins : begins_at w at p ≡ true

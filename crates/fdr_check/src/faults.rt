@@ -18,10 +18,10 @@ use std::alloc::Global;
 use std::marker::Model;
 
 /// How often all parts together may occur in a superframe.
-const MOST_PARTS: u32 = 262_144;
+const MAX_PARTS: u32 = 262_144;
 
 /// The first place whose word is above the number of words.
-#[tactic(auto, using(crate::proofs::Searches::find_here, crate::proofs::Searches::find_more))]
+#[tactic(auto, using(fdr_lists::proofs::Searches::find_here, fdr_lists::proofs::Searches::find_more))]
 fn first_beyond(words: u32, places: &[Place]) -> RowFault
     ensures { result ≡ first_place (λ (p : PlaceRow). nat_lt words p.word) fault.Place places.now }
 {
@@ -45,7 +45,7 @@ pub(crate) fn place_fault(t: &Table) -> RowFault
 }
 
 /// The first place on the sync words.
-#[tactic(auto, using(crate::proofs::Searches::find_here, crate::proofs::Searches::find_more))]
+#[tactic(auto, using(fdr_lists::proofs::Searches::find_here, fdr_lists::proofs::Searches::find_more))]
 fn first_on_sync(places: &[Place]) -> RowFault
     ensures { result ≡ first_place (λ (p : PlaceRow). p.word == 1) fault.OnSync places.now }
 {
@@ -75,7 +75,7 @@ fn meets_counter(frame: Frame, place: &Place) -> bool
 }
 
 /// The first place that meets the counter's word.
-#[tactic(auto, using(crate::proofs::Searches::find_here, crate::proofs::Searches::find_more))]
+#[tactic(auto, using(fdr_lists::proofs::Searches::find_here, fdr_lists::proofs::Searches::find_more))]
 fn first_on_counter(frame: Frame, places: &[Place]) -> RowFault
     ensures { result ≡ first_place (meets_counter frame) fault.OnCounter places.now }
 {
@@ -96,14 +96,14 @@ pub(crate) fn counter_fault(t: &Table) -> RowFault
 
 /// Whether all parts together occur too often in a superframe.
 fn are_too_many(words: u32, places: &[Place]) -> bool
-    requires some { 0 < words }
-    requires few { words ≤ 1024 }
+    requires some_words { 0 < words }
+    requires word_limit { words ≤ 1024 }
     ensures { result ≡ nat_lt 262144 (length (occurrences words places.now)) }
 {
     let mut total = 0;
     for place in places {
         total += count_starts(words, place);
-        if MOST_PARTS < total {
+        if MAX_PARTS < total {
             return true;
         }
     }
@@ -114,8 +114,8 @@ fn are_too_many(words: u32, places: &[Place]) -> bool
 #[tactic(auto, using(fdr_frame::proofs::WordCounts::word_count_bounds))]
 pub(crate) fn words_of(t: &Table) -> u32
     ensures words { result ≡ t.now.frame.words }
-    ensures some { 0 < result }
-    ensures few { result ≤ 1024 }
+    ensures some_words { 0 < result }
+    ensures word_limit { result ≤ 1024 }
 {
     t.frame().words
 }
@@ -158,7 +158,7 @@ fn rate_fault(t: &Table, groups: &[Group]) -> RowFault
     None
 }
 
-#[tactic(auto, unfolding(crate::specs::Faults::many_fault, crate::specs::Soundness::most_parts))]
+#[tactic(auto, unfolding(crate::specs::Faults::many_fault, crate::specs::Soundness::most_superframe_parts))]
 fn many_fault(t: &Table) -> RowFault
     ensures { result ≡ many_fault t.now }
 {

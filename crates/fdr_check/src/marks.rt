@@ -32,8 +32,8 @@ fn mark_bits(marks: &mut [bool], from: u32, width: u8)
 
 /// Marks the bits of a place.
 pub(crate) fn mark(words: u32, place: &Place, marks: &mut [bool])
-    requires some { 0 < words }
-    requires few { words ≤ 1024 }
+    requires some_words { 0 < words }
+    requires word_limit { words ≤ 1024 }
     requires length { length marks.old ≡ 768 * words }
     ensures length { length marks.new ≡ length marks.old }
     ensures marked { (b : ℕ) → b < 768 * words → is_marked marks.new b
@@ -64,8 +64,8 @@ fn first_marked_bit(marks: &[bool], from: u32, width: u8) -> Option<u32>
 
 /// The first marked bit of a place.
 pub(crate) fn first_marked(words: u32, place: &Place, marks: &[bool]) -> Option<u32>
-    requires some { 0 < words }
-    requires few { words ≤ 1024 }
+    requires some_words { 0 < words }
+    requires word_limit { words ≤ 1024 }
     requires length { length marks.now ≡ 768 * words }
     ensures { result ≡ find (λ b. covers words place.now b && is_marked marks.now b)
         (range_with_len 0 (768 * words)) }

@@ -13,7 +13,7 @@ pub(crate) type RowFault = Option<(u32, TableFault)>;
 
 /// The fault of two places that share this bit of the superframe.
 fn overlap_at(words: u32, first: &Place, second: &Place, bit: u32) -> TableFault
-    requires some { 0 < words }
+    requires some_words { 0 < words }
     ensures { result ≡ overlap_at words first.now second.now bit }
 {
     TableFault::Overlap {
@@ -26,8 +26,8 @@ fn overlap_at(words: u32, first: &Place, second: &Place, bit: u32) -> TableFault
 
 /// The fault of a place whose bits are marked, with the first place above that takes one of them.
 fn overlap_above(words: u32, above: &[Place], place: &Place, marks: &[bool]) -> RowFault
-    requires some { 0 < words }
-    requires few { words ≤ 1024 }
+    requires some_words { 0 < words }
+    requires word_limit { words ≤ 1024 }
     requires marks { AreMarks words (place.now ∷ []) marks.now }
     ensures { result ≡ overlap_with words above.now place.now }
 {
@@ -46,8 +46,8 @@ fn overlap_with(
     above: &[Place],
     place: &Place,
 ) -> Result<RowFault, NoMemory>
-    requires some { 0 < words }
-    requires few { words ≤ 1024 }
+    requires some_words { 0 < words }
+    requires word_limit { words ≤ 1024 }
     ensures { IfOk result (λ f. f ≡ overlap_with words above.now place.now) }
 {
     let mut marks = unmarked(alloc, words)?;
@@ -63,8 +63,8 @@ fn overlap_of(
     place: &Place,
     marks: &[bool],
 ) -> Result<RowFault, NoMemory>
-    requires some { 0 < words }
-    requires few { words ≤ 1024 }
+    requires some_words { 0 < words }
+    requires word_limit { words ≤ 1024 }
     requires marks { AreMarks words above.now marks.now }
     ensures { IfOk result (λ f. f ≡ overlap_with words above.now place.now) }
 {
@@ -80,8 +80,8 @@ pub(crate) fn overlap_among(
     words: u32,
     places: &[Place],
 ) -> Result<RowFault, NoMemory>
-    requires some { 0 < words }
-    requires few { words ≤ 1024 }
+    requires some_words { 0 < words }
+    requires word_limit { words ≤ 1024 }
     ensures { IfOk result (λ f. f ≡ overlap_among words places.now) }
 {
     let mut marks = unmarked(alloc, words)?;

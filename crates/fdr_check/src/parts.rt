@@ -34,10 +34,10 @@ pub(crate) fn has_part(places: &[Place], param: usize, part: u8) -> bool
 }
 
 /// The width of a part.
-#[tactic(auto, using(crate::proofs::Searches::find_here, crate::proofs::Searches::find_more), unfolding(crate::specs::Occurrences::part_width))]
+#[tactic(auto, using(fdr_lists::proofs::Searches::find_here, fdr_lists::proofs::Searches::find_more), unfolding(crate::specs::Occurrences::part_width))]
 fn part_width(places: &[Place], param: usize, part: u8) -> u8
     ensures width { result ≡ part_width places.now param part }
-    ensures few { result ≤ 12 }
+    ensures one_word { result ≤ 12 }
 {
     for place in places {
         if is_part(place, param, part) {
@@ -62,7 +62,7 @@ fn part_widths(places: &[Place], param: usize) -> [u8; 4]
 /// The number of the part that a place carries, 0 where it is another parameter's.
 fn part_of(place: &Place, param: usize) -> u8
     ensures part { result ≡ (if place.now.param == param then place.now.part else 0) }
-    ensures few { result ≤ 4 }
+    ensures four_parts { result ≤ 4 }
 {
     if place.param as usize == param {
         place.part
@@ -74,7 +74,7 @@ fn part_of(place: &Place, param: usize) -> u8
 /// The greatest number of a part, 0 where there is none.
 fn last_part(places: &[Place], param: usize) -> u8
     ensures last { result ≡ last_part places.now param }
-    ensures few { result ≤ 4 }
+    ensures four_parts { result ≤ 4 }
 {
     let mut last = 0;
     for place in places {
@@ -136,8 +136,8 @@ pub(crate) fn has_parts(places: &[Place], index: usize, param: &Param) -> bool
 
 /// How often a place occurs in a superframe, 0 where it carries another part.
 fn count_in(words: u32, place: &Place, param: usize, part: u8) -> u32
-    requires some { 0 < words }
-    requires few { words ≤ 1024 }
+    requires some_words { 0 < words }
+    requires word_limit { words ≤ 1024 }
     ensures { result ≡ (if is_part param part place.now then starts_of words place.now else 0) }
 {
     if is_part(place, param, part) {
@@ -149,8 +149,8 @@ fn count_in(words: u32, place: &Place, param: usize, part: u8) -> u32
 
 /// How often a part occurs in a superframe.
 fn count_of(words: u32, places: &[Place], param: usize, part: u8) -> u32
-    requires some { 0 < words }
-    requires few { words ≤ 1024 }
+    requires some_words { 0 < words }
+    requires word_limit { words ≤ 1024 }
     requires fits { length (occurrences words places.now) < 2 ^ 32 }
     ensures { result ≡ count_of words places.now param part }
 {
@@ -163,8 +163,8 @@ fn count_of(words: u32, places: &[Place], param: usize, part: u8) -> u32
 
 /// How often a part of a parameter occurs in a superframe, where that differs from the rate.
 fn off_rate(words: u32, places: &[Place], param: usize, part: u8, rate: u32) -> Option<u32>
-    requires some { 0 < words }
-    requires few { words ≤ 1024 }
+    requires some_words { 0 < words }
+    requires word_limit { words ≤ 1024 }
     requires fits { length (occurrences words places.now) < 2 ^ 32 }
     ensures { result ≡ off_rate_at words places.now param rate part }
 {
@@ -177,8 +177,8 @@ fn off_rate(words: u32, places: &[Place], param: usize, part: u8, rate: u32) -> 
 
 /// The fault of the lowest part that doesn't occur as often as the parameter's rate says.
 pub(crate) fn rate_of(words: u32, places: &[Place], index: usize, param: &Param) -> RowFault
-    requires some { 0 < words }
-    requires few { words ≤ 1024 }
+    requires some_words { 0 < words }
+    requires word_limit { words ≤ 1024 }
     requires fits { length (occurrences words places.now) < 2 ^ 32 }
     ensures { result ≡ rate_of words places.now index param.now }
 {

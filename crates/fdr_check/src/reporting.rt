@@ -17,8 +17,8 @@ use std::marker::Model;
 
 /// How often all parts together occur in a superframe.
 fn count_parts(words: u32, places: &[Place]) -> u32
-    requires some { 0 < words }
-    requires few { words ≤ 1024 }
+    requires some_words { 0 < words }
+    requires word_limit { words ≤ 1024 }
     requires fits { length (occurrences words places.now) ≤ 262144 }
     ensures { result ≡ length (occurrences words places.now) }
 {
@@ -69,8 +69,8 @@ fn line_of(
     index: usize,
     param: &Param,
 ) -> Result<Vec<u8>, NoMemory>
-    requires some { 0 < words }
-    requires few { words ≤ 1024 }
+    requires some_words { 0 < words }
+    requires word_limit { words ≤ 1024 }
     ensures { IfOk result (λ line. line.items
         ≡ param_line (is_even words places.now index param.now.rate) param.now) }
 {

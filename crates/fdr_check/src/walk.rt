@@ -2,7 +2,7 @@
 
 ghost use Rattle.std.specs.Prelude.{◌≡◌, ◌<◌, ◌≤◌, ◌+◌, ◌*◌, ◌==◌, ℕ, true, false, IfSome, IfNone};
 ghost use Rattle.fdr_check.specs.Occurrences.{has_subframe, is_on_word, occurs, begins_at};
-ghost use Rattle.fdr_check.specs.Walks.{is_in_subframe, IsNext, IsPast, starts_of};
+ghost use Rattle.fdr_check.specs.Walks.{is_in_subframe, IsNextOccurrence, IsPast, starts_of};
 
 use fdr_table::Place;
 
@@ -28,8 +28,8 @@ pub(crate) fn is_on_word(place: &Place, word: u32) -> bool
 
 /// Whether a place occurs in the subframe of a word slot.
 fn is_in_subframe(words: u32, place: &Place, slot: u32) -> bool
-    requires some { 0 < words }
-    requires few { words ≤ 1024 }
+    requires some_words { 0 < words }
+    requires word_limit { words ≤ 1024 }
     ensures { result ≡ is_in_subframe words place.now slot }
 {
     slot / (4 * words) % u32::from(place.period) == u32::from(place.cycle)
@@ -41,7 +41,7 @@ fn words_to_go(place: &Place, word: u32) -> u32
     requires { word ≤ 1024 }
     ensures here { (result == 0) ≡ is_on_word place.now word }
     ensures none { (d : ℕ) → d < result → is_on_word place.now (word + d) ≡ false }
-    ensures few { result ≤ 1024 }
+    ensures word_limit { result ≤ 1024 }
 {
     if word <= place.word {
         return place.word - word;
@@ -55,8 +55,8 @@ fn words_to_go(place: &Place, word: u32) -> u32
 
 /// A later slot than one in which the place doesn't occur: it occurs in none between them.
 fn later_slot(words: u32, place: &Place, slot: u32) -> u32
-    requires some { 0 < words }
-    requires few { words ≤ 1024 }
+    requires some_words { 0 < words }
+    requires word_limit { words ≤ 1024 }
     requires within { slot < 64 * words }
     requires absent { occurs words place.now slot ≡ false }
     ensures later { slot < result }
@@ -72,8 +72,8 @@ fn later_slot(words: u32, place: &Place, slot: u32) -> u32
 }
 
 fn occurs(words: u32, place: &Place, slot: u32) -> bool
-    requires some { 0 < words }
-    requires few { words ≤ 1024 }
+    requires some_words { 0 < words }
+    requires word_limit { words ≤ 1024 }
     ensures { result ≡ occurs words place.now slot }
 {
     is_in_subframe(words, place, slot) && is_on_word(place, slot % words + 1)
@@ -81,8 +81,8 @@ fn occurs(words: u32, place: &Place, slot: u32) -> bool
 
 /// The first slot from this one on in which the place occurs, or one past the superframe.
 fn next_slot(words: u32, place: &Place, from: u32) -> u32
-    requires some { 0 < words }
-    requires few { words ≤ 1024 }
+    requires some_words { 0 < words }
+    requires word_limit { words ≤ 1024 }
     requires within { from ≤ 64 * words }
     ensures low { from ≤ result }
     ensures near { result ≤ 65 * words }
@@ -98,10 +98,10 @@ fn next_slot(words: u32, place: &Place, from: u32) -> u32
 
 /// The first bit from this one on at which an occurrence of the place begins.
 pub(crate) fn next_start(words: u32, place: &Place, from: u32) -> Option<u32>
-    requires some { 0 < words }
-    requires few { words ≤ 1024 }
+    requires some_words { 0 < words }
+    requires word_limit { words ≤ 1024 }
     requires within { from ≤ 768 * words }
-    ensures found { IfSome result (λ at. IsNext words place.now from at) }
+    ensures found { IfSome result (λ at. IsNextOccurrence words place.now from at) }
     ensures none { IfNone result (IsPast words place.now from) }
 {
     let lowest = u32::from(place.lsb) - 1;
@@ -115,8 +115,8 @@ pub(crate) fn next_start(words: u32, place: &Place, from: u32) -> Option<u32>
 
 /// How often a place occurs in a superframe.
 pub(crate) fn count_starts(words: u32, place: &Place) -> u32
-    requires some { 0 < words }
-    requires few { words ≤ 1024 }
+    requires some_words { 0 < words }
+    requires word_limit { words ≤ 1024 }
     ensures { result ≡ starts_of words place.now }
 {
     let mut count = 0;

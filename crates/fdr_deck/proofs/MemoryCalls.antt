@@ -2,9 +2,10 @@
 use Rattle.std.proofs.Common.{◌≡◌, ◌⊎◌, inl, inr, ⊎_elim, ℕ, suc, ◌-◌, ◌≤◌, List, [], ◌∷◌, ◌++◌, length, refl, sym, ◌∙◌, subst, arith, length-append}
 use Rattle.fdr_deck.specs.State.{Moment}
 use Rattle.fdr_deck.specs.Disk.{IsZeros}
-use Rattle.fdr_deck.specs.Moments.{IsNow, IsInside, Within, WithinProvide, Elapses, EachMoment}
+use Rattle.fdr_deck.specs.Moments.{IsNow, IsInsideCall, Within, WithinProvide, Elapses, EachMoment}
 use Rattle.fdr_deck.specs.Calls.{KeepsTold, Passes}
-use Rattle.fdr_deck.specs.Memory.{Memory, memory_state, memory_tells, held_in, left_in, held_by, left_by, left_within, held_after, left_after, IsBetween, IsAmid, moments_after, IsEntered, KeepsPulled}
+use Rattle.fdr_deck.specs.Memory.{Memory, memory_state, memory_tells, held_in, left_in, held_by, left_by, left_within, held_after, left_after, IsBetween}
+use Rattle.fdr_deck.specs.Memory.{IsAmid, moments_after, IsEntered, KeepsPulled}
 use Rattle.fdr_deck.specs.MemorySound.{memory_is_sound}
 use Rattle.fdr_deck.specs.declared.calls.Call.{Call}
 use Rattle.fdr_deck.specs.declared.calls.Numbers.{Numbers}
@@ -15,24 +16,28 @@ unfolding held_after
 held_push [] e held = refl
 held_push (x ∷ es) e held = held_push es e (held_by x.call held)
 
-pub left_push : (es : List Entry) (e : Entry) (held : List ℕ) (leaves : List ℕ → Type 0) (image : List ℕ) → left_after (es ++ e ∷ []) held leaves image → left_by e.call (held_after es held) (left_after es held leaves) image
+pub left_push : (es : List Entry) (e : Entry) (held : List ℕ) (leaves : List ℕ → Type 0) (image : List ℕ) → left_after (es ++ e ∷ []) held leaves image
+    → left_by e.call (held_after es held) (left_after es held leaves) image
 unfolding held_after left_after
 left_push [] e held leaves image left = left
 left_push (x ∷ es) e held leaves image left = left_push es e (held_by x.call held) (left_by x.call held leaves) image left
 
-pub left_pushed : (es : List Entry) (e : Entry) (held : List ℕ) (leaves : List ℕ → Type 0) (image : List ℕ) → left_by e.call (held_after es held) (left_after es held leaves) image → left_after (es ++ e ∷ []) held leaves image
+pub left_pushed : (es : List Entry) (e : Entry) (held : List ℕ) (leaves : List ℕ → Type 0) (image : List ℕ)
+    → left_by e.call (held_after es held) (left_after es held leaves) image → left_after (es ++ e ∷ []) held leaves image
 unfolding held_after left_after
 left_pushed [] e held leaves image left = left
 left_pushed (x ∷ es) e held leaves image left = left_pushed es e (held_by x.call held) (left_by x.call held leaves) image left
 
 -- the moments from before stay
-earlier : (es : List Entry) (e : Entry) (now : Numbers) (held : List ℕ) (leaves : List ℕ → Type 0) (t : ℕ) (m : Moment) → t ≤ length es → moments_after es e.numbers held leaves t m → moments_after (es ++ e ∷ []) now held leaves t m
+earlier : (es : List Entry) (e : Entry) (now : Numbers) (held : List ℕ) (leaves : List ℕ → Type 0) (t : ℕ) (m : Moment) → t ≤ length es
+    → moments_after es e.numbers held leaves t m → moments_after (es ++ e ∷ []) now held leaves t m
 unfolding moments_after
 earlier [] e now held leaves t m le is = inl (omega arith, inl is)
 earlier (x ∷ es) e now held leaves t m le (inl here) = inl here
 earlier (x ∷ es) e now held leaves t m le (inr since) = inr (earlier es e now (held_by x.call held) (left_by x.call held leaves) (t - 1) m (omega arith) since)
 
-no_more : (es : List Entry) (e : Entry) (now : Numbers) (held : List ℕ) (leaves : List ℕ → Type 0) (t : ℕ) (m : Moment) → t ≤ length es → moments_after (es ++ e ∷ []) now held leaves t m
+no_more : (es : List Entry) (e : Entry) (now : Numbers) (held : List ℕ) (leaves : List ℕ → Type 0) (t : ℕ) (m : Moment) → t ≤ length es
+    → moments_after (es ++ e ∷ []) now held leaves t m
     → moments_after es e.numbers held leaves t m ⊎ moments_after (es ++ e ∷ []) now held leaves (length es) m
 unfolding moments_after
 no_more [] e now held leaves t m le (inl here) = inr (inl (refl, here.1))
@@ -40,19 +45,23 @@ no_more [] e now held leaves t m le (inr since) = inr (inr since)
 no_more (x ∷ es) e now held leaves t m le (inl here) = inl (inl here)
 no_more (x ∷ es) e now held leaves t m le (inr since) =
     let n : suc (length es) - 1 ≡ length es = omega arith in
-    ⊎_elim (λ was. inl (inr was)) (λ is. inr (inr (subst (λ (k : ℕ). moments_after (es ++ e ∷ []) now (held_by x.call held) (left_by x.call held leaves) k m) (sym n) is)))
+    ⊎_elim (λ was. inl (inr was)) (λ is. inr (inr (subst (λ (k : ℕ). moments_after (es ++ e ∷ []) now (held_by x.call held) (left_by x.call held leaves) k m)
+    (sym n) is)))
     (no_more es e now (held_by x.call held) (left_by x.call held leaves) (t - 1) m (omega arith) since)
 
 -- the moments of the last call
-last_call : (es : List Entry) (e : Entry) (now : Numbers) (held : List ℕ) (leaves : List ℕ → Type 0) (t : ℕ) (m : Moment) → length es ≤ t → moments_after (es ++ e ∷ []) now held leaves t m
-    → (IsBetween (left_after es held leaves) e.numbers m ⊎ IsAmid (left_within e.call (held_after es held) (left_after es held leaves)) e.numbers m) ⊎ IsBetween (left_after (es ++ e ∷ []) held leaves) now m
+last_call : (es : List Entry) (e : Entry) (now : Numbers) (held : List ℕ) (leaves : List ℕ → Type 0) (t : ℕ) (m : Moment) → length es ≤ t
+    → moments_after (es ++ e ∷ []) now held leaves t m
+    → (IsBetween (left_after es held leaves) e.numbers m ⊎ IsAmid (left_within e.call (held_after es held) (left_after es held leaves)) e.numbers m)
+    ⊎ IsBetween (left_after (es ++ e ∷ []) held leaves) now m
 unfolding held_after left_after moments_after
 last_call [] e now held leaves t m late (inl here) = inl here.1
 last_call [] e now held leaves t m late (inr since) = inr since
 last_call (x ∷ es) e now held leaves t m late (inl here) = absurd (omega (arith, here.0))
 last_call (x ∷ es) e now held leaves t m late (inr since) = last_call es e now (held_by x.call held) (left_by x.call held leaves) (t - 1) m (omega arith) since
 
-falls : (es : List Entry) (e : Entry) (now : Numbers) (first : List ℕ) (t : ℕ) (m : Moment) → t ≤ length es → moments_after (es ++ e ∷ []) now first (λ image. image ≡ first) (length es) m → moments_after (es ++ e ∷ []) now first (λ image. image ≡ first) t m
+falls : (es : List Entry) (e : Entry) (now : Numbers) (first : List ℕ) (t : ℕ) (m : Moment) → t ≤ length es
+    → moments_after (es ++ e ∷ []) now first (λ image. image ≡ first) (length es) m → moments_after (es ++ e ∷ []) now first (λ image. image ≡ first) t m
 falls es e now first t m le since =
     let d : Memory = record { first = first; entries = es ++ e ∷ []; numbers = now; line = []; disk_faults = 0; line_faults = 0; failing = [] } in
     (memory_is_sound d).falls refl t (length es) m le (omega (arith, length-append es (e ∷ []))) since
@@ -65,27 +74,33 @@ module _ (call : Call) (old new : Memory) (entered : IsEntered call old new) whe
   held_entered = rw (entered.entries, entered.first) (held_push old.entries (record { call = call; numbers = old.numbers }) old.first)
 
   pub left_entered : (image : List ℕ) → left_in new image → left_by call (held_in old) (left_in old) image
-  left_entered = rw (entered.entries, entered.first) (left_push old.entries (record { call = call; numbers = old.numbers }) old.first (λ image. image ≡ old.first))
+  left_entered = rw (entered.entries, entered.first)
+      (left_push old.entries (record { call = call; numbers = old.numbers }) old.first (λ image. image ≡ old.first))
 
   pub entered_left : (image : List ℕ) → left_by call (held_in old) (left_in old) image → left_in new image
-  entered_left = rw (entered.entries, entered.first) (left_pushed old.entries (record { call = call; numbers = old.numbers }) old.first (λ image. image ≡ old.first))
+  entered_left = rw (entered.entries, entered.first)
+      (left_pushed old.entries (record { call = call; numbers = old.numbers }) old.first (λ image. image ≡ old.first))
 
   pub time_entered : Elapses memory_tells (memory_state old) (memory_state new)
   time_entered = rw (entered.entries, entered.first) (record {
     later = omega (arith, length-append old.entries (record { call = call; numbers = old.numbers } ∷ []));
-    earlier = λ told t m le since. earlier old.entries (record { call = call; numbers = old.numbers }) new.numbers old.first (λ image. image ≡ old.first) t m le since;
+    earlier = λ told t m le since. earlier old.entries (record { call = call; numbers = old.numbers }) new.numbers old.first (λ image. image ≡ old.first)
+        t m le since;
     added = λ told t m le since. falls old.entries (record { call = call; numbers = old.numbers }) new.numbers old.first t m le since;
-    no_more = λ told t m le since. no_more old.entries (record { call = call; numbers = old.numbers }) new.numbers old.first (λ image. image ≡ old.first) t m le since;
+    no_more = λ told t m le since. no_more old.entries (record { call = call; numbers = old.numbers }) new.numbers old.first (λ image. image ≡ old.first)
+        t m le since;
   })
 
   pub last_entered : (m : Moment) → moments_after new.entries new.numbers new.first (λ image. image ≡ new.first) (length old.entries) m
       → (IsBetween (left_in old) old.numbers m ⊎ IsAmid (left_within call (held_in old) (left_in old)) old.numbers m) ⊎ IsBetween (left_in new) new.numbers m
-  last_entered = rw (entered.entries, entered.first) (λ m since. last_call old.entries (record { call = call; numbers = old.numbers }) new.numbers old.first (λ image. image ≡ old.first) (length old.entries) m (omega arith) since)
+  last_entered = rw (entered.entries, entered.first)
+      (λ m since. last_call old.entries (record { call = call; numbers = old.numbers }) new.numbers old.first (λ image. image ≡ old.first) (length old.entries)
+      m (omega arith) since)
 
   at_start : (m : Moment) → IsBetween (left_in old) old.numbers m → IsNow (memory_state old) m
   at_start m is = record { image = is.image; least = is.least; greatest = is.greatest; pulled = record { taken = is.taken; before = is.before } }
 
-  at_end : (m : Moment) → IsBetween (left_in new) new.numbers m → IsInside (memory_state old) (memory_state new) m
+  at_end : (m : Moment) → IsBetween (left_in new) new.numbers m → IsInsideCall (memory_state old) (memory_state new) m
   at_end m is = record {
     image = inr is.image;
     told = omega (arith, is.least, is.greatest, entered.least, entered.greatest);
@@ -105,7 +120,8 @@ module _ (call : Call) (old new : Memory) (entered : IsEntered call old new) whe
   }
 
   -- a call within which a stop leaves what one before it or after it may
-  pub within_entered : ((image : List ℕ) → left_within call (held_in old) (left_in old) image → left_in old image ⊎ left_by call (held_in old) (left_in old) image)
+  pub within_entered : ((image : List ℕ) → left_within call (held_in old) (left_in old) image
+      → left_in old image ⊎ left_by call (held_in old) (left_in old) image)
       → EachMoment memory_tells (memory_state old) (memory_state new) (Within (memory_state old) (memory_state new))
   within_entered amid told m since = ⊎_elim
       (λ early. ⊎_elim
@@ -120,13 +136,19 @@ module _ (call : Call) (old new : Memory) (entered : IsEntered call old new) whe
       (last_entered m since)
 
   -- a call that provides the disk, or was to
-  pub providing_entered : (size : ℕ) → KeepsPulled old new → length (held_in old) ≡ 0 → ((image : List ℕ) → left_within call (held_in old) (left_in old) image → left_in old image ⊎ IsZeros size image)
+  pub providing_entered : (size : ℕ) → KeepsPulled old new → length (held_in old) ≡ 0
+      → ((image : List ℕ) → left_within call (held_in old) (left_in old) image → left_in old image ⊎ IsZeros size image)
       → ((image : List ℕ) → left_by call (held_in old) (left_in old) image → left_in old image ⊎ IsZeros size image)
       → EachMoment memory_tells (memory_state old) (memory_state new) (WithinProvide size (memory_state old) (memory_state new))
   providing_entered size kept empty amid after told m since = ⊎_elim
       (λ early. ⊎_elim
       (λ is. inl (at_start m is))
-      (λ is. inr (record { image = ⊎_elim (λ was. inl was) (λ zeros. inr (empty, zeros)) (amid m.image is.image); told = is.told; pulled = record { taken = is.taken; before = is.before } }))
+      (λ is. inr (record {
+        image = ⊎_elim (λ was. inl was) (λ zeros. inr (empty, zeros)) (amid m.image is.image);
+        told = is.told;
+        pulled =
+            record { taken = is.taken; before = is.before };
+      }))
       early)
       (λ is. inr (record {
         image = ⊎_elim (λ was. inl was) (λ zeros. inr (empty, zeros)) (after m.image (left_entered m.image is.image));

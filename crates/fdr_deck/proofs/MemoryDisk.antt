@@ -19,17 +19,26 @@ leaves_held d = holds_after d.entries d.first (λ image. image ≡ d.first) refl
 
 -- a call that leaves the disk
 pub keeps_disk_pass : (old new : Memory) → IsEntered Pass old new → KeepsDisk (memory_state old) (memory_state new)
-keeps_disk_pass old new entered = record { held = held_entered Pass old new entered; no_more = left_entered Pass old new entered; no_less = entered_left Pass old new entered }
+keeps_disk_pass old new entered = record {
+  held = held_entered Pass old new entered;
+  no_more = left_entered Pass old new entered;
+  no_less =
+      entered_left Pass old new entered;
+}
 
-pub within_pass : (old new : Memory) → IsEntered Pass old new → EachMoment memory_tells (memory_state old) (memory_state new) (Within (memory_state old) (memory_state new))
+pub within_pass : (old new : Memory) → IsEntered Pass old new
+    → EachMoment memory_tells (memory_state old) (memory_state new) (Within (memory_state old) (memory_state new))
 within_pass old new entered = within_entered Pass old new entered (λ image was. inl was)
 
-pub within_provide_pass : (size : ℕ) (old new : Memory) → IsEntered Pass old new → KeepsPulled old new → EachMoment memory_tells (memory_state old) (memory_state new) (WithinProvide size (memory_state old) (memory_state new))
+pub within_provide_pass : (size : ℕ) (old new : Memory) → IsEntered Pass old new → KeepsPulled old new
+    → EachMoment memory_tells (memory_state old) (memory_state new) (WithinProvide size (memory_state old) (memory_state new))
 within_provide_pass size old new entered kept told m since =
-    Within-provide size (memory_state old) (memory_state new) m (keeps_disk_pass old new entered).no_more (record { line = kept.line; taken = kept.taken; before = kept.before }) (within_pass old new entered told m since)
+    Within-provide size (memory_state old) (memory_state new) m (keeps_disk_pass old new entered).no_more
+    (record { line = kept.line; taken = kept.taken; before = kept.before }) (within_pass old new entered told m since)
 
 -- a sync
-pub within_sync : (old new : Memory) → IsEntered Sync old new → EachMoment memory_tells (memory_state old) (memory_state new) (Within (memory_state old) (memory_state new))
+pub within_sync : (old new : Memory) → IsEntered Sync old new
+    → EachMoment memory_tells (memory_state old) (memory_state new) (Within (memory_state old) (memory_state new))
 within_sync old new entered = within_entered Sync old new entered (λ image was. was)
 
 pub settled_sync : (old new : Memory) → IsEntered Sync old new → IsSettled (memory_state new)
@@ -40,10 +49,12 @@ no_more_sync old new entered image left = subst (left_in old) (sym (left_entered
 
 -- a write
 module _ (at : ℕ) (bytes : Vec ℕ Global) (old new : Memory) where
-  pub within_write : IsEntered (Write at bytes) old new → EachMoment memory_tells (memory_state old) (memory_state new) (Within (memory_state old) (memory_state new))
+  pub within_write : IsEntered (Write at bytes) old new
+      → EachMoment memory_tells (memory_state old) (memory_state new) (Within (memory_state old) (memory_state new))
   within_write entered = within_entered (Write at bytes) old new entered (λ image was. was)
 
-  pub within_failed_write : IsEntered (FailedWrite at bytes) old new → EachMoment memory_tells (memory_state old) (memory_state new) (Within (memory_state old) (memory_state new))
+  pub within_failed_write : IsEntered (FailedWrite at bytes) old new
+      → EachMoment memory_tells (memory_state old) (memory_state new) (Within (memory_state old) (memory_state new))
   within_failed_write entered = within_entered (FailedWrite at bytes) old new entered (λ image was. was)
 
   pub writes_write : IsEntered (Write at bytes) old new → Writes memory_tells at bytes.items (memory_state old) (memory_state new)
@@ -53,13 +64,22 @@ module _ (at : ℕ) (bytes : Vec ℕ Global) (old new : Memory) where
   }
 
   pub extent_write : IsEntered (Write at bytes) old new → at + length bytes.items ≤ length (held_in old) → length (held_in new) ≡ length (held_in old)
-  extent_write entered within = ap (λ (l : List ℕ). length l) (held_entered (Write at bytes) old new entered) ∙ length-patched at bytes.items (held_in old) within
+  extent_write entered within = ap (λ (l : List ℕ). length l) (held_entered (Write at bytes) old new entered)
+      ∙ length-patched at bytes.items (held_in old) within
 
-  pub tears_write : IsEntered (Write at bytes) old new → at + length bytes.items ≤ length (held_in old) → Tears memory_tells at (length bytes.items) (memory_state old) (memory_state new)
+  pub tears_write : IsEntered (Write at bytes) old new → at + length bytes.items ≤ length (held_in old)
+      → Tears memory_tells at (length bytes.items) (memory_state old) (memory_state new)
   tears_write entered within = record {
     held = λ told. rw (held_entered (Write at bytes) old new entered) (Torn-patched at bytes.items (held_in old) within);
     no_more = λ told image left. ⊎_elim
-        (λ is. (held_in old, (leaves_held old, subst (λ (l : List ℕ). Torn at (length bytes.items) (held_in old) l) (sym is) (Torn-patched at bytes.items (held_in old) within))))
+        (λ is. (
+          held_in old,
+          (
+            leaves_held old,
+            subst (λ (l : List ℕ). Torn at (length bytes.items) (held_in old) l) (sym is)
+                (Torn-patched at bytes.items (held_in old) within),
+          ),
+        ))
         (λ torn. torn)
         (left_entered (Write at bytes) old new entered image left);
     no_less = λ told image was. entered_left (Write at bytes) old new entered image (inr (image, (was, Torn-same at (length bytes.items) image)));
@@ -86,10 +106,12 @@ module _ (size : ℕ) (old new : Memory) where
       let n : length image ≡ size = ap (λ (l : List ℕ). length l) is ∙ length-replicate size 0 in
       record { few = omega (arith, n); zeros = is ∙ ap (λ (k : ℕ). replicate k 0) (sym n) }
 
-  pub within_provide : IsEntered (Provide size) old new → KeepsPulled old new → length (held_in old) ≡ 0 → EachMoment memory_tells (memory_state old) (memory_state new) (WithinProvide size (memory_state old) (memory_state new))
+  pub within_provide : IsEntered (Provide size) old new → KeepsPulled old new → length (held_in old) ≡ 0
+      → EachMoment memory_tells (memory_state old) (memory_state new) (WithinProvide size (memory_state old) (memory_state new))
   within_provide entered kept empty = providing_entered (Provide size) old new entered size kept empty (λ image was. was) (λ image is. inr (zeros image is))
 
-  pub within_failed_provide : IsEntered (FailedProvide size) old new → KeepsPulled old new → length (held_in old) ≡ 0 → EachMoment memory_tells (memory_state old) (memory_state new) (WithinProvide size (memory_state old) (memory_state new))
+  pub within_failed_provide : IsEntered (FailedProvide size) old new → KeepsPulled old new → length (held_in old) ≡ 0
+      → EachMoment memory_tells (memory_state old) (memory_state new) (WithinProvide size (memory_state old) (memory_state new))
   within_failed_provide entered kept empty = providing_entered (FailedProvide size) old new entered size kept empty (λ image was. was) (λ image is. is)
 
   pub begins_failed_provide : IsEntered (FailedProvide size) old new → length (held_in old) ≡ 0 → Begins memory_tells size (memory_state old) (memory_state new)
@@ -114,7 +136,8 @@ module _ (old new : Memory) (unentered : IsUnentered old new) where
   pub time_unentered : Elapses memory_tells (memory_state old) (memory_state new)
   time_unentered =
       let here = Elapses-here memory_tells (memory_state old) (memory_is_sound old) in
-      rw (unentered.entries, unentered.numbers, unentered.first) (record { later = here.later; earlier = here.earlier; added = here.added; no_more = here.no_more })
+      rw (unentered.entries, unentered.numbers, unentered.first)
+      (record { later = here.later; earlier = here.earlier; added = here.added; no_more = here.no_more })
 
   pub passes_unentered : KeepsPulled old new → old.disk_faults ≤ new.disk_faults → Passes memory_tells (memory_state old) (memory_state new)
   passes_unentered kept faults = record {
@@ -131,5 +154,6 @@ module _ (old new : Memory) (unentered : IsUnentered old new) where
   pub within_unentered : EachMoment memory_tells (memory_state old) (memory_state new) (Within (memory_state old) (memory_state new))
   within_unentered told m since = inl (now_unentered m since)
 
-  pub within_provide_unentered : (size : ℕ) → EachMoment memory_tells (memory_state old) (memory_state new) (WithinProvide size (memory_state old) (memory_state new))
+  pub within_provide_unentered : (size : ℕ) → EachMoment memory_tells (memory_state old) (memory_state new)
+      (WithinProvide size (memory_state old) (memory_state new))
   within_provide_unentered size told m since = inl (now_unentered m since)

@@ -1,7 +1,8 @@
 -- What stops leave of the calls of the deck in memory.
-use Rattle.std.proofs.Common.{◌≡◌, inl, inr, ℕ, zero, suc, ◌+◌, ◌<◌, ◌≤◌, List, [], ◌∷◌, ◌++◌, length, take, get_or, refl, sym, ap, ◌∙◌, subst, length-append, arith}
+use Rattle.std.proofs.Common.{◌≡◌, inl, inr, ℕ, zero, suc, ◌+◌, ◌<◌, ◌≤◌, List, [], ◌∷◌, ◌++◌, length, take, get_or, refl, sym, ap, ◌∙◌, subst, length-append}
+use Rattle.std.proofs.Common.{arith}
 use Rattle.std.proofs.lemmas.List.{take_more, take_all}
-use Rattle.fdr_deck.specs.Memory.{held_by, left_by, left_within, held_after, left_after, IsInside, FitsIn, AreInside, IsStopped, IsStoppedAfter}
+use Rattle.fdr_deck.specs.Memory.{held_by, left_by, left_within, held_after, left_after, FitsDisk, FitsIn, AreInside, IsLeftWithin, IsStoppedAfter}
 use Rattle.fdr_deck.specs.Stops.{image_after, image_within, image_at}
 use Rattle.fdr_deck.specs.declared.calls.Call.{Call}
 use Rattle.fdr_deck.specs.declared.calls.Call.TheVariants.{Pass, Write, FailedWrite, Sync, Provide, FailedProvide}
@@ -10,7 +11,7 @@ use Rattle.fdr_deck.specs.declared.stops.Tear.{Tear}
 use Rattle.fdr_deck.proofs.MemoryCalls.{held_push, left_pushed}
 use Rattle.fdr_deck.proofs.Torn.{length-patched}
 
-pub AreInside-push : (es : List Entry) (e : Entry) (held : List ℕ) → AreInside es held → IsInside e.call (held_after es held) → AreInside (es ++ e ∷ []) held
+pub AreInside-push : (es : List Entry) (e : Entry) (held : List ℕ) → AreInside es held → FitsDisk e.call (held_after es held) → AreInside (es ++ e ∷ []) held
 unfolding held_after AreInside
 AreInside-push [] e held all last = (last, tt)
 AreInside-push (x ∷ es) e held all last = (all.0, AreInside-push es e (held_by x.call held) all.1 last)
@@ -21,14 +22,15 @@ AreInside-take zero es held all = tt
 AreInside-take (suc n) [] held all = tt
 AreInside-take (suc n) (x ∷ es) held all = (all.0, AreInside-take n es (held_by x.call held) all.1)
 
-pub AreInside-at : (i : ℕ) (es : List Entry) (held : List ℕ) (d : Entry) → i < length es → AreInside es held → IsInside (get_or es i d).call (held_after (take i es) held)
+pub AreInside-at : (i : ℕ) (es : List Entry) (held : List ℕ) (d : Entry) → i < length es → AreInside es held
+    → FitsDisk (get_or es i d).call (held_after (take i es) held)
 unfolding held_after AreInside
 AreInside-at i [] held d h all = absurd (omega (arith, h))
 AreInside-at zero (x ∷ es) held d h all = all.0
 AreInside-at (suc i) (x ∷ es) held d h all = AreInside-at i es (held_by x.call held) d (omega (arith, h)) all.1
 
 -- a write into what is held fits into what is left, which is no shorter
-pub FitsIn-from_inside : (call : Call) (held : List ℕ) (n : ℕ) → IsInside call held → length held ≤ n → FitsIn call n
+pub FitsIn-from_inside : (call : Call) (held : List ℕ) (n : ℕ) → FitsDisk call held → length held ≤ n → FitsIn call n
 FitsIn-from_inside Pass held n inside long = tt
 FitsIn-from_inside (Write at bytes) held n inside long = omega (arith, inside, long)
 FitsIn-from_inside (FailedWrite at bytes) held n inside long = omega (arith, inside, long)
@@ -36,7 +38,8 @@ FitsIn-from_inside Sync held n inside long = tt
 FitsIn-from_inside (Provide size) held n inside long = tt
 FitsIn-from_inside (FailedProvide size) held n inside long = tt
 
-pub stopped_within : (call : Call) (held : List ℕ) (leaves : List ℕ → Type 0) (before image : List ℕ) → leaves before → IsStopped call before image → left_within call held leaves image
+pub stopped_within : (call : Call) (held : List ℕ) (leaves : List ℕ → Type 0) (before image : List ℕ) → leaves before → IsLeftWithin call before image
+    → left_within call held leaves image
 stopped_within Pass held leaves before image left is = subst leaves (sym is) left
 stopped_within (Write at bytes) held leaves before image left is = inr (inr (before, (left, is)))
 stopped_within (FailedWrite at bytes) held leaves before image left is = inr (before, (left, is))
@@ -44,7 +47,8 @@ stopped_within Sync held leaves before image left is = inl (subst leaves (sym is
 stopped_within (Provide size) held leaves before image left is = inr is
 stopped_within (FailedProvide size) held leaves before image left is = inr is
 
-stopped_after : (call : Call) (held : List ℕ) (leaves : List ℕ → Type 0) (before image : List ℕ) → leaves before → IsStoppedAfter call held before image → left_by call held leaves image
+stopped_after : (call : Call) (held : List ℕ) (leaves : List ℕ → Type 0) (before image : List ℕ) → leaves before → IsStoppedAfter call held before image
+    → left_by call held leaves image
 stopped_after Pass held leaves before image left is = subst leaves (sym is) left
 stopped_after (Write at bytes) held leaves before image left is = inr (before, (left, is))
 stopped_after (FailedWrite at bytes) held leaves before image left is = (before, (left, is))
@@ -53,7 +57,8 @@ stopped_after (Provide size) held leaves before image left is = is
 stopped_after (FailedProvide size) held leaves before image left is = inr is
 
 -- what is left stays no shorter than what is held
-long_after : (call : Call) (held before image : List ℕ) → IsInside call held → length held ≤ length before → IsStoppedAfter call held before image → length (held_by call held) ≤ length image
+long_after : (call : Call) (held before image : List ℕ) → FitsDisk call held → length held ≤ length before → IsStoppedAfter call held before image
+    → length (held_by call held) ≤ length image
 long_after Pass held before image inside long is = omega (arith, long, ap (λ (l : List ℕ). length l) is)
 long_after (Write at bytes) held before image inside long is = omega (arith, long, is.size, length-patched at bytes.items held inside)
 long_after (FailedWrite at bytes) held before image inside long is = omega (arith, long, is.size)
@@ -71,24 +76,32 @@ pub IsLeft-start : (es : List Entry) (first held left : List ℕ) → held ≡ f
 unfolding held_after left_after
 IsLeft-start es first held left same is = record { held = same; left = is; long = omega (arith, ap (λ (l : List ℕ). length l) is) }
 
-pub IsLeft-inside : (es : List Entry) (first : List ℕ) (i : ℕ) (now image : List ℕ) (e : Entry) → i < length es → e ≡ get_or es i e → AreInside es first → IsLeft es first i now image → IsInside e.call now
+pub IsLeft-inside : (es : List Entry) (first : List ℕ) (i : ℕ) (now image : List ℕ) (e : Entry) → i < length es → e ≡ get_or es i e → AreInside es first
+    → IsLeft es first i now image → FitsDisk e.call now
 IsLeft-inside es first i now image e h is all so_far =
-    let here : IsInside e.call (held_after (take i es) first) = subst (λ (x : Entry). IsInside x.call (held_after (take i es) first)) (sym is) (AreInside-at i es first e h all) in
-    subst (λ (l : List ℕ). IsInside e.call l) (sym so_far.held) here
+    let here : FitsDisk e.call (held_after (take i es) first) =
+    subst (λ (x : Entry). FitsDisk x.call (held_after (take i es) first)) (sym is) (AreInside-at i es first e h all) in
+    subst (λ (l : List ℕ). FitsDisk e.call l) (sym so_far.held) here
 
-pub IsLeft-fits : (es : List Entry) (first : List ℕ) (i : ℕ) (now image : List ℕ) (e : Entry) → i < length es → e ≡ get_or es i e → AreInside es first → IsLeft es first i now image → FitsIn e.call (length image)
+pub IsLeft-fits : (es : List Entry) (first : List ℕ) (i : ℕ) (now image : List ℕ) (e : Entry) → i < length es → e ≡ get_or es i e → AreInside es first
+    → IsLeft es first i now image → FitsIn e.call (length image)
 IsLeft-fits es first i now image e h is all so_far =
-    FitsIn-from_inside e.call now (length image) (IsLeft-inside es first i now image e h is all so_far) (omega (arith, so_far.long, ap (λ (l : List ℕ). length l) so_far.held))
+    FitsIn-from_inside e.call now (length image) (IsLeft-inside es first i now image e h is all so_far)
+    (omega (arith, so_far.long, ap (λ (l : List ℕ). length l) so_far.held))
 
-pub IsLeft-more : (es : List Entry) (first : List ℕ) (i : ℕ) (now image next_now next : List ℕ) (e : Entry) → i < length es → e ≡ get_or es i e → AreInside es first → IsLeft es first i now image
+pub IsLeft-more : (es : List Entry) (first : List ℕ) (i : ℕ) (now image next_now next : List ℕ) (e : Entry) → i < length es → e ≡ get_or es i e
+    → AreInside es first → IsLeft es first i now image
     → next_now ≡ held_by e.call now → IsStoppedAfter e.call now image next → IsLeft es first (i + 1) next_now next
 IsLeft-more es first i now image next_now next e h is all so_far replayed stopped =
     let inside = IsLeft-inside es first i now image e h is all so_far in
     let more : take (i + 1) es ≡ take i es ++ e ∷ [] = take_more es i e h ∙ ap (λ (x : Entry). take i es ++ x ∷ []) (sym is) in
-    let then_held : held_after (take (i + 1) es) first ≡ held_by e.call (held_after (take i es) first) = ap (λ (l : List Entry). held_after l first) more ∙ held_push (take i es) e first in
+    let then_held : held_after (take (i + 1) es) first ≡ held_by e.call (held_after (take i es) first) =
+    ap (λ (l : List Entry). held_after l first) more ∙ held_push (take i es) e first in
     let now_held : next_now ≡ held_after (take (i + 1) es) first = replayed ∙ ap (λ (l : List ℕ). held_by e.call l) so_far.held ∙ sym then_held in
-    let stopped_then : IsStoppedAfter e.call (held_after (take i es) first) image next = subst (λ (l : List ℕ). IsStoppedAfter e.call l image next) so_far.held stopped in
-    let long : length (held_by e.call now) ≤ length next = long_after e.call now image next inside (omega (arith, so_far.long, ap (λ (l : List ℕ). length l) so_far.held)) stopped in
+    let stopped_then : IsStoppedAfter e.call (held_after (take i es) first) image next =
+    subst (λ (l : List ℕ). IsStoppedAfter e.call l image next) so_far.held stopped in
+    let long : length (held_by e.call now) ≤ length next =
+    long_after e.call now image next inside (omega (arith, so_far.long, ap (λ (l : List ℕ). length l) so_far.held)) stopped in
     record {
       held = now_held;
       left = subst (λ (l : List Entry). left_after l first (λ c. c ≡ first) next) (sym more) (left_pushed (take i es) e first (λ c. c ≡ first) next

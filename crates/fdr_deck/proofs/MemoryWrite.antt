@@ -7,15 +7,16 @@ use Rattle.fdr_deck.specs.State.{State, Tells}
 use Rattle.fdr_deck.specs.Disk.{KeepsDisk, Tears, Writes, Begins, Torn, IsZeros}
 use Rattle.fdr_deck.specs.Moments.{Within, WithinProvide, EachMoment}
 use Rattle.fdr_deck.specs.Calls.{Passes}
-use Rattle.fdr_deck.specs.Memory.{Memory, memory_state, memory_tells, held_in, left_in, IsEntered, IsUnentered, IsNumbered, KeepsPulled}
+use Rattle.fdr_deck.specs.Memory.{Memory, memory_state, memory_tells, held_in, left_in, IsEntered, IsUnentered, HasOneCallMore, KeepsPulled}
 use Rattle.fdr_deck.specs.declared.calls.Entry.{Entry}
 use Rattle.fdr_deck.specs.declared.calls.Call.TheVariants.{Write, FailedWrite, FailedProvide}
 use Rattle.fdr_deck.proofs.Torn.{Torn-same}
 use Rattle.fdr_deck.proofs.MemoryCalls.{passes_entered, entered_left}
-use Rattle.fdr_deck.proofs.MemoryDisk.{keeps_disk_unentered, passes_unentered, within_unentered, within_provide_unentered, within_write, within_failed_write, writes_write, extent_write, tears_write, tears_failed_write, within_failed_provide, begins_failed_provide}
+use Rattle.fdr_deck.proofs.MemoryDisk.{keeps_disk_unentered, passes_unentered, within_unentered, within_provide_unentered, within_write, within_failed_write}
+use Rattle.fdr_deck.proofs.MemoryDisk.{writes_write, extent_write, tears_write, tears_failed_write, within_failed_provide, begins_failed_provide}
 
 -- a call that wasn't entered has no number
-unnumbered : (old new : Memory) → IsUnentered old new → IsNumbered old new → ⊥
+unnumbered : (old new : Memory) → IsUnentered old new → HasOneCallMore old new → ⊥
 unnumbered old new unentered numbered = omega (arith, numbered, ap (λ (l : List Entry). length l) unentered.entries)
 
 -- a write that did nothing
@@ -35,7 +36,8 @@ module _ (at : ℕ) (bytes : List ℕ) (old new : Memory) where
     writes_put = subst (λ (l : List ℕ). Writes memory_tells at l (memory_state old) (memory_state new)) entered.1 (writes_write at entered.0 old new entered.2)
 
     pub tears_put : at + length bytes ≤ length (held_in old) → Tears memory_tells at (length bytes) (memory_state old) (memory_state new)
-    tears_put within = subst (λ (l : List ℕ). Tears memory_tells at (length l) (memory_state old) (memory_state new)) entered.1 (tears_write at entered.0 old new entered.2 (omega (arith, within, ap (λ (l : List ℕ). length l) entered.1)))
+    tears_put within = subst (λ (l : List ℕ). Tears memory_tells at (length l) (memory_state old) (memory_state new)) entered.1
+        (tears_write at entered.0 old new entered.2 (omega (arith, within, ap (λ (l : List ℕ). length l) entered.1)))
 
     pub extent_put : at + length bytes ≤ length (held_in old) → length (held_in new) ≡ length (held_in old)
     extent_put within = extent_write at entered.0 old new entered.2 (omega (arith, within, ap (λ (l : List ℕ). length l) entered.1))
@@ -49,11 +51,12 @@ module _ (at : ℕ) (bytes : List ℕ) (old new : Memory) where
   module _ (failed : ((copy : Vec ℕ Global) × (copy.items ≡ bytes) × IsEntered (FailedWrite at copy) old new) ⊎ IsUnentered old new) where
     pub tears_failed : Tears memory_tells at (length bytes) (memory_state old) (memory_state new)
     tears_failed = ⊎_elim
-        (λ entered. subst (λ (l : List ℕ). Tears memory_tells at (length l) (memory_state old) (memory_state new)) entered.1 (tears_failed_write at entered.0 old new entered.2))
+        (λ entered. subst (λ (l : List ℕ). Tears memory_tells at (length l) (memory_state old) (memory_state new)) entered.1
+        (tears_failed_write at entered.0 old new entered.2))
         (tears_unentered at (length bytes) old new)
         failed
 
-    pub pending_failed : IsNumbered old new → (from image : List ℕ) → left_in old from
+    pub pending_failed : HasOneCallMore old new → (from image : List ℕ) → left_in old from
         → Torn at (length bytes) from image → left_in new image
     pending_failed numbered from image left torn = ⊎_elim
         (λ entered. entered_left (FailedWrite at entered.0) old new entered.2 image
@@ -65,21 +68,23 @@ module _ (at : ℕ) (bytes : List ℕ) (old new : Memory) where
     extent_failed = (tears_failed.held refl).size
 
     pub passes_failed : KeepsPulled old new → old.disk_faults ≤ new.disk_faults → Passes memory_tells (memory_state old) (memory_state new)
-    passes_failed kept faults = ⊎_elim (λ entered. passes_entered (FailedWrite at entered.0) old new entered.2 kept faults) (λ unentered. passes_unentered old new unentered kept faults) failed
+    passes_failed kept faults = ⊎_elim (λ entered. passes_entered (FailedWrite at entered.0) old new entered.2 kept faults)
+        (λ unentered. passes_unentered old new unentered kept faults) failed
 
     pub within_failed : EachMoment memory_tells (memory_state old) (memory_state new) (Within (memory_state old) (memory_state new))
     within_failed = ⊎_elim (λ entered. within_failed_write at entered.0 old new entered.2) (within_unentered old new) failed
 
-pub pending_unentered : (at n : ℕ) (old new : Memory) → IsUnentered old new → IsNumbered old new
+pub pending_unentered : (at n : ℕ) (old new : Memory) → IsUnentered old new → HasOneCallMore old new
     → (from image : List ℕ) → left_in old from → Torn at n from image → left_in new image
 pending_unentered at n old new unentered numbered from image left torn = absurd (unnumbered old new unentered numbered)
 
-pub zeros_unentered : (size : ℕ) (old new : Memory) → IsUnentered old new → IsNumbered old new
+pub zeros_unentered : (size : ℕ) (old new : Memory) → IsUnentered old new → HasOneCallMore old new
     → length (held_in old) ≡ 0 → (image : List ℕ) → IsZeros size image → left_in new image
 zeros_unentered size old new unentered numbered empty image is = absurd (unnumbered old new unentered numbered)
 
 -- an empty disk that was to be provided, and for which there was no memory
-pub begins_unentered : (size : ℕ) (old new : Memory) → IsUnentered old new → length (held_in old) ≡ 0 → Begins memory_tells size (memory_state old) (memory_state new)
+pub begins_unentered : (size : ℕ) (old new : Memory) → IsUnentered old new → length (held_in old) ≡ 0
+    → Begins memory_tells size (memory_state old) (memory_state new)
 begins_unentered size old new unentered empty =
     let kept = keeps_disk_unentered old new unentered in
     let none : length (held_in new) ≡ 0 = ap (λ (l : List ℕ). length l) kept.held ∙ empty in
@@ -94,14 +99,17 @@ module _ (size : ℕ) (old new : Memory) (failed : IsEntered (FailedProvide size
   pub begins_failed : length (held_in old) ≡ 0 → Begins memory_tells size (memory_state old) (memory_state new)
   begins_failed empty = ⊎_elim (λ entered. begins_failed_provide size old new entered empty) (λ unentered. begins_unentered size old new unentered empty) failed
 
-  pub zeros_failed : IsNumbered old new → (image : List ℕ) → IsZeros size image → left_in new image
+  pub zeros_failed : HasOneCallMore old new → (image : List ℕ) → IsZeros size image → left_in new image
   zeros_failed numbered image is = ⊎_elim
       (λ entered. entered_left (FailedProvide size) old new entered image (inr is))
       (λ unentered. absurd (unnumbered old new unentered numbered))
       failed
 
   pub passes_unprovided : KeepsPulled old new → old.disk_faults ≤ new.disk_faults → Passes memory_tells (memory_state old) (memory_state new)
-  passes_unprovided kept faults = ⊎_elim (λ entered. passes_entered (FailedProvide size) old new entered kept faults) (λ unentered. passes_unentered old new unentered kept faults) failed
+  passes_unprovided kept faults = ⊎_elim (λ entered. passes_entered (FailedProvide size) old new entered kept faults)
+      (λ unentered. passes_unentered old new unentered kept faults) failed
 
-  pub within_unprovided : KeepsPulled old new → length (held_in old) ≡ 0 → EachMoment memory_tells (memory_state old) (memory_state new) (WithinProvide size (memory_state old) (memory_state new))
-  within_unprovided kept empty = ⊎_elim (λ entered. within_failed_provide size old new entered kept empty) (λ unentered. within_provide_unentered old new unentered size) failed
+  pub within_unprovided : KeepsPulled old new → length (held_in old) ≡ 0
+      → EachMoment memory_tells (memory_state old) (memory_state new) (WithinProvide size (memory_state old) (memory_state new))
+  within_unprovided kept empty = ⊎_elim (λ entered. within_failed_provide size old new entered kept empty)
+      (λ unentered. within_provide_unentered old new unentered size) failed

@@ -3,12 +3,13 @@ use Rattle.std.proofs.Common.{◌⊎◌, inl, inr, ⊎_elim, ℕ, ◌≤◌, Lis
 use Rattle.std.specs.Prelude.{IsTrue}
 use Rattle.fdr_deck.specs.State.{State, Tells, Moment}
 use Rattle.fdr_deck.specs.Disk.{KeepsDisk, IsZeros}
-use Rattle.fdr_deck.specs.Moments.{IsSound, EachMoment, Within, WithinProvide}
+use Rattle.fdr_deck.specs.Moments.{IsSoundDeck, EachMoment, Within, WithinProvide}
 use Rattle.fdr_deck.specs.Calls.{Passes, IsQuiet, IsQuietMoment}
 use Rattle.fdr_deck.proofs.Moments.{Passes-then, EachMoment-then, IsQuiet-here, IsQuiet-keep}
 
 -- the property is weakened
-pub IsQuiet-weaken : (tells : Tells) (P Q : List ℕ → Type 0) (old new : State) → IsQuiet tells P old new → (IsTrue tells.stops → (image : List ℕ) → P image → Q image) → IsQuiet tells Q old new
+pub IsQuiet-weaken : (tells : Tells) (P Q : List ℕ → Type 0) (old new : State) → IsQuiet tells P old new
+    → (IsTrue tells.stops → (image : List ℕ) → P image → Q image) → IsQuiet tells Q old new
 IsQuiet-weaken tells P Q old new quiet weaker = record {
   passes = quiet.passes;
   moments = λ told m since. let is = quiet.moments told m since in
@@ -16,7 +17,7 @@ IsQuiet-weaken tells P Q old new quiet weaker = record {
 }
 
 -- a stretch with one property, and then one with another
-pub IsQuiet-then : (tells : Tells) (P Q R : List ℕ → Type 0) (old mid new : State) → IsSound tells old → IsQuiet tells P old mid → IsQuiet tells Q mid new
+pub IsQuiet-then : (tells : Tells) (P Q R : List ℕ → Type 0) (old mid new : State) → IsSoundDeck tells old → IsQuiet tells P old mid → IsQuiet tells Q mid new
     → (IsTrue tells.stops → (image : List ℕ) → P image → R image) → (IsTrue tells.stops → (image : List ℕ) → Q image → R image) → IsQuiet tells R old new
 IsQuiet-then tells P Q R old mid new sound first second one two = record {
   passes = Passes-then tells old mid new first.passes second.passes;
@@ -42,13 +43,15 @@ IsQuiet-then tells P Q R old mid new sound first second one two = record {
     }
 
 -- one call that leaves the disk
-pub IsQuiet-look : (tells : Tells) (P : List ℕ → Type 0) (old new : State) → IsSound tells old → KeepsDisk old new → Passes tells old new → EachMoment tells old new (Within old new)
+pub IsQuiet-look : (tells : Tells) (P : List ℕ → Type 0) (old new : State) → IsSoundDeck tells old → KeepsDisk old new → Passes tells old new
+    → EachMoment tells old new (Within old new)
     → (IsTrue tells.stops → (image : List ℕ) → old.may_leave image → P image) → IsQuiet tells P old new
 IsQuiet-look tells P old new sound disk passes moments here =
     IsQuiet-keep tells P old old new sound sound (IsQuiet-here tells P old sound here) passes moments disk.no_more
 
 -- a call that provides the disk
-pub IsQuiet-provide : (tells : Tells) (size : ℕ) (old new : State) → IsSound tells old → Passes tells old new → EachMoment tells old new (WithinProvide size old new)
+pub IsQuiet-provide : (tells : Tells) (size : ℕ) (old new : State) → IsSoundDeck tells old → Passes tells old new
+    → EachMoment tells old new (WithinProvide size old new)
     → IsQuiet tells (λ image. old.may_leave image ⊎ IsZeros size image) old new
 IsQuiet-provide tells size old new sound passes moments = record {
   passes = passes;

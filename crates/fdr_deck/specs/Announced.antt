@@ -2,8 +2,8 @@
 use Rattle.std.specs.Prelude.{ℕ, min, max}
 use Rattle.fdr_deck.specs.declared.announced.Announced.{Announced}
 
-abbrev pub least_of : Announced → ℕ
-least_of a = min a.least a.told
+abbrev pub least_announced : Announced → ℕ
+least_announced a = min a.least a.told
 
-abbrev pub greatest_of : Announced → ℕ
-greatest_of a = max a.greatest a.told
+abbrev pub greatest_announced : Announced → ℕ
+greatest_announced a = max a.greatest a.told

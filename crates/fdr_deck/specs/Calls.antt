@@ -19,13 +19,13 @@ pub record Passes (tells : Tells) (old new : State) : Type 0 where
   pub time : Elapses tells old new
 
 -- after a call that did what it is for, the announced number is the least and the greatest
-pub record IsFresh (new : State) : Type 0 where
+pub record HasOneAnnounced (new : State) : Type 0 where
   pub least : new.least ≡ new.told
   pub greatest : new.greatest ≡ new.told
 
 -- a call of the disk that did what it is for
 pub record Succeeds (old new : State) : Type 0 where
-  pub fresh : IsFresh new
+  pub fresh : HasOneAnnounced new
   pub disk_faults : new.disk_faults ≡ old.disk_faults
 
 -- a call that has nothing to do with the disk

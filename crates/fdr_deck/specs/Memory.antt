@@ -3,7 +3,7 @@ use Rattle.std.specs.Prelude.{◌≡◌, ◌⊎◌, ℕ, ◌+◌, ◌-◌, ◌�
 use Rattle.std.specs.declared.alloc.Global.{Global}
 use Rattle.fdr_deck.specs.State.{State, Tells, Moment}
 use Rattle.fdr_deck.specs.Disk.{patched, Torn, IsZeros}
-use Rattle.fdr_deck.specs.Announced.{least_of, greatest_of}
+use Rattle.fdr_deck.specs.Announced.{least_announced, greatest_announced}
 use Rattle.fdr_deck.specs.declared.calls.Call.{Call}
 use Rattle.fdr_deck.specs.declared.calls.Call.TheVariants.{Pass, Write, FailedWrite, Sync, Provide, FailedProvide}
 use Rattle.fdr_deck.specs.declared.calls.Numbers.{Numbers}
@@ -67,8 +67,8 @@ left_after (e ∷ es) held leaves image = left_after es (held_by e.call held) (l
 -- a moment between two calls: the image is one of these, and each number announced since the call before may be told
 pub record IsBetween (leaves : List ℕ → Type 0) (numbers : Numbers) (m : Moment) : Type 0 where
   pub image : leaves m.image
-  pub least : least_of numbers.announced ≤ m.told
-  pub greatest : m.told ≤ greatest_of numbers.announced
+  pub least : least_announced numbers.announced ≤ m.told
+  pub greatest : m.told ≤ greatest_announced numbers.announced
   pub taken : m.taken ≡ numbers.taken
   pub before : m.before ≡ numbers.before
 
@@ -82,7 +82,8 @@ pub record IsAmid (leaves : List ℕ → Type 0) (numbers : Numbers) (m : Moment
 -- the moments since the call of number t began, or those now where there was none
 unfoldable pub moments_after : List Entry → Numbers → List ℕ → (List ℕ → Type 0) → ℕ → Moment → Type 0
 moments_after [] now held leaves t m = IsBetween leaves now m
-moments_after (e ∷ es) now held leaves t m = ((t ≡ 0) × (IsBetween leaves e.numbers m ⊎ IsAmid (left_within e.call held leaves) e.numbers m)) ⊎ moments_after es now (held_by e.call held) (left_by e.call held leaves) (t - 1) m
+moments_after (e ∷ es) now held leaves t m = ((t ≡ 0) × (IsBetween leaves e.numbers m ⊎ IsAmid (left_within e.call held leaves) e.numbers m))
+    ⊎ moments_after es now (held_by e.call held) (left_by e.call held leaves) (t - 1) m
 
 abbrev pub held_in : Memory → List ℕ
 held_in m = held_after m.entries m.first
@@ -99,8 +100,8 @@ memory_state m = record {
   clock = length m.entries;
   since = moments_after m.entries m.numbers m.first (λ image. image ≡ m.first);
   told = m.numbers.announced.told;
-  least = least_of m.numbers.announced;
-  greatest = greatest_of m.numbers.announced;
+  least = least_announced m.numbers.announced;
+  greatest = greatest_announced m.numbers.announced;
   line = m.line;
   taken = m.numbers.taken;
   before = m.numbers.before;
@@ -112,8 +113,8 @@ memory_state m = record {
 pub record IsEntered (call : Call) (old new : Memory) : Type 0 where
   pub entries : new.entries ≡ old.entries ++ (record { call = call; numbers = old.numbers } ∷ [])
   pub told : new.numbers.announced.told ≡ old.numbers.announced.told
-  pub least : least_of new.numbers.announced ≡ old.numbers.announced.told
-  pub greatest : greatest_of new.numbers.announced ≡ old.numbers.announced.told
+  pub least : least_announced new.numbers.announced ≡ old.numbers.announced.told
+  pub greatest : greatest_announced new.numbers.announced ≡ old.numbers.announced.told
   pub first : new.first ≡ old.first
   pub failing : new.failing ≡ old.failing
 
@@ -136,12 +137,12 @@ abbrev pub IsListed : Memory → Type 0
 IsListed m = Contains m.failing (length m.entries)
 
 -- a call was entered, so the next one has the next number
-abbrev pub IsNumbered : Memory → Memory → Type 0
-IsNumbered old new = length new.entries ≡ length old.entries + 1
+abbrev pub HasOneCallMore : Memory → Memory → Type 0
+HasOneCallMore old new = length new.entries ≡ length old.entries + 1
 
 -- a call that failed because it is listed, and has its number, or because there was no memory to enter it, and has none
-abbrev pub IsRefused : Memory → Memory → Type 0
-IsRefused old new = (IsListed old × IsNumbered old new) ⊎ IsUnentered old new
+abbrev pub IsFailedCall : Memory → Memory → Type 0
+IsFailedCall old new = (IsListed old × HasOneCallMore old new) ⊎ IsUnentered old new
 
 -- what is held, where the first content was kept and a changed one stands beside it
 abbrev pub current : List ℕ → Option (Vec ℕ Global) → List ℕ
@@ -149,13 +150,13 @@ current first None = first
 current first (Some changed) = changed.items
 
 -- the range of a write lies in what is held, and only an empty disk is provided
-abbrev pub IsInside : Call → List ℕ → Type 0
-IsInside Pass held = ⊤
-IsInside (Write at bytes) held = at + length bytes.items ≤ length held
-IsInside (FailedWrite at bytes) held = at + length bytes.items ≤ length held
-IsInside Sync held = ⊤
-IsInside (Provide size) held = length held ≡ 0
-IsInside (FailedProvide size) held = length held ≡ 0
+abbrev pub FitsDisk : Call → List ℕ → Type 0
+FitsDisk Pass held = ⊤
+FitsDisk (Write at bytes) held = at + length bytes.items ≤ length held
+FitsDisk (FailedWrite at bytes) held = at + length bytes.items ≤ length held
+FitsDisk Sync held = ⊤
+FitsDisk (Provide size) held = length held ≡ 0
+FitsDisk (FailedProvide size) held = length held ≡ 0
 
 -- the range of a write lies in an image of n bytes
 abbrev pub FitsIn : Call → ℕ → Type 0
@@ -169,16 +170,16 @@ FitsIn (FailedProvide size) n = ⊤
 -- so it is with each of these calls
 unfoldable pub AreInside : List Entry → List ℕ → Type 0
 AreInside [] held = ⊤
-AreInside (e ∷ es) held = IsInside e.call held × AreInside es (held_by e.call held)
+AreInside (e ∷ es) held = FitsDisk e.call held × AreInside es (held_by e.call held)
 
 -- what one stop within a call leaves, where another that came before the call left an image
-abbrev pub IsStopped : Call → List ℕ → List ℕ → Type 0
-IsStopped Pass before image = image ≡ before
-IsStopped (Write at bytes) before image = Torn at (length bytes.items) before image
-IsStopped (FailedWrite at bytes) before image = Torn at (length bytes.items) before image
-IsStopped Sync before image = image ≡ before
-IsStopped (Provide size) before image = IsZeros size image
-IsStopped (FailedProvide size) before image = IsZeros size image
+abbrev pub IsLeftWithin : Call → List ℕ → List ℕ → Type 0
+IsLeftWithin Pass before image = image ≡ before
+IsLeftWithin (Write at bytes) before image = Torn at (length bytes.items) before image
+IsLeftWithin (FailedWrite at bytes) before image = Torn at (length bytes.items) before image
+IsLeftWithin Sync before image = image ≡ before
+IsLeftWithin (Provide size) before image = IsZeros size image
+IsLeftWithin (FailedProvide size) before image = IsZeros size image
 
 -- what one stop after a call leaves
 abbrev pub IsStoppedAfter : Call → List ℕ → List ℕ → List ℕ → Type 0

@@ -2,7 +2,7 @@
 use Rattle.std.specs.Prelude.{◌≡◌, ℕ, ◌-◌, ◌≤◌, List, [], ◌∷◌, length}
 use Rattle.std.proofs.Common.{inl, inr, refl, arith}
 use Rattle.fdr_deck.specs.State.{Moment}
-use Rattle.fdr_deck.specs.Moments.{IsSound}
+use Rattle.fdr_deck.specs.Moments.{IsSoundDeck}
 use Rattle.fdr_deck.specs.Memory.{Memory, memory_state, memory_tells, held_by, left_by, held_after, left_after, IsBetween, moments_after}
 use Rattle.fdr_deck.specs.declared.calls.Call.{Call}
 use Rattle.fdr_deck.specs.declared.calls.Call.TheVariants.{Pass, Write, FailedWrite, Sync, Provide, FailedProvide}
@@ -23,24 +23,28 @@ unfolding held_after left_after
 holds_after [] held leaves has = has
 holds_after (e ∷ es) held leaves has = holds_after es (held_by e.call held) (left_by e.call held leaves) (holds_by e.call held leaves has)
 
-only_now : (es : List Entry) (now : Numbers) (held : List ℕ) (leaves : List ℕ → Type 0) (t : ℕ) (m : Moment) → length es ≤ t → moments_after es now held leaves t m → IsBetween (left_after es held leaves) now m
+only_now : (es : List Entry) (now : Numbers) (held : List ℕ) (leaves : List ℕ → Type 0) (t : ℕ) (m : Moment) → length es ≤ t
+    → moments_after es now held leaves t m → IsBetween (left_after es held leaves) now m
 unfolding left_after moments_after
 only_now [] now held leaves t m late since = since
 only_now (e ∷ es) now held leaves t m late (inl early) = absurd (omega (arith, early.0))
 only_now (e ∷ es) now held leaves t m late (inr since) = only_now es now (held_by e.call held) (left_by e.call held leaves) (t - 1) m (omega arith) since
 
-counts_now : (es : List Entry) (now : Numbers) (held : List ℕ) (leaves : List ℕ → Type 0) (t : ℕ) (m : Moment) → IsBetween (left_after es held leaves) now m → moments_after es now held leaves t m
+counts_now : (es : List Entry) (now : Numbers) (held : List ℕ) (leaves : List ℕ → Type 0) (t : ℕ) (m : Moment) → IsBetween (left_after es held leaves) now m
+    → moments_after es now held leaves t m
 unfolding left_after moments_after
 counts_now [] now held leaves t m is = is
 counts_now (e ∷ es) now held leaves t m is = inr (counts_now es now (held_by e.call held) (left_by e.call held leaves) (t - 1) m is)
 
-falls : (es : List Entry) (now : Numbers) (held : List ℕ) (leaves : List ℕ → Type 0) (earlier t : ℕ) (m : Moment) → earlier ≤ t → moments_after es now held leaves t m → moments_after es now held leaves earlier m
+falls : (es : List Entry) (now : Numbers) (held : List ℕ) (leaves : List ℕ → Type 0) (earlier t : ℕ) (m : Moment) → earlier ≤ t
+    → moments_after es now held leaves t m → moments_after es now held leaves earlier m
 unfolding moments_after
 falls [] now held leaves earlier t m le since = since
 falls (e ∷ es) now held leaves earlier t m le (inl here) = inl (omega (arith, here.0), here.1)
-falls (e ∷ es) now held leaves earlier t m le (inr since) = inr (falls es now (held_by e.call held) (left_by e.call held leaves) (earlier - 1) (t - 1) m (omega arith) since)
+falls (e ∷ es) now held leaves earlier t m le (inr since) =
+    inr (falls es now (held_by e.call held) (left_by e.call held leaves) (earlier - 1) (t - 1) m (omega arith) since)
 
-pub memory_is_sound : (d : Memory) → IsSound memory_tells (memory_state d)
+pub memory_is_sound : (d : Memory) → IsSoundDeck memory_tells (memory_state d)
 memory_is_sound d = record {
   stops_need_bytes = λ told. refl;
   size = λ told. refl;

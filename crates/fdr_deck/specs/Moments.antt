@@ -27,14 +27,14 @@ abbrev pub EachMoment : Tells → State → State → (Moment → Type 0) → Ty
 EachMoment tells old new P = IsTrue tells.stops → (m : Moment) → new.since old.clock m → P m
 
 -- the inside of a call: an image from before it or after it, the announced number as it stands, and the numbers of bytes pulled from before it or after it
-pub record IsInside (old new : State) (m : Moment) : Type 0 where
+pub record IsInsideCall (old new : State) (m : Moment) : Type 0 where
   pub image : old.may_leave m.image ⊎ new.may_leave m.image
   pub told : m.told ≡ old.told
   pub pulled : HasPulled old m ⊎ HasPulled new m
 
 -- a moment of a call: the one at which it began, or one inside it
 abbrev pub Within : State → State → Moment → Type 0
-Within old new m = IsNow old m ⊎ IsInside old new m
+Within old new m = IsNow old m ⊎ IsInsideCall old new m
 
 -- the inside of a call that provides the disk
 pub record IsProviding (size : ℕ) (old : State) (m : Moment) : Type 0 where
@@ -46,7 +46,7 @@ abbrev pub WithinProvide : ℕ → State → State → Moment → Type 0
 WithinProvide size old new m = IsNow old m ⊎ IsProviding size old m
 
 -- What holds of each deck.
-pub record IsSound (tells : Tells) (d : State) : Type 0 where
+pub record IsSoundDeck (tells : Tells) (d : State) : Type 0 where
   pub stops_need_bytes : IsTrue tells.stops → IsTrue tells.bytes
   pub size : IsTrue tells.bytes → length d.held ≡ d.extent
   pub held : IsTrue tells.stops → d.may_leave d.held

@@ -7,7 +7,8 @@ pub record Tells : Type 0 where
   pub bytes : Bool
   pub stops : Bool
 
--- what stands at one moment: the image on the disk, the announced number, the number of bytes pulled so far, and that number as the last pull that gave bytes began
+-- what stands at one moment: the image on the disk, the announced number, the number of bytes pulled so far, and that
+-- number as the last pull that gave bytes began
 pub record Moment : Type 0 where
   pub image : List ℕ
   pub told : ℕ

@@ -2,8 +2,8 @@
 use Rattle.std.specs.Prelude.{ℕ, List, length, true, false}
 use Rattle.std.proofs.Common.{refl, arith}
 use Rattle.fdr_deck.specs.State.{State, Tells}
-use Rattle.fdr_deck.specs.Moments.{IsSound}
-use Rattle.fdr_deck.specs.Announced.{least_of, greatest_of}
+use Rattle.fdr_deck.specs.Moments.{IsSoundDeck}
+use Rattle.fdr_deck.specs.Announced.{least_announced, greatest_announced}
 use Rattle.fdr_deck.specs.declared.announced.Announced.{Announced}
 
 pub record Sure : Type 0 where
@@ -25,8 +25,8 @@ sure_state s = record {
   clock = 0;
   since = λ t m. ⊥;
   told = s.announced.told;
-  least = least_of s.announced;
-  greatest = greatest_of s.announced;
+  least = least_announced s.announced;
+  greatest = greatest_announced s.announced;
   line = s.line;
   taken = s.taken;
   before = s.before;
@@ -34,7 +34,7 @@ sure_state s = record {
   line_faults = 0;
 }
 
-pub sure_is_sound : (s : Sure) → IsSound sure_tells (sure_state s)
+pub sure_is_sound : (s : Sure) → IsSoundDeck sure_tells (sure_state s)
 sure_is_sound s = record {
   stops_need_bytes = λ told. cc;
   size = λ told. refl;

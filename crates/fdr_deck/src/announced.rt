@@ -1,6 +1,7 @@
-// The announced number.
+//! The announced number.
+
 ghost use Rattle.std.specs.Prelude.{◌≡◌, ◌≤◌, min, max};
-ghost use Rattle.fdr_deck.specs.Announced.{least_of, greatest_of};
+ghost use Rattle.fdr_deck.specs.Announced.{least_announced, greatest_announced};
 
 /// The number that a deck announced last, and the least and the greatest number that it announced
 /// since its last call that wasn't an announcement, with the one that was announced then.
@@ -15,8 +16,8 @@ impl Announced {
     /// The number of a new deck, 0.
     pub fn new() -> Announced
         ensures told { result.told ≡ 0 }
-        ensures least { least_of result ≡ 0 }
-        ensures greatest { greatest_of result ≡ 0 }
+        ensures least { least_announced result ≡ 0 }
+        ensures greatest { greatest_announced result ≡ 0 }
     {
         Announced {
             told: 0,
@@ -34,7 +35,7 @@ impl Announced {
 
     /// The greatest number that was announced since the last call that wasn't an announcement.
     pub fn greatest(&self) -> u64
-        ensures { result ≡ greatest_of self.now }
+        ensures { result ≡ greatest_announced self.now }
     {
         self.greatest.max(self.told)
     }
@@ -42,8 +43,8 @@ impl Announced {
     /// Announces this number.
     pub fn announce(&mut self, count: u64)
         ensures told { self.new.told ≡ count }
-        ensures least { least_of self.new ≡ min (least_of self.old) count }
-        ensures greatest { greatest_of self.new ≡ max (greatest_of self.old) count }
+        ensures least { least_announced self.new ≡ min (least_announced self.old) count }
+        ensures greatest { greatest_announced self.new ≡ max (greatest_announced self.old) count }
     {
         self.least = self.least.min(self.told).min(count);
         self.greatest = self.greatest.max(self.told).max(count);
@@ -53,8 +54,8 @@ impl Announced {
     /// A call that isn't an announcement: no other number was announced since.
     pub fn begin_anew(&mut self)
         ensures told { self.new.told ≡ self.old.told }
-        ensures least { least_of self.new ≡ self.old.told }
-        ensures greatest { greatest_of self.new ≡ self.old.told }
+        ensures least { least_announced self.new ≡ self.old.told }
+        ensures greatest { greatest_announced self.new ≡ self.old.told }
     {
         self.least = self.told;
         self.greatest = self.told;

@@ -1,4 +1,5 @@
-// The calls that the deck in memory has seen.
+//! The calls that the deck in memory has seen.
+
 use crate::Announced;
 
 /// What a call did to the disk.

@@ -1,11 +1,12 @@
-// What a deck does.
+//! What a deck does.
+
 ghost use Rattle.std.specs.Prelude.{◌≡◌, ℕ, ◌+◌, ◌<◌, ◌≤◌, List, length, IfOk, OnOk, OnErr, IsTrue};
 ghost use Rattle.fdr_io.specs.Faults.{Rose};
 ghost use Rattle.fdr_deck.specs.State.{Tells, State};
 ghost use Rattle.fdr_deck.specs.Disk.{IsSettled, KeepsDisk, LearnsExtent, Reads, Tears, Writes, Provides, Begins};
-ghost use Rattle.fdr_deck.specs.Moments.{Elapses, EachMoment, IsNow, Within, WithinProvide, IsSound};
+ghost use Rattle.fdr_deck.specs.Moments.{Elapses, EachMoment, IsNow, Within, WithinProvide, IsSoundDeck};
 ghost use Rattle.fdr_deck.specs.Pull.{Pulls, KeepsLine};
-ghost use Rattle.fdr_deck.specs.Calls.{Passes, KeepsTold, IsFresh, Succeeds, LeavesDisk, Announces};
+ghost use Rattle.fdr_deck.specs.Calls.{Passes, KeepsTold, HasOneAnnounced, Succeeds, LeavesDisk, Announces};
 
 use fdr_io::Failed;
 
@@ -107,13 +108,13 @@ pub trait Deck {
         ensures monotone { (state self.old).line_faults ≤ (state self.new).line_faults }
         ensures disk { LeavesDisk (state self.old) (state self.new) }
         ensures told { KeepsTold (state self.old) (state self.new) }
-        ensures fresh { OnOk result (IsFresh (state self.new)) }
+        ensures fresh { OnOk result (HasOneAnnounced (state self.new)) }
         ensures time { Elapses tells (state self.old) (state self.new) }
         ensures moments { EachMoment tells (state self.old) (state self.new) (Within (state self.old) (state self.new)) }
         ensures rest { same_rest self.old self.new };
 
     // What holds of each deck.
-    ghost sound: { (deck : Self) → IsSound tells (state deck) };
+    ghost sound: { (deck : Self) → IsSoundDeck tells (state deck) };
 
     // A deck has its own rest.
     ghost rest_here: { (deck : Self) → same_rest deck deck };

@@ -1,4 +1,4 @@
-// Want of memory.
+//! Want of memory.
 
 /// There was no memory for an image.
 #[derive(Clone, Copy, Debug, PartialEq, Eq)]

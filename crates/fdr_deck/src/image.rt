@@ -1,4 +1,5 @@
-// Images in memory.
+//! Images in memory.
+
 ghost use Rattle.std.specs.Prelude.{◌≡◌, ◌+◌, ◌≤◌, length, replicate, slice_range, IfOk};
 ghost use Rattle.fdr_deck.specs.Disk.{patched};
 

@@ -1,4 +1,5 @@
-// The deck in memory whose listed calls fail.
+//! The deck in memory whose listed calls fail.
+
 ghost use Rattle.std.specs.Prelude.{◌≡◌, ◌⊎◌, ℕ, ◌+◌, ◌<◌, ◌≤◌, ◌↔◌, List, [], Vec, length, drop, min, max, replicate, IfOk, IsOk, IsErr, OnOk, OnErr, IsTrue, IsFalse, Contains, slice_get, Some, ⊤};
 ghost use Rattle.std.specs.declared.alloc.Global.{Global};
 ghost use Rattle.fdr_io.specs.Faults.{Rose, next_count};
@@ -7,9 +8,9 @@ ghost use Rattle.fdr_deck.specs.State.{State};
 ghost use Rattle.fdr_deck.specs.Disk.{IsSettled, KeepsDisk, LearnsExtent, Reads, Tears, Writes, Provides, Begins, Torn, IsZeros};
 ghost use Rattle.fdr_deck.specs.Moments.{Elapses, EachMoment, IsNow, Within, WithinProvide};
 ghost use Rattle.fdr_deck.specs.Pull.{Pulls, KeepsLine};
-ghost use Rattle.fdr_deck.specs.Calls.{Passes, KeepsTold, IsFresh, Succeeds, LeavesDisk, Announces};
-ghost use Rattle.fdr_deck.specs.Announced.{least_of, greatest_of};
-ghost use Rattle.fdr_deck.specs.Memory.{memory_state, memory_tells, held_in, left_in, held_by, current, IsInside, MayStopWithin, IsEntered, IsUnentered, IsListed, IsNumbered, IsRefused, KeepsPulled};
+ghost use Rattle.fdr_deck.specs.Calls.{Passes, KeepsTold, HasOneAnnounced, Succeeds, LeavesDisk, Announces};
+ghost use Rattle.fdr_deck.specs.Announced.{least_announced, greatest_announced};
+ghost use Rattle.fdr_deck.specs.Memory.{memory_state, memory_tells, held_in, left_in, held_by, current, FitsDisk, MayStopWithin, IsEntered, IsUnentered, IsListed, HasOneCallMore, IsFailedCall, KeepsPulled};
 ghost use Rattle.fdr_deck.specs.MemorySound.{memory_is_sound};
 ghost use Rattle.fdr_deck.specs.Stops.{stopped_image};
 ghost use Rattle.fdr_deck.specs.declared.calls.Entry.{Entry};
@@ -121,7 +122,7 @@ impl MemDeck {
     /// The greatest number that was told as this call began.
     pub fn told_at(&self, call: u64) -> u64
         requires { call < length self.now.entries }
-        ensures { (e : Entry) → slice_get self.now.entries call ≡ Some e → result ≡ greatest_of e.numbers.announced }
+        ensures { (e : Entry) → slice_get self.now.entries call ≡ Some e → result ≡ greatest_announced e.numbers.announced }
     {
         self.entries[call as usize].numbers.announced.greatest()
     }
@@ -145,7 +146,7 @@ impl MemDeck {
     // Enters a call that leaves what the disk holds.
     fn enter(&mut self, call: Call) -> Result<(), NoMemory>
         requires kept { (held : List ℕ) → held_by call held ≡ held }
-        requires inside { IsInside call (held_in self.old) }
+        requires inside { FitsDisk call (held_in self.old) }
         ensures entered { OnOk result (IsEntered call self.old self.new) }
         ensures unentered { OnErr result (IsUnentered self.old self.new) }
         ensures pulled { KeepsPulled self.old self.new }
@@ -167,7 +168,7 @@ impl MemDeck {
     // Counts a fault of the disk, and enters the call that failed where there is memory for it.
     fn fail(&mut self, call: Call) -> Failed
         requires kept { (held : List ℕ) → held_by call held ≡ held }
-        requires inside { IsInside call (held_in self.old) }
+        requires inside { FitsDisk call (held_in self.old) }
         ensures entered { IsEntered call self.old self.new ⊎ IsUnentered self.old self.new }
         ensures pulled { KeepsPulled self.old self.new }
         ensures disk_faults { self.new.disk_faults ≡ next_count self.old.disk_faults }
@@ -248,8 +249,8 @@ impl MemDeck {
         ensures before { self.new.numbers.before ≡ self.old.numbers.before }
         ensures disk_faults { self.new.disk_faults ≡ self.old.disk_faults }
         ensures listed { IsListed self.old → IsErr result }
-        ensures unlisted { OnErr result (IsRefused self.old self.new) }
-        ensures numbered { OnOk result (IsNumbered self.old self.new) }
+        ensures unlisted { OnErr result (IsFailedCall self.old self.new) }
+        ensures numbered { OnOk result (HasOneCallMore self.old self.new) }
     {
         let fails = self.fails();
         let entered = self.enter(Call::Pass).is_ok();
@@ -263,8 +264,8 @@ impl MemDeck {
     // Announces this number.
     fn tell(&mut self, count: u64)
         ensures told { self.new.numbers.announced.told ≡ count }
-        ensures least { least_of self.new.numbers.announced ≡ min (least_of self.old.numbers.announced) count }
-        ensures greatest { greatest_of self.new.numbers.announced ≡ max (greatest_of self.old.numbers.announced) count }
+        ensures least { least_announced self.new.numbers.announced ≡ min (least_announced self.old.numbers.announced) count }
+        ensures greatest { greatest_announced self.new.numbers.announced ≡ max (greatest_announced self.old.numbers.announced) count }
         ensures pulled { KeepsPulled self.old self.new }
         ensures entries { self.new.entries ≡ self.old.entries }
         ensures first { self.new.first ≡ self.old.first }
@@ -302,7 +303,7 @@ impl MemDeck {
     // A call that leaves the disk, but where it is a sync, and fails where it is listed.
     fn pass(&mut self, call: Call) -> Result<(), Failed>
         requires kept { (held : List ℕ) → held_by call held ≡ held }
-        requires inside { IsInside call (held_in self.old) }
+        requires inside { FitsDisk call (held_in self.old) }
         ensures entered { OnOk result (IsEntered call self.old self.new) }
         ensures quiet { OnOk result (self.new.disk_faults ≡ self.old.disk_faults) }
         ensures failed { OnErr result (IsEntered Pass self.old self.new ⊎ IsUnentered self.old self.new) }
@@ -310,8 +311,8 @@ impl MemDeck {
         ensures monotone { self.old.disk_faults ≤ self.new.disk_faults }
         ensures pulled { KeepsPulled self.old self.new }
         ensures listed { IsListed self.old → IsErr result }
-        ensures unlisted { OnErr result (IsRefused self.old self.new) }
-        ensures numbered { OnOk result (IsNumbered self.old self.new) }
+        ensures unlisted { OnErr result (IsFailedCall self.old self.new) }
+        ensures numbered { OnOk result (HasOneCallMore self.old self.new) }
     {
         if self.fails() {
             return Err(self.fail(Call::Pass));
@@ -399,8 +400,8 @@ impl Deck for MemDeck {
         ensures cause { OnErr result (Rose (memory_state self.old).disk_faults (memory_state self.new).disk_faults) }
         ensures moments { EachMoment memory_tells (memory_state self.old) (memory_state self.new) (Within (memory_state self.old) (memory_state self.new)) }
         ensures listed { IsListed self.old → IsErr result }
-        ensures unlisted { OnErr result (IsRefused self.old self.new) }
-        ensures numbered { OnOk result (IsNumbered self.old self.new) }
+        ensures unlisted { OnErr result (IsFailedCall self.old self.new) }
+        ensures numbered { OnOk result (HasOneCallMore self.old self.new) }
         ensures failing { self.new.failing ≡ self.old.failing }
     {
         self.pass(Call::Pass)?;
@@ -417,11 +418,11 @@ impl Deck for MemDeck {
         ensures cause { OnErr result (Rose (memory_state self.old).disk_faults (memory_state self.new).disk_faults) }
         ensures moments { EachMoment memory_tells (memory_state self.old) (memory_state self.new) (WithinProvide size (memory_state self.old) (memory_state self.new)) }
         ensures listed { IsListed self.old → IsErr result }
-        ensures unlisted { OnErr result (IsRefused self.old self.new) }
-        ensures numbered { OnOk result (IsNumbered self.old self.new) }
+        ensures unlisted { OnErr result (IsFailedCall self.old self.new) }
+        ensures numbered { OnOk result (HasOneCallMore self.old self.new) }
         ensures failing { self.new.failing ≡ self.old.failing }
         // one that failed and has a number may leave zeros of every length
-        ensures zeros { OnErr result (IsNumbered self.old self.new → length (held_in self.old) ≡ 0
+        ensures zeros { OnErr result (HasOneCallMore self.old self.new → length (held_in self.old) ≡ 0
             → (image : List ℕ) → IsZeros size image → left_in self.new image) }
     {
         if !self.image().is_empty() {
@@ -446,8 +447,8 @@ impl Deck for MemDeck {
         ensures cause { OnErr result (Rose (memory_state self.old).disk_faults (memory_state self.new).disk_faults) }
         ensures moments { EachMoment memory_tells (memory_state self.old) (memory_state self.new) (Within (memory_state self.old) (memory_state self.new)) }
         ensures listed { IsListed self.old → IsErr result }
-        ensures unlisted { OnErr result (IsRefused self.old self.new) }
-        ensures numbered { OnOk result (IsNumbered self.old self.new) }
+        ensures unlisted { OnErr result (IsFailedCall self.old self.new) }
+        ensures numbered { OnOk result (HasOneCallMore self.old self.new) }
         ensures failing { self.new.failing ≡ self.old.failing }
     {
         self.pass(Call::Pass)?;
@@ -465,11 +466,11 @@ impl Deck for MemDeck {
         ensures cause { OnErr result (Rose (memory_state self.old).disk_faults (memory_state self.new).disk_faults) }
         ensures moments { EachMoment memory_tells (memory_state self.old) (memory_state self.new) (Within (memory_state self.old) (memory_state self.new)) }
         ensures listed { IsListed self.old → IsErr result }
-        ensures unlisted { OnErr result (IsRefused self.old self.new) }
-        ensures numbered { OnOk result (IsNumbered self.old self.new) }
+        ensures unlisted { OnErr result (IsFailedCall self.old self.new) }
+        ensures numbered { OnOk result (HasOneCallMore self.old self.new) }
         ensures failing { self.new.failing ≡ self.old.failing }
         // a failed write that has a number is pending
-        ensures torn { OnErr result (IsNumbered self.old self.new
+        ensures torn { OnErr result (HasOneCallMore self.old self.new
             → (from image : List ℕ) → left_in self.old from → Torn at (length bytes.now) from image → left_in self.new image) }
     {
         let at = at as usize;
@@ -491,8 +492,8 @@ impl Deck for MemDeck {
         ensures cause { OnErr result (Rose (memory_state self.old).disk_faults (memory_state self.new).disk_faults) }
         ensures moments { EachMoment memory_tells (memory_state self.old) (memory_state self.new) (Within (memory_state self.old) (memory_state self.new)) }
         ensures listed { IsListed self.old → IsErr result }
-        ensures unlisted { OnErr result (IsRefused self.old self.new) }
-        ensures numbered { OnOk result (IsNumbered self.old self.new) }
+        ensures unlisted { OnErr result (IsFailedCall self.old self.new) }
+        ensures numbered { OnOk result (HasOneCallMore self.old self.new) }
         ensures failing { self.new.failing ≡ self.old.failing }
     {
         self.pass(Call::Sync)?;
@@ -519,12 +520,12 @@ impl Deck for MemDeck {
         ensures monotone { (memory_state self.old).line_faults ≤ (memory_state self.new).line_faults }
         ensures disk { LeavesDisk (memory_state self.old) (memory_state self.new) }
         ensures told { KeepsTold (memory_state self.old) (memory_state self.new) }
-        ensures fresh { OnOk result (IsFresh (memory_state self.new)) }
+        ensures fresh { OnOk result (HasOneAnnounced (memory_state self.new)) }
         ensures time { Elapses memory_tells (memory_state self.old) (memory_state self.new) }
         ensures moments { EachMoment memory_tells (memory_state self.old) (memory_state self.new) (Within (memory_state self.old) (memory_state self.new)) }
         ensures listed { IsListed self.old → IsErr result }
-        ensures unlisted { OnErr result (IsRefused self.old self.new) }
-        ensures numbered { OnOk result (IsNumbered self.old self.new) }
+        ensures unlisted { OnErr result (IsFailedCall self.old self.new) }
+        ensures numbered { OnOk result (HasOneCallMore self.old self.new) }
         ensures failing { self.new.failing ≡ self.old.failing }
         ensures full { IfOk result (λ n. n ≡ min (length self.old.line) (length buf.new)) }
     {

@@ -1,9 +1,10 @@
-// Runs of calls of the disk, as code above this crate makes them.
+//! Runs of calls of the disk, as code above this crate makes them.
+
 ghost use Rattle.std.specs.Prelude.{◌≡◌, ◌+◌, ◌<◌, ◌≤◌, ◌^◌, [], ◌∷◌, length, IfOk, OnOk, OnErr, IsTrue};
 ghost use Rattle.fdr_io.specs.Faults.{Rose};
 ghost use Rattle.fdr_deck.specs.Disk.{IsSettled, KeepsDisk, patched};
 ghost use Rattle.fdr_deck.specs.Moments.{EachMoment};
-ghost use Rattle.fdr_deck.specs.Calls.{Passes, IsQuiet, IsFresh};
+ghost use Rattle.fdr_deck.specs.Calls.{Passes, IsQuiet, HasOneAnnounced};
 ghost use Rattle.fdr_deck.specs.Marked.{IsMarked, IsUnmarked};
 
 use crate::Deck;
@@ -21,7 +22,7 @@ pub fn put_marked<D: Deck>(deck: &mut D, at: u64, bytes: &[u8]) -> Result<(), Fa
         → (D.state deck.new).held ≡ patched at (1 ∷ []) (patched (at + 1) bytes.now (D.state deck.old).held)) }
     ensures left { OnOk result (IsTrue D.tells.stops
         → (D.state deck.new).may_leave (patched at (1 ∷ []) (patched (at + 1) bytes.now (D.state deck.old).held))) }
-    ensures fresh { OnOk result (IsFresh (D.state deck.new)) }
+    ensures fresh { OnOk result (HasOneAnnounced (D.state deck.new)) }
     ensures quiet { OnOk result ((D.state deck.new).disk_faults ≡ (D.state deck.old).disk_faults) }
     ensures cause { OnErr result (Rose (D.state deck.old).disk_faults (D.state deck.new).disk_faults) }
     ensures extent { (D.state deck.new).extent ≡ (D.state deck.old).extent }

@@ -1,7 +1,8 @@
-// What stops leave of the disk of the deck in memory.
+//! What stops leave of the disk of the deck in memory.
+
 ghost use Rattle.std.specs.Prelude.{◌≡◌, ◌+◌, ◌<◌, ◌≤◌, length, take, slice_get, Some, replicate, IfOk, OnOk};
 ghost use Rattle.fdr_deck.specs.Disk.{Torn, IsZeros};
-ghost use Rattle.fdr_deck.specs.Memory.{held_by, held_after, left_after, left_within, IsInside, FitsIn, AreInside, IsStopped, IsStoppedAfter};
+ghost use Rattle.fdr_deck.specs.Memory.{held_by, held_after, left_after, left_within, FitsDisk, FitsIn, AreInside, IsLeftWithin, IsStoppedAfter};
 ghost use Rattle.fdr_deck.specs.Stops.{torn_by, size_of, image_after, image_within, image_at};
 ghost use Rattle.fdr_deck.specs.declared.calls.Entry.{Entry};
 
@@ -58,7 +59,7 @@ fn stop_within(
     tear: Tear,
 ) -> Result<Vec<u8>, NoMemory>
     requires { FitsIn call.now (length left.items) }
-    ensures stopped { IfOk result (λ image. IsStopped call.now left.items image.items) }
+    ensures stopped { IfOk result (λ image. IsLeftWithin call.now left.items image.items) }
     ensures image { IfOk result (λ image. image.items ≡ image_within tear call.now left.items) }
 {
     match call {
@@ -93,7 +94,7 @@ fn stop_after(
 
 // Does to what is held what this call did.
 fn replay(alloc: Global, call: &Call, held: &mut Vec<u8>) -> Result<(), NoMemory>
-    requires { IsInside call.now held.old.items }
+    requires { FitsDisk call.now held.old.items }
     ensures { OnOk result (held.new.items ≡ held_by call.now held.old.items) }
 {
     match call {

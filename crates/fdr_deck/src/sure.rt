@@ -1,9 +1,10 @@
-// The deck in memory that never fails.
+//! The deck in memory that never fails.
+
 ghost use Rattle.std.specs.Prelude.{◌≡◌, ℕ, ◌+◌, ◌<◌, ◌≤◌, List, length, min, vec_len, IfOk, IsOk, OnOk, OnErr, IsTrue, ⊤};
 ghost use Rattle.fdr_deck.specs.Disk.{IsSettled, KeepsDisk, LearnsExtent, Reads, Tears, Writes, Provides, Begins};
 ghost use Rattle.fdr_deck.specs.Moments.{Elapses, EachMoment, IsNow, Within, WithinProvide};
 ghost use Rattle.fdr_deck.specs.Pull.{Pulls, KeepsLine};
-ghost use Rattle.fdr_deck.specs.Calls.{Passes, KeepsTold, IsFresh, Succeeds, LeavesDisk, Announces};
+ghost use Rattle.fdr_deck.specs.Calls.{Passes, KeepsTold, HasOneAnnounced, Succeeds, LeavesDisk, Announces};
 ghost use Rattle.fdr_deck.specs.Sure.{sure_state, sure_tells, sure_is_sound};
 ghost use Rattle.fdr_io.specs.Faults.{Rose};
 
@@ -170,7 +171,7 @@ impl Deck for SureDeck {
         ensures monotone { (sure_state self.old).line_faults ≤ (sure_state self.new).line_faults }
         ensures disk { LeavesDisk (sure_state self.old) (sure_state self.new) }
         ensures told { KeepsTold (sure_state self.old) (sure_state self.new) }
-        ensures fresh { OnOk result (IsFresh (sure_state self.new)) }
+        ensures fresh { OnOk result (HasOneAnnounced (sure_state self.new)) }
         ensures time { Elapses sure_tells (sure_state self.old) (sure_state self.new) }
         ensures moments { EachMoment sure_tells (sure_state self.old) (sure_state self.new) (Within (sure_state self.old) (sure_state self.new)) }
         ensures sure { IsOk result }

@@ -1,5 +1,6 @@
 -- The records of a generated trace may follow one another.
-use Rattle.std.proofs.Common.{◌≡◌, ℕ, zero, suc, ◌+◌, ◌*◌, ◌<◌, ◌≤◌, true, false, List, [], ◌∷◌, ◌++◌, Some, length, take, map, refl, sym, ap, subst, ◌∙◌, append_assoc, arith}
+use Rattle.std.proofs.Common.{◌≡◌, ℕ, zero, suc, ◌+◌, ◌*◌, ◌<◌, ◌≤◌, true, false, List, [], ◌∷◌, ◌++◌, Some, length, take, map, refl, sym, ap, subst, ◌∙◌}
+use Rattle.std.proofs.Common.{append_assoc, arith}
 use Rattle.std.specs.Prelude.{◌||◌}
 use Rattle.std.specs.List.{All, slice_get, enumerate_from, flat_map, range_with_len}
 use Rattle.std.proofs.lemmas.List.{take-append-le, length_push}
@@ -11,11 +12,7 @@ use Rattle.fdr_bus.specs.Records.{has_end, is_end, last_time, time_after}
 use Rattle.fdr_table.specs.Rows.{TableRows}
 use Rattle.fdr_gen.specs.Draws.{drawn}
 use Rattle.fdr_gen.specs.Trace.{Sender, sender_of, word_record, end_record, second_records, words_of, generated_trace, MayFollow, most_frames}
-
--- no record comes before the one before it
-abbrev Rises : ℕ → List BusRecord → Type 0
-Rises before [] = Unit {0}
-Rises before (r ∷ rs) = (before ≤ r.time) × Rises r.time rs
+use Rattle.fdr_bus.proofs.TraceLemmas.{Rises}
 
 rises_at : (before : ℕ) (rs : List BusRecord) (n : ℕ) (r : BusRecord) → Rises before rs → slice_get rs n ≡ Some r
     → time_after before (take n rs) ≤ r.time

@@ -12,7 +12,7 @@ use Rattle.std.proofs.lemmas.List.FromFn.{get_or-range_with_len, length-range_wi
 use Rattle.std.proofs.lemmas.List.Sums.{AllPass-from_list_all}
 use Rattle.fdr_bus.specs.Words.{bits_at, is_odd, label_of, ones_to, reversed_to, sdi_of}
 use Rattle.fdr_bus.proofs.WordLemmas.{ones_to_more, ones_to_none, reversed_to_more, reversed_to_none, reverse_bits-low}
-use Rattle.fdr_gen.specs.Trace.{Sender, fields_of, word_of}
+use Rattle.fdr_gen.specs.Trace.{Sender, fields_of, bus_word_of}
 
 -- a label the other way round
 pub reversed_label : (label : ℕ) → label < 256 → reverse_bits w8 label ≡ reversed_to label 8
@@ -21,12 +21,12 @@ reversed_label label low =
     let same : bit_and label 0xff ≡ label = and_mask label 8 ∙ whole in
     ap (reverse_bits w8) (sym same) ∙ reverse_bits-low label
 
-pub word_of-odd : (s : Sender) (number : ℕ) → is_odd (fields_of s number) ≡ true → word_of s number ≡ fields_of s number
-unfolding word_of
+pub word_of-odd : (s : Sender) (number : ℕ) → is_odd (fields_of s number) ≡ true → bus_word_of s number ≡ fields_of s number
+unfolding bus_word_of
 word_of-odd s number odd = ap (λ b. if b then fields_of s number else fields_of s number + 2 ^ 31) odd
 
-pub word_of-even : (s : Sender) (number : ℕ) → is_odd (fields_of s number) ≡ false → word_of s number ≡ fields_of s number + 2 ^ 31
-unfolding word_of
+pub word_of-even : (s : Sender) (number : ℕ) → is_odd (fields_of s number) ≡ false → bus_word_of s number ≡ fields_of s number + 2 ^ 31
+unfolding bus_word_of
 word_of-even s number even = ap (λ b. if b then fields_of s number else fields_of s number + 2 ^ 31) even
 
 pub fields_is : (s : Sender) (number reversed label sdi bits : ℕ) → reversed ≡ reverse_bits w8 s.label → label ≡ reversed
@@ -36,11 +36,11 @@ fields_is s number reversed label sdi bits is_reversed is_label byte is_sdi two 
     let lab : label ≡ reversed_to s.label 8 = is_label ∙ is_reversed ∙ reversed_label s.label byte in
     omega arith
 
-pub odd_word : (s : Sender) (number fields : ℕ) → fields ≡ fields_of s number → is_odd fields ≡ true → fields ≡ word_of s number
+pub odd_word : (s : Sender) (number fields : ℕ) → fields ≡ fields_of s number → is_odd fields ≡ true → fields ≡ bus_word_of s number
 odd_word s number fields is odd = is ∙ sym (word_of-odd s number (ap is_odd (sym is) ∙ odd))
 
 pub even_word : (s : Sender) (number fields : ℕ) → fields ≡ fields_of s number → is_odd fields ≡ false
-    → fields + 2 ^ 31 ≡ word_of s number
+    → fields + 2 ^ 31 ≡ bus_word_of s number
 even_word s number fields is even = ap (λ n. n + 2 ^ 31) is ∙ sym (word_of-even s number (ap is_odd (sym is) ∙ even))
 
 -- bits of a number stay where it is added to above them
@@ -128,44 +128,45 @@ bits_fit : (number : ℕ) → bits_at number 11 21 < 2 ^ 21
 bits_fit number = mod_below (number / 2 ^ 10) (2 ^ 21) (pow_pos 21)
 
 -- the word has its fields, and bit 32 or not
-word_is : (s : Sender) (number : ℕ) → (top : ℕ) × (top < 2) × (word_of s number ≡ fields_of s number + top * 2 ^ 31)
-unfolding word_of
+word_is : (s : Sender) (number : ℕ) → (top : ℕ) × (top < 2) × (bus_word_of s number ≡ fields_of s number + top * 2 ^ 31)
+unfolding bus_word_of
 word_is s number =
-    elim (is_odd (fields_of s number)) as (λ odd. (top : ℕ) × (top < 2) × ((if odd then fields_of s number else fields_of s number + 2 ^ 31) ≡ fields_of s number + top * 2 ^ 31)) [
+    elim (is_odd (fields_of s number)) as (λ odd. (top : ℕ) × (top < 2)
+    × ((if odd then fields_of s number else fields_of s number + 2 ^ 31) ≡ fields_of s number + top * 2 ^ 31)) [
       | true ↦ (0, omega arith, omega arith)
       | false ↦ (1, omega arith, omega arith)
     ]
 
-pub reads_label : (s : Sender) (number : ℕ) → s.label < 256 → label_of (word_of s number) ≡ s.label
+pub reads_label : (s : Sender) (number : ℕ) → s.label < 256 → label_of (bus_word_of s number) ≡ s.label
 reads_label s number low =
     let w = word_is s number in
     let top = w.0 in
     let high = s.sdi + 4 * bits_at number 11 21 + top * 2 ^ 23 in
-    let parts : word_of s number ≡ reversed_to s.label 8 + high * 2 ^ 8 = omega (arith, w.2) in
+    let parts : bus_word_of s number ≡ reversed_to s.label 8 + high * 2 ^ 8 = omega (arith, w.2) in
     ap (λ x. reversed_to x 8) parts ∙ reversed-low (reversed_to s.label 8) high 8 8 (omega arith) ∙ label_turns s.label low
 
-pub reads_sdi : (s : Sender) (number : ℕ) → s.label < 256 → s.sdi < 4 → sdi_of (word_of s number) ≡ s.sdi
+pub reads_sdi : (s : Sender) (number : ℕ) → s.label < 256 → s.sdi < 4 → sdi_of (bus_word_of s number) ≡ s.sdi
 reads_sdi s number low two =
     let w = word_is s number in
     let top = w.0 in
     let fits = reversed_fits s.label low in
     let rest = bits_at number 11 21 in
-    let parts : word_of s number ≡ reversed_to s.label 8 + 256 * s.sdi + 1024 * (rest + top * 2 ^ 21) = omega (arith, w.2) in
+    let parts : bus_word_of s number ≡ reversed_to s.label 8 + 256 * s.sdi + 1024 * (rest + top * 2 ^ 21) = omega (arith, w.2) in
     ap (λ x. x / 256 % 4) parts ∙ second_field (reversed_to s.label 8) s.sdi (rest + top * 2 ^ 21) fits two
 
 pub reads_data : (s : Sender) (number : ℕ) → s.label < 256 → s.sdi < 4
-    → bits_at (word_of s number) 11 21 ≡ bits_at number 11 21
+    → bits_at (bus_word_of s number) 11 21 ≡ bits_at number 11 21
 reads_data s number low two =
     let w = word_is s number in
     let top = w.0 in
     let fits = reversed_fits s.label low in
     let rest = bits_at number 11 21 in
-    let parts : word_of s number ≡ reversed_to s.label 8 + 256 * s.sdi + 1024 * (rest + 2 ^ 21 * top) = omega (arith, w.2) in
+    let parts : bus_word_of s number ≡ reversed_to s.label 8 + 256 * s.sdi + 1024 * (rest + 2 ^ 21 * top) = omega (arith, w.2) in
     ap (λ x. x / 2 ^ 10 % 2 ^ 21) parts
     ∙ third_field (reversed_to s.label 8 + 256 * s.sdi) rest top (omega arith) (bits_fit number)
 
-pub reads_odd : (s : Sender) (number : ℕ) → s.label < 256 → s.sdi < 4 → is_odd (word_of s number) ≡ true
-unfolding word_of
+pub reads_odd : (s : Sender) (number : ℕ) → s.label < 256 → s.sdi < 4 → is_odd (bus_word_of s number) ≡ true
+unfolding bus_word_of
 reads_odd s number low two =
     let f = fields_of s number in
     let label = reversed_fits s.label low in

@@ -1,8 +1,8 @@
 -- The records of a generated trace by their numbers.
-use Rattle.std.proofs.Common.{◌≡◌, ℕ, zero, suc, ◌+◌, ◌*◌, ◌<◌, ◌≤◌, Bool, true, false, List, [], ◌∷◌, ◌++◌, Some, length, get_or, map, refl, sym, ap, ◌∙◌, arith}
+use Rattle.std.proofs.Common.{◌≡◌, ℕ, zero, suc, ◌+◌, ◌*◌, ◌<◌, ◌≤◌, Bool, true, false, List, [], ◌∷◌, ◌++◌, Some, length, get_or, map, refl, sym, ap, ◌∙◌}
+use Rattle.std.proofs.Common.{arith}
 use Rattle.std.specs.Prelude.{if◌then◌else◌, option_map}
 use Rattle.std.specs.List.{slice_get, enumerate_from, flat_map, range_with_len}
-use Rattle.std.proofs.Math.Nat.{mul-le-mul_right}
 use Rattle.std.proofs.lemmas.List.{length-append, length-map, length_push, get_or_append_left, get_or-append-add, get_or_push}
 use Rattle.std.proofs.lemmas.List.FromFn.{length-enumerate_from, get_or-enumerate_from}
 use Rattle.std.proofs.lemmas.Option.{slice_get-get_or, slice_get-map, slice_get_within, get_or_from_slice_get}
@@ -10,8 +10,9 @@ use Rattle.fdr_bus.specs.declared.BusRecord.{BusRecord}
 use Rattle.fdr_bus.specs.declared.RecordKind.TheVariants.{Word, End}
 use Rattle.fdr_table.specs.Rows.{TableRows}
 use Rattle.fdr_gen.specs.Draws.{drawn, next_state, state_after, upper_half}
-use Rattle.fdr_gen.specs.Trace.{Sender, sender_of, word_record, end_record, second_records, words_of, word_of, generated_trace}
-use Rattle.fdr_gen.specs.Past.{Past, Kept, IsKept, Stands, words_given, with_record}
+use Rattle.fdr_gen.specs.Trace.{Sender, sender_of, word_record, end_record, second_records, words_of, bus_word_of, generated_trace}
+use Rattle.fdr_gen.specs.Past.{GeneratorPast, GeneratorKept, IsGeneratorKept, RepresentsGenerator, words_given, generator_with_record}
+use Rattle.std.proofs.Math.Arith.{digits_lt}
 
 -- records by their fields
 abbrev pub record_end : ℕ → BusRecord
@@ -64,12 +65,6 @@ second_at senders seed second i s got =
     ∙ ap (λ n. Some (record_of (n, get_or senders i s))) first
     ∙ ap (λ x. Some (record_of (i, x))) (get_or_from_slice_get senders i s s got)
 
-below_all : (j i n p : ℕ) → j < n → i < p → j * p + i < n * p
-below_all j i n p low inside =
-    let more : suc j ≤ n = omega arith in
-    let le : suc j * p ≤ n * p = mul-le-mul_right p more in
-    omega arith
-
 word_at : (senders : List Sender) (seed frames j i : ℕ) (s : Sender) → j < 4 * frames → slice_get senders i ≡ Some s
     → slice_get (words_of senders seed frames ++ end_record frames ∷ []) (j * length senders + i)
     ≡ Some (word_record j s (drawn seed (j * length senders + i)))
@@ -78,7 +73,7 @@ word_at senders seed frames j i s low got =
     let k = j * length senders + i in
     let r = word_record j s (drawn seed k) in
     let words = words_of senders seed frames in
-    let within : k < length words = omega (arith, length-words senders seed frames, below_all j i (4 * frames) (length senders) low inside) in
+    let within : k < length words = omega (arith, length-words senders seed frames, digits_lt low inside) in
     let whole : k < length (words ++ end_record frames ∷ []) = omega (arith, length_push words (end_record frames)) in
     let first : 0 + j ≡ j = omega arith in
     slice_get-get_or (words ++ end_record frames ∷ []) k r whole
@@ -109,19 +104,19 @@ abbrev ends : Bool → ℕ
 ends b = if b then 1 else 0
 
 -- a value that stands and has words to give
-pub not_ended : (k : Kept) → IsKept k → k.second < k.seconds → k.ended ≡ false
+pub not_ended : (k : GeneratorKept) → IsGeneratorKept k → k.second < k.seconds → k.ended ≡ false
 not_ended k kept low =
     elim k.ended as (λ b. (b ≡ true → k.second ≡ k.seconds) → b ≡ false) [
       | true ↦ (λ h. let e : k.second ≡ k.seconds = h refl in absurd (omega arith))
       | false ↦ (λ h. refl)
     ] kept.ended
 
-given_words : (k : Kept) (past : Past) → Stands k past → k.ended ≡ false → past.given ≡ words_given k
+given_words : (k : GeneratorKept) (past : GeneratorPast) → RepresentsGenerator k past → k.ended ≡ false → past.given ≡ words_given k
 given_words k past st on =
     let none : ends k.ended ≡ 0 = ap ends on in
     omega (arith, st.given)
 
-pub next_record : (k : Kept) (past : Past) (s : Sender) → Stands k past → IsKept k → k.second < k.seconds
+pub next_record : (k : GeneratorKept) (past : GeneratorPast) (s : Sender) → RepresentsGenerator k past → IsGeneratorKept k → k.second < k.seconds
     → slice_get k.senders k.place ≡ Some s
     → slice_get (generated_trace past.table past.seed past.frames) past.given
     ≡ Some (word_record k.second s (upper_half (next_state k.state)))
@@ -136,9 +131,9 @@ next_record k past s st kept low got =
     ∙ word_at k.senders past.seed frames k.second k.place s early got
     ∙ ap (λ x. Some (word_record k.second s (upper_half (next_state x)))) (sym st.state)
 
-pub next_stands : (k after : Kept) (past : Past) → Stands k past → IsKept k → k.second < k.seconds
+pub next_stands : (k after : GeneratorKept) (past : GeneratorPast) → RepresentsGenerator k past → IsGeneratorKept k → k.second < k.seconds
     → after.senders ≡ k.senders → after.seconds ≡ k.seconds → after.ended ≡ k.ended → after.state ≡ next_state k.state
-    → words_given after ≡ words_given k + 1 → Stands after (with_record past)
+    → words_given after ≡ words_given k + 1 → RepresentsGenerator after (generator_with_record past)
 next_stands k after past st kept low senders seconds ended state more =
     let one : suc (words_given k) ≡ words_given after = omega arith in
     let same : ends after.ended ≡ ends k.ended = ap ends ended in
@@ -150,7 +145,7 @@ next_stands k after past st kept low senders seconds ended state more =
     }
 
 -- a value that gave all words
-all_words : (k : Kept) (past : Past) → Stands k past → IsKept k → k.seconds ≤ k.second
+all_words : (k : GeneratorKept) (past : GeneratorPast) → RepresentsGenerator k past → IsGeneratorKept k → k.seconds ≤ k.second
     → words_given k ≡ 4 * past.frames * length (map sender_of past.table.params)
 all_words k past st kept done =
     let last : k.second ≡ k.seconds = omega (arith, kept.second) in
@@ -160,53 +155,53 @@ all_words k past st kept done =
     ap (λ n. n * length k.senders) all ∙ ap (λ (xs : List Sender). 4 * past.frames * length xs) st.senders in
     omega arith
 
-pub at_end : (k : Kept) (past : Past) → Stands k past → IsKept k → k.seconds ≤ k.second → k.ended ≡ false
+pub at_end : (k : GeneratorKept) (past : GeneratorPast) → RepresentsGenerator k past → IsGeneratorKept k → k.seconds ≤ k.second → k.ended ≡ false
     → slice_get (generated_trace past.table past.seed past.frames) past.given ≡ Some (end_record past.frames)
 at_end k past st kept done on =
     ap (slice_get (generated_trace past.table past.seed past.frames)) (given_words k past st on ∙ all_words k past st kept done)
     ∙ trace_end past.table past.seed past.frames
 
-pub past_end : (k : Kept) (past : Past) → Stands k past → IsKept k → k.seconds ≤ k.second → k.ended ≡ true
+pub past_end : (k : GeneratorKept) (past : GeneratorPast) → RepresentsGenerator k past → IsGeneratorKept k → k.seconds ≤ k.second → k.ended ≡ true
     → past.given ≡ length (generated_trace past.table past.seed past.frames)
 past_end k past st kept done off =
     let one : ends k.ended ≡ 1 = ap ends off in
     omega (arith, st.given, all_words k past st kept done, length-trace past.table past.seed past.frames)
 
 -- the end record, by its time
-pub end_is : (k : Kept) (past : Past) (time : ℕ) → Stands k past → time ≡ 1000000 * k.seconds
+pub end_is : (k : GeneratorKept) (past : GeneratorPast) (time : ℕ) → RepresentsGenerator k past → time ≡ 1000000 * k.seconds
     → Some (record_end time) ≡ Some (end_record past.frames)
 end_is k past time st is =
     let same : time ≡ 4000000 * past.frames = omega (arith, st.seconds) in ap (λ n. Some (record_end n)) same
 
 -- a word record, by its fields
-pub record_is : (second number bus word time : ℕ) (s : Sender) → bus ≡ s.bus → word ≡ word_of s number → time ≡ second * 1000000
+pub record_is : (second number bus word time : ℕ) (s : Sender) → bus ≡ s.bus → word ≡ bus_word_of s number → time ≡ second * 1000000
     → Some (word_record second s number) ≡ Some (record_word bus word time)
 record_is second number bus word time s is_bus is_word is_time =
-    ap (λ b. Some (record_word b (word_of s number) (second * 1000000))) (sym is_bus)
+    ap (λ b. Some (record_word b (bus_word_of s number) (second * 1000000))) (sym is_bus)
     ∙ ap (λ w. Some (record_word bus w (second * 1000000))) (sym is_word)
     ∙ ap (λ n. Some (record_word bus word n)) (sym is_time)
 
 -- the record of the next word, by what was read of its sender
-pub gives_record : (k : Kept) (past : Past) (s : Sender) (state bus word time : ℕ) → Stands k past → IsKept k
+pub gives_record : (k : GeneratorKept) (past : GeneratorPast) (s : Sender) (state bus word time : ℕ) → RepresentsGenerator k past → IsGeneratorKept k
     → k.second < k.seconds → s ≡ get_or k.senders k.place s → state ≡ next_state k.state → bus ≡ s.bus
-    → word ≡ word_of s (upper_half state) → time ≡ 1000000 * k.second
+    → word ≡ bus_word_of s (upper_half state) → time ≡ 1000000 * k.second
     → slice_get (generated_trace past.table past.seed past.frames) past.given ≡ Some (record_word bus word time)
 gives_record k past s state bus word time st kept low at is_state is_bus is_word is_time =
     let got : slice_get k.senders k.place ≡ Some s =
     slice_get-get_or k.senders k.place s (kept.place low) ∙ ap (λ x. Some x) (sym at) in
-    let number : word ≡ word_of s (upper_half (next_state k.state)) = is_word ∙ ap (λ x. word_of s (upper_half x)) is_state in
+    let number : word ≡ bus_word_of s (upper_half (next_state k.state)) = is_word ∙ ap (λ x. bus_word_of s (upper_half x)) is_state in
     next_record k past s st kept low got
     ∙ record_is k.second (upper_half (next_state k.state)) bus word time s is_bus number (omega arith)
 
 -- the value after a word within a second, and after the last word of one
-pub stands_within : (k : Kept) (past : Past) (state : ℕ) → Stands k past → IsKept k → k.second < k.seconds
-    → state ≡ next_state k.state → Stands (record k { place = k.place + 1; state = state }) (with_record past)
+pub stands_within : (k : GeneratorKept) (past : GeneratorPast) (state : ℕ) → RepresentsGenerator k past → IsGeneratorKept k → k.second < k.seconds
+    → state ≡ next_state k.state → RepresentsGenerator (record k { place = k.place + 1; state = state }) (generator_with_record past)
 stands_within k past state st kept low is_state =
     next_stands k (record k { place = k.place + 1; state = state }) past st kept low refl refl refl is_state (omega arith)
 
-pub stands_later : (k : Kept) (past : Past) (state : ℕ) → Stands k past → IsKept k → k.second < k.seconds
+pub stands_later : (k : GeneratorKept) (past : GeneratorPast) (state : ℕ) → RepresentsGenerator k past → IsGeneratorKept k → k.second < k.seconds
     → length k.senders ≤ k.place + 1 → state ≡ next_state k.state
-    → Stands (record k { second = k.second + 1; place = 0; state = state }) (with_record past)
+    → RepresentsGenerator (record k { second = k.second + 1; place = 0; state = state }) (generator_with_record past)
 stands_later k past state st kept low last is_state =
     let whole : length k.senders ≡ k.place + 1 = omega (arith, kept.place low) in
     let more : (k.second + 1) * length k.senders + 0 ≡ k.second * length k.senders + k.place + 1 = omega arith in

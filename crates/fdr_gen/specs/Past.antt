@@ -4,21 +4,21 @@ use Rattle.fdr_table.specs.Rows.{TableRows}
 use Rattle.fdr_gen.specs.Draws.{state_after}
 use Rattle.fdr_gen.specs.Trace.{Sender, sender_of, most_frames}
 
-pub record Past : Type 0 where
+pub record GeneratorPast : Type 0 where
   pub table : TableRows
   pub seed : ℕ
   pub frames : ℕ
   pub given : ℕ
 
-abbrev pub made : TableRows → ℕ → ℕ → Past
-made t seed frames = record { table = t; seed = seed; frames = frames; given = 0 }
+abbrev pub generator_made : TableRows → ℕ → ℕ → GeneratorPast
+generator_made t seed frames = record { table = t; seed = seed; frames = frames; given = 0 }
 
-abbrev pub with_record : Past → Past
-with_record past = record past { given = past.given + 1 }
+abbrev pub generator_with_record : GeneratorPast → GeneratorPast
+generator_with_record past = record past { given = past.given + 1 }
 
 -- The senders of the table's parameters, how many seconds the trace has, the second and the sender of the next word, the
 -- state of the draws, and whether the end was given. After the last word the second is the number of seconds.
-pub record Kept : Type 0 where
+pub record GeneratorKept : Type 0 where
   pub senders : List Sender
   pub seconds : ℕ
   pub second : ℕ
@@ -27,7 +27,7 @@ pub record Kept : Type 0 where
   pub ended : Bool
 
 -- what holds of every value
-pub record IsKept (k : Kept) : Type 0 where
+pub record IsGeneratorKept (k : GeneratorKept) : Type 0 where
   pub seconds : k.seconds ≤ 4 * most_frames
   pub second : k.second ≤ k.seconds
   pub place : k.second < k.seconds → k.place < length k.senders
@@ -35,11 +35,11 @@ pub record IsKept (k : Kept) : Type 0 where
   pub ended : k.ended ≡ true → k.second ≡ k.seconds
 
 -- how many words were given
-abbrev pub words_given : Kept → ℕ
+abbrev pub words_given : GeneratorKept → ℕ
 words_given k = k.second * length k.senders + k.place
 
 -- The value stands where it was made by this table, of this seed and for so many frames, and gave so many records.
-pub record Stands (k : Kept) (past : Past) : Type 0 where
+pub record RepresentsGenerator (k : GeneratorKept) (past : GeneratorPast) : Type 0 where
   pub senders : k.senders ≡ map sender_of past.table.params
   pub seconds : k.seconds ≡ 4 * past.frames
   pub state : k.state ≡ state_after past.seed (words_given k)

@@ -29,12 +29,12 @@ abbrev pub fields_of : Sender → ℕ → ℕ
 fields_of s number = reversed_to s.label 8 + 2 ^ 8 * s.sdi + 2 ^ 10 * bits_at number 11 21
 
 -- bit 32 makes the parity odd
-unfoldable pub word_of : Sender → ℕ → ℕ
-word_of s number = if is_odd (fields_of s number) then fields_of s number else fields_of s number + 2 ^ 31
+unfoldable pub bus_word_of : Sender → ℕ → ℕ
+bus_word_of s number = if is_odd (fields_of s number) then fields_of s number else fields_of s number + 2 ^ 31
 
 -- the record of a word; times are in microseconds
 abbrev pub word_record : ℕ → Sender → ℕ → BusRecord
-word_record second s number = record { kind = Word; bus = s.bus; word = word_of s number; time = second * 1000000 }
+word_record second s number = record { kind = Word; bus = s.bus; word = bus_word_of s number; time = second * 1000000 }
 
 -- the end record of so many frames of four seconds
 abbrev pub end_record : ℕ → BusRecord

@@ -1,6 +1,6 @@
 -- What a value of the program keeps.
 use Rattle.fdr_gen.specs.declared.generator.Gen.TheInside.{Inside}
-use Rattle.fdr_gen.specs.Past.{Kept}
+use Rattle.fdr_gen.specs.Past.{GeneratorKept}
 
-abbrev pub kept_of : Inside → Kept
-kept_of s = record { senders = s.senders.items; seconds = s.seconds; second = s.second; place = s.place; state = s.state; ended = s.ended }
+abbrev pub generator_kept : Inside → GeneratorKept
+generator_kept s = record { senders = s.senders.items; seconds = s.seconds; second = s.second; place = s.place; state = s.state; ended = s.ended }

@@ -3,7 +3,7 @@
 ghost use Rattle.std.specs.Prelude.{◌≡◌, ◌<◌, ◌≤◌, ◌↔◌, Some, IfOk, IsNone, MatchOption, length, slice_get};
 ghost use Rattle.fdr_gen.specs.Draws.{next_state};
 ghost use Rattle.fdr_gen.specs.Trace.{generated_trace, most_frames};
-ghost use Rattle.fdr_gen.specs.Past.{Past, made, with_record, Stands};
+ghost use Rattle.fdr_gen.specs.Past.{GeneratorPast, generator_made, generator_with_record, RepresentsGenerator};
 
 use crate::sender::{Sender, senders_of};
 use fdr_bus::{BusRecord, RecordKind};
@@ -32,23 +32,23 @@ pub struct Gen {
 }
 
 impl Model for Gen {
-    ghost use Rattle.fdr_gen.specs.Past.{Kept, IsKept};
+    ghost use Rattle.fdr_gen.specs.Past.{GeneratorKept, IsGeneratorKept};
 
-    ghost Value = { Kept };
+    ghost Value = { GeneratorKept };
 
-    ghost use Rattle.fdr_gen.specs.View.{kept_of};
+    ghost use Rattle.fdr_gen.specs.View.{generator_kept};
 
-    ghost view = { kept_of };
+    ghost view = { generator_kept };
 
-    ghost invariant = { λ s. IsKept (kept_of s) };
+    ghost invariant = { λ s. IsGeneratorKept (generator_kept s) };
 }
 
 impl Gen {
     /// A generator at the start of the trace of this table and seed, for so many frames. Fails only where memory ends.
     pub fn new(alloc: Global, t: &Sound, seed: u64, frames: u32) -> Result<Gen, NoMemory>
-        requires some { 1 ≤ frames }
-        requires few { frames ≤ most_frames }
-        ensures { IfOk result (λ g. Stands g (made t.now seed frames)) }
+        requires some_frames { 1 ≤ frames }
+        requires frame_limit { frames ≤ most_frames }
+        ensures { IfOk result (λ g. RepresentsGenerator g (generator_made t.now seed frames)) }
     {
         let senders = senders_of(alloc, t.table().params())?;
         let seconds = SECONDS_IN_A_FRAME * frames;
@@ -65,12 +65,12 @@ impl Gen {
 
     /// The next record, or `None` after the end record. Takes no memory.
     pub fn next(&mut self) -> Option<BusRecord>
-        ensures record { (past : Past) → Stands self.old past →
+        ensures record { (past : GeneratorPast) → RepresentsGenerator self.old past →
             result ≡ slice_get (generated_trace past.table past.seed past.frames) past.given }
-        ensures none { (past : Past) → Stands self.old past →
+        ensures none { (past : GeneratorPast) → RepresentsGenerator self.old past →
             IsNone result ↔ (past.given ≡ length (generated_trace past.table past.seed past.frames)) }
-        ensures stands { (past : Past) → Stands self.old past →
-            MatchOption result (Stands self.new past) (λ r. Stands self.new (with_record past)) }
+        ensures stands { (past : GeneratorPast) → RepresentsGenerator self.old past →
+            MatchOption result (RepresentsGenerator self.new past) (λ r. RepresentsGenerator self.new (generator_with_record past)) }
     {
         if self.second < self.seconds {
             return Some(self.next_word());
@@ -90,9 +90,9 @@ impl Gen {
     /// The record of the next word, which there must be.
     fn next_word(&mut self) -> BusRecord
         requires { self.old.second < self.old.seconds }
-        ensures record { (past : Past) → Stands self.old past →
+        ensures record { (past : GeneratorPast) → RepresentsGenerator self.old past →
             slice_get (generated_trace past.table past.seed past.frames) past.given ≡ Some result }
-        ensures stands { (past : Past) → Stands self.old past → Stands self.new (with_record past) }
+        ensures stands { (past : GeneratorPast) → RepresentsGenerator self.old past → RepresentsGenerator self.new (generator_with_record past) }
     {
         let state = next_state(self.state);
         let sender = &self.senders[self.place];

@@ -1,7 +1,7 @@
 //! What the words of a parameter have in common.
 
 ghost use Rattle.std.specs.Prelude.{◌≡◌, IfOk, map};
-ghost use Rattle.fdr_gen.specs.Trace.{sender_of, word_of};
+ghost use Rattle.fdr_gen.specs.Trace.{sender_of, bus_word_of};
 
 use fdr_bus::{field, is_odd};
 use fdr_table::{NoMemory, Param};
@@ -51,7 +51,7 @@ impl Sender {
 
     /// The word of a drawn number.
     pub(crate) fn word(&self, number: u32) -> u32
-        ensures { result ≡ word_of self.now number }
+        ensures { result ≡ bus_word_of self.now number }
     {
         let label = u32::from(self.label.reverse_bits());
         let fields = label + (u32::from(self.sdi) << 8) + (field(number, 11, 21) << 10);

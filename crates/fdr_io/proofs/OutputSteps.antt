@@ -50,7 +50,8 @@ written_at_end a b c w text emits last =
     last ∙ ap (λ told. followed_by told w) emits.written ∙ followed_by-followed_by a emits.gone w ∙ ap (followed_by a) emits.waits
 
 -- a part of what waited went out
-pub part_at_end : (a b c : Option (List ℕ)) (w text : List ℕ) (k : ℕ) → Emits a b [] w text → c ≡ followed_by b (take k w) → (n : ℕ) × (c ≡ followed_by a (take n text))
+pub part_at_end : (a b c : Option (List ℕ)) (w text : List ℕ) (k : ℕ) → Emits a b [] w text → c ≡ followed_by b (take k w)
+    → (n : ℕ) × (c ≡ followed_by a (take n text))
 part_at_end a b c w text k emits last = (
   length emits.gone + k,
   last ∙ ap (λ told. followed_by told (take k w)) emits.written

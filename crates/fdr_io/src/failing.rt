@@ -1,4 +1,5 @@
-// The calls of a fake that fail.
+//! The calls of a fake that fail.
+
 ghost use Rattle.std.specs.Prelude.{◌≡◌, ◌↔◌, IsErr, Contains};
 ghost use Rattle.fdr_io.specs.Faults.{next_count};
 

@@ -1,4 +1,5 @@
-// Sinks of bytes.
+//! Sinks of bytes.
+
 ghost use Rattle.std.specs.Prelude.{◌≡◌, ℕ, ◌+◌, ◌-◌, ◌<◌, ◌≤◌, ◌^◌, List, [], ◌++◌, Option, Some, None, length, take, min, is_some, IfOk, IsOkAnd, IsErr, OnOk, OnErr, Contains};
 ghost use Rattle.fdr_io.specs.Faults.{Rose, next_count};
 ghost use Rattle.fdr_io.specs.Told.{followed_by};
@@ -19,7 +20,7 @@ pub trait Sink {
     /// Takes bytes from the front and answers how many, at least one. `Failed` took none.
     fn write(&mut self, bytes: &[u8]) -> Result<usize, Failed>
         requires { 0 < length bytes.now }
-        ensures some { IfOk result (λ n. 0 < n) }
+        ensures some_bytes { IfOk result (λ n. 0 < n) }
         ensures bound { IfOk result (λ n. n ≤ length bytes.now) }
         ensures taken { IfOk result (λ n. written self.new ≡ followed_by (written self.old) (take n bytes.now)) }
         ensures kept { OnErr result (written self.new ≡ written self.old) }

@@ -1,4 +1,5 @@
-// Sources of bytes.
+//! Sources of bytes.
+
 ghost use Rattle.std.specs.Prelude.{◌≡◌, ℕ, ◌+◌, ◌-◌, ◌<◌, ◌≤◌, ◌↔◌, ◌^◌, List, Option, Some, length, drop, min, is_some, IfOk, IfSome, IsOk, IsErr, OnOk, OnErr, Contains};
 ghost use Rattle.fdr_io.specs.Faults.{Rose, next_count};
 ghost use Rattle.fdr_io.specs.Told.{Gives, without_first};

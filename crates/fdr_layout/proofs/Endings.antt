@@ -1,7 +1,7 @@
 -- What a layout says of a cycle.
-use Rattle.std.proofs.Common.{eqb-true, ◌≡◌, ℕ, ◌+◌, ◌*◌, ◌/◌, ◌<◌, ◌≤◌, max, min, true, ◌==◌, List, [], ◌∷◌, Some, length, map, zero, suc, ap, ◌∙◌, arith}
-use Rattle.std.specs.List.{All, range_with_len, flat_map, fold, slice_get, enumerate_from}
-use Rattle.std.proofs.lemmas.List.Elements.{All-nil, All-cons, All-head, All-append, All-tail, All-map, All-filter, All-weaker, filter_passes}
+use Rattle.std.proofs.Common.{eqb-true, ◌≡◌, ℕ, ◌+◌, ◌*◌, ◌/◌, ◌<◌, ◌≤◌, max, min, true, ◌==◌, List, [], ◌∷◌, length, zero, suc, ap, ◌∙◌, arith}
+use Rattle.std.specs.List.{All, range_with_len, flat_map, fold, enumerate_from}
+use Rattle.std.proofs.lemmas.List.Elements.{All-nil, All-cons, All-head, All-append, All-tail, All-map, All-weaker, filter_passes}
 use Rattle.std.proofs.lemmas.Nat.{le-div}
 use Rattle.std.proofs.Math.Nat.{div-lt_iff_lt-mul, div-mul-le_self}
 use Rattle.fdr_table.specs.Rows.{ParamRow, PlaceRow, TableRows}
@@ -9,16 +9,11 @@ use Rattle.fdr_check.specs.Occurrences.{frame_bits, cycle_of}
 use Rattle.fdr_layout.specs.Samples.{Part, earliest_of, first_at, last_at, Sample, parts_of, samples_of, samples, ending_in}
 use Rattle.fdr_layout.specs.Sorting.{ending_at, ending_among}
 use Rattle.fdr_layout.proofs.Ending.{EndsIn}
-use Rattle.fdr_layout.proofs.Lists.{slice_get-map-range_with_len}
-
--- a layout's list for a cycle
-pub slice_get-layout : (t : TableRows) (l : List (List Sample)) (cycle : ℕ) → l ≡ map (ending_in t) (range_with_len 0 16) → cycle < 16 → slice_get l cycle ≡ Some (ending_in t cycle)
-slice_get-layout t l cycle made within =
-    ap (λ xs. slice_get xs cycle) made ∙ slice_get-map-range_with_len (ending_in t) 16 cycle within
 
 -- ---- the earliest and the last part
 
-latest_bounds : (at : ℕ) (parts : List Part) → (at ≤ fold (λ a (q : Part). max a q.at) at parts) × All (λ (q : Part). q.at ≤ fold (λ a (q : Part). max a q.at) at parts) parts
+latest_bounds : (at : ℕ) (parts : List Part) → (at ≤ fold (λ a (q : Part). max a q.at) at parts)
+    × All (λ (q : Part). q.at ≤ fold (λ a (q : Part). max a q.at) at parts) parts
 latest_bounds at [] = (omega arith, All-nil (λ (q : Part). q.at ≤ at))
 latest_bounds at (p ∷ parts) =
     let rest = latest_bounds (max at p.at) parts in
@@ -72,7 +67,8 @@ cycle_of_le w a b some le = quotient_le (frame_bits w) a b (omega arith) le
 
 -- ---- the samples of a cycle
 
-pub pieces_hold : {X : Type 0} (P : X → Type 0) (f : ℕ → List X) (a n : ℕ) → ((x : ℕ) → a ≤ x → x < a + n → All P (f x)) → All P (flat_map f (range_with_len a n))
+pub pieces_hold : {X : Type 0} (P : X → Type 0) (f : ℕ → List X) (a n : ℕ) → ((x : ℕ) → a ≤ x → x < a + n → All P (f x))
+    → All P (flat_map f (range_with_len a n))
 pieces_hold P f a zero each = All-nil P
 pieces_hold P f a (suc n) each =
     All-append P (f a) (flat_map f (range_with_len (a + 1) n)) (each a (omega arith) (omega arith))
@@ -95,7 +91,8 @@ unfolding ending_among
 ending_among_ends w all cycle some =
     pieces_hold (EndsIn w cycle) (ending_at all) (frame_bits w * cycle) (frame_bits w)
     (λ x low high. All-weaker (λ (s : Sample). (last_at s.parts == x) ≡ true) (EndsIn w cycle)
-    (λ s test. ends_in w cycle x s some low high (eqb-true (last_at s.parts) x test)) (ending_at all x) (filter_passes (λ (s : Sample). last_at s.parts == x) all))
+    (λ s test. ends_in w cycle x s some low high (eqb-true (last_at s.parts) x test)) (ending_at all x)
+    (filter_passes (λ (s : Sample). last_at s.parts == x) all))
 
 -- each sample that ends in a cycle has its parts there and in the cycles before, back to that of the earliest
 pub ending_in_ends : (t : TableRows) (cycle : ℕ) → 0 < t.frame.words → All (EndsIn t.frame.words cycle) (ending_in t cycle)
@@ -128,11 +125,3 @@ samples_params t =
     (All-weaker (λ (e : ℕ × ParamRow). e.0 < length t.params) (λ (e : ℕ × ParamRow). All P (samples_of t.frame.words t.places e.0 e.1.rate))
     (λ e below. samples_of_param t.frame.words t.places e.0 e.1.rate (length t.params) below) (enumerate_from 0 t.params)
     (numbered_below 0 (length t.params) t.params (omega arith)))
-
--- the parameter of each sample is one of the table's
-pub ending_in_params : (t : TableRows) (cycle : ℕ) → All (λ (s : Sample). s.param < length t.params) (ending_in t cycle)
-unfolding ending_in
-ending_in_params t cycle =
-    let P : Sample → Type 0 = λ s. s.param < length t.params in
-    pieces_hold P (ending_at (samples t)) (frame_bits t.frame.words * cycle) (frame_bits t.frame.words)
-    (λ x low high. All-filter (λ (s : Sample). last_at s.parts == x) P (samples t) (samples_params t))

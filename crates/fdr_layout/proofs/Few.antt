@@ -1,5 +1,6 @@
 -- How many samples a sound table has: no more than parts, and no fewer than parameters.
-use Rattle.std.proofs.Common.{◌≡◌, ℕ, ◌+◌, ◌*◌, ◌<◌, ◌≤◌, ◌==◌, ◌&&◌, Bool, true, false, cond, IsTrue, List, [], ◌∷◌, Some, length, refl, ap, sym, subst, ◌∙◌, zero, suc, eqb-true, arith}
+use Rattle.std.proofs.Common.{◌≡◌, ℕ, ◌+◌, ◌*◌, ◌<◌, ◌≤◌, ◌==◌, ◌&&◌, Bool, true, false, cond, List, [], ◌∷◌, Some, length, refl, subst, ◌∙◌}
+use Rattle.std.proofs.Common.{zero, suc, eqb-true, arith}
 use Rattle.std.specs.List.{All, range_with_len, enumerate_from, filter, flat_map, sum_by, slice_get}
 use Rattle.std.proofs.lemmas.List.Concat.{length-flat_map}
 use Rattle.std.proofs.lemmas.List.Elements.{All-head, All-tail}
@@ -8,18 +9,21 @@ use Rattle.std.proofs.lemmas.List.Sums.{sum_by-cons, sum_by-le-sum_by, length-fi
 use Rattle.fdr_table.specs.Rows.{ParamRow, PlaceRow, TableRows}
 use Rattle.fdr_table.specs.Ranges.{IsParamInRange, IsInRange}
 use Rattle.fdr_check.specs.Occurrences.{frame_bits, is_part, occurrences, part_occurrences}
-use Rattle.fdr_check.specs.Soundness.{IsSound, most_parts}
+use Rattle.fdr_check.specs.Soundness.{IsSound, most_superframe_parts}
 use Rattle.fdr_check.specs.Walks.{starts_of}
-use Rattle.fdr_check.proofs.Counting.{sum_turned, length_occurrences, sum_by_same}
+use Rattle.fdr_check.proofs.Counting.{sum_turned, length_occurrences}
 use Rattle.fdr_check.proofs.Sounding.{from_index}
 use Rattle.fdr_layout.specs.Samples.{Sample, last_at, parts_of, samples_of, samples}
 use Rattle.fdr_layout.specs.Sorting.{ending_at, ending_among}
+use Rattle.fdr_lists.proofs.Sums.{sum_by_same, sum_by-filter}
 
 -- ---- of a cycle
 
 -- a number is at most one of those of a range, and none of those above it
-one_of : (k a n : ℕ) (b : Bool) → (k == a) ≡ b → (sum_by (λ x. cond {A = ℕ} (k == x) 1 0) (range_with_len (a + 1) n) ≤ 1) × (k < a + 1 → sum_by (λ x. cond {A = ℕ} (k == x) 1 0) (range_with_len (a + 1) n) ≡ 0) →
-    (cond {A = ℕ} b 1 0 + sum_by (λ x. cond {A = ℕ} (k == x) 1 0) (range_with_len (a + 1) n) ≤ 1) × (k < a → cond {A = ℕ} b 1 0 + sum_by (λ x. cond {A = ℕ} (k == x) 1 0) (range_with_len (a + 1) n) ≡ 0)
+one_of : (k a n : ℕ) (b : Bool) → (k == a) ≡ b → (sum_by (λ x. cond {A = ℕ} (k == x) 1 0) (range_with_len (a + 1) n) ≤ 1)
+    × (k < a + 1 → sum_by (λ x. cond {A = ℕ} (k == x) 1 0) (range_with_len (a + 1) n) ≡ 0) →
+    (cond {A = ℕ} b 1 0 + sum_by (λ x. cond {A = ℕ} (k == x) 1 0) (range_with_len (a + 1) n) ≤ 1)
+    × (k < a → cond {A = ℕ} b 1 0 + sum_by (λ x. cond {A = ℕ} (k == x) 1 0) (range_with_len (a + 1) n) ≡ 0)
 one_of k a n true e later =
     let same = eqb-true k a e in
     let none = later.1 (omega (arith, same)) in
@@ -27,7 +31,8 @@ one_of k a n true e later =
 one_of k a n false e later =
     (omega (arith, later.0), λ below. let none = later.1 (omega (arith, below)) in omega (arith, none))
 
-at_most_one : (k a n : ℕ) → (sum_by (λ x. cond {A = ℕ} (k == x) 1 0) (range_with_len a n) ≤ 1) × (k < a → sum_by (λ x. cond {A = ℕ} (k == x) 1 0) (range_with_len a n) ≡ 0)
+at_most_one : (k a n : ℕ) → (sum_by (λ x. cond {A = ℕ} (k == x) 1 0) (range_with_len a n) ≤ 1)
+    × (k < a → sum_by (λ x. cond {A = ℕ} (k == x) 1 0) (range_with_len a n) ≡ 0)
 at_most_one k a zero = (omega arith, λ below. refl)
 at_most_one k a (suc n) =
     let both = one_of k a n (k == a) refl (at_most_one k (a + 1) n) in
@@ -45,7 +50,8 @@ ending_few w all cycle =
     let bits = range_with_len (frame_bits w * cycle) (frame_bits w) in
     let ends : ℕ → Sample → ℕ = λ x s. cond {A = ℕ} (last_at s.parts == x) 1 0 in
     let counted : length (flat_map (ending_at all) bits) ≡ sum_by (λ x. sum_by (ends x) all) bits =
-    length-flat_map (ending_at all) bits ∙ sum_by_same (λ x. length (ending_at all x)) (λ x. sum_by (ends x) all) bits (λ x. length-filter (λ (s : Sample). last_at s.parts == x) all) in
+    length-flat_map (ending_at all) bits ∙ sum_by_same (λ x. length (ending_at all x)) (λ x. sum_by (ends x) all) bits
+    (λ x. length-filter (λ (s : Sample). last_at s.parts == x) all) in
     omega (
       arith,
       counted,
@@ -54,15 +60,6 @@ ending_few w all cycle =
     )
 
 -- ---- of a table
-
-sum_kept_one : {X : Type 0} (f : X → ℕ) (b : Bool) (x : X) (kept : List X) → sum_by f (cond b (x ∷ kept) kept) ≡ cond b (f x) 0 + sum_by f kept
-sum_kept_one f true x kept = sum_by-cons f x kept
-sum_kept_one f false x kept = omega arith
-
-sum_kept : {X : Type 0} (f : X → ℕ) (t : X → Bool) (xs : List X) → sum_by f (filter t xs) ≡ sum_by (λ x. cond (t x) (f x) 0) xs
-sum_kept f t [] = refl
-sum_kept f t (x ∷ xs) =
-    omega (arith, sum_kept_one f (t x) x (filter t xs), sum_kept f t xs, sum_by-cons (λ x. cond (t x) (f x) 0) x xs)
 
 sum_le : {X : Type 0} (f g : X → ℕ) (xs : List X) → All (λ x. f x ≤ g x) xs → sum_by f xs ≤ sum_by g xs
 sum_le f g [] each = omega arith
@@ -77,8 +74,10 @@ chosen_le : (b : Bool) (n : ℕ) → cond b n 0 ≤ n
 chosen_le true n = omega arith
 chosen_le false n = omega arith
 
-owner_of : (w a : ℕ) (p : PlaceRow) (ps : List ParamRow) (b : Bool) → (p.param == a) ≡ b → (sum_by (first_part w p) (enumerate_from (a + 1) ps) ≤ starts_of w p) × (p.param < a + 1 → sum_by (first_part w p) (enumerate_from (a + 1) ps) ≡ 0) →
-    (cond (b && (p.part == 1)) (starts_of w p) 0 + sum_by (first_part w p) (enumerate_from (a + 1) ps) ≤ starts_of w p) × (p.param < a → cond (b && (p.part == 1)) (starts_of w p) 0 + sum_by (first_part w p) (enumerate_from (a + 1) ps) ≡ 0)
+owner_of : (w a : ℕ) (p : PlaceRow) (ps : List ParamRow) (b : Bool) → (p.param == a) ≡ b
+    → (sum_by (first_part w p) (enumerate_from (a + 1) ps) ≤ starts_of w p) × (p.param < a + 1 → sum_by (first_part w p) (enumerate_from (a + 1) ps) ≡ 0) →
+    (cond (b && (p.part == 1)) (starts_of w p) 0 + sum_by (first_part w p) (enumerate_from (a + 1) ps) ≤ starts_of w p)
+    × (p.param < a → cond (b && (p.part == 1)) (starts_of w p) 0 + sum_by (first_part w p) (enumerate_from (a + 1) ps) ≡ 0)
 owner_of w a p ps true e later =
     let same = eqb-true p.param a e in
     let none = later.1 (omega (arith, same)) in
@@ -86,7 +85,8 @@ owner_of w a p ps true e later =
 owner_of w a p ps false e later =
     (omega (arith, later.0), λ below. let none = later.1 (omega (arith, below)) in omega (arith, none))
 
-one_owner : (w a : ℕ) (p : PlaceRow) (ps : List ParamRow) → (sum_by (first_part w p) (enumerate_from a ps) ≤ starts_of w p) × (p.param < a → sum_by (first_part w p) (enumerate_from a ps) ≡ 0)
+one_owner : (w a : ℕ) (p : PlaceRow) (ps : List ParamRow)
+    → (sum_by (first_part w p) (enumerate_from a ps) ≤ starts_of w p) × (p.param < a → sum_by (first_part w p) (enumerate_from a ps) ≡ 0)
 one_owner w a p [] = (omega arith, λ below. refl)
 one_owner w a p (x ∷ ps) =
     let both = owner_of w a p ps (p.param == a) refl (one_owner w (a + 1) p ps) in
@@ -94,13 +94,15 @@ one_owner w a p (x ∷ ps) =
     (omega (arith, both.0, all), λ below. let none = both.1 below in omega (arith, none, all))
 
 -- the first parts of all parameters occur no more often than all places
-first_parts_few : (w : ℕ) (places : List PlaceRow) (params : List ParamRow) → sum_by (λ (e : ℕ × ParamRow). length (part_occurrences w places e.0 1)) (enumerate_from 0 params) ≤ length (occurrences w places)
+first_parts_few : (w : ℕ) (places : List PlaceRow) (params : List ParamRow)
+    → sum_by (λ (e : ℕ × ParamRow). length (part_occurrences w places e.0 1)) (enumerate_from 0 params) ≤ length (occurrences w places)
 unfolding part_occurrences
 first_parts_few w places params =
     let es = enumerate_from 0 params in
     let occurs_of : ℕ × ParamRow → PlaceRow → ℕ = λ e p. first_part w p e in
-    let counted = sum_by_same (λ (e : ℕ × ParamRow). length (occurrences w (filter (is_part e.0 1) places))) (λ (e : ℕ × ParamRow). sum_by (occurs_of e) places) es
-    (λ e. length_occurrences w (filter (is_part e.0 1) places) ∙ sum_kept (starts_of w) (is_part e.0 1) places) in
+    let counted = sum_by_same (λ (e : ℕ × ParamRow). length (occurrences w (filter (is_part e.0 1) places))) (λ (e : ℕ × ParamRow). sum_by (occurs_of e) places)
+    es
+    (λ e. length_occurrences w (filter (is_part e.0 1) places) ∙ sum_by-filter (starts_of w) (is_part e.0 1) places) in
     omega (
       arith,
       counted,
@@ -122,7 +124,7 @@ length_samples t =
 
 -- a sound table has no more samples than parts
 pub samples_few : (t : TableRows) → IsSound t → length (samples t) ≤ 262144
-unfolding most_parts
+unfolding most_superframe_parts
 samples_few t sound =
     let w = t.frame.words in
     let P : ℕ × ParamRow → Type 0 = λ e. e.1.rate ≤ length (part_occurrences w t.places e.0 1) in
@@ -137,14 +139,20 @@ samples_few t sound =
       length_samples t,
       sound.few,
       first_parts_few w t.places t.params,
-      sum_le (λ (e : ℕ × ParamRow). e.1.rate) (λ (e : ℕ × ParamRow). length (part_occurrences w t.places e.0 1)) (enumerate_from 0 t.params) (from_index P 0 t.params each),
+      sum_le (λ (e : ℕ × ParamRow). e.1.rate) (λ (e : ℕ × ParamRow). length (part_occurrences w t.places e.0 1)) (enumerate_from 0 t.params)
+          (from_index P 0 t.params each),
     )
 
 rated : (a : ℕ) (ps : List ParamRow) → All IsParamInRange ps → length ps ≤ sum_by (λ (e : ℕ × ParamRow). e.1.rate) (enumerate_from a ps)
 rated a [] in_range = omega arith
 rated a (p ∷ ps) in_range =
     let own = All-head IsParamInRange p ps in_range in
-    omega (arith, own.rate_low, rated (a + 1) ps (All-tail IsParamInRange p ps in_range), sum_by-cons (λ (e : ℕ × ParamRow). e.1.rate) (a, p) (enumerate_from (a + 1) ps))
+    omega (
+      arith,
+      own.rate_low,
+      rated (a + 1) ps (All-tail IsParamInRange p ps in_range),
+      sum_by-cons (λ (e : ℕ × ParamRow). e.1.rate) (a, p) (enumerate_from (a + 1) ps),
+    )
 
 -- each parameter has a sample
 pub params_few : (t : TableRows) → IsInRange t → length t.params ≤ length (samples t)

@@ -1,22 +1,14 @@
 -- One more element: of a range, a filter, a search, an enumeration.
-use Rattle.std.proofs.Common.{◌≡◌, ℕ, ◌+◌, ◌<◌, Bool, true, false, cond, List, [], ◌∷◌, ◌++◌, Option, Some, None, length, get_or, take, map, refl, subst, zero-add, lit≤, ◌≤◌, sym, ap, ◌∙◌, ⊎_elim, zero, suc, add-one, add-zero, ◌*◌, arith}
+use Rattle.std.proofs.Common.{◌≡◌, ℕ, ◌+◌, ◌<◌, List, [], ◌∷◌, ◌++◌, Option, Some, None, length, get_or, take, map, refl, subst}
+use Rattle.std.proofs.Common.{zero-add, lit≤, ◌≤◌, sym, ap, ◌∙◌, zero, suc, add-zero, ◌*◌, arith}
 use Rattle.std.specs.Option.{option_to_list}
-use Rattle.std.specs.List.{range_with_len, flat_map, filter, filter_map, cons_option, find, enumerate_from, All, slice_get}
-use Rattle.std.proofs.lemmas.Bool.{cases_Bool, both_ways, false_from_ne_true}
+use Rattle.std.specs.List.{range_with_len, flat_map, filter_map, cons_option, enumerate_from, All}
 use Rattle.std.proofs.lemmas.List.{take_more, append-nil, append_assoc, map_push, length-map, get_or-map, length-take-le}
 use Rattle.std.proofs.lemmas.List.FromFn.{map-range_with_len_more, length-map-range_with_len, get_or-map-range_with_len}
-use Rattle.std.proofs.lemmas.Option.{slice_get-get_or}
 use Rattle.std.proofs.lemmas.List.Concat.{flat_map-append}
 use Rattle.std.proofs.lemmas.List.Elements.{filter_map-append}
-
-range_suc : (a n : ℕ) → range_with_len a (suc n) ≡ range_with_len a n ++ (a + n) ∷ []
-range_suc a zero = ap (λ x. x ∷ []) (omega arith)
-range_suc a (suc n) =
-    let e : a + 1 + n ≡ a + suc n = omega arith in
-    ap (λ xs. a ∷ xs) (range_suc (a + 1) n ∙ ap (λ x. range_with_len (a + 1) n ++ x ∷ []) e)
-
-pub range_more : (a n : ℕ) → range_with_len a (n + 1) ≡ range_with_len a n ++ (a + n) ∷ []
-range_more a n = rw add-one (range_suc a n)
+use Rattle.fdr_lists.proofs.Ranges.{range_more}
+use Rattle.fdr_lists.proofs.Numbered.{enumerate_from_push}
 
 pub flat_map-range_more : {A : Type 0} (f : ℕ → List A) (a n j : ℕ) → a + n ≡ j → flat_map f (range_with_len a (n + 1)) ≡ flat_map f (range_with_len a n) ++ f j
 flat_map-range_more f a n j e =
@@ -24,16 +16,19 @@ flat_map-range_more f a n j e =
     ∙ ap (λ xs. flat_map f (range_with_len a n) ++ xs) (append-nil (f (a + n)) ∙ ap f e)
 
 -- a loop's step: it put f j to the end of what it had
-pub flat_map_step : {A : Type 0} (f : ℕ → List A) (old new : List A) (a n m j : ℕ) → old ≡ flat_map f (range_with_len a n) → new ≡ old ++ f j → a + n ≡ j → m ≡ n + 1 → new ≡ flat_map f (range_with_len a m)
+pub flat_map_step : {A : Type 0} (f : ℕ → List A) (old new : List A) (a n m j : ℕ) → old ≡ flat_map f (range_with_len a n) → new ≡ old ++ f j → a + n ≡ j
+    → m ≡ n + 1 → new ≡ flat_map f (range_with_len a m)
 flat_map_step f old new a n m j so_far more e last =
     more ∙ ap (λ xs. xs ++ f j) so_far ∙ sym (flat_map-range_more f a n j e) ∙ ap (λ k. flat_map f (range_with_len a k)) (sym last)
 
-pub map_step : {A : Type 0} (f : ℕ → A) (old new : List A) (a n m j : ℕ) → old ≡ map f (range_with_len a n) → new ≡ old ++ f j ∷ [] → a + n ≡ j → m ≡ n + 1 → new ≡ map f (range_with_len a m)
+pub map_step : {A : Type 0} (f : ℕ → A) (old new : List A) (a n m j : ℕ) → old ≡ map f (range_with_len a n) → new ≡ old ++ f j ∷ [] → a + n ≡ j → m ≡ n + 1
+    → new ≡ map f (range_with_len a m)
 map_step f old new a n m j so_far more e last =
     more ∙ ap (λ xs. xs ++ f j ∷ []) so_far ∙ sym (map-range_with_len_more f a n j e) ∙ ap (λ k. map f (range_with_len a k)) (sym last)
 
 -- a loop's step: it put a value with the view f n to the end of its list
-pub views_step : {V X : Type 0} (view : V → X) (f : ℕ → X) (old new : List V) (v : V) (n : ℕ) → map view old ≡ map f (range_with_len 0 n) → new ≡ old ++ v ∷ [] → view v ≡ f n → map view new ≡ map f (range_with_len 0 (n + 1))
+pub views_step : {V X : Type 0} (view : V → X) (f : ℕ → X) (old new : List V) (v : V) (n : ℕ) → map view old ≡ map f (range_with_len 0 n) → new ≡ old ++ v ∷ []
+    → view v ≡ f n → map view new ≡ map f (range_with_len 0 (n + 1))
 views_step view f old new v n so_far more is =
     let pushed : map view new ≡ map view old ++ view v ∷ [] = ap (map view) more ∙ map_push view old v in
     map_step f (map view old) (map view new) 0 n (n + 1) n so_far (pushed ∙ ap (λ s. map view old ++ s ∷ []) is) (zero-add n) refl
@@ -42,7 +37,8 @@ option_is : {Y : Type 0} (o : Option Y) → cons_option o [] ≡ option_to_list 
 option_is None = refl
 option_is (Some y) = refl
 
-pub filter_map_step : {X Y : Type 0} (h : X → Option Y) (xs : List X) (i : ℕ) (x : X) (old new : List Y) → i < length xs → x ≡ get_or xs i x → old ≡ filter_map h (take i xs) → new ≡ old ++ option_to_list (h x) → new ≡ filter_map h (take (i + 1) xs)
+pub filter_map_step : {X Y : Type 0} (h : X → Option Y) (xs : List X) (i : ℕ) (x : X) (old new : List Y) → i < length xs → x ≡ get_or xs i x
+    → old ≡ filter_map h (take i xs) → new ≡ old ++ option_to_list (h x) → new ≡ filter_map h (take (i + 1) xs)
 filter_map_step h xs i x old new l is so_far more =
     more ∙ ap (λ ys. ys ++ option_to_list (h x)) so_far ∙ ap (λ ys. filter_map h (take i xs) ++ ys) (sym (option_is (h x)))
     ∙ ap (λ z. filter_map h (take i xs) ++ cons_option (h z) []) is
@@ -52,44 +48,22 @@ pub length-option_to_list : {Y : Type 0} (o : Option Y) → length (option_to_li
 length-option_to_list None = lit≤ tt
 length-option_to_list (Some y) = lit≤ tt
 
-cond_none : {X : Type 0} (b : Bool) (x : X) (o : Option X) → cond b (Some x) o ≡ None → (b ≡ false) × (o ≡ None)
-cond_none true x o h = absurd (cc)
-cond_none false x o h = (refl, h)
-
-find_push : {X : Type 0} (p : X → Bool) (xs : List X) (y : X) → find p xs ≡ None → p y ≡ false → find p (xs ++ y ∷ []) ≡ None
-find_push p [] y none fails = rw fails refl
-find_push p (x ∷ xs) y none fails = let h = cond_none (p x) x (find p xs) none in rw (h.0) (find_push p xs y h.1 fails)
-
--- a search that has found nothing so far
-pub find_more : {X : Type 0} (p : X → Bool) (xs : List X) (i : ℕ) (d : X) → i < length xs → find p (take i xs) ≡ None → p (get_or xs i d) ≡ false → find p (take (i + 1) xs) ≡ None
-find_more p xs i d l none fails = ap (find p) (take_more xs i d l) ∙ find_push p (take i xs) (get_or xs i d) none fails
-
--- and that finds the next element
-pub find_here : {X : Type 0} (p : X → Bool) (xs : List X) (i : ℕ) (d : X) → i < length xs → find p (take i xs) ≡ None → p (get_or xs i d) ≡ true → find p xs ≡ Some (get_or xs i d)
-find_here p [] i d l none holds = absurd (omega arith)
-find_here p (x ∷ xs) zero d l none holds = rw holds refl
-find_here p (x ∷ xs) (suc i) d l none holds =
-    let h = cond_none (p x) x (find p (take i xs)) none in rw (h.0) (find_here p xs i d (omega arith) h.1 holds)
-
-enumerate_from_push : {X : Type 0} (n : ℕ) (xs : List X) (y : X) → enumerate_from n (xs ++ y ∷ []) ≡ enumerate_from n xs ++ (n + length xs, y) ∷ []
-enumerate_from_push n [] y = ap (λ k. (k, y) ∷ []) (omega arith)
-enumerate_from_push n (x ∷ xs) y =
-    let e : n + 1 + length xs ≡ n + suc (length xs) = omega arith in
-    ap (λ t. (n, x) ∷ t) (enumerate_from_push (n + 1) xs y ∙ ap (λ k. enumerate_from (n + 1) xs ++ (k, y) ∷ []) e)
-
-pub enumerate_from_more : {X : Type 0} (xs : List X) (i : ℕ) (d : X) → i < length xs → enumerate_from 0 (take (i + 1) xs) ≡ enumerate_from 0 (take i xs) ++ (i, get_or xs i d) ∷ []
+pub enumerate_from_more : {X : Type 0} (xs : List X) (i : ℕ) (d : X) → i < length xs
+    → enumerate_from 0 (take (i + 1) xs) ≡ enumerate_from 0 (take i xs) ++ (i, get_or xs i d) ∷ []
 enumerate_from_more xs i d l =
     let e : 0 + length (take i xs) ≡ i = omega (arith, length-take-le i xs) in
     ap (enumerate_from 0) (take_more xs i d l) ∙ enumerate_from_push 0 (take i xs) (get_or xs i d)
     ∙ ap (λ k. enumerate_from 0 (take i xs) ++ (k, get_or xs i d) ∷ []) e
 
-flat_map-enumerate_from_more : {X A : Type 0} (f : ℕ × X → List A) (xs : List X) (i : ℕ) (d : X) → i < length xs → flat_map f (enumerate_from 0 (take (i + 1) xs)) ≡ flat_map f (enumerate_from 0 (take i xs)) ++ f (i, get_or xs i d)
+flat_map-enumerate_from_more : {X A : Type 0} (f : ℕ × X → List A) (xs : List X) (i : ℕ) (d : X) → i < length xs
+    → flat_map f (enumerate_from 0 (take (i + 1) xs)) ≡ flat_map f (enumerate_from 0 (take i xs)) ++ f (i, get_or xs i d)
 flat_map-enumerate_from_more {X} f xs i d l =
     let e : ℕ × X = (i, get_or xs i d) in
     ap (flat_map f) (enumerate_from_more xs i d l) ∙ flat_map-append f (enumerate_from 0 (take i xs)) (e ∷ [])
     ∙ ap (λ t. flat_map f (enumerate_from 0 (take i xs)) ++ t) (append-nil (f e))
 
-pub enumerate_from_step : {X A : Type 0} (f : ℕ × X → List A) (xs : List X) (i : ℕ) (x : X) (old new : List A) → i < length xs → x ≡ get_or xs i x → old ≡ flat_map f (enumerate_from 0 (take i xs)) → new ≡ old ++ f (i, x) → new ≡ flat_map f (enumerate_from 0 (take (i + 1) xs))
+pub enumerate_from_step : {X A : Type 0} (f : ℕ × X → List A) (xs : List X) (i : ℕ) (x : X) (old new : List A) → i < length xs → x ≡ get_or xs i x
+    → old ≡ flat_map f (enumerate_from 0 (take i xs)) → new ≡ old ++ f (i, x) → new ≡ flat_map f (enumerate_from 0 (take (i + 1) xs))
 enumerate_from_step f xs i x old new l is so_far more =
     more ∙ ap (λ ys. ys ++ f (i, x)) so_far ∙ ap (λ z. flat_map f (enumerate_from 0 (take i xs)) ++ f (i, z)) is
     ∙ sym (flat_map-enumerate_from_more f xs i x l)
@@ -101,17 +75,14 @@ All_at P view xs i v all l is =
     let e : get_or (map view xs) i (view v) ≡ view v = get_or-map view xs i v (view v) l ∙ ap view (sym is) in
     subst P e (all i (view v) within)
 
-pub slice_get-map-range_with_len : {A : Type 0} (f : ℕ → A) (n i : ℕ) → i < n → slice_get (map f (range_with_len 0 n)) i ≡ Some (f i)
-slice_get-map-range_with_len f n i l =
-    let within : i < length (map f (range_with_len 0 n)) = rw length-map-range_with_len l in
-    slice_get-get_or (map f (range_with_len 0 n)) i (f i) within ∙ ap Some (get_or-map-range_with_len f 0 n i i (f i) l (zero-add i))
-
 -- a list's element, where the lists' views are given by a function of the number
-pub view_at : {V X : Type 0} (view : V → X) (f : ℕ → X) (xs : List V) (n i : ℕ) (v : V) → map view xs ≡ map f (range_with_len 0 n) → i < n → v ≡ get_or xs i v → view v ≡ f i
+pub view_at : {V X : Type 0} (view : V → X) (f : ℕ → X) (xs : List V) (n i : ℕ) (v : V) → map view xs ≡ map f (range_with_len 0 n) → i < n → v ≡ get_or xs i v
+    → view v ≡ f i
 view_at view f xs n i v made l is =
     let long : length xs ≡ n = sym (length-map xs view) ∙ ap length made ∙ length-map-range_with_len f 0 n in
     let within : i < length xs = omega arith in
-    ap view is ∙ sym (get_or-map view xs i v (view v) within) ∙ ap (λ ys. get_or ys i (view v)) made ∙ get_or-map-range_with_len f 0 n i i (view v) l (zero-add i)
+    ap view is ∙ sym (get_or-map view xs i v (view v) within) ∙ ap (λ ys. get_or ys i (view v)) made
+    ∙ get_or-map-range_with_len f 0 n i i (view v) l (zero-add i)
 
 pub view_length : {V X : Type 0} (view : V → X) (f : ℕ → X) (xs : List V) (n : ℕ) → map view xs ≡ map f (range_with_len 0 n) → length xs ≡ n
 view_length view f xs n made = sym (length-map xs view) ∙ ap length made ∙ length-map-range_with_len f 0 n
@@ -125,7 +96,8 @@ range_append a (suc n) m =
     let next : a + 1 + n ≡ a + suc n = omega arith in
     ap (range_with_len a) count ∙ ap (λ xs. a ∷ xs) (range_append (a + 1) n m ∙ ap (λ b. range_with_len (a + 1) n ++ range_with_len b m) next)
 
-pub flat_map-range_append : {A : Type 0} (f : ℕ → List A) (a n m : ℕ) → flat_map f (range_with_len a (n + m)) ≡ flat_map f (range_with_len a n) ++ flat_map f (range_with_len (a + n) m)
+pub flat_map-range_append : {A : Type 0} (f : ℕ → List A) (a n m : ℕ)
+    → flat_map f (range_with_len a (n + m)) ≡ flat_map f (range_with_len a n) ++ flat_map f (range_with_len (a + n) m)
 flat_map-range_append f a n m = ap (flat_map f) (range_append a n m) ∙ flat_map-append f (range_with_len a n) (range_with_len (a + n) m)
 
 -- a loop that has put nothing to what there was before
@@ -133,13 +105,15 @@ pub stretch_none : {A : Type 0} (f : ℕ → List A) (before : List A) (a n : �
 stretch_none f before a n none = sym (append-nil before) ∙ ap (λ k. before ++ flat_map f (range_with_len a k)) (sym none)
 
 -- its step: it put f j to the end
-pub stretch_more : {A : Type 0} (f : ℕ → List A) (before old new : List A) (a n m j : ℕ) → old ≡ before ++ flat_map f (range_with_len a n) → new ≡ old ++ f j → a + n ≡ j → m ≡ n + 1 → new ≡ before ++ flat_map f (range_with_len a m)
+pub stretch_more : {A : Type 0} (f : ℕ → List A) (before old new : List A) (a n m j : ℕ) → old ≡ before ++ flat_map f (range_with_len a n) → new ≡ old ++ f j
+    → a + n ≡ j → m ≡ n + 1 → new ≡ before ++ flat_map f (range_with_len a m)
 stretch_more f before old new a n m j so_far more e last =
     more ∙ ap (λ xs. xs ++ f j) so_far ∙ append_assoc before (flat_map f (range_with_len a n)) (f j)
     ∙ ap (λ xs. before ++ xs) (sym (flat_map-range_more f a n j e)) ∙ ap (λ k. before ++ flat_map f (range_with_len a k)) (sym last)
 
 -- and the step of one that puts a stretch of m to the end
-pub stretch_step : {A : Type 0} (f : ℕ → List A) (before old new : List A) (a n b m k : ℕ) → old ≡ before ++ flat_map f (range_with_len a n) → new ≡ old ++ flat_map f (range_with_len b m) → a + n ≡ b → k ≡ n + m → new ≡ before ++ flat_map f (range_with_len a k)
+pub stretch_step : {A : Type 0} (f : ℕ → List A) (before old new : List A) (a n b m k : ℕ) → old ≡ before ++ flat_map f (range_with_len a n)
+    → new ≡ old ++ flat_map f (range_with_len b m) → a + n ≡ b → k ≡ n + m → new ≡ before ++ flat_map f (range_with_len a k)
 stretch_step f before old new a n b m k so_far more e last =
     let seen = flat_map f (range_with_len a n) in
     more ∙ ap (λ xs. xs ++ flat_map f (range_with_len b m)) so_far ∙ append_assoc before seen (flat_map f (range_with_len b m))
@@ -147,7 +121,8 @@ stretch_step f before old new a n b m k so_far more e last =
     ∙ ap (λ xs. before ++ xs) (sym (flat_map-range_append f a n m)) ∙ ap (λ i. before ++ flat_map f (range_with_len a i)) (sym last)
 
 -- stretches of 12
-pub flat_map_twelves : {A : Type 0} (f : ℕ → List A) (a m : ℕ) → flat_map (λ k. flat_map f (range_with_len (12 * k) 12)) (range_with_len a m) ≡ flat_map f (range_with_len (12 * a) (12 * m))
+pub flat_map_twelves : {A : Type 0} (f : ℕ → List A) (a m : ℕ)
+    → flat_map (λ k. flat_map f (range_with_len (12 * k) 12)) (range_with_len a m) ≡ flat_map f (range_with_len (12 * a) (12 * m))
 flat_map_twelves f a zero = refl
 flat_map_twelves f a (suc m) =
     let next : 12 * (a + 1) ≡ 12 * a + 12 = omega arith in
@@ -155,19 +130,9 @@ flat_map_twelves f a (suc m) =
     ap (λ xs. flat_map f (range_with_len (12 * a) 12) ++ xs) (flat_map_twelves f (a + 1) m ∙ ap (λ b. flat_map f (range_with_len b (12 * m))) next)
     ∙ sym (flat_map-range_append f (12 * a) 12 (12 * m)) ∙ ap (λ n. flat_map f (range_with_len (12 * a) n)) count
 
-pub flat_map_agree : {A : Type 0} (f g : ℕ → List A) (a n : ℕ) → ((x : ℕ) → a ≤ x → x < a + n → f x ≡ g x) → flat_map f (range_with_len a n) ≡ flat_map g (range_with_len a n)
+pub flat_map_agree : {A : Type 0} (f g : ℕ → List A) (a n : ℕ) → ((x : ℕ) → a ≤ x → x < a + n → f x ≡ g x)
+    → flat_map f (range_with_len a n) ≡ flat_map g (range_with_len a n)
 flat_map_agree f g a zero same = refl
 flat_map_agree f g a (suc n) same =
     ap (λ xs. xs ++ flat_map f (range_with_len (a + 1) n)) (same a (omega arith) (omega arith))
     ∙ ap (λ xs. g a ++ xs) (flat_map_agree f g (a + 1) n (λ x low high. same x (omega arith) (omega arith)))
-
--- a filter that keeps less needs no filter before it
-pub filter_of_filter : {X : Type 0} (p q : X → Bool) → ((x : X) → p x ≡ true → q x ≡ true) → (xs : List X) → filter p (filter q xs) ≡ filter p xs
-filter_of_filter p q less [] = refl
-filter_of_filter p q less (x ∷ xs) =
-    let rest = filter_of_filter p q less xs in
-    let kept : q x ≡ true → filter p (filter q (x ∷ xs)) ≡ filter p (x ∷ xs) = λ yes. rw yes (rw rest refl) in
-    let dropped : q x ≡ false → filter p (filter q (x ∷ xs)) ≡ filter p (x ∷ xs) = λ no.
-    let out : p x ≡ false = false_from_ne_true (p x) (λ yes. both_ways (q x) no (less x yes)) in
-    rw (no, out) rest in
-    ⊎_elim kept dropped (cases_Bool (q x))

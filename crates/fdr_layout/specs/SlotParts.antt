@@ -7,12 +7,12 @@ use Rattle.fdr_layout.specs.Samples.{Part, Sample, samples, ending_in}
 use Rattle.fdr_layout.specs.Cycles.{AreCycles}
 
 -- parts of the sample with this number
-abbrev pub numbered : ℕ → List Part → List SlotPart
-numbered n parts = map (λ (p : Part). record { sample = n; part = p }) parts
+abbrev pub parts_of_sample : ℕ → List Part → List SlotPart
+parts_of_sample n parts = map (λ (p : Part). record { sample = n; part = p }) parts
 
 -- the parts of all of these samples, which are numbered from 0 on
 unfoldable pub parts_among : List Sample → List SlotPart
-parts_among samples = flat_map (λ (e : ℕ × Sample). numbered e.0 e.1.parts) (enumerate_from 0 samples)
+parts_among samples = flat_map (λ (e : ℕ × Sample). parts_of_sample e.0 e.1.parts) (enumerate_from 0 samples)
 
 -- all parts of a table's samples in a superframe
 abbrev pub all_parts : TableRows → List SlotPart

@@ -91,7 +91,7 @@ pub(crate) fn cycles_of(
     requires few_words { words ≤ 1024 }
     requires few_samples { length samples.now < 2 ^ 32 }
     ensures samples { IfOk result (λ v. map (λ c. c.items) v.items ≡ map (ending_among words samples.now) (range_with_len 0 16)) }
-    ensures few { IfOk result (λ v. AreCycles (map (λ c. c.items) v.items)) }
+    ensures cycles { IfOk result (λ v. AreCycles (map (λ c. c.items) v.items)) }
 {
     let slots = samples_by_slot(alloc, words, samples)?;
     let mut cycles = Vec::new(alloc);

@@ -55,7 +55,7 @@ impl Layout {
     pub fn ending_in(&self, cycle: u8) -> &[Sample]
         requires { cycle < 16 }
         ensures samples { slice_get self.now.cycles cycle ≡ Some result.now }
-        ensures few { length result.now < 2 ^ 32 }
+        ensures countable { length result.now < 2 ^ 32 }
         ensures cycles { length self.now.cycles ≡ 16 }
     {
         self.cycles[cycle as usize].as_slice()

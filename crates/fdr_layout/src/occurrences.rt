@@ -58,8 +58,8 @@ fn is_on_word(place: &Place, word: u32) -> bool
 
 /// Whether a place occurs in a word slot of the superframe.
 fn occurs(words: u32, place: &Place, slot: u32) -> bool
-    requires some { 0 < words }
-    requires few { words ≤ 1024 }
+    requires some_words { 0 < words }
+    requires word_limit { words ≤ 1024 }
     ensures { result ≡ occurs words place.now slot }
 {
     slot / (4 * words) % u32::from(place.period) == u32::from(place.cycle)
@@ -70,23 +70,23 @@ fn occurs(words: u32, place: &Place, slot: u32) -> bool
 /// Whether a place has an occurrence whose lowest bit is this bit of the superframe.
 #[tactic(auto, unfolding(fdr_check::specs::Occurrences::begins_at))]
 fn begins_at(words: u32, bit: u32, place: &Place) -> bool
-    requires some { 0 < words }
-    requires few { words ≤ 1024 }
+    requires some_words { 0 < words }
+    requires word_limit { words ≤ 1024 }
     ensures { result ≡ begins_at words bit place.now }
 {
     bit % 12 + 1 == u32::from(place.lsb) && occurs(words, place, bit / 12)
 }
 
 /// Adds the occurrences whose lowest bit is this bit of the superframe.
-#[tactic(auto, using(crate::proofs::Steps::begins_at_low))]
+#[tactic(auto, using(fdr_check::proofs::Starting::begins_low))]
 fn add_at_bit(
     found: &mut Vec<Occurrence>,
     words: u32,
     places: &[Place],
     bit: u32,
 ) -> Result<(), NoMemory>
-    requires some { 0 < words }
-    requires few { words ≤ 1024 }
+    requires some_words { 0 < words }
+    requires word_limit { words ≤ 1024 }
     requires within { bit < 16 * frame_bits words }
     ensures { OnOk result (found.new.items ≡ found.old.items ++ occurrences_at words places.now bit) }
 {
@@ -123,8 +123,8 @@ fn add_in_slot(
     places: &[Place],
     slot: u32,
 ) -> Result<(), NoMemory>
-    requires some { 0 < words }
-    requires few { words ≤ 1024 }
+    requires some_words { 0 < words }
+    requires word_limit { words ≤ 1024 }
     requires within { slot < 64 * words }
     ensures { OnOk result (found.new.items ≡ found.old.items ++ occurrences_from words places.now (12 * slot) 12) }
 {
@@ -170,7 +170,7 @@ fn words_before_place(place: &Place) -> u32
 
 /// The last of the words of a subframe that a place may be on.
 fn last_word_of_place(place: &Place, words: u32) -> u32
-    ensures few { result ≤ words }
+    ensures within_words { result ≤ words }
     ensures last { StandsUpTo words result place.now }
 {
     if place.step == 0 {
@@ -182,7 +182,7 @@ fn last_word_of_place(place: &Place, words: u32) -> u32
 
 /// How many words of a subframe stand before any that one of these places is on.
 fn words_before(places: &[Place], words: u32) -> u32
-    ensures few { result ≤ words }
+    ensures within_words { result ≤ words }
     ensures before { All (StandsAfter result) places.now }
 {
     let mut before = words;
@@ -194,7 +194,7 @@ fn words_before(places: &[Place], words: u32) -> u32
 
 /// The last of the words of a subframe that one of these places may be on; 0 where there is none.
 fn last_word(places: &[Place], words: u32) -> u32
-    ensures few { result ≤ words }
+    ensures within_words { result ≤ words }
     ensures last { All (StandsUpTo words result) places.now }
 {
     let mut last = 0;
@@ -212,8 +212,8 @@ fn add_in_subframe(
     places: &[Place],
     subframe: u32,
 ) -> Result<(), NoMemory>
-    requires some { 0 < words }
-    requires few { words ≤ 1024 }
+    requires some_words { 0 < words }
+    requires word_limit { words ≤ 1024 }
     requires within { subframe < 64 }
     ensures { OnOk result (found.new.items
         ≡ found.old.items ++ occurrences_from words places.now (12 * (subframe * words)) (12 * words)) }
@@ -249,8 +249,8 @@ pub(crate) fn part_occurrences(
     param: u32,
     part: u8,
 ) -> Result<Vec<Occurrence>, NoMemory>
-    requires some { 0 < words }
-    requires few { words ≤ 1024 }
+    requires some_words { 0 < words }
+    requires word_limit { words ≤ 1024 }
     ensures { IfOk result (λ v. v.items ≡ part_occurrences words places.now param part) }
 {
     let chosen = places_of(alloc, places, param, part)?;

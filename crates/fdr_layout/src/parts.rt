@@ -102,7 +102,7 @@ impl Sample {
     /// The parts by part number, at most four.
     pub fn parts(&self) -> &[Part]
         ensures parts { result.now ≡ self.now.parts }
-        ensures few { length result.now ≤ 4 }
+        ensures four_parts { length result.now ≤ 4 }
     {
         self.parts.as_slice()
     }

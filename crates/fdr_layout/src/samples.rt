@@ -31,10 +31,10 @@ impl Model for Carrier {
     ghost invariant = { λ c. c.shift ≤ 36 };
 }
 
-#[tactic(auto, using(crate::proofs::Lists::find_here, crate::proofs::Lists::find_more), unfolding(fdr_check::specs::Occurrences::part_width))]
+#[tactic(auto, using(fdr_lists::proofs::Searches::find_here, fdr_lists::proofs::Searches::find_more), unfolding(fdr_check::specs::Occurrences::part_width))]
 fn part_width(places: &[Place], param: u32, part: u8) -> u8
     ensures width { result ≡ part_width places.now param part }
-    ensures few { result ≤ 12 }
+    ensures one_word { result ≤ 12 }
 {
     for place in places {
         if is_part(place, param, part) {
@@ -49,7 +49,7 @@ fn shift_of(places: &[Place], param: u32, part: u8) -> u8
     requires low { 1 ≤ part }
     requires high { part ≤ 4 }
     ensures shift { result ≡ shift_of places.now param part }
-    ensures few { result ≤ 36 }
+    ensures three_words { result ≤ 36 }
 {
     let mut shift = 0;
     for lower in 1..part {
@@ -65,8 +65,8 @@ fn carriers(
     places: &[Place],
     param: u32,
 ) -> Result<Vec<Carrier>, NoMemory>
-    requires some { 0 < words }
-    requires few { words ≤ 1024 }
+    requires some_words { 0 < words }
+    requires word_limit { words ≤ 1024 }
     ensures { IfOk result (λ v. v.items ≡ map (carrier_of words places.now param) (range_with_len 1 4)) }
 {
     let mut carriers = Vec::new(alloc);
@@ -104,7 +104,7 @@ fn add_part_at(parts: &mut Vec<Part>, carrier: &Carrier, index: u32) -> Result<(
 /// The parts of a sample, by part number.
 fn parts_at(alloc: Global, carriers: &[Carrier], index: u32) -> Result<Vec<Part>, NoMemory>
     ensures parts { IfOk result (λ v. v.items ≡ filter_map (part_at index) carriers.now) }
-    ensures few { IfOk result (λ v. length v.items ≤ length carriers.now) }
+    ensures within_carriers { IfOk result (λ v. length v.items ≤ length carriers.now) }
 {
     let mut parts = Vec::new(alloc);
     for carrier in carriers {
@@ -122,8 +122,8 @@ fn add_samples(
     param: u32,
     rate: u32,
 ) -> Result<(), NoMemory>
-    requires some { 0 < words }
-    requires few { words ≤ 1024 }
+    requires some_words { 0 < words }
+    requires word_limit { words ≤ 1024 }
     ensures { OnOk result (samples.new.items ≡ samples.old.items ++ samples_of words places.now param rate) }
 {
     let carriers = carriers(alloc, words, places, param)?;
@@ -141,8 +141,8 @@ pub(crate) fn all_samples(
     params: &[Param],
     places: &[Place],
 ) -> Result<Vec<Sample>, NoMemory>
-    requires some { 0 < words }
-    requires few { words ≤ 1024 }
+    requires some_words { 0 < words }
+    requires word_limit { words ≤ 1024 }
     requires numbered { length params.now < 2 ^ 32 }
     ensures { IfOk result (λ v. v.items
         ≡ flat_map (λ e. samples_of words places.now e.0 e.1.rate) (enumerate_from 0 params.now)) }

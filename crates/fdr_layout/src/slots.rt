@@ -2,7 +2,7 @@
 
 ghost use Rattle.std.specs.Prelude.{◌≡◌, ◌<◌, ◌≤◌, ◌*◌, ◌++◌, ◌^◌, length, map, IfOk, OnOk};
 ghost use Rattle.std.specs.List.{range_with_len};
-ghost use Rattle.fdr_layout.specs.SlotParts.{numbered, parts_among, parts_at, parts_of_slot};
+ghost use Rattle.fdr_layout.specs.SlotParts.{parts_of_sample, parts_among, parts_at, parts_of_slot};
 ghost use Rattle.fdr_layout.specs.Sorting.{standing_in};
 
 use crate::buckets::{empty_lists, push_to};
@@ -22,7 +22,7 @@ pub struct SlotPart {
 
 /// Adds the parts of the sample with this number.
 fn add_numbered(found: &mut Vec<SlotPart>, number: u32, parts: &[Part]) -> Result<(), NoMemory>
-    ensures { OnOk result (found.new.items ≡ found.old.items ++ numbered number parts.now) }
+    ensures { OnOk result (found.new.items ≡ found.old.items ++ parts_of_sample number parts.now) }
 {
     for part in parts {
         let numbered = SlotPart {

@@ -26,4 +26,5 @@ gap_text at bits = codes "gap," ++ decimal at ++ codes "," ++ decimal bits ++ co
 -- `row,COUNTER,SUBFRAME,WORD,NAME,VALUE`
 unfoldable pub row_text : Row → List ℕ → ℕ → List ℕ
 row_text r name decimals =
-    codes "row," ++ decimal r.counter ++ codes "," ++ decimal r.subframe ++ codes "," ++ decimal r.word ++ codes "," ++ name ++ codes "," ++ value_text r.value decimals ++ codes "\n"
+    codes "row," ++ decimal r.counter ++ codes "," ++ decimal r.subframe ++ codes "," ++ decimal r.word ++ codes "," ++ name ++ codes ","
+    ++ value_text r.value decimals ++ codes "\n"

@@ -18,9 +18,9 @@ impl Model for Line {
 
     ghost Value = { List ℕ };
 
-    ghost use Rattle.fdr_listing.specs.Line.{bytes_of, IsWithin};
+    ghost use Rattle.fdr_listing.specs.Line.{line_bytes, IsWithin};
 
-    ghost view = { bytes_of };
+    ghost view = { line_bytes };
 
     ghost invariant = { IsWithin };
 }
@@ -39,7 +39,7 @@ impl Line {
 
     /// The line's bytes.
     pub fn bytes(&self) -> &[u8]
-        ensures is { result.now ≡ self.now }
+        ensures content { result.now ≡ self.now }
         ensures length { length result.now ≡ length self.now }
         ensures short { length result.now ≤ 96 }
     {

@@ -22,7 +22,7 @@ pub fn gap_line(at: u64, bits: u64) -> Line
 /// Ten to the power of the number of decimals.
 fn unit(decimals: u8) -> u64
     requires { decimals ≤ 9 }
-    ensures is { result ≡ 10 ^ decimals }
+    ensures power { result ≡ 10 ^ decimals }
     ensures low { 1 ≤ result }
     ensures high { result ≤ 1000000000 }
 {
@@ -32,7 +32,7 @@ fn unit(decimals: u8) -> u64
 /// Adds so many zeros.
 fn add_zeros(line: &mut Line, zeros: usize)
     requires room { length line.old ≤ 81 }
-    requires few { zeros ≤ 9 }
+    requires nine_zeros { zeros ≤ 9 }
     ensures appended { line.new ≡ line.old ++ replicate zeros 48 }
     ensures length { length line.new ≡ length line.old + zeros }
 {
@@ -43,7 +43,7 @@ fn add_zeros(line: &mut Line, zeros: usize)
 #[tactic(auto, unfolding(crate::specs::Text::fraction_text))]
 fn add_fraction(line: &mut Line, n: u64, decimals: u8)
     requires room { length line.old ≤ 80 }
-    requires few { decimals ≤ 9 }
+    requires nine_decimals { decimals ≤ 9 }
     requires below { n < 10 ^ decimals }
     ensures appended { line.new ≡ line.old ++ fraction_text n decimals }
     ensures length { length line.new ≤ length line.old + 10 }
@@ -63,7 +63,7 @@ fn add_fraction(line: &mut Line, n: u64, decimals: u8)
 #[tactic(auto, using(crate::proofs::Lengths::numbers), unfolding(crate::specs::Text::size_text))]
 fn add_size(line: &mut Line, size: u64, decimals: u8)
     requires room { length line.old ≤ 60 }
-    requires few { decimals ≤ 9 }
+    requires nine_decimals { decimals ≤ 9 }
     ensures appended { line.new ≡ line.old ++ size_text size decimals }
     ensures length { length line.new ≤ length line.old + 30 }
 {
@@ -90,7 +90,7 @@ pub fn value_text(v: i64, decimals: u8) -> Line
 /// The line `row,COUNTER,SUBFRAME,WORD,NAME,VALUE` of a row of the parameter with this name and number of decimals.
 #[tactic(auto, using(crate::proofs::Lengths::numbers), unfolding(crate::specs::Text::row_text))]
 pub fn row_line(r: &Row, name: &Name, decimals: u8) -> Line
-    requires few { decimals ≤ 9 }
+    requires nine_decimals { decimals ≤ 9 }
     requires counter { r.now.counter < 4096 }
     requires subframe { r.now.subframe ≤ 4 }
     requires word { r.now.word ≤ 1024 }

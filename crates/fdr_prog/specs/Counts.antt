@@ -2,8 +2,8 @@
 use Rattle.std.specs.Prelude.{ℕ, List, [], false}
 use Rattle.std.proofs.Common.{refl, arith}
 use Rattle.fdr_deck.specs.State.{State, Tells}
-use Rattle.fdr_deck.specs.Moments.{IsSound}
-use Rattle.fdr_deck.specs.Announced.{least_of, greatest_of}
+use Rattle.fdr_deck.specs.Moments.{IsSoundDeck}
+use Rattle.fdr_deck.specs.Announced.{least_announced, greatest_announced}
 use Rattle.fdr_deck.specs.declared.announced.Announced.{Announced}
 
 -- the length of the disk, the announced numbers, how many bytes were pulled, how many as the last pull that gave bytes began, and the faults
@@ -27,8 +27,8 @@ counts_state c = record {
   clock = 0;
   since = λ t m. ⊥;
   told = c.announced.told;
-  least = least_of c.announced;
-  greatest = greatest_of c.announced;
+  least = least_announced c.announced;
+  greatest = greatest_announced c.announced;
   line = [];
   taken = c.taken;
   before = c.before;
@@ -36,7 +36,7 @@ counts_state c = record {
   line_faults = c.line_faults;
 }
 
-pub counts_are_sound : (c : Counts) → IsSound telling_nothing (counts_state c)
+pub counts_are_sound : (c : Counts) → IsSoundDeck telling_nothing (counts_state c)
 counts_are_sound c = record {
   stops_need_bytes = λ told. told;
   size = λ told. cc;

@@ -1,9 +1,9 @@
 -- The lines of events.
-use Rattle.std.proofs.Common.{◌≡◌, ℕ, min, inl, inr, ◌*◌, Bool, eqb, ◌&&◌, length, map, ◌-◌, ◌≤◌, ◌<◌, List, [], ◌∷◌, ◌++◌, true, false, zero, suc, add-one, sym, append_assoc, ltb, cond, ap, refl, ◌∙◌, arith}
-use Rattle.std.proofs.lemmas.Bool.{cond-false, cases_lt}
+use Rattle.std.proofs.Common.{◌≡◌, ℕ, min, inl, inr, ◌*◌, Bool, eqb, ◌&&◌, length, map, ◌-◌, ◌≤◌, ◌<◌, List, [], ◌∷◌, ◌++◌, true, false, zero, suc, add-one}
+use Rattle.std.proofs.Common.{sym, append_assoc, ltb, cond, ap, refl, ◌∙◌, arith}
+use Rattle.std.proofs.lemmas.Bool.{cond-false, cases_lt, le-ltb}
 use Rattle.std.proofs.lemmas.List.{append-nil, take-append-drop, length-map, map-append, take_all}
 use Rattle.std.proofs.lemmas.List.Concat.{flat_map-append}
-use Rattle.std.proofs.lemmas.Bool.Decides.{nat_tests}
 use Rattle.fdr_listing.specs.Text.{gap_text}
 use Rattle.std.specs.Prelude.{Option, Some, None, slice_get, take, drop, ◌+◌}
 use Rattle.std.specs.List.{flat_map, filter_map}
@@ -19,19 +19,17 @@ use Rattle.fdr_readout.specs.FramesSoFar.{SoFar}
 use Rattle.fdr_readout.proofs.SoFarLemmas.{accepted_to_next, adjacent_next}
 use Rattle.fdr_readout.specs.Listing.{gap_lines, row_lines, row_line_of, lines_of, rows_at, last_frame_lines, frame_read, frame_words, accepted_to}
 
-ltb_false : (a b : ℕ) → b ≤ a → ltb a b ≡ false
-ltb_false a b h = grind (arith, nat_tests)
-
 -- no line of a gap without bits
 pub gap_lines-none : (from end : ℕ) → end ≤ from → gap_lines from end ≡ []
 unfolding gap_lines
-gap_lines-none from end h = cond-false (ltb from end) (gap_text from (end - from)) [] (ltb_false from end h)
+gap_lines-none from end h = cond-false (ltb from end) (gap_text from (end - from)) [] (le-ltb from end h)
 
 pub row_lines-none : (t : TableRows) → row_lines t None ≡ []
 unfolding row_lines
 row_lines-none t = refl
 
-flat_map_suc : {X : Type 0} (f : X → List ℕ) (xs : List X) (i : ℕ) (x : X) → slice_get xs i ≡ Some x → flat_map f (take (suc i) xs) ≡ flat_map f (take i xs) ++ f x
+flat_map_suc : {X : Type 0} (f : X → List ℕ) (xs : List X) (i : ℕ) (x : X) → slice_get xs i ≡ Some x
+    → flat_map f (take (suc i) xs) ≡ flat_map f (take i xs) ++ f x
 flat_map_suc f [] i x h = cc
 flat_map_suc f (y ∷ ys) zero x h =
     let e : y ≡ x = cc in
@@ -39,11 +37,13 @@ flat_map_suc f (y ∷ ys) zero x h =
 flat_map_suc f (y ∷ ys) (suc i) x h = ap (λ (rest : List ℕ). f y ++ rest) (flat_map_suc f ys i x h) ∙ sym (append_assoc (f y) (flat_map f (take i ys)) (f x))
 
 -- one more row
-pub flat_map_next : {X : Type 0} (f : X → List ℕ) (xs : List X) (i : ℕ) (x : X) → slice_get xs i ≡ Some x → flat_map f (take (i + 1) xs) ≡ flat_map f (take i xs) ++ f x
+pub flat_map_next : {X : Type 0} (f : X → List ℕ) (xs : List X) (i : ℕ) (x : X) → slice_get xs i ≡ Some x
+    → flat_map f (take (i + 1) xs) ≡ flat_map f (take i xs) ++ f x
 flat_map_next f xs i x h = rw add-one (flat_map_suc f xs i x h)
 
 -- the rows before one, it, and those after it
-pub flat_map_around : {X : Type 0} (f : X → List ℕ) (xs : List X) (i : ℕ) (x : X) → slice_get xs i ≡ Some x → flat_map f xs ≡ (flat_map f (take i xs) ++ f x) ++ flat_map f (drop (i + 1) xs)
+pub flat_map_around : {X : Type 0} (f : X → List ℕ) (xs : List X) (i : ℕ) (x : X) → slice_get xs i ≡ Some x
+    → flat_map f xs ≡ (flat_map f (take i xs) ++ f x) ++ flat_map f (drop (i + 1) xs)
 flat_map_around f xs i x h =
     ap (flat_map f) (sym (take-append-drop (i + 1) xs)) ∙ flat_map-append f (take (i + 1) xs) (drop (i + 1) xs)
     ∙ ap (λ (front : List ℕ). front ++ flat_map f (drop (i + 1) xs)) (flat_map_next f xs i x h)
@@ -55,7 +55,8 @@ flat_map_row_lines t [] = refl
 flat_map_row_lines t (None ∷ rows) = flat_map_row_lines t rows
 flat_map_row_lines t (Some r ∷ rows) = ap (λ (rest : List ℕ). row_line_of t r ++ rest) (flat_map_row_lines t rows)
 
-module _ (t : TableRows) (b : List ℕ) (free p : ℕ) (xs : List ℕ) (some : 0 < t.frame.words) (so_far : SoFar b t.frame.words free xs) (next : IsFirstFrameFrom b t.frame.words free p) where
+module _ (t : TableRows) (b : List ℕ) (free p : ℕ) (xs : List ℕ) (some : 0 < t.frame.words) (so_far : SoFar b t.frame.words free xs)
+    (next : IsFirstFrameFrom b t.frame.words free p) where
   -- the lines of the next frame are those of the last of the frames up to it
   pub lines_of_next : lines_of t b (Frame p) ≡ last_frame_lines t (map (frame_read b t.frame.words) (xs ++ p ∷ []))
   unfolding lines_of rows_at last_frame_lines rows_of_frame
@@ -92,15 +93,18 @@ gap_lines_between t b from end =
 
 -- the lines from a place on: those of the gap before the next frame, those of the frame, and those after it
 pub lines_from_first : (t : TableRows) (b : List ℕ) (free p : ℕ) → 0 < t.frame.words → IsFirstFrameFrom b t.frame.words free p →
-    flat_map (lines_of t b) (events_from b t.frame.words free) ≡ (gap_lines free p ++ lines_of t b (Frame p)) ++ flat_map (lines_of t b) (events_from b t.frame.words (p + 48 * t.frame.words))
+    flat_map (lines_of t b) (events_from b t.frame.words free) ≡ (gap_lines free p ++ lines_of t b (Frame p)) ++ flat_map (lines_of t b)
+    (events_from b t.frame.words (p + 48 * t.frame.words))
 lines_from_first t b free p some next =
     ap (flat_map (lines_of t b)) (events_from_first b t.frame.words free p some next)
     ∙ flat_map-append (lines_of t b) (gap_between free p) (Frame p ∷ events_from b t.frame.words (p + 48 * t.frame.words))
-    ∙ ap (λ (gap : List ℕ). gap ++ (lines_of t b (Frame p) ++ flat_map (lines_of t b) (events_from b t.frame.words (p + 48 * t.frame.words)))) (gap_lines_between t b free p)
+    ∙ ap (λ (gap : List ℕ). gap ++ (lines_of t b (Frame p) ++ flat_map (lines_of t b) (events_from b t.frame.words (p + 48 * t.frame.words))))
+    (gap_lines_between t b free p)
     ∙ sym (append_assoc (gap_lines free p) (lines_of t b (Frame p)) _)
 
 -- the line of the last gap, where no frame is left
-pub lines_from_none : (t : TableRows) (b : List ℕ) (free : ℕ) → HasNoFrameFrom b t.frame.words free → flat_map (lines_of t b) (events_from b t.frame.words free) ≡ gap_lines free (bits_in b)
+pub lines_from_none : (t : TableRows) (b : List ℕ) (free : ℕ) → HasNoFrameFrom b t.frame.words free
+    → flat_map (lines_of t b) (events_from b t.frame.words free) ≡ gap_lines free (bits_in b)
 lines_from_none t b free none = ap (flat_map (lines_of t b)) (events_from_none b t.frame.words free none) ∙ gap_lines_between t b free (bits_in b)
 
 -- as much as there is

@@ -1,5 +1,6 @@
 -- What holds of each two elements of a list that was made in pieces.
-use Rattle.std.proofs.Common.{◌≡◌, ℕ, zero, suc, ◌+◌, ◌<◌, ◌≤◌, ◌⊎◌, inl, inr, ⊎_elim, List, [], ◌∷◌, ◌++◌, Option, Some, None, get_or, map, refl, sym, ap, ◌∙◌, subst, arith}
+use Rattle.std.proofs.Common.{◌≡◌, ℕ, zero, suc, ◌+◌, ◌<◌, ◌≤◌, ◌⊎◌, inl, inr, ⊎_elim, List, [], ◌∷◌, ◌++◌, Option, Some, None, get_or, map, sym, ap, ◌∙◌}
+use Rattle.std.proofs.Common.{subst, arith}
 use Rattle.std.specs.Prelude.{All, AllPairs, Contains}
 use Rattle.std.specs.List.{flat_map, filter_map, range_with_len, enumerate_from}
 use Rattle.std.proofs.lemmas.Bool.{cases_order}
@@ -7,15 +8,9 @@ use Rattle.std.proofs.lemmas.List.{get_or_default}
 use Rattle.std.proofs.lemmas.List.Elements.{All-nil, All-cons, All-head, All-tail, All-append, All-map, All-weaker}
 use Rattle.std.proofs.lemmas.List.Kept.{AllPairs-cons}
 use Rattle.fdr_layout.proofs.Endings.{all_pieces}
-
-AllPairs-nil : {X : Type 0} (R : X → X → Type 0) → AllPairs R []
-AllPairs-nil R i j d before within = absurd (omega arith)
-
-AllPairs-head : {X : Type 0} (R : X → X → Type 0) (x : X) (xs : List X) → AllPairs R (x ∷ xs) → All (R x) xs
-AllPairs-head R x xs pairs k d within = pairs 0 (suc k) d (omega arith) (omega arith)
-
-AllPairs-tail : {X : Type 0} (R : X → X → Type 0) (x : X) (xs : List X) → AllPairs R (x ∷ xs) → AllPairs R xs
-AllPairs-tail R x xs pairs i j d before within = pairs (suc i) (suc j) d (omega arith) (omega arith)
+use Rattle.fdr_lists.proofs.Ranges.{All-range}
+use Rattle.fdr_lists.proofs.Options.{some_or_none}
+use Rattle.fdr_lists.proofs.Pairs.{AllPairs-nil, AllPairs-head, AllPairs-tail}
 
 pub AllPairs-weaker : {X : Type 0} (R S : X → X → Type 0) (xs : List X) → ((x y : X) → R x y → S x y) → AllPairs R xs → AllPairs S xs
 AllPairs-weaker R S xs weaker pairs i j d before within = weaker (get_or xs i d) (get_or xs j d) (pairs i j d before within)
@@ -45,16 +40,11 @@ AllPairs-flat_map R f (x ∷ xs) each cross =
     (All-weaker (λ y. All (λ u. All (R u) (f y)) (f x)) (λ y. All (R (get_or (f x) k d)) (f y)) (λ y here. here k d within) xs
     (AllPairs-head (λ x y. All (λ u. All (R u) (f y)) (f x)) x xs cross)))
 
-pub All_range : (P : ℕ → Type 0) (a n : ℕ) → ((x : ℕ) → a ≤ x → x < a + n → P x) → All P (range_with_len a n)
-All_range P a zero each = All-nil P
-All_range P a (suc n) each =
-    All-cons P a (range_with_len (a + 1) n) (each a (omega arith) (omega arith)) (All_range P (a + 1) n (λ x low high. each x (omega arith) (omega arith)))
-
 pub AllPairs_range : (R : ℕ → ℕ → Type 0) (a n : ℕ) → ((x y : ℕ) → a ≤ x → x < y → y < a + n → R x y) → AllPairs R (range_with_len a n)
 AllPairs_range R a zero each = AllPairs-nil R
 AllPairs_range R a (suc n) each =
     AllPairs-cons R a (range_with_len (a + 1) n)
-    (All_range (R a) (a + 1) n (λ y low high. each a y (omega arith) (omega arith) (omega arith)))
+    (All-range (R a) (a + 1) n (λ y low high. each a y (omega arith) (omega arith) (omega arith)))
     (AllPairs_range R (a + 1) n (λ x y low less high. each x y (omega arith) less (omega arith)))
 
 numbered_from : {X : Type 0} (a n : ℕ) (xs : List X) → a ≤ n → All (λ (e : ℕ × X). a ≤ e.0) (enumerate_from n xs)
@@ -66,13 +56,15 @@ pub AllPairs_enumerate : {X : Type 0} (n : ℕ) (xs : List X) → AllPairs (λ (
 AllPairs_enumerate {X} n [] = AllPairs-nil (λ (e e' : ℕ × X). e.0 < e'.0)
 AllPairs_enumerate {X} n (x ∷ xs) =
     let above : All (λ (e : ℕ × X). n < e.0) (enumerate_from (n + 1) xs) =
-    All-weaker (λ (e : ℕ × X). n + 1 ≤ e.0) (λ (e : ℕ × X). n < e.0) (λ e low. omega arith) (enumerate_from (n + 1) xs) (numbered_from (n + 1) (n + 1) xs (omega arith)) in
+    All-weaker (λ (e : ℕ × X). n + 1 ≤ e.0) (λ (e : ℕ × X). n < e.0) (λ e low. omega arith) (enumerate_from (n + 1) xs)
+    (numbered_from (n + 1) (n + 1) xs (omega arith)) in
     AllPairs-cons (λ (e e' : ℕ × X). e.0 < e'.0) (n, x) (enumerate_from (n + 1) xs) above (AllPairs_enumerate (n + 1) xs)
 
 -- ---- elements of a list
 
 -- two elements are the same or related, where the order doesn't matter
-pub same_or_related : {X : Type 0} (R : X → X → Type 0) (xs : List X) (x y : X) → ((u v : X) → R u v → R v u) → AllPairs R xs → Contains xs x → Contains xs y → (y ≡ x) ⊎ R x y
+pub same_or_related : {X : Type 0} (R : X → X → Type 0) (xs : List X) (x y : X) → ((u v : X) → R u v → R v u) → AllPairs R xs → Contains xs x → Contains xs y
+    → (y ≡ x) ⊎ R x y
 same_or_related R xs x y turn pairs at_x at_y =
     let i = at_x.0 in
     let j = at_y.0 in
@@ -86,10 +78,6 @@ same_or_related R xs x y turn pairs at_x at_y =
     other))
     (cases_order i j)
 
-option_is : {Y : Type 0} (o : Option Y) → (o ≡ None) ⊎ ((y : Y) × (o ≡ Some y))
-option_is None = inl refl
-option_is (Some y) = inr (y, refl)
-
 -- what holds of each value that comes of an element
 pub All_filter_map : {X Y : Type 0} (P : Y → Type 0) (h : X → Option Y) (xs : List X) → All (λ x. (y : Y) → h x ≡ Some y → P y) xs → All P (filter_map h xs)
 All_filter_map P h [] each = All-nil P
@@ -97,5 +85,6 @@ All_filter_map {X} {Y} P h (x ∷ xs) each =
     let rest = All_filter_map P h xs (All-tail (λ x. (y : Y) → h x ≡ Some y → P y) x xs each) in
     ⊎_elim
     (λ (none : h x ≡ None). rw none rest)
-    (λ (some : (y : Y) × (h x ≡ Some y)). rw some.1 (All-cons P some.0 (filter_map h xs) (All-head (λ x. (y : Y) → h x ≡ Some y → P y) x xs each some.0 some.1) rest))
-    (option_is (h x))
+    (λ (some : (y : Y) × (h x ≡ Some y)). rw some.1 (All-cons P some.0 (filter_map h xs) (All-head (λ x. (y : Y) → h x ≡ Some y → P y) x xs each some.0 some.1)
+    rest))
+    (some_or_none (h x))

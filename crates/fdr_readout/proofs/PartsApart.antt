@@ -1,5 +1,6 @@
 -- A part of a slot's word reads back, where each other part of the word stands apart from it.
-use Rattle.std.proofs.Common.{◌≡◌, ℕ, ◌+◌, ◌/◌, ◌%◌, ◌^◌, ◌<◌, ◌≤◌, ◌⊎◌, zero, suc, List, [], ◌∷◌, fold, length, get_or, sym, ap, ◌∙◌, subst, inl, inr, ⊎_elim, arith}
+use Rattle.std.proofs.Common.{◌≡◌, ℕ, ◌+◌, ◌/◌, ◌%◌, ◌^◌, ◌<◌, ◌≤◌, ◌⊎◌, zero, suc, List, [], ◌∷◌, fold, length, get_or, sym, ap, ◌∙◌, subst, inl, inr, ⊎_elim}
+use Rattle.std.proofs.Common.{arith}
 use Rattle.std.specs.Prelude.{All, Contains}
 use Rattle.std.proofs.lemmas.List.Elements.{All-head, All-tail}
 use Rattle.fdr_bits.specs.Fields.{field_of}
@@ -40,19 +41,22 @@ carries_still value word a b other carries =
     ⊎_elim
     (λ (same : b ≡ a). subst (λ (x : SlotPart). Carries value a (with_part value word x)) (sym same) (carries_itself value word a))
     (λ (apart : AreApart a b).
-    field_of-with_field_apart word (b.part.at % 12) b.part.width (piece_of (value b.sample) b.part) (a.part.at % 12) a.part.width (piece_fits value b) (bits_apart a b other.slot apart)
+    field_of-with_field_apart word (b.part.at % 12) b.part.width (piece_of (value b.sample) b.part) (a.part.at % 12) a.part.width (piece_fits value b)
+    (bits_apart a b other.slot apart)
     ∙ carries)
     other.apart
 
 -- nor do several of them
-carries_on : (value : ℕ → ℕ) (a : SlotPart) (parts : List SlotPart) (word : ℕ) → All (IsOther a) parts → Carries value a word → Carries value a (fold (with_part value) word parts)
+carries_on : (value : ℕ → ℕ) (a : SlotPart) (parts : List SlotPart) (word : ℕ) → All (IsOther a) parts → Carries value a word
+    → Carries value a (fold (with_part value) word parts)
 carries_on value a [] word others carries = carries
 carries_on value a (b ∷ parts) word others carries =
     carries_on value a parts (with_part value word b) (All-tail (IsOther a) b parts others)
     (carries_still value word a b (All-head (IsOther a) b parts others) carries)
 
 -- once the part itself was written, the word has its piece
-carries_from : (value : ℕ → ℕ) (a : SlotPart) (parts : List SlotPart) (word k : ℕ) → All (IsOther a) parts → k < length parts → get_or parts k a ≡ a → Carries value a (fold (with_part value) word parts)
+carries_from : (value : ℕ → ℕ) (a : SlotPart) (parts : List SlotPart) (word k : ℕ) → All (IsOther a) parts → k < length parts → get_or parts k a ≡ a
+    → Carries value a (fold (with_part value) word parts)
 carries_from value a [] word k others within is = absurd (omega arith)
 carries_from value a (b ∷ parts) word zero others within is =
     carries_on value a parts (with_part value word b) (All-tail (IsOther a) b parts others)

@@ -1,23 +1,22 @@
 -- Each piece of a sample's raw value reads back from the word of its slot, and the pieces make up the value.
-use Rattle.std.proofs.Common.{◌≡◌, ℕ, ◌+◌, ◌-◌, ◌*◌, ◌/◌, ◌%◌, ◌^◌, ◌<◌, ◌==◌, List, [], ◌∷◌, get_or, sum_by, Some, refl, sym, ap, ◌∙◌, subst, arith}
+use Rattle.std.proofs.Common.{◌≡◌, ℕ, ◌+◌, ◌-◌, ◌*◌, ◌/◌, ◌%◌, ◌^◌, ◌<◌, ◌==◌, List, get_or, sum_by, Some, refl, sym, ap, ◌∙◌, subst, arith}
 use Rattle.std.specs.Prelude.{All, Contains, slice_get, Option, None}
 use Rattle.std.specs.Option.{option_map_or}
 use Rattle.std.specs.List.{range_with_len, enumerate_from}
 use Rattle.std.proofs.lemmas.Nat.{mod_below, pow_pos}
 use Rattle.std.proofs.lemmas.Bool.{eq-eqb}
 use Rattle.std.proofs.lemmas.Option.{slice_get-get_or}
-use Rattle.std.proofs.lemmas.List.Elements.{All-head, All-tail, All-contains, All-contains_itself, All-filter, All-weaker}
-use Rattle.std.proofs.lemmas.List.Sums.{sum_by-cons}
+use Rattle.std.proofs.lemmas.List.Elements.{All-contains, All-contains_itself, All-filter, All-weaker}
 use Rattle.fdr_bus.specs.declared.BusRecord.{BusRecord}
 use Rattle.fdr_table.specs.Rows.{ParamRow, TableRows}
 use Rattle.fdr_layout.specs.declared.slots.SlotPart.{SlotPart}
 use Rattle.fdr_check.specs.Occurrences.{frame_bits}
 use Rattle.fdr_layout.specs.Samples.{Part, Sample, samples, ending_in}
-use Rattle.fdr_layout.specs.SlotParts.{numbered, parts_among, all_parts, parts_at, parts_of_slot, parts_in}
+use Rattle.fdr_layout.specs.SlotParts.{parts_of_sample, parts_among, all_parts, parts_at, parts_of_slot, parts_in}
 use Rattle.fdr_layout.specs.Sorting.{ending_at}
 use Rattle.fdr_layout.proofs.Endings.{pieces_hold}
 use Rattle.fdr_layout.proofs.SlotLemmas.{parts_of_slot_hold}
-use Rattle.fdr_sampler.specs.Held.{Source, source_of, held_record, raw_of, raw_value, first_slot}
+use Rattle.fdr_sampler.specs.Held.{Source, source_of, held_record, raw_of_record, raw_value, first_part_slot}
 use Rattle.fdr_sampler.specs.SlotWord.{numbered_value, piece_of, data_word}
 use Rattle.fdr_sampler.proofs.Lists.{Contains-map, Contains-filter, Contains-flat_map, Contains-range, Contains-enumerate}
 use Rattle.fdr_sampler.proofs.DataWords.{IsWithin}
@@ -26,17 +25,20 @@ use Rattle.fdr_sampler.proofs.Standing.{numbered_value_at}
 use Rattle.fdr_readout.proofs.Recordable.{IsPlaced, IsRecordable}
 use Rattle.fdr_readout.proofs.RecordedWords.{parts_in-placed}
 use Rattle.fdr_readout.proofs.PartsApart.{IsOther, data_carries}
+use Rattle.fdr_lists.proofs.Sums.{sum_by-agree}
 
 -- part p of sample n
 abbrev pub part_of : ℕ → Part → SlotPart
 part_of n p = record { sample = n; part = p }
 
 -- each part of a sample is among all parts, and among those of its slot
-pub all_parts-contain : (t : TableRows) (n : ℕ) (s : Sample) (p : Part) → slice_get (samples t) n ≡ Some s → Contains s.parts p → Contains (all_parts t) (part_of n p)
+pub all_parts-contain : (t : TableRows) (n : ℕ) (s : Sample) (p : Part) → slice_get (samples t) n ≡ Some s → Contains s.parts p
+    → Contains (all_parts t) (part_of n p)
 unfolding parts_among
 all_parts-contain t n s p got here =
     let e : ℕ × Sample = (n, s) in
-    Contains-flat_map (λ (e : ℕ × Sample). numbered e.0 e.1.parts) (enumerate_from 0 (samples t)) e (part_of n p) (Contains-enumerate (samples t) n s got) (Contains-map (part_of n) s.parts p here)
+    Contains-flat_map (λ (e : ℕ × Sample). parts_of_sample e.0 e.1.parts) (enumerate_from 0 (samples t)) e (part_of n p)
+    (Contains-enumerate (samples t) n s got) (Contains-map (part_of n) s.parts p here)
 
 parts_in-contain : (t : TableRows) (a : SlotPart) → Contains (all_parts t) a → Contains (parts_in t (a.part.at / 12)) a
 unfolding parts_of_slot
@@ -54,7 +56,8 @@ others_in_slot t a h here =
     λ i d l. record { slot = within i d l; apart = h.apart a (get_or (parts_in t k) i d) here (among i d l) }
 
 -- the word of data of a part's slot has the part's piece of the raw value
-pub data_word-piece : (t : TableRows) (records : List BusRecord) (start n : ℕ) (s : Sample) (p : Part) → IsRecordable t → slice_get (samples t) n ≡ Some s → Contains s.parts p →
+pub data_word-piece : (t : TableRows) (records : List BusRecord) (start n : ℕ) (s : Sample) (p : Part) → IsRecordable t → slice_get (samples t) n ≡ Some s
+    → Contains s.parts p →
     data_word t records start (p.at / 12) / 2 ^ (p.at % 12) % 2 ^ p.width ≡ piece_of (raw_value t records start s) p
 data_word-piece t records start n s p h got here =
     let a = part_of n p in
@@ -66,36 +69,35 @@ data_word-piece t records start n s p h got here =
 
 -- a part of a sample lies in one word of data
 pub part_placed : (t : TableRows) (n : ℕ) (s : Sample) (p : Part) → IsRecordable t → slice_get (samples t) n ≡ Some s → Contains s.parts p → IsPlaced t.frame p
-part_placed t n s p h got here = All-contains (λ (a : SlotPart). IsPlaced t.frame a.part) (all_parts t) (part_of n p) h.placed (all_parts-contain t n s p got here)
+part_placed t n s p h got here = All-contains (λ (a : SlotPart). IsPlaced t.frame a.part) (all_parts t) (part_of n p) h.placed
+    (all_parts-contain t n s p got here)
 
 -- ---- the raw value
 
 -- a raw value is below 2 to the power of its width
-raw_of-below : (s : Source) (held : Option BusRecord) → raw_of s held < 2 ^ s.width
+raw_of-below : (s : Source) (held : Option BusRecord) → raw_of_record s held < 2 ^ s.width
 raw_of-below s None = pow_pos s.width
 raw_of-below s (Some r) = mod_below (r.word / 2 ^ (s.lsb - 1)) (2 ^ s.width) (pow_pos s.width)
 
-raw_value-below : (t : TableRows) (records : List BusRecord) (start : ℕ) (s : Sample) (p : ParamRow) → slice_get t.params s.param ≡ Some p → raw_value t records start s < 2 ^ p.width
+raw_value-below : (t : TableRows) (records : List BusRecord) (start : ℕ) (s : Sample) (p : ParamRow) → slice_get t.params s.param ≡ Some p
+    → raw_value t records start s < 2 ^ p.width
 unfolding raw_value
 raw_value-below t records start s p got =
-    subst (λ (o : Option ParamRow). option_map_or (λ (p : ParamRow). raw_of (source_of p) (held_record t.frame.words (source_of p) records (start + first_slot s))) o 0 < 2 ^ p.width) (sym got)
-    (raw_of-below (source_of p) (held_record t.frame.words (source_of p) records (start + first_slot s)))
-
-sum_by-agree : {X : Type 0} (f g : X → ℕ) (xs : List X) → All (λ x. f x ≡ g x) xs → sum_by f xs ≡ sum_by g xs
-sum_by-agree f g [] same = refl
-sum_by-agree f g (x ∷ xs) same =
-    let here : f x ≡ g x = All-head (λ y. f y ≡ g y) x xs same in
-    let rest : sum_by f xs ≡ sum_by g xs = sum_by-agree f g xs (All-tail (λ y. f y ≡ g y) x xs same) in
-    sum_by-cons f x xs ∙ ap (λ n. n + sum_by f xs) here ∙ ap (λ n. g x + n) rest ∙ sym (sum_by-cons g x xs)
+    subst (λ (o : Option ParamRow). option_map_or (λ (p : ParamRow). raw_of_record (source_of p)
+    (held_record t.frame.words (source_of p) records (start + first_part_slot s))) o 0 < 2 ^ p.width) (sym got)
+    (raw_of-below (source_of p) (held_record t.frame.words (source_of p) records (start + first_part_slot s)))
 
 -- bits of parts that are the pieces of a sample's raw value make it up
-pub pieces_make_up : (t : TableRows) (records : List BusRecord) (start n : ℕ) (s : Sample) (bits : Part → ℕ) → IsRecordable t → slice_get (samples t) n ≡ Some s →
-    All (λ (p : Part). bits p ≡ piece_of (raw_value t records start s) p) s.parts → sum_by (λ (p : Part). bits p * 2 ^ p.shift) s.parts ≡ raw_value t records start s
+pub pieces_make_up : (t : TableRows) (records : List BusRecord) (start n : ℕ) (s : Sample) (bits : Part → ℕ) → IsRecordable t → slice_get (samples t) n ≡ Some s
+    →
+    All (λ (p : Part). bits p ≡ piece_of (raw_value t records start s) p) s.parts
+    → sum_by (λ (p : Part). bits p * 2 ^ p.shift) s.parts ≡ raw_value t records start s
 pieces_make_up t records start n s bits h got each =
     let raw = raw_value t records start s in
     let param = h.whole n s got in
     sum_by-agree (λ (p : Part). bits p * 2 ^ p.shift) (λ (p : Part). piece_of raw p * 2 ^ p.shift) s.parts
-    (All-weaker (λ (p : Part). bits p ≡ piece_of raw p) (λ (p : Part). bits p * 2 ^ p.shift ≡ piece_of raw p * 2 ^ p.shift) (λ p is. ap (λ b. b * 2 ^ p.shift) is) s.parts each)
+    (All-weaker (λ (p : Part). bits p ≡ piece_of raw p) (λ (p : Part). bits p * 2 ^ p.shift ≡ piece_of raw p * 2 ^ p.shift)
+    (λ p is. ap (λ b. b * 2 ^ p.shift) is) s.parts each)
     ∙ param.2 raw (raw_value-below t records start s param.0 param.1)
 
 -- ---- a sample that ends in a cycle is one of the table's

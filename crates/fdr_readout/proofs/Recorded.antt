@@ -1,25 +1,20 @@
 -- Frames that were read as a recording has them: their counters, and how they are joined.
-use Rattle.std.proofs.Common.{◌≡◌, ℕ, zero, suc, ◌+◌, ◌-◌, ◌*◌, ◌%◌, ◌<◌, ◌≤◌, Bool, true, List, refl, sym, ap, ◌∙◌, arith}
+use Rattle.std.proofs.Common.{◌≡◌, ℕ, ◌+◌, ◌-◌, ◌*◌, ◌%◌, ◌<◌, ◌≤◌, true, List, sym, ap, ◌∙◌, arith}
 use Rattle.std.specs.Prelude.{slice_index, nat_le}
-use Rattle.std.specs.List.{list_all, range_with_len}
 use Rattle.std.proofs.lemmas.Bool.{and_from, le-leb, eq-eqb}
 use Rattle.fdr_bus.specs.declared.BusRecord.{BusRecord}
 use Rattle.fdr_table.specs.Rows.{TableRows}
 use Rattle.fdr_sampler.specs.SlotWord.{slot_word}
-use Rattle.fdr_recon.specs.Rows.{ReadFrame, frame_at, counter_place, counter_in, cycle_in, are_linked, are_joined}
+use Rattle.fdr_recon.specs.Rows.{ReadFrame, frame_at, counter_place, counter_in, cycle_of_frame, are_linked, are_joined}
 use Rattle.fdr_readout.proofs.Recordable.{IsRecordable}
 use Rattle.fdr_readout.proofs.SlotKinds.{counter_place-within, slot_word-counter}
+use Rattle.fdr_lists.proofs.Ranges.{list_all-range}
 
 -- Frames 0 to j were read one after another, and have the words of the recording's slots.
 pub record AreRecorded (t : TableRows) (records : List BusRecord) (frames : List ReadFrame) (j : ℕ) : Type 0 where
-  pub words : (i place : ℕ) → i ≤ j → place < 4 * t.frame.words → slice_index (frame_at frames i).words place ≡ slot_word t records (4 * t.frame.words * i + place)
+  pub words : (i place : ℕ) → i ≤ j → place < 4 * t.frame.words
+      → slice_index (frame_at frames i).words place ≡ slot_word t records (4 * t.frame.words * i + place)
   pub adjacent : (i : ℕ) → 0 < i → i ≤ j → (frame_at frames i).adjacent ≡ true
-
-list_all-range : (p : ℕ → Bool) (a n : ℕ) → ((e : ℕ) → a ≤ e → e < a + n → p e ≡ true) → list_all p (range_with_len a n) ≡ true
-list_all-range p a zero each = refl
-list_all-range p a (suc n) each =
-    and_from (p a) (list_all p (range_with_len (a + 1) n)) (each a (omega arith) (omega arith))
-    (list_all-range p (a + 1) n (λ e low high. each e (omega arith) (omega arith)))
 
 module _ (t : TableRows) (records : List BusRecord) (frames : List ReadFrame) (j : ℕ) (h : IsRecordable t) (recorded : AreRecorded t records frames j) where
   -- the counter of frame i
@@ -27,7 +22,7 @@ module _ (t : TableRows) (records : List BusRecord) (frames : List ReadFrame) (j
   recorded_counter i early = recorded.words i (counter_place t.frame) early (counter_place-within t h) ∙ slot_word-counter t records i h
 
   -- frame j is frame j of the recording, so this is its place in the superframe
-  pub recorded_cycle : cycle_in t.frame (frame_at frames j).words ≡ j % 16
+  pub recorded_cycle : cycle_of_frame t.frame (frame_at frames j).words ≡ j % 16
   recorded_cycle = ap (λ n. n % 16) (recorded_counter j (omega arith)) ∙ omega arith
 
   -- each frame is linked to the one before it

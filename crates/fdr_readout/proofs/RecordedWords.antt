@@ -1,7 +1,7 @@
 -- The words of a recording, and what its bytes say of them.
 use Rattle.std.proofs.Common.{◌≡◌, ℕ, ◌+◌, ◌*◌, ◌<◌, ◌≤◌, List, length, ◌∙◌, arith}
 use Rattle.std.specs.Prelude.{All}
-use Rattle.std.proofs.lemmas.List.FromFn.{length-map-range_with_len, get_or-map-range_with_len}
+use Rattle.std.proofs.lemmas.List.FromFn.{get_or-map-range_with_len}
 use Rattle.fdr_bits.specs.Bits.{bits_in, word_at}
 use Rattle.fdr_bus.specs.declared.BusRecord.{BusRecord}
 use Rattle.fdr_bus.specs.Records.{time_of}
@@ -16,15 +16,13 @@ use Rattle.fdr_sampler.proofs.Packing.{length-packed}
 use Rattle.fdr_sampler.proofs.Streaming.{slot_words-below}
 use Rattle.fdr_readout.proofs.Recordable.{IsPlaced, IsRecordable}
 use Rattle.fdr_readout.proofs.PackedWords.{word_at-packed}
+use Rattle.fdr_sampler.proofs.StreamWords.{length-stream_words}
 
 -- each part in a slot lies within its word
 pub parts_in-placed : (t : TableRows) (k : ℕ) → IsRecordable t → All (λ (a : SlotPart). IsPlaced t.frame a.part) (parts_in t k)
 parts_in-placed t k h = parts_of_slot_hold (λ (a : SlotPart). IsPlaced t.frame a.part) (parts_among (samples t)) k h.placed
 
 -- ---- the words in the bytes
-
-pub length-stream_words : (t : TableRows) (records : List BusRecord) → length (stream_words t records) ≡ slot_count t.frame.words (time_of records)
-length-stream_words t records = length-map-range_with_len (slot_word t records) 0 (slot_count t.frame.words (time_of records))
 
 -- word k of a recording begins at bit 12 k
 pub word_at-stream : (t : TableRows) (records : List BusRecord) (k : ℕ) → k < length (stream_words t records) →

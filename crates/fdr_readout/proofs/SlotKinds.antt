@@ -46,16 +46,19 @@ counter_place-within t h =
     omega arith
 
 -- the counter of frame i
-pub slot_word-counter : (t : TableRows) (records : List BusRecord) (i : ℕ) → IsRecordable t → slot_word t records (4 * t.frame.words * i + counter_place t.frame) ≡ i % 4096
+pub slot_word-counter : (t : TableRows) (records : List BusRecord) (i : ℕ) → IsRecordable t
+    → slot_word t records (4 * t.frame.words * i + counter_place t.frame) ≡ i % 4096
 unfolding word_of_kind
 slot_word-counter t records i h =
     let f = t.frame in
     let k = 4 * f.words * i + counter_place f in
-    word_by_kind f k (data_word t records (start_of f.words k) (slot_within f.words k)) Counter (kind_of-counter f.words f.cword f.csub i h.cword_low h.cword_high h.csub_low h.csub_high)
+    word_by_kind f k (data_word t records (start_of f.words k) (slot_within f.words k)) Counter
+    (kind_of-counter f.words f.cword f.csub i h.cword_low h.cword_high h.csub_low h.csub_high)
     ∙ ap (λ n. n % 4096) (frame_of-slot f.words i (counter_place f) (counter_place-within t h))
 
 -- slot x of superframe q, where neither a sync word nor the counter stands
-pub slot_word-plain : (t : TableRows) (records : List BusRecord) (q x : ℕ) → IsRecordable t → x < 64 * t.frame.words → kind_of t.frame.words t.frame.cword t.frame.csub x ≡ Plain →
+pub slot_word-plain : (t : TableRows) (records : List BusRecord) (q x : ℕ) → IsRecordable t → x < 64 * t.frame.words
+    → kind_of t.frame.words t.frame.cword t.frame.csub x ≡ Plain →
     slot_word t records (64 * t.frame.words * q + x) ≡ data_word t records (64 * t.frame.words * q) x
 unfolding word_of_kind
 slot_word-plain t records q x h low plain =
@@ -63,6 +66,7 @@ slot_word-plain t records q x h low plain =
     let k = 64 * f.words * q + x in
     let slot : slot_within f.words k ≡ x = remainder (64 * f.words) q x low in
     let start : start_of f.words k ≡ 64 * f.words * q = ap (λ s. k - s) slot ∙ omega arith in
-    word_by_kind f k (data_word t records (start_of f.words k) (slot_within f.words k)) Plain (kind_of-superframe f.words f.cword f.csub q x (word_count_some f.words h.words) ∙ plain)
+    word_by_kind f k (data_word t records (start_of f.words k) (slot_within f.words k)) Plain
+    (kind_of-superframe f.words f.cword f.csub q x (word_count_some f.words h.words) ∙ plain)
     ∙ ap (λ s. data_word t records s (slot_within f.words k)) start
     ∙ ap (data_word t records (64 * f.words * q)) slot

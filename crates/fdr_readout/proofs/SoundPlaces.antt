@@ -1,8 +1,9 @@
 -- The occurrences of a sound table's places share no bit, and stand in words of data.
-use Rattle.std.proofs.Common.{◌≡◌, ◌≢◌, ℕ, ◌+◌, ◌-◌, ◌*◌, ◌/◌, ◌%◌, ◌<◌, ◌≤◌, ◌⊎◌, inl, inr, ⊎_elim, true, false, eqb, List, get_or, eqb-true, sym, ap, ◌∙◌, subst, arith}
+use Rattle.std.proofs.Common.{◌≡◌, ◌≢◌, ℕ, ◌+◌, ◌-◌, ◌*◌, ◌/◌, ◌%◌, ◌<◌, ◌≤◌, ◌⊎◌, inl, inr, ⊎_elim, true, false, eqb, List, get_or, eqb-true, sym, ap, ◌∙◌}
+use Rattle.std.proofs.Common.{subst, arith}
 use Rattle.std.specs.Prelude.{◌&&◌, ◌==◌, nat_le, All, AllPairs, Contains, filter}
 use Rattle.std.specs.List.{range_with_len}
-use Rattle.std.proofs.lemmas.Bool.{and_parts, and_from, le-leb, lt-ltb, leb-true, ne_eqb, cases_lt, cases_Bool, cond-true, cond-false, false_from_ne_true}
+use Rattle.std.proofs.lemmas.Bool.{and_parts, leb-true, ne_eqb, cases_lt, cases_Bool, cond-true, cond-false, false_from_ne_true}
 use Rattle.std.proofs.lemmas.List.Elements.{All-map, All-contains, All-contains_itself, All-filter, filter_passes}
 use Rattle.std.proofs.lemmas.List.Kept.{AllPairs-filter}
 use Rattle.fdr_frame.specs.declared.SlotKind.TheVariants.{Plain}
@@ -12,7 +13,9 @@ use Rattle.fdr_table.specs.Rows.{PlaceRow, TableRows}
 use Rattle.fdr_check.specs.Occurrences.{frame_bits, is_on_word, occurs, begins_at, Occurrence, occurrences_at, occurrences, is_part, part_occurrences}
 use Rattle.fdr_check.specs.Soundness.{covers, ShareNoBit, IsOffCounter, IsSound}
 use Rattle.fdr_recon.proofs.SoundSamples.{IsPartOccurrence}
-use Rattle.fdr_readout.proofs.PairLists.{AllPairs-map, AllPairs-flat_map, All_range, AllPairs_range, same_or_related}
+use Rattle.fdr_readout.proofs.PairLists.{AllPairs-map, AllPairs-flat_map, AllPairs_range, same_or_related}
+use Rattle.fdr_lists.proofs.Ranges.{All-range}
+use Rattle.fdr_check.proofs.Marking.{covers_by_parts}
 
 -- where a place begins
 begins_parts : (w x : ℕ) (p : PlaceRow) → begins_at w x p ≡ true → (x % 12 + 1 ≡ p.lsb) × (occurs w p (x / 12) ≡ true)
@@ -21,9 +24,6 @@ begins_parts w x p begins =
     let both = and_parts (eqb (x % 12 + 1) p.lsb) (occurs w p (x / 12)) begins in
     (eqb-true (x % 12 + 1) p.lsb both.0, both.1)
 
-covers_of : (w : ℕ) (p : PlaceRow) (b : ℕ) → occurs w p (b / 12) ≡ true → p.lsb ≤ b % 12 + 1 → b % 12 + 1 < p.lsb + p.width → covers w p b ≡ true
-covers_of w p b occurs low high = and_from _ _ (and_from _ _ occurs (le-leb p.lsb (b % 12 + 1) low)) (lt-ltb (b % 12 + 1) (p.lsb + p.width) high)
-
 -- a place that begins at bit x takes each of its bits
 covers_from : (w x b : ℕ) (p : PlaceRow) → IsPlaceInRange p → begins_at w x p ≡ true → x ≤ b → b < x + p.width → covers w p b ≡ true
 covers_from w x b p fits begins low high =
@@ -31,7 +31,7 @@ covers_from w x b p fits begins low high =
     let lsb = at.0 in
     let bits = fits.bits in
     let word : b / 12 ≡ x / 12 = omega arith in
-    covers_of w p b (ap (occurs w p) word ∙ at.1) (omega arith) (omega arith)
+    covers_by_parts w p b (ap (occurs w p) word ∙ at.1) (omega arith) (omega arith)
 
 -- some bits share none with others
 abbrev pub BitsApart : ℕ → ℕ → ℕ → ℕ → Type 0
@@ -67,7 +67,8 @@ turned : (w : ℕ) (p q : PlaceRow) → ShareNoBit w p q → ShareNoBit w q p
 turned w p q apart b within at_q at_p = apart b within at_p at_q
 
 -- two of a table's places are the same or share no bit
-pub same_or_share_none : (w : ℕ) (places : List PlaceRow) (p q : PlaceRow) → AllPairs (ShareNoBit w) places → Contains places p → Contains places q → (q ≡ p) ⊎ ShareNoBit w p q
+pub same_or_share_none : (w : ℕ) (places : List PlaceRow) (p q : PlaceRow) → AllPairs (ShareNoBit w) places → Contains places p → Contains places q
+    → (q ≡ p) ⊎ ShareNoBit w p q
 same_or_share_none w places p q apart at_p at_q = same_or_related (ShareNoBit w) places p q (turned w) apart at_p at_q
 
 -- ---- the occurrences of one part
@@ -119,7 +120,7 @@ module _ (w : ℕ) (places : List PlaceRow) (fits : All IsPlaceInRange places) (
   unfolding occurrences
   occurrences_apart =
       AllPairs-flat_map OccurrencesApart (occurrences_at w places) (range_with_len 0 (16 * frame_bits w))
-      (All_range (λ x. AllPairs OccurrencesApart (occurrences_at w places x)) 0 (16 * frame_bits w) (λ x low high. apart_at x (omega arith)))
+      (All-range (λ x. AllPairs OccurrencesApart (occurrences_at w places x)) 0 (16 * frame_bits w) (λ x low high. apart_at x (omega arith)))
       (AllPairs_range (λ x y. All (λ o. All (OccurrencesApart o) (occurrences_at w places y)) (occurrences_at w places x)) 0 (16 * frame_bits w)
       (λ x y low less high. apart_between x y less (omega arith)))
 
@@ -131,7 +132,8 @@ part_occurrences_apart t n part range sound =
     (AllPairs-filter (ShareNoBit t.frame.words) (is_part n part) t.places sound.apart)
 
 -- occurrences of two parts
-pub parts_apart : (t : TableRows) (n m part other : ℕ) (o e : Occurrence) → IsInRange t → IsSound t → IsPartOccurrence t.frame.words t.places n part o → IsPartOccurrence t.frame.words t.places m other e →
+pub parts_apart : (t : TableRows) (n m part other : ℕ) (o e : Occurrence) → IsInRange t → IsSound t → IsPartOccurrence t.frame.words t.places n part o
+    → IsPartOccurrence t.frame.words t.places m other e →
     ((n ≡ m) → (part ≡ other) → ⊥) → OccurrencesApart o e
 parts_apart t n m part other o e range sound first second differ =
     let p = first.place in
@@ -139,10 +141,12 @@ parts_apart t n m part other o e range sound first second differ =
     let fits_p = All-contains IsPlaceInRange t.places p range.places first.among in
     let fits_q = All-contains IsPlaceInRange t.places q range.places second.among in
     let none : ShareNoBit t.frame.words p q = ⊎_elim
-    (λ (same : q ≡ p). absurd (differ (sym first.param ∙ ap (λ (r : PlaceRow). r.param) (sym same) ∙ second.param) (sym first.number ∙ ap (λ (r : PlaceRow). r.part) (sym same) ∙ second.number)))
+    (λ (same : q ≡ p). absurd (differ (sym first.param ∙ ap (λ (r : PlaceRow). r.param) (sym same) ∙ second.param)
+    (sym first.number ∙ ap (λ (r : PlaceRow). r.part) (sym same) ∙ second.number)))
     (λ none. none)
     (same_or_share_none t.frame.words t.places p q sound.apart first.among second.among) in
-    let apart : BitsApart o.at p.width e.at q.width = apart_by_bits t.frame.words o.at e.at p q fits_p fits_q first.within second.within first.begins second.begins none in
+    let apart : BitsApart o.at p.width e.at q.width = apart_by_bits t.frame.words o.at e.at p q fits_p fits_q first.within second.within first.begins
+    second.begins none in
     subst (λ k. BitsApart o.at o.width e.at k) (sym second.width) (subst (λ k. BitsApart o.at k e.at q.width) (sym first.width) apart)
 
 -- ---- words of data
@@ -160,7 +164,8 @@ on_word_from p v on =
     (cases_Bool (eqb p.step 0))
 
 -- an occurrence lies in one word of the superframe
-pub lies_in_word : (t : TableRows) (n part : ℕ) (o : Occurrence) → IsInRange t → IsPartOccurrence t.frame.words t.places n part o → (o.at % 12 + o.width ≤ 12) × (o.at / 12 < 64 * t.frame.words)
+pub lies_in_word : (t : TableRows) (n part : ℕ) (o : Occurrence) → IsInRange t → IsPartOccurrence t.frame.words t.places n part o
+    → (o.at % 12 + o.width ≤ 12) × (o.at / 12 < 64 * t.frame.words)
 lies_in_word t n part o range from =
     let fits = All-contains IsPlaceInRange t.places from.place range.places from.among in
     let lsb = (begins_parts t.frame.words o.at from.place from.begins).0 in
@@ -184,5 +189,6 @@ stands_in_data t n part o range sound from =
     let not_sync : is_sync w k ≡ false = ne_eqb (word_of w k) 1 (λ e. first (omega arith)) in
     let slot = (lies_in_word t n part o range from).1 in
     let off = All-contains (IsOffCounter t.frame) t.places p sound.counter from.among in
-    let not_counter : is_counter w t.frame.cword t.frame.csub k ≡ false = false_from_ne_true (is_counter w t.frame.cword t.frame.csub k) (λ yes. off k slot occurs yes) in
+    let not_counter : is_counter w t.frame.cword t.frame.csub k ≡ false =
+    false_from_ne_true (is_counter w t.frame.cword t.frame.csub k) (λ yes. off k slot occurs yes) in
     cond-false _ _ _ not_sync ∙ cond-false _ _ _ not_counter

@@ -12,15 +12,15 @@ use Rattle.fdr_layout.specs.declared.slots.SlotPart.{SlotPart}
 use Rattle.fdr_check.specs.Occurrences.{Occurrence, part_occurrences, shift_of}
 use Rattle.fdr_check.specs.Soundness.{IsSound}
 use Rattle.fdr_layout.specs.Samples.{Part, part_at, carrier_of, parts_of, Sample, samples_of, samples}
-use Rattle.fdr_layout.specs.SlotParts.{numbered, parts_among, all_parts}
+use Rattle.fdr_layout.specs.SlotParts.{parts_of_sample, parts_among, all_parts}
 use Rattle.fdr_layout.proofs.Endings.{all_pieces}
-use Rattle.fdr_sampler.proofs.Lists.{numbered_stand}
 use Rattle.fdr_recon.specs.Kept.{IsSampleOf}
 use Rattle.fdr_recon.proofs.FilledValues.{filled_pieces}
 use Rattle.fdr_recon.proofs.SoundSamples.{IsPartOccurrence, part_occurrences_come, IsMade, samples_made, samples_sound}
 use Rattle.fdr_readout.proofs.Recordable.{IsPlaced, AreApart, AreWhole, IsRecordable}
 use Rattle.fdr_readout.proofs.PairLists.{AllPairs-weaker, AllPairs-map, AllPairs-flat_map, AllPairs_range, AllPairs_enumerate, All_filter_map}
 use Rattle.fdr_readout.proofs.SoundPlaces.{OccurrencesApart, part_occurrences_apart, parts_apart, lies_in_word, stands_in_data}
+use Rattle.fdr_lists.proofs.Numbered.{numbered_stand}
 
 -- ---- the numbers of samples
 
@@ -36,7 +36,8 @@ others_of_param t n rate =
 samples_of_param : (t : TableRows) (n rate : ℕ) → All (λ (s : Sample). s.param ≡ n) (samples_of t.frame.words t.places n rate)
 unfolding samples_of
 samples_of_param t n rate =
-    All-map (λ (s : Sample). s.param ≡ n) (λ i. record { param = n; index = i; parts = parts_of t.frame.words t.places n i }) (range_with_len 0 rate) (λ k d l. refl)
+    All-map (λ (s : Sample). s.param ≡ n) (λ i. record { param = n; index = i; parts = parts_of t.frame.words t.places n i }) (range_with_len 0 rate)
+    (λ k d l. refl)
 
 -- no two samples are of one parameter and index
 samples_differ : (t : TableRows) → AllPairs AreOthers (samples t)
@@ -52,7 +53,8 @@ samples_differ t =
     omega arith)
     (AllPairs_enumerate 0 t.params))
 
-same_number : (t : TableRows) (k l : ℕ) (s r : Sample) → slice_get (samples t) k ≡ Some s → slice_get (samples t) l ≡ Some r → s.param ≡ r.param → s.index ≡ r.index → k ≡ l
+same_number : (t : TableRows) (k l : ℕ) (s r : Sample) → slice_get (samples t) k ≡ Some s → slice_get (samples t) l ≡ Some r → s.param ≡ r.param
+    → s.index ≡ r.index → k ≡ l
 same_number t k l s r at_k at_l param index =
     let all = samples t in
     let within_k = slice_get_within all k s at_k in
@@ -84,7 +86,7 @@ mapped : {X Y : Type 0} (f : X → Y) (o : Option X) (y : Y) → option_map f o 
 mapped f None y e = absurd (cc)
 mapped f (Some x) y e = (x, refl, sym (same_Some (f x) y e))
 
-parts_from : (t : TableRows) (n : ℕ) (s : Sample) → slice_get (samples t) n ≡ Some s → IsMade t s → All (IsFrom t) (numbered n s.parts)
+parts_from : (t : TableRows) (n : ℕ) (s : Sample) → slice_get (samples t) n ≡ Some s → IsMade t s → All (IsFrom t) (parts_of_sample n s.parts)
 unfolding parts_of
 parts_from t n s stands made =
     let w = t.frame.words in
@@ -94,7 +96,8 @@ parts_from t n s stands made =
     (All_filter_map (λ (p : Part). IsFrom t (record { sample = n; part = p })) h (range_with_len 1 4)
     (λ k d l. λ p is.
     let part = get_or (range_with_len 1 4) k d in
-    let found = mapped (λ (o : Occurrence). record { at = o.at; width = o.width; shift = shift_of t.places s.param part }) (slice_get (part_occurrences w t.places s.param part) s.index) p is in
+    let found = mapped (λ (o : Occurrence). record { at = o.at; width = o.width; shift = shift_of t.places s.param part })
+    (slice_get (part_occurrences w t.places s.param part) s.index) p is in
     record {
       sample = s;
       stands = stands;
@@ -107,8 +110,8 @@ parts_from t n s stands made =
 all_from : (t : TableRows) → All (IsFrom t) (all_parts t)
 unfolding parts_among
 all_from t =
-    all_pieces (IsFrom t) (λ (e : ℕ × Sample). numbered e.0 e.1.parts) (enumerate_from 0 (samples t))
-    (All-weaker (λ (e : ℕ × Sample). slice_get (samples t) e.0 ≡ Some e.1) (λ (e : ℕ × Sample). All (IsFrom t) (numbered e.0 e.1.parts))
+    all_pieces (IsFrom t) (λ (e : ℕ × Sample). parts_of_sample e.0 e.1.parts) (enumerate_from 0 (samples t))
+    (All-weaker (λ (e : ℕ × Sample). slice_get (samples t) e.0 ≡ Some e.1) (λ (e : ℕ × Sample). All (IsFrom t) (parts_of_sample e.0 e.1.parts))
     (λ e stands.
     let within = slice_get_within (samples t) e.0 e.1 stands in
     let made : IsMade t e.1 = subst (IsMade t) (get_or_from_slice_get (samples t) e.0 e.1 e.1 stands) (samples_made t e.0 e.1 within) in
@@ -127,7 +130,12 @@ from_place t a from =
 apart_from : (t : TableRows) (a b : SlotPart) (first : IsFrom t a) (second : IsFrom t b) → OccurrencesApart first.occurrence second.occurrence → AreApart a b
 apart_from t a b first second apart =
     let P : Part → Part → Type 0 = λ p q. (p.at + p.width ≤ q.at) ⊎ (q.at + q.width ≤ p.at) in
-    subst (λ p. P p b.part) (sym first.is) (subst (P (record { at = first.occurrence.at; width = first.occurrence.width; shift = shift_of t.places first.sample.param first.number })) (sym second.is) apart)
+    subst (λ p. P p b.part) (sym first.is) (subst (P (record {
+      at = first.occurrence.at;
+      width = first.occurrence.width;
+      shift =
+          shift_of t.places first.sample.param first.number;
+    })) (sym second.is) apart)
 
 -- two elements of a list at different places
 two_of : {X : Type 0} (R : X → X → Type 0) (xs : List X) (i j : ℕ) (x y : X) → AllPairs R xs → i < j → slice_get xs i ≡ Some x → slice_get xs j ≡ Some y → R x y
@@ -148,24 +156,29 @@ same_part t a b range sound first second param number =
     let os = part_occurrences w t.places s.param first.number in
     let pairs = part_occurrences_apart t s.param first.number range sound in
     let read : slice_get os r.index ≡ Some second.occurrence =
-    ap (λ n. slice_get (part_occurrences w t.places n first.number) r.index) param ∙ ap (λ k. slice_get (part_occurrences w t.places r.param k) r.index) number ∙ second.read in
+    ap (λ n. slice_get (part_occurrences w t.places n first.number) r.index) param ∙ ap (λ k. slice_get (part_occurrences w t.places r.param k) r.index) number
+    ∙ second.read in
     ⊎_elim
     (λ (index : s.index ≡ r.index).
     let numbers = same_number t a.sample b.sample s r first.stands second.stands param index in
     let same : first.occurrence ≡ second.occurrence = same_Some first.occurrence second.occurrence (sym first.read ∙ ap (slice_get os) index ∙ read) in
     let place : Occurrence → ℕ → Part = λ o shift. record { at = o.at; width = o.width; shift = shift } in
-    let shift : shift_of t.places s.param first.number ≡ shift_of t.places r.param second.number = ap (λ n. shift_of t.places n first.number) param ∙ ap (shift_of t.places r.param) number in
-    let part : a.part ≡ b.part = first.is ∙ ap (λ o. place o (shift_of t.places s.param first.number)) same ∙ ap (place second.occurrence) shift ∙ sym second.is in
+    let shift : shift_of t.places s.param first.number ≡ shift_of t.places r.param second.number =
+    ap (λ n. shift_of t.places n first.number) param ∙ ap (shift_of t.places r.param) number in
+    let part : a.part ≡ b.part = first.is ∙ ap (λ o. place o (shift_of t.places s.param first.number)) same ∙ ap (place second.occurrence) shift
+    ∙ sym second.is in
     let pair : ℕ → Part → SlotPart = λ n p. record { sample = n; part = p } in
     inl (sym (ap (λ n. pair n a.part) numbers ∙ ap (pair b.sample) part)))
     (λ other. inr (apart_from t a b first second (⊎_elim
     (λ (before : s.index < r.index). two_of OccurrencesApart os s.index r.index first.occurrence second.occurrence pairs before first.read read)
-    (λ (after : r.index < s.index). turned second.occurrence first.occurrence (two_of OccurrencesApart os r.index s.index second.occurrence first.occurrence pairs after read first.read))
+    (λ (after : r.index < s.index). turned second.occurrence first.occurrence
+    (two_of OccurrencesApart os r.index s.index second.occurrence first.occurrence pairs after read first.read))
     other)))
     (cases_order s.index r.index)
 
 equal_or_not : (i j : ℕ) → (i ≡ j) ⊎ ((i ≡ j) → ⊥)
-equal_or_not i j = ⊎_elim (λ same. inl same) (λ other. inr (λ same. ⊎_elim (λ (before : i < j). omega arith) (λ (after : j < i). omega arith) other)) (cases_order i j)
+equal_or_not i j = ⊎_elim (λ same. inl same) (λ other. inr (λ same. ⊎_elim (λ (before : i < j). omega arith) (λ (after : j < i). omega arith) other))
+    (cases_order i j)
 
 -- two parts are the same or share no bit
 parts_same_or_apart : (t : TableRows) (a b : SlotPart) → IsInRange t → IsSound t → Contains (all_parts t) a → Contains (all_parts t) b → (b ≡ a) ⊎ AreApart a b
@@ -173,7 +186,8 @@ parts_same_or_apart t a b range sound at_a at_b =
     let first = All-contains (IsFrom t) (all_parts t) a (all_from t) at_a in
     let second = All-contains (IsFrom t) (all_parts t) b (all_from t) at_b in
     let differ = λ (others : (first.sample.param ≡ second.sample.param) → (first.number ≡ second.number) → ⊥).
-    apart_from t a b first second (parts_apart t first.sample.param second.sample.param first.number second.number first.occurrence second.occurrence range sound
+    apart_from t a b first second (parts_apart t first.sample.param second.sample.param first.number second.number first.occurrence second.occurrence range
+    sound
     (from_place t a first) (from_place t b second) others) in
     ⊎_elim
     (λ (param : first.sample.param ≡ second.sample.param). ⊎_elim
@@ -201,7 +215,8 @@ sample_whole t s h raw small =
     let none : raw % 1 ≡ 0 = omega arith in
     omega (arith, pieces, none, mod-eq_of_lt small)
 
-samples_whole : (t : TableRows) (n : ℕ) (s : Sample) → IsInRange t → IsSound t → slice_get (samples t) n ≡ Some s → (p : ParamRow) × (slice_get t.params s.param ≡ Some p) × AreWhole p s.parts
+samples_whole : (t : TableRows) (n : ℕ) (s : Sample) → IsInRange t → IsSound t → slice_get (samples t) n ≡ Some s
+    → (p : ParamRow) × (slice_get t.params s.param ≡ Some p) × AreWhole p s.parts
 samples_whole t n s range sound stands =
     let within = slice_get_within (samples t) n s stands in
     let h : IsSampleOf t.params s = subst (IsSampleOf t.params) (get_or_from_slice_get (samples t) n s s stands) (samples_sound t range sound n s within) in

@@ -44,7 +44,8 @@ module _ (t : TableRows) (records : List BusRecord) (h : IsRecordable t) where
       (omega (arith, split), omega (arith, split, low))
 
   -- the words of whole frames are among those of the recording
-  pub slot_within_frames : (i place : ℕ) → i < whole_frames t records → place < 4 * t.frame.words → 4 * t.frame.words * i + place < length (stream_words t records)
+  pub slot_within_frames : (i place : ℕ) → i < whole_frames t records → place < 4 * t.frame.words
+      → 4 * t.frame.words * i + place < length (stream_words t records)
   slot_within_frames i place early low =
       let w = t.frame.words in
       let m = whole_frames t records in
@@ -52,7 +53,8 @@ module _ (t : TableRows) (records : List BusRecord) (h : IsRecordable t) where
       omega (arith, rows, whole_frames-bounds)
 
   -- each subframe of a whole frame begins with its sync word
-  sync_stands : (j i : ℕ) → j < whole_frames t records → i < 4 → word_at (stream_of t records) (frame_place t.frame.words j + i * (12 * t.frame.words)) ≡ sync_word (i + 1)
+  sync_stands : (j i : ℕ) → j < whole_frames t records → i < 4
+      → word_at (stream_of t records) (frame_place t.frame.words j + i * (12 * t.frame.words)) ≡ sync_word (i + 1)
   sync_stands j i early few =
       let w = t.frame.words in
       let some = some_words in
@@ -76,18 +78,21 @@ module _ (t : TableRows) (records : List BusRecord) (h : IsRecordable t) where
       let first : word_at b p ≡ sync_word 1 = ap (word_at b) at_first ∙ sync_stands j 0 early (omega arith) in
       let second : word_at b (p + 12 * w) ≡ sync_word 2 = ap (word_at b) at_second ∙ sync_stands j 1 early (omega arith) in
       frame_by_syncs b w p within
-      ∙ and_from _ _ (and_from _ _ (and_from _ _ (eq-eqb _ _ first) (eq-eqb _ _ second)) (eq-eqb _ _ (sync_stands j 2 early (omega arith)))) (eq-eqb _ _ (sync_stands j 3 early (omega arith)))
+      ∙ and_from _ _ (and_from _ _ (and_from _ _ (eq-eqb _ _ first) (eq-eqb _ _ second)) (eq-eqb _ _ (sync_stands j 2 early (omega arith))))
+      (eq-eqb _ _ (sync_stands j 3 early (omega arith)))
 
   -- too few bits remain behind the last whole frame for another one
   pub none_behind : HasNoFrameFrom (stream_of t records) t.frame.words (frame_place t.frame.words (whole_frames t records))
   none_behind q behind position = omega (arith, behind, frame_within (stream_of t records) t.frame.words q position, stream-bits t records, whole_frames-bounds)
 
   -- frame j is the next one where it begins
-  pub next_frame : (j : ℕ) → j < whole_frames t records → IsFirstFrameFrom (stream_of t records) t.frame.words (frame_place t.frame.words j) (frame_place t.frame.words j)
+  pub next_frame : (j : ℕ) → j < whole_frames t records
+      → IsFirstFrameFrom (stream_of t records) t.frame.words (frame_place t.frame.words j) (frame_place t.frame.words j)
   next_frame j early = record { behind = omega arith; position = frame_stands j early; first = λ q from before position. omega arith }
 
   -- a search that came to frame j has accepted the frames before it
-  pub frames_so_far : (j : ℕ) → j ≤ whole_frames t records → SoFar (stream_of t records) t.frame.words (frame_place t.frame.words j) (frame_places t.frame.words j)
+  pub frames_so_far : (j : ℕ) → j ≤ whole_frames t records
+      → SoFar (stream_of t records) t.frame.words (frame_place t.frame.words j) (frame_places t.frame.words j)
   frames_so_far zero early =
       let w = t.frame.words in
       let start : 0 ≡ 48 * w * 0 = omega arith in
@@ -98,7 +103,8 @@ module _ (t : TableRows) (records : List BusRecord) (h : IsRecordable t) where
       let xs = frame_places w j in
       let next : 48 * w * j + 48 * w ≡ 48 * w * suc j = omega arith in
       let one_more : j + 1 ≡ suc j = omega arith in
-      let listed : xs ++ frame_place w j ∷ [] ≡ frame_places w (suc j) = sym (map-range_with_len_more (frame_place w) 0 j j (omega arith)) ∙ ap (frame_places w) one_more in
+      let listed : xs ++ frame_place w j ∷ [] ≡ frame_places w (suc j) =
+      sym (map-range_with_len_more (frame_place w) 0 j j (omega arith)) ∙ ap (frame_places w) one_more in
       subst (λ ys. SoFar b w (48 * w * suc j) ys) listed
       (subst (λ free. SoFar b w free (xs ++ frame_place w j ∷ [])) next
       (so_far_next b w (frame_place w j) (frame_place w j) xs some_words (frames_so_far j (omega arith)) (next_frame j (omega arith))))

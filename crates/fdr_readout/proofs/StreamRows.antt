@@ -38,7 +38,8 @@ module _ (t : TableRows) (records : List BusRecord) (h : IsRecordable t) where
 
   -- frame i has the words of its slots
   words_read : (i place : ℕ) → i < whole_frames t records → place < 4 * t.frame.words →
-      slice_index (frame_read (stream_of t records) t.frame.words (frame_place t.frame.words i)).words place ≡ slot_word t records (4 * t.frame.words * i + place)
+      slice_index (frame_read (stream_of t records) t.frame.words (frame_place t.frame.words i)).words place ≡ slot_word t records
+      (4 * t.frame.words * i + place)
   unfolding frame_read frame_words
   words_read i place early low =
       let w = t.frame.words in
@@ -62,16 +63,19 @@ module _ (t : TableRows) (records : List BusRecord) (h : IsRecordable t) where
   -- so the frames up to a whole one are read as they were recorded
   are_recorded : (j : ℕ) → j < whole_frames t records → AreRecorded t records (frames_read (j + 1)) j
   are_recorded j early = record {
-    words = λ i place low within. ap (λ (r : ReadFrame). slice_index r.words place) (frame_at-read (j + 1) i (omega arith)) ∙ words_read i place (omega arith) within;
+    words = λ i place low within. ap (λ (r : ReadFrame). slice_index r.words place) (frame_at-read (j + 1) i (omega arith))
+        ∙ words_read i place (omega arith) within;
     adjacent = λ i later low. ap (λ (r : ReadFrame). r.adjacent) (frame_at-read (j + 1) i (omega arith)) ∙ adjacent_read i later (omega arith);
   }
 
   -- the accepted frames up to frame j are frames 0 to j
-  accepted_to_frame : (j : ℕ) → j < whole_frames t records → accepted_to (stream_of t records) t.frame.words (frame_place t.frame.words j) ≡ frame_places t.frame.words (j + 1)
+  accepted_to_frame : (j : ℕ) → j < whole_frames t records
+      → accepted_to (stream_of t records) t.frame.words (frame_place t.frame.words j) ≡ frame_places t.frame.words (j + 1)
   accepted_to_frame j early =
       let w = t.frame.words in
       let p = frame_place w j in
-      accepted_to_next (stream_of t records) w p p (frame_places w j) (some_words t records h) (frames_so_far t records h j (omega arith)) (next_frame t records h j early)
+      accepted_to_next (stream_of t records) w p p (frame_places w j) (some_words t records h) (frames_so_far t records h j (omega arith))
+      (next_frame t records h j early)
       ∙ sym (map-range_with_len_more (frame_place w) 0 j j (omega arith))
 
   -- the rows of frame j of the bytes are the sampled ones

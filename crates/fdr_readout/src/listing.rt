@@ -8,7 +8,7 @@ ghost use Rattle.fdr_io.specs.Told.{followed_by};
 ghost use Rattle.fdr_table.specs.Rows.{TableRows};
 ghost use Rattle.fdr_recon.specs.Rows.{ReadFrame};
 ghost use Rattle.fdr_recon.specs.Kept.{IsRow};
-ghost use Rattle.fdr_recon.specs.Past.{Stands, read_frame};
+ghost use Rattle.fdr_recon.specs.Past.{RepresentsRebuild, read_frame};
 ghost use Rattle.fdr_readout.specs.Listing.{gap_lines, row_lines, row_line_of, last_frame_lines, frame_words, frame_read, lines_of, listing_of};
 ghost use Rattle.fdr_readout.specs.FramesSoFar.{SoFar};
 ghost use Rattle.fdr_frame.specs.WordCount.{IsWordCount};
@@ -31,7 +31,7 @@ fn unpack(bytes: &[u8], from: u64, words: &mut [u16])
     requires short { length bytes.now ≤ 2 ^ 60 }
     requires within { from + 12 * length words.old ≤ bits_in bytes.now }
     ensures words { words.new ≡ map (λ i. word_at bytes.now (from + 12 * i)) (range_with_len 0 (length words.old)) }
-    ensures small { All (λ word. word < 4096) words.new }
+    ensures twelve_bits { All (λ word. word < 4096) words.new }
 {
     for i in 0..words.len() {
         words[i] = word12(bytes, from + 12 * i as u64);
@@ -45,7 +45,7 @@ fn read_frame_words(bytes: &[u8], at: u64, count: u32, words: &mut [u16])
     requires within { at + 48 * count ≤ bits_in bytes.now }
     requires room { length words.old ≡ 4 * count }
     ensures words { words.new ≡ frame_words bytes.now count at }
-    ensures small { All (λ word. word < 4096) words.new }
+    ensures twelve_bits { All (λ word. word < 4096) words.new }
 {
     unpack(bytes, at, words);
 }
@@ -108,10 +108,10 @@ fn write_rows<O: Sink>(
     buffer: &mut OutBuffer,
     out: &mut O,
 ) -> Result<(), Failed>
-    requires { (past : List ReadFrame) × (0 < length past) × Stands rebuild.now table.now past }
-    ensures all { (past : List ReadFrame) → 0 < length past → Stands rebuild.now table.now past
+    requires { (past : List ReadFrame) × (0 < length past) × RepresentsRebuild rebuild.now table.now past }
+    ensures all { (past : List ReadFrame) → 0 < length past → RepresentsRebuild rebuild.now table.now past
         → OnOk result (Emits (O.written out.old) (O.written out.new) buffer.old buffer.new (last_frame_lines table.now past)) }
-    ensures part { (past : List ReadFrame) → 0 < length past → Stands rebuild.now table.now past
+    ensures part { (past : List ReadFrame) → 0 < length past → RepresentsRebuild rebuild.now table.now past
         → OnErr result (EmitsPart (O.written out.old) (O.written out.new) buffer.old (last_frame_lines table.now past)) }
     ensures cause { OnErr result (Rose (O.faults out.old) (O.faults out.new)) }
     ensures quiet { OnOk result (O.faults out.new ≡ O.faults out.old) }
@@ -144,14 +144,14 @@ fn write_frame<O: Sink>(
     requires short { length bytes.now ≤ 2 ^ 60 }
     requires within { at + 48 * table.now.frame.words ≤ bits_in bytes.now }
     requires room { vec_len work.old.words ≡ 4 * table.now.frame.words }
-    requires stands { (past : List ReadFrame) × Stands work.old.rebuild table.now past }
-    ensures stands { (past : List ReadFrame) → Stands work.old.rebuild table.now past
-        → Stands work.new.rebuild table.now (past ++ read_frame adjacent (frame_words bytes.now table.now.frame.words at) ∷ []) }
+    requires stands { (past : List ReadFrame) × RepresentsRebuild work.old.rebuild table.now past }
+    ensures stands { (past : List ReadFrame) → RepresentsRebuild work.old.rebuild table.now past
+        → RepresentsRebuild work.new.rebuild table.now (past ++ read_frame adjacent (frame_words bytes.now table.now.frame.words at) ∷ []) }
     ensures room { vec_len work.new.words ≡ vec_len work.old.words }
-    ensures all { (past : List ReadFrame) → Stands work.old.rebuild table.now past
+    ensures all { (past : List ReadFrame) → RepresentsRebuild work.old.rebuild table.now past
         → OnOk result (Emits (O.written out.old) (O.written out.new) work.old.buffer work.new.buffer
         (last_frame_lines table.now (past ++ read_frame adjacent (frame_words bytes.now table.now.frame.words at) ∷ []))) }
-    ensures part { (past : List ReadFrame) → Stands work.old.rebuild table.now past
+    ensures part { (past : List ReadFrame) → RepresentsRebuild work.old.rebuild table.now past
         → OnErr result (EmitsPart (O.written out.old) (O.written out.new) work.old.buffer
         (last_frame_lines table.now (past ++ read_frame adjacent (frame_words bytes.now table.now.frame.words at) ∷ []))) }
     ensures cause { OnErr result (Rose (O.faults out.old) (O.faults out.new)) }
@@ -186,10 +186,10 @@ fn write_next<O: Sink>(
     requires next { IsFirstFrameFrom bytes.now table.now.frame.words free at }
     requires room { vec_len work.old.words ≡ 4 * table.now.frame.words }
     requires so_far { (xs : List ℕ) × SoFar bytes.now table.now.frame.words free xs
-        × Stands work.old.rebuild table.now (map (frame_read bytes.now table.now.frame.words) xs) }
+        × RepresentsRebuild work.old.rebuild table.now (map (frame_read bytes.now table.now.frame.words) xs) }
     ensures stands { OnOk result ((xs : List ℕ) → SoFar bytes.now table.now.frame.words free xs
-        → Stands work.old.rebuild table.now (map (frame_read bytes.now table.now.frame.words) xs)
-        → Stands work.new.rebuild table.now (map (frame_read bytes.now table.now.frame.words) (xs ++ at ∷ []))) }
+        → RepresentsRebuild work.old.rebuild table.now (map (frame_read bytes.now table.now.frame.words) xs)
+        → RepresentsRebuild work.new.rebuild table.now (map (frame_read bytes.now table.now.frame.words) (xs ++ at ∷ []))) }
     ensures room { vec_len work.new.words ≡ vec_len work.old.words }
     ensures all { OnOk result (Emits (O.written out.old) (O.written out.new) work.old.buffer work.new.buffer
         (gap_lines free at ++ lines_of table.now bytes.now (Frame at))) }
@@ -233,7 +233,7 @@ fn write_events<O: Sink>(
     requires short { length bytes.now ≤ 2 ^ 60 }
     requires word_count { IsWordCount table.now.frame.words }
     requires room { vec_len work.old.words ≡ 4 * table.now.frame.words }
-    requires fresh { Stands work.old.rebuild table.now [] }
+    requires fresh { RepresentsRebuild work.old.rebuild table.now [] }
     ensures all { OnOk result (Emits (O.written out.old) (O.written out.new) work.old.buffer work.new.buffer (listing_of table.now bytes.now)) }
     ensures part { OnErr result (EmitsPart (O.written out.old) (O.written out.new) work.old.buffer (listing_of table.now bytes.now)) }
     ensures cause { OnErr result (Rose (O.faults out.old) (O.faults out.new)) }
@@ -252,7 +252,7 @@ impl Readout {
     /// Takes the memory for listing bits by a table.
     pub fn new(alloc: Global, sound: &Sound) -> Result<Readout, NoMemory>
         ensures room { IfOk result (λ work. vec_len work.words ≡ 4 * sound.now.frame.words) }
-        ensures stands { IfOk result (λ work. Stands work.rebuild sound.now []) }
+        ensures stands { IfOk result (λ work. RepresentsRebuild work.rebuild sound.now []) }
         ensures empty { IfOk result (λ work. work.buffer ≡ []) }
     {
         let layout = Layout::make(alloc, sound)?;
@@ -277,7 +277,7 @@ pub fn write_listing<O: Sink>(
     requires short { length bytes.now ≤ 2 ^ 60 }
     requires word_count { IsWordCount sound.now.frame.words }
     requires room { vec_len work.old.words ≡ 4 * sound.now.frame.words }
-    requires fresh { Stands work.old.rebuild sound.now [] }
+    requires fresh { RepresentsRebuild work.old.rebuild sound.now [] }
     requires empty { work.old.buffer ≡ [] }
     ensures all { OnOk result (O.written out.new ≡ followed_by (O.written out.old) (listing_of sound.now bytes.now)) }
     ensures part { (k : ℕ) × (O.written out.new ≡ followed_by (O.written out.old) (take k (listing_of sound.now bytes.now))) }

@@ -7,32 +7,32 @@ use Rattle.std.proofs.Math.Nat.{mul-le-mul_left}
 use Rattle.circular_buffer.specs.Buffer.{keep_last}
 use Rattle.fdr_recon.specs.Rows.{ReadFrame, frame_at}
 use Rattle.fdr_recon.specs.Kept.{from_end}
-use Rattle.fdr_recon.specs.Past.{IsWhole}
+use Rattle.fdr_recon.specs.Past.{IsWholeFrame}
 
 -- the words of frames, one frame after another
 abbrev pub words_of : List ReadFrame → List ℕ
 words_of past = flat_map (λ (r : ReadFrame). r.words) past
 
-pub length-words_of : (w : ℕ) (past : List ReadFrame) → All (IsWhole w) past → length (words_of past) ≡ 4 * w * length past
+pub length-words_of : (w : ℕ) (past : List ReadFrame) → All (IsWholeFrame w) past → length (words_of past) ≡ 4 * w * length past
 length-words_of w [] whole = omega arith
 length-words_of w (r ∷ past) whole =
-    let first : length r.words ≡ 4 * w = (All-head (IsWhole w) r past whole).whole in
-    let rest = length-words_of w past (All-tail (IsWhole w) r past whole) in
+    let first : length r.words ≡ 4 * w = (All-head (IsWholeFrame w) r past whole).whole in
+    let rest = length-words_of w past (All-tail (IsWholeFrame w) r past whole) in
     omega (arith, length-append r.words (words_of past), first, rest)
 
 -- a word of frame i among them
-pub get_or-words_of : (w : ℕ) (past : List ReadFrame) (i place : ℕ) → All (IsWhole w) past → i < length past → place < 4 * w →
+pub get_or-words_of : (w : ℕ) (past : List ReadFrame) (i place : ℕ) → All (IsWholeFrame w) past → i < length past → place < 4 * w →
     get_or (words_of past) (4 * w * i + place) 0 ≡ get_or (frame_at past i).words place 0
 get_or-words_of w [] i place whole within low = absurd (omega arith)
 get_or-words_of w (r ∷ past) zero place whole within low =
-    let first : length r.words ≡ 4 * w = (All-head (IsWhole w) r past whole).whole in
+    let first : length r.words ≡ 4 * w = (All-head (IsWholeFrame w) r past whole).whole in
     let index : 4 * w * 0 + place ≡ place = omega arith in
     ap (λ j. get_or (r.words ++ words_of past) j 0) index ∙ get_or_append_left r.words (words_of past) 0 place (omega arith)
 get_or-words_of w (r ∷ past) (suc i) place whole within low =
-    let first : length r.words ≡ 4 * w = (All-head (IsWhole w) r past whole).whole in
+    let first : length r.words ≡ 4 * w = (All-head (IsWholeFrame w) r past whole).whole in
     let index : 4 * w * suc i + place ≡ length r.words + (4 * w * i + place) = omega arith in
     ap (λ j. get_or (r.words ++ words_of past) j 0) index ∙ get_or-append-add r.words (words_of past) (4 * w * i + place) 0
-    ∙ get_or-words_of w past i place (All-tail (IsWhole w) r past whole) (omega arith) low
+    ∙ get_or-words_of w past i place (All-tail (IsWholeFrame w) r past whole) (omega arith) low
 
 -- the last c of a list to which more is added
 pub keep_last-append : (c : ℕ) (xs ys : List ℕ) → keep_last c (keep_last c xs ++ ys) ≡ keep_last c (xs ++ ys)

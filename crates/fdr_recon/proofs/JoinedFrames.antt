@@ -1,12 +1,14 @@
 -- How many frames in a row are joined.
-use Rattle.std.proofs.Common.{◌≡◌, ℕ, zero, suc, ◌+◌, ◌-◌, ◌<◌, ◌≤◌, Bool, true, false, List, [], ◌∷◌, ◌++◌, length, refl, ap, sym, ◌∙◌, arith, ⊎_elim}
+use Rattle.std.proofs.Common.{◌≡◌, ℕ, zero, suc, ◌+◌, ◌-◌, ◌<◌, ◌≤◌, Bool, true, false, List, [], ◌∷◌, ◌++◌, length, refl, ap, sym, ◌∙◌, arith}
 use Rattle.std.specs.Prelude.{◌&&◌, nat_le, if◌then◌else◌}
 use Rattle.std.specs.List.{list_all, range_with_len}
-use Rattle.std.proofs.lemmas.Bool.{cases_lt, cond_both, and_left, and_from, le-leb, lt-leb}
+use Rattle.std.proofs.lemmas.Bool.{cond_both, and_left, and_from, le-leb, lt-leb}
 use Rattle.std.proofs.lemmas.List.{get_or_append_left, get_or_at}
 use Rattle.fdr_table.specs.Rows.{FrameRow}
 use Rattle.fdr_recon.specs.Rows.{ReadFrame, frame_at, are_linked, are_joined}
 use Rattle.fdr_recon.specs.Past.{joined_count, read_frame}
+use Rattle.fdr_lists.proofs.Filters.{list_all_same}
+use Rattle.std.proofs.Math.Dec.{leb-suc-suc}
 
 -- a test of each number of a range that begins one later
 list_all-range_shifted : (p : ℕ → Bool) (a n : ℕ) → list_all p (range_with_len (suc a) n) ≡ list_all (λ e. p (suc e)) (range_with_len a n)
@@ -15,24 +17,13 @@ list_all-range_shifted p a (suc n) =
     let later : suc a + 1 ≡ suc (a + 1) = omega arith in
     ap (λ x. p (suc a) && list_all p (range_with_len x n)) later ∙ ap (λ x. p (suc a) && x) (list_all-range_shifted p (a + 1) n)
 
-list_all-agree : (p q : ℕ → Bool) → ((e : ℕ) → p e ≡ q e) → (xs : List ℕ) → list_all p xs ≡ list_all q xs
-list_all-agree p q same [] = refl
-list_all-agree p q same (x ∷ xs) = ap (λ b. b && list_all p xs) (same x) ∙ ap (λ b. q x && b) (list_all-agree p q same xs)
-
 and_swap : (a b c : Bool) → (a && (b && c)) ≡ (b && (a && c))
 and_swap true b c = refl
 and_swap false true c = refl
 and_swap false false c = refl
 
-leb-suc : (d n : ℕ) → nat_le (suc d) (suc n) ≡ nat_le d n
-leb-suc d n =
-    ⊎_elim
-    (λ (above : n < d). lt-leb (suc d) (suc n) (omega arith) ∙ sym (lt-leb d n above))
-    (λ (below : d ≤ n). le-leb (suc d) (suc n) (omega arith) ∙ sym (le-leb d n below))
-    (cases_lt n d)
-
 count_more : (b : Bool) (d n : ℕ) → (b && nat_le d n) ≡ nat_le (suc d) (if b then suc n else 0)
-count_more true d n = sym (leb-suc d n)
+count_more true d n = sym (leb-suc-suc d n)
 count_more false d n = sym (lt-leb (suc d) 0 (omega arith))
 
 -- whether the frame e before frame i is linked to the one before it
@@ -44,7 +35,8 @@ unfolding link
 link-suc f frames i e =
     let earlier : suc i - (suc e + 1) ≡ i - (e + 1) = omega arith in
     let later : suc i - suc e ≡ i - e = omega arith in
-    ap (λ x. are_linked f (frame_at frames x) (frame_at frames (suc i - suc e))) earlier ∙ ap (λ x. are_linked f (frame_at frames (i - (e + 1))) (frame_at frames x)) later
+    ap (λ x. are_linked f (frame_at frames x) (frame_at frames (suc i - suc e))) earlier
+    ∙ ap (λ x. are_linked f (frame_at frames (i - (e + 1))) (frame_at frames x)) later
 
 link-zero : (f : FrameRow) (frames : List ReadFrame) (i : ℕ) → link f frames (suc i) 0 ≡ are_linked f (frame_at frames i) (frame_at frames (suc i))
 unfolding link
@@ -62,8 +54,9 @@ all_linked-suc : (f : FrameRow) (frames : List ReadFrame) (i d : ℕ) →
 unfolding all_linked
 all_linked-suc f frames i d =
     let rest : list_all (link f frames (suc i)) (range_with_len 1 d) ≡ list_all (link f frames i) (range_with_len 0 d) =
-    list_all-range_shifted (link f frames (suc i)) 0 d ∙ list_all-agree (λ e. link f frames (suc i) (suc e)) (link f frames i) (link-suc f frames i) (range_with_len 0 d) in
-    ap (λ b. b && (link f frames (suc i) 0 && list_all (link f frames (suc i)) (range_with_len 1 d))) (leb-suc d i)
+    list_all-range_shifted (link f frames (suc i)) 0 d
+    ∙ list_all_same (λ e. link f frames (suc i) (suc e)) (link f frames i) (range_with_len 0 d) (link-suc f frames i) in
+    ap (λ b. b && (link f frames (suc i) 0 && list_all (link f frames (suc i)) (range_with_len 1 d))) (leb-suc-suc d i)
     ∙ ap (λ b. nat_le d i && (b && list_all (link f frames (suc i)) (range_with_len 1 d))) (link-zero f frames i)
     ∙ ap (λ b. nat_le d i && (are_linked f (frame_at frames i) (frame_at frames (suc i)) && b)) rest
     ∙ and_swap (nat_le d i) (are_linked f (frame_at frames i) (frame_at frames (suc i))) (list_all (link f frames i) (range_with_len 0 d))
@@ -105,11 +98,6 @@ joined_count-le f frames zero = omega arith
 joined_count-le f frames (suc i) =
     cond_both (are_linked f (frame_at frames i) (frame_at frames (suc i))) (suc (joined_count f frames i)) 0 (λ (n : ℕ). n ≤ suc i)
     (λ _. let before = joined_count-le f frames i in omega arith) (λ _. omega arith)
-
--- the first frame is joined with none
-pub joined_count-first : (f : FrameRow) (r : ReadFrame) → joined_count f (r ∷ []) 0 ≡ 0
-unfolding joined_count
-joined_count-first f r = refl
 
 -- a further frame is joined with one frame more than the frame before it, or with none
 pub joined_count-push : (f : FrameRow) (frames : List ReadFrame) (r : ReadFrame) (m : ℕ) → length frames ≡ suc m →

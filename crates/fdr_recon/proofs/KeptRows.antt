@@ -1,5 +1,6 @@
 -- What is made of what is kept.
-use Rattle.std.proofs.Common.{◌≡◌, ℕ, ◌+◌, ◌-◌, ◌*◌, ◌/◌, ◌%◌, ◌^◌, ◌<◌, ◌≤◌, Bool, true, false, List, [], length, ap, sym, ◌∙◌, ⊎_elim, ◌⊎◌, Some, None, arith, lit≤}
+use Rattle.std.proofs.Common.{◌≡◌, ℕ, ◌+◌, ◌-◌, ◌*◌, ◌/◌, ◌%◌, ◌^◌, ◌<◌, ◌≤◌, Bool, true, false, List, [], length, ap, sym, ◌∙◌, ⊎_elim, ◌⊎◌, Some, None, arith}
+use Rattle.std.proofs.Common.{lit≤}
 use Rattle.std.specs.Prelude.{◌&&◌, ◌==◌, not, nat_le, slice_index, slice_get, ℤ}
 use Rattle.std.proofs.lemmas.Bool.{and_left, and_right, and_from, le-leb, lt-leb, cond-true, cond-false}
 use Rattle.std.specs.List.{All, slice_index_or}
@@ -10,16 +11,16 @@ use Rattle.fdr_table.specs.Rows.{ParamRow}
 use Rattle.fdr_layout.specs.Samples.{Part, Sample, first_at, last_at}
 use Rattle.fdr_recon.specs.declared.Row.{Row}
 use Rattle.fdr_recon.specs.Rows.{counter_place, reach, param_at, no_param}
-use Rattle.fdr_recon.specs.Kept.{Kept, kept_counter, kept_cycle, kept_bits, kept_raw, kept_value, kept_row, kept_samples, is_next, IsSampleOf}
+use Rattle.fdr_recon.specs.Kept.{RebuildKept, kept_counter, kept_cycle, kept_bits, kept_raw, kept_value, kept_row, kept_samples, is_next, IsSampleOf}
 use Rattle.fdr_recon.proofs.FilledValues.{filled_below}
 
-pub is_next-not : (k : Kept) (adjacent : Bool) (words : List ℕ) → (adjacent ≡ false) ⊎ ((length k.words == 0) ≡ true) → is_next k adjacent words ≡ false
+pub is_next-not : (k : RebuildKept) (adjacent : Bool) (words : List ℕ) → (adjacent ≡ false) ⊎ ((length k.words == 0) ≡ true) → is_next k adjacent words ≡ false
 unfolding is_next
 is_next-not k adjacent words why =
     and_left _ _
     (⊎_elim (λ (apart : adjacent ≡ false). and_left _ _ apart) (λ (empty : (length k.words == 0) ≡ true). and_right adjacent _ (ap not empty)) why)
 
-pub is_next-counter : (k : Kept) (adjacent : Bool) (words : List ℕ) (counter before : ℕ) → adjacent ≡ true → (length k.words == 0) ≡ false →
+pub is_next-counter : (k : RebuildKept) (adjacent : Bool) (words : List ℕ) (counter before : ℕ) → adjacent ≡ true → (length k.words == 0) ≡ false →
     counter ≡ slice_index words (counter_place k.frame) → before ≡ kept_counter k 0 → (counter == (before + 1) % 4096) ≡ is_next k adjacent words
 unfolding is_next
 is_next-counter k adjacent words counter before near more counter_is before_is =
@@ -28,27 +29,36 @@ is_next-counter k adjacent words counter before near more counter_is before_is =
     ∙ ap (λ b. b && (slice_index words (counter_place k.frame) == (kept_counter k 0 + 1) % 4096))
     (sym (and_from adjacent (not (length k.words == 0)) near (ap not more)))
 
-pub kept_samples-empty : (k : Kept) → (length k.words == 0) ≡ true → kept_samples k ≡ []
+pub kept_samples-empty : (k : RebuildKept) → (length k.words == 0) ≡ true → kept_samples k ≡ []
 unfolding kept_samples
 kept_samples-empty k empty = cond-true _ _ _ empty
 
-pub kept_samples-cycle : (k : Kept) (cycle : ℕ) (xs : List Sample) → (length k.words == 0) ≡ false → cycle ≡ kept_cycle k → slice_get k.samples cycle ≡ Some xs →
+pub kept_samples-cycle : (k : RebuildKept) (cycle : ℕ) (xs : List Sample) → (length k.words == 0) ≡ false → cycle ≡ kept_cycle k
+    → slice_get k.samples cycle ≡ Some xs →
     kept_samples k ≡ xs
 unfolding kept_samples
 kept_samples-cycle k cycle xs more cycle_is read =
     cond-false _ _ _ more ∙ get_or_from_slice_get k.samples (kept_cycle k) xs [] (ap (slice_get k.samples) (sym cycle_is) ∙ read)
 
-pub kept_row-none : (k : Kept) (s : Sample) (d : ℕ) → d ≡ reach k.frame.words s.parts → k.joined < d → kept_row k s ≡ None
+pub kept_row-none : (k : RebuildKept) (s : Sample) (d : ℕ) → d ≡ reach k.frame.words s.parts → k.joined < d → kept_row k s ≡ None
 unfolding kept_row
 kept_row-none k s d d_is far =
     cond-false _ _ _ (ap (λ n. nat_le n k.joined) (sym d_is) ∙ lt-leb d k.joined far)
 
-pub kept_row-some : (k : Kept) (s : Sample) (w first d counter param : ℕ) (value : ℤ) → w ≡ k.frame.words → first ≡ first_at s.parts → d ≡ reach k.frame.words s.parts →
+pub kept_row-some : (k : RebuildKept) (s : Sample) (w first d counter param : ℕ) (value : ℤ) → w ≡ k.frame.words → first ≡ first_at s.parts
+    → d ≡ reach k.frame.words s.parts →
     d ≤ k.joined → counter ≡ kept_counter k d → param ≡ s.param → value ≡ kept_value k s →
     kept_row k s ≡ Some (record { counter = counter; subframe = first / 12 / w % 4 + 1; word = first / 12 % w + 1; param = param; value = value })
 unfolding kept_row
 kept_row-some k s w first d counter param value w_is first_is d_is near counter_is param_is value_is =
-    let row : ℕ → ℕ → ℕ → ℕ → ℤ → Row = λ counter w first param value. record { counter = counter; subframe = first / 12 / w % 4 + 1; word = first / 12 % w + 1; param = param; value = value } in
+    let row : ℕ → ℕ → ℕ → ℕ → ℤ → Row = λ counter w first param value. record {
+      counter = counter;
+      subframe = first / 12 / w % 4 + 1;
+      word =
+          first / 12 % w + 1;
+      param = param;
+      value = value;
+    } in
     cond-true _ _ _ (ap (λ n. nat_le n k.joined) (sym d_is) ∙ le-leb d k.joined near)
     ∙ ap (λ n. Some (row n k.frame.words (first_at s.parts) s.param (kept_value k s))) (sym (counter_is ∙ ap (kept_counter k) d_is))
     ∙ ap (λ n. Some (row counter n (first_at s.parts) s.param (kept_value k s))) (sym w_is)
@@ -57,16 +67,18 @@ kept_row-some k s w first d counter param value w_is first_is d_is near counter_
     ∙ ap (λ z. Some (row counter w first param z)) (sym value_is)
 
 -- how far a sample reaches back, by where its last part and its earliest part begin
-pub reach_is : (parts : List Part) (w v last first d : ℕ) → w ≡ v → last ≡ last_at parts → first ≡ first_at parts → d ≡ last / (48 * w) - first / (48 * w) → d ≡ reach v parts
+pub reach_is : (parts : List Part) (w v last first d : ℕ) → w ≡ v → last ≡ last_at parts → first ≡ first_at parts → d ≡ last / (48 * w) - first / (48 * w)
+    → d ≡ reach v parts
 reach_is parts w v last first d w_is last_is first_is d_is =
-    d_is ∙ ap (λ n. last / (48 * n) - first / (48 * n)) w_is ∙ ap (λ n. n / (48 * v) - first / (48 * v)) last_is ∙ ap (λ n. last_at parts / (48 * v) - n / (48 * v)) first_is
+    d_is ∙ ap (λ n. last / (48 * n) - first / (48 * n)) w_is ∙ ap (λ n. n / (48 * v) - first / (48 * v)) last_is
+    ∙ ap (λ n. last_at parts / (48 * v) - n / (48 * v)) first_is
 
-kept_bits-fit : (k : Kept) (cycle : ℕ) (p : Part) → kept_bits k cycle p < 2 ^ p.width
+kept_bits-fit : (k : RebuildKept) (cycle : ℕ) (p : Part) → kept_bits k cycle p < 2 ^ p.width
 unfolding kept_bits
 kept_bits-fit k cycle p = mod_below _ (2 ^ p.width) (pow_pos p.width)
 
 -- the raw value of a sample has no more bits than its parameter's field
-pub kept_raw-below : (k : Kept) (cycle : ℕ) (s : Sample) (h : IsSampleOf k.params s) → kept_raw k cycle s.parts < 2 ^ h.param.width
+pub kept_raw-below : (k : RebuildKept) (cycle : ℕ) (s : Sample) (h : IsSampleOf k.params s) → kept_raw k cycle s.parts < 2 ^ h.param.width
 unfolding kept_raw
 kept_raw-below k cycle s h =
     let fit : All (λ (p : Part). kept_bits k cycle p < 2 ^ p.width) s.parts = λ i d l. kept_bits-fit k cycle (slice_index_or s.parts i d) in
@@ -74,7 +86,7 @@ kept_raw-below k cycle s h =
     omega (arith, below)
 
 -- and fits 32 bits
-pub kept_raw-small : (k : Kept) (cycle : ℕ) (s : Sample) → IsSampleOf k.params s → kept_raw k cycle s.parts < 2 ^ 32
+pub kept_raw-small : (k : RebuildKept) (cycle : ℕ) (s : Sample) → IsSampleOf k.params s → kept_raw k cycle s.parts < 2 ^ 32
 kept_raw-small k cycle s h =
     let power : 2 ^ h.param.width ≤ 2 ^ 32 = pow-le-pow_right {n = 2} (lit≤ tt) h.narrow in
     omega (arith, kept_raw-below k cycle s h, power)

@@ -9,15 +9,15 @@ use Rattle.std.proofs.lemmas.Nat.{shl_whole, one_shl}
 use Rattle.std.proofs.Math.Nat.{pow-le-pow_right}
 use Rattle.fdr_check.specs.Occurrences.{cycle_of}
 use Rattle.fdr_layout.specs.Samples.{Part}
-use Rattle.fdr_recon.specs.Kept.{Kept, kept_word, kept_bits, from_end}
+use Rattle.fdr_recon.specs.Kept.{RebuildKept, kept_word, kept_bits, from_end}
 
-pub kept_word-past : (k : Kept) (back place : ℕ) → 4 * k.frame.words ≤ place → kept_word k back place ≡ 0
+pub kept_word-past : (k : RebuildKept) (back place : ℕ) → 4 * k.frame.words ≤ place → kept_word k back place ≡ 0
 unfolding kept_word
 kept_word-past k back place past =
     cond-false _ _ _ (and_left _ _ (le-ltb place (4 * k.frame.words) past))
 
 -- the word as it is counted from the end
-pub kept_word-from_end : (k : Kept) (back place n : ℕ) → place < 4 * k.frame.words → n ≡ from_end k.frame.words back place →
+pub kept_word-from_end : (k : RebuildKept) (back place n : ℕ) → place < 4 * k.frame.words → n ≡ from_end k.frame.words back place →
     unwrap_or (if nat_lt n (length k.words) then slice_get k.words (length k.words - n - 1) else None) 0 ≡ kept_word k back place
 unfolding kept_word
 kept_word-from_end k back place n within e =
@@ -32,16 +32,17 @@ kept_word-from_end k back place n within e =
     ap (λ o. unwrap_or o 0) (cond-false _ _ _ f) ∙ sym (cond-false _ _ _ (and_right _ _ f)))
     (cases_Bool (nat_lt j (length k.words))))
 
-pub kept_word-small : (k : Kept) (back place : ℕ) → All (λ word. word < 4096) k.words → kept_word k back place < 4096
+pub kept_word-small : (k : RebuildKept) (back place : ℕ) → All (λ word. word < 4096) k.words → kept_word k back place < 4096
 unfolding kept_word
 kept_word-small k back place small =
-    cond_both (nat_lt place (4 * k.frame.words) && nat_lt (from_end k.frame.words back place) (length k.words)) (slice_index k.words (length k.words - from_end k.frame.words back place - 1)) 0 (λ (word : ℕ). word < 4096)
+    cond_both (nat_lt place (4 * k.frame.words) && nat_lt (from_end k.frame.words back place) (length k.words))
+    (slice_index k.words (length k.words - from_end k.frame.words back place - 1)) 0 (λ (word : ℕ). word < 4096)
     (λ t. let below : from_end k.frame.words back place < length k.words = ltb-true _ _ (and_parts _ _ t).1 in
     small (length k.words - from_end k.frame.words back place - 1) 0 (omega arith))
     (λ _. omega arith)
 
 -- the bits of a part, as they are cut out of its word
-pub kept_bits-cut : (k : Kept) (cycle : ℕ) (p : Part) (word back len : ℕ) → p.width ≤ 12 → len ≡ 4 * k.frame.words →
+pub kept_bits-cut : (k : RebuildKept) (cycle : ℕ) (p : Part) (word back len : ℕ) → p.width ≤ 12 → len ≡ 4 * k.frame.words →
     back ≡ cycle - p.at / (12 * len) → word ≡ kept_word k back (p.at / 12 % len) →
     bit_and (word / 2 ^ (p.at % 12)) (1 * 2 ^ p.width % 65536 - 1) ≡ kept_bits k cycle p
 unfolding kept_bits
@@ -56,7 +57,7 @@ kept_bits-cut k cycle p word back len few len_is back_is word_is =
     cut ∙ ap (λ n. n / 2 ^ (p.at % 12) % 2 ^ p.width) read
 
 -- at most 12 bits
-pub kept_bits-small : (k : Kept) (cycle : ℕ) (p : Part) → p.width ≤ 12 → kept_bits k cycle p < 2 ^ 12
+pub kept_bits-small : (k : RebuildKept) (cycle : ℕ) (p : Part) → p.width ≤ 12 → kept_bits k cycle p < 2 ^ 12
 unfolding kept_bits
 kept_bits-small k cycle p few =
     let word = kept_word k (cycle - cycle_of k.frame.words p.at) (p.at / 12 % (4 * k.frame.words)) / 2 ^ (p.at % 12) in
@@ -72,7 +73,7 @@ shifted bits shift small few =
     (shl_whole bits 12 shift 64 small (omega arith), omega (arith, shl_below bits 12 shift small, power))
 
 -- the bits of a part, as they are cut out of its word and shifted to their place in the raw value
-pub kept_bits-shifted : (k : Kept) (cycle : ℕ) (p : Part) (word back len bits : ℕ) → p.width ≤ 12 → p.shift ≤ 36 → len ≡ 4 * k.frame.words →
+pub kept_bits-shifted : (k : RebuildKept) (cycle : ℕ) (p : Part) (word back len bits : ℕ) → p.width ≤ 12 → p.shift ≤ 36 → len ≡ 4 * k.frame.words →
     back ≡ cycle - p.at / (12 * len) → word ≡ kept_word k back (p.at / 12 % len) →
     bits ≡ bit_and (word / 2 ^ (p.at % 12)) (1 * 2 ^ p.width % 65536 - 1) →
     (bits * 2 ^ p.shift % 2 ^ 64 ≡ kept_bits k cycle p * 2 ^ p.shift) × (bits * 2 ^ p.shift % 2 ^ 64 < 2 ^ 48)

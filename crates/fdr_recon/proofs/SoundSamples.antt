@@ -1,11 +1,11 @@
 -- The samples of a sound table.
-use Rattle.std.proofs.Common.{◌≡◌, ℕ, zero, suc, ◌+◌, ◌-◌, ◌*◌, ◌<◌, ◌≤◌, ◌⊎◌, inl, inr, ⊎_elim, Bool, true, eqb, eqb-true, List, [], ◌∷◌, length, get_or, Option, Some, None, refl, sym, ap, ◌∙◌, subst, zero-add, arith}
+use Rattle.std.proofs.Common.{◌≡◌, ℕ, zero, suc, ◌+◌, ◌-◌, ◌*◌, ◌<◌, ◌≤◌, ◌⊎◌, ⊎_elim, Bool, true, eqb, eqb-true, List, [], ◌∷◌, length, get_or}
+use Rattle.std.proofs.Common.{Option, Some, None, refl, sym, ap, ◌∙◌, subst, arith}
 use Rattle.std.specs.Prelude.{All, Contains, filter, sum_by, slice_get, option_map}
 use Rattle.std.specs.List.{filter_map, list_any, range_with_len, enumerate_from}
 use Rattle.std.proofs.lemmas.Bool.{cases_Bool, cases_lt, and_parts}
 use Rattle.std.proofs.lemmas.Option.{slice_get-get_or, slice_get_within, get_or_from_slice_get}
-use Rattle.std.proofs.lemmas.List.Elements.{All-nil, All-cons, All-map, All-weaker, All-filter, All-contains, All-contains_itself, filter_passes}
-use Rattle.std.proofs.lemmas.List.FromFn.{length-enumerate_from, get_or-enumerate_from}
+use Rattle.std.proofs.lemmas.List.Elements.{All-map, All-weaker, All-filter, All-contains, All-contains_itself, filter_passes}
 use Rattle.std.proofs.lemmas.List.Sums.{sum_by_push}
 use Rattle.fdr_table.specs.Ranges.{IsParamInRange, IsPlaceInRange, IsInRange}
 use Rattle.fdr_table.specs.Rows.{ParamRow, PlaceRow, TableRows}
@@ -13,9 +13,11 @@ use Rattle.fdr_check.specs.Occurrences.{frame_bits, begins_at, Occurrence, occur
 use Rattle.fdr_check.specs.Soundness.{has_part, HasParts, HasRate, IsSound}
 use Rattle.fdr_layout.specs.Samples.{Part, carrier_of, part_at, parts_of, Sample, samples_of, samples, ending_in}
 use Rattle.fdr_layout.specs.Sorting.{ending_at}
-use Rattle.fdr_layout.proofs.Lists.{range_more}
 use Rattle.fdr_layout.proofs.Endings.{pieces_hold, all_pieces}
 use Rattle.fdr_recon.specs.Kept.{FillUp, IsSampleOf}
+use Rattle.fdr_lists.proofs.Ranges.{range_more, All-range}
+use Rattle.fdr_lists.proofs.Numbered.{numbered_stand}
+use Rattle.fdr_lists.proofs.Options.{some_or_none}
 
 -- ---- where occurrences come from
 
@@ -103,18 +105,15 @@ shift_first : (places : List PlaceRow) (n : ℕ) → shift_of places n 1 ≡ 0
 unfolding shift_of
 shift_first places n = refl
 
-shift_whole : (places : List PlaceRow) (n count width : ℕ) → width ≡ sum_by (part_width places n) (range_with_len 1 count) → shift_of places n (count + 1) ≡ width
+shift_whole : (places : List PlaceRow) (n count width : ℕ) → width ≡ sum_by (part_width places n) (range_with_len 1 count)
+    → shift_of places n (count + 1) ≡ width
 unfolding shift_of
 shift_whole places n count width whole =
     let last : count + 1 - 1 ≡ count = omega arith in
     ap (λ k. sum_by (part_width places n) (range_with_len 1 k)) last ∙ sym whole
 
-option_is : {X : Type 0} (o : Option X) → (o ≡ None) ⊎ ((x : X) × (o ≡ Some x))
-option_is None = inl refl
-option_is (Some x) = inr (x, refl)
-
 slice_get_is : {X : Type 0} (xs : List X) (i : ℕ) → (slice_get xs i ≡ None) ⊎ ((x : X) × (slice_get xs i ≡ Some x))
-slice_get_is xs i = option_is (slice_get xs i)
+slice_get_is xs i = some_or_none (slice_get xs i)
 
 module _ (t : TableRows) (n : ℕ) (p : ParamRow) (range : IsInRange t) (has : HasParts t.places n p) (rate : HasRate t.frame.words t.places n p) where
   -- at most four parts
@@ -126,14 +125,16 @@ module _ (t : TableRows) (n : ℕ) (p : ParamRow) (range : IsInRange t) (has : H
 
   -- each part up to the last has its occurrence, of its own width
   part_there : (i part : ℕ) → i < p.rate → 1 ≤ part → part ≤ has.count →
-      (at : ℕ) × (part_at i (carrier_of t.frame.words t.places n part) ≡ Some (record { at = at; width = part_width t.places n part; shift = shift_of t.places n part }))
+      (at : ℕ) × (part_at i (carrier_of t.frame.words t.places n part) ≡ Some
+      (record { at = at; width = part_width t.places n part; shift = shift_of t.places n part }))
   part_there i part early low high =
       let os = part_occurrences t.frame.words t.places n part in
       let count : length os ≡ p.rate = rate part (has.none_missing part low high) in
       let o = get_or os i (record { at = 0; width = 0 }) in
       let read : slice_get os i ≡ Some o = slice_get-get_or os i (record { at = 0; width = 0 }) (omega arith) in
       let from = part_occurrences_come t.frame.words t.places n part i (record { at = 0; width = 0 }) (omega arith) in
-      let width : from.place.width ≡ part_width t.places n from.place.part = All-contains (λ (l : PlaceRow). l.param ≡ n → l.width ≡ part_width t.places n l.part) t.places from.place has.widths from.among from.param in
+      let width : from.place.width ≡ part_width t.places n from.place.part =
+      All-contains (λ (l : PlaceRow). l.param ≡ n → l.width ≡ part_width t.places n l.part) t.places from.place has.widths from.among from.param in
       let of : ℕ → Part = λ k. record { at = o.at; width = k; shift = shift_of t.places n part } in (
         o.at,
         ap (option_map (λ (o : Occurrence). record { at = o.at; width = o.width; shift = shift_of t.places n part })) read
@@ -148,7 +149,8 @@ module _ (t : TableRows) (n : ℕ) (p : ParamRow) (range : IsInRange t) (has : H
       (λ (none : slice_get os i ≡ None). ap (option_map (λ (o : Occurrence). record { at = o.at; width = o.width; shift = shift_of t.places n part })) none)
       (λ (found : (o : Occurrence) × (slice_get os i ≡ Some o)).
       let from = part_occurrences_come t.frame.words t.places n part i found.0 (slice_get_within os i found.0 found.1) in
-      let below : from.place.part ≤ has.count = All-contains (λ (l : PlaceRow). l.param ≡ n → l.part ≤ has.count) t.places from.place has.numbers from.among from.param in
+      let below : from.place.part ≤ has.count = All-contains (λ (l : PlaceRow). l.param ≡ n → l.part ≤ has.count)
+      t.places from.place has.numbers from.among from.param in
       absurd (omega (arith, below, from.number)))
       (slice_get_is os i)
 
@@ -160,7 +162,8 @@ module _ (t : TableRows) (n : ℕ) (p : ParamRow) (range : IsInRange t) (has : H
   none_left i a (suc m) above = rw (part_missing i a above) (none_left i (a + 1) m (omega arith))
 
   -- the parts from number a on have the bits from that part's lowest on
-  fill_from : (i a m : ℕ) → i < p.rate → 1 ≤ a → a ≤ has.count + 1 → a + m ≡ 5 → FillUp (shift_of t.places n a) p.width (filter_map (part_of_sample i) (range_with_len a m))
+  fill_from : (i a m : ℕ) → i < p.rate → 1 ≤ a → a ≤ has.count + 1 → a + m ≡ 5
+      → FillUp (shift_of t.places n a) p.width (filter_map (part_of_sample i) (range_with_len a m))
   fill_from i a zero early low high end =
       let last : a ≡ has.count + 1 = omega (arith, few_parts) in
       ap (shift_of t.places n) last ∙ shift_whole t.places n has.count p.width has.whole
@@ -193,41 +196,32 @@ pub record IsMade (t : TableRows) (s : Sample) : Type 0 where
   pub early : s.index < param.rate
   pub parts : s.parts ≡ parts_of t.frame.words t.places s.param s.index
 
-numbered_stand : {X : Type 0} (xs : List X) → All (λ (e : ℕ × X). slice_get xs e.0 ≡ Some e.1) (enumerate_from 0 xs)
-numbered_stand {X} xs = λ k d l.
-    let P : ℕ × X → Type 0 = λ e. slice_get xs e.0 ≡ Some e.1 in
-    let within : k < length xs = omega (arith, length-enumerate_from 0 xs) in
-    let at : get_or (enumerate_from 0 xs) k d ≡ (k, get_or xs k d.1) = get_or-enumerate_from 0 xs k d within ∙ ap (λ m. (m, get_or xs k d.1)) (zero-add k) in
-    subst P (sym at) (slice_get-get_or xs k d.1 within)
-
-all_range : (P : ℕ → Type 0) (a n : ℕ) → ((x : ℕ) → a ≤ x → x < a + n → P x) → All P (range_with_len a n)
-all_range P a zero each = All-nil P
-all_range P a (suc n) each =
-    All-cons P a (range_with_len (a + 1) n) (each a (omega arith) (omega arith)) (all_range P (a + 1) n (λ x low high. each x (omega arith) (omega arith)))
-
 samples_of_made : (t : TableRows) (n : ℕ) (p : ParamRow) → slice_get t.params n ≡ Some p → All (IsMade t) (samples_of t.frame.words t.places n p.rate)
 unfolding samples_of
 samples_of_made t n p is =
     All-map (IsMade t) (λ i. record { param = n; index = i; parts = parts_of t.frame.words t.places n i }) (range_with_len 0 p.rate)
-    (all_range (λ i. IsMade t (record { param = n; index = i; parts = parts_of t.frame.words t.places n i })) 0 p.rate
+    (All-range (λ i. IsMade t (record { param = n; index = i; parts = parts_of t.frame.words t.places n i })) 0 p.rate
     (λ i low high. record { param = p; is = is; early = omega arith; parts = refl }))
 
 pub samples_made : (t : TableRows) → All (IsMade t) (samples t)
 unfolding samples
 samples_made t =
     all_pieces (IsMade t) (λ (e : ℕ × ParamRow). samples_of t.frame.words t.places e.0 e.1.rate) (enumerate_from 0 t.params)
-    (All-weaker (λ (e : ℕ × ParamRow). slice_get t.params e.0 ≡ Some e.1) (λ (e : ℕ × ParamRow). All (IsMade t) (samples_of t.frame.words t.places e.0 e.1.rate))
+    (All-weaker (λ (e : ℕ × ParamRow). slice_get t.params e.0 ≡ Some e.1)
+    (λ (e : ℕ × ParamRow). All (IsMade t) (samples_of t.frame.words t.places e.0 e.1.rate))
     (λ e is. samples_of_made t e.0 e.1 is) (enumerate_from 0 t.params) (numbered_stand t.params))
 
 made_is_sample : (t : TableRows) (s : Sample) → IsInRange t → IsSound t → IsMade t s → IsSampleOf t.params s
 made_is_sample t s range sound made =
     let p = made.param in
-    let fits : IsParamInRange p = subst IsParamInRange (get_or_from_slice_get t.params s.param p p made.is) (range.params s.param p (slice_get_within t.params s.param p made.is)) in
+    let fits : IsParamInRange p = subst IsParamInRange (get_or_from_slice_get t.params s.param p p made.is)
+    (range.params s.param p (slice_get_within t.params s.param p made.is)) in
     record {
       param = p;
       is = made.is;
       narrow = omega (arith, fits.lsb_low, fits.bits);
-      parts = subst (FillUp 0 p.width) (sym made.parts) (sample_fills t s.param p range (sound.parts s.param p made.is) (sound.rates s.param p made.is) s.index made.early);
+      parts = subst (FillUp 0 p.width) (sym made.parts) (sample_fills t s.param p range (sound.parts s.param p made.is) (sound.rates s.param p made.is)
+          s.index made.early);
     }
 
 -- each sample of a sound table has all bits of its raw value

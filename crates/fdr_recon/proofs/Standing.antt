@@ -5,14 +5,15 @@ use Rattle.std.proofs.lemmas.Bool.{cases_lt, lt-ltb, and_from, cond-true}
 use Rattle.std.proofs.lemmas.List.{get_or_past}
 use Rattle.circular_buffer.specs.Buffer.{keep_last}
 use Rattle.fdr_table.specs.Rows.{FrameRow, TableRows}
-use Rattle.fdr_recon.specs.Rows.{ReadFrame, frame_at, counter_place, counter_in, cycle_in}
-use Rattle.fdr_recon.specs.Kept.{Kept, kept_word, kept_counter, kept_cycle, from_end}
-use Rattle.fdr_recon.specs.Past.{Stands, read_frame}
+use Rattle.fdr_recon.specs.Rows.{ReadFrame, frame_at, counter_place, counter_in, cycle_of_frame}
+use Rattle.fdr_recon.specs.Kept.{RebuildKept, kept_word, kept_counter, kept_cycle, from_end}
+use Rattle.fdr_recon.specs.Past.{RepresentsRebuild, read_frame}
 use Rattle.fdr_recon.proofs.FrameWords.{words_of, length-words_of, get_or-words_of, from_end-within, keep_last-from_end}
 use Rattle.fdr_recon.proofs.KeptWords.{kept_word-past}
 
 -- a kept word is that of the frame, where fewer than 16 frames stand behind it
-pub kept_word-stands : (k : Kept) (t : TableRows) (past : List ReadFrame) (m back place : ℕ) → Stands k t past → length past ≡ m + back + 1 → back < 16 →
+pub kept_word-stands : (k : RebuildKept) (t : TableRows) (past : List ReadFrame) (m back place : ℕ) → RepresentsRebuild k t past → length past ≡ m + back + 1
+    → back < 16 →
     kept_word k back place ≡ slice_index (frame_at past m).words place
 unfolding kept_word
 kept_word-stands k t past m back place s len few =
@@ -23,7 +24,8 @@ kept_word-stands k t past m back place s len few =
     let within : m < length past = omega arith in
     ⊎_elim
     (λ (low : place < 4 * w).
-    let P : ℕ → List ℕ → Type 0 = λ v ks. (if nat_lt place (4 * v) && nat_lt (from_end v back place) (length ks) then slice_index ks (length ks - from_end v back place - 1) else 0) ≡ slice_index (frame_at past m).words place in
+    let P : ℕ → List ℕ → Type 0 = λ v ks. (if nat_lt place (4 * v) && nat_lt (from_end v back place) (length ks) then slice_index ks
+    (length ks - from_end v back place - 1) else 0) ≡ slice_index (frame_at past m).words place in
     let read : P w (keep_last (64 * w) xs) =
     cond-true _ _ _ (and_from _ _ (lt-ltb place (4 * w) low) (lt-ltb _ _ (from_end-within w m back place xs all_words few low)))
     ∙ keep_last-from_end w m back place xs all_words few low ∙ get_or-words_of w past m place s.frames within low in
@@ -35,11 +37,12 @@ kept_word-stands k t past m back place s len few =
     kept_word-past k back place past_end ∙ sym (get_or_past (frame_at past m).words place 0 over))
     (cases_lt place (4 * w))
 
-pub kept_counter-stands : (k : Kept) (t : TableRows) (past : List ReadFrame) (m back : ℕ) → Stands k t past → length past ≡ m + back + 1 → back < 16 →
+pub kept_counter-stands : (k : RebuildKept) (t : TableRows) (past : List ReadFrame) (m back : ℕ) → RepresentsRebuild k t past → length past ≡ m + back + 1
+    → back < 16 →
     kept_counter k back ≡ counter_in t.frame (frame_at past m).words
 kept_counter-stands k t past m back s len few =
     ap (λ f. kept_word k back (counter_place f)) s.frame ∙ kept_word-stands k t past m back (counter_place t.frame) s len few
 
-pub kept_cycle-stands : (k : Kept) (t : TableRows) (past : List ReadFrame) (m : ℕ) → Stands k t past → length past ≡ suc m →
-    kept_cycle k ≡ cycle_in t.frame (frame_at past m).words
+pub kept_cycle-stands : (k : RebuildKept) (t : TableRows) (past : List ReadFrame) (m : ℕ) → RepresentsRebuild k t past → length past ≡ suc m →
+    kept_cycle k ≡ cycle_of_frame t.frame (frame_at past m).words
 kept_cycle-stands k t past m s len = ap (λ n. n % 16) (kept_counter-stands k t past m 0 s (omega arith) (omega arith))

@@ -1,11 +1,10 @@
 -- The rows of a value that stands for a past.
-use Rattle.std.proofs.Common.{◌≡◌, ℕ, suc, ◌+◌, ◌-◌, ◌*◌, ◌/◌, ◌%◌, ◌^◌, ◌<◌, ◌≤◌, true, false, List, [], ◌∷◌, length, map, min, refl, ap, sym, ◌∙◌, subst, arith, ⊎_elim, length-drop, Some, None}
-use Rattle.std.specs.Prelude.{nat_le, if◌then◌else◌, slice_index, slice_get, sum_by, option_map, ℤ}
-use Rattle.std.specs.List.{All, range_with_len, slice_index_or}
+use Rattle.std.proofs.Common.{◌≡◌, ℕ, suc, ◌+◌, ◌-◌, ◌*◌, ◌/◌, ◌%◌, ◌^◌, ◌<◌, ◌≤◌, true, false, List, [], ◌∷◌, length, map, min, refl, ap, sym, ◌∙◌, subst}
+use Rattle.std.proofs.Common.{arith, ⊎_elim, length-drop, Some, None}
+use Rattle.std.specs.Prelude.{nat_le, if◌then◌else◌, slice_index, slice_get, option_map, ℤ}
+use Rattle.std.specs.List.{range_with_len, slice_index_or}
 use Rattle.std.proofs.lemmas.Bool.{le-leb, lt-leb, leb-true, leb-false, ne_eqb, eq-eqb, cond-true, cond-false, cases_Bool}
 use Rattle.std.proofs.lemmas.List.{length-map}
-use Rattle.std.proofs.lemmas.List.Elements.{All-head, All-tail}
-use Rattle.std.proofs.lemmas.List.Sums.{sum_by-cons}
 use Rattle.std.proofs.lemmas.List.FromFn.{get_or-map-range_with_len}
 use Rattle.std.proofs.lemmas.Option.{slice_get-map, slice_get_within, get_or_from_slice_get, none-some}
 use Rattle.std.proofs.lemmas.Nat.{mod_below}
@@ -17,22 +16,17 @@ use Rattle.fdr_frame.specs.Slots.{subframe_of, word_of}
 use Rattle.fdr_check.specs.Occurrences.{cycle_of}
 use Rattle.fdr_layout.specs.Samples.{Part, Sample, ending_in, first_at, last_at}
 use Rattle.fdr_recon.specs.declared.Row.{Row}
-use Rattle.fdr_recon.specs.Rows.{ReadFrame, frame_at, are_joined, counter_in, cycle_in, reach, bits_of, raw_of, param_at, row_with, row_of, rows_looked_at}
-use Rattle.fdr_recon.specs.Kept.{Kept, kept_word, kept_counter, kept_cycle, kept_bits, kept_raw, kept_value, kept_row, kept_samples}
-use Rattle.fdr_recon.specs.Past.{Stands, joined_count}
+use Rattle.fdr_recon.specs.Rows.{ReadFrame, frame_at, are_joined, counter_in, cycle_of_frame, reach, bits_of, raw_of_parts, param_at, row_with, row_of}
+use Rattle.fdr_recon.specs.Rows.{rows_looked_at}
+use Rattle.fdr_recon.specs.Kept.{RebuildKept, kept_word, kept_counter, kept_cycle, kept_bits, kept_raw, kept_value, kept_row, kept_samples}
+use Rattle.fdr_recon.specs.Past.{RepresentsRebuild, joined_count}
 use Rattle.fdr_recon.proofs.JoinedFrames.{are_joined-count, joined_count-le}
 use Rattle.fdr_recon.proofs.FrameWords.{words_of, length-words_of}
 use Rattle.fdr_recon.proofs.Standing.{kept_word-stands, kept_counter-stands, kept_cycle-stands}
-
-pub sum_by-agree : {X : Type 0} (f g : X → ℕ) (xs : List X) → All (λ x. f x ≡ g x) xs → sum_by f xs ≡ sum_by g xs
-sum_by-agree f g [] same = refl
-sum_by-agree f g (x ∷ xs) same =
-    let here : f x ≡ g x = All-head (λ y. f y ≡ g y) x xs same in
-    let rest = sum_by-agree f g xs (All-tail (λ y. f y ≡ g y) x xs same) in
-    omega (arith, sum_by-cons f x xs, sum_by-cons g x xs, here, rest)
+use Rattle.fdr_lists.proofs.Sums.{sum_by-agree}
 
 -- the bits of a part that stands few enough frames before frame i, the last
-kept_bits-stands : (k : Kept) (t : TableRows) (past : List ReadFrame) (i cycle : ℕ) (p : Part) → Stands k t past → length past ≡ suc i →
+kept_bits-stands : (k : RebuildKept) (t : TableRows) (past : List ReadFrame) (i cycle : ℕ) (p : Part) → RepresentsRebuild k t past → length past ≡ suc i →
     cycle - cycle_of t.frame.words p.at ≤ i → cycle < 16 → kept_bits k cycle p ≡ bits_of t.frame.words past i cycle p
 unfolding kept_bits
 kept_bits-stands k t past i cycle p s len reached few =
@@ -46,10 +40,10 @@ kept_bits-stands k t past i cycle p s len reached few =
     let P : ℕ → Type 0 = λ v. kept_word k (cycle - cycle_of v p.at) (p.at / 12 % (4 * v)) / 2 ^ (p.at % 12) % 2 ^ p.width ≡ bits_of w past i cycle p in
     subst P (sym w_is) (ap (λ n. n / 2 ^ (p.at % 12) % 2 ^ p.width) word)
 
-kept_raw-stands : (k : Kept) (t : TableRows) (past : List ReadFrame) (i cycle : ℕ) (s : Sample) → Stands k t past → length past ≡ suc i →
+kept_raw-stands : (k : RebuildKept) (t : TableRows) (past : List ReadFrame) (i cycle : ℕ) (s : Sample) → RepresentsRebuild k t past → length past ≡ suc i →
     cycle < 16 → EndsIn t.frame.words cycle s → reach t.frame.words s.parts ≤ i →
-    kept_raw k cycle s.parts ≡ raw_of t.frame.words past i cycle s.parts
-unfolding kept_raw raw_of
+    kept_raw k cycle s.parts ≡ raw_of_parts t.frame.words past i cycle s.parts
+unfolding kept_raw raw_of_parts
 kept_raw-stands k t past i cycle s st len few ends reached =
     let w = t.frame.words in
     sum_by-agree (λ (p : Part). kept_bits k cycle p * 2 ^ p.shift) (λ (p : Part). bits_of w past i cycle p * 2 ^ p.shift) s.parts
@@ -60,14 +54,15 @@ kept_raw-stands k t past i cycle s st len few ends reached =
     ap (λ n. n * 2 ^ p.shift) (kept_bits-stands k t past i cycle p st len back few))
 
 -- the row of a sample that ends in the last frame's cycle
-pub kept_row-stands : (k : Kept) (t : TableRows) (past : List ReadFrame) (i : ℕ) (s : Sample) → Stands k t past → length past ≡ suc i → EndsIn t.frame.words (cycle_in t.frame (frame_at past i).words) s →
+pub kept_row-stands : (k : RebuildKept) (t : TableRows) (past : List ReadFrame) (i : ℕ) (s : Sample) → RepresentsRebuild k t past → length past ≡ suc i
+    → EndsIn t.frame.words (cycle_of_frame t.frame (frame_at past i).words) s →
     kept_row k s ≡ row_of t past i s
 unfolding kept_row kept_value row_of row_with
 kept_row-stands k t past i s st len ends =
     let w = t.frame.words in
     let d = reach w s.parts in
     let w_is : k.frame.words ≡ w = ap (λ (f : FrameRow). f.words) st.frame in
-    let cycle = cycle_in t.frame (frame_at past i).words in
+    let cycle = cycle_of_frame t.frame (frame_at past i).words in
     let few : cycle < 16 = mod_below _ 16 (omega arith) in
     let last_cycle : cycle_of w (last_at s.parts) ≡ cycle = ends.last in
     let row : ℕ → ℤ → Row = λ counter value. record {
@@ -93,9 +88,9 @@ kept_row-stands k t past i s st len ends =
     let below = joined_count-le t.frame past i in
     let both : are_joined t.frame past i d ≡ true = are_joined-count t.frame past i d ∙ le-leb d (joined_count t.frame past i) (omega arith) in
     let counter : kept_counter k d ≡ counter_in t.frame (frame_at past (i - d)).words = kept_counter-stands k t past (i - d) d st (omega arith) (omega arith) in
-    let raw : kept_raw k (kept_cycle k) s.parts ≡ raw_of w past i cycle s.parts =
+    let raw : kept_raw k (kept_cycle k) s.parts ≡ raw_of_parts w past i cycle s.parts =
     ap (λ c. kept_raw k c s.parts) (kept_cycle-stands k t past i st len) ∙ kept_raw-stands k t past i cycle s st len few ends (omega arith) in
-    let value : kept_value k s ≡ value_of (param_at t.params s.param) (raw_of w past i cycle s.parts) =
+    let value : kept_value k s ≡ value_of (param_at t.params s.param) (raw_of_parts w past i cycle s.parts) =
     ap (λ ps. value_of (param_at ps s.param) (kept_raw k (kept_cycle k) s.parts)) st.params ∙ ap (value_of (param_at t.params s.param)) raw in
     cond-true _ _ _ yes
     ∙ ap (λ n. Some (row n (kept_value k s))) counter
@@ -109,19 +104,20 @@ kept_row-stands k t past i s st len ends =
     subst P (sym w_is) (⊎_elim listed unlisted (cases_Bool (nat_le d k.joined)))
 
 -- no sample is looked at before the first frame
-pub kept_samples-none : (k : Kept) (t : TableRows) → Stands k t [] → kept_samples k ≡ []
+pub kept_samples-none : (k : RebuildKept) (t : TableRows) → RepresentsRebuild k t [] → kept_samples k ≡ []
 unfolding kept_samples
 kept_samples-none k t s =
     let none : length k.words ≡ 0 = ap length s.words ∙ omega (arith, length-drop (length (words_of []) - 64 * t.frame.words) (words_of [])) in
     cond-true _ _ _ (eq-eqb (length k.words) 0 none)
 
 -- those that end in the last frame's cycle
-pub kept_samples-stands : (k : Kept) (t : TableRows) (past : List ReadFrame) (i : ℕ) → Stands k t past → length past ≡ suc i → 0 < t.frame.words →
-    kept_samples k ≡ ending_in t (cycle_in t.frame (frame_at past i).words)
+pub kept_samples-stands : (k : RebuildKept) (t : TableRows) (past : List ReadFrame) (i : ℕ) → RepresentsRebuild k t past → length past ≡ suc i
+    → 0 < t.frame.words →
+    kept_samples k ≡ ending_in t (cycle_of_frame t.frame (frame_at past i).words)
 unfolding kept_samples
 kept_samples-stands k t past i s len some =
     let w = t.frame.words in
-    let cycle = cycle_in t.frame (frame_at past i).words in
+    let cycle = cycle_of_frame t.frame (frame_at past i).words in
     let xs = words_of past in
     let all_words : length xs ≡ 4 * w * suc i = length-words_of w past s.frames ∙ ap (λ n. 4 * w * n) len in
     let count : length k.words ≡ length xs - (length xs - 64 * w) = ap length s.words ∙ length-drop (length xs - 64 * w) xs in
@@ -133,19 +129,19 @@ kept_samples-stands k t past i s len some =
     ∙ get_or-map-range_with_len (ending_in t) 0 16 cycle cycle [] few (omega arith)
 
 -- what is looked at is as many rows as there are samples
-pub rows-stands : (k : Kept) (t : TableRows) (past : List ReadFrame) → Stands k t past → 0 < k.frame.words → 0 < length past →
+pub rows-stands : (k : RebuildKept) (t : TableRows) (past : List ReadFrame) → RepresentsRebuild k t past → 0 < k.frame.words → 0 < length past →
     length (kept_samples k) ≡ length (rows_looked_at t past (length past - 1))
 unfolding rows_looked_at
 rows-stands k t [] s some frames = absurd (omega arith)
 rows-stands k t (first ∷ past) s some frames =
     let last : length (first ∷ past) - 1 ≡ length past = omega arith in
-    let here = ending_in t (cycle_in t.frame (frame_at (first ∷ past) (length past)).words) in
+    let here = ending_in t (cycle_of_frame t.frame (frame_at (first ∷ past) (length past)).words) in
     ap length (kept_samples-stands k t (first ∷ past) (length past) s refl (subst (λ n. 0 < n) (ap (λ (f : FrameRow). f.words) s.frame) some))
     ∙ sym (length-map here (row_of t (first ∷ past) (length past)))
     ∙ ap (λ n. length (rows_looked_at t (first ∷ past) n)) (sym last)
 
 -- the row of the sample that is looked at
-pub row-stands : (k : Kept) (t : TableRows) (past : List ReadFrame) (i : ℕ) (s : Sample) → Stands k t past → 0 < k.frame.words →
+pub row-stands : (k : RebuildKept) (t : TableRows) (past : List ReadFrame) (i : ℕ) (s : Sample) → RepresentsRebuild k t past → 0 < k.frame.words →
     slice_get (kept_samples k) i ≡ Some s → slice_get (rows_looked_at t past (length past - 1)) i ≡ Some (kept_row k s)
 unfolding rows_looked_at
 row-stands k t [] i s st some looked =
@@ -154,7 +150,7 @@ row-stands k t [] i s st some looked =
 row-stands k t (first ∷ past) i s st some looked =
     let frames = first ∷ past in
     let m = length past in
-    let cycle = cycle_in t.frame (frame_at frames m).words in
+    let cycle = cycle_of_frame t.frame (frame_at frames m).words in
     let last : length frames - 1 ≡ m = omega arith in
     let some_words : 0 < t.frame.words = subst (λ n. 0 < n) (ap (λ (f : FrameRow). f.words) st.frame) some in
     let here : slice_get (ending_in t cycle) i ≡ Some s = ap (λ xs. slice_get xs i) (sym (kept_samples-stands k t frames m st refl some_words)) ∙ looked in

@@ -1,5 +1,6 @@
 -- For which past a value stands.
-use Rattle.std.proofs.Common.{◌≡◌, ℕ, zero, suc, ◌+◌, ◌-◌, ◌*◌, ◌%◌, ◌<◌, Bool, true, false, List, [], ◌∷◌, ◌++◌, length, drop, map, min, refl, ap, sym, ◌∙◌, subst, arith, length-append, length-drop}
+use Rattle.std.proofs.Common.{◌≡◌, ℕ, zero, suc, ◌+◌, ◌-◌, ◌*◌, ◌%◌, ◌<◌, Bool, true, false, List, [], ◌∷◌, ◌++◌, length, drop, map, min, refl, ap, sym, ◌∙◌}
+use Rattle.std.proofs.Common.{subst, arith, length-append, length-drop}
 use Rattle.std.specs.Prelude.{◌&&◌, ◌==◌, not, if◌then◌else◌, slice_index}
 use Rattle.std.specs.List.{All, range_with_len, slice_index_or}
 use Rattle.std.proofs.lemmas.Bool.{ne_eqb, eq-eqb, and_left, and_right, cond-false}
@@ -12,19 +13,21 @@ use Rattle.fdr_table.specs.Rows.{FrameRow, ParamRow, TableRows}
 use Rattle.fdr_check.specs.Soundness.{IsSound}
 use Rattle.fdr_layout.specs.Samples.{Sample, ending_in}
 use Rattle.fdr_recon.specs.Rows.{ReadFrame, frame_at, are_linked, counter_place, counter_in}
-use Rattle.fdr_recon.specs.Kept.{Kept, kept_counter, is_next, IsSampleOf}
-use Rattle.fdr_recon.specs.Past.{IsWhole, Stands, joined_count, read_frame}
+use Rattle.fdr_recon.specs.Kept.{RebuildKept, kept_counter, is_next, IsSampleOf}
+use Rattle.fdr_recon.specs.Past.{IsWholeFrame, RepresentsRebuild, joined_count, read_frame}
 use Rattle.fdr_recon.proofs.JoinedFrames.{joined_count-push}
 use Rattle.fdr_recon.proofs.FrameWords.{words_of, length-words_of, keep_last-append}
 use Rattle.fdr_recon.proofs.Standing.{kept_counter-stands}
 use Rattle.fdr_recon.proofs.SoundSamples.{ending_in_sound}
+use Rattle.std.proofs.Math.Bool.{and-true}
 
 drop-nil : {X : Type 0} (n : ℕ) → drop {A = X} n [] ≡ []
 drop-nil zero = refl
 drop-nil (suc n) = refl
 
 -- the samples of all cycles of a sound table have all bits of their values
-pub layout-samples : (t : TableRows) → IsInRange t → IsSound t → All (λ (samples : List Sample). All (IsSampleOf t.params) samples) (map (ending_in t) (range_with_len 0 16))
+pub layout-samples : (t : TableRows) → IsInRange t → IsSound t
+    → All (λ (samples : List Sample). All (IsSampleOf t.params) samples) (map (ending_in t) (range_with_len 0 16))
 layout-samples t range sound =
     All-map (λ (samples : List Sample). All (IsSampleOf t.params) samples) (ending_in t) (range_with_len 0 16)
     (λ j d within. ending_in_sound t (slice_index_or (range_with_len 0 16) j d) range sound)
@@ -32,31 +35,28 @@ layout-samples t range sound =
 -- before the first frame
 pub Stands-none : (t : TableRows) (frame : FrameRow) (params : List ParamRow) (samples : List (List Sample)) → frame ≡ t.frame → params ≡ t.params →
     samples ≡ map (ending_in t) (range_with_len 0 16) →
-    Stands (record { frame = frame; params = params; samples = samples; words = []; joined = 0 }) t []
+    RepresentsRebuild (record { frame = frame; params = params; samples = samples; words = []; joined = 0 }) t []
 unfolding joined_count
 Stands-none t frame params samples frame_is params_is layout = record {
   frame = frame_is;
   params = params_is;
   samples = layout;
-  frames = All-nil (IsWhole t.frame.words);
+  frames = All-nil (IsWholeFrame t.frame.words);
   words = sym (drop-nil (length (words_of []) - 64 * t.frame.words));
   joined = refl;
 }
-
-and_true : (b : Bool) → (b && true) ≡ b
-and_true true = refl
-and_true false = refl
 
 capped_if : (b : Bool) (n : ℕ) → (if b then min 15 n else 0) ≡ min 15 (if b then n else 0)
 capped_if true n = refl
 capped_if false n = refl
 
 -- how many frames are joined with the next frame
-abbrev joined_after : Kept → Bool → List ℕ → ℕ
+abbrev joined_after : RebuildKept → Bool → List ℕ → ℕ
 joined_after k adjacent words = if is_next k adjacent words then min (k.joined + 1) 15 else 0
 
 -- how many frames are joined with a further one
-joined_after-stands : (k : Kept) (t : TableRows) (past : List ReadFrame) (adjacent : Bool) (words : List ℕ) → Stands k t past → 0 < t.frame.words →
+joined_after-stands : (k : RebuildKept) (t : TableRows) (past : List ReadFrame) (adjacent : Bool) (words : List ℕ) → RepresentsRebuild k t past
+    → 0 < t.frame.words →
     joined_after k adjacent words ≡ min 15 (joined_count t.frame (past ++ read_frame adjacent words ∷ []) (length past))
 unfolding is_next joined_count are_linked
 joined_after-stands k t [] adjacent words s some =
@@ -75,9 +75,10 @@ joined_after-stands k t (first ∷ past) adjacent words s some =
     let some_words : not (length k.words == 0) ≡ true = ap not (ne_eqb (length k.words) 0 (λ e. omega arith)) in
     let next : slice_index words (counter_place k.frame) ≡ counter_in t.frame words = ap (λ f. slice_index words (counter_place f)) s.frame in
     let before : kept_counter k 0 ≡ counter_in t.frame last.words = kept_counter-stands k t frames m 0 s (omega arith) (omega arith) in
-    let test : (adjacent && not (length k.words == 0) && (slice_index words (counter_place k.frame) == (kept_counter k 0 + 1) % 4096)) ≡ are_linked t.frame last (read_frame adjacent words) =
+    let test : (adjacent && not (length k.words == 0) && (slice_index words (counter_place k.frame) == (kept_counter k 0 + 1) % 4096)) ≡ are_linked t.frame last
+    (read_frame adjacent words) =
     ap (λ b. (adjacent && b) && (slice_index words (counter_place k.frame) == (kept_counter k 0 + 1) % 4096)) some_words
-    ∙ ap (λ b. b && (slice_index words (counter_place k.frame) == (kept_counter k 0 + 1) % 4096)) (and_true adjacent)
+    ∙ ap (λ b. b && (slice_index words (counter_place k.frame) == (kept_counter k 0 + 1) % 4096)) (and-true adjacent)
     ∙ ap (λ n. adjacent && (n == (kept_counter k 0 + 1) % 4096)) next
     ∙ ap (λ n. adjacent && (counter_in t.frame words == (n + 1) % 4096)) before in
     let before_last : length frames - 1 ≡ m = omega arith in
@@ -89,23 +90,25 @@ joined_after-stands k t (first ∷ past) adjacent words s some =
     ∙ sym (ap (λ n. min 15 n) (joined_count-push t.frame frames (read_frame adjacent words) m refl))
 
 -- after a further frame
-pub Stands-push : (k k' : Kept) (t : TableRows) (past : List ReadFrame) (adjacent : Bool) (words : List ℕ) → Stands k t past → 0 < k.frame.words →
+pub Stands-push : (k k' : RebuildKept) (t : TableRows) (past : List ReadFrame) (adjacent : Bool) (words : List ℕ) → RepresentsRebuild k t past
+    → 0 < k.frame.words →
     length words ≡ 4 * k.frame.words → All (λ word. word < 4096) words →
     k'.frame ≡ k.frame → k'.params ≡ k.params → k'.samples ≡ k.samples →
     k'.words ≡ keep_last (64 * k.frame.words) (k.words ++ words) → k'.joined ≡ joined_after k adjacent words →
-    Stands k' t (past ++ read_frame adjacent words ∷ [])
+    RepresentsRebuild k' t (past ++ read_frame adjacent words ∷ [])
 Stands-push k k' t past adjacent words s some whole small frame params samples kept joined =
     let w = t.frame.words in
     let r = read_frame adjacent words in
     let w_is : k.frame.words ≡ w = ap (λ (f : FrameRow). f.words) s.frame in
     let xs = words_of past in
-    let all_words : words_of (past ++ r ∷ []) ≡ xs ++ words = flat_map-append (λ (r : ReadFrame). r.words) past (r ∷ []) ∙ ap (λ ys. xs ++ ys) (append-nil words) in
+    let all_words : words_of (past ++ r ∷ []) ≡ xs ++ words =
+    flat_map-append (λ (r : ReadFrame). r.words) past (r ∷ []) ∙ ap (λ ys. xs ++ ys) (append-nil words) in
     let n : length (past ++ r ∷ []) - 1 ≡ length past = omega (arith, length-append past (r ∷ [])) in
     record {
       frame = frame ∙ s.frame;
       params = params ∙ s.params;
       samples = samples ∙ s.samples;
-      frames = All-push (IsWhole w) past r s.frames (record { whole = whole ∙ ap (λ n. 4 * n) w_is; small = small });
+      frames = All-push (IsWholeFrame w) past r s.frames (record { whole = whole ∙ ap (λ n. 4 * n) w_is; small = small });
       words = kept ∙ ap (λ n. keep_last (64 * n) (k.words ++ words)) w_is ∙ ap (λ ys. keep_last (64 * w) (ys ++ words)) s.words
           ∙ keep_last-append (64 * w) xs words ∙ sym (ap (keep_last (64 * w)) all_words);
       joined = joined ∙ joined_after-stands k t past adjacent words s (subst (λ n. 0 < n) w_is some)

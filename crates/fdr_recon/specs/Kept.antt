@@ -1,5 +1,6 @@
 -- What is kept of a table and of the frames that were read, and the rows that are made of it.
-use Rattle.std.specs.Prelude.{ℕ, ◌+◌, ◌-◌, ◌*◌, ◌/◌, ◌%◌, ◌^◌, ◌<◌, ◌≤◌, ◌≡◌, ℤ, Bool, if◌then◌else◌, ◌==◌, ◌&&◌, nat_lt, nat_le, not, List, [], ◌∷◌, length, Option, Some, None, sum_by, slice_index, slice_get}
+use Rattle.std.specs.Prelude.{ℕ, ◌+◌, ◌-◌, ◌*◌, ◌/◌, ◌%◌, ◌^◌, ◌<◌, ◌≤◌, ◌≡◌, ℤ, Bool, if◌then◌else◌, ◌==◌, ◌&&◌, nat_lt, nat_le, not, List, [], ◌∷◌, length}
+use Rattle.std.specs.Prelude.{Option, Some, None, sum_by, slice_index, slice_get}
 use Rattle.std.specs.List.{All, slice_index_or}
 use Rattle.fdr_frame.specs.Slots.{subframe_of, word_of}
 use Rattle.fdr_table.specs.Rows.{FrameRow, ParamRow}
@@ -11,7 +12,7 @@ use Rattle.fdr_recon.specs.Rows.{counter_place, reach, param_at}
 
 -- The table's frame row and parameters, its samples by the cycle that they end in, the words of the last
 -- sixteen frames, one frame after another, and how many frames before the last are joined with it, at most 15.
-pub record Kept : Type 0 where
+pub record RebuildKept : Type 0 where
   pub frame : FrameRow
   pub params : List ParamRow
   pub samples : List (List Sample)
@@ -31,7 +32,7 @@ pub record IsSampleOf (params : List ParamRow) (s : Sample) : Type 0 where
   pub parts : FillUp 0 param.width s.parts
 
 -- what holds of every value, whose words have room for this many
-pub record IsKept (k : Kept) (capacity : ℕ) : Type 0 where
+pub record IsRebuildKept (k : RebuildKept) (capacity : ℕ) : Type 0 where
   pub some : 0 < k.frame.words
   pub room : capacity ≡ 64 * k.frame.words
   pub words : All (λ word. word < 4096) k.words
@@ -43,33 +44,33 @@ abbrev pub from_end : ℕ → ℕ → ℕ → ℕ
 from_end w back place = 4 * w * back + (4 * w - 1 - place)
 
 -- the word at a place of the frame that stands this many frames before the last, or 0 where there is none
-unfoldable pub kept_word : Kept → ℕ → ℕ → ℕ
+unfoldable pub kept_word : RebuildKept → ℕ → ℕ → ℕ
 kept_word k back place =
     if nat_lt place (4 * k.frame.words) && nat_lt (from_end k.frame.words back place) (length k.words)
     then slice_index k.words (length k.words - from_end k.frame.words back place - 1)
     else 0
 
-abbrev pub kept_counter : Kept → ℕ → ℕ
+abbrev pub kept_counter : RebuildKept → ℕ → ℕ
 kept_counter k back = kept_word k back (counter_place k.frame)
 
 -- the last frame's cycle
-abbrev pub kept_cycle : Kept → ℕ
+abbrev pub kept_cycle : RebuildKept → ℕ
 kept_cycle k = kept_counter k 0 % 16
 
 -- the bits of a part of a sample that ends in the last frame, which has this cycle
-unfoldable pub kept_bits : Kept → ℕ → Part → ℕ
+unfoldable pub kept_bits : RebuildKept → ℕ → Part → ℕ
 kept_bits k cycle p =
     kept_word k (cycle - cycle_of k.frame.words p.at) (p.at / 12 % (4 * k.frame.words)) / 2 ^ (p.at % 12) % 2 ^ p.width
 
-unfoldable pub kept_raw : Kept → ℕ → List Part → ℕ
+unfoldable pub kept_raw : RebuildKept → ℕ → List Part → ℕ
 kept_raw k cycle parts = sum_by (λ p. kept_bits k cycle p * 2 ^ p.shift) parts
 
 -- the value of a sample that ends in the last frame
-unfoldable pub kept_value : Kept → Sample → ℤ
+unfoldable pub kept_value : RebuildKept → Sample → ℤ
 kept_value k s = value_of (param_at k.params s.param) (kept_raw k (kept_cycle k) s.parts)
 
 -- the row of a sample that ends in the last frame
-unfoldable pub kept_row : Kept → Sample → Option Row
+unfoldable pub kept_row : RebuildKept → Sample → Option Row
 kept_row k s =
     if nat_le (reach k.frame.words s.parts) k.joined
     then Some (record {
@@ -82,11 +83,11 @@ kept_row k s =
     else None
 
 -- the samples that end in the last frame's cycle, none before the first frame
-unfoldable pub kept_samples : Kept → List Sample
+unfoldable pub kept_samples : RebuildKept → List Sample
 kept_samples k = if length k.words == 0 then [] else slice_index_or k.samples (kept_cycle k) []
 
 -- whether a next frame is linked to the last
-unfoldable pub is_next : Kept → Bool → List ℕ → Bool
+unfoldable pub is_next : RebuildKept → Bool → List ℕ → Bool
 is_next k adjacent words =
     adjacent && not (length k.words == 0) && (slice_index words (counter_place k.frame) == (kept_counter k 0 + 1) % 4096)
 

@@ -5,7 +5,7 @@ use Rattle.circular_buffer.specs.Buffer.{keep_last}
 use Rattle.fdr_table.specs.Rows.{FrameRow, TableRows}
 use Rattle.fdr_layout.specs.Samples.{ending_in}
 use Rattle.fdr_recon.specs.Rows.{ReadFrame, frame_at, are_linked}
-use Rattle.fdr_recon.specs.Kept.{Kept}
+use Rattle.fdr_recon.specs.Kept.{RebuildKept}
 
 abbrev pub read_frame : Bool → List ℕ → ReadFrame
 read_frame adjacent words = record { adjacent = adjacent; words = words }
@@ -16,15 +16,15 @@ joined_count f frames zero = 0
 joined_count f frames (suc i) = if are_linked f (frame_at frames i) (frame_at frames (suc i)) then suc (joined_count f frames i) else 0
 
 -- a frame has four subframes of w words of 12 bits
-pub record IsWhole (w : ℕ) (r : ReadFrame) : Type 0 where
+pub record IsWholeFrame (w : ℕ) (r : ReadFrame) : Type 0 where
   pub whole : length r.words ≡ 4 * w
   pub small : All (λ word. word < 4096) r.words
 
 -- The value stands where the frames of this past were read for this table.
-pub record Stands (k : Kept) (t : TableRows) (past : List ReadFrame) : Type 0 where
+pub record RepresentsRebuild (k : RebuildKept) (t : TableRows) (past : List ReadFrame) : Type 0 where
   pub frame : k.frame ≡ t.frame
   pub params : k.params ≡ t.params
   pub samples : k.samples ≡ map (ending_in t) (range_with_len 0 16)
-  pub frames : All (IsWhole t.frame.words) past
+  pub frames : All (IsWholeFrame t.frame.words) past
   pub words : k.words ≡ keep_last (64 * t.frame.words) (flat_map (λ (r : ReadFrame). r.words) past)
   pub joined : k.joined ≡ min 15 (joined_count t.frame past (length past - 1))

@@ -1,5 +1,6 @@
 -- The rows of frames that were read one after another.
-use Rattle.std.specs.Prelude.{ℕ, ◌+◌, ◌-◌, ◌*◌, ◌/◌, ◌%◌, ◌^◌, pos, Bool, false, if◌then◌else◌, ◌==◌, ◌&&◌, nat_le, List, [], Option, Some, None, map, sum_by, slice_index}
+use Rattle.std.specs.Prelude.{ℕ, ◌+◌, ◌-◌, ◌*◌, ◌/◌, ◌%◌, ◌^◌, pos, Bool, false, if◌then◌else◌, ◌==◌, ◌&&◌, nat_le, List, [], Option, Some, None, map, sum_by}
+use Rattle.std.specs.Prelude.{slice_index}
 use Rattle.std.specs.List.{filter_map, range_with_len, list_all, slice_index_or}
 use Rattle.fdr_frame.specs.Slots.{subframe_of, word_of}
 use Rattle.fdr_table.specs.Rows.{FrameRow, ParamRow, TableRows}
@@ -25,8 +26,8 @@ abbrev pub counter_in : FrameRow → List ℕ → ℕ
 counter_in f words = slice_index words (counter_place f)
 
 -- a frame's place in the superframe
-abbrev pub cycle_in : FrameRow → List ℕ → ℕ
-cycle_in f words = counter_in f words % 16
+abbrev pub cycle_of_frame : FrameRow → List ℕ → ℕ
+cycle_of_frame f words = counter_in f words % 16
 
 -- Of two frames in a row the later is linked to the earlier: it begins where that ends, and its counter is one more.
 unfoldable pub are_linked : FrameRow → ReadFrame → ReadFrame → Bool
@@ -47,11 +48,26 @@ bits_of w frames i cycle p =
     slice_index (frame_at frames (i - (cycle - cycle_of w p.at))).words (p.at / 12 % (4 * w)) / 2 ^ (p.at % 12) % 2 ^ p.width
 
 -- the raw value: each part's bits at their place in it
-unfoldable pub raw_of : ℕ → List ReadFrame → ℕ → ℕ → List Part → ℕ
-raw_of w frames i cycle parts = sum_by (λ p. bits_of w frames i cycle p * 2 ^ p.shift) parts
+unfoldable pub raw_of_parts : ℕ → List ReadFrame → ℕ → ℕ → List Part → ℕ
+raw_of_parts w frames i cycle parts = sum_by (λ p. bits_of w frames i cycle p * 2 ^ p.shift) parts
 
 abbrev pub no_param : ParamRow
-no_param = record { name = []; bus = 0; label = 0; sdi = None; lsb = 0; width = 0; signed = false; num = pos 0; den = pos 1; offset = pos 0; decimals = 0; rate = 0; row = 0 }
+no_param = record {
+  name = [];
+  bus = 0;
+  label = 0;
+  sdi = None;
+  lsb = 0;
+  width = 0;
+  signed = false;
+  num = pos 0;
+  den = pos 1;
+  offset = pos 0;
+  decimals =
+      0;
+  rate = 0;
+  row = 0;
+}
 
 -- the parameter with this index
 unfoldable pub param_at : List ParamRow → ℕ → ParamRow
@@ -73,12 +89,13 @@ row_of t frames i s =
     let w = t.frame.words in
     let d = reach w s.parts in
     if are_joined t.frame frames i d
-    then Some (row_with t s (counter_in t.frame (frame_at frames (i - d)).words) (raw_of w frames i (cycle_in t.frame (frame_at frames i).words) s.parts))
+    then Some (row_with t s (counter_in t.frame (frame_at frames (i - d)).words)
+    (raw_of_parts w frames i (cycle_of_frame t.frame (frame_at frames i).words) s.parts))
     else None
 
 -- for each sample that ends in the cycle of frame i, in the order of last parts, its row where it is listed
 unfoldable pub rows_looked_at : TableRows → List ReadFrame → ℕ → List (Option Row)
-rows_looked_at t frames i = map (row_of t frames i) (ending_in t (cycle_in t.frame (frame_at frames i).words))
+rows_looked_at t frames i = map (row_of t frames i) (ending_in t (cycle_of_frame t.frame (frame_at frames i).words))
 
 -- the rows of frame i
 unfoldable pub rows_of_frame : TableRows → List ReadFrame → ℕ → List Row

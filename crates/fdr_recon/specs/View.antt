@@ -1,6 +1,6 @@
 -- What a value of the program keeps.
 use Rattle.fdr_recon.specs.declared.past.Rebuild.TheInside.{Inside}
-use Rattle.fdr_recon.specs.Kept.{Kept}
+use Rattle.fdr_recon.specs.Kept.{RebuildKept}
 
-abbrev pub kept_of : Inside → Kept
-kept_of r = record { frame = r.frame; params = r.params.items; samples = r.layout.cycles; words = r.words.items; joined = r.joined }
+abbrev pub rebuild_kept : Inside → RebuildKept
+rebuild_kept r = record { frame = r.frame; params = r.params.items; samples = r.layout.cycles; words = r.words.items; joined = r.joined }

@@ -6,7 +6,7 @@ ghost use Rattle.fdr_table.specs.Rows.{TableRows};
 ghost use Rattle.fdr_layout.specs.SlotParts.{laid_of};
 ghost use Rattle.fdr_recon.specs.Rows.{ReadFrame, counter_place, rows_looked_at};
 ghost use Rattle.fdr_recon.specs.Kept.{kept_word, kept_counter, kept_cycle, kept_bits, kept_raw, kept_value, kept_row, kept_samples, is_next, IsRow, IsSampleOf};
-ghost use Rattle.fdr_recon.specs.Past.{Stands, read_frame};
+ghost use Rattle.fdr_recon.specs.Past.{RepresentsRebuild, read_frame};
 
 use crate::Row;
 use circular_buffer::HeapCircularBuffer;
@@ -17,7 +17,7 @@ use std::alloc::Global;
 use std::marker::Model;
 
 /// The most frames before the last that a sample may reach back to: a superframe has 16 frames.
-const MOST_JOINED: u8 = 15;
+const MAX_JOINED: u8 = 15;
 
 /// Makes the rows of frames that are read one after another. It keeps the last sixteen frames.
 #[derive(Drop)]
@@ -30,15 +30,15 @@ pub struct Rebuild {
 }
 
 impl Model for Rebuild {
-    ghost use Rattle.fdr_recon.specs.Kept.{Kept, IsKept};
+    ghost use Rattle.fdr_recon.specs.Kept.{RebuildKept, IsRebuildKept};
 
-    ghost Value = { Kept };
+    ghost Value = { RebuildKept };
 
-    ghost use Rattle.fdr_recon.specs.View.{kept_of};
+    ghost use Rattle.fdr_recon.specs.View.{rebuild_kept};
 
-    ghost view = { kept_of };
+    ghost view = { rebuild_kept };
 
-    ghost invariant = { λ r. IsKept (kept_of r) r.words.capacity };
+    ghost invariant = { λ r. IsRebuildKept (rebuild_kept r) r.words.capacity };
 }
 
 impl Rebuild {
@@ -46,7 +46,7 @@ impl Rebuild {
     /// memory ends.
     pub fn new(alloc: Global, layout: Layout, sound: &Sound) -> Result<Rebuild, NoMemory>
         requires { layout ≡ laid_of sound.now }
-        ensures { IfOk result (λ r. Stands r sound.now []) }
+        ensures { IfOk result (λ r. RepresentsRebuild r sound.now []) }
     {
         sound.holds();
         let table = sound.table();
@@ -57,14 +57,14 @@ impl Rebuild {
     /// is the first of a bit list. Takes no memory.
     pub fn frame(&mut self, adjacent: bool, words: &[u16])
         requires whole { length words.now ≡ 4 * self.old.frame.words }
-        requires small { All (λ word. word < 4096) words.now }
-        ensures stands { (t : TableRows) (past : List ReadFrame) → Stands self.old t past
-            → Stands self.new t (past ++ read_frame adjacent words.now ∷ []) }
+        requires twelve_bits { All (λ word. word < 4096) words.now }
+        ensures stands { (t : TableRows) (past : List ReadFrame) → RepresentsRebuild self.old t past
+            → RepresentsRebuild self.new t (past ++ read_frame adjacent words.now ∷ []) }
         ensures frame { self.new.frame ≡ self.old.frame }
         ensures params { self.new.params ≡ self.old.params }
     {
         self.joined = if self.is_linked(adjacent, words) {
-            (self.joined + 1).min(MOST_JOINED)
+            (self.joined + 1).min(MAX_JOINED)
         } else {
             0
         };
@@ -74,8 +74,8 @@ impl Rebuild {
     /// How many samples end in the last frame's cycle; 0 before the first frame. Takes no memory.
     pub fn rows(&self) -> u32
         ensures samples { result ≡ length (kept_samples self.now) }
-        ensures before { (t : TableRows) → Stands self.now t [] → result ≡ 0 }
-        ensures rows { (t : TableRows) (past : List ReadFrame) → Stands self.now t past → 0 < length past
+        ensures before { (t : TableRows) → RepresentsRebuild self.now t [] → result ≡ 0 }
+        ensures rows { (t : TableRows) (past : List ReadFrame) → RepresentsRebuild self.now t past → 0 < length past
             → result ≡ length (rows_looked_at t past (length past - 1)) }
     {
         self.samples().len() as u32
@@ -85,7 +85,7 @@ impl Rebuild {
     /// frames back to the sample's earliest part are not joined. Takes no memory.
     pub fn row(&self, i: u32) -> Option<Row>
         requires { i < length (kept_samples self.now) }
-        ensures row { (t : TableRows) (past : List ReadFrame) → Stands self.now t past
+        ensures row { (t : TableRows) (past : List ReadFrame) → RepresentsRebuild self.now t past
             → slice_get (rows_looked_at t past (length past - 1)) i ≡ Some result }
         ensures range { IfSome result (IsRow (length self.now.params)) }
     {
@@ -107,7 +107,7 @@ impl Rebuild {
     /// The samples that end in the last frame's cycle, none before the first frame.
     fn samples(&self) -> &[Sample]
         ensures samples { result.now ≡ kept_samples self.now }
-        ensures few { length result.now < 2 ^ 32 }
+        ensures countable { length result.now < 2 ^ 32 }
         ensures params { All (IsSampleOf self.now.params) result.now }
         ensures frame { 0 < self.now.frame.words }
     {
@@ -153,9 +153,9 @@ impl Rebuild {
     #[tactic(auto, unfolding(crate::specs::Kept::kept_raw))]
     fn raw(&self, cycle: u8, parts: &[Part]) -> u64
         requires cycle { cycle < 16 }
-        requires few { length parts.now ≤ 4 }
+        requires four_parts { length parts.now ≤ 4 }
         ensures raw { result ≡ kept_raw self.now cycle parts.now }
-        ensures small { result ≤ 2 ^ 50 }
+        ensures fifty_bits { result ≤ 2 ^ 50 }
     {
         let mut raw = 0;
         for part in parts {
@@ -168,7 +168,7 @@ impl Rebuild {
     fn shifted_bits(&self, cycle: u8, part: &Part) -> u64
         requires { cycle < 16 }
         ensures bits { result ≡ kept_bits self.now cycle part.now * 2 ^ part.now.shift }
-        ensures small { result < 2 ^ 48 }
+        ensures four_words { result < 2 ^ 48 }
     {
         let frame_len = 4 * frame_words(self.frame);
         let back = u32::from(cycle).saturating_sub(part.at / (12 * frame_len));
@@ -204,7 +204,7 @@ impl Rebuild {
     fn word(&self, back: u32, place: u32) -> u16
         requires { back < 16 }
         ensures word { result ≡ kept_word self.now back place }
-        ensures small { result < 4096 }
+        ensures twelve_bits { result < 4096 }
     {
         let len = 4 * frame_words(self.frame);
         if place >= len {
@@ -217,7 +217,7 @@ impl Rebuild {
     fn counter(&self, back: u32) -> u16
         requires { back < 16 }
         ensures counter { result ≡ kept_counter self.now back }
-        ensures small { result < 4096 }
+        ensures twelve_bits { result < 4096 }
     {
         self.word(back, counter_place(self.frame))
     }
@@ -225,7 +225,7 @@ impl Rebuild {
     /// The last frame's cycle.
     fn cycle(&self) -> u8
         ensures cycle { result ≡ kept_cycle self.now }
-        ensures few { result < 16 }
+        ensures within_superframe { result < 16 }
     {
         (self.counter(0) % 16) as u8
     }
@@ -247,8 +247,8 @@ fn copies_of(alloc: Global, params: &[Param]) -> Result<Vec<Param>, NoMemory>
 /// How many words a subframe has.
 fn frame_words(frame: Frame) -> u32
     ensures words { result ≡ frame.words }
-    ensures some { 0 < result }
-    ensures few { result ≤ 1024 }
+    ensures some_words { 0 < result }
+    ensures word_limit { result ≤ 1024 }
 {
     frame.words
 }
@@ -256,7 +256,7 @@ fn frame_words(frame: Frame) -> u32
 /// Where the counter's word stands among the words of a frame.
 fn counter_place(frame: Frame) -> u32
     ensures place { result ≡ counter_place frame }
-    ensures small { result < 4096 }
+    ensures twelve_bits { result < 4096 }
 {
     frame_words(frame) * (u32::from(frame.csub) - 1) + (frame.cword - 1)
 }

@@ -4,7 +4,7 @@ use Rattle.std.specs.Prelude.{IsTrue}
 use Rattle.fdr_deck.specs.State.{State, Tells}
 use Rattle.fdr_deck.specs.Disk.{IsSettled}
 use Rattle.fdr_deck.specs.Pull.{KeepsLine}
-use Rattle.fdr_deck.specs.Moments.{IsNow, Elapses, EachMoment, IsSound}
+use Rattle.fdr_deck.specs.Moments.{IsNow, Elapses, EachMoment, IsSoundDeck}
 use Rattle.fdr_deck.specs.Calls.{IsQuiet, Succeeds, Announces, LeavesDisk}
 use Rattle.fdr_deck.proofs.Moments.{EachMoment-then, Elapses-then}
 use Rattle.fdr_slot.specs.declared.image.Header.{Header}
@@ -33,7 +33,7 @@ IsSureRing-told tells h number old new leaves sure = record {
   stops = λ stops image left. sure.stops stops image (leaves.disk.no_more image left);
 }
 
-module _ (tells : Tells) (h : Header) (next size : ℕ) (d0 d1 : State) (sound : IsSound tells d0) (ring : IsRing tells h next d0)
+module _ (tells : Tells) (h : Header) (next size : ℕ) (d0 d1 : State) (sound : IsSoundDeck tells d0) (ring : IsRing tells h next d0)
     (extent : d1.extent ≡ d0.extent)
     (quiet : IsQuiet tells (OfSettled d0 (IsPreparing h next size)) d0 d1)
   where

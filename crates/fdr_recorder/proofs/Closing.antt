@@ -3,23 +3,23 @@ use Rattle.std.proofs.Common.{◌≡◌, ℕ, ◌+◌, ◌-◌, ◌^◌, ◌<◌
 use Rattle.fdr_deck.specs.State.{State, Tells}
 use Rattle.fdr_slot.specs.declared.image.Header.{Header}
 use Rattle.fdr_recover.specs.Blocks.{Block}
-use Rattle.fdr_stream.specs.Blocks.{block_at, blocks_of}
+use Rattle.fdr_stream.specs.Blocks.{cut_block, blocks_of}
 use Rattle.fdr_recorder.specs.Recording.{HasRecorded, HasEnded}
-use Rattle.fdr_recorder.specs.Past.{Past, bytes_of, due, blocks_from, rest_of}
+use Rattle.fdr_recorder.specs.Past.{SessionPast, session_bytes, due, blocks_from, rest_of}
 use Rattle.fdr_recorder.proofs.Composing.{HasRecorded-here}
 
-pub rest-none : (past : Past) (n : ℕ) → length (blocks_of past.header.payload (bytes_of past)) ≡ due past + min n 1 → n ≡ 0 → rest_of past ≡ []
+pub rest-none : (past : SessionPast) (n : ℕ) → length (blocks_of past.header.payload (session_bytes past)) ≡ due past + min n 1 → n ≡ 0 → rest_of past ≡ []
 rest-none past n count none =
-    let zero : length (blocks_of past.header.payload (bytes_of past)) - due past ≡ 0 = omega (arith, count, none) in
+    let zero : length (blocks_of past.header.payload (session_bytes past)) - due past ≡ 0 = omega (arith, count, none) in
     ap (λ m. blocks_from past (due past) m) zero
 
-pub rest-one : (past : Past) (n next : ℕ) (bytes : List ℕ) → length (blocks_of past.header.payload (bytes_of past)) ≡ due past + min n 1 → 0 < n
+pub rest-one : (past : SessionPast) (n next : ℕ) (bytes : List ℕ) → length (blocks_of past.header.payload (session_bytes past)) ≡ due past + min n 1 → 0 < n
     → next ≡ past.first + due past
-    → bytes ≡ block_at past.header.payload (bytes_of past) (due past) → rest_of past ≡ record { number = next; payload = bytes } ∷ []
+    → bytes ≡ cut_block past.header.payload (session_bytes past) (due past) → rest_of past ≡ record { number = next; payload = bytes } ∷ []
 rest-one past n next bytes count some at is =
-    let one : length (blocks_of past.header.payload (bytes_of past)) - due past ≡ 1 = omega (arith, count, some) in
+    let one : length (blocks_of past.header.payload (session_bytes past)) - due past ≡ 1 = omega (arith, count, some) in
     ap (λ m. blocks_from past (due past) m) one
-    ∙ ap (λ (k : ℕ). record { number = k; payload = block_at past.header.payload (bytes_of past) (due past) } ∷ []) (sym at)
+    ∙ ap (λ (k : ℕ). record { number = k; payload = cut_block past.header.payload (session_bytes past) (due past) } ∷ []) (sym at)
     ∙ ap (λ (l : List ℕ). record { number = next; payload = l } ∷ []) (sym is)
 
 -- there was no number for it

@@ -2,7 +2,7 @@
 use Rattle.std.proofs.Common.{◌≡◌, ℕ, ◌+◌, ◌-◌, List, [], ◌++◌, length, refl, sym, ◌∙◌, ap, subst, arith, length-append, append_assoc}
 use Rattle.std.specs.Prelude.{IsTrue}
 use Rattle.fdr_deck.specs.State.{State, Tells}
-use Rattle.fdr_deck.specs.Moments.{IsSound}
+use Rattle.fdr_deck.specs.Moments.{IsSoundDeck}
 use Rattle.fdr_deck.proofs.Moments.{EachMoment-then, Elapses-here, Elapses-then}
 use Rattle.fdr_slot.specs.declared.image.Header.{Header}
 use Rattle.fdr_recover.specs.Blocks.{Block}
@@ -11,7 +11,8 @@ use Rattle.fdr_ring.specs.Runs.{last_blocks}
 use Rattle.fdr_ring.specs.Rings.{IsRing, IsSureRing}
 use Rattle.fdr_recorder.specs.Keeping.{Keeps}
 use Rattle.fdr_recorder.specs.Recording.{IsReady, IsNear, IsRecording, IsClose, Records, HasRecorded}
-use Rattle.fdr_recorder.proofs.Steps.{keeps_run, same_run, keeps_none, keeps_on, keeps_more, all_on, nil_behind}
+use Rattle.fdr_recorder.proofs.Steps.{keeps_run, same_run, keeps_none, keeps_on, keeps_more, all_on}
+use Rattle.std.proofs.lemmas.List.{append-nil}
 
 -- nothing was done
 pub HasRecorded-here : (tells : Tells) (h : Header) (next : ℕ) (d : State) → HasRecorded tells h next [] d d
@@ -21,7 +22,7 @@ HasRecorded-here tells h next d =
       fact = λ is. subst (λ (n : ℕ). IsRing tells h n d) none is;
       sure = λ is. subst (λ (n : ℕ). IsSureRing tells h n d) none is;
       keeps = λ told. keeps_none h d.held;
-      last = λ told whole is. is ∙ ap (λ (l : List Block). last_blocks (h.slots - 1) l) (sym (nil_behind whole));
+      last = λ told whole is. is ∙ ap (λ (l : List Block). last_blocks (h.slots - 1) l) (sym (append-nil whole));
       settled = λ told is. is;
       told = λ is. is ∙ none;
       greatest = λ le. omega (arith, le);
@@ -30,7 +31,7 @@ HasRecorded-here tells h next d =
       disk_faults = refl;
     }
 
-pub Records-here : (tells : Tells) (h : Header) (next : ℕ) (new : List Block) (d : State) → IsSound tells d → IsRing tells h next d
+pub Records-here : (tells : Tells) (h : Header) (next : ℕ) (new : List Block) (d : State) → IsSoundDeck tells d → IsRing tells h next d
     → Records tells h next new d d
 Records-here tells h next new d sound ring = record {
   time = Elapses-here tells d sound;
@@ -77,7 +78,7 @@ module _ (tells : Tells) (h : Header) (next : ℕ) (new more : List Block) (d0 d
   ready_on : IsTrue tells.stops → IsReady next d0 → IsReady (next + length new) d1
   ready_on stops ready = record { settled = has.settled stops ready.settled; greatest = has.greatest ready.greatest }
 
-  pub Records-then : IsSound tells d0 → Records tells h next new d0 d1 → Records tells h (next + length new) more d1 d2
+  pub Records-then : IsSoundDeck tells d0 → Records tells h next new d0 d1 → Records tells h (next + length new) more d1 d2
       → Records tells h next (new ++ more) d0 d2
   Records-then sound first second = record {
     time = Elapses-then tells d0 d1 d2 first.time second.time;

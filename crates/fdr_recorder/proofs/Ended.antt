@@ -1,8 +1,8 @@
 -- Why a call of the ring was refused, by why the session's call was.
 use Rattle.std.proofs.Common.{◌≡◌, ◌⊎◌, ⊎_elim, Result, Err, ap, sym, ◌∙◌}
 use Rattle.fdr_ring.specs.declared.ring.Ring.{Ring}
-use Rattle.fdr_ring.specs.declared.error.RingFault.{RingFault}
-use Rattle.fdr_ring.specs.declared.error.RingFault.TheVariants as ring
+use Rattle.fdr_recover.specs.declared.error.RingFault.{RingFault}
+use Rattle.fdr_recover.specs.declared.error.RingFault.TheVariants as ring
 use Rattle.fdr_recorder.specs.declared.error.SessionFault.{SessionFault}
 use Rattle.fdr_recorder.specs.declared.error.SessionFault.TheVariants as fault
 use Rattle.fdr_recorder.specs.Faults.{session_fault}

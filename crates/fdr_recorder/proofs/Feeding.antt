@@ -8,45 +8,45 @@ use Rattle.std.proofs.Math.Nat.{div-le_self}
 use Rattle.fdr_bus.specs.declared.BusRecord.{BusRecord}
 use Rattle.fdr_bus.specs.Records.{last_time, time_of}
 use Rattle.fdr_deck.specs.State.{State, Tells}
-use Rattle.fdr_deck.specs.Moments.{IsSound}
+use Rattle.fdr_deck.specs.Moments.{IsSoundDeck}
 use Rattle.fdr_slot.specs.declared.image.Header.{Header}
 use Rattle.fdr_recover.specs.Blocks.{Block}
 use Rattle.fdr_sampler.specs.SlotWord.{slot_word}
 use Rattle.fdr_sampler.specs.Stream.{slot_count, stream_words}
-use Rattle.fdr_stream.specs.Blocks.{block_at}
-use Rattle.fdr_stream.specs.Kept.{Kept}
-use Rattle.fdr_stream.specs.Past.{MayFeed as MayStream, Stands as StandsFor, with_block as with_stream_block, with_record as with_stream_record}
-use Rattle.fdr_stream.proofs.Standing.{time_of-push}
+use Rattle.fdr_stream.specs.Blocks.{cut_block}
+use Rattle.fdr_stream.specs.Kept.{StreamKept}
+use Rattle.fdr_stream.specs.Past.{MayFeedStream, RepresentsStream, with_block as with_stream_block, stream_with_record}
 use Rattle.fdr_ring.specs.Rings.{IsRing}
 use Rattle.fdr_recorder.specs.Recording.{Records, HasRecorded, HasEnded}
-use Rattle.fdr_recorder.specs.Past.{Past, MayFeed, with_record, bytes_of, due, numbered_block, blocks_from, due_at, stream_past}
+use Rattle.fdr_recorder.specs.Past.{SessionPast, MayFeedSession, session_with_record, session_bytes, due, numbered_block, blocks_from, due_at, stream_past}
 use Rattle.fdr_recorder.proofs.Composing.{HasRecorded-here, HasRecorded-then, Records-here, Records-more, Records-then}
+use Rattle.fdr_bus.proofs.TraceLemmas.{time_of-push}
 
 -- the blocks that were recorded of those due at a record
-abbrev pub so_far : Past → BusRecord → ℕ → List Block
-so_far past r blocks = blocks_from (with_record past r) (due past) (blocks - due past)
+abbrev pub so_far : SessionPast → BusRecord → ℕ → List Block
+so_far past r blocks = blocks_from (session_with_record past r) (due past) (blocks - due past)
 
 -- after i turns
-pub record IsFeeding (tells : Tells) (h : Header) (first : ℕ) (past : Past) (r : BusRecord) (k : Kept) (at i : ℕ) (old now : State)
+pub record IsFeeding (tells : Tells) (h : Header) (first : ℕ) (past : SessionPast) (r : BusRecord) (k : StreamKept) (at i : ℕ) (old now : State)
     (begun : Option BusRecord) (blocks : ℕ) : Type 0 where
-  pub stands : StandsFor k (record { table = past.table; payload = past.header.payload; records = past.records; begun = begun; blocks = blocks })
+  pub stands : RepresentsStream k (record { table = past.table; payload = past.header.payload; records = past.records; begun = begun; blocks = blocks })
   pub same : (begun ≡ None) ⊎ (begun ≡ Some r)
   pub rises : i ≤ blocks
   pub since : due past ≤ blocks
-  pub within : (i ≡ 0) ⊎ (blocks ≤ due (with_record past r))
+  pub within : (i ≡ 0) ⊎ (blocks ≤ due (session_with_record past r))
   pub number : at ≡ first + (blocks - due past)
   pub records : Records tells h first (so_far past r blocks) old now
   pub recorded : HasRecorded tells h first (so_far past r blocks) old now
 
-pub MayStream-giving : (past : Past) (r : BusRecord) (begun : Option BusRecord) (blocks : ℕ) → MayFeed past r → (begun ≡ None) ⊎ (begun ≡ Some r)
-    → MayStream (record { table = past.table; payload = past.header.payload; records = past.records; begun = begun; blocks = blocks }) r
+pub MayStream-giving : (past : SessionPast) (r : BusRecord) (begun : Option BusRecord) (blocks : ℕ) → MayFeedSession past r → (begun ≡ None) ⊎ (begun ≡ Some r)
+    → MayFeedStream (record { table = past.table; payload = past.header.payload; records = past.records; begun = begun; blocks = blocks }) r
 MayStream-giving past r begun blocks may same = record { order = may.order; in_time = may.in_time; unended = may.unended; same = same }
 
-none_from : (past : Past) (r : BusRecord) (n : ℕ) → n ≡ 0 → blocks_from (with_record past r) (due past) n ≡ []
-none_from past r n none = ap (λ m. blocks_from (with_record past r) (due past) m) none
+none_from : (past : SessionPast) (r : BusRecord) (n : ℕ) → n ≡ 0 → blocks_from (session_with_record past r) (due past) n ≡ []
+none_from past r n none = ap (λ m. blocks_from (session_with_record past r) (due past) m) none
 
-pub IsFeeding-first : (tells : Tells) (h : Header) (first : ℕ) (past : Past) (r : BusRecord) (k : Kept) (d : State) → IsSound tells d
-    → IsRing tells h first d → StandsFor k (stream_past past)
+pub IsFeeding-first : (tells : Tells) (h : Header) (first : ℕ) (past : SessionPast) (r : BusRecord) (k : StreamKept) (d : State) → IsSoundDeck tells d
+    → IsRing tells h first d → RepresentsStream k (stream_past past)
     → IsFeeding tells h first past r k first 0 d d None (due past)
 IsFeeding-first tells h first past r k d sound ring stands =
     let none : due past - due past ≡ 0 = omega arith in
@@ -63,25 +63,26 @@ IsFeeding-first tells h first past r k d sound ring stands =
     }
 
 -- one block more
-pub so_far-more : (past : Past) (r : BusRecord) (blocks : ℕ) → due past ≤ blocks
-    → so_far past r (blocks + 1) ≡ so_far past r blocks ++ numbered_block (with_record past r) blocks ∷ []
+pub so_far-more : (past : SessionPast) (r : BusRecord) (blocks : ℕ) → due past ≤ blocks
+    → so_far past r (blocks + 1) ≡ so_far past r blocks ++ numbered_block (session_with_record past r) blocks ∷ []
 so_far-more past r blocks since =
     let more : blocks + 1 - due past ≡ blocks - due past + 1 = omega (arith, since) in
     let at : due past + (blocks - due past) ≡ blocks = omega (arith, since) in
-    ap (λ n. blocks_from (with_record past r) (due past) n) more
-    ∙ map-range_with_len_more (numbered_block (with_record past r)) (due past) (blocks - due past) blocks at
+    ap (λ n. blocks_from (session_with_record past r) (due past) n) more
+    ∙ map-range_with_len_more (numbered_block (session_with_record past r)) (due past) (blocks - due past) blocks at
 
-so_far-long : (past : Past) (r : BusRecord) (blocks : ℕ) → length (so_far past r blocks) ≡ blocks - due past
-so_far-long past r blocks = length-map-range_with_len (numbered_block (with_record past r)) (due past) (blocks - due past)
+so_far-long : (past : SessionPast) (r : BusRecord) (blocks : ℕ) → length (so_far past r blocks) ≡ blocks - due past
+so_far-long past r blocks = length-map-range_with_len (numbered_block (session_with_record past r)) (due past) (blocks - due past)
 
-pub so_far-front : (past : Past) (r : BusRecord) (blocks : ℕ) → blocks ≤ due (with_record past r)
+pub so_far-front : (past : SessionPast) (r : BusRecord) (blocks : ℕ) → blocks ≤ due (session_with_record past r)
     → take (blocks - due past) (due_at past r) ≡ so_far past r blocks
 so_far-front past r blocks within =
-    take-map-range_with_len (numbered_block (with_record past r)) (due past) (due (with_record past r) - due past) (blocks - due past) (omega (arith, within))
+    take-map-range_with_len (numbered_block (session_with_record past r)) (due past) (due (session_with_record past r) - due past) (blocks - due past)
+    (omega (arith, within))
 
 -- what is recorded so far is a front part of all that is due
-pub Records-due : (tells : Tells) (h : Header) (first : ℕ) (past : Past) (r : BusRecord) (blocks : ℕ) (old now : State)
-    → blocks ≤ due (with_record past r) → Records tells h first (so_far past r blocks) old now
+pub Records-due : (tells : Tells) (h : Header) (first : ℕ) (past : SessionPast) (r : BusRecord) (blocks : ℕ) (old now : State)
+    → blocks ≤ due (session_with_record past r) → Records tells h first (so_far past r blocks) old now
     → Records tells h first (due_at past r) old now
 Records-due tells h first past r blocks old now within is =
     let all : so_far past r blocks ++ drop (blocks - due past) (due_at past r) ≡ due_at past r =
@@ -90,10 +91,10 @@ Records-due tells h first past r blocks old now within is =
     subst (λ (l : List Block). Records tells h first l old now) all
     (Records-more tells h first (so_far past r blocks) (drop (blocks - due past) (due_at past r)) old now is)
 
-module _ (tells : Tells) (h : Header) (first : ℕ) (past : Past) (r : BusRecord) (k : Kept) (at i : ℕ) (old mid now : State)
+module _ (tells : Tells) (h : Header) (first : ℕ) (past : SessionPast) (r : BusRecord) (k : StreamKept) (at i : ℕ) (old mid now : State)
     (begun : Option BusRecord) (blocks : ℕ)
-    (sound : IsSound tells old) (begins : first ≡ past.first + due past) (was : IsFeeding tells h first past r k at i old mid begun blocks) (b : Block)
-    (is : b ≡ numbered_block (with_record past r) blocks)
+    (sound : IsSoundDeck tells old) (begins : first ≡ past.first + due past) (was : IsFeeding tells h first past r k at i old mid begun blocks) (b : Block)
+    (is : b ≡ numbered_block (session_with_record past r) blocks)
   where
     step_at : at ≡ first + length (so_far past r blocks)
     step_at = was.number ∙ ap (λ n. first + n) (sym (so_far-long past r blocks))
@@ -111,10 +112,10 @@ module _ (tells : Tells) (h : Header) (first : ℕ) (past : Past) (r : BusRecord
         (HasRecorded-then tells h first (so_far past r blocks) (b ∷ []) old mid now was.recorded (subst (λ n. HasRecorded tells h n
         (b ∷ []) mid now) step_at more))
 
-    pub IsFeeding-step : (k' : Kept) (at' : ℕ)
-        → StandsFor k' (with_stream_block
+    pub IsFeeding-step : (k' : StreamKept) (at' : ℕ)
+        → RepresentsStream k' (with_stream_block
         (record { table = past.table; payload = past.header.payload; records = past.records; begun = begun; blocks = blocks }) r)
-        → at' ≡ at + 1 → blocks < due (with_record past r) → Records tells h at (b ∷ []) mid now → HasRecorded tells h at (b ∷ []) mid now
+        → at' ≡ at + 1 → blocks < due (session_with_record past r) → Records tells h at (b ∷ []) mid now → HasRecorded tells h at (b ∷ []) mid now
         → IsFeeding tells h first past r k' at' (i + 1) old now (Some r) (blocks + 1)
     IsFeeding-step k' at' stands up due_more records recorded = record {
       stands = stands;
@@ -128,43 +129,45 @@ module _ (tells : Tells) (h : Header) (first : ℕ) (past : Past) (r : BusRecord
     }
 
 -- the block that is given next, with the ring's number
-pub block_is : (past : Past) (r : BusRecord) (first at blocks : ℕ) (bytes : List ℕ) → first ≡ past.first + due past
+pub block_is : (past : SessionPast) (r : BusRecord) (first at blocks : ℕ) (bytes : List ℕ) → first ≡ past.first + due past
     → at ≡ first + (blocks - due past) → due past ≤ blocks
-    → bytes ≡ block_at past.header.payload (bytes_of (with_record past r)) blocks
-    → ◌≡◌ {A = Block} (record { number = at; payload = bytes }) (numbered_block (with_record past r) blocks)
+    → bytes ≡ cut_block past.header.payload (session_bytes (session_with_record past r)) blocks
+    → ◌≡◌ {A = Block} (record { number = at; payload = bytes }) (numbered_block (session_with_record past r) blocks)
 block_is past r first at blocks bytes begins number since is =
     let same : at ≡ past.first + blocks = omega (arith, begins, number, since) in
     ap (λ (n : ℕ). record { number = n; payload = bytes }) same ∙ ap (λ (l : List ℕ). record { number = past.first + blocks; payload = l }) is
 
 -- a recording has fewer blocks
-pub due-few : (past : Past) (r : BusRecord) → past.table.frame.words ≤ 1024 → r.time ≤ last_time → due (with_record past r) < 3000000000
+pub due-few : (past : SessionPast) (r : BusRecord) → past.table.frame.words ≤ 1024 → r.time ≤ last_time → due (session_with_record past r) < 3000000000
 due-few past r words in_time =
     let t = past.table in
     let more = past.records ++ r ∷ [] in
     let count : length (stream_words t more) ≡ slot_count t.frame.words r.time =
     length-map-range_with_len (slot_word t more) 0 (slot_count t.frame.words (time_of more)) ∙ ap (slot_count t.frame.words) (time_of-push past.records r) in
     let most : r.time * t.frame.words ≤ 1440000000000 * 1024 = mul-le r.time t.frame.words 1440000000000 1024 in_time words in
-    let less : due (with_record past r) ≤ 3 * length (stream_words t more) / 2 = div-le_self (3 * length (stream_words t more) / 2) past.header.payload in
+    let less : due (session_with_record past r) ≤ 3 * length (stream_words t more) / 2 =
+    div-le_self (3 * length (stream_words t more) / 2) past.header.payload in
     omega (arith, count, most, less)
 
 -- all blocks that are due were recorded, and the record is taken
-module _ (tells : Tells) (h : Header) (first : ℕ) (past : Past) (r : BusRecord) (k : Kept) (at i : ℕ) (old now : State) (begun : Option BusRecord) (blocks : ℕ)
-    (was : IsFeeding tells h first past r k at i old now begun blocks) (k' : Kept)
-    (taken : StandsFor k' (with_stream_record
+module _ (tells : Tells) (h : Header) (first : ℕ) (past : SessionPast) (r : BusRecord) (k : StreamKept) (at i : ℕ) (old now : State) (begun : Option BusRecord)
+    (blocks : ℕ)
+    (was : IsFeeding tells h first past r k at i old now begun blocks) (k' : StreamKept)
+    (taken : RepresentsStream k' (stream_with_record
     (record { table = past.table; payload = past.header.payload; records = past.records; begun = begun; blocks = blocks }) r))
   where
-    all_blocks : blocks ≡ due (with_record past r)
+    all_blocks : blocks ≡ due (session_with_record past r)
     all_blocks = taken.blocks refl
 
-    pub stream-taken : StandsFor k' (stream_past (with_record past r))
-    stream-taken = subst (λ n. StandsFor k'
+    pub stream-taken : RepresentsStream k' (stream_past (session_with_record past r))
+    stream-taken = subst (λ n. RepresentsStream k'
         (record { table = past.table; payload = past.header.payload; records = past.records ++ r ∷ []; begun = None; blocks = n })) all_blocks taken
 
-    pub number-taken : first ≡ past.first + due past → at ≡ past.first + due (with_record past r)
+    pub number-taken : first ≡ past.first + due past → at ≡ past.first + due (session_with_record past r)
     number-taken begins = omega (arith, begins, was.number, was.since, all_blocks)
 
     pub next-taken : at ≡ first + length (due_at past r)
-    next-taken = was.number ∙ ap (λ n. first + (n - due past)) all_blocks ∙ ap (λ n. first + n) (sym (so_far-long past r (due (with_record past r))))
+    next-taken = was.number ∙ ap (λ n. first + (n - due past)) all_blocks ∙ ap (λ n. first + n) (sym (so_far-long past r (due (session_with_record past r))))
 
     pub Records-taken : Records tells h first (due_at past r) old now
     Records-taken = subst (λ n. Records tells h first (so_far past r n) old now) all_blocks was.records
@@ -173,15 +176,15 @@ module _ (tells : Tells) (h : Header) (first : ℕ) (past : Past) (r : BusRecord
     HasRecorded-taken = subst (λ n. HasRecorded tells h first (so_far past r n) old now) all_blocks was.recorded
 
 -- there was no number for the next block
-pub HasEnded-due : (tells : Tells) (h : Header) (first : ℕ) (past : Past) (r : BusRecord) (k : Kept) (at i : ℕ) (old now : State)
+pub HasEnded-due : (tells : Tells) (h : Header) (first : ℕ) (past : SessionPast) (r : BusRecord) (k : StreamKept) (at i : ℕ) (old now : State)
     (begun : Option BusRecord) (blocks : ℕ)
-    → IsFeeding tells h first past r k at i old now begun blocks → at ≡ 2 ^ 48 → blocks < due (with_record past r)
+    → IsFeeding tells h first past r k at i old now begun blocks → at ≡ 2 ^ 48 → blocks < due (session_with_record past r)
     → HasEnded tells h first (due_at past r) old now
 HasEnded-due tells h first past r k at i old now begun blocks was ends more =
     let count : 2 ^ 48 - first ≡ blocks - due past = omega (arith, ends, was.number) in
     let front : so_far past r blocks ≡ take (2 ^ 48 - first) (due_at past r) =
     sym (so_far-front past r blocks (omega (arith, more))) ∙ ap (λ n. take n (due_at past r)) (sym count) in
     record {
-      beyond = omega (arith, ends, was.number, more, was.since, so_far-long past r (due (with_record past r)));
+      beyond = omega (arith, ends, was.number, more, was.since, so_far-long past r (due (session_with_record past r)));
       recorded = subst (λ (l : List Block). HasRecorded tells h first l old now) front was.recorded;
     }

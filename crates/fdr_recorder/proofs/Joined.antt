@@ -1,7 +1,7 @@
 -- The blocks that the calls of a session record, one call's behind another's.
 use Rattle.std.proofs.Common.{◌≡◌, ℕ, zero, suc, ◌+◌, ◌-◌, ◌*◌, ◌/◌, ◌≤◌, min, List, [], ◌∷◌, ◌++◌, length, map, drop, ap, sym, refl, ◌∙◌, arith, append_assoc}
 use Rattle.std.specs.List.{range_with_len}
-use Rattle.std.proofs.lemmas.List.{drop-take}
+use Rattle.std.proofs.lemmas.List.{drop-take, append-nil}
 use Rattle.std.proofs.lemmas.List.FromFn.{length-map-range_with_len, map-range_with_len_more}
 use Rattle.std.proofs.lemmas.Nat.{mul-le}
 use Rattle.std.proofs.Math.Nat.{mul_comm}
@@ -12,14 +12,15 @@ use Rattle.fdr_slot.specs.Limits.{IsInLimits}
 use Rattle.fdr_recover.specs.Blocks.{Block}
 use Rattle.fdr_sampler.specs.SlotWord.{slot_word}
 use Rattle.fdr_sampler.specs.Stream.{slot_count, stream_words}
-use Rattle.fdr_stream.specs.Blocks.{block_at, blocks_of}
+use Rattle.fdr_stream.specs.Blocks.{cut_block, blocks_of}
 use Rattle.fdr_stream.proofs.Later.{due_blocks-fill, stream_of-later}
-use Rattle.fdr_stream.proofs.Standing.{slot_count-later, time_of-push}
-use Rattle.fdr_recorder.specs.Past.{Past, MayFeed, with_record, bytes_of, due, numbered_block, blocks_from, due_at, recorded_of, all_blocks, rest_of}
-use Rattle.fdr_recorder.proofs.Steps.{nil_behind}
+use Rattle.fdr_stream.proofs.Standing.{slot_count-later}
+use Rattle.fdr_recorder.specs.Past.{SessionPast, MayFeedSession, session_with_record, session_bytes, due, numbered_block, blocks_from, due_at, recorded_of}
+use Rattle.fdr_recorder.specs.Past.{all_blocks, rest_of}
+use Rattle.fdr_bus.proofs.TraceLemmas.{time_of-push}
 
 map_join : (f : ℕ → Block) (a n k : ℕ) → map f (range_with_len a (n + k)) ≡ map f (range_with_len a n) ++ map f (range_with_len (a + n) k)
-map_join f a n zero = let none : n + zero ≡ n = omega arith in ap (λ m. map f (range_with_len a m)) none ∙ sym (nil_behind (map f (range_with_len a n)))
+map_join f a n zero = let none : n + zero ≡ n = omega arith in ap (λ m. map f (range_with_len a m)) none ∙ sym (append-nil (map f (range_with_len a n)))
 map_join f a n (suc k) =
     let up : n + suc k ≡ n + k + 1 = omega arith in
     let one : k + 1 ≡ suc k = omega arith in
@@ -42,7 +43,8 @@ map_same f f' most (suc n) le same =
     ∙ sym (map-range_with_len_more f' 0 n n at) ∙ sym (ap (λ m. map f' (range_with_len 0 m)) one)
 
 -- a block that was due is the same with a further record
-same_block : (past : Past) (r : BusRecord) → MayFeed past r → (i : ℕ) → i + 1 ≤ due past → numbered_block (with_record past r) i ≡ numbered_block past i
+same_block : (past : SessionPast) (r : BusRecord) → MayFeedSession past r → (i : ℕ) → i + 1 ≤ due past
+    → numbered_block (session_with_record past r) i ≡ numbered_block past i
 same_block past r may i before =
     let p = past.header.payload in
     let whole = p * i + p in
@@ -50,12 +52,13 @@ same_block past r may i before =
     let within : p * (i + 1) ≤ p * due past = mul-le p (i + 1) p (due past) (omega arith) before in
     let few : whole ≤ 3 * length (stream_words past.table past.records) / 2 = omega (arith, fill, within) in
     let same = stream_of-later past.table past.records r whole may.order few in
-    let is : block_at p (bytes_of (with_record past r)) i ≡ block_at p (bytes_of past) i =
-    sym (drop-take (p * i) p (bytes_of (with_record past r))) ∙ ap (λ (l : List ℕ). drop (p * i) l) same ∙ drop-take (p * i) p (bytes_of past) in
+    let is : cut_block p (session_bytes (session_with_record past r)) i ≡ cut_block p (session_bytes past) i =
+    sym (drop-take (p * i) p (session_bytes (session_with_record past r))) ∙ ap (λ (l : List ℕ). drop (p * i) l) same
+    ∙ drop-take (p * i) p (session_bytes past) in
     ap (λ (l : List ℕ). record { number = past.first + i; payload = l }) is
 
 -- no block is due less with a further record
-pub due-grows : (past : Past) (r : BusRecord) → IsInLimits past.header → MayFeed past r → due past ≤ due (with_record past r)
+pub due-grows : (past : SessionPast) (r : BusRecord) → IsInLimits past.header → MayFeedSession past r → due past ≤ due (session_with_record past r)
 due-grows past r limits may =
     let t = past.table in
     let p = past.header.payload in
@@ -72,23 +75,24 @@ due-grows past r limits may =
     le-div (due past) (3 * length (stream_words t more) / 2) p (omega (arith, limits.least_payload)) (omega (arith, turned, fill, room))
 
 -- all blocks so far are those before the record, and those due at it
-pub recorded_of-fed : (past : Past) (r : BusRecord) → IsInLimits past.header → MayFeed past r
-    → recorded_of (with_record past r) ≡ recorded_of past ++ due_at past r
+pub recorded_of-fed : (past : SessionPast) (r : BusRecord) → IsInLimits past.header → MayFeedSession past r
+    → recorded_of (session_with_record past r) ≡ recorded_of past ++ due_at past r
 recorded_of-fed past r limits may =
     let grows = due-grows past r limits may in
-    let count : due past + (due (with_record past r) - due past) ≡ due (with_record past r) = omega (arith, grows) in
+    let count : due past + (due (session_with_record past r) - due past) ≡ due (session_with_record past r) = omega (arith, grows) in
     let zero_on : 0 + due past ≡ due past = omega arith in
-    ap (λ m. blocks_from (with_record past r) 0 m) (sym count)
-    ∙ map_join (numbered_block (with_record past r)) 0 (due past) (due (with_record past r) - due past)
-    ∙ ap (λ (l : List Block). l ++ map (numbered_block (with_record past r)) (range_with_len (0 + due past) (due (with_record past r) - due past)))
-    (map_same (numbered_block (with_record past r)) (numbered_block past) (due past) (due past) (omega arith) (same_block past r may))
-    ∙ ap (λ m. recorded_of past ++ map (numbered_block (with_record past r)) (range_with_len m (due (with_record past r) - due past))) zero_on
+    ap (λ m. blocks_from (session_with_record past r) 0 m) (sym count)
+    ∙ map_join (numbered_block (session_with_record past r)) 0 (due past) (due (session_with_record past r) - due past)
+    ∙ ap (λ (l : List Block). l ++ map (numbered_block (session_with_record past r))
+    (range_with_len (0 + due past) (due (session_with_record past r) - due past)))
+    (map_same (numbered_block (session_with_record past r)) (numbered_block past) (due past) (due past) (omega arith) (same_block past r may))
+    ∙ ap (λ m. recorded_of past ++ map (numbered_block (session_with_record past r)) (range_with_len m (due (session_with_record past r) - due past))) zero_on
 
 -- and with the rest they are all blocks of the stream
-pub all_blocks-rest : (past : Past) (n : ℕ) → length (blocks_of past.header.payload (bytes_of past)) ≡ due past + min n 1
+pub all_blocks-rest : (past : SessionPast) (n : ℕ) → length (blocks_of past.header.payload (session_bytes past)) ≡ due past + min n 1
     → all_blocks past ≡ recorded_of past ++ rest_of past
 all_blocks-rest past n count =
-    let whole = length (blocks_of past.header.payload (bytes_of past)) in
+    let whole = length (blocks_of past.header.payload (session_bytes past)) in
     let long : due past + (whole - due past) ≡ whole = omega (arith, count) in
     let zero_on : 0 + due past ≡ due past = omega arith in
     ap (λ m. blocks_from past 0 m) (sym long) ∙ map_join (numbered_block past) 0 (due past) (whole - due past)

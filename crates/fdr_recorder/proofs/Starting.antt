@@ -4,17 +4,17 @@ use Rattle.std.specs.Prelude.{IsTrue}
 use Rattle.fdr_deck.specs.State.{State, Tells, Moment}
 use Rattle.fdr_deck.specs.Disk.{IsSettled, KeepsDisk}
 use Rattle.fdr_deck.specs.Pull.{KeepsLine}
-use Rattle.fdr_deck.specs.Moments.{HasPulled, IsNow, Elapses, EachMoment, IsSound}
-use Rattle.fdr_deck.specs.Calls.{IsFresh, IsQuiet, Passes, Announces, LeavesDisk}
+use Rattle.fdr_deck.specs.Moments.{HasPulled, IsNow, Elapses, EachMoment, IsSoundDeck}
+use Rattle.fdr_deck.specs.Calls.{HasOneAnnounced, IsQuiet, Passes, Announces, LeavesDisk}
 use Rattle.fdr_deck.proofs.Moments.{EachMoment-then, Elapses-then}
 use Rattle.fdr_slot.specs.declared.image.Header.{Header}
 use Rattle.fdr_recover.specs.Images.{recovered_run, next_of}
 use Rattle.fdr_ring.specs.Runs.{KeepsRun}
 use Rattle.fdr_ring.specs.Rings.{IsAttaching, OfSettled}
 use Rattle.fdr_table.specs.Rows.{TableRows}
-use Rattle.fdr_stream.specs.Kept.{Kept}
+use Rattle.fdr_stream.specs.Kept.{StreamKept}
 use Rattle.fdr_stream.specs.Blocks.{due_blocks}
-use Rattle.fdr_stream.specs.Past.{made, Stands as StandsFor}
+use Rattle.fdr_stream.specs.Past.{stream_made, RepresentsStream}
 use Rattle.fdr_recorder.specs.Recording.{IsReady}
 use Rattle.fdr_recorder.specs.Starting.{IsStarting, Starts}
 use Rattle.fdr_recorder.proofs.Steps.{keeps_run, tail_same}
@@ -40,7 +40,7 @@ starting h entry m image told least pulled = record {
   image = image;
 }
 
-module _ (tells : Tells) (h : Header) (d0 d1 : State) (sound : IsSound tells d0) (quiet : IsQuiet tells d0.may_leave d0 d1) where
+module _ (tells : Tells) (h : Header) (d0 d1 : State) (sound : IsSoundDeck tells d0) (quiet : IsQuiet tells d0.may_leave d0 d1) where
   looking : IsReady (next_of h d0.held) d0 → EachMoment tells d0 d1 (IsStarting h d0)
   looking ready stops m since = let q = quiet.moments stops m since in
       starting h d0 m (subst (λ (l : List ℕ). IsAttaching h d0.held l) (sym (ready.settled m.image q.image)) (attaching_same h d0.held))
@@ -56,7 +56,7 @@ module _ (tells : Tells) (h : Header) (d0 d1 : State) (sound : IsSound tells d0)
     disk_faults = quiet.passes.disk_faults;
   }
 
-  module _ (disk : KeepsDisk d0 d1) (fresh : IsFresh d1) (d2 : State) (passes2 : Passes tells d1 d2) (quiet2 : IsTrue tells.stops
+  module _ (disk : KeepsDisk d0 d1) (fresh : HasOneAnnounced d1) (d2 : State) (passes2 : Passes tells d1 d2) (quiet2 : IsTrue tells.stops
       → IsQuiet tells (OfSettled d1 (IsAttaching h)) d1 d2) where
     settled1 : IsSettled d0 → IsSettled d1
     settled1 settled image left = settled image (disk.no_more image left) ∙ sym disk.held
@@ -84,7 +84,7 @@ module _ (tells : Tells) (h : Header) (d0 d1 : State) (sound : IsSound tells d0)
       disk_faults = omega (arith, quiet.passes.disk_faults, passes2.disk_faults);
     }
 
-    module _ (fresh2 : IsFresh d2) (next : ℕ) (d3 : State) (announces : Announces next d2 d3) where
+    module _ (fresh2 : HasOneAnnounced d2) (next : ℕ) (d3 : State) (announces : Announces next d2 d3) where
       told2 : d2.told ≡ d0.told
       told2 = passes2.told.told ∙ quiet.passes.told.told
 
@@ -114,10 +114,10 @@ module _ (tells : Tells) (h : Header) (d0 d1 : State) (sound : IsSound tells d0)
       }
 
 -- no block is due before the first record
-pub stream-started : (k : Kept) (t : TableRows) (payload : ℕ) → StandsFor k (made t payload)
-    → StandsFor k (record { table = t; payload = payload; records = []; begun = None; blocks = due_blocks t payload [] })
+pub stream-started : (k : StreamKept) (t : TableRows) (payload : ℕ) → RepresentsStream k (stream_made t payload)
+    → RepresentsStream k (record { table = t; payload = payload; records = []; begun = None; blocks = due_blocks t payload [] })
 stream-started k t payload stands =
-    subst (λ n. StandsFor k (record { table = t; payload = payload; records = []; begun = None; blocks = n })) (stands.blocks refl) stands
+    subst (λ n. RepresentsStream k (record { table = t; payload = payload; records = []; begun = None; blocks = n })) (stands.blocks refl) stands
 
-pub next-started : (k : Kept) (t : TableRows) (payload next : ℕ) → StandsFor k (made t payload) → next ≡ next + due_blocks t payload []
+pub next-started : (k : StreamKept) (t : TableRows) (payload next : ℕ) → RepresentsStream k (stream_made t payload) → next ≡ next + due_blocks t payload []
 next-started k t payload next stands = let none : 0 ≡ due_blocks t payload [] = stands.blocks refl in omega (arith, none)

@@ -1,20 +1,13 @@
 -- What an image keeps, over blocks that are recorded one after another.
 use Rattle.std.proofs.Common.{◌≡◌, ⊎_elim, ℕ, suc, ◌+◌, ◌-◌, ◌≤◌, List, [], ◌∷◌, ◌++◌}
 use Rattle.std.proofs.Common.{length, take, drop, refl, sym, ◌∙◌, ap, subst, arith, length-append, length-drop, append_assoc}
-use Rattle.std.proofs.lemmas.List.{drop-append-le, drop-drop, take-append-le}
+use Rattle.std.proofs.lemmas.List.{drop-append-le, drop-drop, take-append-le, append-nil}
 use Rattle.fdr_slot.specs.declared.image.Header.{Header}
 use Rattle.fdr_recover.specs.Blocks.{Block}
 use Rattle.fdr_recover.specs.Images.{recovered_run, next_of}
-use Rattle.fdr_ring.specs.Gates.{KeepsHeader}
 use Rattle.fdr_ring.specs.Runs.{IsTail, KeepsRun, HasSame, HasAdded, MayAdd, last_blocks}
 use Rattle.fdr_recorder.specs.Keeping.{Keeps, KeepsAll, KeepsBehind}
-
-pub nil_behind : (xs : List Block) → xs ++ [] ≡ xs
-nil_behind [] = refl
-nil_behind (x ∷ xs) = ap (λ (l : List Block). x ∷ l) (nil_behind xs)
-
-pub header_on : (a b c : List ℕ) → KeepsHeader a b → KeepsHeader b c → KeepsHeader a c
-header_on a b c one two = record { size = two.size ∙ one.size; header = two.header ∙ one.header }
+use Rattle.fdr_ring.proofs.Turning.{KeepsHeader-then}
 
 pub tail_on : (m : ℕ) (whole part more rest : List Block) → IsTail m whole part → IsTail m (part ++ more) rest → IsTail m (whole ++ more) rest
 tail_on m whole part more rest was is =
@@ -38,7 +31,7 @@ keeps_run h entry image new told keeps le = record {
   kept = keeps.kept;
   count = 0;
   fits = omega arith;
-  run = subst (λ (l : List Block). IsTail (h.slots - 2) l (recovered_run h image)) (sym (nil_behind (recovered_run h entry))) keeps.run;
+  run = subst (λ (l : List Block). IsTail (h.slots - 2) l (recovered_run h image)) (sym (append-nil (recovered_run h entry))) keeps.run;
   next = omega (arith, keeps.next);
   announced = omega (arith, keeps.next, le);
 }
@@ -47,7 +40,7 @@ keeps_run h entry image new told keeps le = record {
 pub keeps_added : (h : Header) (b : Block) (entry middle image : List ℕ) (told : ℕ) → KeepsRun h (h.slots - 2) entry middle
     → HasAdded h b middle image → told ≤ next_of h entry + 1 → Keeps h entry (recovered_run h entry) (b ∷ []) told image
 keeps_added h b entry middle image told keeps added le = record {
-  kept = header_on entry middle image keeps.kept added.kept;
+  kept = KeepsHeader-then entry middle image keeps.kept added.kept;
   count = 1;
   fits = omega arith;
   run = tail_on (h.slots - 2) (recovered_run h entry) (recovered_run h middle) (b ∷ []) (recovered_run h image) keeps.run
@@ -59,7 +52,7 @@ keeps_added h b entry middle image told keeps added le = record {
 pub keeps_same : (h : Header) (entry middle image : List ℕ) (new : List Block) (told : ℕ) → KeepsRun h (h.slots - 2) entry middle
     → HasSame h middle image → told ≤ next_of h entry → Keeps h entry (recovered_run h entry) new told image
 keeps_same h entry middle image new told keeps same le = keeps_run h entry image new told (record {
-  kept = header_on entry middle image keeps.kept same.kept;
+  kept = KeepsHeader-then entry middle image keeps.kept same.kept;
   run = subst (λ (l : List Block). IsTail (h.slots - 2) (recovered_run h entry) l) (sym same.run) keeps.run;
   next = same.next ∙ keeps.next;
 }) le
@@ -74,7 +67,7 @@ keeps_may h b entry middle image told keeps may le = ⊎_elim
 pub all_added : (h : Header) (b : Block) (entry middle image : List ℕ) → KeepsRun h (h.slots - 2) entry middle → HasAdded h b middle image
     → KeepsAll h entry (recovered_run h entry) (b ∷ []) image
 all_added h b entry middle image keeps added = record {
-  kept = header_on entry middle image keeps.kept added.kept;
+  kept = KeepsHeader-then entry middle image keeps.kept added.kept;
   run = tail_on (h.slots - 2) (recovered_run h entry) (recovered_run h middle) (b ∷ []) (recovered_run h image) keeps.run
       (subst (λ (l : List Block). IsTail (h.slots - 2) l (recovered_run h image)) added.run (tail_same (h.slots - 2) (recovered_run h image)));
   next = omega (arith, keeps.next, added.next);
@@ -88,7 +81,7 @@ take_all (x ∷ xs) ys n = let e : suc (length xs) + n ≡ suc (length xs + n) =
 pub keeps_on : (h : Header) (entry middle image : List ℕ) (old new more : List Block) (told : ℕ) → KeepsAll h entry old new middle
     → Keeps h middle (recovered_run h middle) more told image → Keeps h entry old (new ++ more) told image
 keeps_on h entry middle image old new more told has keeps = record {
-  kept = header_on entry middle image has.kept keeps.kept;
+  kept = KeepsHeader-then entry middle image has.kept keeps.kept;
   count = length new + keeps.count;
   fits = omega (arith, keeps.fits, length-append new more);
   run = subst (λ (l : List Block). IsTail (h.slots - 2) l (recovered_run h image)) (append_assoc old new (take keeps.count more)
@@ -112,7 +105,7 @@ keeps_more h entry image old new more told keeps = record {
 pub all_on : (h : Header) (entry middle image : List ℕ) (old new more : List Block) → KeepsAll h entry old new middle
     → KeepsAll h middle (recovered_run h middle) more image → KeepsAll h entry old (new ++ more) image
 all_on h entry middle image old new more has also = record {
-  kept = header_on entry middle image has.kept also.kept;
+  kept = KeepsHeader-then entry middle image has.kept also.kept;
   run = subst (λ (l : List Block). IsTail (h.slots - 2) l (recovered_run h image)) (append_assoc old new more) (tail_on (h.slots - 2) (old ++ new)
       (recovered_run h middle) more (recovered_run h image) has.run also.run);
   next = omega (arith, also.next, has.next, length-append new more);
@@ -125,7 +118,7 @@ same_run h image = record { kept = record { size = refl; header = refl }; run = 
 pub keeps_none : (h : Header) (image : List ℕ) → KeepsAll h image (recovered_run h image) [] image
 keeps_none h image = record {
   kept = record { size = refl; header = refl };
-  run = subst (λ (l : List Block). IsTail (h.slots - 2) l (recovered_run h image)) (sym (nil_behind (recovered_run h image))) (tail_same
+  run = subst (λ (l : List Block). IsTail (h.slots - 2) l (recovered_run h image)) (sym (append-nil (recovered_run h image))) (tail_same
       (h.slots - 2) (recovered_run h image));
   next = omega arith;
 }

@@ -1,6 +1,6 @@
 -- Why a session is refused, where a call of the ring is.
-use Rattle.fdr_ring.specs.declared.error.RingFault.{RingFault}
-use Rattle.fdr_ring.specs.declared.error.RingFault.TheVariants as ring
+use Rattle.fdr_recover.specs.declared.error.RingFault.{RingFault}
+use Rattle.fdr_recover.specs.declared.error.RingFault.TheVariants as ring
 use Rattle.fdr_recorder.specs.declared.error.SessionFault.{SessionFault}
 use Rattle.fdr_recorder.specs.declared.error.SessionFault.TheVariants as fault
 

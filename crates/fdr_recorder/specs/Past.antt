@@ -7,67 +7,67 @@ use Rattle.fdr_slot.specs.declared.image.Header.{Header}
 use Rattle.fdr_table.specs.Rows.{TableRows}
 use Rattle.fdr_recover.specs.Blocks.{Block}
 use Rattle.fdr_sampler.specs.Stream.{stream_of}
-use Rattle.fdr_stream.specs.Blocks.{block_at, blocks_of, due_blocks}
-use Rattle.fdr_stream.specs.Past.{Past as StreamPast, Stands as StandsFor}
+use Rattle.fdr_stream.specs.Blocks.{cut_block, blocks_of, due_blocks}
+use Rattle.fdr_stream.specs.Past.{StreamPast, RepresentsStream}
 use Rattle.fdr_recorder.specs.declared.session.Session.{Session}
 
 -- The table, the header of the image and its next number as the session was started, and the records that were fed.
-pub record Past : Type 0 where
+pub record SessionPast : Type 0 where
   pub table : TableRows
   pub header : Header
   pub first : ℕ
   pub records : List BusRecord
 
-abbrev pub started : TableRows → Header → ℕ → Past
+abbrev pub started : TableRows → Header → ℕ → SessionPast
 started t h first = record { table = t; header = h; first = first; records = [] }
 
-abbrev pub with_record : Past → BusRecord → Past
-with_record past r = record past { records = past.records ++ r ∷ [] }
+abbrev pub session_with_record : SessionPast → BusRecord → SessionPast
+session_with_record past r = record past { records = past.records ++ r ∷ [] }
 
 -- the record is a good next one
-pub record MayFeed (past : Past) (r : BusRecord) : Type 0 where
+pub record MayFeedSession (past : SessionPast) (r : BusRecord) : Type 0 where
   pub order : time_of past.records ≤ r.time
   pub in_time : r.time ≤ last_time
   pub unended : has_end past.records ≡ false
 
 -- the bytes that the records give
-abbrev pub bytes_of : Past → List ℕ
-bytes_of past = stream_of past.table past.records
+abbrev pub session_bytes : SessionPast → List ℕ
+session_bytes past = stream_of past.table past.records
 
 -- how many blocks are due at them
-abbrev pub due : Past → ℕ
+abbrev pub due : SessionPast → ℕ
 due past = due_blocks past.table past.header.payload past.records
 
 -- block i of the bytes, with its number in the image
-abbrev pub numbered_block : Past → ℕ → Block
-numbered_block past i = record { number = past.first + i; payload = block_at past.header.payload (bytes_of past) i }
+abbrev pub numbered_block : SessionPast → ℕ → Block
+numbered_block past i = record { number = past.first + i; payload = cut_block past.header.payload (session_bytes past) i }
 
 -- this many blocks, from block `from` on
-abbrev pub blocks_from : Past → ℕ → ℕ → List Block
+abbrev pub blocks_from : SessionPast → ℕ → ℕ → List Block
 blocks_from past from count = map (numbered_block past) (range_with_len from count)
 
 -- the blocks that are due
-abbrev pub recorded_of : Past → List Block
+abbrev pub recorded_of : SessionPast → List Block
 recorded_of past = blocks_from past 0 (due past)
 
 -- all blocks of the stream
-abbrev pub all_blocks : Past → List Block
-all_blocks past = blocks_from past 0 (length (blocks_of past.header.payload (bytes_of past)))
+abbrev pub all_blocks : SessionPast → List Block
+all_blocks past = blocks_from past 0 (length (blocks_of past.header.payload (session_bytes past)))
 
 -- the blocks that become due by a record
-abbrev pub due_at : Past → BusRecord → List Block
-due_at past r = blocks_from (with_record past r) (due past) (due (with_record past r) - due past)
+abbrev pub due_at : SessionPast → BusRecord → List Block
+due_at past r = blocks_from (session_with_record past r) (due past) (due (session_with_record past r) - due past)
 
 -- the blocks that aren't due yet: none, or a last one
-abbrev pub rest_of : Past → List Block
-rest_of past = blocks_from past (due past) (length (blocks_of past.header.payload (bytes_of past)) - due past)
+abbrev pub rest_of : SessionPast → List Block
+rest_of past = blocks_from past (due past) (length (blocks_of past.header.payload (session_bytes past)) - due past)
 
 -- the stream was fed these records and has given all blocks that are due
-abbrev pub stream_past : Past → StreamPast
+abbrev pub stream_past : SessionPast → StreamPast
 stream_past past = record { table = past.table; payload = past.header.payload; records = past.records; begun = None; blocks = due past }
 
 -- The session was started on this and fed these records, and the due blocks were recorded.
-pub record Stands (s : Session) (past : Past) : Type 0 where
+pub record RepresentsSession (s : Session) (past : SessionPast) : Type 0 where
   pub header : s.ring.header ≡ past.header
-  pub stream : StandsFor s.stream (stream_past past)
+  pub stream : RepresentsStream s.stream (stream_past past)
   pub next : s.ring.next ≡ past.first + due past

@@ -6,14 +6,14 @@ use Rattle.fdr_deck.specs.Moments.{Elapses, EachMoment}
 use Rattle.fdr_deck.specs.Pull.{KeepsLine}
 use Rattle.fdr_slot.specs.declared.image.Header.{Header}
 use Rattle.fdr_recover.specs.Images.{recovered_run, next_of}
-use Rattle.fdr_ring.specs.Formatting.{fault_of, header_in}
+use Rattle.fdr_recover.specs.ImageHeader.{image_fault_of, header_in}
 use Rattle.fdr_ring.specs.Gates.{gate_at}
 use Rattle.fdr_ring.specs.Closing.{shut}
 use Rattle.fdr_ring.specs.Runs.{last_blocks}
 use Rattle.fdr_ring.specs.Rings.{IsSureRing, IsAttaching}
 use Rattle.fdr_table.specs.Rows.{TableRows}
 use Rattle.fdr_recorder.specs.Recording.{IsReady, IsRecording}
-use Rattle.fdr_recorder.specs.Past.{Stands, started}
+use Rattle.fdr_recorder.specs.Past.{RepresentsSession, started}
 use Rattle.fdr_recorder.specs.declared.session.Session.{Session}
 
 -- a moment while a session starts: no block is recorded, and only the gate of the next number may be another, where it was open
@@ -31,12 +31,12 @@ pub record Starts (tells : Tells) (h : Header) (old now : State) : Type 0 where
 
 -- the image has no fault, and is for so many words
 pub record IsFor (count : ℕ) (image : List ℕ) : Type 0 where
-  pub no_fault : fault_of image ≡ None
+  pub no_fault : image_fault_of image ≡ None
   pub words : (header_in image).words ≡ count
 
 -- The session stands for the image on the disk without any records, and its next number is announced.
 pub record IsStarted (tells : Tells) (t : TableRows) (s : Session) (old now : State) : Type 0 where
-  pub stands : Stands s (started t s.ring.header s.ring.next)
+  pub stands : RepresentsSession s (started t s.ring.header s.ring.next)
   pub words : s.ring.header.words ≡ t.frame.words
   pub header : IsTrue tells.bytes → s.ring.header ≡ header_in old.held
   pub next : IsTrue tells.bytes → s.ring.next ≡ next_of s.ring.header old.held

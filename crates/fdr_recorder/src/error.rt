@@ -1,5 +1,6 @@
-// Why a session is refused.
-use fdr_ring::RingFault;
+//! Why a session is refused.
+
+use fdr_recover::RingFault;
 use fdr_slot::ImageFault;
 use fdr_table::NoMemory;
 

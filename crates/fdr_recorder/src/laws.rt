@@ -1,4 +1,5 @@
-// What follows of the definitions of a recording.
+//! What follows of the definitions of a recording.
+
 ghost use Rattle.std.specs.Prelude.{◌≡◌, ℕ, List, ◌++◌, ◌-◌};
 ghost use Rattle.fdr_bus.specs.declared.BusRecord.{BusRecord};
 ghost use Rattle.fdr_slot.specs.Limits.{IsInLimits};
@@ -6,7 +7,7 @@ ghost use Rattle.fdr_slot.specs.declared.image.Header.{Header};
 ghost use Rattle.fdr_recover.specs.Blocks.{Block};
 ghost use Rattle.fdr_ring.specs.Runs.{IsTail};
 ghost use Rattle.fdr_recorder.specs.Keeping.{Keeps, KeepsBehind};
-ghost use Rattle.fdr_recorder.specs.Past.{Past, MayFeed, with_record, recorded_of, due_at};
+ghost use Rattle.fdr_recorder.specs.Past.{SessionPast, MayFeedSession, session_with_record, recorded_of, due_at};
 
 /// What is promised doesn't wear away over recordings of which each begins on the image that the one before it left, however
 /// it was stopped. It does no work.
@@ -18,6 +19,6 @@ pub fn keeps_chain()
 /// A further record changes none of the blocks that were due before it: those of all records one after another are those of
 /// the whole stream. It does no work.
 pub fn blocks_join()
-    ensures { (past : Past) (r : BusRecord) → IsInLimits past.header → MayFeed past r
-        → recorded_of (with_record past r) ≡ recorded_of past ++ due_at past r }
+    ensures { (past : SessionPast) (r : BusRecord) → IsInLimits past.header → MayFeedSession past r
+        → recorded_of (session_with_record past r) ≡ recorded_of past ++ due_at past r }
 {}

@@ -1,26 +1,28 @@
-// A recording of a trace.
+//! A recording of a trace.
+
 ghost use Rattle.std.specs.Prelude.{◌≡◌, ◌≢◌, ◌⊎◌, ◌↔◌, ◌<◌, ◌≤◌, ◌^◌, ◌+◌, ℕ, [], ◌∷◌, ◌++◌, Err, Some, None, length, IfOk, OnOk, OnErr, IsTrue};
 ghost use Rattle.fdr_io.specs.Faults.{Rose};
 ghost use Rattle.fdr_deck.specs.Disk.{KeepsDisk};
 ghost use Rattle.fdr_deck.specs.Calls.{KeepsTold};
 ghost use Rattle.fdr_slot.specs.declared.image.ImageFault.{ImageFault};
 ghost use Rattle.fdr_slot.specs.declared.image.ImageFault.TheVariants as image_fault;
-ghost use Rattle.fdr_ring.specs.Formatting.{fault_of, header_in};
+ghost use Rattle.fdr_recover.specs.ImageHeader.{image_fault_of, header_in};
 ghost use Rattle.fdr_ring.specs.Rings.{IsRing, IsSureRing};
 ghost use Rattle.fdr_recorder.specs.Recording.{Records, HasRecorded, HasEnded};
-ghost use Rattle.fdr_recorder.specs.Past.{Past, MayFeed, Stands, with_record, due_at, rest_of, recorded_of, all_blocks};
+ghost use Rattle.fdr_recorder.specs.Past.{SessionPast, MayFeedSession, RepresentsSession, session_with_record, due_at, rest_of, recorded_of, all_blocks};
 ghost use Rattle.fdr_recorder.specs.Starting.{Starts, IsFor, IsStarted};
 
 use crate::SessionFault;
 use fdr_bus::BusRecord;
 use fdr_check::Sound;
 use fdr_deck::Deck;
-use fdr_ring::{Ring, RingFault, read_image_header};
+use fdr_recover::{RingFault, read_image_header};
+use fdr_ring::Ring;
 use fdr_stream::{Fed, Stream};
 use std::alloc::Global;
 
 /// The most bytes of a block.
-const LARGEST_BLOCK: usize = 4096;
+const MAX_PAYLOAD: usize = 4096;
 
 /// More blocks than a recording has.
 const MANY_BLOCKS: u32 = 3_000_000_000;
@@ -43,7 +45,7 @@ impl Session {
     ) -> Result<Session, SessionFault>
         ensures numbers { result ≢ Err SessionFault.SeqEnd }
         ensures image { IsTrue D.tells.bytes
-            → (why : ImageFault) → result ≡ Err (SessionFault.Image why) → fault_of (D.state deck.old).held ≡ Some why }
+            → (why : ImageFault) → result ≡ Err (SessionFault.Image why) → image_fault_of (D.state deck.old).held ≡ Some why }
         ensures small { (why : ImageFault) → result ≡ Err (SessionFault.Image why)
             → (why ≡ image_fault.Small) ↔ ((D.state deck.new).extent < 64) }
         ensures words { (image table : ℕ) → result ≡ Err (SessionFault.WordsDiffer image table)
@@ -80,22 +82,22 @@ impl Session {
     /// Feeds the next record of the trace: each block that is due at it is added to the image, and announced once it is
     /// durable. `SeqEnd` is answered where there is no number left for one of them, and the blocks before it stand.
     pub fn feed<D: Deck>(self, deck: &mut D, r: &BusRecord) -> Result<Session, SessionFault>
-        requires stands { (past : Past) × Stands self past × MayFeed past r.now }
+        requires stands { (past : SessionPast) × RepresentsSession self past × MayFeedSession past r.now }
         requires fact { IsRing D.tells self.ring.header self.ring.next (D.state deck.old) }
         ensures only { OnErr result (result ≡ Err SessionFault.DiskFault ⊎ result ≡ Err SessionFault.SeqEnd) }
-        ensures stands { (past : Past) → Stands self past → MayFeed past r.now
-            → IfOk result (λ s. Stands s (with_record past r.now)) }
+        ensures stands { (past : SessionPast) → RepresentsSession self past → MayFeedSession past r.now
+            → IfOk result (λ s. RepresentsSession s (session_with_record past r.now)) }
         ensures header { IfOk result (λ s. s.ring.header ≡ self.ring.header) }
-        ensures next { (past : Past) → Stands self past → MayFeed past r.now
+        ensures next { (past : SessionPast) → RepresentsSession self past → MayFeedSession past r.now
             → IfOk result (λ s. s.ring.next ≡ self.ring.next + length (due_at past r.now)) }
         ensures fact { IfOk result (λ s. IsRing D.tells s.ring.header s.ring.next (D.state deck.new)) }
-        ensures records { (past : Past) → Stands self past → MayFeed past r.now
+        ensures records { (past : SessionPast) → RepresentsSession self past → MayFeedSession past r.now
             → Records D.tells self.ring.header self.ring.next (due_at past r.now) (D.state deck.old) (D.state deck.new) }
-        ensures recorded { (past : Past) → Stands self past → MayFeed past r.now → OnOk result
+        ensures recorded { (past : SessionPast) → RepresentsSession self past → MayFeedSession past r.now → OnOk result
             (HasRecorded D.tells self.ring.header self.ring.next (due_at past r.now) (D.state deck.old) (D.state deck.new)) }
-        ensures seq_end { (past : Past) → Stands self past → MayFeed past r.now → result ≡ Err SessionFault.SeqEnd
+        ensures seq_end { (past : SessionPast) → RepresentsSession self past → MayFeedSession past r.now → result ≡ Err SessionFault.SeqEnd
             → HasEnded D.tells self.ring.header self.ring.next (due_at past r.now) (D.state deck.old) (D.state deck.new) }
-        ensures room { (past : Past) → Stands self past → MayFeed past r.now
+        ensures room { (past : SessionPast) → RepresentsSession self past → MayFeedSession past r.now
             → OnOk result (self.ring.next + length (due_at past r.now) ≤ 2 ^ 48) }
         ensures cause { result ≡ Err SessionFault.DiskFault
             → Rose (D.state deck.old).disk_faults (D.state deck.new).disk_faults }
@@ -106,7 +108,7 @@ impl Session {
             mut stream,
         } = self;
         let payload = ring.header().payload as usize;
-        let mut block = [0; LARGEST_BLOCK];
+        let mut block = [0; MAX_PAYLOAD];
         for i in 0..MANY_BLOCKS {
             match stream.feed(r, &mut block) {
                 Fed::Taken => return Ok(Session { ring, stream }),
@@ -119,17 +121,17 @@ impl Session {
     /// Ends the recording: what is left of the stream is added as a last block, and announced. Answers the next number of
     /// the image.
     pub fn close<D: Deck>(self, deck: &mut D) -> Result<u64, SessionFault>
-        requires stands { (past : Past) × Stands self past }
+        requires stands { (past : SessionPast) × RepresentsSession self past }
         requires fact { IsRing D.tells self.ring.header self.ring.next (D.state deck.old) }
         ensures only { OnErr result (result ≡ Err SessionFault.DiskFault ⊎ result ≡ Err SessionFault.SeqEnd) }
-        ensures all { (past : Past) → Stands self past → all_blocks past ≡ recorded_of past ++ rest_of past }
-        ensures next { (past : Past) → Stands self past
+        ensures all { (past : SessionPast) → RepresentsSession self past → all_blocks past ≡ recorded_of past ++ rest_of past }
+        ensures next { (past : SessionPast) → RepresentsSession self past
             → IfOk result (λ n. n ≡ self.ring.next + length (rest_of past)) }
-        ensures records { (past : Past) → Stands self past
+        ensures records { (past : SessionPast) → RepresentsSession self past
             → Records D.tells self.ring.header self.ring.next (rest_of past) (D.state deck.old) (D.state deck.new) }
-        ensures recorded { (past : Past) → Stands self past → OnOk result
+        ensures recorded { (past : SessionPast) → RepresentsSession self past → OnOk result
             (HasRecorded D.tells self.ring.header self.ring.next (rest_of past) (D.state deck.old) (D.state deck.new)) }
-        ensures seq_end { (past : Past) → Stands self past → result ≡ Err SessionFault.SeqEnd
+        ensures seq_end { (past : SessionPast) → RepresentsSession self past → result ≡ Err SessionFault.SeqEnd
             → HasEnded D.tells self.ring.header self.ring.next (rest_of past) (D.state deck.old) (D.state deck.new) }
         ensures room { IfOk result (λ n. n ≤ 2 ^ 48) }
         ensures cause { result ≡ Err SessionFault.DiskFault
@@ -137,7 +139,7 @@ impl Session {
         ensures rest { D.same_rest deck.old deck.new }
     {
         let Session { ring, mut stream } = self;
-        let mut block = [0; LARGEST_BLOCK];
+        let mut block = [0; MAX_PAYLOAD];
         let count = stream.finish(&mut block);
         if count == 0 {
             return Ok(ring.next());
@@ -157,7 +159,7 @@ impl Session {
 /// Adds a block and announces it.
 fn add<D: Deck>(ring: Ring, deck: &mut D, bytes: &[u8]) -> Result<Ring, RingFault>
     requires fact { IsRing D.tells ring.header ring.next (D.state deck.old) }
-    requires some { 0 < length bytes.now }
+    requires some_bytes { 0 < length bytes.now }
     requires fits { length bytes.now ≤ ring.header.payload }
     ensures seq_end { (result ≡ Err RingFault.SeqEnd) ↔ (ring.next ≡ 2 ^ 48) }
     ensures untouched { result ≡ Err RingFault.SeqEnd → deck.new ≡ deck.old }

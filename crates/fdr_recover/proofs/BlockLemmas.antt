@@ -9,13 +9,15 @@ use Rattle.std.proofs.lemmas.List.{take_at}
 use Rattle.fdr_slot.specs.Places.{slot_at}
 use Rattle.fdr_slot.specs.Limits.{IsInLimits}
 use Rattle.fdr_slot.specs.Heads.{is_valid}
-use Rattle.fdr_recover.specs.Blocks.{Block, number_after, numbered}
-use Rattle.fdr_recover.specs.Images.{head_at, bytes_in, block_of, block_in, block_at, payload_of, payload_at, next_of, IsNextNumber, blocks_below, recovered_run, IsRecovered}
+use Rattle.fdr_recover.specs.Blocks.{Block, number_after, if_numbered}
+use Rattle.fdr_recover.specs.Images.{head_at, bytes_in, block_of, block_in, block_numbered, payload_of, payload_at, next_of, IsNextNumber, blocks_below}
+use Rattle.fdr_recover.specs.Images.{recovered_run, IsRecovered}
 use Rattle.fdr_recover.proofs.Standing.{numbered_same, numbered_other, number_after-numbered}
 use Rattle.fdr_recover.proofs.Nexts.{ArePlaced, next_among-is_next}
 use Rattle.fdr_recover.proofs.Runs.{run_below-is_longest, IsLongestRun-one}
 
-pub block_in-valid : (h : Header) (image : List ℕ) (i : ℕ) → is_valid h i (head_at h image i) ≡ true → block_in h image i ≡ Some (block_of h image i (head_at h image i))
+pub block_in-valid : (h : Header) (image : List ℕ) (i : ℕ) → is_valid h i (head_at h image i) ≡ true
+    → block_in h image i ≡ Some (block_of h image i (head_at h image i))
 unfolding block_in
 block_in-valid h image i valid = rw valid refl
 
@@ -52,33 +54,39 @@ recovered_run-one h image run limits is =
     IsLongestRun-one h.slots (block_in h image) run (recovered_run h image) is (recovered_run-is_recovered h image limits)
 
 -- one more than the number in a slot, by its head
-pub number_after-valid : (h : Header) (image : List ℕ) (i : ℕ) (head : SlotHead) → head ≡ head_at h image i → is_valid h i head ≡ true → number_after (block_in h image i) ≡ head.seq + 1
+pub number_after-valid : (h : Header) (image : List ℕ) (i : ℕ) (head : SlotHead) → head ≡ head_at h image i → is_valid h i head ≡ true
+    → number_after (block_in h image i) ≡ head.seq + 1
 number_after-valid h image i head is valid =
     let held = block_in-valid h image i (ap (is_valid h i) (sym is) ∙ valid) in
     ap number_after held ∙ ap (λ (x : SlotHead). x.seq + 1) (sym is)
 
-pub number_after-invalid : (h : Header) (image : List ℕ) (i : ℕ) (head : SlotHead) → head ≡ head_at h image i → is_valid h i head ≡ false → number_after (block_in h image i) ≡ 0
+pub number_after-invalid : (h : Header) (image : List ℕ) (i : ℕ) (head : SlotHead) → head ≡ head_at h image i → is_valid h i head ≡ false
+    → number_after (block_in h image i) ≡ 0
 number_after-invalid h image i head is invalid =
     ap number_after (block_in-invalid h image i (ap (is_valid h i) (sym is) ∙ invalid))
 
 -- a slot holds the block with a number
-pub holds_number : (h : Header) (image : List ℕ) (number slot n : ℕ) → slot ≡ number % h.slots → n ≡ number_after (block_in h image slot) → IsTrue (n == number + 1) ↔ IsSome (block_at h image number)
-unfolding block_at
+pub holds_number : (h : Header) (image : List ℕ) (number slot n : ℕ) → slot ≡ number % h.slots → n ≡ number_after (block_in h image slot)
+    → IsTrue (n == number + 1) ↔ IsSome (block_numbered h image number)
+unfolding block_numbered
 holds_number h image number slot n own is =
-    subst (λ m. IsTrue (m == number + 1) ↔ IsSome (numbered number (block_in h image (number % h.slots))))
+    subst (λ m. IsTrue (m == number + 1) ↔ IsSome (if_numbered number (block_in h image (number % h.slots))))
     (sym (is ∙ ap (λ k. number_after (block_in h image k)) own))
     (number_after-numbered number (block_in h image (number % h.slots)))
 
-in_own_slot : (h : Header) (image : List ℕ) (number slot : ℕ) (o : Option Block) → slot ≡ number % h.slots → block_in h image slot ≡ o → block_at h image number ≡ numbered number o
-unfolding block_at
-in_own_slot h image number slot o own is = ap (λ k. numbered number (block_in h image k)) (sym own) ∙ ap (numbered number) is
+in_own_slot : (h : Header) (image : List ℕ) (number slot : ℕ) (o : Option Block) → slot ≡ number % h.slots → block_in h image slot ≡ o
+    → block_numbered h image number ≡ if_numbered number o
+unfolding block_numbered
+in_own_slot h image number slot o own is = ap (λ k. if_numbered number (block_in h image k)) (sym own) ∙ ap (if_numbered number) is
 
 -- no block with this number stands where its slot isn't valid, or has another number
-pub block_at-invalid : (h : Header) (image : List ℕ) (number slot : ℕ) (head : SlotHead) → slot ≡ number % h.slots → head ≡ head_at h image slot → is_valid h slot head ≡ false → block_at h image number ≡ None
+pub block_at-invalid : (h : Header) (image : List ℕ) (number slot : ℕ) (head : SlotHead) → slot ≡ number % h.slots → head ≡ head_at h image slot
+    → is_valid h slot head ≡ false → block_numbered h image number ≡ None
 block_at-invalid h image number slot head own is invalid =
     in_own_slot h image number slot None own (block_in-invalid h image slot (ap (is_valid h slot) (sym is) ∙ invalid))
 
-pub block_at-other : (h : Header) (image : List ℕ) (number slot : ℕ) (head : SlotHead) → slot ≡ number % h.slots → head ≡ head_at h image slot → head.seq ≢ number → block_at h image number ≡ None
+pub block_at-other : (h : Header) (image : List ℕ) (number slot : ℕ) (head : SlotHead) → slot ≡ number % h.slots → head ≡ head_at h image slot
+    → head.seq ≢ number → block_numbered h image number ≡ None
 block_at-other h image number slot head own is other = ⊎_elim
     (λ valid. let there = in_own_slot h image number slot (Some (block_of h image slot (head_at h image slot))) own (block_in-valid h image slot valid) in
     let seq : (head_at h image slot).seq ≢ number = λ same. other (ap (λ (x : SlotHead). x.seq) is ∙ same) in
@@ -86,13 +94,15 @@ block_at-other h image number slot head own is other = ⊎_elim
     (λ invalid. in_own_slot h image number slot None own (block_in-invalid h image slot invalid))
     (cases_Bool (is_valid h slot (head_at h image slot)))
 
-pub block_at-some : (h : Header) (image : List ℕ) (number slot : ℕ) (head : SlotHead) → slot ≡ number % h.slots → head ≡ head_at h image slot → is_valid h slot head ≡ true → head.seq ≡ number → block_at h image number ≡ Some (block_of h image slot head)
+pub block_at-some : (h : Header) (image : List ℕ) (number slot : ℕ) (head : SlotHead) → slot ≡ number % h.slots → head ≡ head_at h image slot
+    → is_valid h slot head ≡ true → head.seq ≡ number → block_numbered h image number ≡ Some (block_of h image slot head)
 block_at-some h image number slot head own is valid same =
     let there = block_in-valid h image slot (ap (is_valid h slot) (sym is) ∙ valid) ∙ ap (λ x. Some (block_of h image slot x)) (sym is) in
     in_own_slot h image number slot (Some (block_of h image slot head)) own there ∙ numbered_same number (block_of h image slot head) same
 
 -- the bytes behind the head, read into the front of a buffer
-pub read_payload : (h : Header) (image mid buf rest : List ℕ) (number slot len at : ℕ) (head : SlotHead) → block_at h image number ≡ Some (block_of h image slot head) → mid ≡ image → at ≡ slot_at h slot + 16 → len ≡ head.len → length buf ≡ len
+pub read_payload : (h : Header) (image mid buf rest : List ℕ) (number slot len at : ℕ) (head : SlotHead)
+    → block_numbered h image number ≡ Some (block_of h image slot head) → mid ≡ image → at ≡ slot_at h slot + 16 → len ≡ head.len → length buf ≡ len
     → buf ≡ slice_range mid at (at + length buf) → take len (buf ++ rest) ≡ payload_at h image number
 unfolding bytes_in
 read_payload h image mid buf rest number slot len at head held same place size long read =

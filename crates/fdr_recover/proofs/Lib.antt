@@ -1,3 +1,4 @@
+pub mod ImageFaults
 pub mod Looking
 pub mod Placing
 pub mod Standing

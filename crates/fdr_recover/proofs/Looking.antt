@@ -2,13 +2,13 @@
 use Rattle.std.proofs.Common.{◌≡◌, ⊎_elim, ◌≤◌, refl, ◌∙◌, arith}
 use Rattle.fdr_deck.specs.State.{State, Tells, Moment}
 use Rattle.fdr_deck.specs.Disk.{KeepsDisk}
-use Rattle.fdr_deck.specs.Moments.{EachMoment, Within, IsSound}
+use Rattle.fdr_deck.specs.Moments.{EachMoment, Within, IsSoundDeck}
 use Rattle.fdr_deck.specs.Calls.{Passes, IsQuietMoment}
 use Rattle.fdr_deck.proofs.Moments.{Passes-then, EachMoment-then, IsQuiet-here, IsQuiet-keep}
 use Rattle.fdr_recover.specs.Looks.{Looks}
 
 -- no call yet
-pub Looks-here : (tells : Tells) (d : State) → IsSound tells d → Looks tells d d
+pub Looks-here : (tells : Tells) (d : State) → IsSoundDeck tells d → Looks tells d d
 Looks-here tells d sound = record {
   extent = refl;
   disk = record { held = refl; no_more = λ image leaves. leaves; no_less = λ image leaves. leaves };
@@ -16,7 +16,8 @@ Looks-here tells d sound = record {
 }
 
 -- one call of the disk that leaves it
-pub Looks-call : (tells : Tells) (old new : State) → IsSound tells old → new.extent ≡ old.extent → KeepsDisk old new → Passes tells old new → EachMoment tells old new (Within old new) → Looks tells old new
+pub Looks-call : (tells : Tells) (old new : State) → IsSoundDeck tells old → new.extent ≡ old.extent → KeepsDisk old new → Passes tells old new
+    → EachMoment tells old new (Within old new) → Looks tells old new
 Looks-call tells old new sound extent disk passes moments = record {
   extent = extent;
   disk = disk;
@@ -24,7 +25,7 @@ Looks-call tells old new sound extent disk passes moments = record {
 }
 
 -- calls, and then calls
-pub Looks-then : (tells : Tells) (old mid new : State) → IsSound tells old → Looks tells old mid → Looks tells mid new → Looks tells old new
+pub Looks-then : (tells : Tells) (old mid new : State) → IsSoundDeck tells old → Looks tells old mid → Looks tells mid new → Looks tells old new
 Looks-then tells old mid new sound first second = record {
   extent = second.extent ∙ first.extent;
   disk = record {
@@ -43,7 +44,8 @@ Looks-then tells old mid new sound first second = record {
     least = ⊎_elim (λ fresh. omega (arith, fresh.0, first.quiet.passes.told.told, sound.least)) (λ kept. omega (arith, kept.0)) first.quiet.passes.told.numbers
 
     greatest : mid.greatest ≤ old.greatest
-    greatest = ⊎_elim (λ fresh. omega (arith, fresh.1, first.quiet.passes.told.told, sound.greatest)) (λ kept. omega (arith, kept.1)) first.quiet.passes.told.numbers
+    greatest = ⊎_elim (λ fresh. omega (arith, fresh.1, first.quiet.passes.told.told, sound.greatest)) (λ kept. omega (arith, kept.1))
+        first.quiet.passes.told.numbers
 
     widen : (m : Moment) → IsQuietMoment mid.may_leave mid m → IsQuietMoment old.may_leave old m
     widen m quiet = record {

@@ -3,14 +3,14 @@ use Rattle.std.proofs.Common.{◌≡◌, ⊎_elim, ℕ, zero, suc, ◌+◌, ◌%
 use Rattle.std.specs.Prelude.{max}
 use Rattle.std.proofs.Math.Nat.{mod-lt}
 use Rattle.std.proofs.lemmas.Bool.{cases_lt}
-use Rattle.fdr_recover.specs.Blocks.{Block, Slots, IsNext, number_after, next_among}
-use Rattle.fdr_recover.proofs.Standing.{some_or_none}
+use Rattle.fdr_recover.specs.Blocks.{Block, Slots, IsNextOfBlocks, number_after, next_among}
+use Rattle.fdr_lists.proofs.Options.{some_or_none}
 
 -- each block lies in its own slot
 pub record ArePlaced (n : ℕ) (slots : Slots) : Type 0 where
   pub place : (i : ℕ) (b : Block) → slots i ≡ Some b → b.number % n ≡ i
 
-next_le : (n : ℕ) (slots : Slots) (a b : ℕ) → IsNext n slots a → IsNext n slots b → a ≤ b
+next_le : (n : ℕ) (slots : Slots) (a b : ℕ) → IsNextOfBlocks n slots a → IsNextOfBlocks n slots b → a ≤ b
 next_le n slots a b first second = ⊎_elim
     (λ less. let top = first.stands (omega arith) in
     let under = second.above top.0 top.1.0 in
@@ -19,7 +19,7 @@ next_le n slots a b first second = ⊎_elim
     (cases_lt b a)
 
 -- there is one such number
-pub IsNext-one : (n : ℕ) (slots : Slots) (a b : ℕ) → IsNext n slots a → IsNext n slots b → a ≡ b
+pub IsNext-one : (n : ℕ) (slots : Slots) (a b : ℕ) → IsNextOfBlocks n slots a → IsNextOfBlocks n slots b → a ≡ b
 IsNext-one n slots a b first second = omega (arith, next_le n slots a b first second, next_le n slots b a second first)
 
 number_after-some : (o : Option Block) (b : Block) → o ≡ Some b → number_after o ≡ b.number + 1
@@ -35,7 +35,8 @@ next_among-above slots (suc i) k b below is = ⊎_elim
     (cases_lt k i)
 
 -- one slot more
-pub next_more : (slots : Slots) (i next n more : ℕ) → more ≡ max n next → n ≡ number_after (slots i) → next ≡ next_among i slots → more ≡ next_among (i + 1) slots
+pub next_more : (slots : Slots) (i next n more : ℕ) → more ≡ max n next → n ≡ number_after (slots i) → next ≡ next_among i slots
+    → more ≡ next_among (i + 1) slots
 next_more slots i next n more is number before = rw add-one (omega arith)
 
 -- a block among the first slots that reaches this number
@@ -56,7 +57,7 @@ next_among-reached slots (suc i) some = ⊎_elim
     (cases_lt (next_among i slots) (number_after (slots i)))
 
 -- the greatest of all slots
-pub next_among-is_next : (n : ℕ) (slots : Slots) → 0 < n → ArePlaced n slots → IsNext n slots (next_among n slots)
+pub next_among-is_next : (n : ℕ) (slots : Slots) → 0 < n → ArePlaced n slots → IsNextOfBlocks n slots (next_among n slots)
 unfolding Reaching
 next_among-is_next n slots some placed = record {
   above = λ b stands. next_among-above slots n (b.number % n) b (mod-lt b.number some) stands;

@@ -1,19 +1,23 @@
 -- The blocks below a number, down to the first that doesn't stand, are the longest run.
-use Rattle.std.proofs.Common.{◌≡◌, ⊎_elim, ℕ, zero, suc, ◌+◌, ◌-◌, ◌<◌, ◌≤◌, List, [], ◌∷◌, ◌++◌, length, Some, None, refl, sym, ap, ◌∙◌, subst, arith, length-append}
+use Rattle.std.proofs.Common.{◌≡◌, ⊎_elim, ℕ, zero, suc, ◌+◌, ◌-◌, ◌<◌, ◌≤◌, List, [], ◌∷◌, ◌++◌, length, Some, None, refl, sym, ap, ◌∙◌, subst, arith}
+use Rattle.std.proofs.Common.{length-append}
 use Rattle.std.specs.Prelude.{All}
 use Rattle.std.proofs.lemmas.Bool.{cases_lt}
 use Rattle.std.proofs.lemmas.List.Elements.{All-append, All-nil, All-cons, All-head, All-tail}
-use Rattle.fdr_recover.specs.Blocks.{Block, Slots, Stands, IsNumbered, IsNext, IsRun, IsLongestRun, standing, continued, run_below}
-use Rattle.fdr_recover.proofs.Standing.{some_or_none, standing-stands, stands-standing}
+use Rattle.fdr_recover.specs.Blocks.{Block, Slots, StandsInSlot, AreNumberedFrom, IsNextOfBlocks, IsRun, IsLongestRun, standing, continued, run_below}
+use Rattle.fdr_recover.proofs.Standing.{standing-stands, stands-standing}
 use Rattle.fdr_recover.proofs.Nexts.{IsNext-one}
+use Rattle.fdr_lists.proofs.Options.{some_or_none}
 
 pub run_below-none : (n : ℕ) (slots : Slots) (number : ℕ) → standing n slots number ≡ None → run_below n slots (suc number) ≡ []
 run_below-none n slots number none = ap (continued (run_below n slots number)) none
 
-pub run_below-some : (n : ℕ) (slots : Slots) (number : ℕ) (b : Block) → standing n slots number ≡ Some b → run_below n slots (suc number) ≡ run_below n slots number ++ b ∷ []
+pub run_below-some : (n : ℕ) (slots : Slots) (number : ℕ) (b : Block) → standing n slots number ≡ Some b
+    → run_below n slots (suc number) ≡ run_below n slots number ++ b ∷ []
 run_below-some n slots number b some = ap (continued (run_below n slots number)) some
 
-pub length-run_below : (n : ℕ) (slots : Slots) (number : ℕ) (b : Block) → standing n slots number ≡ Some b → length (run_below n slots (suc number)) ≡ length (run_below n slots number) + 1
+pub length-run_below : (n : ℕ) (slots : Slots) (number : ℕ) (b : Block) → standing n slots number ≡ Some b
+    → length (run_below n slots (suc number)) ≡ length (run_below n slots number) + 1
 length-run_below n slots number b some =
     ap length (run_below-some n slots number b some) ∙ length-append (run_below n slots number) (b ∷ [])
 
@@ -25,28 +29,29 @@ run_below-short n slots (suc number) = ⊎_elim
     (some_or_none (standing n slots number))
 
 -- one block more
-IsNumbered-more : (first : ℕ) (xs : List Block) (b : Block) → IsNumbered first xs → b.number ≡ first + length xs → IsNumbered first (xs ++ b ∷ [])
+IsNumbered-more : (first : ℕ) (xs : List Block) (b : Block) → AreNumberedFrom first xs → b.number ≡ first + length xs → AreNumberedFrom first (xs ++ b ∷ [])
 IsNumbered-more first [] b numbered is = (omega arith, tt)
 IsNumbered-more first (x ∷ xs) b numbered is = (numbered.0, IsNumbered-more (first + 1) xs b numbered.1 (omega arith))
 
-run_below-numbered : (n : ℕ) (slots : Slots) (number first : ℕ) → first + length (run_below n slots number) ≡ number → IsNumbered first (run_below n slots number)
+run_below-numbered : (n : ℕ) (slots : Slots) (number first : ℕ) → first + length (run_below n slots number) ≡ number
+    → AreNumberedFrom first (run_below n slots number)
 run_below-numbered n slots zero first is = tt
 run_below-numbered n slots (suc number) first is = ⊎_elim
-    (λ none. subst (IsNumbered first) (sym (run_below-none n slots number none)) tt)
+    (λ none. subst (AreNumberedFrom first) (sym (run_below-none n slots number none)) tt)
     (λ some. let longer = length-run_below n slots number some.0 some.1 in
     let rest : first + length (run_below n slots number) ≡ number = omega arith in
     let block = standing-stands n slots number some.0 some.1 in
-    subst (IsNumbered first) (sym (run_below-some n slots number some.0 some.1))
+    subst (AreNumberedFrom first) (sym (run_below-some n slots number some.0 some.1))
     (IsNumbered-more first (run_below n slots number) some.0 (run_below-numbered n slots number first rest) (block.0 ∙ sym rest)))
     (some_or_none (standing n slots number))
 
-run_below-stands : (n : ℕ) (slots : Slots) (number : ℕ) → All (Stands n slots) (run_below n slots number)
-run_below-stands n slots zero = All-nil (Stands n slots)
+run_below-stands : (n : ℕ) (slots : Slots) (number : ℕ) → All (StandsInSlot n slots) (run_below n slots number)
+run_below-stands n slots zero = All-nil (StandsInSlot n slots)
 run_below-stands n slots (suc number) = ⊎_elim
-    (λ none. subst (All (Stands n slots)) (sym (run_below-none n slots number none)) (All-nil (Stands n slots)))
-    (λ some. subst (All (Stands n slots)) (sym (run_below-some n slots number some.0 some.1))
-    (All-append (Stands n slots) (run_below n slots number) (some.0 ∷ []) (run_below-stands n slots number)
-    (All-cons (Stands n slots) some.0 [] (standing-stands n slots number some.0 some.1).1 (All-nil (Stands n slots)))))
+    (λ none. subst (All (StandsInSlot n slots)) (sym (run_below-none n slots number none)) (All-nil (StandsInSlot n slots)))
+    (λ some. subst (All (StandsInSlot n slots)) (sym (run_below-some n slots number some.0 some.1))
+    (All-append (StandsInSlot n slots) (run_below n slots number) (some.0 ∷ []) (run_below-stands n slots number)
+    (All-cons (StandsInSlot n slots) some.0 [] (standing-stands n slots number some.0 some.1).1 (All-nil (StandsInSlot n slots)))))
     (some_or_none (standing n slots number))
 
 -- the number before the first doesn't stand
@@ -61,16 +66,17 @@ run_below-ends n slots (suc number) first is = ⊎_elim
     (some_or_none (standing n slots number))
 
 -- each number of a run stands
-run_at : (n : ℕ) (slots : Slots) (first : ℕ) (run : List Block) (number : ℕ) → IsNumbered first run → All (Stands n slots) run → first ≤ number → number < first + length run
-    → (b : Block) × (Stands n slots b × (b.number ≡ number))
+run_at : (n : ℕ) (slots : Slots) (first : ℕ) (run : List Block) (number : ℕ) → AreNumberedFrom first run → All (StandsInSlot n slots) run → first ≤ number
+    → number < first + length run
+    → (b : Block) × (StandsInSlot n slots b × (b.number ≡ number))
 run_at n slots first [] number numbered stand from below = absurd (omega arith)
 run_at n slots first (x ∷ xs) number numbered stand from below = ⊎_elim
-    (λ later. run_at n slots (first + 1) xs number numbered.1 (All-tail (Stands n slots) x xs stand) (omega arith) (omega arith))
+    (λ later. run_at n slots (first + 1) xs number numbered.1 (All-tail (StandsInSlot n slots) x xs stand) (omega arith) (omega arith))
     (λ here. let same : first ≡ number = omega arith in
-    (x, (All-head (Stands n slots) x xs stand, numbered.0 ∙ same)))
+    (x, (All-head (StandsInSlot n slots) x xs stand, numbered.0 ∙ same)))
     (cases_lt first number)
 
-run_below-is_run : (n : ℕ) (slots : Slots) (next : ℕ) → IsNext n slots next → IsRun n slots (run_below n slots next)
+run_below-is_run : (n : ℕ) (slots : Slots) (next : ℕ) → IsNextOfBlocks n slots next → IsRun n slots (run_below n slots next)
 run_below-is_run n slots next is_next =
     let short = run_below-short n slots next in
     let whole : (next - length (run_below n slots next)) + length (run_below n slots next) ≡ next = omega arith in
@@ -78,10 +84,11 @@ run_below-is_run n slots next is_next =
       first = next - length (run_below n slots next);
       numbered = run_below-numbered n slots next (next - length (run_below n slots next)) whole;
       stand = run_below-stands n slots next;
-      next = subst (IsNext n slots) (sym whole) is_next;
+      next = subst (IsNextOfBlocks n slots) (sym whole) is_next;
     }
 
-run_below-longest : (n : ℕ) (slots : Slots) (next : ℕ) (other : List Block) → IsNext n slots next → IsRun n slots other → length other ≤ length (run_below n slots next)
+run_below-longest : (n : ℕ) (slots : Slots) (next : ℕ) (other : List Block) → IsNextOfBlocks n slots next → IsRun n slots other
+    → length other ≤ length (run_below n slots next)
 run_below-longest n slots next other is_next is_run = ⊎_elim
     (λ longer. let ends = IsNext-one n slots (is_run.first + length other) next is_run.next is_next in
     let before : ℕ = (next - length (run_below n slots next)) - 1 in
@@ -92,23 +99,25 @@ run_below-longest n slots next other is_next is_run = ⊎_elim
     (λ short. short)
     (cases_lt (length (run_below n slots next)) (length other))
 
-pub run_below-is_longest : (n : ℕ) (slots : Slots) (next : ℕ) → IsNext n slots next → IsLongestRun n slots (run_below n slots next)
+pub run_below-is_longest : (n : ℕ) (slots : Slots) (next : ℕ) → IsNextOfBlocks n slots next → IsLongestRun n slots (run_below n slots next)
 run_below-is_longest n slots next is_next = record {
   is_run = run_below-is_run n slots next is_next;
   longest = λ other is_run. run_below-longest n slots next other is_next is_run;
 }
 
 -- blocks with the same numbers that stand are the same
-same_run : (n : ℕ) (slots : Slots) (first : ℕ) (xs ys : List Block) → IsNumbered first xs → All (Stands n slots) xs → IsNumbered first ys → All (Stands n slots) ys → length xs ≡ length ys → xs ≡ ys
+same_run : (n : ℕ) (slots : Slots) (first : ℕ) (xs ys : List Block) → AreNumberedFrom first xs → All (StandsInSlot n slots) xs → AreNumberedFrom first ys
+    → All (StandsInSlot n slots) ys → length xs ≡ length ys → xs ≡ ys
 same_run n slots first [] [] numbered stand numbered_too stand_too long = refl
 same_run n slots first [] (y ∷ ys) numbered stand numbered_too stand_too long = absurd (omega arith)
 same_run n slots first (x ∷ xs) [] numbered stand numbered_too stand_too long = absurd (omega arith)
 same_run n slots first (x ∷ xs) (y ∷ ys) numbered stand numbered_too stand_too long =
-    let one = stands-standing n slots first x (All-head (Stands n slots) x xs stand) numbered.0 in
-    let two = stands-standing n slots first y (All-head (Stands n slots) y ys stand_too) numbered_too.0 in
+    let one = stands-standing n slots first x (All-head (StandsInSlot n slots) x xs stand) numbered.0 in
+    let two = stands-standing n slots first y (All-head (StandsInSlot n slots) y ys stand_too) numbered_too.0 in
     let found : Some x ≡ Some y = sym one ∙ two in
     let block : x ≡ y = cc in
-    let rest = same_run n slots (first + 1) xs ys numbered.1 (All-tail (Stands n slots) x xs stand) numbered_too.1 (All-tail (Stands n slots) y ys stand_too) (omega arith) in
+    let rest = same_run n slots (first + 1) xs ys numbered.1 (All-tail (StandsInSlot n slots) x xs stand) numbered_too.1
+    (All-tail (StandsInSlot n slots) y ys stand_too) (omega arith) in
     cc
 
 -- there is one longest run
@@ -117,4 +126,5 @@ IsLongestRun-one n slots xs ys one two =
     let long : length xs ≡ length ys = omega (arith, one.longest ys two.is_run, two.longest xs one.is_run) in
     let ends = IsNext-one n slots (one.is_run.first + length xs) (two.is_run.first + length ys) one.is_run.next two.is_run.next in
     let first : two.is_run.first ≡ one.is_run.first = omega arith in
-    same_run n slots one.is_run.first xs ys one.is_run.numbered one.is_run.stand (subst (λ k. IsNumbered k ys) first two.is_run.numbered) two.is_run.stand long
+    same_run n slots one.is_run.first xs ys one.is_run.numbered one.is_run.stand (subst (λ k. AreNumberedFrom k ys) first two.is_run.numbered)
+    two.is_run.stand long

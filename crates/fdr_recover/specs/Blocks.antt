@@ -10,25 +10,25 @@ abbrev pub Slots : Type 0
 Slots = ℕ → Option Block
 
 -- of n slots, the block's own holds it
-abbrev pub Stands : ℕ → Slots → Block → Type 0
-Stands n slots b = slots (b.number % n) ≡ Some b
+abbrev pub StandsInSlot : ℕ → Slots → Block → Type 0
+StandsInSlot n slots b = slots (b.number % n) ≡ Some b
 
 -- the numbers go up by one, from the first
-abbrev pub IsNumbered : ℕ → List Block → Type 0
-IsNumbered first [] = ⊤
-IsNumbered first (b ∷ bs) = (b.number ≡ first) × IsNumbered (first + 1) bs
+abbrev pub AreNumberedFrom : ℕ → List Block → Type 0
+AreNumberedFrom first [] = ⊤
+AreNumberedFrom first (b ∷ bs) = (b.number ≡ first) × AreNumberedFrom (first + 1) bs
 
 -- one more than the greatest number that stands, or 0 where none does
-pub record IsNext (n : ℕ) (slots : Slots) (next : ℕ) : Type 0 where
-  pub above : (b : Block) → Stands n slots b → b.number < next
-  pub stands : 0 < next → (b : Block) × (Stands n slots b × (b.number + 1 ≡ next))
+pub record IsNextOfBlocks (n : ℕ) (slots : Slots) (next : ℕ) : Type 0 where
+  pub above : (b : Block) → StandsInSlot n slots b → b.number < next
+  pub stands : 0 < next → (b : Block) × (StandsInSlot n slots b × (b.number + 1 ≡ next))
 
 -- blocks that stand, with consecutive numbers, of which the last is the greatest that stands
 pub record IsRun (n : ℕ) (slots : Slots) (run : List Block) : Type 0 where
   pub first : ℕ
-  pub numbered : IsNumbered first run
-  pub stand : All (Stands n slots) run
-  pub next : IsNext n slots (first + length run)
+  pub numbered : AreNumberedFrom first run
+  pub stand : All (StandsInSlot n slots) run
+  pub next : IsNextOfBlocks n slots (first + length run)
 
 -- the longest of such lists
 pub record IsLongestRun (n : ℕ) (slots : Slots) (run : List Block) : Type 0 where
@@ -46,13 +46,13 @@ next_among zero slots = 0
 next_among (suc i) slots = max (next_among i slots) (number_after (slots i))
 
 -- the block, where it has this number
-abbrev pub numbered : ℕ → Option Block → Option Block
-numbered number None = None
-numbered number (Some b) = if b.number == number then Some b else None
+abbrev pub if_numbered : ℕ → Option Block → Option Block
+if_numbered number None = None
+if_numbered number (Some b) = if b.number == number then Some b else None
 
 -- the block with this number, where its slot holds it
 abbrev pub standing : ℕ → Slots → ℕ → Option Block
-standing n slots number = numbered number (slots (number % n))
+standing n slots number = if_numbered number (slots (number % n))
 
 -- these blocks and the one behind them, or none where it isn't there
 abbrev pub continued : List Block → Option Block → List Block

@@ -4,7 +4,7 @@ use Rattle.fdr_slot.specs.declared.image.Header.{Header}
 use Rattle.fdr_slot.specs.declared.head.SlotHead.{SlotHead}
 use Rattle.fdr_slot.specs.Places.{slot_at}
 use Rattle.fdr_slot.specs.Heads.{head_of, is_valid}
-use Rattle.fdr_recover.specs.Blocks.{Block, IsNext, IsLongestRun, next_among, standing, run_below}
+use Rattle.fdr_recover.specs.Blocks.{Block, IsNextOfBlocks, IsLongestRun, next_among, standing, run_below}
 
 -- the head of slot i
 unfoldable pub head_at : Header → List ℕ → ℕ → SlotHead
@@ -24,8 +24,8 @@ block_in h image i =
     if is_valid h i (head_at h image i) then Some (block_of h image i (head_at h image i)) else None
 
 -- the block with this number, where its slot holds it
-unfoldable pub block_at : Header → List ℕ → ℕ → Option Block
-block_at h image number = standing h.slots (block_in h image) number
+unfoldable pub block_numbered : Header → List ℕ → ℕ → Option Block
+block_numbered h image number = standing h.slots (block_in h image) number
 
 -- its bytes, or none
 abbrev pub payload_of : Option Block → List ℕ
@@ -33,7 +33,7 @@ payload_of None = []
 payload_of (Some b) = b.payload
 
 abbrev pub payload_at : Header → List ℕ → ℕ → List ℕ
-payload_at h image number = payload_of (block_at h image number)
+payload_at h image number = payload_of (block_numbered h image number)
 
 -- one more than the greatest number in a valid slot, or 0 where no slot is valid
 unfoldable pub next_of : Header → List ℕ → ℕ
@@ -41,7 +41,7 @@ next_of h image = next_among h.slots (block_in h image)
 
 -- that number as a fact
 abbrev pub IsNextNumber : Header → List ℕ → ℕ → Type 0
-IsNextNumber h image next = IsNext h.slots (block_in h image) next
+IsNextNumber h image next = IsNextOfBlocks h.slots (block_in h image) next
 
 -- the blocks below a number, down to the first that no slot holds
 unfoldable pub blocks_below : Header → List ℕ → ℕ → List Block

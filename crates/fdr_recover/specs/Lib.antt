@@ -1,3 +1,4 @@
+pub mod ImageHeader
 pub mod Blocks
 pub mod Images
 pub mod Looks

@@ -1,12 +1,16 @@
-//! The blocks that an image holds: the run of the last ones, and each of them.
+//! What an image holds: its header, the run of its last blocks, and each of them.
 //!
 //! All calls look at the disk and leave it as it is.
 #![tactic(auto)]
 
+mod error;
+mod open;
 mod payload;
 mod run;
 mod slots;
 
+pub use error::RingFault;
+pub use open::read_image_header;
 pub use payload::block;
 pub use run::{Found, scan};
 

@@ -1,10 +1,11 @@
-// The payload of a block.
+//! The payload of a block.
+
 ghost use Rattle.std.specs.Prelude.{◌≡◌, ◌≤◌, ◌<◌, ◌^◌, ◌↔◌, None, take, length, IfOk, OnOk, OnErr, IsTrue};
 ghost use Rattle.fdr_io.specs.Faults.{Rose};
 ghost use Rattle.fdr_deck.specs.Calls.{Succeeds};
 ghost use Rattle.fdr_slot.specs.Limits.{IsInLimits};
 ghost use Rattle.fdr_slot.specs.Places.{image_size};
-ghost use Rattle.fdr_recover.specs.Images.{block_at, payload_at};
+ghost use Rattle.fdr_recover.specs.Images.{block_numbered, payload_at};
 ghost use Rattle.fdr_recover.specs.Looks.{Looks};
 
 use crate::slots::{head_in, slot_of};
@@ -22,7 +23,7 @@ pub fn block<D: Deck>(deck: &mut D, h: &Header, seq: u64, buf: &mut [u8]) -> Res
     requires room { h.now.payload ≤ length buf.old }
     ensures payload { IsTrue D.tells.bytes
         → IfOk result (λ n. take n buf.new ≡ payload_at h.now (D.state deck.old).held seq) }
-    ensures none { IsTrue D.tells.bytes → IfOk result (λ n. (n ≡ 0) ↔ (block_at h.now (D.state deck.old).held seq ≡ None)) }
+    ensures none { IsTrue D.tells.bytes → IfOk result (λ n. (n ≡ 0) ↔ (block_numbered h.now (D.state deck.old).held seq ≡ None)) }
     ensures bound { IfOk result (λ n. n ≤ h.now.payload) }
     ensures looks { Looks D.tells (D.state deck.old) (D.state deck.new) }
     ensures succeeds { OnOk result (Succeeds (D.state deck.old) (D.state deck.new)) }

@@ -1,7 +1,8 @@
-// The recovered run.
+//! The recovered run.
+
 ghost use Rattle.std.specs.Prelude.{◌≡◌, ℕ, ◌+◌, ◌≤◌, ◌^◌, List, length, IfOk, OnOk, OnErr, IsTrue};
 ghost use Rattle.fdr_io.specs.Faults.{Rose};
-ghost use Rattle.fdr_deck.specs.Calls.{Succeeds, IsFresh};
+ghost use Rattle.fdr_deck.specs.Calls.{Succeeds, HasOneAnnounced};
 ghost use Rattle.fdr_slot.specs.Limits.{IsInLimits};
 ghost use Rattle.fdr_slot.specs.Places.{image_size};
 ghost use Rattle.fdr_recover.specs.Blocks.{Block};
@@ -51,7 +52,7 @@ fn first_number<D: Deck>(deck: &mut D, h: &Header, next: u64) -> Result<u64, Fai
     ensures order { IfOk result (λ n. n ≤ next) }
     ensures room { IfOk result (λ n. next ≤ n + h.now.slots) }
     ensures looks { Looks D.tells (D.state deck.old) (D.state deck.new) }
-    ensures fresh { OnOk result (IsFresh (D.state deck.old) → IsFresh (D.state deck.new)) }
+    ensures fresh { OnOk result (HasOneAnnounced (D.state deck.old) → HasOneAnnounced (D.state deck.new)) }
     ensures faults { OnOk result ((D.state deck.new).disk_faults ≡ (D.state deck.old).disk_faults) }
     ensures cause { OnErr result (Rose (D.state deck.old).disk_faults (D.state deck.new).disk_faults) }
     ensures rest { D.same_rest deck.old deck.new }

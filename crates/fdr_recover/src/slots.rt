@@ -1,11 +1,12 @@
-// What the slots of a deck's disk hold.
+//! What the slots of a deck's disk hold.
+
 ghost use Rattle.std.specs.Prelude.{◌≡◌, ◌%◌, ◌<◌, ◌≤◌, ◌^◌, ◌↔◌, IfOk, OnOk, OnErr, IsTrue, IsSome};
 ghost use Rattle.fdr_io.specs.Faults.{Rose};
 ghost use Rattle.fdr_deck.specs.Calls.{Succeeds};
 ghost use Rattle.fdr_slot.specs.Limits.{IsInLimits};
 ghost use Rattle.fdr_slot.specs.Places.{image_size};
 ghost use Rattle.fdr_recover.specs.Blocks.{number_after};
-ghost use Rattle.fdr_recover.specs.Images.{head_at, block_in, block_at};
+ghost use Rattle.fdr_recover.specs.Images.{head_at, block_in, block_numbered};
 ghost use Rattle.fdr_recover.specs.Looks.{Looks};
 
 use fdr_deck::Deck;
@@ -67,7 +68,7 @@ pub fn holds<D: Deck>(deck: &mut D, h: &Header, seq: u64) -> Result<bool, Failed
     requires fits { seq < 2 ^ 48 }
     requires whole { image_size h.now ≤ (D.state deck.old).extent }
     ensures held { IsTrue D.tells.bytes
-        → IfOk result (λ yes. IsTrue yes ↔ IsSome (block_at h.now (D.state deck.old).held seq)) }
+        → IfOk result (λ yes. IsTrue yes ↔ IsSome (block_numbered h.now (D.state deck.old).held seq)) }
     ensures looks { Looks D.tells (D.state deck.old) (D.state deck.new) }
     ensures succeeds { OnOk result (Succeeds (D.state deck.old) (D.state deck.new)) }
     ensures cause { OnErr result (Rose (D.state deck.old).disk_faults (D.state deck.new).disk_faults) }

@@ -3,7 +3,7 @@ use Rattle.std.proofs.Common.{◌≡◌, ℕ, ◌-◌, ◌<◌, ◌≤◌, List,
 use Rattle.std.specs.Prelude.{IsTrue}
 use Rattle.fdr_deck.specs.State.{State, Tells}
 use Rattle.fdr_deck.specs.Disk.{IsSettled, KeepsDisk}
-use Rattle.fdr_deck.specs.Moments.{IsSound}
+use Rattle.fdr_deck.specs.Moments.{IsSoundDeck}
 use Rattle.fdr_deck.specs.Calls.{IsQuiet}
 use Rattle.fdr_deck.proofs.Quiet.{IsQuiet-then}
 use Rattle.fdr_slot.specs.declared.image.Header.{Header}
@@ -23,7 +23,7 @@ pub record IsFound (h : Header) (number : ℕ) (image : List ℕ) : Type 0 where
   pub whole : image_size h ≤ length image
   pub next : number ≡ next_of h image
 
-pub IsFound-deck : (tells : Tells) (h : Header) (number : ℕ) (d : State) → IsInLimits h → IsSound tells d
+pub IsFound-deck : (tells : Tells) (h : Header) (number : ℕ) (d : State) → IsInLimits h → IsSoundDeck tells d
     → image_size h ≤ d.extent
     → (IsTrue tells.bytes → number ≡ next_of h d.held) → IsTrue tells.bytes → IsFound h number d.held
 IsFound-deck tells h number d limits sound whole next told =
@@ -46,7 +46,7 @@ looking_image h number old new found same =
     attaching_image h number (gate_at h number) old new found refl (IsTurned-here (gate_at h number) old new same)
 
 -- a look at the image, and then the close of the gate
-pub attaching_quiet : (tells : Tells) (h : Header) (number at : ℕ) (old mid new : State) → IsSound tells old
+pub attaching_quiet : (tells : Tells) (h : Header) (number at : ℕ) (old mid new : State) → IsSoundDeck tells old
     → (IsTrue tells.bytes → IsFound h number old.held)
     → at ≡ gate_at h number → KeepsDisk old mid → IsQuiet tells old.may_leave old mid
     → IsQuiet tells (Closing at mid) mid new
@@ -85,7 +85,7 @@ attached_run h number old new found is =
     (subst (IsClosed h new) (sym (add-zero number)) (attached_closed h number old new found is))
 
 -- what the ring knows then
-pub attached_ring : (tells : Tells) (h : Header) (number : ℕ) (old new : State) → IsSound tells old
+pub attached_ring : (tells : Tells) (h : Header) (number : ℕ) (old new : State) → IsSoundDeck tells old
     → image_size h ≤ new.extent
     → (IsTrue tells.bytes → IsFound h number old.held)
     → (IsTrue tells.bytes → new.held ≡ shut (gate_at h number) old.held)

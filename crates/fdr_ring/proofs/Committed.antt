@@ -1,10 +1,10 @@
 -- The ring behind a block that has come.
-use Rattle.std.proofs.Common.{◌≡◌, ⊎_elim, ℕ, ◌+◌, ◌%◌, ◌≤◌, List, length, Option}
-use Rattle.std.proofs.Common.{Some, None, sym, ap, ◌∙◌, subst, arith}
-use Rattle.std.specs.Prelude.{IsTrue, IsSome, slice_index}
+use Rattle.std.proofs.Common.{◌≡◌, ℕ, ◌+◌, ◌%◌, ◌≤◌, List, length}
+use Rattle.std.proofs.Common.{Some, sym, ap, ◌∙◌, subst, arith}
+use Rattle.std.specs.Prelude.{IsTrue, slice_index}
 use Rattle.fdr_deck.specs.State.{State, Tells}
 use Rattle.fdr_deck.specs.Disk.{Torn, IsSettled}
-use Rattle.fdr_deck.specs.Moments.{IsSound}
+use Rattle.fdr_deck.specs.Moments.{IsSoundDeck}
 use Rattle.fdr_deck.specs.Calls.{IsQuiet}
 use Rattle.fdr_deck.proofs.Quiet.{IsQuiet-weaken}
 use Rattle.fdr_slot.specs.declared.image.Header.{Header}
@@ -12,12 +12,12 @@ use Rattle.fdr_slot.specs.Limits.{IsInLimits}
 use Rattle.fdr_slot.specs.Places.{slot_size, image_size}
 use Rattle.fdr_recover.specs.Blocks.{Block}
 use Rattle.fdr_recover.specs.Images.{next_of}
-use Rattle.fdr_recover.proofs.Standing.{some_or_none}
 use Rattle.fdr_ring.specs.Gates.{gate_at, IsClosed, opened, waiting}
 use Rattle.fdr_ring.specs.Runs.{HasAdded}
 use Rattle.fdr_ring.specs.Rings.{IsSureRing, IsPrepared, IsCommitting, OfSettled}
 use Rattle.fdr_ring.proofs.Bytes.{patched_byte}
 use Rattle.fdr_ring.proofs.Turning.{gate_within, commit_image, opened_torn, opened_image, next_slot, other_gate}
+use Rattle.fdr_lists.proofs.Options.{some_is}
 
 -- the waiting block has come behind the run
 pub committed : (h : Header) (number : ℕ) (b : Block) (old new : List ℕ) → IsInLimits h → number ≡ next_of h old
@@ -30,14 +30,8 @@ committed h number b old new limits next closed whole waits is =
     (ap (λ (l : List ℕ). slice_index l (gate_at h number)) is
     ∙ patched_byte (gate_at h number) 0x5a old (omega (arith, within)))
 
-some_is : (o : Option Block) → IsSome o → (b : Block) × (o ≡ Some b)
-some_is o some = ⊎_elim
-    (λ none. absurd (let gone : IsSome {T = Block} None = subst (λ x. IsSome x) none some in cc))
-    (λ held. held)
-    (some_or_none o)
-
 -- what the ring knows then
-pub committed_ring : (tells : Tells) (h : Header) (number : ℕ) (old new : State) → IsInLimits h → IsSound tells old
+pub committed_ring : (tells : Tells) (h : Header) (number : ℕ) (old new : State) → IsInLimits h → IsSoundDeck tells old
     → IsPrepared tells h number old → new.extent ≡ old.extent
     → (IsTrue tells.bytes → new.held ≡ opened h old.held number)
     → (IsTrue tells.stops → IsSettled new) → IsSureRing tells h (number + 1) new
@@ -76,14 +70,14 @@ committing_image h number at old new limits next closed whole here torn =
     record { run = λ b waits. commit_image h number b old new limits next closed whole waits gate; bytes = gate }
 
 pub committing_deck : (tells : Tells) (h : Header) (number at : ℕ) (old : State) (image : List ℕ) → IsInLimits h
-    → IsSound tells old → IsPrepared tells h number old
+    → IsSoundDeck tells old → IsPrepared tells h number old
     → at ≡ gate_at h number → IsTrue tells.bytes → Torn at 1 old.held image → IsCommitting h number old.held image
 committing_deck tells h number at old image limits sound prepared here told =
     committing_image h number at old.held image limits (prepared.ring.next told) (prepared.ring.closed told)
     (omega (arith, prepared.ring.extent, sound.size told)) here
 
 -- the same at each moment
-pub committing_quiet : (tells : Tells) (h : Header) (number at : ℕ) (old new : State) → IsInLimits h → IsSound tells old
+pub committing_quiet : (tells : Tells) (h : Header) (number at : ℕ) (old new : State) → IsInLimits h → IsSoundDeck tells old
     → IsPrepared tells h number old
     → at ≡ gate_at h number → IsQuiet tells (λ image. IsSettled old → Torn at 1 old.held image) old new
     → IsQuiet tells (OfSettled old (IsCommitting h number)) old new

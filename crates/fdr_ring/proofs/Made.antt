@@ -1,25 +1,25 @@
--- Faults of images, and images that are made.
-use Rattle.std.proofs.Common.{◌≡◌, ◌≢◌, ◌⊎◌, inl, inr, ⊎_elim, ℕ, zero, suc, ◌+◌, ◌-◌, ◌*◌, ◌%◌, ◌<◌, ◌≤◌, true, List, [], ◌∷◌, ◌++◌}
-use Rattle.std.proofs.Common.{length, take, drop, get_or, Some, None, refl, sym, ap, ◌∙◌, subst, arith, length-append}
-use Rattle.std.specs.Prelude.{nat_lt, slice_index, replicate, IsTrue}
+-- Images that are made.
+use Rattle.std.proofs.Common.{◌≡◌, ◌≢◌, ◌⊎◌, inl, inr, ⊎_elim, ℕ, zero, suc, ◌+◌, ◌-◌, ◌*◌, ◌%◌, ◌<◌, ◌≤◌, List, [], ◌∷◌, ◌++◌}
+use Rattle.std.proofs.Common.{length, take, drop, get_or, None, refl, sym, ap, ◌∙◌, subst, arith, length-append}
+use Rattle.std.specs.Prelude.{slice_index, replicate, IsTrue}
 use Rattle.std.proofs.Math.Nat.{mul-le-mul_right, mod-lt}
-use Rattle.std.proofs.lemmas.Bool.{cases_eq, cases_lt, cases_Bool}
-use Rattle.std.proofs.lemmas.Bool.Decides.{nat_tests}
+use Rattle.std.proofs.lemmas.Bool.{cases_eq, cases_lt}
 use Rattle.std.proofs.lemmas.List.{get_or-take, get_or-replicate, get_or-append_right, take_at, drop_at, drop-replicate, length-replicate}
 use Rattle.std.proofs.lemmas.List.{length-take-le}
 use Rattle.fdr_deck.specs.State.{State, Tells}
 use Rattle.fdr_deck.specs.Disk.{Torn, Tears, IsSettled, IsZeros, KeepsDisk, patched}
-use Rattle.fdr_deck.specs.Moments.{IsSound, EachMoment, Within, WithinProvide}
+use Rattle.fdr_deck.specs.Moments.{IsSoundDeck, EachMoment, Within, WithinProvide}
 use Rattle.fdr_deck.specs.Calls.{Passes, IsQuiet}
 use Rattle.fdr_deck.proofs.Moments.{IsQuiet-here, IsQuiet-write}
 use Rattle.fdr_deck.proofs.Quiet.{IsQuiet-look, IsQuiet-then, IsQuiet-provide}
 use Rattle.fdr_slot.specs.declared.image.Header.{Header}
-use Rattle.fdr_slot.specs.Limits.{in_limits, IsInLimits}
+use Rattle.fdr_slot.specs.Limits.{IsInLimits}
 use Rattle.fdr_slot.specs.Places.{slot_at, slot_size, image_size}
-use Rattle.fdr_slot.specs.Headers.{has_magic, header_of, header_bytes, image_fault}
-use Rattle.fdr_slot.proofs.HeaderLemmas.{image_fault_closed, image_fault_magic, image_fault_geometry, image_fault_short, image_fault_none}
+use Rattle.fdr_slot.specs.Headers.{header_of, header_bytes, image_fault}
+use Rattle.fdr_slot.proofs.HeaderLemmas.{image_fault_closed}
 use Rattle.fdr_slot.proofs.HeaderLemmas.{header_of-header_bytes, image_fault-header_bytes}
 use Rattle.fdr_slot.specs.declared.image.ImageFault.TheVariants as fault
+use Rattle.fdr_recover.proofs.ImageFaults.{small_fault}
 use Rattle.fdr_recover.specs.Blocks.{Slots, number_after, next_among, run_below}
 use Rattle.fdr_recover.specs.Images.{block_in, next_of, blocks_below, recovered_run}
 use Rattle.fdr_ring.specs.Gates.{gate_at}
@@ -27,28 +27,6 @@ use Rattle.fdr_ring.specs.Formatting.{IsEmpty, IsFormatted, FormattingStop, Maki
 use Rattle.fdr_ring.specs.Rings.{IsSureRing}
 use Rattle.fdr_ring.proofs.Bytes.{Torn-then, Torn-within, Torn-of-same, byte_front, torn_byte}
 use Rattle.fdr_ring.proofs.Places.{block_in-closed}
-
-pub small_fault : (bytes : List ℕ) (size : ℕ) → size < 64 → image_fault bytes size ≡ Some fault.Small
-unfolding image_fault
-small_fault bytes size small =
-    let test : nat_lt size 64 ≡ true = grind (arith, nat_tests) in
-    rw test refl
-
--- a length that has room for a header isn't too small
-pub not_small : (bytes : List ℕ) (size : ℕ) → 64 ≤ size → image_fault bytes size ≡ Some fault.Small → ⊥
-not_small bytes size whole is = ⊎_elim
-    (λ gate. ⊎_elim
-    (λ magic. ⊎_elim
-    (λ limits. ⊎_elim
-    (λ few. let found = image_fault_short bytes size whole gate magic limits few in absurd (cc))
-    (λ enough. let found = image_fault_none bytes size whole gate magic limits enough in absurd (cc))
-    (cases_lt size (image_size (header_of bytes))))
-    (λ outside. let found = image_fault_geometry bytes size whole gate magic outside in absurd (cc))
-    (cases_Bool (in_limits (header_of bytes))))
-    (λ other. let found = image_fault_magic bytes size whole gate other in absurd (cc))
-    (cases_Bool (has_magic bytes)))
-    (λ closed. let found = image_fault_closed bytes size whole closed in absurd (cc))
-    (cases_eq (slice_index bytes 0) 0x5a)
 
 -- an image that is too small, or closed
 pub small_stop : (h : Header) (image : List ℕ) → length image < 64 → FormattingStop h image
@@ -156,7 +134,7 @@ gate_stop h held image limits is some torn = ⊎_elim
     (cases_eq (slice_index image 0) 0x5a)
 
 -- the write of the header behind its gate
-pub lays_tail : (tells : Tells) (size n : ℕ) (old new : State) → IsSound tells old → (IsTrue tells.bytes → old.held ≡ replicate size 0)
+pub lays_tail : (tells : Tells) (size n : ℕ) (old new : State) → IsSoundDeck tells old → (IsTrue tells.bytes → old.held ≡ replicate size 0)
     → (IsTrue tells.stops → IsSettled old) → n ≤ 63
     → Passes tells old new → EachMoment tells old new (Within old new) → Tears tells 1 n old new
     → IsQuiet tells (Torn 1 63 (replicate size 0)) old new
@@ -188,14 +166,14 @@ fresh_ring tells h d limits extent needs held settled = record {
         absurd (omega (arith, here, open_gate))
 
 -- a settled disk without a byte
-pub empty_stop : (tells : Tells) (h : Header) (d : State) (image : List ℕ) → IsSound tells d → IsTrue tells.stops → d.extent ≡ 0
+pub empty_stop : (tells : Tells) (h : Header) (d : State) (image : List ℕ) → IsSoundDeck tells d → IsTrue tells.stops → d.extent ≡ 0
     → IsSettled d → d.may_leave image → FormattingStop h image
 empty_stop tells h d image sound told none settled leaves =
     let long : length image ≡ 0 = ap length (settled image leaves) ∙ sound.size (sound.stops_need_bytes told) ∙ none in
     small_stop h image (omega (arith, long))
 
 -- an image that could be left before anything was made
-kept_image : (tells : Tells) (h : Header) (d : State) (image : List ℕ) → IsSound tells d → IsTrue tells.stops → d.may_leave image
+kept_image : (tells : Tells) (h : Header) (d : State) (image : List ℕ) → IsSoundDeck tells d → IsTrue tells.stops → d.may_leave image
     → Making h d image
 kept_image tells h d image sound told leaves = record {
   made = λ none settled. empty_stop tells h d image sound told none settled leaves;
@@ -203,14 +181,14 @@ kept_image tells h d image sound told leaves = record {
 }
 
 -- the length is asked for
-pub asks_length : (tells : Tells) (h : Header) (old new : State) → IsSound tells old → KeepsDisk old new → Passes tells old new
+pub asks_length : (tells : Tells) (h : Header) (old new : State) → IsSoundDeck tells old → KeepsDisk old new → Passes tells old new
     → EachMoment tells old new (Within old new) → IsQuiet tells (Making h old) old new
 asks_length tells h old new sound disk passes moments =
     IsQuiet-look tells (Making h old) old new sound disk passes moments
     (λ told image leaves. kept_image tells h old image sound told leaves)
 
 -- then the disk is provided
-pub provides_zeros : (tells : Tells) (h : Header) (size : ℕ) (old mid new : State) → IsSound tells old → IsSound tells mid
+pub provides_zeros : (tells : Tells) (h : Header) (size : ℕ) (old mid new : State) → IsSoundDeck tells old → IsSoundDeck tells mid
     → (IsTrue tells.stops → old.extent ≡ 0) → KeepsDisk old mid → IsQuiet tells (Making h old) old mid
     → Passes tells mid new → EachMoment tells mid new (WithinProvide size mid new) → IsQuiet tells (Making h old) old new
 provides_zeros tells h size old mid new sound sound_mid none disk first passes moments =
@@ -222,7 +200,7 @@ provides_zeros tells h size old mid new sound sound_mid none disk first passes m
     (λ zeros. record { made = λ empty settled. zeros_stop h size image zeros; kept = λ some. absurd (omega (arith, some, none told)) }))
 
 -- and then the header is laid
-pub lays_header : (tells : Tells) (h : Header) (old mid new : State) → IsSound tells old → (IsTrue tells.stops → old.extent ≡ 0)
+pub lays_header : (tells : Tells) (h : Header) (old mid new : State) → IsSoundDeck tells old → (IsTrue tells.stops → old.extent ≡ 0)
     → IsQuiet tells (Making h old) old mid → IsQuiet tells (FormattingStop h) mid new → IsQuiet tells (Making h old) old new
 lays_header tells h old mid new sound none first second =
     IsQuiet-then tells (Making h old) (FormattingStop h) (Making h old) old mid new sound first second

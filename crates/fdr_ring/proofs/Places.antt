@@ -12,7 +12,7 @@ use Rattle.fdr_slot.specs.Limits.{IsInLimits}
 use Rattle.fdr_slot.specs.Places.{slot_at, slot_size}
 use Rattle.fdr_slot.specs.Headers.{has_open_gate}
 use Rattle.fdr_slot.specs.Heads.{head_of, is_valid}
-use Rattle.fdr_recover.specs.Blocks.{Block, IsNext, run_below, numbered}
+use Rattle.fdr_recover.specs.Blocks.{Block, IsNextOfBlocks, run_below, if_numbered}
 use Rattle.fdr_recover.specs.Images.{head_at, bytes_in, block_of, block_in, next_of, blocks_below, recovered_run}
 use Rattle.fdr_recover.proofs.Nexts.{IsNext-one}
 use Rattle.fdr_recover.proofs.BlockLemmas.{block_in-valid, block_in-invalid, next_of-is_next}
@@ -105,7 +105,7 @@ same_slots h old new limits same =
     let next : next_of h new ≡ next_of h old = next_among-same (block_in h old) (block_in h new) h.slots same in (
       ap (run_below h.slots (block_in h new)) next
           ∙ run_below-same h.slots (block_in h old) (block_in h new) (next_of h old)
-          (λ m less. ap (numbered m) (same (m % h.slots) (mod-lt m (omega arith)))),
+          (λ m less. ap (if_numbered m) (same (m % h.slots) (mod-lt m (omega arith)))),
       next,
     )
 
@@ -139,7 +139,7 @@ pub added_image : (h : Header) (b : Block) (old new : List ℕ) → IsInLimits h
     → IsAdded h.slots b (block_in h old) (block_in h new) → HasAdded h b old new
 unfolding blocks_below
 added_image h b old new limits kept number added =
-    let here = subst (IsNext h.slots (block_in h old)) (sym number) (next_of-is_next h old limits) in
+    let here = subst (IsNextOfBlocks h.slots (block_in h old)) (sym number) (next_of-is_next h old limits) in
     let is = added_next h.slots b (block_in h old) (block_in h new) (omega arith) added here in
     let next : next_of h new ≡ b.number + 1 = IsNext-one h.slots (block_in h new) (next_of h new) (b.number + 1)
     (next_of-is_next h new limits) is in

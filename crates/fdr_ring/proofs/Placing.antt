@@ -6,7 +6,7 @@ use Rattle.std.specs.Prelude.{IsTrue, IsSome, slice_index}
 use Rattle.std.proofs.lemmas.List.{take_at}
 use Rattle.fdr_deck.specs.State.{State, Tells}
 use Rattle.fdr_deck.specs.Disk.{Torn, IsSettled, patched}
-use Rattle.fdr_deck.specs.Moments.{IsSound}
+use Rattle.fdr_deck.specs.Moments.{IsSoundDeck}
 use Rattle.fdr_deck.specs.Calls.{IsQuiet}
 use Rattle.fdr_deck.proofs.Moments.{IsQuiet-now}
 use Rattle.fdr_deck.proofs.Quiet.{IsQuiet-weaken, IsQuiet-then}
@@ -63,7 +63,7 @@ pub record IsReady (h : Header) (number size : ℕ) (image : List ℕ) : Type 0 
   pub closed : IsClosed h image number
 
 pub IsReady-deck : (tells : Tells) (h : Header) (number size : ℕ) (d : State) → IsInLimits h → size ≤ h.payload
-    → IsSound tells d
+    → IsSoundDeck tells d
     → IsRing tells h number d → IsTrue tells.bytes → IsReady h number size d.held
 IsReady-deck tells h number size d limits fits sound ring told = record {
   limits = limits;
@@ -95,7 +95,7 @@ body_image h number size old new ready body =
     (IsTurned-here (gate_at h (number + 1)) new new refl)
 
 -- the same at each moment
-pub body_quiet : (tells : Tells) (h : Header) (number size : ℕ) (old new : State) → IsSound tells old
+pub body_quiet : (tells : Tells) (h : Header) (number size : ℕ) (old new : State) → IsSoundDeck tells old
     → (IsTrue tells.bytes → IsReady h number size old.held)
     → IsQuiet tells (λ image. IsSettled old → Torn (gate_at h number + 1) (15 + size) old.held image) old new
     → IsQuiet tells (OfSettled old (IsPreparing h number size)) old new
@@ -106,8 +106,8 @@ body_quiet tells h number size old new sound ready quiet =
     (torn settled))
 
 -- the body may be torn, and with it the gate of the following slot
-pub placing_quiet : (tells : Tells) (h : Header) (number size at : ℕ) (old mid new : State) → IsSound tells old
-    → IsSound tells mid
+pub placing_quiet : (tells : Tells) (h : Header) (number size at : ℕ) (old mid new : State) → IsSoundDeck tells old
+    → IsSoundDeck tells mid
     → (IsTrue tells.bytes → IsReady h number size old.held) → at ≡ gate_at h (number + 1)
     → (IsTrue tells.bytes → Torn (gate_at h number + 1) (15 + size) old.held mid.held)
     → IsQuiet tells (λ image. IsSettled old → Torn (gate_at h number + 1) (15 + size) old.held image) old mid

@@ -5,10 +5,11 @@ use Rattle.std.specs.Prelude.{max, min}
 use Rattle.std.proofs.Math.Nat.{mod-lt, div-add-mod, mul-le-mul_left}
 use Rattle.std.proofs.lemmas.Bool.{cases_lt, cases_eq}
 use Rattle.std.proofs.lemmas.List.{drop-append-le}
-use Rattle.fdr_recover.specs.Blocks.{Block, Slots, IsNext, number_after, next_among, numbered, standing, continued, run_below}
-use Rattle.fdr_recover.proofs.Standing.{some_or_none, stands-standing, numbered_other}
+use Rattle.fdr_recover.specs.Blocks.{Block, Slots, IsNextOfBlocks, number_after, next_among, if_numbered, standing, continued, run_below}
+use Rattle.fdr_recover.proofs.Standing.{stands-standing, numbered_other}
 use Rattle.fdr_recover.proofs.Runs.{run_below-none, run_below-some, length-run_below, run_below-short}
 use Rattle.fdr_ring.specs.Runs.{IsTail, last_blocks}
+use Rattle.fdr_lists.proofs.Options.{some_or_none}
 
 -- numbers of one slot are a whole turn apart
 pub turn_apart : (n a b : ℕ) → a % n ≡ b % n → a < b → a + n ≤ b
@@ -43,10 +44,10 @@ pub record IsEmptied (n k : ℕ) (old new : Slots) : Type 0 where
   pub here : new k ≡ None
 
 standing-elsewhere : (n k : ℕ) (old new : Slots) (m : ℕ) → 0 < n → IsEmptied n k old new → m % n ≢ k → standing n new m ≡ standing n old m
-standing-elsewhere n k old new m some emptied other = ap (numbered m) (emptied.others (m % n) (mod-lt m some) other)
+standing-elsewhere n k old new m some emptied other = ap (if_numbered m) (emptied.others (m % n) (mod-lt m some) other)
 
 standing-here : (n k : ℕ) (old new : Slots) (m : ℕ) → IsEmptied n k old new → m % n ≡ k → standing n new m ≡ None
-standing-here n k old new m emptied same = ap (λ j. numbered m (new j)) same ∙ ap (numbered m) emptied.here
+standing-here n k old new m emptied same = ap (λ j. if_numbered m (new j)) same ∙ ap (if_numbered m) emptied.here
 
 -- what is left of the blocks below a number, of which those below the limit may be gone
 record IsCut (limit number : ℕ) (whole part : List Block) : Type 0 where
@@ -107,7 +108,7 @@ emptied_run n ahead old new next some less emptied =
 
 -- and the next number stays
 pub emptied_next : (n ahead : ℕ) (old new : Slots) (next : ℕ) → 0 < n → ahead + 1 < n → IsEmptied n ((next + ahead) % n) old new
-    → IsNext n old next → IsNext n new next
+    → IsNextOfBlocks n old next → IsNextOfBlocks n new next
 emptied_next n ahead old new next some less emptied is = record {
   above = λ b stands. ⊎_elim
       (λ gone. absurd (let none : new (b.number % n) ≡ None = ap new gone ∙ emptied.here in let found : None ≡ Some b = sym none
@@ -147,7 +148,7 @@ run_below-bound n ahead slots next less none turn = ⊎_elim
     (λ late. let m : ℕ = next + ahead - n in
     let whole : m + n ≡ next + ahead = omega arith in
     let same = turn m whole in
-    let gone : standing n slots m ≡ None = ap (λ j. numbered m (slots j)) same ∙ ap (numbered m) none in
+    let gone : standing n slots m ≡ None = ap (λ j. if_numbered m (slots j)) same ∙ ap (if_numbered m) none in
     let bound = length-run_below-from n slots next m (omega arith) gone in
     omega (arith, bound))
     (cases_lt (next + ahead) n)
@@ -168,9 +169,9 @@ pub record IsAdded (n : ℕ) (b : Block) (old new : Slots) : Type 0 where
 added_below : (n : ℕ) (b : Block) (old new : Slots) (m : ℕ) → 0 < n → IsAdded n b old new → m < b.number
     → standing n new m ≡ standing n old m
 added_below n b old new m some added less = ⊎_elim
-    (λ same. ap (λ j. numbered m (new j)) same ∙ ap (numbered m) added.here ∙ numbered_other m b (λ equal. omega (arith, equal, less))
-    ∙ sym (ap (λ j. numbered m (old j)) same ∙ ap (numbered m) added.before))
-    (λ other. ap (numbered m) (added.others (m % n) (mod-lt m some) other))
+    (λ same. ap (λ j. if_numbered m (new j)) same ∙ ap (if_numbered m) added.here ∙ numbered_other m b (λ equal. omega (arith, equal, less))
+    ∙ sym (ap (λ j. if_numbered m (old j)) same ∙ ap (if_numbered m) added.before))
+    (λ other. ap (if_numbered m) (added.others (m % n) (mod-lt m some) other))
     (cases_eq (m % n) (b.number % n))
 
 pub added_run : (n : ℕ) (b : Block) (old new : Slots) → 0 < n → IsAdded n b old new
@@ -181,7 +182,7 @@ added_run n b old new some added =
     ap (run_below n new) one ∙ run_below-some n new b.number b here
     ∙ ap (λ r. r ++ b ∷ []) (run_below-same n old new b.number (λ m less. added_below n b old new m some added less))
 
-pub added_next : (n : ℕ) (b : Block) (old new : Slots) → 0 < n → IsAdded n b old new → IsNext n old b.number → IsNext n new (b.number + 1)
+pub added_next : (n : ℕ) (b : Block) (old new : Slots) → 0 < n → IsAdded n b old new → IsNextOfBlocks n old b.number → IsNextOfBlocks n new (b.number + 1)
 added_next n b old new some added is = record {
   above = λ x stands. ⊎_elim
       (λ same. let found : Some b ≡ Some x = sym added.here ∙ ap new (sym same) ∙ stands in

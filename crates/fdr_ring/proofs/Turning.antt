@@ -14,8 +14,8 @@ use Rattle.fdr_slot.specs.Limits.{IsInLimits}
 use Rattle.fdr_slot.specs.Places.{slot_at, slot_size, image_size}
 use Rattle.fdr_slot.specs.Heads.{head_of, head_bytes, is_valid}
 use Rattle.fdr_slot.proofs.HeadLemmas.{head_of-head_bytes}
-use Rattle.fdr_recover.specs.Blocks.{Block, numbered}
-use Rattle.fdr_recover.specs.Images.{head_at, bytes_in, block_of, block_in, block_at, next_of, blocks_below, recovered_run}
+use Rattle.fdr_recover.specs.Blocks.{Block, if_numbered}
+use Rattle.fdr_recover.specs.Images.{head_at, bytes_in, block_of, block_in, block_numbered, next_of, blocks_below, recovered_run}
 use Rattle.fdr_recover.proofs.Placing.{slot_within}
 use Rattle.fdr_recover.proofs.Standing.{numbered-is, numbered_same}
 use Rattle.fdr_recover.proofs.BlockLemmas.{block_in-valid}
@@ -177,7 +177,7 @@ pub waiting_is : (h : Header) (number : ℕ) (image bytes : List ℕ) → IsInLi
     → slice_range image (gate_at h number + 1) (gate_at h number + 1 + 15) ≡ drop 1 (head_bytes (length bytes) 0 number)
     → slice_range image (gate_at h number + 16) (gate_at h number + 16 + length bytes) ≡ bytes
     → waiting h image number ≡ Some (record { number = number; payload = bytes })
-unfolding waiting block_at head_at bytes_in
+unfolding waiting block_numbered head_at bytes_in
 waiting_is h number image bytes limits small some fits within head payload =
     let i : ℕ = number % h.slots in
     let open_image : List ℕ = opened h image number in
@@ -188,7 +188,7 @@ waiting_is h number image bytes limits small some fits within head payload =
     range_outside (gate_at h number) 1 (gate_at h number + 16) (length bytes) image open_image (inr (omega arith))
     (opened_torn h number image within) ∙ payload in
     let valid : is_valid h i (record { gate = true; len = length bytes; session = 0; seq = number }) ≡ true = grind (arith, nat_tests) in
-    ap (numbered number) (block_in-valid h open_image i (ap (is_valid h i) head_is ∙ valid)
+    ap (if_numbered number) (block_in-valid h open_image i (ap (is_valid h i) head_is ∙ valid)
     ∙ ap (λ x. Some (block_of h open_image i x)) head_is
     ∙ ap (λ (p : List ℕ). Some (record { number = number; payload = p })) bytes_are)
     ∙ numbered_same number (record { number = number; payload = bytes }) refl
@@ -235,7 +235,7 @@ waiting_written h number old mid new bytes limits small some fits whole written 
 pub opened_image : (h : Header) (number : ℕ) (b : Block) (old new : List ℕ) → IsInLimits h → number ≡ next_of h old → IsClosed h old number
     → image_size h ≤ length old → waiting h old number ≡ Some b → Torn (gate_at h number) 1 old new
     → slice_index new (gate_at h number) ≡ 0x5a → HasAdded h b old new
-unfolding waiting block_at
+unfolding waiting block_numbered
 opened_image h number b old new limits next closed whole waits torn is =
     let within : gate_at h number < length old = omega (arith, gate_within h number old limits whole) in
     let same : new ≡ opened h old number = torn_byte (gate_at h number) old new 0x5a within torn is in

@@ -1,21 +1,13 @@
 -- Images that are made.
-use Rattle.std.specs.Prelude.{◌≡◌, ◌⊎◌, ◌<◌, ℕ, ◌*◌, List, ◌++◌, length, take, replicate, Option, Some, None}
+use Rattle.std.specs.Prelude.{◌≡◌, ◌⊎◌, ◌<◌, ℕ, ◌*◌, List, ◌++◌, replicate, Some, None}
 use Rattle.fdr_deck.specs.State.{State}
 use Rattle.fdr_deck.specs.Disk.{IsSettled}
 use Rattle.fdr_slot.specs.declared.image.Header.{Header}
-use Rattle.fdr_slot.specs.declared.image.ImageFault.{ImageFault}
 use Rattle.fdr_slot.specs.declared.image.ImageFault.TheVariants as fault
 use Rattle.fdr_slot.specs.Places.{slot_size}
-use Rattle.fdr_slot.specs.Headers.{header_of, header_bytes, image_fault}
+use Rattle.fdr_slot.specs.Headers.{header_bytes}
+use Rattle.fdr_recover.specs.ImageHeader.{image_fault_of, header_in}
 use Rattle.fdr_recover.specs.Images.{block_in}
-
--- the first fault of an image
-abbrev pub fault_of : List ℕ → Option ImageFault
-fault_of image = image_fault (take 64 image) (length image)
-
--- what the header of an image says
-abbrev pub header_in : List ℕ → Header
-header_in image = header_of (take 64 image)
 
 -- no slot is valid
 abbrev pub IsEmpty : Header → List ℕ → Type 0
@@ -23,13 +15,13 @@ IsEmpty h image = (i : ℕ) → i < h.slots → block_in h image i ≡ None
 
 -- the image reads as one with this header, and no slot is valid
 pub record IsFormatted (h : Header) (image : List ℕ) : Type 0 where
-  pub no_fault : fault_of image ≡ None
+  pub no_fault : image_fault_of image ≡ None
   pub header : header_in image ≡ h
   pub empty : IsEmpty h image
 
 -- what a stop may leave while an image is made: it is too small or closed, or it is whole
 abbrev pub FormattingStop : Header → List ℕ → Type 0
-FormattingStop h image = (fault_of image ≡ Some fault.Small) ⊎ ((fault_of image ≡ Some fault.Closed) ⊎ IsFormatted h image)
+FormattingStop h image = (image_fault_of image ≡ Some fault.Small) ⊎ ((image_fault_of image ≡ Some fault.Closed) ⊎ IsFormatted h image)
 
 -- an image at a moment while one is made: a settled disk without a byte gets such a one, and one that has bytes keeps what a stop could leave
 pub record Making (h : Header) (entry : State) (image : List ℕ) : Type 0 where

@@ -4,7 +4,7 @@ use Rattle.fdr_deck.specs.Disk.{patched}
 use Rattle.fdr_slot.specs.declared.image.Header.{Header}
 use Rattle.fdr_slot.specs.Places.{slot_at}
 use Rattle.fdr_recover.specs.Blocks.{Block}
-use Rattle.fdr_recover.specs.Images.{block_at}
+use Rattle.fdr_recover.specs.Images.{block_numbered}
 
 -- where the gate of the slot of this number stands
 abbrev pub gate_at : Header → ℕ → ℕ
@@ -20,7 +20,7 @@ opened h image number = patched (gate_at h number) (0x5a ∷ []) image
 
 -- the block of this number that stands in its slot once the gate is opened
 unfoldable pub waiting : Header → List ℕ → ℕ → Option Block
-waiting h image number = block_at h (opened h image number) number
+waiting h image number = block_numbered h (opened h image number) number
 
 -- the length of the image and its header are as they were
 pub record KeepsHeader (old new : List ℕ) : Type 0 where

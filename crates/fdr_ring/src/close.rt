@@ -1,4 +1,5 @@
-// A gate that is closed where it is open.
+//! A gate that is closed where it is open.
+
 ghost use Rattle.std.specs.Prelude.{◌≡◌, ◌+◌, ◌≤◌, OnOk, OnErr, IsTrue};
 ghost use Rattle.fdr_io.specs.Faults.{Rose};
 ghost use Rattle.fdr_deck.specs.Calls.{IsQuiet, Succeeds};

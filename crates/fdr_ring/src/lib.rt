@@ -9,16 +9,13 @@
 
 mod attach;
 mod close;
-mod error;
 mod make;
-mod open;
 mod place;
 mod ring;
 mod write;
 
-pub use error::RingFault;
+pub use fdr_recover::{RingFault, read_image_header};
 pub use make::format;
-pub use open::read_image_header;
 pub use ring::{Prepared, Ring};
 
 #[cfg(test)]

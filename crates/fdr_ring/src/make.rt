@@ -1,4 +1,5 @@
-// A new image.
+//! A new image.
+
 ghost use Rattle.std.specs.Prelude.{◌≡◌, ◌≢◌, ◌⊎◌, ℕ, ◌+◌, ◌≤◌, ◌<◌, [], ◌∷◌, Err, OnOk, IfOk, OnErr, IsTrue, drop, replicate};
 ghost use Rattle.fdr_io.specs.Faults.{Rose};
 ghost use Rattle.fdr_deck.specs.Disk.{IsSettled, LearnsExtent, KeepsDisk, patched};

@@ -1,4 +1,5 @@
-// A block behind the closed gate of its slot.
+//! A block behind the closed gate of its slot.
+
 ghost use Rattle.std.specs.Prelude.{◌≡◌, ◌<◌, ◌≤◌, ◌^◌, ◌-◌, Some, length, OnOk, OnErr, IsTrue};
 ghost use Rattle.fdr_io.specs.Faults.{Rose};
 ghost use Rattle.fdr_deck.specs.Disk.{IsSettled};
@@ -22,7 +23,7 @@ pub fn place_block<D: Deck>(deck: &mut D, h: &Header, next: u64, bytes: &[u8]) -
     requires limits { IsInLimits h.now }
     requires number { next < 2 ^ 48 }
     requires fact { IsRing D.tells h.now next (D.state deck.old) }
-    requires some { 0 < length bytes.now }
+    requires some_bytes { 0 < length bytes.now }
     requires fits { length bytes.now ≤ h.now.payload }
     ensures held { OnOk result (IsTrue D.tells.bytes
         → (D.state deck.new).held ≡ prepared h.now next bytes.now (D.state deck.old).held) }

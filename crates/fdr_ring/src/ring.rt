@@ -1,12 +1,13 @@
-// A ring, and a block that is prepared in it.
+//! A ring, and a block that is prepared in it.
+
 ghost use Rattle.std.specs.Prelude.{◌≤◌, ◌<◌, ◌^◌, IsTrue};
 ghost use Rattle.fdr_slot.specs.Limits.{in_limits};
 
-use crate::RingFault;
 use crate::attach::close_next;
 use crate::place::place_block;
 use crate::write::{gate_at, open_gate};
 use fdr_deck::Deck;
+use fdr_recover::RingFault;
 use fdr_slot::{Header, SEQUENCE_END};
 
 /// An image that is open for blocks. A call that is refused consumes it.
@@ -33,7 +34,7 @@ impl Ring {
 
     /// The number of the next block, at most 2^48.
     pub fn next(&self) -> u64
-        ensures is { result ≡ self.now.next }
+        ensures number { result ≡ self.now.next }
         ensures bound { result ≤ 2 ^ 48 }
     {
         self.next
@@ -41,7 +42,7 @@ impl Ring {
 
     /// The header of the image.
     pub fn header(&self) -> Header
-        ensures is { result ≡ self.now.header }
+        ensures header { result ≡ self.now.header }
         ensures limits { IsInLimits result }
     {
         self.header
@@ -65,7 +66,7 @@ impl Ring {
     /// deck, exactly where there is no number left, and otherwise `DiskFault`.
     pub fn prepare<D: Deck>(self, deck: &mut D, bytes: &[u8]) -> Result<Prepared, RingFault>
         requires fact { IsRing D.tells self.header self.next (D.state deck.old) }
-        requires some { 0 < length bytes.now }
+        requires some_bytes { 0 < length bytes.now }
         requires fits { length bytes.now ≤ self.header.payload }
         ensures seq_end { (result ≡ Err RingFault.SeqEnd) ↔ (self.next ≡ 2 ^ 48) }
         ensures untouched { result ≡ Err RingFault.SeqEnd → deck.new ≡ deck.old }

@@ -1,4 +1,5 @@
-// The writes that bring a block into its slot.
+//! The writes that bring a block into its slot.
+
 ghost use Rattle.std.specs.Prelude.{◌≡◌, ℕ, ◌+◌, ◌≤◌, ◌<◌, ◌^◌, List, [], ◌∷◌, take, length, OnOk, OnErr, IsTrue};
 ghost use Rattle.fdr_io.specs.Faults.{Rose};
 ghost use Rattle.fdr_deck.specs.Disk.{IsSettled, Torn, patched};
@@ -23,7 +24,7 @@ pub fn gate_at(h: &Header, seq: u64) -> u64
 }
 
 /// The rest of a head behind its gate, and the largest payload.
-const LARGEST: usize = 15 + 4_096;
+const MAX_BODY: usize = 15 + 4_096;
 
 /// Puts the bytes there.
 fn put(room: &mut [u8], at: usize, bytes: &[u8])
@@ -35,12 +36,12 @@ fn put(room: &mut [u8], at: usize, bytes: &[u8])
 
 /// What stands behind the gate of a block's slot, at the front of an array that has room for the
 /// largest.
-fn body_of(seq: u64, bytes: &[u8]) -> [u8; LARGEST]
+fn body_of(seq: u64, bytes: &[u8]) -> [u8; MAX_BODY]
     requires { length bytes.now ≤ 4096 }
     ensures { take (15 + length bytes.now) result ≡ body_bytes seq bytes.now }
 {
     let head = write_slot_head(bytes.len() as u16, 0, seq);
-    let mut body = [0; LARGEST];
+    let mut body = [0; MAX_BODY];
     put(&mut body, 0, &head[1..]);
     put(&mut body, 15, bytes);
     body

@@ -1,9 +1,10 @@
 -- A word of data by its bits, and as the word that parts are written into, one after another.
-use Rattle.std.proofs.Common.{◌≡◌, ℕ, zero, suc, ◌+◌, ◌-◌, ◌/◌, ◌%◌, ◌^◌, ◌<◌, ◌≤◌, ◌⊎◌, inl, inr, ⊎_elim, Bool, true, false, List, [], ◌∷◌, ◌++◌, Option, Some, None, fold, length, get_or, take, reverse, refl, sym, ap, ◌∙◌, subst, arith}
+use Rattle.std.proofs.Common.{◌≡◌, ℕ, zero, suc, ◌+◌, ◌-◌, ◌/◌, ◌%◌, ◌^◌, ◌<◌, ◌≤◌, ◌⊎◌, inl, inr, ⊎_elim, Bool, true, false, List, [], ◌∷◌, ◌++◌, Option, Some}
+use Rattle.std.proofs.Common.{None, fold, length, get_or, take, reverse, refl, sym, ap, ◌∙◌, subst, arith}
 use Rattle.std.specs.Int.{bit_at as nat_bit}
 use Rattle.std.specs.List.{All, find}
 use Rattle.std.specs.Option.{option_map_or}
-use Rattle.std.proofs.lemmas.Bool.{cases_Bool, cases_lt, cond-true, cond-false, and_parts, and_from, leb-true, ltb-true, le-leb, lt-ltb}
+use Rattle.std.proofs.lemmas.Bool.{cases_Bool, cases_lt, cond-true, cond-false, and_parts, and_from, leb-true, ltb-true, le-leb, lt-ltb, both_ways}
 use Rattle.std.proofs.lemmas.Nat.{mod_below, pow_pos}
 use Rattle.std.proofs.lemmas.Nat.Bits.{same_from_bits_below}
 use Rattle.std.proofs.lemmas.List.{reverse-append, take_more, take_all}
@@ -63,9 +64,6 @@ data_bit-not value parts a b lacks =
     ap (λ xs. option_map_or (bit_of_part value b) (find (has_bit b) xs) 0) (reverse-append parts (a ∷ []))
     ∙ ap (λ o. option_map_or (bit_of_part value b) o 0) (cond-false _ _ _ lacks)
 
-true_is_not_false : (b : Bool) → b ≡ true → b ≡ false → ⊥
-true_is_not_false b is isnt = cc
-
 -- a part that hasn't a bit lies below or above it
 beside : (a : SlotPart) (b : ℕ) → has_bit b a ≡ false → (b < a.part.at % 12) ⊎ (a.part.at % 12 + a.part.width ≤ b)
 beside a b lacks =
@@ -74,7 +72,7 @@ beside a b lacks =
     (λ (from : a.part.at % 12 ≤ b). ⊎_elim
     (λ (inside : b < a.part.at % 12 + a.part.width).
     let has : has_bit b a ≡ true = and_from _ _ (le-leb (a.part.at % 12) b from) (lt-ltb b (a.part.at % 12 + a.part.width) inside) in
-    absurd (true_is_not_false (has_bit b a) has lacks))
+    absurd (both_ways (has_bit b a) lacks has))
     (λ (above : a.part.at % 12 + a.part.width ≤ b). inr above)
     (cases_lt b (a.part.at % 12 + a.part.width)))
     (cases_lt b (a.part.at % 12))

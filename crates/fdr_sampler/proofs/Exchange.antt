@@ -12,13 +12,13 @@ use Rattle.fdr_bus.specs.Records.{time_of}
 use Rattle.fdr_table.specs.Rows.{TableRows}
 use Rattle.fdr_layout.specs.Samples.{Sample, samples}
 use Rattle.fdr_layout.specs.SlotParts.{parts_in}
-use Rattle.fdr_sampler.specs.Held.{Source, source_of, is_from, counts_for, held_record, raw_of, raw_value, first_slot}
+use Rattle.fdr_sampler.specs.Held.{Source, source_of, is_from, counts_for, held_record, raw_of_record, raw_value, first_part_slot}
 use Rattle.fdr_sampler.specs.SlotWord.{numbered_value, slot_within, start_of, word_with, slot_word}
 use Rattle.fdr_sampler.specs.Stream.{slot_count, packed, stream_of}
 use Rattle.fdr_sampler.specs.Exchange.{AreTogether, AreExchanged}
 use Rattle.fdr_sampler.proofs.HeldFacts.{from_is}
 use Rattle.fdr_sampler.proofs.DataWords.{data_of-agree}
-use Rattle.fdr_sampler.proofs.Streaming.{map_agree}
+use Rattle.fdr_lists.proofs.Ranges.{map-range-agree}
 
 -- where a test passes at most one of two elements, a search finds the same in either order
 find_one : {X : Type 0} (p : X → Bool) (a b : X) (m n : Bool) → p a ≡ m → p b ≡ n → (m ≡ true → n ≡ true → ⊥) → find p (b ∷ a ∷ []) ≡ find p (a ∷ b ∷ [])
@@ -27,7 +27,8 @@ find_one p a b true false at_a at_b one = rw (at_a, at_b) refl
 find_one p a b false n at_a at_b one = rw at_a refl
 
 -- a search from the end, by three stretches
-find_around : {X : Type 0} (p : X → Bool) (before mid after : List X) → find p (reverse (before ++ (mid ++ after))) ≡ option_or (option_or (find p (reverse after)) (find p (reverse mid))) (find p (reverse before))
+find_around : {X : Type 0} (p : X → Bool) (before mid after : List X)
+    → find p (reverse (before ++ (mid ++ after))) ≡ option_or (option_or (find p (reverse after)) (find p (reverse mid))) (find p (reverse before))
 find_around p before mid after =
     ap (find p) (reverse-append before (mid ++ after)) ∙ find-append p (reverse (mid ++ after)) (reverse before)
     ∙ ap (λ o. option_or o (find p (reverse before))) (ap (find p) (reverse-append mid after) ∙ find-append p (reverse after) (reverse mid))
@@ -62,7 +63,7 @@ raw_value-exchanged : (t : TableRows) (start : ℕ) (before : List BusRecord) (a
 unfolding raw_value
 raw_value-exchanged t start before a b after s together =
     map_or_agree _ _ (slice_get t.params s.param) 0
-    (λ p. ap (raw_of (source_of p)) (held_record-exchanged t.frame.words (start + first_slot s) (source_of p) before a b after together))
+    (λ p. ap (raw_of_record (source_of p)) (held_record-exchanged t.frame.words (start + first_part_slot s) (source_of p) before a b after together))
 
 numbered_value-exchanged : (t : TableRows) (start n : ℕ) (before : List BusRecord) (a b : BusRecord) (after : List BusRecord) → AreTogether a b →
     numbered_value t (before ++ a ∷ b ∷ after) start n ≡ numbered_value t (before ++ b ∷ a ∷ after) start n
@@ -82,7 +83,8 @@ slot_word-exchanged t k before a b after together =
     (data_of-agree one other parts (λ i d l. numbered_value-exchanged t start (get_or parts i d).sample before a b after together))
 
 -- and the time of the last record
-time_of-exchanged : (before : List BusRecord) (a b : BusRecord) (after : List BusRecord) → AreTogether a b → time_of (before ++ a ∷ b ∷ after) ≡ time_of (before ++ b ∷ a ∷ after)
+time_of-exchanged : (before : List BusRecord) (a b : BusRecord) (after : List BusRecord) → AreTogether a b
+    → time_of (before ++ a ∷ b ∷ after) ≡ time_of (before ++ b ∷ a ∷ after)
 time_of-exchanged before a b after together =
     let last : ℕ → BusRecord → ℕ = λ time r. r.time in
     fold-append last 0 before (a ∷ b ∷ after)
@@ -96,7 +98,7 @@ stream_of-swapped t before a b after together =
     let other = before ++ b ∷ a ∷ after in
     let count = slot_count t.frame.words (time_of one) in
     ap packed
-    (map_agree (slot_word t one) (slot_word t other) 0 count (λ k low high. slot_word-exchanged t k before a b after together)
+    (map-range-agree (slot_word t one) (slot_word t other) 0 count (λ k low high. slot_word-exchanged t k before a b after together)
     ∙ ap (λ time. map (slot_word t other) (range_with_len 0 (slot_count t.frame.words time))) (time_of-exchanged before a b after together))
 
 -- two bus words that came at one time, on different buses or with different labels, make one recording in either order

@@ -22,7 +22,8 @@ and_true true c holds = holds
 and_true false c holds = refl
 
 -- where all records count for a slot, the one that is held is the last one of the source
-all_count : (w k : ℕ) (s : Source) (records : List BusRecord) → All (λ (r : BusRecord). IsTrue (counts_for w k r)) records → held_record w s records k ≡ find (is_from s) (reverse records)
+all_count : (w k : ℕ) (s : Source) (records : List BusRecord) → All (λ (r : BusRecord). IsTrue (counts_for w k r)) records
+    → held_record w s records k ≡ find (is_from s) (reverse records)
 unfolding held_record
 all_count w k s records count =
     find_agree (λ r. is_from s r && counts_for w k r) (is_from s) (reverse records)
@@ -34,22 +35,27 @@ pub counts_later : (w k : ℕ) (r : BusRecord) → IsTrue (counts_for w k r) →
 counts_later w k r holds = le-leb (r.time * w) ((k + 1) * 1000000) (omega (arith, leb-true (r.time * w) (k * 1000000) holds))
 
 -- then the same record is held at the next slot
-pub held_record-next : (w k : ℕ) (s : Source) (records : List BusRecord) → All (λ (r : BusRecord). IsTrue (counts_for w k r)) records → held_record w s records (k + 1) ≡ held_record w s records k
+pub held_record-next : (w k : ℕ) (s : Source) (records : List BusRecord) → All (λ (r : BusRecord). IsTrue (counts_for w k r)) records
+    → held_record w s records (k + 1) ≡ held_record w s records k
 held_record-next w k s records count =
-    all_count w (k + 1) s records (All-weaker (λ (r : BusRecord). IsTrue (counts_for w k r)) (λ (r : BusRecord). IsTrue (counts_for w (k + 1) r)) (counts_later w k) records count)
+    all_count w (k + 1) s records (All-weaker (λ (r : BusRecord). IsTrue (counts_for w k r)) (λ (r : BusRecord). IsTrue (counts_for w (k + 1) r))
+    (counts_later w k) records count)
     ∙ sym (all_count w k s records count)
 
-held_record_push : (w k : ℕ) (s : Source) (records : List BusRecord) (r : BusRecord) → held_record w s (records ++ r ∷ []) k ≡ (if is_from s r && counts_for w k r then Some r else held_record w s records k)
+held_record_push : (w k : ℕ) (s : Source) (records : List BusRecord) (r : BusRecord)
+    → held_record w s (records ++ r ∷ []) k ≡ (if is_from s r && counts_for w k r then Some r else held_record w s records k)
 unfolding held_record
 held_record_push w k s records r = ap (find (λ r. is_from s r && counts_for w k r)) (reverse-append records (r ∷ []))
 
 -- a further record that counts for the slot
-pub held_record-counted : (w k : ℕ) (s : Source) (records : List BusRecord) (r : BusRecord) → IsTrue (counts_for w k r) → held_record w s (records ++ r ∷ []) k ≡ (if is_from s r then Some r else held_record w s records k)
+pub held_record-counted : (w k : ℕ) (s : Source) (records : List BusRecord) (r : BusRecord) → IsTrue (counts_for w k r)
+    → held_record w s (records ++ r ∷ []) k ≡ (if is_from s r then Some r else held_record w s records k)
 held_record-counted w k s records r holds =
     held_record_push w k s records r ∙ ap (λ b. if b then Some r else held_record w s records k) (and_true (is_from s r) (counts_for w k r) holds)
 
 -- one that comes too late for the slot changes nothing there
-pub held_record-late : (w k : ℕ) (s : Source) (records : List BusRecord) (r : BusRecord) → k * 1000000 < r.time * w → held_record w s (records ++ r ∷ []) k ≡ held_record w s records k
+pub held_record-late : (w k : ℕ) (s : Source) (records : List BusRecord) (r : BusRecord) → k * 1000000 < r.time * w
+    → held_record w s (records ++ r ∷ []) k ≡ held_record w s records k
 held_record-late w k s records r late =
     held_record_push w k s records r ∙ cond-false _ _ _ (and_right (is_from s r) (counts_for w k r) (lt-leb (r.time * w) (k * 1000000) late))
 

@@ -1,19 +1,20 @@
 -- A bus word is held for the sources that it is from, one entry after another.
-use Rattle.std.proofs.Common.{◌≡◌, ℕ, ◌+◌, ◌<◌, ◌≤◌, ⊎_elim, false, List, Some, length, get_or, set, refl, sym, ap, ◌∙◌, subst, get_or-set_same, get_or-set_other, arith}
+use Rattle.std.proofs.Common.{◌≡◌, ℕ, ◌+◌, ◌<◌, ◌≤◌, ⊎_elim, false, List, Some, length, get_or, set, refl, sym, ap, ◌∙◌, subst, get_or-set_same}
+use Rattle.std.proofs.Common.{get_or-set_other, arith}
 use Rattle.std.specs.Prelude.{Contains, slice_get, slice_index}
 use Rattle.std.proofs.lemmas.Bool.{cases_eq, cases_Bool, cond-true, cond-false}
 use Rattle.fdr_bus.specs.declared.BusRecord.{BusRecord}
 use Rattle.fdr_sampler.specs.declared.index.Entry.{Entry}
 use Rattle.fdr_sampler.specs.Held.{Source, is_from}
-use Rattle.fdr_sampler.specs.Kept.{held_after}
+use Rattle.fdr_sampler.specs.Kept.{number_held_after}
 
 -- the word is held for the sources of the first i entries, and another turn changes nothing for those
 pub record IsHeldTo (sources : List Source) (entries : List Entry) (r : BusRecord) (before after : List ℕ) (i : ℕ) : Type 0 where
   pub found : (k : ℕ) (d : Entry) (s : Source) → k < i → slice_get sources (get_or entries k d).source ≡ Some s →
-      slice_index after (get_or entries k d).source ≡ held_after s r (slice_index before (get_or entries k d).source)
-  pub again : (n : ℕ) (s : Source) → slice_get sources n ≡ Some s → held_after s r (slice_index after n) ≡ held_after s r (slice_index before n)
+      slice_index after (get_or entries k d).source ≡ number_held_after s r (slice_index before (get_or entries k d).source)
+  pub again : (n : ℕ) (s : Source) → slice_get sources n ≡ Some s → number_held_after s r (slice_index after n) ≡ number_held_after s r (slice_index before n)
 
-twice : (s : Source) (r : BusRecord) (n : ℕ) → held_after s r (held_after s r n) ≡ held_after s r n
+twice : (s : Source) (r : BusRecord) (n : ℕ) → number_held_after s r (number_held_after s r n) ≡ number_held_after s r n
 twice s r n = ⊎_elim
     (λ from. cond-true _ _ _ from ∙ sym (cond-true _ _ _ from))
     (λ other. cond-false _ _ _ other)
@@ -21,12 +22,14 @@ twice s r n = ⊎_elim
 
 -- the same where it is held for the source of one more entry
 at_source : (sources : List Source) (r : BusRecord) (before after : List ℕ) (m : ℕ) (t : Source) →
-    ((n : ℕ) (s : Source) → slice_get sources n ≡ Some s → held_after s r (slice_index after n) ≡ held_after s r (slice_index before n)) →
+    ((n : ℕ) (s : Source) → slice_get sources n ≡ Some s → number_held_after s r (slice_index after n) ≡ number_held_after s r (slice_index before n)) →
     slice_get sources m ≡ Some t → m < length after →
-    (s : Source) → slice_get sources m ≡ Some s → slice_index (set after m (held_after t r (slice_index after m))) m ≡ held_after s r (slice_index before m)
+    (s : Source) → slice_get sources m ≡ Some s → slice_index (set after m (number_held_after t r (slice_index after m))) m ≡ number_held_after s r
+    (slice_index before m)
 at_source sources r before after m t again is room s got =
     let same : t ≡ s = cc in
-    get_or-set_same after m (held_after t r (slice_index after m)) 0 room ∙ ap (λ (x : Source). held_after x r (slice_index after m)) same ∙ again m s got
+    get_or-set_same after m (number_held_after t r (slice_index after m)) 0 room ∙ ap (λ (x : Source). number_held_after x r (slice_index after m)) same
+    ∙ again m s got
 
 below_here : (k i : ℕ) → (k ≡ i → ⊥) → k < i + 1 → k < i
 below_here k i other l = omega arith
@@ -36,37 +39,42 @@ get_or-set_other' xs m n v other = rw get_or-set_other refl
 
 pub IsHeldTo-more : (sources : List Source) (entries : List Entry) (r : BusRecord) (before after : List ℕ) (i : ℕ) (e : Entry) (t : Source) →
     ((d : Entry) → get_or entries i d ≡ e) → slice_get sources e.source ≡ Some t → e.source < length after →
-    IsHeldTo sources entries r before after i → IsHeldTo sources entries r before (set after e.source (held_after t r (slice_index after e.source))) (i + 1)
+    IsHeldTo sources entries r before after i → IsHeldTo sources entries r before (set after e.source (number_held_after t r (slice_index after e.source)))
+    (i + 1)
 IsHeldTo-more sources entries r before after i e t here is room held =
-    let now : (s : Source) → slice_get sources e.source ≡ Some s → slice_index (set after e.source (held_after t r (slice_index after e.source))) e.source ≡ held_after s r (slice_index before e.source) =
+    let now : (s : Source) → slice_get sources e.source ≡ Some s
+    → slice_index (set after e.source (number_held_after t r (slice_index after e.source))) e.source ≡ number_held_after s r (slice_index before e.source) =
     at_source sources r before after e.source t held.again is room in
-    let later = set after e.source (held_after t r (slice_index after e.source)) in
+    let later = set after e.source (number_held_after t r (slice_index after e.source)) in
     record {
       found = λ k d s l got. ⊎_elim
           (λ (at : (get_or entries k d).source ≡ e.source).
-          subst (λ m. slice_index later m ≡ held_after s r (slice_index before m)) (sym at) (now s (ap (slice_get sources) (sym at) ∙ got)))
+          subst (λ m. slice_index later m ≡ number_held_after s r (slice_index before m)) (sym at) (now s (ap (slice_get sources) (sym at) ∙ got)))
           (λ (other : (get_or entries k d).source ≡ e.source → ⊥).
           let earlier : k < i = below_here k i (λ m. other (ap (λ n. (get_or entries n d).source) m ∙ ap (λ (x : Entry). x.source) (here d))) l in
-          get_or-set_other' after e.source (get_or entries k d).source (held_after t r (slice_index after e.source)) other ∙ held.found k d s earlier got)
+          get_or-set_other' after e.source (get_or entries k d).source (number_held_after t r (slice_index after e.source)) other
+          ∙ held.found k d s earlier got)
           (cases_eq (get_or entries k d).source e.source);
       again = λ n s got. ⊎_elim
           (λ (at : n ≡ e.source).
-          subst (λ m. held_after s r (slice_index later m) ≡ held_after s r (slice_index before m)) (sym at)
-          (ap (held_after s r) (now s (ap (slice_get sources) (sym at) ∙ got)) ∙ twice s r (slice_index before e.source)))
+          subst (λ m. number_held_after s r (slice_index later m) ≡ number_held_after s r (slice_index before m)) (sym at)
+          (ap (number_held_after s r) (now s (ap (slice_get sources) (sym at) ∙ got)) ∙ twice s r (slice_index before e.source)))
           (λ (other : n ≡ e.source → ⊥).
-          ap (held_after s r) (get_or-set_other' after e.source n (held_after t r (slice_index after e.source)) other) ∙ held.again n s got)
+          ap (number_held_after s r) (get_or-set_other' after e.source n (number_held_after t r (slice_index after e.source)) other) ∙ held.again n s got)
           (cases_eq n e.source);
     }
 
 -- so it is held for the source of each entry
 pub held_for_all : (sources : List Source) (entries : List Entry) (r : BusRecord) (before after : List ℕ) (i : ℕ) → length entries ≤ i →
-    IsHeldTo sources entries r before after i → (e : Entry) (s : Source) → Contains entries e → slice_get sources e.source ≡ Some s → slice_index after e.source ≡ held_after s r (slice_index before e.source)
+    IsHeldTo sources entries r before after i → (e : Entry) (s : Source) → Contains entries e → slice_get sources e.source ≡ Some s
+    → slice_index after e.source ≡ number_held_after s r (slice_index before e.source)
 held_for_all sources entries r before after i all held e s has got =
-    subst (λ (x : Entry). slice_index after x.source ≡ held_after s r (slice_index before x.source)) has.2
+    subst (λ (x : Entry). slice_index after x.source ≡ number_held_after s r (slice_index before x.source)) has.2
     (held.found has.0 e s (omega (arith, has.1)) (ap (λ (x : Entry). slice_get sources x.source) has.2 ∙ got))
 
 -- and for no source that it isn't from
-pub held_for_no_other : (sources : List Source) (entries : List Entry) (r : BusRecord) (before after : List ℕ) (i : ℕ) → IsHeldTo sources entries r before after i →
+pub held_for_no_other : (sources : List Source) (entries : List Entry) (r : BusRecord) (before after : List ℕ) (i : ℕ)
+    → IsHeldTo sources entries r before after i →
     (n : ℕ) (s : Source) → slice_get sources n ≡ Some s → is_from s r ≡ false → slice_index after n ≡ slice_index before n
 held_for_no_other sources entries r before after i held n s got other =
     sym (cond-false _ _ _ other) ∙ held.again n s got ∙ cond-false _ _ _ other

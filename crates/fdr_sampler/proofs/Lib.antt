@@ -10,3 +10,4 @@ pub mod Counting
 pub mod Streaming
 pub mod Packing
 pub mod Exchange
+pub mod StreamWords

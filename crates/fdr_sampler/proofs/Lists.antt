@@ -1,14 +1,13 @@
 -- What lists contain, and what a search finds in them.
-use Rattle.std.proofs.Common.{◌≡◌, ℕ, zero, suc, ◌+◌, ◌-◌, ◌<◌, ◌≤◌, Bool, true, List, [], ◌∷◌, Some, map, length, get_or, reverse, refl, sym, ap, ◌∙◌, subst, ⊎_elim, arith, zero-add}
+use Rattle.std.proofs.Common.{◌≡◌, ℕ, zero, suc, ◌+◌, ◌-◌, ◌<◌, ◌≤◌, Bool, true, List, [], ◌∷◌, Some, map, length, get_or, reverse, refl, sym, ap, ◌∙◌, subst}
+use Rattle.std.proofs.Common.{⊎_elim, arith, zero-add}
 use Rattle.std.specs.List.{All, Contains, filter, flat_map, find, range_with_len, enumerate_from, slice_get}
 use Rattle.std.proofs.lemmas.Bool.{cases_Bool, cond-true, cond-false}
 use Rattle.std.proofs.lemmas.List.{length-map, length-reverse, get_or-map, get_or-reverse}
 use Rattle.std.proofs.lemmas.List.Elements.{Contains-append_left, Contains-append_right, All-head, All-tail}
 use Rattle.std.proofs.lemmas.List.FromFn.{length-range_with_len, get_or-range_with_len, length-enumerate_from, get_or-enumerate_from}
-use Rattle.std.proofs.lemmas.Option.{slice_get-get_or, slice_get_within, get_or_from_slice_get}
-
-pub Contains-here : {X : Type 0} (x : X) (xs : List X) → Contains (x ∷ xs) x
-Contains-here x xs = (0, omega arith, refl)
+use Rattle.std.proofs.lemmas.Option.{slice_get_within, get_or_from_slice_get}
+use Rattle.fdr_lists.proofs.Pairs.{Contains-here}
 
 pub Contains-there : {X : Type 0} (x y : X) (xs : List X) → Contains xs x → Contains (y ∷ xs) x
 Contains-there x y xs h = (suc h.0, omega (arith, h.1), h.2)
@@ -33,7 +32,8 @@ contains_filter_at p (y ∷ xs) x (suc k) holds l is =
 pub Contains-filter : {X : Type 0} (p : X → Bool) (xs : List X) (x : X) → p x ≡ true → Contains xs x → Contains (filter p xs) x
 Contains-filter p xs x holds h = contains_filter_at p xs x h.0 holds h.1 h.2
 
-contains_flat_map_at : {X A : Type 0} (f : X → List A) (xs : List X) (x : X) (a : A) (k : ℕ) → k < length xs → get_or xs k x ≡ x → Contains (f x) a → Contains (flat_map f xs) a
+contains_flat_map_at : {X A : Type 0} (f : X → List A) (xs : List X) (x : X) (a : A) (k : ℕ) → k < length xs → get_or xs k x ≡ x → Contains (f x) a
+    → Contains (flat_map f xs) a
 contains_flat_map_at f [] x a k l is h = absurd (omega arith)
 contains_flat_map_at f (y ∷ xs) x a zero l is h =
     let P : _ → Type 0 = λ z. Contains (f z) a in
@@ -51,16 +51,12 @@ Contains-range a n x low high =
 
 pub Contains-enumerate : {X : Type 0} (xs : List X) (n : ℕ) (x : X) → slice_get xs n ≡ Some x → Contains (enumerate_from 0 xs) (n, x)
 Contains-enumerate xs n x got =
-    let l = slice_get_within xs n x got in
-    (n, omega (arith, length-enumerate_from 0 xs), get_or-enumerate_from 0 xs n (n, x) l ∙ ap (λ m. (m, get_or xs n x)) (zero-add n) ∙ ap (λ y. (n, y)) (get_or_from_slice_get xs n x x got))
-
--- each numbered element stands under its number
-pub numbered_stand : {X : Type 0} (xs : List X) → All (λ (e : ℕ × X). slice_get xs e.0 ≡ Some e.1) (enumerate_from 0 xs)
-numbered_stand {X} xs = λ k d l.
-    let P : ℕ × X → Type 0 = λ e. slice_get xs e.0 ≡ Some e.1 in
-    let within : k < length xs = omega (arith, length-enumerate_from 0 xs) in
-    let at : get_or (enumerate_from 0 xs) k d ≡ (k, get_or xs k d.1) = get_or-enumerate_from 0 xs k d within ∙ ap (λ m. (m, get_or xs k d.1)) (zero-add k) in
-    subst P (sym at) (slice_get-get_or xs k d.1 within)
+    let l = slice_get_within xs n x got in (
+      n,
+      omega (arith, length-enumerate_from 0 xs),
+      get_or-enumerate_from 0 xs n (n, x) l ∙ ap (λ m. (m, get_or xs n x)) (zero-add n)
+          ∙ ap (λ y. (n, y)) (get_or_from_slice_get xs n x x got),
+    )
 
 -- two tests that agree on a list find the same there
 pub find_agree : {X : Type 0} (p q : X → Bool) (xs : List X) → All (λ x. p x ≡ q x) xs → find p xs ≡ find q xs

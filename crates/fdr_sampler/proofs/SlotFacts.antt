@@ -1,16 +1,19 @@
 -- The parts in a slot of the superframe, and the samples that they belong to.
-use Rattle.std.proofs.Common.{◌≡◌, ℕ, ◌*◌, ◌/◌, ◌<◌, ◌≤◌, ◌⊎◌, inl, inr, ⊎_elim, min, true, ◌==◌, List, [], ◌∷◌, Some, length, refl, sym, ap, ◌∙◌, eqb-true, arith}
+use Rattle.std.proofs.Common.{◌≡◌, ℕ, ◌*◌, ◌/◌, ◌<◌, ◌≤◌, ◌⊎◌, inl, inr, ⊎_elim, min, true, ◌==◌, List, [], ◌∷◌, Some, length, refl, sym, ap, ◌∙◌, eqb-true}
+use Rattle.std.proofs.Common.{arith}
 use Rattle.std.specs.List.{All, Contains, range_with_len, enumerate_from, slice_get}
 use Rattle.std.proofs.lemmas.Bool.{cases_lt, eq-eqb}
 use Rattle.std.proofs.lemmas.List.Elements.{All-map, All-weaker, filter_passes, All-contains}
 use Rattle.fdr_table.specs.Rows.{TableRows}
 use Rattle.fdr_layout.specs.declared.slots.SlotPart.{SlotPart}
 use Rattle.fdr_layout.specs.Samples.{Part, Sample, samples, earliest_of, first_at}
-use Rattle.fdr_layout.specs.SlotParts.{numbered, parts_among, parts_at, parts_of_slot, parts_in}
+use Rattle.fdr_layout.specs.SlotParts.{parts_of_sample, parts_among, parts_at, parts_of_slot, parts_in}
 use Rattle.fdr_layout.proofs.Endings.{first_at_low, pieces_hold, all_pieces}
 use Rattle.fdr_layout.proofs.SlotLemmas.{parts_of_slot_hold}
-use Rattle.fdr_sampler.specs.Held.{first_slot}
-use Rattle.fdr_sampler.proofs.Lists.{Contains-here, Contains-there, Contains-map, Contains-filter, Contains-flat_map, Contains-range, Contains-enumerate, numbered_stand}
+use Rattle.fdr_sampler.specs.Held.{first_part_slot}
+use Rattle.fdr_sampler.proofs.Lists.{Contains-there, Contains-map, Contains-filter, Contains-flat_map, Contains-range, Contains-enumerate}
+use Rattle.fdr_lists.proofs.Numbered.{numbered_stand}
+use Rattle.fdr_lists.proofs.Pairs.{Contains-here}
 
 -- the part is one of a sample that has this number among the samples
 pub record IsOfSample (samples : List Sample) (a : SlotPart) : Type 0 where
@@ -23,9 +26,10 @@ parts_among_of : (samples : List Sample) → All (IsOfSample samples) (parts_amo
 unfolding parts_among
 parts_among_of samples =
     let made : ℕ → Part → SlotPart = λ n p. record { sample = n; part = p } in
-    all_pieces (IsOfSample samples) (λ (e : ℕ × Sample). numbered e.0 e.1.parts) (enumerate_from 0 samples)
-    (All-weaker (λ (e : ℕ × Sample). slice_get samples e.0 ≡ Some e.1) (λ (e : ℕ × Sample). All (IsOfSample samples) (numbered e.0 e.1.parts))
-    (λ e stands. All-map (IsOfSample samples) (made e.0) e.1.parts (λ k d l. record { sample = e.1; numbered = stands; some = omega arith; first = first_at_low e.1.parts k d l }))
+    all_pieces (IsOfSample samples) (λ (e : ℕ × Sample). parts_of_sample e.0 e.1.parts) (enumerate_from 0 samples)
+    (All-weaker (λ (e : ℕ × Sample). slice_get samples e.0 ≡ Some e.1) (λ (e : ℕ × Sample). All (IsOfSample samples) (parts_of_sample e.0 e.1.parts))
+    (λ e stands. All-map (IsOfSample samples) (made e.0) e.1.parts
+    (λ k d l. record { sample = e.1; numbered = stands; some = omega arith; first = first_at_low e.1.parts k d l }))
     (enumerate_from 0 samples) (numbered_stand samples))
 
 pub parts_in_of : (t : TableRows) (k : ℕ) → All (IsOfSample (samples t)) (parts_in t k)
@@ -36,7 +40,8 @@ unfolding parts_of_slot
 parts_of_slot_in parts k =
     pieces_hold (λ (a : SlotPart). a.part.at / 12 ≡ k) (parts_at parts) (12 * k) 12
     (λ x low high. All-weaker (λ (a : SlotPart). (a.part.at == x) ≡ true) (λ (a : SlotPart). a.part.at / 12 ≡ k)
-    (λ a at. let is : a.part.at ≡ x = eqb-true a.part.at x at in let in' : x / 12 ≡ k = omega arith in ap (λ y. y / 12) is ∙ in') (parts_at parts x) (filter_passes (λ (a : SlotPart). a.part.at == x) parts))
+    (λ a at. let is : a.part.at ≡ x = eqb-true a.part.at x at in let in' : x / 12 ≡ k = omega arith in ap (λ y. y / 12) is ∙ in') (parts_at parts x)
+    (filter_passes (λ (a : SlotPart). a.part.at == x) parts))
 
 -- ---- each sample with a part has one in its first slot
 
@@ -65,11 +70,13 @@ first_stands (q ∷ parts) some =
     (λ (found : (p : Part) × Contains parts p × (p.at ≡ earliest_of q.at parts)). (found.0, Contains-there found.0 q parts found.1, found.2))
     (earliest_stands q.at parts)
 
-parts_among_contain : (samples : List Sample) (n : ℕ) (s : Sample) (p : Part) → slice_get samples n ≡ Some s → Contains s.parts p → Contains (parts_among samples) (record { sample = n; part = p })
+parts_among_contain : (samples : List Sample) (n : ℕ) (s : Sample) (p : Part) → slice_get samples n ≡ Some s → Contains s.parts p
+    → Contains (parts_among samples) (record { sample = n; part = p })
 unfolding parts_among
 parts_among_contain samples n s p got here =
     let made : Part → SlotPart = λ p. record { sample = n; part = p } in
-    Contains-flat_map (λ (e : ℕ × Sample). numbered e.0 e.1.parts) (enumerate_from 0 samples) (n, s) (made p) (Contains-enumerate samples n s got) (Contains-map made s.parts p here)
+    Contains-flat_map (λ (e : ℕ × Sample). parts_of_sample e.0 e.1.parts) (enumerate_from 0 samples) (n, s) (made p) (Contains-enumerate samples n s got)
+    (Contains-map made s.parts p here)
 
 parts_of_slot_contain : (parts : List SlotPart) (k : ℕ) (a : SlotPart) → a.part.at / 12 ≡ k → Contains parts a → Contains (parts_of_slot parts k) a
 unfolding parts_of_slot
@@ -78,7 +85,8 @@ parts_of_slot_contain parts k a at here =
     (Contains-filter (λ (b : SlotPart). b.part.at == a.part.at) parts a (eq-eqb a.part.at a.part.at refl) here)
 
 -- what holds of each sample with a part in a slot holds of those that begin there
-pub beginning_holds : (t : TableRows) (k : ℕ) (Q : ℕ → Type 0) (n : ℕ) (s : Sample) → All (λ (a : SlotPart). Q a.sample) (parts_in t k) → slice_get (samples t) n ≡ Some s → 0 < length s.parts → first_slot s ≡ k → Q n
+pub beginning_holds : (t : TableRows) (k : ℕ) (Q : ℕ → Type 0) (n : ℕ) (s : Sample) → All (λ (a : SlotPart). Q a.sample) (parts_in t k)
+    → slice_get (samples t) n ≡ Some s → 0 < length s.parts → first_part_slot s ≡ k → Q n
 beginning_holds t k Q n s all got some begins =
     let p = first_stands s.parts some in
     let a : SlotPart = record { sample = n; part = p.0 } in

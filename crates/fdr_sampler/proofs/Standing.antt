@@ -1,5 +1,6 @@
 -- For which past a value stands.
-use Rattle.std.proofs.Common.{◌≡◌, ℕ, suc, ◌+◌, ◌*◌, ◌/◌, ◌%◌, ◌<◌, ◌≤◌, ◌⊎◌, inl, inr, ⊎_elim, ◌==◌, List, [], ◌∷◌, ◌++◌, Option, Some, length, get_or, refl, sym, ap, ◌∙◌, subst, arith, add-one}
+use Rattle.std.proofs.Common.{◌≡◌, ℕ, suc, ◌+◌, ◌*◌, ◌/◌, ◌%◌, ◌<◌, ◌≤◌, ◌⊎◌, inl, inr, ⊎_elim, ◌==◌, List, [], ◌∷◌, ◌++◌, Option, Some, length, get_or, refl}
+use Rattle.std.proofs.Common.{sym, ap, ◌∙◌, subst, arith, add-one}
 use Rattle.std.specs.Prelude.{if◌then◌else◌, IsTrue, slice_get, slice_index}
 use Rattle.std.specs.Option.{option_map, option_map_or}
 use Rattle.std.specs.List.{All}
@@ -16,10 +17,10 @@ use Rattle.fdr_layout.specs.declared.slots.SlotPart.{SlotPart}
 use Rattle.fdr_layout.specs.Samples.{Sample, samples, first_at}
 use Rattle.fdr_layout.specs.SlotParts.{Laid, laid_of, parts_among, parts_in}
 use Rattle.fdr_layout.proofs.Endings.{samples_params}
-use Rattle.fdr_sampler.specs.Held.{Source, source_of, is_from, counts_for, held_record, raw_of, raw_value, first_slot}
+use Rattle.fdr_sampler.specs.Held.{Source, source_of, is_from, counts_for, held_record, raw_of_record, raw_value, first_part_slot}
 use Rattle.fdr_sampler.specs.SlotWord.{numbered_value, slot_within, start_of, data_of, data_word, word_with, slot_word}
-use Rattle.fdr_sampler.specs.Kept.{Kept, at_start, held_after, value_at, slot_parts, HaveValues, IsDrawn}
-use Rattle.fdr_sampler.specs.Past.{Past, made, with_record, with_word, MayTake, Stands}
+use Rattle.fdr_sampler.specs.Kept.{SamplerKept, sampler_at_start, number_held_after, value_at, slot_parts, HaveValues, IsDrawn}
+use Rattle.fdr_sampler.specs.Past.{SamplerPast, sampler_made, sampler_with_record, sampler_with_word, MayTake, RepresentsSampler}
 use Rattle.fdr_sampler.proofs.Lists.{slice_get_some}
 use Rattle.fdr_sampler.proofs.SlotFacts.{IsOfSample, parts_in_of, parts_of_slot_in, beginning_holds}
 use Rattle.fdr_sampler.proofs.HeldFacts.{counts_later, held_record-next, held_record-counted, held_record-late, held_record-none}
@@ -27,11 +28,13 @@ use Rattle.fdr_sampler.proofs.HeldFacts.{counts_later, held_record-next, held_re
 -- ---- raw values
 
 raw_value_at : (t : TableRows) (records : List BusRecord) (start : ℕ) (s : Sample) (p : ParamRow) → slice_get t.params s.param ≡ Some p →
-    raw_value t records start s ≡ raw_of (source_of p) (held_record t.frame.words (source_of p) records (start + first_slot s))
+    raw_value t records start s ≡ raw_of_record (source_of p) (held_record t.frame.words (source_of p) records (start + first_part_slot s))
 unfolding raw_value
-raw_value_at t records start s p got = ap (λ o. option_map_or (λ (p : ParamRow). raw_of (source_of p) (held_record t.frame.words (source_of p) records (start + first_slot s))) o 0) got
+raw_value_at t records start s p got = ap (λ o. option_map_or
+    (λ (p : ParamRow). raw_of_record (source_of p) (held_record t.frame.words (source_of p) records (start + first_part_slot s))) o 0) got
 
-pub numbered_value_at : (t : TableRows) (records : List BusRecord) (start n : ℕ) (s : Sample) → slice_get (samples t) n ≡ Some s → numbered_value t records start n ≡ raw_value t records start s
+pub numbered_value_at : (t : TableRows) (records : List BusRecord) (start n : ℕ) (s : Sample) → slice_get (samples t) n ≡ Some s
+    → numbered_value t records start n ≡ raw_value t records start s
 unfolding numbered_value
 numbered_value_at t records start n s got = ap (λ o. option_map_or (raw_value t records start) o 0) got
 
@@ -44,11 +47,11 @@ param_of t n s got =
 
 -- a record that comes too late for the sample's first slot doesn't change its raw value
 pub raw_value-late : (t : TableRows) (records : List BusRecord) (start n : ℕ) (s : Sample) (r : BusRecord) → slice_get (samples t) n ≡ Some s →
-    (start + first_slot s) * 1000000 < r.time * t.frame.words → raw_value t (records ++ r ∷ []) start s ≡ raw_value t records start s
+    (start + first_part_slot s) * 1000000 < r.time * t.frame.words → raw_value t (records ++ r ∷ []) start s ≡ raw_value t records start s
 raw_value-late t records start n s r got late =
     let p = param_of t n s got in
     raw_value_at t (records ++ r ∷ []) start s p.0 p.1
-    ∙ ap (raw_of (source_of p.0)) (held_record-late t.frame.words (start + first_slot s) (source_of p.0) records r late)
+    ∙ ap (raw_of_record (source_of p.0)) (held_record-late t.frame.words (start + first_part_slot s) (source_of p.0) records r late)
     ∙ sym (raw_value_at t records start s p.0 p.1)
 
 -- ---- slots of a superframe
@@ -80,38 +83,41 @@ first_below a k at le is = omega arith
 
 -- ---- what stands of a value
 
-slot_parts-laid : (k : Kept) (t : TableRows) (slot : ℕ) → k.laid ≡ laid_of t → slot < 64 * t.frame.words → slot_parts k.laid slot ≡ parts_in t slot
+slot_parts-laid : (k : SamplerKept) (t : TableRows) (slot : ℕ) → k.laid ≡ laid_of t → slot < 64 * t.frame.words → slot_parts k.laid slot ≡ parts_in t slot
 slot_parts-laid k t slot laid below =
     ap (λ (l : Laid). slot_parts l slot) laid ∙ get_or-map-range_with_len (parts_in t) 0 (64 * t.frame.words) slot slot [] below (omega arith)
 
 -- a sample with a part in the next slot
-value_stands : (k : Kept) (past : Past) (n : ℕ) (s : Sample) → Stands k past → slice_get (samples past.table) n ≡ Some s → 0 < length s.parts →
-    first_slot s ≤ slot_within past.table.frame.words past.drawn →
-    value_at k.laid (slot_within past.table.frame.words past.drawn) k.held k.raws n ≡ numbered_value past.table past.records (start_of past.table.frame.words past.drawn) n
+value_stands : (k : SamplerKept) (past : SamplerPast) (n : ℕ) (s : Sample) → RepresentsSampler k past → slice_get (samples past.table) n ≡ Some s
+    → 0 < length s.parts →
+    first_part_slot s ≤ slot_within past.table.frame.words past.drawn →
+    value_at k.laid (slot_within past.table.frame.words past.drawn) k.held k.raws n ≡ numbered_value past.table past.records
+    (start_of past.table.frame.words past.drawn) n
 value_stands k past n s st got some low =
     let t = past.table in
     let w = t.frame.words in
     let slot = slot_within w past.drawn in
     let start = start_of w past.drawn in
-    let choice : Sample → ℕ = λ s. if first_slot s == slot then slice_index k.held s.param else slice_index k.raws n in
+    let choice : Sample → ℕ = λ s. if first_part_slot s == slot then slice_index k.held s.param else slice_index k.raws n in
     let here : value_at k.laid slot k.held k.raws n ≡ choice s =
     ap (λ (l : Laid). value_at l slot k.held k.raws n) st.laid ∙ ap (λ o. option_map_or choice o 0) got in
     let value : raw_value t past.records start s ≡ numbered_value t past.records start n = sym (numbered_value_at t past.records start n s got) in
     here ∙ ⊎_elim
-    (λ (begins : first_slot s ≡ slot).
+    (λ (begins : first_part_slot s ≡ slot).
     let p = param_of t n s got in
-    let now : start + first_slot s ≡ past.drawn = ap (λ x. start + x) begins ∙ start_and_within w past.drawn in
-    cond-true _ _ _ (eq-eqb (first_slot s) slot begins) ∙ st.held s.param p.0 p.1
-    ∙ ap (λ x. raw_of (source_of p.0) (held_record w (source_of p.0) past.records x)) (sym now)
+    let now : start + first_part_slot s ≡ past.drawn = ap (λ x. start + x) begins ∙ start_and_within w past.drawn in
+    cond-true _ _ _ (eq-eqb (first_part_slot s) slot begins) ∙ st.held s.param p.0 p.1
+    ∙ ap (λ x. raw_of_record (source_of p.0) (held_record w (source_of p.0) past.records x)) (sym now)
     ∙ sym (raw_value_at t past.records start s p.0 p.1) ∙ value)
-    (λ (before : first_slot s ≡ slot → ⊥).
-    let less : first_slot s < slot = omega arith in
-    cond-false _ _ _ (ne_eqb (first_slot s) slot before) ∙ st.raws n s got some less ∙ value)
-    (cases_eq (first_slot s) slot)
+    (λ (before : first_part_slot s ≡ slot → ⊥).
+    let less : first_part_slot s < slot = omega arith in
+    cond-false _ _ _ (ne_eqb (first_part_slot s) slot before) ∙ st.raws n s got some less ∙ value)
+    (cases_eq (first_part_slot s) slot)
 
 -- the samples in the next slot have the raw values of the definition
-pub HaveValues-stands : (k : Kept) (past : Past) → Stands k past → 0 < past.table.frame.words →
-    HaveValues (numbered_value past.table past.records (start_of past.table.frame.words past.drawn)) k.laid (slot_within past.table.frame.words past.drawn) k.held k.raws
+pub HaveValues-stands : (k : SamplerKept) (past : SamplerPast) → RepresentsSampler k past → 0 < past.table.frame.words →
+    HaveValues (numbered_value past.table past.records (start_of past.table.frame.words past.drawn)) k.laid (slot_within past.table.frame.words past.drawn)
+    k.held k.raws
 HaveValues-stands k past st some =
     let t = past.table in
     let slot = slot_within t.frame.words past.drawn in
@@ -126,37 +132,42 @@ HaveValues-stands k past st some =
     value_stands k past a.sample of.sample st of.numbered of.some (first_below (first_at of.sample.parts) slot a.part.at of.first at))
 
 -- so the word that was drawn is that of the definition
-pub word-stands : (k : Kept) (past : Past) (after : List ℕ) (word : ℕ) → Stands k past → 0 < past.table.frame.words →
-    IsDrawn (numbered_value past.table past.records (start_of past.table.frame.words past.drawn)) (slot_parts k.laid (slot_within past.table.frame.words past.drawn)) k.raws after word →
+pub word-stands : (k : SamplerKept) (past : SamplerPast) (after : List ℕ) (word : ℕ) → RepresentsSampler k past → 0 < past.table.frame.words →
+    IsDrawn (numbered_value past.table past.records (start_of past.table.frame.words past.drawn))
+    (slot_parts k.laid (slot_within past.table.frame.words past.drawn)) k.raws after word →
     word ≡ data_word past.table past.records (start_of past.table.frame.words past.drawn) (slot_within past.table.frame.words past.drawn)
 word-stands k past after word st some drawn =
     let t = past.table in
     let w = t.frame.words in
-    drawn.word ∙ ap (data_of (numbered_value t past.records (start_of w past.drawn))) (slot_parts-laid k t (slot_within w past.drawn) st.laid (within_below w past.drawn some))
+    drawn.word ∙ ap (data_of (numbered_value t past.records (start_of w past.drawn)))
+    (slot_parts-laid k t (slot_within w past.drawn) st.laid (within_below w past.drawn some))
 
 -- ---- after a call
 
 -- at the start
-pub Stands-made : (t : TableRows) (l : Laid) → l ≡ laid_of t → Stands (at_start t.frame t.params l) (made t)
+pub Stands-made : (t : TableRows) (l : Laid) → l ≡ laid_of t → RepresentsSampler (sampler_at_start t.frame t.params l) (sampler_made t)
 Stands-made t l laid = record {
   frame = refl;
   sources = refl;
   laid = laid;
   drawn = refl;
   records = All-nil (λ (r : BusRecord). IsTrue (counts_for t.frame.words 0 r));
-  held = λ n p got. get_or-replicate (length t.params) n 0 0 (slice_get_within t.params n p got) ∙ sym (ap (raw_of (source_of p)) (held_record-none t.frame.words 0 (source_of p)));
+  held = λ n p got. get_or-replicate (length t.params) n 0 0 (slice_get_within t.params n p got)
+      ∙ sym (ap (raw_of_record (source_of p)) (held_record-none t.frame.words 0 (source_of p)));
   raws = λ n s got some low. absurd (omega (arith, zero-mod (64 * t.frame.words)));
 }
 
-pub Stands-made_of : (t : TableRows) (frame : FrameRow) (params : List ParamRow) (l : Laid) → frame ≡ t.frame → params ≡ t.params → l ≡ laid_of t → Stands (at_start frame params l) (made t)
+pub Stands-made_of : (t : TableRows) (frame : FrameRow) (params : List ParamRow) (l : Laid) → frame ≡ t.frame → params ≡ t.params → l ≡ laid_of t
+    → RepresentsSampler (sampler_at_start frame params l) (sampler_made t)
 Stands-made_of t frame params l frame_is params_is laid =
-    subst (λ (f : FrameRow). Stands (at_start f params l) (made t)) (sym frame_is)
-    (subst (λ (ps : List ParamRow). Stands (at_start t.frame ps l) (made t)) (sym params_is) (Stands-made t l laid))
+    subst (λ (f : FrameRow). RepresentsSampler (sampler_at_start f params l) (sampler_made t)) (sym frame_is)
+    (subst (λ (ps : List ParamRow). RepresentsSampler (sampler_at_start t.frame ps l) (sampler_made t)) (sym params_is) (Stands-made t l laid))
 
 -- after a slot was drawn
-pub Stands-word : (k k' : Kept) (past : Past) (word : ℕ) → Stands k past → 0 < past.table.frame.words →
-    IsDrawn (numbered_value past.table past.records (start_of past.table.frame.words past.drawn)) (slot_parts k.laid (slot_within past.table.frame.words past.drawn)) k.raws k'.raws word →
-    k'.frame ≡ k.frame → k'.sources ≡ k.sources → k'.laid ≡ k.laid → k'.held ≡ k.held → k'.drawn ≡ k.drawn + 1 → Stands k' (with_word past)
+pub Stands-word : (k k' : SamplerKept) (past : SamplerPast) (word : ℕ) → RepresentsSampler k past → 0 < past.table.frame.words →
+    IsDrawn (numbered_value past.table past.records (start_of past.table.frame.words past.drawn))
+    (slot_parts k.laid (slot_within past.table.frame.words past.drawn)) k.raws k'.raws word →
+    k'.frame ≡ k.frame → k'.sources ≡ k.sources → k'.laid ≡ k.laid → k'.held ≡ k.held → k'.drawn ≡ k.drawn + 1 → RepresentsSampler k' (sampler_with_word past)
 Stands-word k k' past word st some drawn frame sources laid held count =
     let t = past.table in
     let w = t.frame.words in
@@ -164,22 +175,26 @@ Stands-word k k' past word st some drawn frame sources laid held count =
     let start = start_of w past.drawn in
     let value = numbered_value t past.records start in
     let taken : All (λ (a : SlotPart). slice_index k'.raws a.sample ≡ value a.sample) (parts_in t slot) =
-    All-same (λ (a : SlotPart). slice_index k'.raws a.sample ≡ value a.sample) (parts_in t slot) (slot_parts k.laid slot) (sym (slot_parts-laid k t slot st.laid (within_below w past.drawn some))) drawn.taken in
-    let raws : (n : ℕ) (s : Sample) → slice_get (samples t) n ≡ Some s → 0 < length s.parts → first_slot s < slot + 1 → slice_index k'.raws n ≡ raw_value t past.records start s =
+    All-same (λ (a : SlotPart). slice_index k'.raws a.sample ≡ value a.sample) (parts_in t slot) (slot_parts k.laid slot)
+    (sym (slot_parts-laid k t slot st.laid (within_below w past.drawn some))) drawn.taken in
+    let raws : (n : ℕ) (s : Sample) → slice_get (samples t) n ≡ Some s → 0 < length s.parts → first_part_slot s < slot + 1
+    → slice_index k'.raws n ≡ raw_value t past.records start s =
     λ n s got parts below.
     let is = numbered_value_at t past.records start n s got in
     let all : slice_index k'.raws n ≡ value n = ⊎_elim
-    (λ (now : first_slot s ≡ slot). beginning_holds t slot (λ m. slice_index k'.raws m ≡ value m) n s taken got parts now)
-    (λ (before : first_slot s ≡ slot → ⊥). drawn.kept n (st.raws n s got parts (omega arith) ∙ sym is))
-    (cases_eq (first_slot s) slot) in
+    (λ (now : first_part_slot s ≡ slot). beginning_holds t slot (λ m. slice_index k'.raws m ≡ value m) n s taken got parts now)
+    (λ (before : first_part_slot s ≡ slot → ⊥). drawn.kept n (st.raws n s got parts (omega arith) ∙ sym is))
+    (cases_eq (first_part_slot s) slot) in
     all ∙ is in
     record {
       frame = frame ∙ st.frame;
       sources = sources ∙ st.sources;
       laid = laid ∙ st.laid;
       drawn = count ∙ ap (λ n. n + 1) st.drawn;
-      records = All-weaker (λ (r : BusRecord). IsTrue (counts_for w past.drawn r)) (λ (r : BusRecord). IsTrue (counts_for w (past.drawn + 1) r)) (counts_later w past.drawn) past.records st.records;
-      held = λ n p got. ap (λ xs. slice_index xs n) held ∙ st.held n p got ∙ ap (raw_of (source_of p)) (sym (held_record-next w past.drawn (source_of p) past.records st.records));
+      records = All-weaker (λ (r : BusRecord). IsTrue (counts_for w past.drawn r)) (λ (r : BusRecord). IsTrue (counts_for w (past.drawn + 1) r))
+          (counts_later w past.drawn) past.records st.records;
+      held = λ n p got. ap (λ xs. slice_index xs n) held ∙ st.held n p got
+          ∙ ap (raw_of_record (source_of p)) (sym (held_record-next w past.drawn (source_of p) past.records st.records));
       raws = λ n s got parts below. ⊎_elim
           (λ (none : slot_within w (past.drawn + 1) ≡ 0). absurd (omega arith))
           (λ (next : (slot_within w (past.drawn + 1) ≡ slot + 1) × (start_of w (past.drawn + 1) ≡ start)).
@@ -187,17 +202,18 @@ Stands-word k k' past word st some drawn frame sources laid held count =
           (next_slot w past.drawn some);
     }
 
-raw_after : (s : Source) (r : BusRecord) (before : Option BusRecord) → held_after s r (raw_of s before) ≡ raw_of s (if is_from s r then Some r else before)
+raw_after : (s : Source) (r : BusRecord) (before : Option BusRecord)
+    → number_held_after s r (raw_of_record s before) ≡ raw_of_record s (if is_from s r then Some r else before)
 raw_after s r before =
     ⊎_elim
-    (λ holds. cond-true _ _ _ holds ∙ sym (ap (raw_of s) (cond-true _ _ _ holds)))
-    (λ no. cond-false _ _ _ no ∙ sym (ap (raw_of s) (cond-false _ _ _ no)))
+    (λ holds. cond-true _ _ _ holds ∙ sym (ap (raw_of_record s) (cond-true _ _ _ holds)))
+    (λ no. cond-false _ _ _ no ∙ sym (ap (raw_of_record s) (cond-false _ _ _ no)))
     (cases_Bool (is_from s r))
 
 -- after a record was given
-pub Stands-record : (k k' : Kept) (past : Past) (r : BusRecord) → Stands k past → MayTake past r →
-    ((n : ℕ) (s : Source) → slice_get k.sources n ≡ Some s → slice_index k'.held n ≡ held_after s r (slice_index k.held n)) →
-    k'.frame ≡ k.frame → k'.sources ≡ k.sources → k'.laid ≡ k.laid → k'.raws ≡ k.raws → k'.drawn ≡ k.drawn → Stands k' (with_record past r)
+pub Stands-record : (k k' : SamplerKept) (past : SamplerPast) (r : BusRecord) → RepresentsSampler k past → MayTake past r →
+    ((n : ℕ) (s : Source) → slice_get k.sources n ≡ Some s → slice_index k'.held n ≡ number_held_after s r (slice_index k.held n)) →
+    k'.frame ≡ k.frame → k'.sources ≡ k.sources → k'.laid ≡ k.laid → k'.raws ≡ k.raws → k'.drawn ≡ k.drawn → RepresentsSampler k' (sampler_with_record past r)
 Stands-record k k' past r st may held frame sources laid raws count =
     let t = past.table in
     let w = t.frame.words in
@@ -210,31 +226,33 @@ Stands-record k k' past r st may held frame sources laid raws count =
       records = All-push (λ (r : BusRecord). IsTrue (counts_for w past.drawn r)) past.records r st.records counts;
       held = λ n p got.
           let s = source_of p in
-          let from : slice_get k.sources n ≡ Some s = ap (λ xs. slice_get xs n) st.sources ∙ slice_get-map source_of t.params n ∙ ap (option_map source_of) got in
-          held n s from ∙ ap (held_after s r) (st.held n p got) ∙ raw_after s r (held_record w s past.records past.drawn)
-          ∙ ap (raw_of s) (sym (held_record-counted w past.drawn s past.records r counts));
+          let from : slice_get k.sources n ≡ Some s = ap (λ xs. slice_get xs n) st.sources ∙ slice_get-map source_of t.params n
+          ∙ ap (option_map source_of) got in
+          held n s from ∙ ap (number_held_after s r) (st.held n p got) ∙ raw_after s r (held_record w s past.records past.drawn)
+          ∙ ap (raw_of_record s) (sym (held_record-counted w past.drawn s past.records r counts));
       raws = λ n s got parts below.
           let start = start_of w past.drawn in
-          let before : start + first_slot s < past.drawn = omega (arith, start_and_within w past.drawn) in
+          let before : start + first_part_slot s < past.drawn = omega (arith, start_and_within w past.drawn) in
           ap (λ xs. slice_index xs n) raws ∙ st.raws n s got parts below
-          ∙ sym (raw_value-late t past.records start n s r got (may.counts_for_none (start + first_slot s) before));
+          ∙ sym (raw_value-late t past.records start n s r got (may.counts_for_none (start + first_part_slot s) before));
     }
 
 -- ---- a word that is drawn for every raw value that the samples may have
 
-some_words : (k : Kept) (past : Past) (slot : ℕ) → Stands k past → slot < 64 * k.frame.words → 0 < past.table.frame.words
+some_words : (k : SamplerKept) (past : SamplerPast) (slot : ℕ) → RepresentsSampler k past → slot < 64 * k.frame.words → 0 < past.table.frame.words
 some_words k past slot st below =
     let some : 0 < k.frame.words = omega arith in
     subst (λ (f : FrameRow). 0 < f.words) st.frame some
 
 -- What drawing a word of data for a slot says: the word, and the raw values that are kept.
-pub record DrawsData (k : Kept) (slot : ℕ) (after : List ℕ) (plain : ℕ) : Type 0 where
+pub record DrawsData (k : SamplerKept) (slot : ℕ) (after : List ℕ) (plain : ℕ) : Type 0 where
   pub slot_is : slot ≡ slot_within k.frame.words k.drawn
   pub below : slot < 64 * k.frame.words
   pub drawn : (value : ℕ → ℕ) → HaveValues value k.laid slot k.held k.raws → IsDrawn value (slot_parts k.laid slot) k.raws after plain
 
-drawn_for : (k : Kept) (past : Past) (slot : ℕ) (after : List ℕ) (plain : ℕ) → Stands k past → DrawsData k slot after plain →
-    IsDrawn (numbered_value past.table past.records (start_of past.table.frame.words past.drawn)) (slot_parts k.laid (slot_within past.table.frame.words past.drawn)) k.raws after plain
+drawn_for : (k : SamplerKept) (past : SamplerPast) (slot : ℕ) (after : List ℕ) (plain : ℕ) → RepresentsSampler k past → DrawsData k slot after plain →
+    IsDrawn (numbered_value past.table past.records (start_of past.table.frame.words past.drawn))
+    (slot_parts k.laid (slot_within past.table.frame.words past.drawn)) k.raws after plain
 drawn_for k past slot after plain st draws =
     let w = past.table.frame.words in
     let value = numbered_value past.table past.records (start_of w past.drawn) in
@@ -243,7 +261,8 @@ drawn_for k past slot after plain st draws =
     (draws.drawn value (subst (λ x. HaveValues value k.laid x k.held k.raws) (sym is) (HaveValues-stands k past st (some_words k past slot st draws.below))))
 
 -- the word of the next slot
-pub slot_word-stands : (k : Kept) (past : Past) (slot : ℕ) (after : List ℕ) (plain word : ℕ) → Stands k past → DrawsData k slot after plain →
+pub slot_word-stands : (k : SamplerKept) (past : SamplerPast) (slot : ℕ) (after : List ℕ) (plain word : ℕ) → RepresentsSampler k past
+    → DrawsData k slot after plain →
     word ≡ word_with k.frame k.drawn plain → word ≡ slot_word past.table past.records past.drawn
 slot_word-stands k past slot after plain word st draws is =
     let t = past.table in
@@ -251,8 +270,9 @@ slot_word-stands k past slot after plain word st draws is =
     ∙ ap (word_with t.frame past.drawn) (word-stands k past after plain st (some_words k past slot st draws.below) (drawn_for k past slot after plain st draws))
 
 -- the value after that word
-pub Stands-next : (k k' : Kept) (past : Past) (slot : ℕ) (after : List ℕ) (plain : ℕ) → Stands k past → DrawsData k slot after plain → k'.raws ≡ after →
-    k'.frame ≡ k.frame → k'.sources ≡ k.sources → k'.laid ≡ k.laid → k'.held ≡ k.held → k'.drawn ≡ k.drawn + 1 → Stands k' (with_word past)
+pub Stands-next : (k k' : SamplerKept) (past : SamplerPast) (slot : ℕ) (after : List ℕ) (plain : ℕ) → RepresentsSampler k past → DrawsData k slot after plain
+    → k'.raws ≡ after →
+    k'.frame ≡ k.frame → k'.sources ≡ k.sources → k'.laid ≡ k.laid → k'.held ≡ k.held → k'.drawn ≡ k.drawn + 1 → RepresentsSampler k' (sampler_with_word past)
 Stands-next k k' past slot after plain st draws raws frame sources laid held count =
     let w = past.table.frame.words in
     let value = numbered_value past.table past.records (start_of w past.drawn) in

@@ -33,15 +33,16 @@ unfoldable pub held_record : ℕ → Source → List BusRecord → ℕ → Optio
 held_record w s records k = find (λ r. is_from s r && counts_for w k r) (reverse records)
 
 -- the source's field of a record, or 0 where there is none
-abbrev pub raw_of : Source → Option BusRecord → ℕ
-raw_of s held = option_map_or (λ (r : BusRecord). bits_at r.word s.lsb s.width) held 0
+abbrev pub raw_of_record : Source → Option BusRecord → ℕ
+raw_of_record s held = option_map_or (λ (r : BusRecord). bits_at r.word s.lsb s.width) held 0
 
 -- the word slot of the superframe in which a sample's earliest part stands
-abbrev pub first_slot : Sample → ℕ
-first_slot s = first_at s.parts / 12
+abbrev pub first_part_slot : Sample → ℕ
+first_part_slot s = first_at s.parts / 12
 
 -- the raw value of a sample in the superframe that begins at slot `start`: that of its parameter at the slot of its
 -- earliest part
 unfoldable pub raw_value : TableRows → List BusRecord → ℕ → Sample → ℕ
 raw_value t records start s =
-    option_map_or (λ (p : ParamRow). raw_of (source_of p) (held_record t.frame.words (source_of p) records (start + first_slot s))) (slice_get t.params s.param) 0
+    option_map_or (λ (p : ParamRow). raw_of_record (source_of p) (held_record t.frame.words (source_of p) records (start + first_part_slot s)))
+    (slice_get t.params s.param) 0

@@ -8,16 +8,16 @@ use Rattle.fdr_table.specs.Rows.{FrameRow, ParamRow}
 use Rattle.fdr_layout.specs.declared.slots.SlotPart.{SlotPart}
 use Rattle.fdr_layout.specs.Samples.{Sample}
 use Rattle.fdr_layout.specs.SlotParts.{Laid}
-use Rattle.fdr_sampler.specs.Held.{Source, source_of, is_from, first_slot}
+use Rattle.fdr_sampler.specs.Held.{Source, source_of, is_from, first_part_slot}
 use Rattle.fdr_sampler.specs.SlotWord.{data_of}
 
 -- how many word slots a recording has at most: 1,440,000 seconds of 1024 words
-abbrev pub most_slots : ℕ
-most_slots = 1474560000
+abbrev pub most_word_slots : ℕ
+most_word_slots = 1474560000
 
 -- The table's frame, where its parameters come from and where their samples stand; the raw number of each parameter that
 -- is held at the next slot; the raw value that each sample was begun with; and how many slots were drawn.
-pub record Kept : Type 0 where
+pub record SamplerKept : Type 0 where
   pub frame : FrameRow
   pub sources : List Source
   pub laid : Laid
@@ -26,22 +26,22 @@ pub record Kept : Type 0 where
   pub drawn : ℕ
 
 -- what holds of every value
-pub record IsKept (k : Kept) : Type 0 where
+pub record IsSamplerKept (k : SamplerKept) : Type 0 where
   pub slots : length k.laid.slots ≡ 64 * k.frame.words
   pub params : All (λ (s : Sample). s.param < length k.sources) k.laid.samples
   pub held : length k.held ≡ length k.sources
   pub raws : length k.raws ≡ length k.laid.samples
-  pub drawn : k.drawn ≤ most_slots
+  pub drawn : k.drawn ≤ most_word_slots
 
 -- the raw number that is held for a source after a record, where it was `before`
-abbrev pub held_after : Source → BusRecord → ℕ → ℕ
-held_after s r before = if is_from s r then bits_at r.word s.lsb s.width else before
+abbrev pub number_held_after : Source → BusRecord → ℕ → ℕ
+number_held_after s r before = if is_from s r then bits_at r.word s.lsb s.width else before
 
 -- the raw value of sample n at a slot of its superframe: what is held there for its parameter where it begins in this
 -- slot, and what it was begun with elsewhere
 abbrev pub value_at : Laid → ℕ → List ℕ → List ℕ → ℕ → ℕ
 value_at l slot held raws n =
-    option_map_or (λ (s : Sample). if first_slot s == slot then slice_index held s.param else slice_index raws n) (slice_get l.samples n) 0
+    option_map_or (λ (s : Sample). if first_part_slot s == slot then slice_index held s.param else slice_index raws n) (slice_get l.samples n) 0
 
 -- the parts that stand in a slot
 abbrev pub slot_parts : Laid → ℕ → List SlotPart
@@ -59,8 +59,8 @@ pub record IsDrawn (value : ℕ → ℕ) (parts : List SlotPart) (before after :
   pub taken : All (λ (a : SlotPart). slice_index after a.sample ≡ value a.sample) parts
 
 -- what is kept at the start of a recording
-abbrev pub at_start : FrameRow → List ParamRow → Laid → Kept
-at_start frame params l = record {
+abbrev pub sampler_at_start : FrameRow → List ParamRow → Laid → SamplerKept
+sampler_at_start frame params l = record {
   frame = frame;
   sources = map source_of params;
   laid = l;

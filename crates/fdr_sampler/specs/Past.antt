@@ -7,28 +7,28 @@ use Rattle.fdr_bus.specs.Records.{time_of, last_time}
 use Rattle.fdr_table.specs.Rows.{ParamRow, TableRows}
 use Rattle.fdr_layout.specs.Samples.{Sample, samples}
 use Rattle.fdr_layout.specs.SlotParts.{laid_of}
-use Rattle.fdr_sampler.specs.Held.{source_of, counts_for, held_record, raw_of, raw_value, first_slot}
+use Rattle.fdr_sampler.specs.Held.{source_of, counts_for, held_record, raw_of_record, raw_value, first_part_slot}
 use Rattle.fdr_sampler.specs.SlotWord.{slot_within, start_of}
-use Rattle.fdr_sampler.specs.Kept.{Kept}
+use Rattle.fdr_sampler.specs.Kept.{SamplerKept}
 
 -- a table, the records that were given, and how many slots were drawn
-pub record Past : Type 0 where
+pub record SamplerPast : Type 0 where
   pub table : TableRows
   pub records : List BusRecord
   pub drawn : ℕ
 
-abbrev pub made : TableRows → Past
-made t = record { table = t; records = []; drawn = 0 }
+abbrev pub sampler_made : TableRows → SamplerPast
+sampler_made t = record { table = t; records = []; drawn = 0 }
 
-abbrev pub with_record : Past → BusRecord → Past
-with_record past r = record past { records = past.records ++ r ∷ [] }
+abbrev pub sampler_with_record : SamplerPast → BusRecord → SamplerPast
+sampler_with_record past r = record past { records = past.records ++ r ∷ [] }
 
-abbrev pub with_word : Past → Past
-with_word past = record past { drawn = past.drawn + 1 }
+abbrev pub sampler_with_word : SamplerPast → SamplerPast
+sampler_with_word past = record past { drawn = past.drawn + 1 }
 
 -- The record may come next: it is a bus word, its time is in order, no slot is due at it, and the record counts for none
 -- of the slots that were drawn.
-pub record MayTake (past : Past) (r : BusRecord) : Type 0 where
+pub record MayTake (past : SamplerPast) (r : BusRecord) : Type 0 where
   pub kind : r.kind ≡ Word
   pub order : time_of past.records ≤ r.time
   pub in_time : r.time ≤ last_time
@@ -37,14 +37,14 @@ pub record MayTake (past : Past) (r : BusRecord) : Type 0 where
 
 -- The value stands where it was made from this table, and was given these records and asked for so many words. All the
 -- records count for the next slot.
-pub record Stands (k : Kept) (past : Past) : Type 0 where
+pub record RepresentsSampler (k : SamplerKept) (past : SamplerPast) : Type 0 where
   pub frame : k.frame ≡ past.table.frame
   pub sources : k.sources ≡ map source_of past.table.params
   pub laid : k.laid ≡ laid_of past.table
   pub drawn : k.drawn ≡ past.drawn
   pub records : All (λ (r : BusRecord). IsTrue (counts_for past.table.frame.words past.drawn r)) past.records
   pub held : (n : ℕ) (p : ParamRow) → slice_get past.table.params n ≡ Some p →
-      slice_index k.held n ≡ raw_of (source_of p) (held_record past.table.frame.words (source_of p) past.records past.drawn)
+      slice_index k.held n ≡ raw_of_record (source_of p) (held_record past.table.frame.words (source_of p) past.records past.drawn)
   pub raws : (n : ℕ) (s : Sample) → slice_get (samples past.table) n ≡ Some s → 0 < length s.parts →
-      first_slot s < slot_within past.table.frame.words past.drawn →
+      first_part_slot s < slot_within past.table.frame.words past.drawn →
       slice_index k.raws n ≡ raw_value past.table past.records (start_of past.table.frame.words past.drawn) s

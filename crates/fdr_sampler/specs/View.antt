@@ -1,6 +1,6 @@
 -- What a value of the program keeps.
 use Rattle.fdr_sampler.specs.declared.sampler.Sampler.TheInside.{Inside}
-use Rattle.fdr_sampler.specs.Kept.{Kept}
+use Rattle.fdr_sampler.specs.Kept.{SamplerKept}
 
-abbrev pub kept_of : Inside → Kept
-kept_of s = record { frame = s.frame; sources = s.sources; laid = s.layout; held = s.held.items; raws = s.raws.items; drawn = s.drawn }
+abbrev pub sampler_kept : Inside → SamplerKept
+sampler_kept s = record { frame = s.frame; sources = s.sources; laid = s.layout; held = s.held.items; raws = s.raws.items; drawn = s.drawn }

@@ -2,7 +2,7 @@
 
 ghost use Rattle.std.specs.Prelude.{◌≡◌, ◌<◌, ◌%◌, ◌^◌, ◌==◌, ℕ, All, if◌then◌else◌, length, slice_index, slice_set};
 ghost use Rattle.fdr_bits.specs.Fields.{with_field};
-ghost use Rattle.fdr_sampler.specs.Held.{first_slot};
+ghost use Rattle.fdr_sampler.specs.Held.{first_part_slot};
 ghost use Rattle.fdr_sampler.specs.SlotWord.{piece_of};
 ghost use Rattle.fdr_sampler.specs.Kept.{slot_parts, HaveValues, IsDrawn};
 
@@ -13,7 +13,7 @@ use fdr_layout::{Layout, Part, Sample};
 fn value_at(sample: &Sample, number: u32, slot: u32, held: &[u32], raws: &mut [u32]) -> u32
     requires param { sample.now.param < length held.now }
     requires number { number < length raws.old }
-    ensures value { result ≡ (if first_slot sample.now == slot then slice_index held.now sample.now.param else slice_index raws.old number) }
+    ensures value { result ≡ (if first_part_slot sample.now == slot then slice_index held.now sample.now.param else slice_index raws.old number) }
     ensures kept { raws.new ≡ slice_set raws.old number result }
 {
     if sample.first() / 12 == slot {
@@ -34,7 +34,7 @@ fn piece_of(raw: u32, part: &Part) -> u16
 fn with_piece(word: u16, part: &Part, raw: u32) -> u16
     requires { word < 4096 }
     ensures value { result ≡ with_field word (part.now.at % 12) part.now.width (piece_of raw part.now) }
-    ensures small { result < 4096 }
+    ensures twelve_bits { result < 4096 }
 {
     let piece = piece_of(raw, part);
     put_bits(word, (part.at % 12) as u8 + 1, part.width, piece)
@@ -47,7 +47,7 @@ pub(crate) fn data_word(layout: &Layout, slot: u32, held: &[u32], raws: &mut [u3
     requires raws { length raws.old ≡ length layout.now.samples }
     ensures drawn { (value : ℕ → ℕ) → HaveValues value layout.now slot held.now raws.old →
         IsDrawn value (slot_parts layout.now slot) raws.old raws.new result }
-    ensures small { result < 4096 }
+    ensures twelve_bits { result < 4096 }
 {
     let mut word = 0;
     for part in layout.at_slot(slot) {

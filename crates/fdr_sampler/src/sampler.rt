@@ -4,8 +4,8 @@ ghost use Rattle.std.specs.Prelude.{◌≡◌, ◌<◌, ◌≤◌, ◌*◌, ◌�
 ghost use Rattle.fdr_bus.specs.Records.{last_time};
 ghost use Rattle.fdr_sampler.specs.SlotWord.{slot_word, slot_within, word_with};
 ghost use Rattle.fdr_layout.specs.SlotParts.{laid_of};
-ghost use Rattle.fdr_sampler.specs.Kept.{at_start, most_slots};
-ghost use Rattle.fdr_sampler.specs.Past.{Past, made, with_record, with_word, MayTake, Stands};
+ghost use Rattle.fdr_sampler.specs.Kept.{sampler_at_start, most_word_slots};
+ghost use Rattle.fdr_sampler.specs.Past.{SamplerPast, sampler_made, sampler_with_record, sampler_with_word, MayTake, RepresentsSampler};
 
 use crate::index::Sources;
 use crate::pieces::data_word;
@@ -29,22 +29,22 @@ pub struct Sampler {
 }
 
 impl Model for Sampler {
-    ghost use Rattle.fdr_sampler.specs.Kept.{Kept, IsKept};
+    ghost use Rattle.fdr_sampler.specs.Kept.{SamplerKept, IsSamplerKept};
 
-    ghost Value = { Kept };
+    ghost Value = { SamplerKept };
 
-    ghost use Rattle.fdr_sampler.specs.View.{kept_of};
+    ghost use Rattle.fdr_sampler.specs.View.{sampler_kept};
 
-    ghost view = { kept_of };
+    ghost view = { sampler_kept };
 
-    ghost invariant = { λ s. IsKept (kept_of s) };
+    ghost invariant = { λ s. IsSamplerKept (sampler_kept s) };
 }
 
 impl Sampler {
     /// A sampler at the start of a recording by this table, whose layout is given. Fails only where memory ends.
     pub fn new(alloc: Global, layout: Layout, sound: &Sound) -> Result<Sampler, NoMemory>
         requires { layout ≡ laid_of sound.now }
-        ensures { IfOk result (λ s. Stands s (made sound.now)) }
+        ensures { IfOk result (λ s. RepresentsSampler s (sampler_made sound.now)) }
     {
         let table = sound.table();
         Sampler::with_layout(alloc, table.frame(), table.params(), layout)
@@ -53,7 +53,7 @@ impl Sampler {
     /// Whether the next slot comes before this time, in microseconds from the start. Takes no memory.
     pub fn due(&self, time: u64) -> bool
         requires { time ≤ last_time }
-        ensures { (past : Past) → Stands self.now past →
+        ensures { (past : SamplerPast) → RepresentsSampler self.now past →
             IsTrue result ↔ (past.drawn * 1000000 < time * past.table.frame.words) }
     {
         self.drawn * 1_000_000 < time * u64::from(self.frame.words)
@@ -61,18 +61,18 @@ impl Sampler {
 
     /// Takes the next bus word. All slots before its time must have been drawn, and no others. Takes no memory.
     pub fn bus(&mut self, r: &BusRecord)
-        requires { (past : Past) × Stands self.old past × MayTake past r.now }
-        ensures { (past : Past) → Stands self.old past → MayTake past r.now → Stands self.new (with_record past r.now) }
+        requires { (past : SamplerPast) × RepresentsSampler self.old past × MayTake past r.now }
+        ensures { (past : SamplerPast) → RepresentsSampler self.old past → MayTake past r.now → RepresentsSampler self.new (sampler_with_record past r.now) }
     {
         self.sources.hold(&mut self.held, r);
     }
 
     /// The word of the next slot. A recording has at most 1,474,560,000. Takes no memory.
     pub fn next_word(&mut self) -> u16
-        requires { (past : Past) × Stands self.old past × (past.drawn < most_slots) }
-        ensures word { (past : Past) → Stands self.old past → result ≡ slot_word past.table past.records past.drawn }
-        ensures stands { (past : Past) → Stands self.old past → Stands self.new (with_word past) }
-        ensures small { result < 4096 }
+        requires { (past : SamplerPast) × RepresentsSampler self.old past × (past.drawn < most_word_slots) }
+        ensures word { (past : SamplerPast) → RepresentsSampler self.old past → result ≡ slot_word past.table past.records past.drawn }
+        ensures stands { (past : SamplerPast) → RepresentsSampler self.old past → RepresentsSampler self.new (sampler_with_word past) }
+        ensures twelve_bits { result < 4096 }
     {
         let frame = self.frame;
         let slot = slot_within(frame, self.drawn);
@@ -90,7 +90,7 @@ impl Sampler {
     ) -> Result<Sampler, NoMemory>
         requires slots { length layout.slots ≡ 64 * frame.words }
         requires params { All (λ s. s.param < length params.now) layout.samples }
-        ensures { IfOk result (λ s. s ≡ at_start frame params.now layout) }
+        ensures { IfOk result (λ s. s ≡ sampler_at_start frame params.now layout) }
     {
         let sources = Sources::of(alloc, params)?;
         let held = zeros(alloc, params.len())?;
@@ -125,7 +125,7 @@ fn slot_within(frame: Frame, k: u64) -> u32
 fn word_with(frame: Frame, k: u64, plain: u16) -> u16
     requires { plain < 4096 }
     ensures word { result ≡ word_with frame k plain }
-    ensures small { result < 4096 }
+    ensures twelve_bits { result < 4096 }
 {
     match slot_kind(k, frame.words, frame.cword, frame.csub) {
         SlotKind::Sync => SYNC[usize::from(subframe_of(k, frame.words) - 1)],

@@ -5,7 +5,7 @@ ghost use Rattle.fdr_bus.specs.declared.RecordKind.TheVariants.{Word};
 ghost use Rattle.fdr_bus.specs.Words.{bits_at, is_odd, label_of};
 ghost use Rattle.fdr_sampler.specs.Held.{Source, source_of, is_from};
 ghost use Rattle.fdr_sampler.specs.Index.{entry_of};
-ghost use Rattle.fdr_sampler.specs.Kept.{held_after};
+ghost use Rattle.fdr_sampler.specs.Kept.{number_held_after};
 
 use crate::index::Entry;
 use fdr_bus::{BusRecord, field, sdi};
@@ -75,7 +75,7 @@ impl Source {
         requires kind { r.now.kind ≡ Word }
         requires odd { is_odd r.now.word ≡ true }
         requires label { label ≡ label_of r.now.word }
-        ensures { result ≡ held_after self.now r.now before }
+        ensures { result ≡ number_held_after self.now r.now before }
     {
         if self.sends(r, label) {
             self.raw(r.word)

@@ -5,7 +5,8 @@ use Rattle.fdr_slot.proofs.NumberLemmas.{big_number-big_bytes_2, big_number-big_
 use Rattle.fdr_slot.specs.Heads.{head_of, head_bytes, closed_head}
 
 -- a head is read as it was written
-pub head_of-head_bytes : (len session seq : ℕ) → len < 2 ^ 16 → session < 2 ^ 32 → seq < 2 ^ 64 → head_of (head_bytes len session seq) ≡ closed_head len session seq
+pub head_of-head_bytes : (len session seq : ℕ) → len < 2 ^ 16 → session < 2 ^ 32 → seq < 2 ^ 64
+    → head_of (head_bytes len session seq) ≡ closed_head len session seq
 unfolding head_of head_bytes
 head_of-head_bytes len session seq short small fits =
     let last = big_bytes 8 seq in

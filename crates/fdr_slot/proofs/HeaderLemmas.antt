@@ -32,21 +32,24 @@ image_fault_closed bytes size whole closed =
     let gate : has_open_gate bytes ≡ false = grind (arith, nat_tests) in
     rw (small, gate) refl
 
-pub image_fault_magic : (bytes : List ℕ) (size : ℕ) → 64 ≤ size → slice_index bytes 0 ≡ 0x5a → has_magic bytes ≡ false → image_fault bytes size ≡ Some fault.Magic
+pub image_fault_magic : (bytes : List ℕ) (size : ℕ) → 64 ≤ size → slice_index bytes 0 ≡ 0x5a → has_magic bytes ≡ false
+    → image_fault bytes size ≡ Some fault.Magic
 unfolding image_fault
 image_fault_magic bytes size whole gate magic =
     let small : nat_lt size 64 ≡ false = grind (arith, nat_tests) in
     let test : has_open_gate bytes ≡ true = grind (arith, nat_tests) in
     rw (small, test, magic) refl
 
-pub image_fault_geometry : (bytes : List ℕ) (size : ℕ) → 64 ≤ size → slice_index bytes 0 ≡ 0x5a → has_magic bytes ≡ true → in_limits (header_of bytes) ≡ false → image_fault bytes size ≡ Some fault.Geometry
+pub image_fault_geometry : (bytes : List ℕ) (size : ℕ) → 64 ≤ size → slice_index bytes 0 ≡ 0x5a → has_magic bytes ≡ true → in_limits (header_of bytes) ≡ false
+    → image_fault bytes size ≡ Some fault.Geometry
 unfolding image_fault
 image_fault_geometry bytes size whole gate magic outside =
     let small : nat_lt size 64 ≡ false = grind (arith, nat_tests) in
     let test : has_open_gate bytes ≡ true = grind (arith, nat_tests) in
     rw (small, test, magic, outside) refl
 
-pub image_fault_short : (bytes : List ℕ) (size : ℕ) → 64 ≤ size → slice_index bytes 0 ≡ 0x5a → has_magic bytes ≡ true → in_limits (header_of bytes) ≡ true → size < image_size (header_of bytes) → image_fault bytes size ≡ Some fault.Short
+pub image_fault_short : (bytes : List ℕ) (size : ℕ) → 64 ≤ size → slice_index bytes 0 ≡ 0x5a → has_magic bytes ≡ true → in_limits (header_of bytes) ≡ true
+    → size < image_size (header_of bytes) → image_fault bytes size ≡ Some fault.Short
 unfolding image_fault
 image_fault_short bytes size whole gate magic limits short =
     let small : nat_lt size 64 ≡ false = grind (arith, nat_tests) in
@@ -54,7 +57,8 @@ image_fault_short bytes size whole gate magic limits short =
     let few : nat_lt size (image_size (header_of bytes)) ≡ true = grind (arith, nat_tests) in
     rw (small, test, magic, limits, few) refl
 
-pub image_fault_none : (bytes : List ℕ) (size : ℕ) → 64 ≤ size → slice_index bytes 0 ≡ 0x5a → has_magic bytes ≡ true → in_limits (header_of bytes) ≡ true → image_size (header_of bytes) ≤ size → image_fault bytes size ≡ None
+pub image_fault_none : (bytes : List ℕ) (size : ℕ) → 64 ≤ size → slice_index bytes 0 ≡ 0x5a → has_magic bytes ≡ true → in_limits (header_of bytes) ≡ true
+    → image_size (header_of bytes) ≤ size → image_fault bytes size ≡ None
 unfolding image_fault
 image_fault_none bytes size whole gate magic limits enough =
     let small : nat_lt size 64 ≡ false = grind (arith, nat_tests) in

@@ -1,4 +1,5 @@
-// The head of a slot.
+//! The head of a slot.
+
 ghost use Rattle.std.specs.Prelude.{◌≡◌, ◌<◌, ◌↔◌, IsTrue};
 ghost use Rattle.fdr_slot.specs.Heads.{head_of, head_bytes, closed_head, IsValid};
 ghost use Rattle.fdr_slot.specs.Heads as heads;

@@ -1,4 +1,5 @@
-// The header, and how large it makes an image.
+//! The header, and how large it makes an image.
+
 ghost use Rattle.std.specs.Prelude.{◌≡◌, ◌≢◌, ◌≤◌, ◌<◌, ◌↔◌, ℕ, true, false, Err, Some, None, IsTrue, IsOk, IfOk, IfErr, slice_index};
 ghost use Rattle.fdr_slot.specs.Headers.{header_of, header_bytes, has_magic, image_fault};
 ghost use Rattle.fdr_slot.specs.Limits.{IsInLimits};

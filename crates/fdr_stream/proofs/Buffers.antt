@@ -3,39 +3,40 @@ use Rattle.std.proofs.Common.{◌≡◌, ℕ, ◌+◌, ◌-◌, ◌*◌, ◌/◌
 use Rattle.std.proofs.lemmas.List.{append-nil}
 use Rattle.circular_buffer.specs.Buffer.{keep_last}
 use Rattle.fdr_stream.specs.Packing.{filled_by, unpaired_after, last_byte}
-use Rattle.fdr_stream.specs.Kept.{Kept, with_word, padded}
+use Rattle.fdr_stream.specs.Kept.{StreamKept, with_packed_word, padded}
 
 -- what fits is kept
 pub keep_last-fits : (n : ℕ) (xs : List ℕ) → length xs ≤ n → keep_last n xs ≡ xs
 keep_last-fits n xs fits = let none : length xs - n ≡ 0 = omega arith in ap (λ m. drop m xs) none
 
 -- the first word of a pair
-pub with_word-first : (k : Kept) (word : ℕ) (bytes : List ℕ) → k.odd ≡ None → bytes ≡ k.bytes ++ word % 256 ∷ [] →
-    record k { odd = Some word; bytes = bytes } ≡ with_word k word
+pub with_word-first : (k : StreamKept) (word : ℕ) (bytes : List ℕ) → k.odd ≡ None → bytes ≡ k.bytes ++ word % 256 ∷ [] →
+    record k { odd = Some word; bytes = bytes } ≡ with_packed_word k word
 unfolding filled_by unpaired_after
 with_word-first k word bytes none is =
-    let At : List ℕ → Kept = λ b. record k { odd = Some word; bytes = b } in
-    let Of : Option ℕ → Kept = λ o. record k { odd = unpaired_after o word; bytes = k.bytes ++ filled_by o word } in
+    let At : List ℕ → StreamKept = λ b. record k { odd = Some word; bytes = b } in
+    let Of : Option ℕ → StreamKept = λ o. record k { odd = unpaired_after o word; bytes = k.bytes ++ filled_by o word } in
     ap At is ∙ ap Of (sym none)
 
 -- the second
-pub with_word-second : (k : Kept) (a word : ℕ) (bytes : List ℕ) → k.odd ≡ Some a → bytes ≡ k.bytes ++ (a / 256 + 16 * (word % 16)) ∷ word / 16 ∷ [] →
-    record k { odd = None; bytes = bytes } ≡ with_word k word
+pub with_word-second : (k : StreamKept) (a word : ℕ) (bytes : List ℕ) → k.odd ≡ Some a → bytes ≡ k.bytes ++ (a / 256 + 16 * (word % 16)) ∷ word / 16 ∷ [] →
+    record k { odd = None; bytes = bytes } ≡ with_packed_word k word
 unfolding filled_by unpaired_after
 with_word-second k a word bytes some is =
-    let At : List ℕ → Kept = λ b. record k { odd = None; bytes = b } in
-    let Of : Option ℕ → Kept = λ o. record k { odd = unpaired_after o word; bytes = k.bytes ++ filled_by o word } in
+    let At : List ℕ → StreamKept = λ b. record k { odd = None; bytes = b } in
+    let Of : Option ℕ → StreamKept = λ o. record k { odd = unpaired_after o word; bytes = k.bytes ++ filled_by o word } in
     ap At is ∙ ap Of (sym some)
 
-pub padded-some : (k : Kept) (a : ℕ) (bytes : List ℕ) → k.odd ≡ Some a → bytes ≡ k.bytes ++ a / 256 ∷ [] → record k { odd = None; bytes = bytes } ≡ padded k
+pub padded-some : (k : StreamKept) (a : ℕ) (bytes : List ℕ) → k.odd ≡ Some a → bytes ≡ k.bytes ++ a / 256 ∷ []
+    → record k { odd = None; bytes = bytes } ≡ padded k
 unfolding last_byte
 padded-some k a bytes some is =
-    let At : List ℕ → Kept = λ b. record k { odd = None; bytes = b } in
+    let At : List ℕ → StreamKept = λ b. record k { odd = None; bytes = b } in
     ap At is ∙ ap (λ o. At (k.bytes ++ last_byte o)) (sym some)
 
-pub padded-none : (k : Kept) → k.odd ≡ None → k ≡ padded k
+pub padded-none : (k : StreamKept) → k.odd ≡ None → k ≡ padded k
 unfolding last_byte
 padded-none k none =
-    let Of : Option ℕ → Kept = λ o. record k { odd = o } in
-    let At : List ℕ → Kept = λ b. record k { odd = None; bytes = b } in
+    let Of : Option ℕ → StreamKept = λ o. record k { odd = o } in
+    let At : List ℕ → StreamKept = λ b. record k { odd = None; bytes = b } in
     ap Of none ∙ ap At (sym (append-nil k.bytes)) ∙ ap (λ o. At (k.bytes ++ last_byte o)) (sym none)

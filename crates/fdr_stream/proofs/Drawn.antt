@@ -9,23 +9,23 @@ use Rattle.fdr_sampler.specs.SlotWord.{slot_word}
 use Rattle.fdr_sampler.specs.Stream.{packed, slot_count, stream_of}
 use Rattle.fdr_sampler.proofs.Packing.{IsWord}
 use Rattle.fdr_sampler.proofs.Streaming.{slot_words-below, stream_words-push}
-use Rattle.fdr_stream.specs.Blocks.{block_at, due_blocks}
+use Rattle.fdr_stream.specs.Blocks.{cut_block, due_blocks}
 use Rattle.fdr_stream.specs.Packing.{unpaired, whole_bytes, filled_by, unpaired_after}
-use Rattle.fdr_stream.specs.Kept.{Kept}
-use Rattle.fdr_stream.specs.Past.{Past, words_to, IsPacked}
+use Rattle.fdr_stream.specs.Kept.{StreamKept}
+use Rattle.fdr_stream.specs.Past.{StreamPast, words_to, IsPacked}
 use Rattle.fdr_stream.proofs.PackingLemmas.{unpaired-push, whole_bytes-push, length-whole_bytes, bytes_after, packed-whole}
 
-pub length-words_to : (past : Past) (n : ℕ) → length (words_to past n) ≡ n
+pub length-words_to : (past : StreamPast) (n : ℕ) → length (words_to past n) ≡ n
 length-words_to past n = length-map-range_with_len (slot_word past.table past.records) 0 n
 
-words_to-more : (past : Past) (n : ℕ) → words_to past (n + 1) ≡ words_to past n ++ slot_word past.table past.records n ∷ []
+words_to-more : (past : StreamPast) (n : ℕ) → words_to past (n + 1) ≡ words_to past n ++ slot_word past.table past.records n ∷ []
 words_to-more past n = map-range_with_len_more (slot_word past.table past.records) 0 n n (omega arith)
 
-pub length-whole_to : (past : Past) (n : ℕ) → length (whole_bytes (words_to past n)) ≡ 3 * n / 2
+pub length-whole_to : (past : StreamPast) (n : ℕ) → length (whole_bytes (words_to past n)) ≡ 3 * n / 2
 length-whole_to past n = length-whole_bytes (words_to past n) ∙ ap (λ m. 3 * m / 2) (length-words_to past n)
 
 -- how many bytes wait
-pub length-waiting : (k : Kept) (past : Past) → IsPacked k past → length k.bytes + past.payload * past.blocks ≡ 3 * k.sampler.drawn / 2
+pub length-waiting : (k : StreamKept) (past : StreamPast) → IsPacked k past → length k.bytes + past.payload * past.blocks ≡ 3 * k.sampler.drawn / 2
 length-waiting k past at =
     let given = past.payload * past.blocks in
     let whole = whole_bytes (words_to past k.sampler.drawn) in
@@ -38,8 +38,9 @@ three_halves : (m n : ℕ) → m ≤ n → 3 * m / 2 ≤ 3 * n / 2
 three_halves m n le = omega arith
 
 -- after a further word
-pub IsPacked-word : (k k' : Kept) (past : Past) (word : ℕ) → IsPacked k past → word ≡ slot_word past.table past.records k.sampler.drawn →
-    k'.sampler.drawn ≡ k.sampler.drawn + 1 → k'.payload ≡ k.payload → k'.odd ≡ unpaired_after k.odd word → k'.bytes ≡ k.bytes ++ filled_by k.odd word → IsPacked k' past
+pub IsPacked-word : (k k' : StreamKept) (past : StreamPast) (word : ℕ) → IsPacked k past → word ≡ slot_word past.table past.records k.sampler.drawn →
+    k'.sampler.drawn ≡ k.sampler.drawn + 1 → k'.payload ≡ k.payload → k'.odd ≡ unpaired_after k.odd word → k'.bytes ≡ k.bytes ++ filled_by k.odd word
+    → IsPacked k' past
 IsPacked-word k k' past word at is drawn payload odd bytes =
     let n = k.sampler.drawn in
     let given = past.payload * past.blocks in
@@ -58,23 +59,23 @@ IsPacked-word k k' past word at is drawn payload odd bytes =
     }
 
 -- the words up to a later slot begin with those up to an earlier one
-pub words_to-later : (past : Past) (n m : ℕ) → n ≤ m → words_to past m ≡ words_to past n ++ drop n (words_to past m)
+pub words_to-later : (past : StreamPast) (n m : ℕ) → n ≤ m → words_to past m ≡ words_to past n ++ drop n (words_to past m)
 words_to-later past n m le =
     sym (take-append-drop n (words_to past m))
     ∙ ap (λ ws. ws ++ drop n (words_to past m)) (take-map-range_with_len (slot_word past.table past.records) 0 m n le)
 
-pub words_to-fit : (past : Past) (n : ℕ) → All IsWord (words_to past n)
+pub words_to-fit : (past : StreamPast) (n : ℕ) → All IsWord (words_to past n)
 words_to-fit past n = slot_words-below past.table past.records n
 
 -- the bytes of the words up to a later slot begin with those that the words up to an earlier one fill
-pub packed-words_to : (past : Past) (n m : ℕ) → n ≤ m →
+pub packed-words_to : (past : StreamPast) (n m : ℕ) → n ≤ m →
     packed (words_to past m) ≡ whole_bytes (words_to past n) ++ bytes_after (unpaired (words_to past n)) (drop n (words_to past m))
 packed-words_to past n m le =
     let later = words_to-later past n m le in
     ap packed later ∙ packed-whole (words_to past n) (drop n (words_to past m)) (subst (All IsWord) later (words_to-fit past m))
 
 -- the bytes that wait begin the rest of the stream
-pub waiting_is : (k : Kept) (past : Past) (m : ℕ) → IsPacked k past → k.sampler.drawn ≤ m →
+pub waiting_is : (k : StreamKept) (past : StreamPast) (m : ℕ) → IsPacked k past → k.sampler.drawn ≤ m →
     (more : List ℕ) × (drop (past.payload * past.blocks) (packed (words_to past m)) ≡ k.bytes ++ more)
 waiting_is k past m at le =
     let n = k.sampler.drawn in
@@ -88,8 +89,9 @@ waiting_is k past m at le =
     )
 
 -- so a whole block of them is the next block
-pub block_is : (k : Kept) (past : Past) (r : BusRecord) → IsPacked k past → k.sampler.drawn ≤ slot_count past.table.frame.words r.time → past.payload ≤ length k.bytes →
-    take past.payload k.bytes ≡ block_at past.payload (stream_of past.table (past.records ++ r ∷ [])) past.blocks
+pub block_is : (k : StreamKept) (past : StreamPast) (r : BusRecord) → IsPacked k past → k.sampler.drawn ≤ slot_count past.table.frame.words r.time
+    → past.payload ≤ length k.bytes →
+    take past.payload k.bytes ≡ cut_block past.payload (stream_of past.table (past.records ++ r ∷ [])) past.blocks
 block_is k past r at le whole =
     let t = past.table in
     let given = past.payload * past.blocks in
@@ -99,14 +101,16 @@ block_is k past r at le whole =
 
 -- ---- how many blocks are due
 
-pub due_blocks-push : (past : Past) (r : BusRecord) → due_blocks past.table past.payload (past.records ++ r ∷ []) ≡ 3 * slot_count past.table.frame.words r.time / 2 / past.payload
+pub due_blocks-push : (past : StreamPast) (r : BusRecord)
+    → due_blocks past.table past.payload (past.records ++ r ∷ []) ≡ 3 * slot_count past.table.frame.words r.time / 2 / past.payload
 due_blocks-push past r =
     let n = slot_count past.table.frame.words r.time in
     ap (λ (ws : List ℕ). 3 * length ws / 2 / past.payload) (stream_words-push past.table past.records r)
     ∙ ap (λ m. 3 * m / 2 / past.payload) (length-words_to past n)
 
 -- where a whole block waits, one is due
-pub is_due : (k : Kept) (past : Past) (r : BusRecord) → IsPacked k past → 0 < past.payload → k.sampler.drawn ≤ slot_count past.table.frame.words r.time → past.payload ≤ length k.bytes →
+pub is_due : (k : StreamKept) (past : StreamPast) (r : BusRecord) → IsPacked k past → 0 < past.payload
+    → k.sampler.drawn ≤ slot_count past.table.frame.words r.time → past.payload ≤ length k.bytes →
     past.blocks < due_blocks past.table past.payload (past.records ++ r ∷ [])
 is_due k past r at some le whole =
     let n = slot_count past.table.frame.words r.time in
@@ -115,7 +119,8 @@ is_due k past r at some le whole =
     omega (arith, fits, due_blocks-push past r)
 
 -- where all words were drawn and no whole block waits, all that are due were given
-pub none_due : (k : Kept) (past : Past) (r : BusRecord) → IsPacked k past → 0 < past.payload → k.sampler.drawn ≡ slot_count past.table.frame.words r.time → length k.bytes < past.payload →
+pub none_due : (k : StreamKept) (past : StreamPast) (r : BusRecord) → IsPacked k past → 0 < past.payload
+    → k.sampler.drawn ≡ slot_count past.table.frame.words r.time → length k.bytes < past.payload →
     past.blocks ≡ due_blocks past.table past.payload (past.records ++ r ∷ [])
 none_due k past r at some is few =
     let n = slot_count past.table.frame.words r.time in

@@ -1,8 +1,8 @@
 -- For which past a stream stands.
-use Rattle.std.proofs.Common.{◌≡◌, ℕ, ◌+◌, ◌-◌, ◌*◌, ◌/◌, ◌<◌, ◌≤◌, ⊎_elim, false, List, [], ◌∷◌, ◌++◌, Some, None, zero, suc, min, length, drop, refl, sym, ap, ◌∙◌, subst, arith, length-append}
+use Rattle.std.proofs.Common.{◌≡◌, ℕ, ◌+◌, ◌-◌, ◌*◌, ◌/◌, ◌<◌, ◌≤◌, ⊎_elim, false, List, [], ◌∷◌, ◌++◌, Some, None, zero, suc, min, length, drop, refl, sym, ap}
+use Rattle.std.proofs.Common.{◌∙◌, subst, arith, length-append}
 use Rattle.std.proofs.lemmas.List.{length-drop, drop-drop, drop-append-le}
 use Rattle.std.proofs.lemmas.List.FromFn.{length-map-range_with_len}
-use Rattle.std.proofs.lemmas.List.Sums.{fold_push}
 use Rattle.std.proofs.lemmas.Nat.{div-mul-add}
 use Rattle.std.proofs.Math.Nat.{mul-le-mul_left, mul-le-mul_right}
 use Rattle.fdr_bus.specs.declared.BusRecord.{BusRecord}
@@ -11,26 +11,25 @@ use Rattle.fdr_bus.specs.Records.{time_of, last_time, has_end}
 use Rattle.fdr_table.specs.Rows.{TableRows}
 use Rattle.fdr_sampler.specs.SlotWord.{slot_word}
 use Rattle.fdr_sampler.specs.Stream.{packed, slot_count, stream_of}
-use Rattle.fdr_sampler.specs.Past.{MayTake, Stands as SamplerStands, made as sampler_made}
-use Rattle.fdr_sampler.specs.Kept.{Kept as Sampled, most_slots}
+use Rattle.fdr_sampler.specs.Past.{MayTake, RepresentsSampler, sampler_made}
+use Rattle.fdr_sampler.specs.Kept.{SamplerKept, most_word_slots}
 use Rattle.fdr_sampler.proofs.Packing.{length-packed}
 use Rattle.fdr_sampler.proofs.Counting.{slot_count-below, slot_count-above}
 use Rattle.fdr_sampler.proofs.Streaming.{words-late, stream_words-none}
-use Rattle.fdr_stream.specs.Blocks.{block_at, blocks_of}
+use Rattle.fdr_stream.specs.Blocks.{cut_block, blocks_of}
 use Rattle.fdr_stream.specs.Packing.{unpaired, whole_bytes, last_byte}
-use Rattle.fdr_stream.specs.Kept.{Kept, at_start, with_word}
-use Rattle.fdr_stream.specs.Past.{Past, made, with_block, with_record, MayFeed, words_to, time_from, IsPacked, IsSampled, IsDrawing, Stands}
+use Rattle.fdr_stream.specs.Kept.{StreamKept, stream_at_start, with_packed_word}
+use Rattle.fdr_stream.specs.Past.{StreamPast, stream_made, with_block, stream_with_record, MayFeedStream, words_to, time_from, IsPacked, IsSampled, IsDrawing}
+use Rattle.fdr_stream.specs.Past.{RepresentsStream}
 use Rattle.fdr_stream.proofs.PackingLemmas.{packed-last, length-last_byte}
 use Rattle.fdr_stream.proofs.Drawn.{length-words_to, length-whole_to, words_to-fit, length-waiting, IsPacked-word, none_due}
+use Rattle.fdr_bus.proofs.TraceLemmas.{time_of-push}
 
 pub slot_count-later : (w a b : ℕ) → a ≤ b → slot_count w a ≤ slot_count w b
 slot_count-later w a b le = let more : a * w ≤ b * w = mul-le-mul_right w le in omega (arith, more)
 
-pub time_of-push : (records : List BusRecord) (r : BusRecord) → time_of (records ++ r ∷ []) ≡ r.time
-time_of-push records r = fold_push (λ time (r : BusRecord). r.time) 0 records r
-
 -- a record that is fed finds a stream in which slots before its time were drawn, and no others
-pub IsDrawing-fed : (k : Kept) (past : Past) (r : BusRecord) → Stands k past → MayFeed past r → IsDrawing k past r.time
+pub IsDrawing-fed : (k : StreamKept) (past : StreamPast) (r : BusRecord) → RepresentsStream k past → MayFeedStream past r → IsDrawing k past r.time
 unfolding time_from
 IsDrawing-fed k past r st may =
     let w = past.table.frame.words in
@@ -39,7 +38,8 @@ IsDrawing-fed k past r st may =
       packed = st.packed;
       undrawn = ⊎_elim
           (λ (none : past.begun ≡ None).
-          let high : k.sampler.drawn ≤ slot_count w (time_of past.records) = subst (λ b. k.sampler.drawn ≤ slot_count w (time_from past.records b)) none st.undrawn in
+          let high : k.sampler.drawn ≤ slot_count w (time_of past.records) =
+          subst (λ b. k.sampler.drawn ≤ slot_count w (time_from past.records b)) none st.undrawn in
           omega (arith, high, slot_count-later w (time_of past.records) r.time may.order))
           (λ (begun : past.begun ≡ Some r). subst (λ b. k.sampler.drawn ≤ slot_count w (time_from past.records b)) begun st.undrawn)
           may.same;
@@ -49,11 +49,13 @@ some_is_not_none : {X : Type 0} (x : X) → (Some x ≡ None) → ⊥
 some_is_not_none x is = cc
 
 -- after a block was given
-pub Stands-block : (k k1 k2 : Kept) (past : Past) (r : BusRecord) → Stands k past → IsDrawing k1 past r.time → k.sampler.drawn ≤ k1.sampler.drawn →
-    k1.payload ≤ length k1.bytes → length k1.bytes ≤ k1.payload + 1 → k2 ≡ record k1 { bytes = drop k1.payload k1.bytes } → Stands k2 (with_block past r)
+pub Stands-block : (k k1 k2 : StreamKept) (past : StreamPast) (r : BusRecord) → RepresentsStream k past → IsDrawing k1 past r.time
+    → k.sampler.drawn ≤ k1.sampler.drawn →
+    k1.payload ≤ length k1.bytes → length k1.bytes ≤ k1.payload + 1 → k2 ≡ record k1 { bytes = drop k1.payload k1.bytes }
+    → RepresentsStream k2 (with_block past r)
 unfolding time_from
 Stands-block k k1 k2 past r st at on whole few is =
-    let P : Kept → Type 0 = λ x. Stands x (with_block past r) in
+    let P : StreamKept → Type 0 = λ x. RepresentsStream x (with_block past r) in
     let given = past.payload * past.blocks in
     let bytes = whole_bytes (words_to past k1.sampler.drawn) in
     let len = length-drop k1.payload k1.bytes in
@@ -70,24 +72,26 @@ Stands-block k k1 k2 past r st at on whole few is =
         odd = at.packed.odd;
         bytes = ap (drop k1.payload) at.packed.bytes ∙ drop-drop k1.payload given bytes ∙ ap (λ n. drop n bytes) more;
       };
-      few = omega (arith, len, st.low, at.packed.payload);
+      within_payload = omega (arith, len, st.low, at.packed.payload);
       drawn = omega (arith, st.drawn, on);
       undrawn = at.undrawn;
       blocks = λ none. absurd (some_is_not_none r none);
     })
 
 -- after the record was taken
-pub Stands-record : (k k1 k2 : Kept) (past : Past) (r : BusRecord) → Stands k past → IsDrawing k1 past r.time → length k1.bytes < k1.payload →
-    k1.sampler.drawn ≡ slot_count past.table.frame.words r.time → k2.sampler.drawn ≡ k1.sampler.drawn → k2.payload ≡ k1.payload → k2.odd ≡ k1.odd → k2.bytes ≡ k1.bytes →
-    (has_end (past.records ++ r ∷ []) ≡ false → IsSampled k2 (with_record past r)) → Stands k2 (with_record past r)
+pub Stands-record : (k k1 k2 : StreamKept) (past : StreamPast) (r : BusRecord) → RepresentsStream k past → IsDrawing k1 past r.time
+    → length k1.bytes < k1.payload →
+    k1.sampler.drawn ≡ slot_count past.table.frame.words r.time → k2.sampler.drawn ≡ k1.sampler.drawn → k2.payload ≡ k1.payload → k2.odd ≡ k1.odd
+    → k2.bytes ≡ k1.bytes →
+    (has_end (past.records ++ r ∷ []) ≡ false → IsSampled k2 (stream_with_record past r)) → RepresentsStream k2 (stream_with_record past r)
 unfolding time_from
 Stands-record k k1 k2 past r st at few all drawn payload odd bytes sampled =
     let w = past.table.frame.words in
     let n = slot_count w r.time in
     let is : k2.sampler.drawn ≡ n = drawn ∙ all in
     let time = time_of-push past.records r in
-    let words : words_to past k1.sampler.drawn ≡ words_to (with_record past r) k2.sampler.drawn =
-    ap (words_to past) all ∙ sym (words-late past.table past.records r) ∙ ap (words_to (with_record past r)) (sym is) in
+    let words : words_to past k1.sampler.drawn ≡ words_to (stream_with_record past r) k2.sampler.drawn =
+    ap (words_to past) all ∙ sym (words-late past.table past.records r) ∙ ap (words_to (stream_with_record past r)) (sym is) in
     let count : slot_count w (time_of (past.records ++ r ∷ [])) ≡ n = ap (slot_count w) time in
     let room : length k1.bytes < past.payload = omega (arith, at.packed.payload) in
     record {
@@ -101,14 +105,15 @@ Stands-record k k1 k2 past r st at few all drawn payload odd bytes sampled =
         odd = odd ∙ at.packed.odd ∙ ap unpaired words;
         bytes = bytes ∙ at.packed.bytes ∙ ap (λ ws. drop (past.payload * past.blocks) (whole_bytes ws)) words;
       };
-      few = subst (λ (bytes : List ℕ). length bytes < past.payload) (sym bytes) room;
+      within_payload = subst (λ (bytes : List ℕ). length bytes < past.payload) (sym bytes) room;
       drawn = omega (arith, is, count);
       undrawn = omega (arith, is, count);
       blocks = λ none. none_due k1 past r at.packed (omega (arith, st.low)) all room;
     }
 
 -- all words before the record's time were drawn, so the sampler may take it
-pub MayTake-fed : (k : Kept) (past : Past) (r : BusRecord) → MayFeed past r → k.sampler.drawn ≡ slot_count past.table.frame.words r.time → r.kind ≡ Word →
+pub MayTake-fed : (k : StreamKept) (past : StreamPast) (r : BusRecord) → MayFeedStream past r → k.sampler.drawn ≡ slot_count past.table.frame.words r.time
+    → r.kind ≡ Word →
     MayTake (record { table = past.table; records = past.records; drawn = k.sampler.drawn }) r
 MayTake-fed k past r may is kind =
     let w = past.table.frame.words in
@@ -122,19 +127,20 @@ MayTake-fed k past r may is kind =
 
 -- ---- at the start
 
-pub Stands-made : (sampler : Sampled) (t : TableRows) (payload : ℕ) → 64 ≤ payload → payload ≤ 4096 → t.frame.words ≤ 1024 → SamplerStands sampler (sampler_made t) →
-    Stands (at_start sampler payload) (made t payload)
+pub Stands-made : (sampler : SamplerKept) (t : TableRows) (payload : ℕ) → 64 ≤ payload → payload ≤ 4096 → t.frame.words ≤ 1024
+    → RepresentsSampler sampler (sampler_made t) →
+    RepresentsStream (stream_at_start sampler payload) (stream_made t payload)
 unfolding time_from unpaired whole_bytes
 Stands-made sampler t payload low high few st =
     let none : sampler.drawn ≡ 0 = st.drawn in
     let zero_time : slot_count t.frame.words 0 ≡ 0 = omega arith in
-    let start : words_to (made t payload) sampler.drawn ≡ [] = ap (words_to (made t payload)) none in
+    let start : words_to (stream_made t payload) sampler.drawn ≡ [] = ap (words_to (stream_made t payload)) none in
     let none_given : payload * 0 ≡ 0 = omega arith in
     let nothing : 3 * 0 / 2 / payload ≡ 0 = omega arith in
     record {
       low = low;
       high = high;
-      sampler = λ unended. subst (λ n. SamplerStands sampler (record { table = t; records = []; drawn = n })) (sym none) st;
+      sampler = λ unended. subst (λ n. RepresentsSampler sampler (record { table = t; records = []; drawn = n })) (sym none) st;
       packed = record {
         payload = refl;
         words = few;
@@ -142,7 +148,7 @@ Stands-made sampler t payload low high few st =
         odd = ap unpaired (sym start);
         bytes = sym (ap (λ n. drop n []) none_given) ∙ ap (λ ws. drop (payload * 0) (whole_bytes ws)) (sym start);
       };
-      few = omega arith;
+      within_payload = omega arith;
       drawn = omega (arith, none, zero_time);
       undrawn = omega (arith, none, zero_time);
       blocks = λ b. sym (ap (λ (ws : List ℕ). 3 * length ws / 2 / payload) (stream_words-none t) ∙ nothing);
@@ -151,25 +157,26 @@ Stands-made sampler t payload low high few st =
 -- ---- the sampler
 
 -- a sampler stands for as many slots as it counts
-pub sampled_here : (s : Sampled) (past : Past) (n : ℕ) → SamplerStands s (record { table = past.table; records = past.records; drawn = n }) →
-    SamplerStands s (record { table = past.table; records = past.records; drawn = s.drawn })
-sampled_here s past n st = subst (λ m. SamplerStands s (record { table = past.table; records = past.records; drawn = m })) (sym st.drawn) st
+pub sampled_here : (s : SamplerKept) (past : StreamPast) (n : ℕ) → RepresentsSampler s (record { table = past.table; records = past.records; drawn = n }) →
+    RepresentsSampler s (record { table = past.table; records = past.records; drawn = s.drawn })
+sampled_here s past n st = subst (λ m. RepresentsSampler s (record { table = past.table; records = past.records; drawn = m })) (sym st.drawn) st
 
 -- after a further word was drawn and packed
-pub IsSampled-word : (k k1 : Kept) (s : Sampled) (word : ℕ) (past : Past) → k1 ≡ with_word (record k { sampler = s }) word →
-    SamplerStands s (record { table = past.table; records = past.records; drawn = k.sampler.drawn + 1 }) → IsSampled k1 past
-IsSampled-word k k1 s word past is st = subst (λ (x : Kept). IsSampled x past) (sym is) (sampled_here s past (k.sampler.drawn + 1) st)
+pub IsSampled-word : (k k1 : StreamKept) (s : SamplerKept) (word : ℕ) (past : StreamPast) → k1 ≡ with_packed_word (record k { sampler = s }) word →
+    RepresentsSampler s (record { table = past.table; records = past.records; drawn = k.sampler.drawn + 1 }) → IsSampled k1 past
+IsSampled-word k k1 s word past is st = subst (λ (x : StreamKept). IsSampled x past) (sym is) (sampled_here s past (k.sampler.drawn + 1) st)
 
-pub IsPacked-drawn : (k k1 : Kept) (s : Sampled) (word : ℕ) (past : Past) → k1 ≡ with_word (record k { sampler = s }) word →
-    SamplerStands s (record { table = past.table; records = past.records; drawn = k.sampler.drawn + 1 }) →
+pub IsPacked-drawn : (k k1 : StreamKept) (s : SamplerKept) (word : ℕ) (past : StreamPast) → k1 ≡ with_packed_word (record k { sampler = s }) word →
+    RepresentsSampler s (record { table = past.table; records = past.records; drawn = k.sampler.drawn + 1 }) →
     word ≡ slot_word past.table past.records k.sampler.drawn → IsPacked k past → IsPacked k1 past
 IsPacked-drawn k k1 s word past is st drawn at =
-    subst (λ (x : Kept). IsPacked x past) (sym is) (IsPacked-word k (with_word (record k { sampler = s }) word) past word at drawn st.drawn refl refl refl)
+    subst (λ (x : StreamKept). IsPacked x past) (sym is)
+    (IsPacked-word k (with_packed_word (record k { sampler = s }) word) past word at drawn st.drawn refl refl refl)
 
 -- ---- the slots before a time
 
 -- a slot that is due is one of a recording
-pub below_most : (w time k : ℕ) → w ≤ 1024 → time ≤ last_time → k * 1000000 < time * w → k < most_slots
+pub below_most : (w time k : ℕ) → w ≤ 1024 → time ≤ last_time → k * 1000000 < time * w → k < most_word_slots
 below_most w time k few in_time due = let more : time * w ≤ time * 1024 = mul-le-mul_left time few in omega (arith, more, due, in_time)
 
 -- and is among those before the time
@@ -183,7 +190,7 @@ all_drawn w time k undrawn late = omega arith
 -- ---- at the end
 
 -- the bytes that wait, and the byte that a waiting word begins, are the rest of the stream
-pub rest_is : (k : Kept) (past : Past) → Stands k past → past.begun ≡ None →
+pub rest_is : (k : StreamKept) (past : StreamPast) → RepresentsStream k past → past.begun ≡ None →
     k.bytes ++ last_byte k.odd ≡ drop (past.payload * past.blocks) (stream_of past.table past.records)
 unfolding time_from
 rest_is k past st none =
@@ -198,24 +205,28 @@ rest_is k past st none =
     ∙ sym (drop-append-le given (whole_bytes words) (last_byte (unpaired words)) low)
     ∙ ap (drop given) (sym (packed-last words (words_to-fit past n))) ∙ ap (λ m. drop given (packed (words_to past m))) is
 
-given_low : (k : Kept) (past : Past) → Stands k past → past.begun ≡ None → past.payload * past.blocks ≤ length (stream_of past.table past.records)
+given_low : (k : StreamKept) (past : StreamPast) → RepresentsStream k past → past.begun ≡ None
+    → past.payload * past.blocks ≤ length (stream_of past.table past.records)
 unfolding time_from
 given_low k past st none =
     let w = past.table.frame.words in
     let n = slot_count w (time_of past.records) in
     let high : k.sampler.drawn ≤ n = subst (λ b. k.sampler.drawn ≤ slot_count w (time_from past.records b)) none st.undrawn in
     let is : k.sampler.drawn ≡ n = omega (arith, st.drawn) in
-    let len : length (stream_of past.table past.records) ≡ (3 * n + 1) / 2 = length-packed (words_to past n) ∙ ap (λ m. (3 * m + 1) / 2) (length-words_to past n) in
+    let len : length (stream_of past.table past.records) ≡ (3 * n + 1) / 2 =
+    length-packed (words_to past n) ∙ ap (λ m. (3 * m + 1) / 2) (length-words_to past n) in
     omega (arith, st.packed.given, is, len)
 
 -- they fit a block
-pub few_left : (k : Kept) (past : Past) (items : List ℕ) → Stands k past → items ≡ k.bytes ++ last_byte k.odd → length items ≤ past.payload
+pub few_left : (k : StreamKept) (past : StreamPast) (items : List ℕ) → RepresentsStream k past → items ≡ k.bytes ++ last_byte k.odd
+    → length items ≤ past.payload
 few_left k past items st is =
     let len = ap (λ (xs : List ℕ). length xs) is ∙ length-append k.bytes (last_byte k.odd) in
-    omega (arith, len, length-last_byte k.odd, st.few)
+    omega (arith, len, length-last_byte k.odd, st.within_payload)
 
 -- how many blocks there are, where so many bytes follow the whole ones
-blocks_and_rest : (payload blocks rest len : ℕ) → 0 < payload → rest ≤ payload → len ≡ payload * blocks + rest → (len + payload - 1) / payload ≡ blocks + min rest 1
+blocks_and_rest : (payload blocks rest len : ℕ) → 0 < payload → rest ≤ payload → len ≡ payload * blocks + rest
+    → (len + payload - 1) / payload ≡ blocks + min rest 1
 blocks_and_rest payload blocks zero len some few is =
     let at : len + payload - 1 ≡ blocks * payload + (payload - 1) = omega arith in
     let all : blocks ≡ blocks + min 0 1 = omega arith in
@@ -226,7 +237,7 @@ blocks_and_rest payload blocks (suc rest) len some few is =
     ap (λ n. n / payload) at ∙ div-mul-add (blocks + 1) payload rest (omega arith) ∙ all
 
 -- the blocks of the stream are those that were given, and one more where a byte is left
-pub blocks_left : (k : Kept) (past : Past) (items : List ℕ) → Stands k past → past.begun ≡ None → items ≡ k.bytes ++ last_byte k.odd →
+pub blocks_left : (k : StreamKept) (past : StreamPast) (items : List ℕ) → RepresentsStream k past → past.begun ≡ None → items ≡ k.bytes ++ last_byte k.odd →
     length (blocks_of past.payload (stream_of past.table past.records)) ≡ past.blocks + min (length items) 1
 blocks_left k past items st none is =
     let stream = stream_of past.table past.records in
@@ -234,5 +245,5 @@ blocks_left k past items st none is =
     let rest = rest_is k past st none in
     let len : length items ≡ length stream - given = ap (λ (xs : List ℕ). length xs) (is ∙ rest) ∙ length-drop given stream in
     let low : given ≤ length stream = given_low k past st none in
-    length-map-range_with_len (block_at past.payload stream) 0 ((length stream + past.payload - 1) / past.payload)
+    length-map-range_with_len (cut_block past.payload stream) 0 ((length stream + past.payload - 1) / past.payload)
     ∙ blocks_and_rest past.payload past.blocks (length items) (length stream) (omega (arith, st.low)) (few_left k past items st is) (omega (arith, len, low))

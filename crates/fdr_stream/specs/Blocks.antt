@@ -6,12 +6,12 @@ use Rattle.fdr_table.specs.Rows.{TableRows}
 use Rattle.fdr_sampler.specs.Stream.{stream_words}
 
 -- block i of bytes that are cut every `payload` bytes; the last one may be shorter
-abbrev pub block_at : ℕ → List ℕ → ℕ → List ℕ
-block_at payload bytes i = take payload (drop (payload * i) bytes)
+abbrev pub cut_block : ℕ → List ℕ → ℕ → List ℕ
+cut_block payload bytes i = take payload (drop (payload * i) bytes)
 
 -- the blocks of the bytes, of which none is empty
 abbrev pub blocks_of : ℕ → List ℕ → List (List ℕ)
-blocks_of payload bytes = map (block_at payload bytes) (range_with_len 0 ((length bytes + payload - 1) / payload))
+blocks_of payload bytes = map (cut_block payload bytes) (range_with_len 0 ((length bytes + payload - 1) / payload))
 
 -- how many blocks the words before the time of the records fill: the whole blocks of whole bytes of 12 bits a word
 abbrev pub due_blocks : TableRows → ℕ → List BusRecord → ℕ

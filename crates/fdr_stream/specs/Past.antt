@@ -6,41 +6,41 @@ use Rattle.fdr_bus.specs.Records.{time_of, last_time, has_end}
 use Rattle.fdr_table.specs.Rows.{TableRows}
 use Rattle.fdr_sampler.specs.SlotWord.{slot_word}
 use Rattle.fdr_sampler.specs.Stream.{slot_count}
-use Rattle.fdr_sampler.specs.Past.{Stands as SamplerStands}
+use Rattle.fdr_sampler.specs.Past.{RepresentsSampler}
 use Rattle.fdr_stream.specs.Blocks.{due_blocks}
 use Rattle.fdr_stream.specs.Packing.{unpaired, whole_bytes}
-use Rattle.fdr_stream.specs.Kept.{Kept}
+use Rattle.fdr_stream.specs.Kept.{StreamKept}
 
 -- A table and the size of a block; the records that were taken; the record that a block was given at, which is fed again;
 -- and how many blocks were given.
-pub record Past : Type 0 where
+pub record StreamPast : Type 0 where
   pub table : TableRows
   pub payload : ℕ
   pub records : List BusRecord
   pub begun : Option BusRecord
   pub blocks : ℕ
 
-abbrev pub made : TableRows → ℕ → Past
-made t payload = record { table = t; payload = payload; records = []; begun = None; blocks = 0 }
+abbrev pub stream_made : TableRows → ℕ → StreamPast
+stream_made t payload = record { table = t; payload = payload; records = []; begun = None; blocks = 0 }
 
 -- a block was given at the record
-abbrev pub with_block : Past → BusRecord → Past
+abbrev pub with_block : StreamPast → BusRecord → StreamPast
 with_block past r = record past { begun = Some r; blocks = past.blocks + 1 }
 
 -- the record was taken
-abbrev pub with_record : Past → BusRecord → Past
-with_record past r = record past { records = past.records ++ r ∷ []; begun = None }
+abbrev pub stream_with_record : StreamPast → BusRecord → StreamPast
+stream_with_record past r = record past { records = past.records ++ r ∷ []; begun = None }
 
 -- The record may be fed: it is a good next record after those that were taken, and the same one where a block was given
 -- at it.
-pub record MayFeed (past : Past) (r : BusRecord) : Type 0 where
+pub record MayFeedStream (past : StreamPast) (r : BusRecord) : Type 0 where
   pub order : time_of past.records ≤ r.time
   pub in_time : r.time ≤ last_time
   pub unended : has_end past.records ≡ false
   pub same : (past.begun ≡ None) ⊎ (past.begun ≡ Some r)
 
 -- the words of the first n slots
-abbrev pub words_to : Past → ℕ → List ℕ
+abbrev pub words_to : StreamPast → ℕ → List ℕ
 words_to past n = map (slot_word past.table past.records) (range_with_len 0 n)
 
 -- the time up to which slots may be drawn: that of the record at which a block was given, else that of the last record
@@ -48,12 +48,12 @@ unfoldable pub time_from : List BusRecord → Option BusRecord → ℕ
 time_from records None = time_of records
 time_from records (Some r) = r.time
 
-abbrev pub time_reached : Past → ℕ
+abbrev pub time_reached : StreamPast → ℕ
 time_reached past = time_from past.records past.begun
 
 -- The words of the slots that were drawn are in the blocks that were given, in the bytes that wait, and in the word that
 -- waits for its pair.
-pub record IsPacked (k : Kept) (past : Past) : Type 0 where
+pub record IsPacked (k : StreamKept) (past : StreamPast) : Type 0 where
   pub payload : k.payload ≡ past.payload
   pub words : past.table.frame.words ≤ 1024
   pub given : past.payload * past.blocks ≤ 3 * k.sampler.drawn / 2
@@ -61,30 +61,30 @@ pub record IsPacked (k : Kept) (past : Past) : Type 0 where
   pub bytes : k.bytes ≡ drop (past.payload * past.blocks) (whole_bytes (words_to past k.sampler.drawn))
 
 -- the sampler stands for the records that were taken
-abbrev pub IsSampled : Kept → Past → Type 0
-IsSampled k past = SamplerStands k.sampler (record { table = past.table; records = past.records; drawn = k.sampler.drawn })
+abbrev pub IsSampled : StreamKept → StreamPast → Type 0
+IsSampled k past = RepresentsSampler k.sampler (record { table = past.table; records = past.records; drawn = k.sampler.drawn })
 
 -- A record of this time comes next: the words of some of the slots before it were drawn, and of no others.
-pub record IsDrawing (k : Kept) (past : Past) (time : ℕ) : Type 0 where
+pub record IsDrawing (k : StreamKept) (past : StreamPast) (time : ℕ) : Type 0 where
   pub sampler : IsSampled k past
   pub packed : IsPacked k past
   pub undrawn : k.sampler.drawn ≤ slot_count past.table.frame.words time
 
 -- The value stands where it was made of this table for blocks of this size, where these records were taken and so many
 -- blocks given. No whole block waits. The sampler needs no end record, since nothing is fed after it.
-pub record Stands (k : Kept) (past : Past) : Type 0 where
+pub record RepresentsStream (k : StreamKept) (past : StreamPast) : Type 0 where
   pub low : 64 ≤ past.payload
   pub high : past.payload ≤ 4096
   pub sampler : has_end past.records ≡ false → IsSampled k past
   pub packed : IsPacked k past
-  pub few : length k.bytes < past.payload
+  pub within_payload : length k.bytes < past.payload
   pub drawn : slot_count past.table.frame.words (time_of past.records) ≤ k.sampler.drawn
   pub undrawn : k.sampler.drawn ≤ slot_count past.table.frame.words (time_reached past)
   pub blocks : past.begun ≡ None → past.blocks ≡ due_blocks past.table past.payload past.records
 
 -- All blocks of the stream were given, a short last one too: nothing waits, and the sampler is the one that stood for the
 -- records.
-pub record HasFinished (k : Kept) (past : Past) : Type 0 where
+pub record HasFinished (k : StreamKept) (past : StreamPast) : Type 0 where
   pub payload : k.payload ≡ past.payload
   pub odd : k.odd ≡ None
   pub bytes : k.bytes ≡ []

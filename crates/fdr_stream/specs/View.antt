@@ -1,6 +1,6 @@
 -- What a value of the program keeps.
 use Rattle.fdr_stream.specs.declared.stream.Stream.TheInside.{Inside}
-use Rattle.fdr_stream.specs.Kept.{Kept}
+use Rattle.fdr_stream.specs.Kept.{StreamKept}
 
-abbrev pub kept_of : Inside → Kept
-kept_of s = record { sampler = s.sampler; payload = s.payload; odd = s.odd; bytes = s.bytes.items }
+abbrev pub stream_kept : Inside → StreamKept
+stream_kept s = record { sampler = s.sampler; payload = s.payload; odd = s.odd; bytes = s.bytes.items }

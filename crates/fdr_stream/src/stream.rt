@@ -2,11 +2,11 @@
 
 ghost use Rattle.std.specs.Prelude.{◌≡◌, ◌<◌, ◌≤◌, ◌+◌, ◌-◌, ◌*◌, ◌^◌, ◌↔◌, false, [], ◌∷◌, ◌++◌, None, length, min, take, drop, IfOk, IsTrue};
 ghost use Rattle.fdr_bus.specs.Records.{has_end, last_time};
-ghost use Rattle.fdr_sampler.specs.Kept.{most_slots};
+ghost use Rattle.fdr_sampler.specs.Kept.{most_word_slots};
 ghost use Rattle.fdr_sampler.specs.Stream.{slot_count, stream_of};
-ghost use Rattle.fdr_stream.specs.Blocks.{block_at, blocks_of, due_blocks};
-ghost use Rattle.fdr_stream.specs.Kept.{at_start, padded, with_word};
-ghost use Rattle.fdr_stream.specs.Past.{Past, made, with_block, with_record, HasFinished, MayFeed, Stands, IsPacked, IsSampled, IsDrawing};
+ghost use Rattle.fdr_stream.specs.Blocks.{cut_block, blocks_of, due_blocks};
+ghost use Rattle.fdr_stream.specs.Kept.{stream_at_start, padded, with_packed_word};
+ghost use Rattle.fdr_stream.specs.Past.{StreamPast, stream_made, with_block, stream_with_record, HasFinished, MayFeedStream, RepresentsStream, IsPacked, IsSampled, IsDrawing};
 
 use circular_buffer::HeapCircularBuffer;
 use fdr_bits::pack_pair;
@@ -37,15 +37,15 @@ pub struct Stream {
 }
 
 impl Model for Stream {
-    ghost use Rattle.fdr_stream.specs.Kept.{Kept, IsKept};
+    ghost use Rattle.fdr_stream.specs.Kept.{StreamKept, IsStreamKept};
 
-    ghost Value = { Kept };
+    ghost Value = { StreamKept };
 
-    ghost use Rattle.fdr_stream.specs.View.{kept_of};
+    ghost use Rattle.fdr_stream.specs.View.{stream_kept};
 
-    ghost view = { kept_of };
+    ghost view = { stream_kept };
 
-    ghost invariant = { λ s. IsKept (kept_of s) s.bytes.capacity };
+    ghost invariant = { λ s. IsStreamKept (stream_kept s) s.bytes.capacity };
 }
 
 impl Stream {
@@ -54,7 +54,7 @@ impl Stream {
     pub fn new(alloc: Global, sound: &Sound, payload: u32) -> Result<Stream, NoMemory>
         requires low { 64 ≤ payload }
         requires high { payload ≤ 4096 }
-        ensures { IfOk result (λ s. Stands s (made sound.now payload)) }
+        ensures { IfOk result (λ s. RepresentsStream s (stream_made sound.now payload)) }
     {
         let frame = sound.table().frame();
         prove!(frame.words <= 1024);
@@ -67,16 +67,16 @@ impl Stream {
     /// the record has to be fed again; else the record is taken. `out` has room for a block at least, and what it holds
     /// beyond the block stays.
     pub fn feed(&mut self, next: &BusRecord, out: &mut [u8]) -> Fed
-        requires { (past : Past) × Stands self.old past × MayFeed past next.now × (past.payload ≤ length out.old) }
-        ensures exactly { (past : Past) → Stands self.old past → MayFeed past next.now
+        requires { (past : StreamPast) × RepresentsStream self.old past × MayFeedStream past next.now × (past.payload ≤ length out.old) }
+        ensures exactly { (past : StreamPast) → RepresentsStream self.old past → MayFeedStream past next.now
             → (result ≡ Fed.Block) ↔ (past.blocks < due_blocks past.table past.payload (past.records ++ next.now ∷ [])) }
-        ensures block { (past : Past) → Stands self.old past → MayFeed past next.now → result ≡ Fed.Block
-            → take past.payload out.new ≡ block_at past.payload (stream_of past.table (past.records ++ next.now ∷ [])) past.blocks }
-        ensures begun { (past : Past) → Stands self.old past → MayFeed past next.now → result ≡ Fed.Block
-            → Stands self.new (with_block past next.now) }
-        ensures taken { (past : Past) → Stands self.old past → MayFeed past next.now → result ≡ Fed.Taken
-            → Stands self.new (with_record past next.now) }
-        ensures beyond { (past : Past) → Stands self.old past → result ≡ Fed.Block
+        ensures block { (past : StreamPast) → RepresentsStream self.old past → MayFeedStream past next.now → result ≡ Fed.Block
+            → take past.payload out.new ≡ cut_block past.payload (stream_of past.table (past.records ++ next.now ∷ [])) past.blocks }
+        ensures begun { (past : StreamPast) → RepresentsStream self.old past → MayFeedStream past next.now → result ≡ Fed.Block
+            → RepresentsStream self.new (with_block past next.now) }
+        ensures taken { (past : StreamPast) → RepresentsStream self.old past → MayFeedStream past next.now → result ≡ Fed.Taken
+            → RepresentsStream self.new (stream_with_record past next.now) }
+        ensures beyond { (past : StreamPast) → RepresentsStream self.old past → result ≡ Fed.Block
             → drop past.payload out.new ≡ drop past.payload out.old }
         ensures untouched { result ≡ Fed.Taken → out.new ≡ out.old }
     {
@@ -94,19 +94,19 @@ impl Stream {
     /// where the blocks that were given hold the whole stream. Four zero bits follow an odd number of words. What `out`
     /// holds beyond that stays. Nothing may be fed after this, and nothing waits then.
     pub fn finish(&mut self, out: &mut [u8]) -> usize
-        requires { (past : Past) × Stands self.old past × (past.begun ≡ None) × (past.payload ≤ length out.old) }
-        ensures rest { (past : Past) → Stands self.old past → past.begun ≡ None
+        requires { (past : StreamPast) × RepresentsStream self.old past × (past.begun ≡ None) × (past.payload ≤ length out.old) }
+        ensures rest { (past : StreamPast) → RepresentsStream self.old past → past.begun ≡ None
             → take result out.new ≡ drop (past.payload * past.blocks) (stream_of past.table past.records) }
-        ensures count { (past : Past) → Stands self.old past → past.begun ≡ None
+        ensures count { (past : StreamPast) → RepresentsStream self.old past → past.begun ≡ None
             → result ≡ length (stream_of past.table past.records) - past.payload * past.blocks }
-        ensures blocks { (past : Past) → Stands self.old past → past.begun ≡ None
+        ensures blocks { (past : StreamPast) → RepresentsStream self.old past → past.begun ≡ None
             → length (blocks_of past.payload (stream_of past.table past.records)) ≡ past.blocks + min result 1 }
-        ensures last { (past : Past) → Stands self.old past → past.begun ≡ None
-            → take result out.new ≡ block_at past.payload (stream_of past.table past.records) past.blocks }
-        ensures few { (past : Past) → Stands self.old past → result ≤ past.payload }
+        ensures last { (past : StreamPast) → RepresentsStream self.old past → past.begun ≡ None
+            → take result out.new ≡ cut_block past.payload (stream_of past.table past.records) past.blocks }
+        ensures within_payload { (past : StreamPast) → RepresentsStream self.old past → result ≤ past.payload }
         ensures within { result ≤ length out.new }
         ensures beyond { drop result out.new ≡ drop result out.old }
-        ensures finished { (past : Past) → Stands self.old past → past.begun ≡ None → HasFinished self.new past }
+        ensures finished { (past : StreamPast) → RepresentsStream self.old past → past.begun ≡ None → HasFinished self.new past }
     {
         self.pad();
         self.bytes.read_into(out)
@@ -115,7 +115,7 @@ impl Stream {
     fn with_sampler(alloc: Global, sampler: Sampler, payload: usize) -> Result<Stream, NoMemory>
         requires low { 64 ≤ payload }
         requires high { payload ≤ 4096 }
-        ensures { IfOk result (λ s. s ≡ at_start sampler payload) }
+        ensures { IfOk result (λ s. s ≡ stream_at_start sampler payload) }
     {
         let bytes = HeapCircularBuffer::with_capacity(alloc, payload + 1).map_err(|_| NoMemory)?;
         Ok(Stream {
@@ -128,14 +128,14 @@ impl Stream {
 
     /// Draws the words of the slots before this time, up to the first that makes a block whole.
     fn draw(&mut self, time: u64)
-        requires past { (past : Past) × IsDrawing self.old past time }
+        requires past { (past : StreamPast) × IsDrawing self.old past time }
         requires room { length self.old.bytes < self.old.payload }
         requires in_time { time ≤ last_time }
-        ensures draws { (past : Past) → IsDrawing self.old past time → IsDrawing self.new past time }
-        ensures all { (past : Past) → IsDrawing self.old past time → length self.new.bytes < self.new.payload
+        ensures draws { (past : StreamPast) → IsDrawing self.old past time → IsDrawing self.new past time }
+        ensures all { (past : StreamPast) → IsDrawing self.old past time → length self.new.bytes < self.new.payload
             → self.new.sampler.drawn ≡ slot_count past.table.frame.words time }
         ensures on { self.old.sampler.drawn ≤ self.new.sampler.drawn }
-        ensures few { length self.new.bytes ≤ self.new.payload + 1 }
+        ensures within_room { length self.new.bytes ≤ self.new.payload + 1 }
     {
         while !self.is_full() && self.sampler.due(time) {
             self.draw_word();
@@ -144,15 +144,15 @@ impl Stream {
 
     /// Draws the word of the next slot.
     fn draw_word(&mut self)
-        requires past { (past : Past) × IsSampled self.old past × IsPacked self.old past }
-        requires more { self.old.sampler.drawn < most_slots }
+        requires past { (past : StreamPast) × IsSampled self.old past × IsPacked self.old past }
+        requires more { self.old.sampler.drawn < most_word_slots }
         requires room { length self.old.bytes < self.old.payload }
-        ensures sampled { (past : Past) → IsSampled self.old past → IsSampled self.new past }
-        ensures packed { (past : Past) → IsSampled self.old past → IsPacked self.old past → IsPacked self.new past }
+        ensures sampled { (past : StreamPast) → IsSampled self.old past → IsSampled self.new past }
+        ensures packed { (past : StreamPast) → IsSampled self.old past → IsPacked self.old past → IsPacked self.new past }
         ensures drawn { self.new.sampler.drawn ≡ self.old.sampler.drawn + 1 }
         ensures payload { self.new.payload ≡ self.old.payload }
         ensures filled { length self.old.bytes < length self.new.bytes }
-        ensures few { length self.new.bytes ≤ self.new.payload + 1 }
+        ensures within_room { length self.new.bytes ≤ self.new.payload + 1 }
     {
         let word = self.sampler.next_word();
         self.pack(word);
@@ -160,9 +160,9 @@ impl Stream {
 
     /// Packs a further word.
     fn pack(&mut self, word: u16)
-        requires small { word < 4096 }
+        requires twelve_bits { word < 4096 }
         requires room { length self.old.bytes < self.old.payload }
-        ensures { self.new ≡ with_word self.old word }
+        ensures { self.new ≡ with_packed_word self.old word }
     {
         match self.odd {
             None => {
@@ -208,11 +208,11 @@ impl Stream {
 
     /// Takes a record before which all words were drawn.
     fn take(&mut self, next: &BusRecord)
-        requires { (past : Past) × IsSampled self.old past × MayFeed past next.now
+        requires { (past : StreamPast) × IsSampled self.old past × MayFeedStream past next.now
             × (self.old.sampler.drawn ≡ slot_count past.table.frame.words next.now.time) }
-        ensures sampled { (past : Past) → IsSampled self.old past → MayFeed past next.now
+        ensures sampled { (past : StreamPast) → IsSampled self.old past → MayFeedStream past next.now
             → self.old.sampler.drawn ≡ slot_count past.table.frame.words next.now.time
-            → has_end (past.records ++ next.now ∷ []) ≡ false → IsSampled self.new (with_record past next.now) }
+            → has_end (past.records ++ next.now ∷ []) ≡ false → IsSampled self.new (stream_with_record past next.now) }
         ensures drawn { self.new.sampler.drawn ≡ self.old.sampler.drawn }
         ensures kept { self.new ≡ record self.old { sampler = self.new.sampler } }
     {

@@ -1,5 +1,5 @@
 -- Each bit list has exactly one list of accepted frames.
-use Rattle.std.proofs.Common.{◌≡◌, ℕ, suc, zero, ◌+◌, ◌*◌, ◌<◌, ◌≤◌, ◌⊎◌, Bool, true, List, [], ◌∷◌, refl, sym, ap, ◌∙◌, subst, inl, inr, ⊎_elim, arith}
+use Rattle.std.proofs.Common.{◌≡◌, ℕ, suc, zero, ◌+◌, ◌*◌, ◌<◌, ◌≤◌, ◌⊎◌, Bool, true, List, [], ◌∷◌, sym, ap, ◌∙◌, subst, inl, inr, ⊎_elim, arith}
 use Rattle.std.specs.Prelude.{All, AllPairs, Contains}
 use Rattle.std.specs.List.{range_with_len}
 use Rattle.std.proofs.lemmas.Bool.{cases_lt, cases_Bool}
@@ -8,26 +8,10 @@ use Rattle.fdr_bits.specs.Bits.{bits_in}
 use Rattle.fdr_sync.specs.Frames.{is_frame_position, IsFramePosition, IsFirstFrameFrom}
 use Rattle.fdr_sync.specs.Accepted.{AreAcceptedFrames, frame_positions, chosen_from, accepted_from, accepted_frames}
 use Rattle.fdr_sync.proofs.FrameLemmas.{frame_within}
-use Rattle.fdr_sync.proofs.ChoiceLemmas.{passing, passing_more, passing_same, chosen_nil, chosen_late, chosen_early, chosen_over, accepted_is_chosen, accepted_none, accepted_first}
-
--- pairs of a list by its head and its tail
-AllPairs-nil : (R : ℕ → ℕ → Type 0) → AllPairs R []
-AllPairs-nil R i j d before within = absurd (omega arith)
-
-AllPairs-cons : (R : ℕ → ℕ → Type 0) (x : ℕ) (xs : List ℕ) → All (R x) xs → AllPairs R xs → AllPairs R (x ∷ xs)
-AllPairs-cons R x xs here rest zero zero d before within = absurd (omega arith)
-AllPairs-cons R x xs here rest zero (suc j) d before within = here j d (omega arith)
-AllPairs-cons R x xs here rest (suc i) zero d before within = absurd (omega arith)
-AllPairs-cons R x xs here rest (suc i) (suc j) d before within = rest i j d (omega arith) (omega arith)
-
-pub AllPairs-head : (R : ℕ → ℕ → Type 0) (x : ℕ) (xs : List ℕ) → AllPairs R (x ∷ xs) → All (R x) xs
-AllPairs-head R x xs pairs k d within = pairs 0 (suc k) d (omega arith) (omega arith)
-
-pub AllPairs-tail : (R : ℕ → ℕ → Type 0) (x : ℕ) (xs : List ℕ) → AllPairs R (x ∷ xs) → AllPairs R xs
-AllPairs-tail R x xs pairs i j d before within = pairs (suc i) (suc j) d (omega arith) (omega arith)
-
-Contains-head : (x : ℕ) (xs : List ℕ) → Contains (x ∷ xs) x
-Contains-head x xs = (0, omega arith, refl)
+use Rattle.fdr_sync.proofs.ChoiceLemmas.{passing, passing_more, passing_same, chosen_nil, chosen_late, chosen_early, chosen_over, accepted_is_chosen}
+use Rattle.fdr_sync.proofs.ChoiceLemmas.{accepted_none, accepted_first}
+use Rattle.fdr_lists.proofs.Pairs.{AllPairs-nil, AllPairs-head, AllPairs-tail, Contains-here}
+use Rattle.std.proofs.lemmas.List.Kept.{AllPairs-cons}
 
 Contains-nil : (x : ℕ) → Contains [] x → ⊥
 Contains-nil x h = let below : h.0 < 0 = h.1 in omega arith
@@ -51,7 +35,8 @@ chosen_behind len free [] = subst (All (λ x. free ≤ x)) (sym (chosen_nil len 
 chosen_behind len free (p ∷ ps) =
     ⊎_elim
     (λ early. subst (All (λ x. free ≤ x)) (sym (chosen_early len free p ps early)) (chosen_behind len free ps))
-    (λ late. subst (All (λ x. free ≤ x)) (sym (chosen_late len free p ps late)) (All-cons (λ x. free ≤ x) p _ late (All-weaker (λ x. p + len ≤ x) (λ x. free ≤ x) (λ x h. omega arith) _ (chosen_behind len (p + len) ps))))
+    (λ late. subst (All (λ x. free ≤ x)) (sym (chosen_late len free p ps late))
+    (All-cons (λ x. free ≤ x) p _ late (All-weaker (λ x. p + len ≤ x) (λ x. free ≤ x) (λ x h. omega arith) _ (chosen_behind len (p + len) ps))))
     (cases_lt p free)
 
 chosen_apart : (len free : ℕ) (ps : List ℕ) → AllPairs (λ earlier later. earlier + len ≤ later) (chosen_from len free ps)
@@ -80,14 +65,16 @@ chosen_others test len free a zero p behind from below passes = absurd (omega ar
 chosen_others test len free a (suc n) p behind from below passes =
     ⊎_elim
     (λ before. ⊎_elim
-    (λ early. subst (λ xs. Listed len xs p) (sym (chosen_over test len free a n early)) (chosen_others test len free (a + 1) n p behind (omega arith) (omega arith) passes))
+    (λ early. subst (λ xs. Listed len xs p) (sym (chosen_over test len free a n early))
+    (chosen_others test len free (a + 1) n p behind (omega arith) (omega arith) passes))
     (λ late. ⊎_elim
     (λ passes_here. let first = ap (chosen_from len free) (passing_more test a n passes_here) ∙ chosen_late len free a _ late in
     subst (λ xs. Listed len xs p) (sym first) (⊎_elim
-    (λ inside. inr (a, Contains-head a _, before, inside))
+    (λ inside. inr (a, Contains-here a _, before, inside))
     (λ outside. Listed-tail len a _ p (chosen_others test len (a + len) (a + 1) n p outside (omega arith) (omega arith) passes))
     (cases_lt p (a + len))))
-    (λ fails. subst (λ xs. Listed len xs p) (sym (ap (chosen_from len free) (passing_same test a n fails))) (chosen_others test len free (a + 1) n p behind (omega arith) (omega arith) passes))
+    (λ fails. subst (λ xs. Listed len xs p) (sym (ap (chosen_from len free) (passing_same test a n fails)))
+    (chosen_others test len free (a + 1) n p behind (omega arith) (omega arith) passes))
     (cases_Bool (test a)))
     (cases_lt a free))
     (λ at. let here : a ≡ p = omega arith in
@@ -99,15 +86,18 @@ chosen_others test len free a (suc n) p behind from below passes =
     (cases_lt a p)
 
 -- every frame position from bit `free` on is accepted, or begins inside an accepted frame
-pub accepted_others : (b : List ℕ) (w free p : ℕ) → 0 < w → free ≤ p → IsFramePosition b w p → Contains (accepted_from b w free) p ⊎ ((a : ℕ) × Contains (accepted_from b w free) a × (a < p) × (p < a + 48 * w))
+pub accepted_others : (b : List ℕ) (w free p : ℕ) → 0 < w → free ≤ p → IsFramePosition b w p
+    → Contains (accepted_from b w free) p ⊎ ((a : ℕ) × Contains (accepted_from b w free) a × (a < p) × (p < a + 48 * w))
 unfolding Listed
 accepted_others b w free p some behind h =
     let within = frame_within b w p h in
-    subst (λ xs. Listed (48 * w) xs p) (sym (accepted_is_chosen b w free)) (chosen_others (is_frame_position b w) (48 * w) free 0 (bits_in b) p behind (omega arith) (omega (arith, within)) h)
+    subst (λ xs. Listed (48 * w) xs p) (sym (accepted_is_chosen b w free))
+    (chosen_others (is_frame_position b w) (48 * w) free 0 (bits_in b) p behind (omega arith) (omega (arith, within)) h)
 
 pub accepted_positions : (b : List ℕ) (w free : ℕ) → All (IsFramePosition b w) (accepted_from b w free)
 unfolding accepted_from
-accepted_positions b w free = chosen_all (IsFramePosition b w) (48 * w) free (frame_positions b w) (filter_passes (is_frame_position b w) (range_with_len 0 (bits_in b)))
+accepted_positions b w free = chosen_all (IsFramePosition b w) (48 * w) free (frame_positions b w)
+    (filter_passes (is_frame_position b w) (range_with_len 0 (bits_in b)))
 
 pub accepted_behind : (b : List ℕ) (w free : ℕ) → All (λ x. free ≤ x) (accepted_from b w free)
 unfolding accepted_from
@@ -119,17 +109,25 @@ accepted_apart b w free = chosen_apart (48 * w) free (frame_positions b w)
 
 -- the function gives the accepted frames
 pub are_accepted : (b : List ℕ) (w : ℕ) → 0 < w → AreAcceptedFrames b w (accepted_frames b w)
-are_accepted b w some = record { positions = accepted_positions b w 0; apart = accepted_apart b w 0; others = λ p h. accepted_others b w 0 p some (omega arith) h }
+are_accepted b w some = record {
+  positions = accepted_positions b w 0;
+  apart = accepted_apart b w 0;
+  others =
+      λ p h. accepted_others b w 0 p some (omega arith) h;
+}
 
 -- a list that has each frame position from `free` on, or one that it begins inside of, is the accepted one from there
-only_accepted_from : (b : List ℕ) (w : ℕ) → 0 < w → (xs : List ℕ) (free : ℕ) → All (IsFramePosition b w) xs → All (λ x. free ≤ x) xs → AllPairs (λ earlier later. earlier + 48 * w ≤ later) xs → ((p : ℕ) → free ≤ p → IsFramePosition b w p → Listed (48 * w) xs p) → xs ≡ accepted_from b w free
+only_accepted_from : (b : List ℕ) (w : ℕ) → 0 < w → (xs : List ℕ) (free : ℕ) → All (IsFramePosition b w) xs → All (λ x. free ≤ x) xs
+    → AllPairs (λ earlier later. earlier + 48 * w ≤ later) xs → ((p : ℕ) → free ≤ p → IsFramePosition b w p → Listed (48 * w) xs p)
+    → xs ≡ accepted_from b w free
 unfolding Listed
 only_accepted_from b w some [] free positions behind apart others =
     sym (accepted_none b w free (λ q from h. ⊎_elim (λ here. Contains-nil q here) (λ inside. Contains-nil inside.0 inside.1) (others q from h)))
 only_accepted_from b w some (a ∷ xs) free positions behind apart others =
     let R : ℕ → ℕ → Type 0 = λ earlier later. earlier + 48 * w ≤ later in
     let after : All (λ c. a + 48 * w ≤ c) xs = AllPairs-head R a xs apart in
-    let least : All (λ c. a ≤ c) (a ∷ xs) = All-cons (λ c. a ≤ c) a xs (omega arith) (All-weaker (λ c. a + 48 * w ≤ c) (λ c. a ≤ c) (λ c h. omega arith) xs after) in
+    let least : All (λ c. a ≤ c) (a ∷ xs) = All-cons (λ c. a ≤ c) a xs (omega arith)
+    (All-weaker (λ c. a + 48 * w ≤ c) (λ c. a ≤ c) (λ c h. omega arith) xs after) in
     let first : IsFirstFrameFrom b w free a = record {
       behind = All-head (λ x. free ≤ x) a xs behind;
       position = All-head (IsFramePosition b w) a xs positions;
@@ -146,7 +144,8 @@ only_accepted_from b w some (a ∷ xs) free positions behind apart others =
     (λ there. inr (inside.0, there, inside.2, inside.3))
     (Contains-cons_cases a xs inside.0 inside.1))
     (others p (omega (arith, first.behind)) h) in
-    ap (λ ys. a ∷ ys) (only_accepted_from b w some xs (a + 48 * w) (All-tail (IsFramePosition b w) a xs positions) after (AllPairs-tail R a xs apart) rest) ∙ sym (accepted_first b w free a some first)
+    ap (λ ys. a ∷ ys) (only_accepted_from b w some xs (a + 48 * w) (All-tail (IsFramePosition b w) a xs positions) after (AllPairs-tail R a xs apart) rest)
+    ∙ sym (accepted_first b w free a some first)
 
 -- no other list is one of accepted frames
 pub only_accepted : (b : List ℕ) (w : ℕ) → 0 < w → (xs : List ℕ) → AreAcceptedFrames b w xs → xs ≡ accepted_frames b w

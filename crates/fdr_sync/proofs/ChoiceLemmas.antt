@@ -37,14 +37,16 @@ unfolding chosen_from
 chosen_early len free p ps early = cond-false (leb free p) _ _ (lt-leb free p early)
 
 -- a place before `free` is passed over
-pub chosen_over : (test : ℕ → Bool) (len free a n : ℕ) → a < free → chosen_from len free (passing test a (suc n)) ≡ chosen_from len free (passing test (a + 1) n)
+pub chosen_over : (test : ℕ → Bool) (len free a n : ℕ) → a < free
+    → chosen_from len free (passing test a (suc n)) ≡ chosen_from len free (passing test (a + 1) n)
 chosen_over test len free a n early =
     ⊎_elim (λ passes. ap (chosen_from len free) (passing_more test a n passes) ∙ chosen_early len free a _ early)
     (λ fails. ap (chosen_from len free) (passing_same test a n fails))
     (cases_Bool (test a))
 
 -- so is one that passes only if it is before `free`
-pub chosen_over_failing : (test : ℕ → Bool) (len free a n : ℕ) → (free ≤ a → test a ≡ true → ⊥) → chosen_from len free (passing test a (suc n)) ≡ chosen_from len free (passing test (a + 1) n)
+pub chosen_over_failing : (test : ℕ → Bool) (len free a n : ℕ) → (free ≤ a → test a ≡ true → ⊥)
+    → chosen_from len free (passing test a (suc n)) ≡ chosen_from len free (passing test (a + 1) n)
 chosen_over_failing test len free a n fails =
     ⊎_elim (λ early. chosen_over test len free a n early)
     (λ late. ap (chosen_from len free) (passing_same test a n (false_from_ne_true (test a) (fails late))))
@@ -56,15 +58,19 @@ chosen_none test len free a zero none = ap (chosen_from len free) (passing_none 
 chosen_none test len free a (suc n) none = chosen_over_failing test len free a n (none a) ∙ chosen_none test len free (a + 1) n none
 
 -- the first place from free on that passes is chosen, and then the search goes on len after it
-pub chosen_first : (test : ℕ → Bool) (len free p a n : ℕ) → 0 < len → free ≤ p → a ≤ p → p < a + n → test p ≡ true → ((q : ℕ) → free ≤ q → q < p → test q ≡ true → ⊥) → chosen_from len free (passing test a n) ≡ p ∷ chosen_from len (p + len) (passing test a n)
+pub chosen_first : (test : ℕ → Bool) (len free p a n : ℕ) → 0 < len → free ≤ p → a ≤ p → p < a + n → test p ≡ true
+    → ((q : ℕ) → free ≤ q → q < p → test q ≡ true → ⊥) → chosen_from len free (passing test a n) ≡ p ∷ chosen_from len (p + len) (passing test a n)
 chosen_first test len free p a zero some behind from below passes first = absurd (omega arith)
 chosen_first test len free p a (suc n) some behind from below passes first =
-    let after : chosen_from len (p + len) (passing test a (suc n)) ≡ chosen_from len (p + len) (passing test (a + 1) n) = chosen_over test len (p + len) a n (omega arith) in
+    let after : chosen_from len (p + len) (passing test a (suc n)) ≡ chosen_from len (p + len) (passing test (a + 1) n) =
+    chosen_over test len (p + len) a n (omega arith) in
     ⊎_elim
-    (λ before. chosen_over_failing test len free a n (λ late. first a late before) ∙ chosen_first test len free p (a + 1) n some behind (omega arith) (omega arith) passes first ∙ ap (λ xs. p ∷ xs) (sym after))
+    (λ before. chosen_over_failing test len free a n (λ late. first a late before)
+    ∙ chosen_first test len free p (a + 1) n some behind (omega arith) (omega arith) passes first ∙ ap (λ xs. p ∷ xs) (sym after))
     (λ at. let here : a ≡ p = omega arith in
     let passes_here : test a ≡ true = ap test here ∙ passes in
-    ap (chosen_from len free) (passing_more test a n passes_here) ∙ chosen_late len free a _ (omega arith) ∙ ap (λ x. x ∷ chosen_from len (x + len) (passing test (a + 1) n)) here ∙ ap (λ xs. p ∷ xs) (sym after))
+    ap (chosen_from len free) (passing_more test a n passes_here) ∙ chosen_late len free a _ (omega arith)
+    ∙ ap (λ x. x ∷ chosen_from len (x + len) (passing test (a + 1) n)) here ∙ ap (λ xs. p ∷ xs) (sym after))
     (cases_lt a p)
 
 pub accepted_is_chosen : (b : List ℕ) (w free : ℕ) → accepted_from b w free ≡ chosen_from (48 * w) free (passing (is_frame_position b w) 0 (bits_in b))
@@ -79,4 +85,5 @@ accepted_none b w free none = accepted_is_chosen b w free ∙ chosen_none (is_fr
 pub accepted_first : (b : List ℕ) (w free p : ℕ) → 0 < w → IsFirstFrameFrom b w free p → accepted_from b w free ≡ p ∷ accepted_from b w (p + 48 * w)
 accepted_first b w free p some h =
     let within = frame_within b w p h.position in
-    accepted_is_chosen b w free ∙ chosen_first (is_frame_position b w) (48 * w) free p 0 (bits_in b) (omega arith) h.behind (omega arith) (omega (arith, within)) h.position h.first ∙ ap (λ xs. p ∷ xs) (sym (accepted_is_chosen b w (p + 48 * w)))
+    accepted_is_chosen b w free ∙ chosen_first (is_frame_position b w) (48 * w) free p 0 (bits_in b) (omega arith) h.behind (omega arith)
+    (omega (arith, within)) h.position h.first ∙ ap (λ xs. p ∷ xs) (sym (accepted_is_chosen b w (p + 48 * w)))

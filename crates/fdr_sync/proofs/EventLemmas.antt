@@ -8,9 +8,11 @@ use Rattle.std.proofs.lemmas.List.Sums.{sum_by-cons}
 use Rattle.fdr_bits.specs.Bits.{bits_in}
 use Rattle.fdr_sync.specs.Frames.{IsFramePosition}
 use Rattle.fdr_sync.specs.Accepted.{AreAcceptedFrames, accepted_from, accepted_frames}
-use Rattle.fdr_sync.specs.Events.{Event, Frame, Gap, gap_between, frames_and_gaps, end_of_frames, decided_from, events_from, events_of, frame_of_event, gap_of_event, gaps, event_bits, Cover, NoGapsMeet, AreEvents}
+use Rattle.fdr_sync.specs.Events.{Event, Frame, Gap, gap_between, frames_and_gaps, end_of_frames, decided_from, events_from, events_of, frame_of_event}
+use Rattle.fdr_sync.specs.Events.{gap_of_event, gaps, event_bits, Cover, NoGapsMeet, AreEvents}
 use Rattle.fdr_sync.proofs.FrameLemmas.{frame_within}
-use Rattle.fdr_sync.proofs.AcceptedLemmas.{accepted_positions, accepted_behind, accepted_apart, are_accepted, only_accepted, AllPairs-head, AllPairs-tail}
+use Rattle.fdr_sync.proofs.AcceptedLemmas.{accepted_positions, accepted_behind, accepted_apart, are_accepted, only_accepted}
+use Rattle.fdr_lists.proofs.Pairs.{AllPairs-head, AllPairs-tail}
 
 pub gap_some : (low high : ℕ) → low < high → gap_between low high ≡ Gap low (high - low) ∷ []
 gap_some low high some = cond-true (ltb low high) _ _ (lt-ltb low high some)
@@ -23,13 +25,15 @@ Fit : ℕ → ℕ → ℕ → List ℕ → Type 0
 Fit w free n [] = free ≤ n
 Fit w free n (a ∷ xs) = (free ≤ a) × Fit w (a + 48 * w) n xs
 
-fit_from : (w n : ℕ) (xs : List ℕ) (free : ℕ) → free ≤ n → All (λ x. free ≤ x) xs → AllPairs (λ earlier later. earlier + 48 * w ≤ later) xs → All (λ x. x + 48 * w ≤ n) xs → Fit w free n xs
+fit_from : (w n : ℕ) (xs : List ℕ) (free : ℕ) → free ≤ n → All (λ x. free ≤ x) xs → AllPairs (λ earlier later. earlier + 48 * w ≤ later) xs
+    → All (λ x. x + 48 * w ≤ n) xs → Fit w free n xs
 unfolding Fit
 fit_from w n [] free low behind apart within = low
 fit_from w n (a ∷ xs) free low behind apart within =
     let R : ℕ → ℕ → Type 0 = λ earlier later. earlier + 48 * w ≤ later in (
       All-head (λ x. free ≤ x) a xs behind,
-      fit_from w n xs (a + 48 * w) (All-head (λ x. x + 48 * w ≤ n) a xs within) (AllPairs-head R a xs apart) (AllPairs-tail R a xs apart) (All-tail (λ x. x + 48 * w ≤ n) a xs within),
+      fit_from w n xs (a + 48 * w) (All-head (λ x. x + 48 * w ≤ n) a xs within) (AllPairs-head R a xs apart) (AllPairs-tail R a xs apart)
+          (All-tail (λ x. x + 48 * w ≤ n) a xs within),
     )
 
 -- all the events over frames at these places, up to bit n
@@ -55,7 +59,8 @@ over_cases : (w n : ℕ) (P : ℕ → List ℕ → List Event → Type 0) →
     (P n [] []) →
     ((free : ℕ) → free < n → P free [] (Gap free (n - free) ∷ [])) →
     ((a : ℕ) (xs : List ℕ) → P (a + 48 * w) xs (over w (a + 48 * w) n xs) → P a (a ∷ xs) (Frame a ∷ over w (a + 48 * w) n xs)) →
-    ((free a : ℕ) (xs : List ℕ) → free < a → P (a + 48 * w) xs (over w (a + 48 * w) n xs) → P free (a ∷ xs) (Gap free (a - free) ∷ Frame a ∷ over w (a + 48 * w) n xs)) →
+    ((free a : ℕ) (xs : List ℕ) → free < a → P (a + 48 * w) xs (over w (a + 48 * w) n xs)
+    → P free (a ∷ xs) (Gap free (a - free) ∷ Frame a ∷ over w (a + 48 * w) n xs)) →
     (xs : List ℕ) (free : ℕ) → Fit w free n xs → P free xs (over w free n xs)
 unfolding Fit
 over_cases w n P at_end gap_at_end frame gap_and_frame [] free fit =
@@ -77,7 +82,8 @@ over_covers w n = over_cases w n (λ free xs es. Cover w free n es)
     refl
     (λ free later. (refl, omega arith))
     (λ a xs rest. (refl, rest))
-    (λ free a xs later rest. let next : free + (a - free) ≡ a = omega arith in (refl, (sym next, subst (λ x. Cover w (x + 48 * w) n (over w (a + 48 * w) n xs)) (sym next) rest)))
+    (λ free a xs later rest. let next : free + (a - free) ≡ a = omega arith in
+    (refl, (sym next, subst (λ x. Cover w (x + 48 * w) n (over w (a + 48 * w) n xs)) (sym next) rest)))
 
 over_some : (w n : ℕ) → 0 < w → (xs : List ℕ) (free : ℕ) → Fit w free n xs → All (λ e. 0 < event_bits w e) (over w free n xs)
 over_some w n some =
@@ -126,10 +132,16 @@ over_total w n = over_cases w n (λ free xs es. free + (48 * w * length xs + gap
     (omega (arith, gap_bits-nil))
     (λ free later. omega (arith, gap_bits-gap free (n - free) [], gap_bits-nil))
     (λ a xs rest. omega (arith, gap_bits-frame a (over w (a + 48 * w) n xs), rest))
-    (λ free a xs later rest. omega (arith, gap_bits-gap free (a - free) (Frame a ∷ over w (a + 48 * w) n xs), gap_bits-frame a (over w (a + 48 * w) n xs), rest))
+    (λ free a xs later rest. omega (
+      arith,
+      gap_bits-gap free (a - free) (Frame a ∷ over w (a + 48 * w) n xs),
+      gap_bits-frame a (over w (a + 48 * w) n xs),
+      rest,
+    ))
 
 -- events that cover the bits are those over their frames
-cover_is_over : (w n : ℕ) (es : List Event) (free : ℕ) → Cover w free n es → All (λ e. 0 < event_bits w e) es → NoGapsMeet es → es ≡ over w free n (filter_map frame_of_event es)
+cover_is_over : (w n : ℕ) (es : List Event) (free : ℕ) → Cover w free n es → All (λ e. 0 < event_bits w e) es → NoGapsMeet es
+    → es ≡ over w free n (filter_map frame_of_event es)
 cover_is_over w n [] free cover some apart = sym (over-nil w free n ∙ gap_empty free n (omega (arith, cover)))
 cover_is_over w n (Frame a ∷ es) free cover some apart =
     let P : Event → Type 0 = λ e. 0 < event_bits w e in
@@ -150,8 +162,10 @@ cover_is_over w n (Gap a k ∷ Frame p ∷ es) free cover some apart =
     let next : p ≡ free + k = cover.1.0 in
     let all : k ≡ p - free = omega arith in
     let xs = filter_map frame_of_event es in
-    let rest = cover_is_over w n es (p + 48 * w) (subst (λ x. Cover w (x + 48 * w) n es) (sym next) cover.1.1) (All-tail P (Frame p) es (All-tail P (Gap a k) (Frame p ∷ es) some)) apart.1 in
-    ap (λ fs. Gap a k ∷ Frame p ∷ fs) rest ∙ ap (λ x. Gap x k ∷ Frame p ∷ over w (p + 48 * w) n xs) here ∙ ap (λ m. Gap free m ∷ Frame p ∷ over w (p + 48 * w) n xs) all ∙ sym (over-later w free n p xs (omega arith))
+    let rest = cover_is_over w n es (p + 48 * w) (subst (λ x. Cover w (x + 48 * w) n es) (sym next) cover.1.1)
+    (All-tail P (Frame p) es (All-tail P (Gap a k) (Frame p ∷ es) some)) apart.1 in
+    ap (λ fs. Gap a k ∷ Frame p ∷ fs) rest ∙ ap (λ x. Gap x k ∷ Frame p ∷ over w (p + 48 * w) n xs) here
+    ∙ ap (λ m. Gap free m ∷ Frame p ∷ over w (p + 48 * w) n xs) all ∙ sym (over-later w free n p xs (omega arith))
 cover_is_over w n (Gap a k ∷ Gap c m ∷ es) free cover some apart = absurd (apart.0 tt)
 
 events_are_over : (b : List ℕ) (w free : ℕ) → events_from b w free ≡ over w free (bits_in b) (accepted_from b w free)

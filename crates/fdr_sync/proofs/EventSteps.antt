@@ -7,7 +7,8 @@ use Rattle.fdr_sync.specs.Events.{Frame, gap_between, frames_and_gaps, end_of_fr
 use Rattle.fdr_sync.proofs.ChoiceLemmas.{accepted_none, accepted_first}
 
 -- where the next frame begins at p, no more bytes change what is decided up to its end
-pub decided_from_first : (b : List ℕ) (w free p : ℕ) → 0 < w → IsFirstFrameFrom b w free p → decided_from b w free ≡ gap_between free p ++ Frame p ∷ decided_from b w (p + 48 * w)
+pub decided_from_first : (b : List ℕ) (w free p : ℕ) → 0 < w → IsFirstFrameFrom b w free p
+    → decided_from b w free ≡ gap_between free p ++ Frame p ∷ decided_from b w (p + 48 * w)
 unfolding decided_from frames_and_gaps
 decided_from_first b w free p some h = ap (frames_and_gaps w free) (accepted_first b w free p some h)
 
@@ -17,7 +18,8 @@ unfolding decided_from frames_and_gaps
 decided_from_none b w free none = ap (frames_and_gaps w free) (accepted_none b w free none)
 
 -- the next event is the next frame, with the gap before it
-pub events_from_first : (b : List ℕ) (w free p : ℕ) → 0 < w → IsFirstFrameFrom b w free p → events_from b w free ≡ gap_between free p ++ Frame p ∷ events_from b w (p + 48 * w)
+pub events_from_first : (b : List ℕ) (w free p : ℕ) → 0 < w → IsFirstFrameFrom b w free p
+    → events_from b w free ≡ gap_between free p ++ Frame p ∷ events_from b w (p + 48 * w)
 unfolding events_from end_of_frames
 events_from_first b w free p some h =
     let last = λ (xs : List ℕ). gap_between (end_of_frames w free xs) (bits_in b) in

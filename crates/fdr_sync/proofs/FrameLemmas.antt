@@ -12,7 +12,8 @@ frame_within b w p h = leb-true (p + 48 * w) (bits_in b) (and_parts _ _ (and_par
 
 -- where the frame lies within the bytes, its four sync words alone decide
 pub frame_by_syncs : (b : List ℕ) (w p : ℕ) → p + 48 * w ≤ bits_in b →
-    is_frame_position b w p ≡ ((word_at b p == sync_word 1) && (word_at b (p + 12 * w) == sync_word 2) && (word_at b (p + 2 * (12 * w)) == sync_word 3) && (word_at b (p + 3 * (12 * w)) == sync_word 4))
+    is_frame_position b w p ≡ ((word_at b p == sync_word 1) && (word_at b (p + 12 * w) == sync_word 2) && (word_at b (p + 2 * (12 * w)) == sync_word 3) &&
+    (word_at b (p + 3 * (12 * w)) == sync_word 4))
 unfolding is_frame_position
 frame_by_syncs b w p h =
     let third : p + 2 * (12 * w) ≡ p + 24 * w = omega arith in

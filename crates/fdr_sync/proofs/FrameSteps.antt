@@ -20,7 +20,8 @@ word_count_some w h = omega (arith, word_count_bounds w h)
 pub found_within : (b : List ℕ) (w free p : ℕ) → IsWordCount w → IsFirstFrameFrom b w free p → (p + 48 * w ≤ bits_in b) × (free < p + 48 * w)
 found_within b w free p count h = (frame_within b w p h.position, omega (arith, word_count_bounds w count, h.behind))
 
-pub accepted_more : (b : List ℕ) (w free p next : ℕ) (xs ys all : List ℕ) → IsWordCount w → IsFirstFrameFrom b w free p → next ≡ p + 48 * w → ys ≡ xs ++ p ∷ [] → xs ++ accepted_from b w free ≡ all → ys ++ accepted_from b w next ≡ all
+pub accepted_more : (b : List ℕ) (w free p next : ℕ) (xs ys all : List ℕ) → IsWordCount w → IsFirstFrameFrom b w free p → next ≡ p + 48 * w → ys ≡ xs ++ p ∷ []
+    → xs ++ accepted_from b w free ≡ all → ys ++ accepted_from b w next ≡ all
 accepted_more b w free p next xs ys all count h behind pushed before =
     ap (λ n. ys ++ accepted_from b w n) behind
     ∙ ap (λ zs. zs ++ accepted_from b w (p + 48 * w)) pushed
@@ -31,13 +32,15 @@ accepted_more b w free p next xs ys all count h behind pushed before =
 pub accepted_all : (b : List ℕ) (w free : ℕ) (xs all : List ℕ) → HasNoFrameFrom b w free → xs ++ accepted_from b w free ≡ all → xs ≡ all
 accepted_all b w free xs all none before = sym (append-nil xs) ∙ ap (λ zs. xs ++ zs) (sym (accepted_none b w free none)) ∙ before
 
-gaps_first : (b : List ℕ) (w free p : ℕ) → IsWordCount w → IsFirstFrameFrom b w free p → gaps_from b w free ≡ filter_map gap_of_event (gap_between free p) ++ gaps_from b w (p + 48 * w)
+gaps_first : (b : List ℕ) (w free p : ℕ) → IsWordCount w → IsFirstFrameFrom b w free p
+    → gaps_from b w free ≡ filter_map gap_of_event (gap_between free p) ++ gaps_from b w (p + 48 * w)
 gaps_first b w free p count h =
     ap (filter_map gap_of_event) (events_from_first b w free p (word_count_some w count) h)
     ∙ filter_map-append gap_of_event (gap_between free p) (Frame p ∷ events_from b w (p + 48 * w))
 
 -- the gap before the next frame was taken
-pub gaps_more_gap : (b : List ℕ) (w free p next : ℕ) (xs ys all : List (ℕ × ℕ)) → IsWordCount w → IsFirstFrameFrom b w free p → free < p → next ≡ p + 48 * w → ys ≡ xs ++ (free, p - free) ∷ [] → xs ++ gaps_from b w free ≡ all → ys ++ gaps_from b w next ≡ all
+pub gaps_more_gap : (b : List ℕ) (w free p next : ℕ) (xs ys all : List (ℕ × ℕ)) → IsWordCount w → IsFirstFrameFrom b w free p → free < p → next ≡ p + 48 * w
+    → ys ≡ xs ++ (free, p - free) ∷ [] → xs ++ gaps_from b w free ≡ all → ys ++ gaps_from b w next ≡ all
 gaps_more_gap b w free p next xs ys all count h some behind pushed before =
     ap (λ n. ys ++ gaps_from b w n) behind
     ∙ ap (λ zs. zs ++ gaps_from b w (p + 48 * w)) pushed
@@ -47,7 +50,8 @@ gaps_more_gap b w free p next xs ys all count h some behind pushed before =
     ∙ before
 
 -- there is no gap before the next frame
-pub gaps_more_none : (b : List ℕ) (w free p next : ℕ) (xs all : List (ℕ × ℕ)) → IsWordCount w → IsFirstFrameFrom b w free p → p ≤ free → next ≡ p + 48 * w → xs ++ gaps_from b w free ≡ all → xs ++ gaps_from b w next ≡ all
+pub gaps_more_none : (b : List ℕ) (w free p next : ℕ) (xs all : List (ℕ × ℕ)) → IsWordCount w → IsFirstFrameFrom b w free p → p ≤ free → next ≡ p + 48 * w
+    → xs ++ gaps_from b w free ≡ all → xs ++ gaps_from b w next ≡ all
 gaps_more_none b w free p next xs all count h empty behind before =
     ap (λ n. xs ++ gaps_from b w n) behind
     ∙ ap (λ es. xs ++ (filter_map gap_of_event es ++ gaps_from b w (p + 48 * w))) (sym (gap_empty free p empty))
@@ -55,7 +59,8 @@ gaps_more_none b w free p next xs all count h empty behind before =
     ∙ before
 
 -- the gap behind the last frame was taken
-pub gaps_all_gap : (b : List ℕ) (w free : ℕ) (xs ys all : List (ℕ × ℕ)) → HasNoFrameFrom b w free → free < bits_in b → ys ≡ xs ++ (free, bits_in b - free) ∷ [] → xs ++ gaps_from b w free ≡ all → ys ≡ all
+pub gaps_all_gap : (b : List ℕ) (w free : ℕ) (xs ys all : List (ℕ × ℕ)) → HasNoFrameFrom b w free → free < bits_in b → ys ≡ xs ++ (free, bits_in b - free) ∷ []
+    → xs ++ gaps_from b w free ≡ all → ys ≡ all
 gaps_all_gap b w free xs ys all none some pushed before =
     pushed
     ∙ ap (λ es. xs ++ filter_map gap_of_event es) (sym (events_from_none b w free none ∙ gap_some free (bits_in b) some))

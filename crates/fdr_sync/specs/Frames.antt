@@ -6,7 +6,8 @@ use Rattle.fdr_frame.specs.Slots.{sync_word}
 -- Whether a frame begins at bit p: it lies within the bytes, and each of its subframes begins with its sync word.
 unfoldable pub is_frame_position : List ℕ → ℕ → ℕ → Bool
 is_frame_position b w p =
-    nat_le (p + 48 * w) (bits_in b) && (word_at b p == sync_word 1) && (word_at b (p + 12 * w) == sync_word 2) && (word_at b (p + 24 * w) == sync_word 3) && (word_at b (p + 36 * w) == sync_word 4)
+    nat_le (p + 48 * w) (bits_in b) && (word_at b p == sync_word 1) && (word_at b (p + 12 * w) == sync_word 2) && (word_at b (p + 24 * w) == sync_word 3) &&
+    (word_at b (p + 36 * w) == sync_word 4)
 
 abbrev pub IsFramePosition : List ℕ → ℕ → ℕ → Type 0
 IsFramePosition b w p = IsTrue (is_frame_position b w p)

@@ -1,5 +1,6 @@
 -- Facts about the rows above a row, and what they say.
-use Rattle.std.proofs.Common.{◌≡◌, ◌∙◌, sym, ap, subst, refl, ℕ, ◌+◌, ◌<◌, All, Bool, true, false, ◌&&◌, ◌||◌, List, [], ◌∷◌, ◌++◌, length, map, filter, Option, Some, None, Result, arith, add-zero, zero-add}
+use Rattle.std.proofs.Common.{◌≡◌, ◌∙◌, sym, ap, subst, refl, ℕ, ◌+◌, ◌<◌, All, Bool, true, false, ◌&&◌, ◌||◌, List, [], ◌∷◌, ◌++◌, length, map, filter, Option}
+use Rattle.std.proofs.Common.{Some, None, Result, arith, zero-add}
 use Rattle.std.specs.Prelude.{IfOk, ok_or, option_map, if◌then◌else◌, is_none, is_some, bytes_eq, filter_map, unwrap_or, position}
 use Rattle.std.specs.List.{cons_option, enumerate_from, list_any}
 use Rattle.std.proofs.lemmas.Bool.{false≢true}
@@ -8,7 +9,8 @@ use Rattle.std.proofs.lemmas.List.Elements.{All-head, All-tail, filter-append, f
 use Rattle.std.proofs.lemmas.List.Folds.{list_any-append}
 use Rattle.fdr_table.specs.Fields.{is_name}
 use Rattle.fdr_table.specs.Rows.{FrameRow, ParamRow, PlaceRow}
-use Rattle.fdr_table.specs.Reading.{Row, field, kind_of, is_frame, is_param, is_place, first_some, frame_misread, param_misread, place_misread, misnamed, frame_row, param_row, place_row, names_of, param_named, table_of}
+use Rattle.fdr_table.specs.Reading.{Row, field, row_kind, is_frame, is_param, is_place, first_some, frame_misread, param_misread, place_misread, misnamed}
+use Rattle.fdr_table.specs.Reading.{frame_row, param_row, place_row, names_of, param_named, table_of}
 use Rattle.fdr_table.specs.Faults.{has_name, param_count}
 use Rattle.fdr_table.specs.DraftRows.{DraftRows}
 use Rattle.fdr_table.specs.Draft.{IsDraft, index_named}
@@ -16,6 +18,7 @@ use Rattle.fdr_table.specs.declared.row.RowKind.TheVariants as kind
 use Rattle.fdr_table.specs.declared.fault.TableFault.{TableFault}
 use Rattle.fdr_table.specs.declared.fault.TableFault.TheVariants as fault
 use Rattle.fdr_table.proofs.SearchFacts.{position-below, position-is_some, position-map, position-more, list_any-map}
+use Rattle.fdr_lists.proofs.Numbered.{enumerate_from_push}
 
 -- the field with the name
 abbrev pub name_in : Row → List ℕ
@@ -37,65 +40,61 @@ held-value false m x y e = cc
 
 pub frame_row-right : (row : Row) (f : FrameRow) → frame_row row ≡ Some f → frame_misread row ≡ None
 unfolding frame_row
-frame_row-right row f e = kept (is_frame (kind_of row)) (frame_misread row) _ f e
+frame_row-right row f e = kept (is_frame (row_kind row)) (frame_misread row) _ f e
 
 pub param_row-right : (n : ℕ) (row : Row) (p : ParamRow) → param_row n row ≡ Some p → first_some (param_misread row ∷ misnamed row ∷ []) ≡ None
 unfolding param_row
-param_row-right n row p e = kept (is_param (kind_of row)) (first_some (param_misread row ∷ misnamed row ∷ [])) _ p e
+param_row-right n row p e = kept (is_param (row_kind row)) (first_some (param_misread row ∷ misnamed row ∷ [])) _ p e
 
 pub param_row-name : (n : ℕ) (row : Row) (p : ParamRow) → param_row n row ≡ Some p → name_in row ≡ p.name
 unfolding param_row
-param_row-name n row p e = ap (λ (q : ParamRow). q.name) (held-value (is_param (kind_of row)) (first_some (param_misread row ∷ misnamed row ∷ [])) _ p e)
+param_row-name n row p e = ap (λ (q : ParamRow). q.name) (held-value (is_param (row_kind row)) (first_some (param_misread row ∷ misnamed row ∷ [])) _ p e)
 
 -- a name that is wrong is all that is wrong with a row whose other fields read
 name-wrong : {A : Type 0} (b k : Bool) (m : Option TableFault) (x : A) → k ≡ true → m ≡ None
-    → (if k && is_none (first_some (m ∷ (if b then None else Some fault.Name) ∷ [])) then Some x else None) ≡ None → (if b then None else Some fault.Name) ≡ Some fault.Name
+    → (if k && is_none (first_some (m ∷ (if b then None else Some fault.Name) ∷ [])) then Some x else None) ≡ None
+    → (if b then None else Some fault.Name) ≡ Some fault.Name
 name-wrong false k m x right read e = refl
 name-wrong true k m x right read e = let never = rw (right, read) at e in cc
 
-pub param_row-misnamed : (n : ℕ) (row : Row) → kind_of row ≡ Some kind.Param → param_misread row ≡ None → param_row n row ≡ None → misnamed row ≡ Some fault.Name
+pub param_row-misnamed : (n : ℕ) (row : Row) → row_kind row ≡ Some kind.Param → param_misread row ≡ None → param_row n row ≡ None
+    → misnamed row ≡ Some fault.Name
 unfolding param_row misnamed
-param_row-misnamed n row k m e = name-wrong (is_name (name_in row)) (is_param (kind_of row)) (param_misread row) _ (ap is_param k) m e
+param_row-misnamed n row k m e = name-wrong (is_name (name_in row)) (is_param (row_kind row)) (param_misread row) _ (ap is_param k) m e
 
 pub place_row-right : (k n : ℕ) (row : Row) (l : PlaceRow) → place_row k n row ≡ Some l → place_misread row ≡ None
 unfolding place_row
-place_row-right k n row l e = kept (is_place (kind_of row)) (place_misread row) _ l e
+place_row-right k n row l e = kept (is_place (row_kind row)) (place_misread row) _ l e
 
 pub place_row-param : (k n : ℕ) (row : Row) (l : PlaceRow) → place_row k n row ≡ Some l → k ≡ l.param
 unfolding place_row
-place_row-param k n row l e = ap (λ (q : PlaceRow). q.param) (held-value (is_place (kind_of row)) (place_misread row) _ l e)
+place_row-param k n row l e = ap (λ (q : PlaceRow). q.param) (held-value (is_place (row_kind row)) (place_misread row) _ l e)
 
 -- rows of other kinds
-pub frame_row-other : (row : Row) → is_frame (kind_of row) ≡ false → frame_row row ≡ None
+pub frame_row-other : (row : Row) → is_frame (row_kind row) ≡ false → frame_row row ≡ None
 unfolding frame_row
-frame_row-other row e = dropped (is_frame (kind_of row)) (frame_misread row) _ e
+frame_row-other row e = dropped (is_frame (row_kind row)) (frame_misread row) _ e
 
-pub param_row-other : (n : ℕ) (row : Row) → is_param (kind_of row) ≡ false → param_row n row ≡ None
+pub param_row-other : (n : ℕ) (row : Row) → is_param (row_kind row) ≡ false → param_row n row ≡ None
 unfolding param_row
-param_row-other n row e = dropped (is_param (kind_of row)) (first_some (param_misread row ∷ misnamed row ∷ [])) _ e
+param_row-other n row e = dropped (is_param (row_kind row)) (first_some (param_misread row ∷ misnamed row ∷ [])) _ e
 
-pub place_row-other : (k n : ℕ) (row : Row) → is_place (kind_of row) ≡ false → place_row k n row ≡ None
+pub place_row-other : (k n : ℕ) (row : Row) → is_place (row_kind row) ≡ false → place_row k n row ≡ None
 unfolding place_row
-place_row-other k n row e = dropped (is_place (kind_of row)) (place_misread row) _ e
-
--- the rows with their numbers
-enumerate-push : (s : ℕ) (rows : List Row) (row : Row) → enumerate_from s (rows ++ row ∷ []) ≡ enumerate_from s rows ++ (s + length rows, row) ∷ []
-enumerate-push s [] row = ap (λ (k : ℕ). (k, row) ∷ []) (sym (add-zero s))
-enumerate-push s (r ∷ rows) row =
-    let n : s + 1 + length rows ≡ s + length (r ∷ rows) = omega arith in
-    ap (λ (es : List (ℕ × Row)). (s, r) ∷ es) (enumerate-push (s + 1) rows row ∙ ap (λ (k : ℕ). enumerate_from (s + 1) rows ++ (k, row) ∷ []) n)
+place_row-other k n row e = dropped (is_place (row_kind row)) (place_misread row) _ e
 
 numbered-push : {A : Type 0} (h : ℕ × Row → Option A) (above : List Row) (row : Row)
     → filter_map h (enumerate_from 0 (above ++ row ∷ [])) ≡ filter_map h (enumerate_from 0 above) ++ cons_option (h (length above, row)) []
 numbered-push h above row =
-    ap (filter_map h) (enumerate-push 0 above row ∙ ap (λ (k : ℕ). enumerate_from 0 above ++ (k, row) ∷ []) (zero-add (length above)))
+    ap (filter_map h) (enumerate_from_push 0 above row ∙ ap (λ (k : ℕ). enumerate_from 0 above ++ (k, row) ∷ []) (zero-add (length above)))
     ∙ filter_map-append h (enumerate_from 0 above) ((length above, row) ∷ [])
 
 -- the names of the rows
 pub names-push : (above : List Row) (row : Row) → names_of (above ++ row ∷ []) ≡ names_of above ++ names_of (row ∷ [])
 names-push above row =
-    ap (map (λ (fields : Row). field fields 1)) (filter-append (λ (fields : Row). is_param (kind_of fields)) above (row ∷ []))
-    ∙ map-append (λ (fields : Row). field fields 1) (filter (λ (fields : Row). is_param (kind_of fields)) above) (filter (λ (fields : Row). is_param (kind_of fields)) (row ∷ []))
+    ap (map (λ (fields : Row). field fields 1)) (filter-append (λ (fields : Row). is_param (row_kind fields)) above (row ∷ []))
+    ∙ map-append (λ (fields : Row). field fields 1) (filter (λ (fields : Row). is_param (row_kind fields)) above)
+    (filter (λ (fields : Row). is_param (row_kind fields)) (row ∷ []))
 
 pub has_name-push : (above : List Row) (row : Row) (q : List ℕ) → has_name above q ≡ true → has_name (above ++ row ∷ []) q ≡ true
 has_name-push above row q e =
@@ -110,9 +109,9 @@ param_named-push above row q e =
 
 -- a place's parameter stands above it, so that further rows name the same
 abbrev pub IsNamed : List Row → Row → Type 0
-IsNamed rows row = is_place (kind_of row) ≡ true → has_name rows (name_in row) ≡ true
+IsNamed rows row = is_place (row_kind row) ≡ true → has_name rows (name_in row) ≡ true
 
-place-same : (above : List Row) (row : Row) (n : ℕ) (r : Row) (b : Bool) → is_place (kind_of r) ≡ b → IsNamed above r
+place-same : (above : List Row) (row : Row) (n : ℕ) (r : Row) (b : Bool) → is_place (row_kind r) ≡ b → IsNamed above r
     → place_row (param_named (above ++ row ∷ []) (field r 1)) n r ≡ place_row (param_named above (field r 1)) n r
 place-same above row n r true e named = ap (λ (k : ℕ). place_row k n r) (param_named-push above row (field r 1) (named e))
 place-same above row n r false e named =
@@ -125,12 +124,13 @@ places-same : (above : List Row) (row : Row) (s : ℕ) (rows : List Row) → All
     → filter_map (place-at (above ++ row ∷ [])) (enumerate_from s rows) ≡ filter_map (place-at above) (enumerate_from s rows)
 places-same above row s [] named = refl
 places-same above row s (r ∷ rows) named =
-    let here = place-same above row s r (is_place (kind_of r)) refl (All-head (IsNamed above) r rows named) in
+    let here = place-same above row s r (is_place (row_kind r)) refl (All-head (IsNamed above) r rows named) in
     let rest = places-same above row (s + 1) rows (All-tail (IsNamed above) r rows named) in
     ap (λ (o : Option PlaceRow). cons_option o (filter_map (place-at (above ++ row ∷ [])) (enumerate_from (s + 1) rows))) here
     ∙ ap (cons_option (place-at above (s, r))) rest
 
-pub params-push : (above : List Row) (row : Row) (d : DraftRows) → IsDraft above d → (table_of (above ++ row ∷ [])).params ≡ d.params ++ cons_option (param_row d.rows row) []
+pub params-push : (above : List Row) (row : Row) (d : DraftRows) → IsDraft above d
+    → (table_of (above ++ row ∷ [])).params ≡ d.params ++ cons_option (param_row d.rows row) []
 params-push above row d h =
     numbered-push (λ (e : ℕ × Row). param_row e.0 e.1) above row
     ∙ ap (λ (ps : List ParamRow). ps ++ cons_option (param_row (length above) row) []) h.params
@@ -159,7 +159,7 @@ param_named-is above d q h =
 
 pub param_count-is : (above : List Row) (d : DraftRows) → IsDraft above d → param_count above ≡ length d.params
 param_count-is above d h =
-    sym (length-map (filter (λ (fields : Row). is_param (kind_of fields)) above) (λ (fields : Row). field fields 1))
+    sym (length-map (filter (λ (fields : Row). is_param (row_kind fields)) above) (λ (fields : Row). field fields 1))
     ∙ ap length h.names ∙ length-map d.params (λ (p : ParamRow). p.name)
 
 -- the index that is found
@@ -184,16 +184,12 @@ no-rows = record {
   rows = refl;
 }
 
--- the draft of all rows is their table
-pub table-is : (rows : List Row) (d : DraftRows) (f : FrameRow) → IsDraft rows d → d.frame ≡ Some f
-    → table_of rows ≡ record { frame = f; params = d.params; places = d.places; rows = d.rows }
-table-is rows d f h e = rw (h.frame, e, h.params, h.places, h.rows) refl
-
 pub some-row : (rows : List Row) (d : DraftRows) → IsDraft rows d → is_some d.frame ≡ true → 0 < length rows
 some-row [] d h e = absurd (false≢true (h.frame_there ∙ e))
 some-row (r ∷ rest) d h e = omega arith
 
 -- what holds of a draft's table where there is a frame
-pub if-there : {A T E : Type 0} (o : Option A) (f : A → T) (e : E) (r : Result T E) (Q : Type 0) → r ≡ ok_or (option_map f o) e → (is_some o ≡ true → Q) → IfOk r (λ t. Q)
+pub if-there : {A T E : Type 0} (o : Option A) (f : A → T) (e : E) (r : Result T E) (Q : Type 0) → r ≡ ok_or (option_map f o) e → (is_some o ≡ true → Q)
+    → IfOk r (λ t. Q)
 if-there None f e r Q same q = subst (λ (x : Result _ _). IfOk x (λ t. Q)) (sym same) tt
 if-there (Some a) f e r Q same q = subst (λ (x : Result _ _). IfOk x (λ t. Q)) (sym same) (q refl)

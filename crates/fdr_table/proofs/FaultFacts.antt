@@ -1,5 +1,6 @@
 -- The first row with a fault.
-use Rattle.std.proofs.Common.{◌≡◌, ◌∙◌, ap, ℕ, ◌+◌, ◌<◌, ◌≤◌, ◌⊎◌, inl, inr, refl, sym, Result, Ok, Err, false, get_or, take, List, [], ◌∷◌, ◌++◌, length, Option, Some, None, arith, zero-add, length-append}
+use Rattle.std.proofs.Common.{◌≡◌, ◌∙◌, ap, ℕ, ◌+◌, ◌<◌, ◌≤◌, ◌⊎◌, inl, inr, refl, sym, Result, Ok, Err, false, get_or, take, List, [], ◌∷◌, ◌++◌, length}
+use Rattle.std.proofs.Common.{Option, Some, None, arith, zero-add, length-append}
 use Rattle.std.specs.Prelude.{is_some, nat_lt, ok_or, option_map}
 use Rattle.std.proofs.Math.Seq.{take-append_seam, get_or-append_seam}
 use Rattle.std.proofs.lemmas.Bool.{cases_lt, le-ltb}
@@ -7,7 +8,7 @@ use Rattle.std.proofs.lemmas.List.{get_or_append_left, take-append-le}
 use Rattle.fdr_table.specs.Answers.{refused}
 use Rattle.fdr_table.specs.Bounds.{most_table_bytes}
 use Rattle.fdr_table.specs.Reading.{Row, records_of}
-use Rattle.fdr_table.specs.Faults.{fault_of, first_fault, row_fault}
+use Rattle.fdr_table.specs.Faults.{table_bytes_fault, first_fault, row_fault}
 use Rattle.fdr_table.specs.declared.fault.TableError.{TableError}
 use Rattle.fdr_table.specs.declared.fault.TableError.TheVariants as error
 use Rattle.fdr_table.specs.declared.fault.TableFault.{TableFault}
@@ -17,7 +18,8 @@ use Rattle.fdr_table.proofs.SearchFacts.{first_some-at, first_some-none}
 abbrev pub fault-in : List Row → ℕ → Option TableFault
 fault-in rows i = row_fault (take i rows) (get_or rows i [])
 
-pub first-fault-at : (rows : List Row) (i : ℕ) (f : TableFault) → i < length rows → ((j : ℕ) → j < i → fault-in rows j ≡ None) → fault-in rows i ≡ Some f → first_fault rows ≡ Some (i, f)
+pub first-fault-at : (rows : List Row) (i : ℕ) (f : TableFault) → i < length rows → ((j : ℕ) → j < i → fault-in rows j ≡ None) → fault-in rows i ≡ Some f
+    → first_fault rows ≡ Some (i, f)
 first-fault-at [] i f lt before here = absurd (omega arith)
 first-fault-at (r ∷ rest) i f lt before here =
     first_some-at (λ k. option_map (λ g. (k, g)) (fault-in (r ∷ rest) k)) 0 (length (r ∷ rest)) i (i, f) lt
@@ -79,8 +81,8 @@ without-frame None g p e a b x f r made told is same =
 without-frame (Some y) g p e a b x f r made told is same = let ok = is ∙ ap (λ q. ok_or q e) made in cc
 
 -- the fault of a table's bytes that aren't too many
-pub fault-of-rows : (bytes : List ℕ) → length bytes ≤ most_table_bytes → fault_of bytes ≡ first_fault (records_of bytes)
-unfolding fault_of
+pub fault-of-rows : (bytes : List ℕ) → length bytes ≤ most_table_bytes → table_bytes_fault bytes ≡ first_fault (records_of bytes)
+unfolding table_bytes_fault
 fault-of-rows bytes few =
     let small : nat_lt most_table_bytes (length bytes) ≡ false = le-ltb most_table_bytes (length bytes) few in
     rw small refl

@@ -1,17 +1,19 @@
 -- Facts about single fields.
-use Rattle.std.proofs.Common.{◌≡◌, ◌∙◌, sym, ap, refl, ℕ, suc, ◌+◌, ◌-◌, ◌*◌, ◌^◌, ◌<◌, ◌≤◌, Bool, true, false, ◌&&◌, nat_le, nat_lt, List, [], ◌∷◌, length, get_or, take, drop, Option, Some, None, arith, add-one, zero, zero-add, add_assoc, ◌⊎◌}
+use Rattle.std.proofs.Common.{◌≡◌, ◌∙◌, sym, ap, refl, ℕ, suc, ◌+◌, ◌-◌, ◌*◌, ◌^◌, ◌<◌, ◌≤◌, Bool, true, false, ◌&&◌, nat_le, nat_lt, List, [], ◌∷◌, length}
+use Rattle.std.proofs.Common.{get_or, take, drop, Option, Some, None, arith, add-one, zero, zero-add, add_assoc, ◌⊎◌}
 use Rattle.std.specs.Prelude.{if◌then◌else◌, sum_by}
 use Rattle.std.specs.List.{list_all}
 use Rattle.std.specs.Char.{digit_value}
 use Rattle.std.specs.Str.Parse.{digits_value, AllDigits}
 use Rattle.std.proofs.lemmas.Bool.Decides.{nat_tests}
-use Rattle.std.proofs.lemmas.Bool.{true≢false, false≢true}
+use Rattle.std.proofs.lemmas.Bool.{true≢false, false≢true, lt-ltb}
 use Rattle.std.proofs.lemmas.Int.Digits.{digits_value-lt, digits_value_more}
 use Rattle.std.proofs.lemmas.Str.Parse.{digits_value-take-le}
 use Rattle.std.proofs.Math.Nat.{pow-le-pow_right, one-le-pow, pow-suc}
 use Rattle.std.proofs.lemmas.List.Sums.{sum_by-cons}
 use Rattle.std.proofs.Math.Seq.{drop-cons}
-use Rattle.fdr_table.specs.Fields.{is_digit, is_octal_digit, decimal_of, label_of, is_name, is_name_byte, subframes_of, is_subframe_digit, is_increasing, subframe_bit}
+use Rattle.fdr_table.specs.Fields.{is_digit, is_octal_digit, decimal_of, label_field, is_name, is_name_byte, subframes_of, is_subframe_digit, is_increasing}
+use Rattle.fdr_table.specs.Fields.{subframe_bit}
 
 -- both tests pass
 pub both-left : (a b : Bool) → (a && b) ≡ true → a ≡ true
@@ -53,8 +55,10 @@ all-decimal (x ∷ xs) h =
 
 all-octal : (xs : List ℕ) → list_all is_octal_digit xs ≡ true → AllDigits 8 xs
 all-octal [] h = tt
-all-octal (x ∷ xs) h =
-    ((octal-value x (both-left (is_octal_digit x) (list_all is_octal_digit xs) h)).0, all-octal xs (both-right (is_octal_digit x) (list_all is_octal_digit xs) h))
+all-octal (x ∷ xs) h = (
+  (octal-value x (both-left (is_octal_digit x) (list_all is_octal_digit xs) h)).0,
+  all-octal xs (both-right (is_octal_digit x) (list_all is_octal_digit xs) h),
+)
 
 -- octal digits are decimal digits
 pub octal-digits : (xs : List ℕ) → list_all is_octal_digit xs ≡ true → list_all is_digit xs ≡ true
@@ -105,17 +109,17 @@ decimal-digits xs a b = rw (held 1 (length xs) 19 (list_all is_digit xs) a b) re
 
 pub ruleset decimals = (decimal-none-short, decimal-none-long, decimal-digits, decimal-fits)
 
-pub label-none-short : (xs : List ℕ) → length xs < 1 → label_of xs ≡ None
-unfolding label_of
+pub label-none-short : (xs : List ℕ) → length xs < 1 → label_field xs ≡ None
+unfolding label_field
 label-none-short xs h = rw (below 1 (length xs) 3 (list_all is_octal_digit xs) h) refl
 
-pub label-none-long : (xs : List ℕ) → 3 < length xs → label_of xs ≡ None
-unfolding label_of
+pub label-none-long : (xs : List ℕ) → 3 < length xs → label_field xs ≡ None
+unfolding label_field
 label-none-long xs h = rw (above 1 (length xs) 3 (list_all is_octal_digit xs) h) refl
 
 pub label-digits : (xs : List ℕ) → 1 ≤ length xs → length xs ≤ 3
-    → label_of xs ≡ (if list_all is_octal_digit xs then (if nat_le (digits_value 8 xs) 255 then Some (digits_value 8 xs) else None) else None)
-unfolding label_of
+    → label_field xs ≡ (if list_all is_octal_digit xs then (if nat_le (digits_value 8 xs) 255 then Some (digits_value 8 xs) else None) else None)
+unfolding label_field
 label-digits xs a b = rw (held 1 (length xs) 3 (list_all is_octal_digit xs) a b) refl
 
 pub ruleset labels = (label-none-short, label-none-long, label-digits, octal-fits, octal-digits)
@@ -171,19 +175,17 @@ stop-test last d h = grind (arith, nat_tests)
 
 pub left-stop : (last so_far d : ℕ) (rest : List ℕ) → (d ≤ last) ⊎ (52 < d) → left_subframes last so_far (d ∷ rest) ≡ None
 left-stop last so_far d rest h =
-    stop-by (is_subframe_digit d) (list_all is_subframe_digit rest) (nat_lt last d) (is_increasing (d ∷ rest)) (so_far + sum_by subframe_bit (d ∷ rest)) (stop-test last d h)
+    stop-by (is_subframe_digit d) (list_all is_subframe_digit rest) (nat_lt last d) (is_increasing (d ∷ rest)) (so_far + sum_by subframe_bit (d ∷ rest))
+    (stop-test last d h)
 
 is-digit : (d : ℕ) → 48 < d → d ≤ 52 → is_subframe_digit d ≡ true
 is-digit d a b = grind (arith, nat_tests)
-
-is-above : (last d : ℕ) → last < d → nat_lt last d ≡ true
-is-above last d a = grind (arith, nat_tests)
 
 pub left-next : (last so_far d : ℕ) (rest : List ℕ) → 48 ≤ last → last < d → d ≤ 52
     → left_subframes last so_far (d ∷ rest) ≡ left_subframes d (so_far + subframe_bit d) rest
 left-next last so_far d rest low lt high =
     go-by (is_subframe_digit d) (list_all is_subframe_digit rest) (nat_lt last d) (is_increasing (d ∷ rest)) _ _
-    (is-digit d (omega arith) high) (is-above last d lt)
+    (is-digit d (omega arith) high) (lt-ltb last d lt)
     (ap (λ (n : ℕ). so_far + n) (sum_by-cons subframe_bit d rest) ∙ sym (add_assoc so_far (subframe_bit d) (sum_by subframe_bit rest)))
 
 -- a set below the bit of the last digit stays below the next one's with it

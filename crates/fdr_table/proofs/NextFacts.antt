@@ -1,5 +1,6 @@
 -- The fault of the next row, and the draft with one more row.
-use Rattle.std.proofs.Common.{◌≡◌, ◌∙◌, sym, ap, refl, ℕ, ◌+◌, ◌<◌, ◌≤◌, All, Bool, true, false, ◌||◌, cond, List, [], ◌∷◌, ◌++◌, length, map, filter, Option, Some, None, arith, append-nil, length-append}
+use Rattle.std.proofs.Common.{◌≡◌, ◌∙◌, sym, ap, refl, ℕ, ◌+◌, ◌<◌, ◌≤◌, All, Bool, true, false, ◌||◌, cond, List, [], ◌∷◌, ◌++◌, length, map, filter, Option}
+use Rattle.std.proofs.Common.{Some, None, arith, append-nil, length-append}
 use Rattle.std.specs.Prelude.{is_some, not, nat_le, unwrap_or}
 use Rattle.std.specs.List.{cons_option}
 use Rattle.std.specs.Option.{option_map_or}
@@ -8,7 +9,8 @@ use Rattle.std.proofs.lemmas.List.{map-append}
 use Rattle.std.proofs.lemmas.List.Elements.{All-push, All-weaker, filter-append}
 use Rattle.std.proofs.lemmas.List.Folds.{list_any-append}
 use Rattle.fdr_table.specs.Rows.{FrameRow, ParamRow, PlaceRow}
-use Rattle.fdr_table.specs.Reading.{Row, field, kind_of, is_frame, is_param, is_place, first_some, frame_misread, param_misread, place_misread, misnamed, frame_row, param_row, place_row, names_of, param_named, table_of}
+use Rattle.fdr_table.specs.Reading.{Row, field, row_kind, is_frame, is_param, is_place, first_some, frame_misread, param_misread, place_misread, misnamed}
+use Rattle.fdr_table.specs.Reading.{frame_row, param_row, place_row, names_of, param_named, table_of}
 use Rattle.fdr_table.specs.Faults.{has_frame, has_name, kind_fault, param_count, place_count, row_fault, where_true}
 use Rattle.fdr_table.specs.DraftRows.{DraftRows}
 use Rattle.fdr_table.specs.Bounds.{most_params, most_places}
@@ -20,7 +22,10 @@ use Rattle.fdr_table.specs.declared.fault.TableFault.{TableFault}
 use Rattle.fdr_table.specs.declared.fault.TableFault.TheVariants as fault
 use Rattle.fdr_table.proofs.SearchFacts.{first_some-next, first_some-kept}
 use Rattle.fdr_table.proofs.FaultFacts.{no-fault-push}
-use Rattle.fdr_table.proofs.DraftFacts.{IsNamed, name_in, none-from, frame_row-right, frame_row-other, param_row-right, param_row-other, param_row-name, place_row-right, place_row-other, has_name-is, has_name-push, names-push, param_count-is, param_named-is, param_named-push, params-push, places-push}
+use Rattle.fdr_table.proofs.DraftFacts.{IsNamed, name_in, none-from, frame_row-right, frame_row-other, param_row-right, param_row-other, param_row-name}
+use Rattle.fdr_table.proofs.DraftFacts.{place_row-right, place_row-other, has_name-is, has_name-push, names-push, param_count-is, param_named-is}
+use Rattle.fdr_table.proofs.DraftFacts.{param_named-push, params-push, places-push}
+use Rattle.std.proofs.Math.Bool.{or-false}
 
 second-none : (x y : Option TableFault) → x ≡ None → first_some (x ∷ y ∷ []) ≡ None → y ≡ None
 second-none x None m e = refl
@@ -32,17 +37,14 @@ pub named-right : (row : Row) → param_misread row ≡ None → first_some (par
 named-right row m e = second-none (param_misread row) (misnamed row) m e
 
 -- a row's fault by its kind
-by-kind : (above : List Row) (row : Row) (k : RowKind) → kind_of row ≡ Some k → row_fault above row ≡ kind_fault above row k
+by-kind : (above : List Row) (row : Row) (k : RowKind) → row_kind row ≡ Some k → row_fault above row ≡ kind_fault above row k
 by-kind above row k e = ap (λ o. option_map_or (kind_fault above row) o (Some fault.Shape)) e
-
-pub shape-fault : (d : DraftRows) (row : Row) → kind_of row ≡ None → IsNextFault d row fault.Shape
-shape-fault d row e above h = ap (λ o. option_map_or (kind_fault above row) o (Some fault.Shape)) e
 
 -- the faults of each kind, as tests of the draft
 abbrev frame-faults : Option TableFault → Bool → Option TableFault
 frame-faults misread there = first_some (misread ∷ where_true there fault.TwoFrames ∷ [])
 
-frame-fault : (d : DraftRows) (row : Row) → kind_of row ≡ Some kind.Frame → (above : List Row) → IsDraft above d
+frame-fault : (d : DraftRows) (row : Row) → row_kind row ≡ Some kind.Frame → (above : List Row) → IsDraft above d
     → row_fault above row ≡ frame-faults (frame_misread row) (is_some d.frame)
 frame-fault d row k above h = by-kind above row kind.Frame k ∙ ap (frame-faults (frame_misread row)) h.frame_there
 
@@ -50,19 +52,20 @@ abbrev param-faults : Option TableFault → Bool → Option TableFault → Bool 
 param-faults misread there named twice count = first_some (
     misread ∷ where_true (not there) fault.NoFrame ∷ named ∷ where_true twice fault.Twice ∷ where_true (nat_le most_params count) fault.Size ∷ [])
 
-param-fault : (d : DraftRows) (row : Row) → kind_of row ≡ Some kind.Param → (above : List Row) → IsDraft above d
+param-fault : (d : DraftRows) (row : Row) → row_kind row ≡ Some kind.Param → (above : List Row) → IsDraft above d
     → row_fault above row ≡ param-faults (param_misread row) (is_some d.frame) (misnamed row) (is_some (index_named d.params (name_in row))) (length d.params)
 param-fault d row k above h =
     by-kind above row kind.Param k
     ∙ ap (λ there. param-faults (param_misread row) there (misnamed row) (has_name above (name_in row)) (param_count above)) h.frame_there
     ∙ ap (λ twice. param-faults (param_misread row) (is_some d.frame) (misnamed row) twice (param_count above)) (has_name-is above d (name_in row) h)
-    ∙ ap (λ count. param-faults (param_misread row) (is_some d.frame) (misnamed row) (is_some (index_named d.params (name_in row))) count) (param_count-is above d h)
+    ∙ ap (λ count. param-faults (param_misread row) (is_some d.frame) (misnamed row) (is_some (index_named d.params (name_in row))) count)
+    (param_count-is above d h)
 
 abbrev place-faults : Option TableFault → Bool → Bool → ℕ → Option TableFault
 place-faults misread there known count = first_some (
     misread ∷ where_true (not there) fault.NoFrame ∷ where_true (not known) fault.Unknown ∷ where_true (nat_le most_places count) fault.Size ∷ [])
 
-place-fault : (d : DraftRows) (row : Row) → kind_of row ≡ Some kind.Place → (above : List Row) → IsDraft above d
+place-fault : (d : DraftRows) (row : Row) → row_kind row ≡ Some kind.Place → (above : List Row) → IsDraft above d
     → row_fault above row ≡ place-faults (place_misread row) (is_some d.frame) (is_some (index_named d.params (name_in row))) (length d.places)
 place-fault d row k above h =
     by-kind above row kind.Place k
@@ -70,101 +73,95 @@ place-fault d row k above h =
     ∙ ap (λ known. place-faults (place_misread row) (is_some d.frame) known (place_count above)) (has_name-is above d (name_in row) h)
     ∙ ap (λ count. place-faults (place_misread row) (is_some d.frame) (is_some (index_named d.params (name_in row))) count) h.count
 
--- the next row's fault
-pub frame-misread : (d : DraftRows) (row : Row) (f : TableFault) → kind_of row ≡ Some kind.Frame → frame_misread row ≡ Some f → IsNextFault d row f
-frame-misread d row f k e above h = frame-fault d row k above h ∙ ap (λ m. frame-faults m (is_some d.frame)) e
-
-pub two-frames : (d : DraftRows) (row : Row) → kind_of row ≡ Some kind.Frame → frame_misread row ≡ None → is_some d.frame ≡ true → IsNextFault d row fault.TwoFrames
+pub two-frames : (d : DraftRows) (row : Row) → row_kind row ≡ Some kind.Frame → frame_misread row ≡ None → is_some d.frame ≡ true
+    → IsNextFault d row fault.TwoFrames
 two-frames d row k e there above h = frame-fault d row k above h ∙ ap (λ m. frame-faults m (is_some d.frame)) e ∙ ap (frame-faults None) there
 
-pub param-misread : (d : DraftRows) (row : Row) (f : TableFault) → kind_of row ≡ Some kind.Param → param_misread row ≡ Some f → IsNextFault d row f
-param-misread d row f k e above h = param-fault d row k above h ∙ rw e refl
-
-pub param-without-frame : (d : DraftRows) (row : Row) → kind_of row ≡ Some kind.Param → param_misread row ≡ None → is_some d.frame ≡ false → IsNextFault d row fault.NoFrame
-param-without-frame d row k e there above h = param-fault d row k above h ∙ rw (e, there) refl
-
-pub param-misnamed : (d : DraftRows) (row : Row) → kind_of row ≡ Some kind.Param → param_misread row ≡ None → is_some d.frame ≡ true → misnamed row ≡ Some fault.Name → IsNextFault d row fault.Name
+pub param-misnamed : (d : DraftRows) (row : Row) → row_kind row ≡ Some kind.Param → param_misread row ≡ None → is_some d.frame ≡ true
+    → misnamed row ≡ Some fault.Name → IsNextFault d row fault.Name
 param-misnamed d row k e there name above h = param-fault d row k above h ∙ rw (e, there, name) refl
 
-pub param-twice : (d : DraftRows) (row : Row) → kind_of row ≡ Some kind.Param → param_misread row ≡ None → is_some d.frame ≡ true → misnamed row ≡ None
+pub param-twice : (d : DraftRows) (row : Row) → row_kind row ≡ Some kind.Param → param_misread row ≡ None → is_some d.frame ≡ true → misnamed row ≡ None
     → is_some (index_named d.params (name_in row)) ≡ true → IsNextFault d row fault.Twice
 param-twice d row k e there name twice above h = param-fault d row k above h ∙ rw (e, there, name, twice) refl
 
-pub too-many-params : (d : DraftRows) (row : Row) → kind_of row ≡ Some kind.Param → param_misread row ≡ None → is_some d.frame ≡ true → misnamed row ≡ None
+pub too-many-params : (d : DraftRows) (row : Row) → row_kind row ≡ Some kind.Param → param_misread row ≡ None → is_some d.frame ≡ true → misnamed row ≡ None
     → is_some (index_named d.params (name_in row)) ≡ false → most_params ≤ length d.params → IsNextFault d row fault.Size
 too-many-params d row k e there name twice many above h =
     let full : nat_le most_params (length d.params) ≡ true = le-leb most_params (length d.params) many in
     param-fault d row k above h ∙ rw (e, there, name, twice, full) refl
 
-pub place-misread : (d : DraftRows) (row : Row) (f : TableFault) → kind_of row ≡ Some kind.Place → place_misread row ≡ Some f → IsNextFault d row f
-place-misread d row f k e above h = place-fault d row k above h ∙ rw e refl
-
-pub place-without-frame : (d : DraftRows) (row : Row) → kind_of row ≡ Some kind.Place → place_misread row ≡ None → is_some d.frame ≡ false → IsNextFault d row fault.NoFrame
+pub place-without-frame : (d : DraftRows) (row : Row) → row_kind row ≡ Some kind.Place → place_misread row ≡ None → is_some d.frame ≡ false
+    → IsNextFault d row fault.NoFrame
 place-without-frame d row k e there above h = place-fault d row k above h ∙ rw (e, there) refl
 
-pub place-unknown : (d : DraftRows) (row : Row) → kind_of row ≡ Some kind.Place → place_misread row ≡ None → is_some d.frame ≡ true
+pub place-unknown : (d : DraftRows) (row : Row) → row_kind row ≡ Some kind.Place → place_misread row ≡ None → is_some d.frame ≡ true
     → is_some (index_named d.params (name_in row)) ≡ false → IsNextFault d row fault.Unknown
 place-unknown d row k e there known above h = place-fault d row k above h ∙ rw (e, there, known) refl
 
-pub too-many-places : (d : DraftRows) (row : Row) → kind_of row ≡ Some kind.Place → place_misread row ≡ None → is_some d.frame ≡ true
+pub too-many-places : (d : DraftRows) (row : Row) → row_kind row ≡ Some kind.Place → place_misread row ≡ None → is_some d.frame ≡ true
     → is_some (index_named d.params (name_in row)) ≡ true → most_places ≤ length d.places → IsNextFault d row fault.Size
 too-many-places d row k e there known many above h =
     let full : nat_le most_places (length d.places) ≡ true = le-leb most_places (length d.places) many in
     place-fault d row k above h ∙ rw (e, there, known, full) refl
 
--- what one more row of another kind leaves
-or-false : (b : Bool) → (b || false) ≡ b
-or-false true = refl
-or-false false = refl
-
-frame-kept : (above : List Row) (row : Row) (d : DraftRows) → IsDraft above d → is_frame (kind_of row) ≡ false → first_some (map frame_row (above ++ row ∷ [])) ≡ d.frame
+frame-kept : (above : List Row) (row : Row) (d : DraftRows) → IsDraft above d → is_frame (row_kind row) ≡ false
+    → first_some (map frame_row (above ++ row ∷ [])) ≡ d.frame
 frame-kept above row d h e =
     ap first_some (map-append frame_row above (row ∷ [])) ∙ ap (λ (o : Option FrameRow). first_some (map frame_row above ++ o ∷ [])) (frame_row-other row e)
     ∙ first_some-kept (map frame_row above) ∙ h.frame
 
-has_frame-is : (above : List Row) (row : Row) (b : Bool) → is_frame (kind_of row) ≡ b → has_frame (above ++ row ∷ []) ≡ (has_frame above || (b || false))
+has_frame-is : (above : List Row) (row : Row) (b : Bool) → is_frame (row_kind row) ≡ b → has_frame (above ++ row ∷ []) ≡ (has_frame above || (b || false))
 has_frame-is above row b e =
-    list_any-append (λ (fields : Row). is_frame (kind_of fields)) above (row ∷ []) ∙ ap (λ (b : Bool). has_frame above || (b || false)) e
+    list_any-append (λ (fields : Row). is_frame (row_kind fields)) above (row ∷ []) ∙ ap (λ (b : Bool). has_frame above || (b || false)) e
 
-has_frame-kept : (above : List Row) (row : Row) (d : DraftRows) → IsDraft above d → is_frame (kind_of row) ≡ false → has_frame (above ++ row ∷ []) ≡ is_some d.frame
+has_frame-kept : (above : List Row) (row : Row) (d : DraftRows) → IsDraft above d → is_frame (row_kind row) ≡ false
+    → has_frame (above ++ row ∷ []) ≡ is_some d.frame
 has_frame-kept above row d h e = has_frame-is above row false e ∙ or-false (has_frame above) ∙ h.frame_there
 
-names-kept : (above : List Row) (row : Row) (d : DraftRows) → IsDraft above d → is_param (kind_of row) ≡ false → names_of (above ++ row ∷ []) ≡ map (λ (p : ParamRow). p.name) d.params
+names-kept : (above : List Row) (row : Row) (d : DraftRows) → IsDraft above d → is_param (row_kind row) ≡ false
+    → names_of (above ++ row ∷ []) ≡ map (λ (p : ParamRow). p.name) d.params
 names-kept above row d h e =
     names-push above row ∙ ap (λ (b : Bool). names_of above ++ map (λ (fields : Row). field fields 1) (cond b (row ∷ []) [])) e
     ∙ append-nil (names_of above) ∙ h.names
 
-params-kept : (above : List Row) (row : Row) (d : DraftRows) → IsDraft above d → is_param (kind_of row) ≡ false → (table_of (above ++ row ∷ [])).params ≡ d.params
+params-kept : (above : List Row) (row : Row) (d : DraftRows) → IsDraft above d → is_param (row_kind row) ≡ false
+    → (table_of (above ++ row ∷ [])).params ≡ d.params
 params-kept above row d h e =
     params-push above row d h ∙ ap (λ (o : Option ParamRow). d.params ++ cons_option o []) (param_row-other d.rows row e) ∙ append-nil d.params
 
-places-kept : (above : List Row) (row : Row) (d : DraftRows) → IsDraft above d → is_place (kind_of row) ≡ false → (table_of (above ++ row ∷ [])).places ≡ d.places
+places-kept : (above : List Row) (row : Row) (d : DraftRows) → IsDraft above d → is_place (row_kind row) ≡ false
+    → (table_of (above ++ row ∷ [])).places ≡ d.places
 places-kept above row d h e =
     places-push above row d h
-    ∙ ap (λ (o : Option PlaceRow). d.places ++ cons_option o []) (place_row-other (param_named (above ++ row ∷ []) (name_in row)) d.rows row e) ∙ append-nil d.places
+    ∙ ap (λ (o : Option PlaceRow). d.places ++ cons_option o []) (place_row-other (param_named (above ++ row ∷ []) (name_in row)) d.rows row e)
+    ∙ append-nil d.places
 
-count-is : (above : List Row) (row : Row) (b : Bool) → is_place (kind_of row) ≡ b → place_count (above ++ row ∷ []) ≡ place_count above + length (cond b (row ∷ []) [])
+count-is : (above : List Row) (row : Row) (b : Bool) → is_place (row_kind row) ≡ b
+    → place_count (above ++ row ∷ []) ≡ place_count above + length (cond b (row ∷ []) [])
 count-is above row b e =
-    ap length (filter-append (λ (fields : Row). is_place (kind_of fields)) above (row ∷ []))
-    ∙ length-append (filter (λ (fields : Row). is_place (kind_of fields)) above) (filter (λ (fields : Row). is_place (kind_of fields)) (row ∷ []))
+    ap length (filter-append (λ (fields : Row). is_place (row_kind fields)) above (row ∷ []))
+    ∙ length-append (filter (λ (fields : Row). is_place (row_kind fields)) above) (filter (λ (fields : Row). is_place (row_kind fields)) (row ∷ []))
     ∙ ap (λ (b : Bool). place_count above + length (cond b (row ∷ []) [])) e
 
-count-kept : (above : List Row) (row : Row) (d : DraftRows) → IsDraft above d → is_place (kind_of row) ≡ false → place_count (above ++ row ∷ []) ≡ length d.places
+count-kept : (above : List Row) (row : Row) (d : DraftRows) → IsDraft above d → is_place (row_kind row) ≡ false
+    → place_count (above ++ row ∷ []) ≡ length d.places
 count-kept above row d h e = omega (arith, count-is above row false e, h.count)
 
-named-push : (above : List Row) (row : Row) (d : DraftRows) → IsDraft above d → IsNamed (above ++ row ∷ []) row → All (IsNamed (above ++ row ∷ [])) (above ++ row ∷ [])
+named-push : (above : List Row) (row : Row) (d : DraftRows) → IsDraft above d → IsNamed (above ++ row ∷ []) row
+    → All (IsNamed (above ++ row ∷ [])) (above ++ row ∷ [])
 named-push above row d h new =
     All-push (IsNamed (above ++ row ∷ [])) above row
     (All-weaker (IsNamed above) (IsNamed (above ++ row ∷ [])) (λ r named e. has_name-push above row (field r 1) (named e)) above h.named) new
 
-no-place : (above : List Row) (row : Row) → is_place (kind_of row) ≡ false → IsNamed above row
+no-place : (above : List Row) (row : Row) → is_place (row_kind row) ≡ false → IsNamed above row
 no-place above row e place = absurd (false≢true (sym e ∙ place))
 
 rows-push : (above : List Row) (row : Row) (d : DraftRows) → IsDraft above d → length (above ++ row ∷ []) ≡ d.rows + 1
 rows-push above row d h = omega (arith, length-append above (row ∷ []), h.rows)
 
 -- the draft with one more row
-pub frame-next : (d : DraftRows) (row : Row) (f : FrameRow) → kind_of row ≡ Some kind.Frame → frame_row row ≡ Some f → is_some d.frame ≡ false
+pub frame-next : (d : DraftRows) (row : Row) (f : FrameRow) → row_kind row ≡ Some kind.Frame → frame_row row ≡ Some f → is_some d.frame ≡ false
     → IsNextDraft d row (with_entry d (entry.Frame f))
 frame-next d row f k e there above h =
     let no_frame : d.frame ≡ None = none-from d.frame d.frame refl there in
@@ -182,7 +179,8 @@ frame-next d row f k e there above h =
       rows = rows-push above row d h;
     }
 
-pub param-next : (d : DraftRows) (row : Row) (p : ParamRow) → kind_of row ≡ Some kind.Param → param_misread row ≡ None → param_row d.rows row ≡ Some p → is_some d.frame ≡ true
+pub param-next : (d : DraftRows) (row : Row) (p : ParamRow) → row_kind row ≡ Some kind.Param → param_misread row ≡ None → param_row d.rows row ≡ Some p
+    → is_some d.frame ≡ true
     → is_some (index_named d.params (name_in row)) ≡ false → length d.params < most_params → IsNextDraft d row (with_entry d (entry.Param p))
 param-next d row p k m e there twice few above h =
     let named = named-right row m (param_row-right d.rows row p e) in
@@ -194,7 +192,8 @@ param-next d row p k m e there twice few above h =
       frame_there = has_frame-kept above row d h (ap is_frame k);
       params = params-push above row d h ∙ ap (λ (o : Option ParamRow). d.params ++ cons_option o []) e;
       names = names-push above row ∙ ap (λ (b : Bool). names_of above ++ map (λ (fields : Row). field fields 1) (cond b (row ∷ []) [])) (ap is_param k)
-          ∙ ap (λ (ns : List (List ℕ)). ns ++ name_in row ∷ []) h.names ∙ ap (λ (n : List ℕ). map (λ (q : ParamRow). q.name) d.params ++ n ∷ []) (param_row-name d.rows row p e)
+          ∙ ap (λ (ns : List (List ℕ)). ns ++ name_in row ∷ []) h.names
+          ∙ ap (λ (n : List ℕ). map (λ (q : ParamRow). q.name) d.params ++ n ∷ []) (param_row-name d.rows row p e)
           ∙ sym (map-append (λ (q : ParamRow). q.name) d.params (p ∷ []));
       places = places-kept above row d h (ap is_place k);
       count = count-kept above row d h (ap is_place k);
@@ -202,8 +201,10 @@ param-next d row p k m e there twice few above h =
       rows = rows-push above row d h;
     }
 
-pub place-next : (d : DraftRows) (row : Row) (l : PlaceRow) → kind_of row ≡ Some kind.Place → place_row (unwrap_or (index_named d.params (name_in row)) 0) d.rows row ≡ Some l
-    → is_some d.frame ≡ true → is_some (index_named d.params (name_in row)) ≡ true → length d.places < most_places → IsNextDraft d row (with_entry d (entry.Place l))
+pub place-next : (d : DraftRows) (row : Row) (l : PlaceRow) → row_kind row ≡ Some kind.Place
+    → place_row (unwrap_or (index_named d.params (name_in row)) 0) d.rows row ≡ Some l
+    → is_some d.frame ≡ true → is_some (index_named d.params (name_in row)) ≡ true → length d.places < most_places
+    → IsNextDraft d row (with_entry d (entry.Place l))
 place-next d row l k e there known few above h =
     let name = has_name-is above d (name_in row) h ∙ known in
     let param = param_named-push above row (name_in row) name ∙ param_named-is above d (name_in row) h in
@@ -216,7 +217,8 @@ place-next d row l k e there known few above h =
       frame_there = has_frame-kept above row d h (ap is_frame k);
       params = params-kept above row d h (ap is_param k);
       names = names-kept above row d h (ap is_param k);
-      places = places-push above row d h ∙ ap (λ (i : ℕ). d.places ++ cons_option (place_row i d.rows row) []) param ∙ ap (λ (o : Option PlaceRow). d.places ++ cons_option o []) e;
+      places = places-push above row d h ∙ ap (λ (i : ℕ). d.places ++ cons_option (place_row i d.rows row) []) param
+          ∙ ap (λ (o : Option PlaceRow). d.places ++ cons_option o []) e;
       count = omega (arith, count-is above row true (ap is_place k), h.count, length-append d.places (l ∷ []));
       named = named-push above row d h (λ place. has_name-push above row (name_in row) name);
       rows = rows-push above row d h;
@@ -227,7 +229,7 @@ never-none : (m : Option TableFault) (f : TableFault) (rest : List (Option Table
 never-none None f rest e = cc
 never-none (Some g) f rest e = cc
 
-first-is-frame : (row : Row) (k : Option RowKind) → kind_of row ≡ k → row_fault [] row ≡ None → is_frame (kind_of row) ≡ true
+first-is-frame : (row : Row) (k : Option RowKind) → row_kind row ≡ k → row_fault [] row ≡ None → is_frame (row_kind row) ≡ true
 first-is-frame row None e none = let shape = ap (λ o. option_map_or (kind_fault [] row) o (Some fault.Shape)) e in cc
 first-is-frame row (Some kind.Frame) e none = ap is_frame e
 first-is-frame row (Some kind.Param) e none = absurd (never-none (param_misread row) fault.NoFrame _ (sym (by-kind [] row kind.Param e) ∙ none))
@@ -236,6 +238,6 @@ first-is-frame row (Some kind.Place) e none = absurd (never-none (place_misread 
 pub no-frame-no-rows : (rows : List Row) (d : DraftRows) → IsDraft rows d → is_some d.frame ≡ false → rows ≡ []
 no-frame-no-rows [] d h e = refl
 no-frame-no-rows (r ∷ rest) d h e =
-    let first = first-is-frame r (kind_of r) refl (h.no_fault 0 (omega arith)) in
+    let first = first-is-frame r (row_kind r) refl (h.no_fault 0 (omega arith)) in
     let there = ap (λ (b : Bool). b || has_frame rest) first in
     absurd (false≢true (sym (h.frame_there ∙ e) ∙ there))

@@ -1,5 +1,6 @@
 -- The records that a reader gives one after the other are all records of its text.
-use Rattle.std.proofs.Common.{◌≡◌, ap, subst, refl, ℕ, zero, suc, ◌+◌, ◌<◌, ◌≤◌, Bool, true, false, List, [], ◌∷◌, ◌++◌, length, Option, Some, None, arith, length-append}
+use Rattle.std.proofs.Common.{◌≡◌, ap, subst, refl, ℕ, zero, suc, ◌+◌, ◌<◌, ◌≤◌, Bool, true, false, List, [], ◌∷◌, ◌++◌, length, Option, Some, None, arith}
+use Rattle.std.proofs.Common.{length-append}
 use Rattle.std.proofs.lemmas.Bool.{false≢true}
 use Rattle.std.specs.Prelude.{if◌then◌else◌, ◌==◌, ◌||◌}
 use Rattle.csv.specs.Machine.{Read, next_record, step, ends_at_end, is_end, fields_after, field_after}
@@ -56,7 +57,8 @@ unfolding next_record
 shrinks s fields part [] q e = at-end (ends_at_end s) (fields ++ (part ∷ [])) q e
 shrinks s fields part (c ∷ rest) q e =
     let h = one-byte (is_end (step default_config s c).1) (fields_after (step default_config s c).1 fields part, (step default_config s c).0, rest) q
-    (next_record default_config (step default_config s c).0 (fields_after (step default_config s c).1 fields part) (field_after (step default_config s c).1 c part) rest)
+    (next_record default_config (step default_config s c).0 (fields_after (step default_config s c).1 fields part)
+    (field_after (step default_config s c).1 c part) rest)
     rest (λ b. (after-end s c b, omega arith))
     (shrinks (step default_config s c).0 (fields_after (step default_config s c).1 fields part) (field_after (step default_config s c).1 c part) rest q) e in
     (h.0, omega (arith, h.1))
@@ -69,7 +71,8 @@ takes-byte s [] q open_end e =
     let never = rw open_end at none in cc
 takes-byte s (c ∷ rest) q open_end e =
     let h = one-byte (is_end (step default_config s c).1) (fields_after (step default_config s c).1 [] [], (step default_config s c).0, rest) q
-    (next_record default_config (step default_config s c).0 (fields_after (step default_config s c).1 [] []) (field_after (step default_config s c).1 c []) rest)
+    (next_record default_config (step default_config s c).0 (fields_after (step default_config s c).1 [] []) (field_after (step default_config s c).1 c [])
+    rest)
     rest (λ b. (after-end s c b, omega arith)) (shrinks _ _ _ rest q) e in
     omega (arith, h.1)
 
@@ -112,7 +115,8 @@ pub records-are : (xs : List ℕ) (rows : List (List (List ℕ))) → AreRecords
 records-are xs rows h = all-reached rows (length xs + 1) st.StartRecord h.0 xs h.1 refl h.2 h.3 (omega arith)
 
 -- a text has no more records than bytes, and one more
-next-few : (more : State → List ℕ → List (List (List ℕ))) (n : ℕ) (o : Option Read) → ((s : State) (xs : List ℕ) → length (more s xs) ≤ n) → length (records_next more o) ≤ n + 1
+next-few : (more : State → List ℕ → List (List (List ℕ))) (n : ℕ) (o : Option Read) → ((s : State) (xs : List ℕ) → length (more s xs) ≤ n)
+    → length (records_next more o) ≤ n + 1
 next-few more n None few = omega arith
 next-few more n (Some p) few = let rest = few p.1 p.2 in omega (arith, rest)
 

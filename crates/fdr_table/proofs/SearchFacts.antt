@@ -1,5 +1,6 @@
 -- Facts about the first element that passes a test, and the first option that is there.
-use Rattle.std.proofs.Common.{◌≡◌, ◌∙◌, sym, ap, refl, ℕ, zero, suc, ◌+◌, ◌<◌, Bool, true, false, ◌||◌, cond, List, [], ◌∷◌, ◌++◌, length, map, Option, Some, None, arith, add-zero, length-append}
+use Rattle.std.proofs.Common.{◌≡◌, ◌∙◌, sym, ap, refl, ℕ, zero, suc, ◌+◌, ◌<◌, Bool, true, false, ◌||◌, cond, List, [], ◌∷◌, ◌++◌, length, map, Option, Some}
+use Rattle.std.proofs.Common.{None, arith, add-zero, length-append}
 use Rattle.std.specs.Prelude.{is_some, not, position, unwrap_or}
 use Rattle.std.specs.List.{list_any, position_or_len, range_with_len}
 use Rattle.std.proofs.lemmas.Bool.{false≢true}
@@ -69,7 +70,8 @@ first_some-kept (Some a ∷ xs) = refl
 shifted : (s j : ℕ) → s + 1 + j ≡ s + suc j
 shifted s j = omega arith
 
-pub first_some-at : {A : Type 0} (g : ℕ → Option A) (s n k : ℕ) (x : A) → k < n → ((j : ℕ) → j < k → g (s + j) ≡ None) → g (s + k) ≡ Some x → first_some (map g (range_with_len s n)) ≡ Some x
+pub first_some-at : {A : Type 0} (g : ℕ → Option A) (s n k : ℕ) (x : A) → k < n → ((j : ℕ) → j < k → g (s + j) ≡ None) → g (s + k) ≡ Some x
+    → first_some (map g (range_with_len s n)) ≡ Some x
 first_some-at g s zero k x lt before here = absurd (omega arith)
 first_some-at g s (suc n) zero x lt before here =
     let e : g s ≡ Some x = ap g (sym (add-zero s)) ∙ here in
@@ -85,7 +87,8 @@ first_some-none g s (suc n) none =
     rw e (first_some-none g (s + 1) n (λ j h. ap g (shifted s j) ∙ none (suc j) (omega arith)))
 
 -- one more element at the end
-push-any : {A : Type 0} (p : A → Bool) (xs : List A) (y : A) (b : Bool) → list_any p xs ≡ false → p y ≡ b → position p (xs ++ y ∷ []) ≡ cond b (Some (length xs)) None
+push-any : {A : Type 0} (p : A → Bool) (xs : List A) (y : A) (b : Bool) → list_any p xs ≡ false → p y ≡ b
+    → position p (xs ++ y ∷ []) ≡ cond b (Some (length xs)) None
 push-any p xs y true none e =
     let at : position_or_len p (xs ++ y ∷ []) ≡ length xs = grind (arith, nat_tests, position_or_len_push p xs y, none-position p xs none) in
     there p (xs ++ y ∷ []) (omega (arith, at, length-append xs (y ∷ []))) ∙ ap Some at

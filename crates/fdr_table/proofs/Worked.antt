@@ -1,8 +1,8 @@
 -- The faults of some small tables.
 use Rattle.std.proofs.Common.{◌≡◌, refl, ℕ, List, [], ◌∷◌, Some, None}
 use Rattle.std.specs.Prelude.{codes}
-use Rattle.fdr_table.specs.Fields.{decimal_of, word_count_of, number_in, number_of, signed_within, label_of, sdi_of, subframes_of, sign_of, is_name}
-use Rattle.fdr_table.specs.Reading.{Row, field, kind_of, frame_misread, param_misread, place_misread, misnamed}
+use Rattle.fdr_table.specs.Fields.{decimal_of, word_count_of, number_in, number_among, signed_within, label_field, sdi_field, subframes_of, sign_of, is_name}
+use Rattle.fdr_table.specs.Reading.{Row, field, row_kind, frame_misread, param_misread, place_misread, misnamed}
 use Rattle.fdr_table.specs.Faults.{first_fault}
 use Rattle.fdr_table.specs.declared.fault.TableFault.TheVariants as fault
 
@@ -10,7 +10,8 @@ abbrev frame : Row
 frame = codes "F" ∷ codes "64" ∷ codes "2" ∷ codes "1" ∷ []
 
 abbrev param : List ℕ → Row
-param name = codes "P" ∷ name ∷ codes "0" ∷ codes "203" ∷ [] ∷ codes "11" ∷ codes "12" ∷ codes "U" ∷ codes "1" ∷ codes "1" ∷ codes "0" ∷ codes "0" ∷ codes "16" ∷ []
+param name = codes "P" ∷ name ∷ codes "0" ∷ codes "203" ∷ [] ∷ codes "11" ∷ codes "12" ∷ codes "U" ∷ codes "1" ∷ codes "1" ∷ codes "0" ∷ codes "0" ∷ codes "16"
+    ∷ []
 
 abbrev place : List ℕ → List ℕ → List ℕ → Row
 place name cycle period = codes "L" ∷ name ∷ codes "1" ∷ codes "1" ∷ codes "10" ∷ codes "0" ∷ codes "1" ∷ codes "12" ∷ cycle ∷ period ∷ []
@@ -19,52 +20,59 @@ no-row : first_fault [] ≡ Some (0, fault.NoFrame)
 no-row = refl
 
 letter : first_fault ((codes "X" ∷ codes "1" ∷ []) ∷ []) ≡ Some (0, fault.Shape)
-unfolding kind_of field
+unfolding row_kind field
 letter = refl
 
 count : first_fault ((codes "F" ∷ codes "64" ∷ codes "2" ∷ []) ∷ []) ≡ Some (0, fault.Shape)
-unfolding kind_of field
+unfolding row_kind field
 count = refl
 
 words : first_fault ((codes "F" ∷ codes "65" ∷ codes "2" ∷ codes "1" ∷ []) ∷ []) ≡ Some (0, fault.Number 1)
-unfolding kind_of field frame_misread word_count_of number_in decimal_of
+unfolding row_kind field frame_misread word_count_of number_in decimal_of
 words = refl
 
 param-alone : first_fault (param (codes "ALT") ∷ []) ≡ Some (0, fault.NoFrame)
-unfolding kind_of field param_misread number_in number_of decimal_of signed_within label_of sdi_of sign_of
+unfolding row_kind field param_misread number_in number_among decimal_of signed_within label_field sdi_field sign_of
 param-alone = refl
 
 two-frames : first_fault (frame ∷ frame ∷ []) ≡ Some (1, fault.TwoFrames)
-unfolding kind_of field frame_misread word_count_of number_in decimal_of
+unfolding row_kind field frame_misread word_count_of number_in decimal_of
 two-frames = refl
 
 name : first_fault (frame ∷ param (codes "A B") ∷ place (codes "A B") (codes "0") (codes "1") ∷ []) ≡ Some (1, fault.Name)
-unfolding kind_of field frame_misread param_misread place_misread misnamed word_count_of number_in number_of decimal_of signed_within label_of sdi_of sign_of subframes_of is_name
+unfolding row_kind field frame_misread param_misread place_misread misnamed word_count_of number_in number_among decimal_of signed_within label_field sdi_field
+    sign_of subframes_of is_name
 name = refl
 
 twice : first_fault (frame ∷ param (codes "ALT") ∷ param (codes "ALT") ∷ []) ≡ Some (2, fault.Twice)
-unfolding kind_of field frame_misread param_misread place_misread misnamed word_count_of number_in number_of decimal_of signed_within label_of sdi_of sign_of subframes_of is_name
+unfolding row_kind field frame_misread param_misread place_misread misnamed word_count_of number_in number_among decimal_of signed_within label_field sdi_field
+    sign_of subframes_of is_name
 twice = refl
 
 unknown : first_fault (frame ∷ place (codes "ALT") (codes "0") (codes "1") ∷ []) ≡ Some (1, fault.Unknown)
-unfolding kind_of field frame_misread param_misread place_misread misnamed word_count_of number_in number_of decimal_of signed_within label_of sdi_of sign_of subframes_of is_name
+unfolding row_kind field frame_misread param_misread place_misread misnamed word_count_of number_in number_among decimal_of signed_within label_field sdi_field
+    sign_of subframes_of is_name
 unknown = refl
 
 abbrev with_cycle : List ℕ → List ℕ → List Row
 with_cycle cycle period = frame ∷ param (codes "ALT") ∷ place (codes "ALT") cycle period ∷ []
 
 cycle-not-below : first_fault (with_cycle (codes "1") (codes "1")) ≡ Some (2, fault.Number 8)
-unfolding kind_of field frame_misread param_misread place_misread misnamed word_count_of number_in number_of decimal_of signed_within label_of sdi_of sign_of subframes_of is_name
+unfolding row_kind field frame_misread param_misread place_misread misnamed word_count_of number_in number_among decimal_of signed_within label_field sdi_field
+    sign_of subframes_of is_name
 cycle-not-below = refl
 
 cycle-right : first_fault (with_cycle (codes "5") (codes "3")) ≡ Some (2, fault.Number 9)
-unfolding kind_of field frame_misread param_misread place_misread misnamed word_count_of number_in number_of decimal_of signed_within label_of sdi_of sign_of subframes_of is_name
+unfolding row_kind field frame_misread param_misread place_misread misnamed word_count_of number_in number_among decimal_of signed_within label_field sdi_field
+    sign_of subframes_of is_name
 cycle-right = refl
 
 cycle-out : first_fault (with_cycle (codes "16") (codes "3")) ≡ Some (2, fault.Number 8)
-unfolding kind_of field frame_misread param_misread place_misread misnamed word_count_of number_in number_of decimal_of signed_within label_of sdi_of sign_of subframes_of is_name
+unfolding row_kind field frame_misread param_misread place_misread misnamed word_count_of number_in number_among decimal_of signed_within label_field sdi_field
+    sign_of subframes_of is_name
 cycle-out = refl
 
 no-fault : first_fault (with_cycle (codes "3") (codes "4")) ≡ None
-unfolding kind_of field frame_misread param_misread place_misread misnamed word_count_of number_in number_of decimal_of signed_within label_of sdi_of sign_of subframes_of is_name
+unfolding row_kind field frame_misread param_misread place_misread misnamed word_count_of number_in number_among decimal_of signed_within label_field sdi_field
+    sign_of subframes_of is_name
 no-fault = refl

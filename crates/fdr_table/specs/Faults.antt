@@ -1,9 +1,11 @@
 -- The faults of a table's rows, in the order of their numbers.
-use Rattle.std.specs.Prelude.{ℕ, Bool, not, nat_le, nat_lt, if◌then◌else◌, List, [], ◌∷◌, length, map, filter, take, bytes_eq, slice_index_or, Option, Some, None, option_map}
+use Rattle.std.specs.Prelude.{ℕ, Bool, not, nat_le, nat_lt, if◌then◌else◌, List, [], ◌∷◌, length, map, filter, take, bytes_eq, slice_index_or, Option, Some}
+use Rattle.std.specs.Prelude.{None, option_map}
 use Rattle.std.specs.Option.{option_map_or}
 use Rattle.std.specs.List.{list_any, range_with_len}
 use Rattle.fdr_table.specs.Bounds.{most_table_bytes, most_params, most_places}
-use Rattle.fdr_table.specs.Reading.{Row, records_of, field, kind_of, is_frame, is_param, is_place, first_some, frame_misread, param_misread, place_misread, misnamed, names_of}
+use Rattle.fdr_table.specs.Reading.{Row, records_of, field, row_kind, is_frame, is_param, is_place, first_some, frame_misread, param_misread, place_misread}
+use Rattle.fdr_table.specs.Reading.{misnamed, names_of}
 use Rattle.fdr_table.specs.declared.row.RowKind.{RowKind}
 use Rattle.fdr_table.specs.declared.row.RowKind.TheVariants as kind
 use Rattle.fdr_table.specs.declared.fault.TableFault.{TableFault}
@@ -14,16 +16,16 @@ abbrev pub where_true : Bool → TableFault → Option TableFault
 where_true b f = if b then Some f else None
 
 abbrev pub has_frame : List Row → Bool
-has_frame rows = list_any (λ (fields : Row). is_frame (kind_of fields)) rows
+has_frame rows = list_any (λ (fields : Row). is_frame (row_kind fields)) rows
 
 abbrev pub has_name : List Row → List ℕ → Bool
 has_name rows name = list_any (λ other. bytes_eq other name) (names_of rows)
 
 abbrev pub param_count : List Row → ℕ
-param_count rows = length (filter (λ (fields : Row). is_param (kind_of fields)) rows)
+param_count rows = length (filter (λ (fields : Row). is_param (row_kind fields)) rows)
 
 abbrev pub place_count : List Row → ℕ
-place_count rows = length (filter (λ (fields : Row). is_place (kind_of fields)) rows)
+place_count rows = length (filter (λ (fields : Row). is_place (row_kind fields)) rows)
 
 -- the fault of a row of each kind below the rows `above`
 abbrev pub kind_fault : List Row → Row → RowKind → Option TableFault
@@ -44,7 +46,7 @@ kind_fault above fields kind.Place = first_some (
 
 -- the fault of a row below the rows `above`
 abbrev pub row_fault : List Row → Row → Option TableFault
-row_fault above fields = option_map_or (kind_fault above fields) (kind_of fields) (Some fault.Shape)
+row_fault above fields = option_map_or (kind_fault above fields) (row_kind fields) (Some fault.Shape)
 
 -- the first row with a fault, and its fault; a table with no row has no frame
 abbrev pub first_fault : List Row → Option (ℕ × TableFault)
@@ -54,5 +56,5 @@ first_fault (first ∷ rest) =
     first_some (map (λ i. option_map (λ f. (i, f)) (row_fault (take i rows) (slice_index_or rows i []))) (range_with_len 0 (length rows)))
 
 -- the first fault of a table's bytes, and its row: their number comes before the rows
-unfoldable pub fault_of : List ℕ → Option (ℕ × TableFault)
-fault_of bytes = if nat_lt most_table_bytes (length bytes) then Some (0, fault.Size) else first_fault (records_of bytes)
+unfoldable pub table_bytes_fault : List ℕ → Option (ℕ × TableFault)
+table_bytes_fault bytes = if nat_lt most_table_bytes (length bytes) then Some (0, fault.Size) else first_fault (records_of bytes)

@@ -1,5 +1,6 @@
 -- What one field of a table's row says.
-use Rattle.std.specs.Prelude.{ℕ, ◌-◌, ◌^◌, ℤ, pos, neg_ℤ, drop, Bool, true, false, ◌==◌, ◌&&◌, ◌||◌, nat_le, nat_lt, if◌then◌else◌, List, [], ◌∷◌, length, sum_by, codes, bytes_eq, Option, Some, None, option_map}
+use Rattle.std.specs.Prelude.{ℕ, ◌-◌, ◌^◌, ℤ, pos, neg_ℤ, drop, Bool, true, false, ◌==◌, ◌&&◌, ◌||◌, nat_le, nat_lt, if◌then◌else◌, List, [], ◌∷◌, length}
+use Rattle.std.specs.Prelude.{sum_by, codes, bytes_eq, Option, Some, None, option_map}
 use Rattle.std.specs.List.{list_all, list_any}
 use Rattle.std.specs.Str.Parse.{digits_value, starts_with_minus}
 use Rattle.fdr_frame.specs.WordCount.{is_word_count}
@@ -27,8 +28,8 @@ abbrev pub is_among : List ℕ → ℕ → Bool
 is_among allowed n = list_any (λ m. m == n) allowed
 
 -- a decimal number that is one of these
-unfoldable pub number_of : List ℕ → List ℕ → Option ℕ
-number_of allowed field = passing (is_among allowed) (decimal_of field)
+unfoldable pub number_among : List ℕ → List ℕ → Option ℕ
+number_among allowed field = passing (is_among allowed) (decimal_of field)
 
 -- a decimal number that is one of words in a subframe
 unfoldable pub word_count_of : List ℕ → Option ℕ
@@ -43,14 +44,14 @@ abbrev pub is_octal_digit : ℕ → Bool
 is_octal_digit byte = nat_le 48 byte && nat_le byte 55
 
 -- a label: 1 to 3 octal digits, 0 to 377
-unfoldable pub label_of : List ℕ → Option ℕ
-label_of field =
+unfoldable pub label_field : List ℕ → Option ℕ
+label_field field =
     if nat_le 1 (length field) && nat_le (length field) 3 && list_all is_octal_digit field
     then passing (λ n. nat_le n most_label) (Some (digits_value 8 field)) else None
 
 -- the SDI that is asked for: any, where the field is empty, or this one
-unfoldable pub sdi_of : List ℕ → Option (Option ℕ)
-sdi_of field = if length field == 0 then Some None else option_map (λ sdi. Some sdi) (number_in 0 most_sdi field)
+unfoldable pub sdi_field : List ℕ → Option (Option ℕ)
+sdi_field field = if length field == 0 then Some None else option_map (λ sdi. Some sdi) (number_in 0 most_sdi field)
 
 -- each number is above the one before it
 abbrev pub is_increasing : List ℕ → Bool

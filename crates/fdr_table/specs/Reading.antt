@@ -1,11 +1,12 @@
 -- What the rows of a table say. Rows and fields are numbered from 0; field 0 is the letter.
-use Rattle.std.specs.Prelude.{ℕ, ◌+◌, ◌-◌, ◌==◌, ◌&&◌, Bool, true, false, if◌then◌else◌, List, [], ◌∷◌, length, codes, bytes_eq, slice_index_or, map, filter, filter_map, ℤ, pos, Option, Some, None, is_none, unwrap_or, position}
+use Rattle.std.specs.Prelude.{ℕ, ◌+◌, ◌-◌, ◌==◌, ◌&&◌, Bool, true, false, if◌then◌else◌, List, [], ◌∷◌, length, codes, bytes_eq, slice_index_or, map, filter}
+use Rattle.std.specs.Prelude.{filter_map, ℤ, pos, Option, Some, None, is_none, unwrap_or, position}
 use Rattle.std.specs.List.{enumerate_from}
 use Rattle.csv.specs.Reading.{default_config, records, strip_bom}
 use Rattle.fdr_table.specs.Rows.{FrameRow, ParamRow, PlaceRow, TableRows}
 use Rattle.fdr_table.specs.Bounds.{most_words, subframe_count, least_counter_word, frame_word_bits, most_parts, periods}
 use Rattle.fdr_table.specs.Bounds.{bus_word_bits, most_bus, most_scale, most_offset, most_decimals, most_rate}
-use Rattle.fdr_table.specs.Fields.{number_in, number_of, word_count_of, signed_within, label_of, sdi_of, subframes_of, sign_of, is_name}
+use Rattle.fdr_table.specs.Fields.{number_in, number_among, word_count_of, signed_within, label_field, sdi_field, subframes_of, sign_of, is_name}
 use Rattle.fdr_table.specs.declared.row.RowKind.{RowKind}
 use Rattle.fdr_table.specs.declared.row.RowKind.TheVariants as kind
 use Rattle.fdr_table.specs.declared.fault.TableFault.{TableFault}
@@ -24,8 +25,8 @@ unfoldable pub field : Row → ℕ → List ℕ
 field fields i = slice_index_or fields i []
 
 -- a row of each kind has its letter and its count of fields
-unfoldable pub kind_of : Row → Option RowKind
-kind_of fields =
+unfoldable pub row_kind : Row → Option RowKind
+row_kind fields =
     if bytes_eq (field fields 0) (codes "F") && (length fields == 4) then Some kind.Frame
     else if bytes_eq (field fields 0) (codes "P") && (length fields == 13) then Some kind.Param
     else if bytes_eq (field fields 0) (codes "L") && (length fields == 10) then Some kind.Place
@@ -90,7 +91,7 @@ frame_misread fields = first_some (
 -- what a frame row says
 unfoldable pub frame_row : Row → Option FrameRow
 frame_row fields =
-    if is_frame (kind_of fields) && is_none (frame_misread fields) then Some (record {
+    if is_frame (row_kind fields) && is_none (frame_misread fields) then Some (record {
       words = unwrap_or (words_in fields) 0;
       cword = unwrap_or (cword_in fields) 0;
       csub = unwrap_or (csub_in fields) 0;
@@ -101,10 +102,10 @@ abbrev pub bus_in : Row → Option ℕ
 bus_in fields = number_in 0 most_bus (field fields 2)
 
 abbrev pub label_in : Row → Option ℕ
-label_in fields = label_of (field fields 3)
+label_in fields = label_field (field fields 3)
 
 abbrev pub sdi_in : Row → Option (Option ℕ)
-sdi_in fields = sdi_of (field fields 4)
+sdi_in fields = sdi_field (field fields 4)
 
 abbrev pub bus_lsb_in : Row → Option ℕ
 bus_lsb_in fields = number_in 1 bus_word_bits (field fields 5)
@@ -151,7 +152,7 @@ misnamed fields = if is_name (field fields 1) then None else Some fault.Name
 -- what a parameter's row says, as row `number` of its table
 unfoldable pub param_row : ℕ → Row → Option ParamRow
 param_row number fields =
-    if is_param (kind_of fields) && is_none (first_some (param_misread fields ∷ misnamed fields ∷ [])) then Some (record {
+    if is_param (row_kind fields) && is_none (first_some (param_misread fields ∷ misnamed fields ∷ [])) then Some (record {
       name = field fields 1;
       bus = unwrap_or (bus_in fields) 0;
       label = unwrap_or (label_in fields) 0;
@@ -187,7 +188,7 @@ abbrev pub frame_width_in : Row → Option ℕ
 frame_width_in fields = number_in 1 (bits_from frame_word_bits (frame_lsb_in fields)) (field fields 7)
 
 abbrev pub period_in : Row → Option ℕ
-period_in fields = number_of periods (field fields 9)
+period_in fields = number_among periods (field fields 9)
 
 abbrev pub cycle_in : Row → Option ℕ
 cycle_in fields = number_in 0 (last_cycle (period_in fields)) (field fields 8)
@@ -207,7 +208,7 @@ place_misread fields = first_some (
 -- what a place's row says, as row `number` of its table, of the parameter with index `param`
 unfoldable pub place_row : ℕ → ℕ → Row → Option PlaceRow
 place_row param number fields =
-    if is_place (kind_of fields) && is_none (place_misread fields) then Some (record {
+    if is_place (row_kind fields) && is_none (place_misread fields) then Some (record {
       param = param;
       part = unwrap_or (part_in fields) 0;
       subs = unwrap_or (subframes_in fields) 0;
@@ -222,7 +223,7 @@ place_row param number fields =
 
 -- the names of the parameters' rows, in order
 abbrev pub names_of : List Row → List (List ℕ)
-names_of rows = map (λ (fields : Row). field fields 1) (filter (λ (fields : Row). is_param (kind_of fields)) rows)
+names_of rows = map (λ (fields : Row). field fields 1) (filter (λ (fields : Row). is_param (row_kind fields)) rows)
 
 -- the index of the parameter with this name
 abbrev pub param_named : List Row → List ℕ → ℕ

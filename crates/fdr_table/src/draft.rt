@@ -4,7 +4,7 @@ ghost use Rattle.fdr_table.specs.Answers.{refused};
 ghost use Rattle.fdr_table.specs.Bounds.{most_table_bytes};
 ghost use Rattle.fdr_table.specs.Draft.{Fits, IsDraft, IsNextDraft, IsNextFault, with_entry};
 ghost use Rattle.fdr_table.specs.Faults.{first_fault};
-ghost use Rattle.fdr_table.specs.Reading.{kind_of, records_of};
+ghost use Rattle.fdr_table.specs.Reading.{row_kind, records_of};
 ghost use Rattle.fdr_table.specs.declared.draft.Entry.TheVariants as entry;
 ghost use Rattle.fdr_table.specs.declared.fault.TableFault.{TableFault};
 ghost use Rattle.fdr_table.specs.declared.row.RowKind.TheVariants as kind;
@@ -110,7 +110,7 @@ impl Draft {
 
     /// The frame of the next row.
     fn read_frame(&self, row: &ByteRecord) -> Result<Frame, TableFault>
-        requires { kind_of (fields_of row.now) ≡ Some kind.Frame }
+        requires { row_kind (fields_of row.now) ≡ Some kind.Frame }
         ensures fault { IfErr result (λ f. IsNextFault self.now (fields_of row.now) f) }
         ensures frame { IfOk result (λ f. IsNextDraft self.now (fields_of row.now) (with_entry self.now (entry.Frame f))) }
     {
@@ -123,7 +123,7 @@ impl Draft {
 
     /// The parameter of the next row.
     fn read_param(&self, row: &ByteRecord) -> Result<Param, TableFault>
-        requires { kind_of (fields_of row.now) ≡ Some kind.Param }
+        requires { row_kind (fields_of row.now) ≡ Some kind.Param }
         ensures fault { IfErr result (λ f. IsNextFault self.now (fields_of row.now) f) }
         ensures param { IfOk result (λ p. IsNextDraft self.now (fields_of row.now) (with_entry self.now (entry.Param p))) }
         ensures fits { IfOk result (λ p. Fits self.now (entry.Param p)) }
@@ -146,7 +146,7 @@ impl Draft {
 
     /// The place of the next row.
     fn read_place(&self, row: &ByteRecord) -> Result<Place, TableFault>
-        requires { kind_of (fields_of row.now) ≡ Some kind.Place }
+        requires { row_kind (fields_of row.now) ≡ Some kind.Place }
         ensures fault { IfErr result (λ f. IsNextFault self.now (fields_of row.now) f) }
         ensures place { IfOk result (λ l. IsNextDraft self.now (fields_of row.now) (with_entry self.now (entry.Place l))) }
         ensures fits { IfOk result (λ l. Fits self.now (entry.Place l)) }

@@ -4,7 +4,7 @@ ghost use Rattle.std.specs.Option.{option_map_or};
 ghost use Rattle.std.specs.Str.Parse.{digits_value};
 ghost use Rattle.fdr_frame.specs.WordCount.{is_word_count, IsWordCount};
 ghost use Rattle.fdr_table.specs.Bounds.{most_sdi};
-ghost use Rattle.fdr_table.specs.Fields.{is_digit, is_octal_digit, decimal_of, number_in, number_of, word_count_of, is_among, signed_within, label_of, sdi_of, is_subframe_digit, subframe_bit, subframes_of, sign_of};
+ghost use Rattle.fdr_table.specs.Fields.{is_digit, is_octal_digit, decimal_of, number_in, number_among, word_count_of, is_among, signed_within, label_field, sdi_field, is_subframe_digit, subframe_bit, subframes_of, sign_of};
 
 /// The number that digits write to a base.
 fn value(digits: &[u8], base: u64) -> u64
@@ -67,9 +67,9 @@ fn is_among(allowed: &[u64], number: u64) -> bool
 }
 
 /// A decimal number that is one of `allowed`.
-#[tactic(auto, unfolding(crate::specs::Fields::number_of))]
+#[tactic(auto, unfolding(crate::specs::Fields::number_among))]
 pub(crate) fn number_of(field: &[u8], allowed: &[u64]) -> Option<u64>
-    ensures exactly { result ≡ number_of allowed.now field.now }
+    ensures exactly { result ≡ number_among allowed.now field.now }
     ensures among { IfSome result (λ n. IsTrue (is_among allowed.now n)) }
 {
     let number = decimal(field)?;
@@ -118,7 +118,7 @@ pub(crate) fn signed_within(field: &[u8], most: u64) -> Option<i64>
 /// A label of 1 to 3 octal digits, 0 to 377.
 #[tactic(auto, using(crate::proofs::FieldFacts::labels))]
 pub(crate) fn label(field: &[u8]) -> Option<u8>
-    ensures { result ≡ label_of field.now }
+    ensures { result ≡ label_field field.now }
 {
     if field.is_empty() || 3 < field.len() || !are_octal_digits(field) {
         return None;
@@ -132,9 +132,9 @@ pub(crate) fn label(field: &[u8]) -> Option<u8>
 }
 
 /// An SDI from 0 to 3, or any where the field is empty.
-#[tactic(auto, unfolding(crate::specs::Fields::sdi_of))]
+#[tactic(auto, unfolding(crate::specs::Fields::sdi_field))]
 pub(crate) fn sdi(field: &[u8]) -> Option<Option<u8>>
-    ensures exactly { result ≡ sdi_of field.now }
+    ensures exactly { result ≡ sdi_field field.now }
     ensures within { IfSome result (λ sdi. IsTrue (option_map_or (λ n. nat_le n most_sdi) sdi true)) }
 {
     if field.is_empty() {

@@ -44,7 +44,7 @@ impl Name {
     /// The name's bytes.
     pub fn bytes(&self) -> &[u8]
         ensures bytes { result.now ≡ self.now }
-        ensures few { length result.now ≤ most_name_bytes }
+        ensures name_limit { length result.now ≤ most_name_bytes }
     {
         &self.bytes[..self.len]
     }

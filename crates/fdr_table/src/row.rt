@@ -1,7 +1,7 @@
 ghost use Rattle.std.specs.Prelude.{◌≡◌, ◌<◌, ◌≤◌, ◌^◌, ◌≤ℤ◌, neg_ℤ, pos, Some, None, IfOk, IfErr, IfSome, [], ◌∷◌};
 ghost use Rattle.csv.specs.Records.{fields_of};
 ghost use Rattle.fdr_table.specs.Fields.{number_in, signed_within};
-ghost use Rattle.fdr_table.specs.Reading.{field, kind_of, first_some, frame_misread, frame_row, last_cycle, misnamed, param_misread, param_row, place_misread, place_row};
+ghost use Rattle.fdr_table.specs.Reading.{field, row_kind, first_some, frame_misread, frame_row, last_cycle, misnamed, param_misread, param_row, place_misread, place_row};
 ghost use Rattle.fdr_table.specs.declared.row.RowKind.TheVariants as kind;
 ghost use Rattle.fdr_table.specs.declared.fault.TableFault.TheVariants as fault;
 
@@ -58,7 +58,7 @@ fn signed_within(row: &ByteRecord, index: u8, most: u64) -> Result<i64, TableFau
 /// The frame of a frame row.
 #[tactic(auto, unfolding(crate::specs::Reading::frame_row, crate::specs::Reading::frame_misread))]
 pub(crate) fn read_frame_row(row: &ByteRecord) -> Result<Frame, TableFault>
-    requires { kind_of (fields_of row.now) ≡ Some kind.Frame }
+    requires { row_kind (fields_of row.now) ≡ Some kind.Frame }
     ensures read { IfOk result (λ frame. frame_row (fields_of row.now) ≡ Some frame) }
     ensures misread { IfErr result (λ f. frame_misread (fields_of row.now) ≡ Some f) }
 {
@@ -75,7 +75,7 @@ pub(crate) fn read_frame_row(row: &ByteRecord) -> Result<Frame, TableFault>
 /// The parameter of a parameter's row, which is row `number` of its table, or none where its name isn't one.
 #[tactic(auto, unfolding(crate::specs::Reading::param_row, crate::specs::Reading::param_misread, crate::specs::Reading::misnamed))]
 pub(crate) fn read_param_row(row: &ByteRecord, number: u32) -> Result<Option<Param>, TableFault>
-    requires { kind_of (fields_of row.now) ≡ Some kind.Param }
+    requires { row_kind (fields_of row.now) ≡ Some kind.Param }
     ensures read { IfOk result (λ param. param_row number (fields_of row.now) ≡ param) }
     ensures numbers { IfOk result (λ param. param_misread (fields_of row.now) ≡ None) }
     ensures misread { IfErr result (λ f. param_misread (fields_of row.now) ≡ Some f) }
@@ -125,7 +125,7 @@ fn last_cycle(period: Option<u64>) -> u64
 /// The place of a place's row, which is row `number` of its table, of the parameter with index `param`.
 #[tactic(auto, unfolding(crate::specs::Reading::place_row, crate::specs::Reading::place_misread))]
 pub(crate) fn read_place_row(row: &ByteRecord, param: u32, number: u32) -> Result<Place, TableFault>
-    requires { kind_of (fields_of row.now) ≡ Some kind.Place }
+    requires { row_kind (fields_of row.now) ≡ Some kind.Place }
     ensures read { IfOk result (λ place. place_row param number (fields_of row.now) ≡ Some place) }
     ensures misread { IfErr result (λ f. place_misread (fields_of row.now) ≡ Some f) }
 {
@@ -153,9 +153,9 @@ pub(crate) fn read_place_row(row: &ByteRecord, param: u32, number: u32) -> Resul
 }
 
 /// What a row is for, by its letter and its count of fields.
-#[tactic(auto, unfolding(crate::specs::Reading::kind_of))]
+#[tactic(auto, unfolding(crate::specs::Reading::row_kind))]
 pub(crate) fn kind_of(row: &ByteRecord) -> Option<RowKind>
-    ensures { result ≡ kind_of (fields_of row.now) }
+    ensures { result ≡ row_kind (fields_of row.now) }
 {
     let letter = field_at(row, 0);
     let count = row.len();

@@ -1,7 +1,7 @@
 ghost use Rattle.std.specs.Prelude.{◌≡◌, ◌<◌, ℕ, Err, Some, None, IfOk, length, option_map};
 ghost use Rattle.fdr_table.specs.Answers.{refused};
 ghost use Rattle.fdr_table.specs.Bounds.{most_table_bytes};
-ghost use Rattle.fdr_table.specs.Faults.{fault_of};
+ghost use Rattle.fdr_table.specs.Faults.{table_bytes_fault};
 ghost use Rattle.fdr_table.specs.Reading.{records_of, table_of};
 ghost use Rattle.fdr_table.specs.declared.fault.TableFault.{TableFault};
 ghost use Rattle.fdr_table.specs.declared.fault.TableFault.TheVariants as fault;
@@ -44,11 +44,11 @@ impl Table {
     ///
     /// A table of more than 1,048,576 bytes is refused for its size, before any memory is taken. Of any other each row is
     /// judged before the next is read, so that memory is held for one row beside what the rows above it say.
-    #[tactic(auto, unfolding(crate::specs::Faults::fault_of))]
+    #[tactic(auto, unfolding(crate::specs::Faults::table_bytes_fault))]
     pub fn read(alloc: Global, bytes: &[u8]) -> Result<Table, TableError>
         ensures table { IfOk result (λ t. t ≡ table_of (records_of bytes.now)) }
-        ensures no_fault { IfOk result (λ t. fault_of bytes.now ≡ None) }
-        ensures refused { (row : ℕ) (f : TableFault) → result ≡ Err (refused row f) → fault_of bytes.now ≡ Some (row, f) }
+        ensures no_fault { IfOk result (λ t. table_bytes_fault bytes.now ≡ None) }
+        ensures refused { (row : ℕ) (f : TableFault) → result ≡ Err (refused row f) → table_bytes_fault bytes.now ≡ Some (row, f) }
         ensures too_large { most_table_bytes < length bytes.now → result ≡ Err (refused 0 fault.Size) }
     {
         if MAX_BYTES < bytes.len() {

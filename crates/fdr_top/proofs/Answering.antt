@@ -7,7 +7,7 @@ use Rattle.fdr_deck.specs.State.{State, Tells}
 use Rattle.fdr_deck.specs.Calls.{LeavesDisk, Passes}
 use Rattle.fdr_bus.specs.Records.{good_prefix}
 use Rattle.fdr_check.specs.Soundness.{IsSound}
-use Rattle.fdr_ring.specs.Formatting.{fault_of}
+use Rattle.fdr_recover.specs.ImageHeader.{image_fault_of}
 use Rattle.fdr_slot.specs.declared.image.Header.{Header}
 use Rattle.fdr_slot.specs.declared.image.ImageFault.{ImageFault}
 use Rattle.fdr_table.specs.Ranges.{IsInRange}
@@ -233,7 +233,7 @@ making_done h tells old new answer of makes told none quiet = ⊎_elim
 
 -- what the disk holds is an image, and nothing fails: its run is written, or memory ended
 pub recovery_done : (tells : Tells) (old new : State) (before now : Option (List ℕ)) (answer : Outcome) → IsOfRecovery answer
-    → RecoversImage tells old new before now answer → IsTrue tells.bytes → fault_of old.held ≡ None
+    → RecoversImage tells old new before now answer → IsTrue tells.bytes → image_fault_of old.held ≡ None
     → (answer ≡ outcome.DiskFault → ⊥) → (answer ≡ outcome.WriteFault → ⊥)
     → (answer ≡ outcome.Done) ⊎ (answer ≡ outcome.NoMemory)
 recovery_done tells old new before now outcome.Done of recovers told none disk sink = inl refl

@@ -6,15 +6,15 @@ use Rattle.fdr_io.specs.Told.{followed_by}
 use Rattle.fdr_io.specs.declared.Input.TheVariants as input
 use Rattle.fdr_io.proofs.Telling.{followed_by-nil}
 use Rattle.fdr_deck.specs.State.{State, Tells}
-use Rattle.fdr_deck.specs.Moments.{IsSound}
+use Rattle.fdr_deck.specs.Moments.{IsSoundDeck}
 use Rattle.fdr_slot.specs.declared.image.Header.{Header}
 use Rattle.fdr_slot.specs.declared.image.ImageFault.{ImageFault}
 use Rattle.fdr_slot.specs.declared.image.ImageFault.TheVariants as fault
 use Rattle.fdr_recover.specs.Images.{recovered_run}
 use Rattle.fdr_recover.specs.Looks.{Looks}
-use Rattle.fdr_ring.specs.Formatting.{fault_of, header_in}
-use Rattle.fdr_ring.specs.declared.error.RingFault.{RingFault}
-use Rattle.fdr_ring.specs.declared.error.RingFault.TheVariants as ring
+use Rattle.fdr_recover.specs.ImageHeader.{image_fault_of, header_in}
+use Rattle.fdr_recover.specs.declared.error.RingFault.{RingFault}
+use Rattle.fdr_recover.specs.declared.error.RingFault.TheVariants as ring
 use Rattle.fdr_deck.proofs.Moments.{IsQuiet-here}
 use Rattle.fdr_deck.proofs.Quiet.{IsQuiet-then}
 use Rattle.fdr_top.specs.declared.outcome.Outcome.{Outcome}
@@ -23,7 +23,7 @@ use Rattle.fdr_top.specs.Answers.{IsOfRecovery}
 use Rattle.fdr_top.specs.Recover.{OnlyLooks, Recovers, RecoversImage, header_refusal, payloads_of, run_in}
 
 -- one look behind another
-OnlyLooks-then : (tells : Tells) (old mid new : State) → IsSound tells old → OnlyLooks tells old mid → Looks tells mid new → OnlyLooks tells old new
+OnlyLooks-then : (tells : Tells) (old mid new : State) → IsSoundDeck tells old → OnlyLooks tells old mid → Looks tells mid new → OnlyLooks tells old new
 OnlyLooks-then tells old mid new sound first second = record {
   learns = record {
     bytes = λ told. second.extent ∙ first.learns.bytes told;
@@ -41,8 +41,8 @@ OnlyLooks-then tells old mid new sound first second = record {
 
 -- where nothing is written, and it isn't done
 pub nothing_recovered : (tells : Tells) (old new : State) (written : Option (List ℕ)) (answer : Outcome) → OnlyLooks tells old new → (answer ≡ outcome.Done → ⊥)
-    → ((answer ≡ outcome.DiskFault → ⊥) → ((why : ImageFault) → answer ≡ outcome.ImageRefused why → ⊥) → IsTrue tells.bytes → fault_of old.held ≡ None)
-    → ((why : ImageFault) → answer ≡ outcome.ImageRefused why → IsTrue tells.bytes → fault_of old.held ≡ Some why)
+    → ((answer ≡ outcome.DiskFault → ⊥) → ((why : ImageFault) → answer ≡ outcome.ImageRefused why → ⊥) → IsTrue tells.bytes → image_fault_of old.held ≡ None)
+    → ((why : ImageFault) → answer ≡ outcome.ImageRefused why → IsTrue tells.bytes → image_fault_of old.held ≡ Some why)
     → ((why : ImageFault) → answer ≡ outcome.ImageRefused why → (why ≡ fault.Small) ↔ (new.extent < 64))
     → (answer ≡ outcome.DiskFault → Rose old.disk_faults new.disk_faults) → Recovers tells old new written written answer
 nothing_recovered tells old new written answer looks undone good refused small cause = record {
@@ -59,8 +59,9 @@ same_fault : (a b : ImageFault) → outcome.ImageRefused a ≡ outcome.ImageRefu
 same_fault a b same = cc
 
 -- where the header isn't read
-pub header_unread : (tells : Tells) (old new : State) (written : Option (List ℕ)) (f : RingFault) → OnlyLooks tells old new → (f ≡ ring.NotEmpty → ⊥) → (f ≡ ring.SeqEnd → ⊥)
-    → (IsTrue tells.bytes → (why : ImageFault) → f ≡ ring.Image why → fault_of old.held ≡ Some why)
+pub header_unread : (tells : Tells) (old new : State) (written : Option (List ℕ)) (f : RingFault) → OnlyLooks tells old new → (f ≡ ring.NotEmpty → ⊥)
+    → (f ≡ ring.SeqEnd → ⊥)
+    → (IsTrue tells.bytes → (why : ImageFault) → f ≡ ring.Image why → image_fault_of old.held ≡ Some why)
     → ((why : ImageFault) → f ≡ ring.Image why → (why ≡ fault.Small) ↔ (new.extent < 64))
     → (f ≡ ring.DiskFault → Rose old.disk_faults new.disk_faults) → Recovers tells old new written written (header_refusal f)
 header_unread tells old new written ring.NotEmpty looks not_empty not_end first small cause = absurd (not_empty refl)
@@ -70,18 +71,21 @@ header_unread tells old new written (ring.Image found) looks not_empty not_end f
     (λ why e. small why (ap ring.Image (same_fault found why e)))
     (λ e. absurd (cc))
 header_unread tells old new written ring.DiskFault looks not_empty not_end first small cause =
-    nothing_recovered tells old new written outcome.DiskFault looks (λ e. absurd (cc)) (λ no_fault read told. absurd (no_fault refl)) (λ why e told. absurd (cc)) (λ why e. absurd (cc)) (λ e. cause refl)
+    nothing_recovered tells old new written outcome.DiskFault looks (λ e. absurd (cc)) (λ no_fault read told. absurd (no_fault refl))
+    (λ why e told. absurd (cc)) (λ why e. absurd (cc)) (λ e. cause refl)
 header_unread tells old new written ring.SeqEnd looks not_empty not_end first small cause = absurd (not_end refl)
 
 -- where the run is written
-pub run_recovered : (tells : Tells) (old mid new : State) (h : Header) (before now : Option (List ℕ)) (answer : Outcome) → IsSound tells old → OnlyLooks tells old mid → Looks tells mid new
-    → (IsTrue tells.bytes → h ≡ header_in old.held) → (IsTrue tells.bytes → fault_of old.held ≡ None)
+pub run_recovered : (tells : Tells) (old mid new : State) (h : Header) (before now : Option (List ℕ)) (answer : Outcome) → IsSoundDeck tells old
+    → OnlyLooks tells old mid → Looks tells mid new
+    → (IsTrue tells.bytes → h ≡ header_in old.held) → (IsTrue tells.bytes → image_fault_of old.held ≡ None)
     → (answer ≡ outcome.Done → IsTrue tells.bytes → now ≡ followed_by before (payloads_of (recovered_run h mid.held)))
     → (IsTrue tells.bytes → (k : ℕ) × (now ≡ followed_by before (take k (payloads_of (recovered_run h mid.held)))))
     → ((why : ImageFault) → answer ≡ outcome.ImageRefused why → ⊥) → mid.disk_faults ≡ old.disk_faults
     → (answer ≡ outcome.DiskFault → Rose mid.disk_faults new.disk_faults) → Recovers tells old new before now answer
 run_recovered tells old mid new h before now answer sound first second header good all part unrefused quiet cause =
-    let same : IsTrue tells.bytes → recovered_run h mid.held ≡ run_in old.held = λ told. ap (recovered_run h) first.disk.held ∙ ap (λ (x : Header). recovered_run x old.held) (header told) in record {
+    let same : IsTrue tells.bytes → recovered_run h mid.held ≡ run_in old.held =
+    λ told. ap (recovered_run h) first.disk.held ∙ ap (λ (x : Header). recovered_run x old.held) (header told) in record {
       looks = OnlyLooks-then tells old mid new sound first second;
       good = λ no_fault read told. good told;
       all = λ done told. all done told ∙ ap (λ run. followed_by before (payloads_of run)) (same told);
@@ -92,23 +96,28 @@ run_recovered tells old mid new h before now answer sound first second header go
     }
 
 -- where the image is refused, so it is answered, unless the disk failed or memory ended
-pub refusal_answered : (tells : Tells) (old new : State) (before now : Option (List ℕ)) (answer : Outcome) (why : ImageFault) → IsOfRecovery answer → Recovers tells old new before now answer → answer ≢ outcome.NoMemory
-    → IsTrue tells.bytes → fault_of old.held ≡ Some why → (answer ≡ outcome.ImageRefused why) ⊎ (answer ≡ outcome.DiskFault)
-refusal_answered tells old new before now outcome.Done why of recovers left told first = absurd (let c : ◌≡◌ {A = Option ImageFault} None (Some why) = sym (recovers.good (λ e. absurd (cc)) (λ w e. absurd (cc)) told) ∙ first in cc)
+pub refusal_answered : (tells : Tells) (old new : State) (before now : Option (List ℕ)) (answer : Outcome) (why : ImageFault) → IsOfRecovery answer
+    → Recovers tells old new before now answer → answer ≢ outcome.NoMemory
+    → IsTrue tells.bytes → image_fault_of old.held ≡ Some why → (answer ≡ outcome.ImageRefused why) ⊎ (answer ≡ outcome.DiskFault)
+refusal_answered tells old new before now outcome.Done why of recovers left told first =
+    absurd (let c : ◌≡◌ {A = Option ImageFault} None (Some why) = sym (recovers.good (λ e. absurd (cc)) (λ w e. absurd (cc)) told) ∙ first in cc)
 refusal_answered tells old new before now outcome.Usage why of recovers left told first = absurd of
 refusal_answered tells old new before now (outcome.TableRefused row f) why of recovers left told first = absurd of
 refusal_answered tells old new before now (outcome.TraceRefused index found) why of recovers left told first = absurd of
-refusal_answered tells old new before now (outcome.ImageRefused found) why of recovers left told first = let same : ◌≡◌ {A = Option ImageFault} (Some found) (Some why) = sym (recovers.refused found refl told) ∙ first in inl (let e : found ≡ why = cc in ap outcome.ImageRefused e)
+refusal_answered tells old new before now (outcome.ImageRefused found) why of recovers left told first =
+    let same : ◌≡◌ {A = Option ImageFault} (Some found) (Some why) = sym (recovers.refused found refl told) ∙ first in
+    inl (let e : found ≡ why = cc in ap outcome.ImageRefused e)
 refusal_answered tells old new before now outcome.NotEmpty why of recovers left told first = absurd of
 refusal_answered tells old new before now (outcome.ReadFault input.Table) why of recovers left told first = absurd of
 refusal_answered tells old new before now (outcome.ReadFault input.Line) why of recovers left told first = absurd of
-refusal_answered tells old new before now outcome.WriteFault why of recovers left told first = absurd (let c : ◌≡◌ {A = Option ImageFault} None (Some why) = sym (recovers.good (λ e. absurd (cc)) (λ w e. absurd (cc)) told) ∙ first in cc)
+refusal_answered tells old new before now outcome.WriteFault why of recovers left told first =
+    absurd (let c : ◌≡◌ {A = Option ImageFault} None (Some why) = sym (recovers.good (λ e. absurd (cc)) (λ w e. absurd (cc)) told) ∙ first in cc)
 refusal_answered tells old new before now outcome.DiskFault why of recovers left told first = inr refl
 refusal_answered tells old new before now outcome.TooLong why of recovers left told first = absurd of
 refusal_answered tells old new before now outcome.NoMemory why of recovers left told first = absurd (left refl)
 
 -- where memory ends before the disk is looked at
-pub recovers_nothing : (tells : Tells) (d : State) (written : Option (List ℕ)) → IsSound tells d
+pub recovers_nothing : (tells : Tells) (d : State) (written : Option (List ℕ)) → IsSoundDeck tells d
     → RecoversImage tells d d written written outcome.NoMemory
 recovers_nothing tells d written sound = record {
   looks = record {

@@ -1,20 +1,16 @@
 -- What a command leaves and answers by the table that it reads.
-use Rattle.std.proofs.Common.{◌≡◌, ◌⊎◌, ⊎_elim, ℕ, ◌+◌, ◌≤◌, List, [], length, Option, ap, sym, refl, ◌∙◌, subst, arith}
+use Rattle.std.proofs.Common.{◌≡◌, ◌⊎◌, ⊎_elim, ℕ, ◌+◌, ◌≤◌, List, [], length, Option, ap, sym, ◌∙◌, subst}
 use Rattle.std.specs.Prelude.{IfSome}
-use Rattle.fdr_io.specs.Faults.{Rose}
 use Rattle.fdr_io.specs.Told.{preceded_by}
 use Rattle.fdr_io.specs.declared.Input.TheVariants as input
-use Rattle.fdr_deck.specs.State.{State, Tells}
-use Rattle.fdr_words.specs.Forms.{Form}
 use Rattle.fdr_check.specs.Soundness.{IsSound}
 use Rattle.fdr_table.specs.Bounds.{most_table_bytes}
 use Rattle.fdr_table.specs.Rows.{TableRows}
 use Rattle.fdr_table.specs.declared.fault.TableFault.{TableFault}
 use Rattle.fdr_top.specs.Answers.{IsOfTable, IsPastTable}
 use Rattle.fdr_top.specs.Complete.{TellsAccepted}
-use Rattle.fdr_top.specs.Leaves.{Causes, LeavesAll, LeavesUnused}
 use Rattle.fdr_top.specs.Limits.{piece_bytes}
-use Rattle.fdr_top.specs.Tables.{ByTable, IsAccepted, IsRefused, ReadsItsTable, table_in}
+use Rattle.fdr_top.specs.Tables.{ByTable, IsAccepted, IsTableRefused, ReadsItsTable, table_in}
 use Rattle.fdr_top.specs.declared.outcome.Outcome.{Outcome}
 use Rattle.fdr_top.specs.declared.outcome.Outcome.TheVariants as outcome
 use Rattle.fdr_top.proofs.TableAnswers.{taken_is_all, told_all, not_both, refused_told, taken_to_end, memory_is_left, table_not_past}
@@ -43,7 +39,7 @@ read_accepted old new taken t answer accepted table whole end sound either = rec
   refused_taken = λ row f e. absurd (past_not_refused answer row f either e);
   refused_always = λ row f bytes told refused.
       absurd (not_both taken row f accepted
-      (subst (λ (x : List ℕ). IsRefused x row f) (taken_is_all old new taken bytes whole end told) refused));
+      (subst (λ (x : List ℕ). IsTableRefused x row f) (taken_is_all old new taken bytes whole end told) refused));
   refused_at_end = λ row f bytes e told few. absurd (past_not_refused answer row f either e);
   accepted = λ past. told_all IsAccepted old new taken whole end accepted;
   accepted_at_end = λ past. end;
@@ -54,7 +50,7 @@ read_accepted old new taken t answer accepted table whole end sound either = rec
 -- the table wasn't read, or was refused
 pub read_refused : (old new : Option (List ℕ)) (answer : Outcome) → IsOfTable answer
     → ((row : ℕ) (f : TableFault) → answer ≡ outcome.TableRefused row f
-    → (bytes : List ℕ) × IsRefused bytes row f × (old ≡ preceded_by bytes new)
+    → (bytes : List ℕ) × IsTableRefused bytes row f × (old ≡ preceded_by bytes new)
     × (length bytes ≤ most_table_bytes → IfSome new (λ left. left ≡ []))
     × (length bytes ≤ most_table_bytes + piece_bytes))
     → (answer ≡ outcome.ReadFault input.Table
@@ -83,37 +79,3 @@ pub accepted_left : (old new : Option (List ℕ)) (answer : Outcome) → IsOfTab
 accepted_left old new answer of_table reads accepted quiet = memory_is_left answer of_table
     (λ row f e. not_both accepted.0 row f accepted.2 (reads.refused row f accepted.0 e accepted.1))
     quiet
-
--- where nothing is touched
-pub leaves_all : (tells : Tells) (d : State) (written : Option (List ℕ)) (faults : ℕ) (answer : Outcome)
-    → LeavesAll tells d d written written faults faults answer
-leaves_all tells d written faults answer = record {
-  written = refl;
-  faults = refl;
-  disk = record { held = refl; no_more = λ image leaves. leaves; no_less = λ image leaves. leaves };
-  extent = record { bytes = λ told. refl; stops = λ told. refl; known = λ some. refl };
-  line = λ before. record { line = refl; taken = refl; before = refl; faults = refl };
-}
-
-pub leaves_unused : (form : Form) (d : State) (answer : Outcome) → LeavesUnused form d d answer
-leaves_unused form d answer = record {
-  line = λ unused. record { line = refl; taken = refl; before = refl; faults = refl };
-  disk = λ unused. record {
-    disk = record { held = refl; no_more = λ image leaves. leaves; no_less = λ image leaves. leaves };
-    extent = refl;
-    disk_faults = refl;
-  };
-  told = refl;
-  stream = λ path is memory. record { line = refl; taken = refl; before = refl; faults = refl };
-  listbits = λ path is. omega arith;
-}
-
--- the answers of reading a table blame the table alone
-pub table_causes : (answer : Outcome) (t u : ℕ) (d : State) (s : ℕ) → IsOfTable answer
-    → (answer ≡ outcome.ReadFault input.Table → Rose t u) → Causes answer t u d d s s
-table_causes answer t u d s of_table fault = record {
-  table = fault;
-  line = λ e. absurd (rw e at of_table);
-  write = λ e. absurd (rw e at of_table);
-  disk = λ e. absurd (rw e at of_table);
-}

@@ -2,23 +2,17 @@
 use Rattle.std.proofs.Common.{◌≡◌, ℕ, ◌*◌, ◌/◌, ◌≤◌, ⊎_elim, true, false, List, [], ◌∷◌, ◌++◌, length, take, ap, sym, ◌∙◌, subst, append_assoc, arith}
 use Rattle.std.proofs.lemmas.Bool.{cases_Bool}
 use Rattle.std.proofs.lemmas.List.{append-nil}
-use Rattle.std.proofs.lemmas.List.FromFn.{length-map-range_with_len}
 use Rattle.fdr_bus.specs.declared.BusRecord.{BusRecord}
 use Rattle.fdr_bus.specs.Records.{good_from, good_prefix, is_end, is_good, most_records, record_of, time_after, time_of, whole_records}
 use Rattle.fdr_bus.proofs.ParseLemmas.{is_good_in_order}
 use Rattle.fdr_table.specs.Rows.{TableRows}
-use Rattle.fdr_sampler.specs.SlotWord.{slot_word}
 use Rattle.fdr_sampler.specs.Stream.{slot_count, stream_of, stream_words}
 use Rattle.fdr_stream.proofs.Later.{stream_of-later}
-use Rattle.fdr_stream.proofs.Standing.{slot_count-later, time_of-push}
+use Rattle.fdr_stream.proofs.Standing.{slot_count-later}
+use Rattle.fdr_sampler.proofs.StreamWords.{length-stream_words}
+use Rattle.fdr_bus.proofs.TraceLemmas.{time_of-push, Rises}
 
--- no time is below the one before, the first not below this
-InOrder : ℕ → List BusRecord → Type 0
-InOrder before [] = Unit {0}
-InOrder before (r ∷ records) = (before ≤ r.time) × InOrder r.time records
-
-InOrder-good_from : (before : ℕ) (xs : List (List ℕ)) → InOrder before (good_from before xs)
-unfolding InOrder
+InOrder-good_from : (before : ℕ) (xs : List (List ℕ)) → Rises before (good_from before xs)
 InOrder-good_from before [] = tt
 InOrder-good_from before (bytes ∷ rest) = ⊎_elim
     (λ (good : is_good before bytes ≡ true). ⊎_elim
@@ -28,35 +22,32 @@ InOrder-good_from before (bytes ∷ rest) = ⊎_elim
     (λ (bad : is_good before bytes ≡ false). rw bad tt)
     (cases_Bool (is_good before bytes))
 
-InOrder-good_prefix : (bytes : List ℕ) → InOrder 0 (good_prefix bytes)
+InOrder-good_prefix : (bytes : List ℕ) → Rises 0 (good_prefix bytes)
 unfolding good_prefix
 InOrder-good_prefix bytes = InOrder-good_from 0 (take most_records (whole_records bytes))
 
-InOrder-rest : (before : ℕ) (records later : List BusRecord) → InOrder before (records ++ later) → InOrder (time_after before records) later
-unfolding InOrder
+InOrder-rest : (before : ℕ) (records later : List BusRecord) → Rises before (records ++ later) → Rises (time_after before records) later
 InOrder-rest before [] later order = order
 InOrder-rest before (r ∷ records) later order = InOrder-rest r.time records later order.1
 
-pub length-words : (t : TableRows) (records : List BusRecord) → length (stream_words t records) ≡ slot_count t.frame.words (time_of records)
-length-words t records = length-map-range_with_len (slot_word t records) 0 (slot_count t.frame.words (time_of records))
-
 -- further records in order change none of the bytes that the words before them fill
-stream_of-longer : (t : TableRows) (records later : List BusRecord) (n : ℕ) → InOrder (time_of records) later → n ≤ 3 * length (stream_words t records) / 2 → take n (stream_of t (records ++ later)) ≡ take n (stream_of t records)
-unfolding InOrder
+stream_of-longer : (t : TableRows) (records later : List BusRecord) (n : ℕ) → Rises (time_of records) later → n ≤ 3 * length (stream_words t records) / 2
+    → take n (stream_of t (records ++ later)) ≡ take n (stream_of t records)
 stream_of-longer t records [] n order few = ap (λ (x : List BusRecord). take n (stream_of t x)) (append-nil records)
 stream_of-longer t records (r ∷ later) n order few =
     let w = t.frame.words in
     let more = records ++ r ∷ [] in
     let time : time_of more ≡ r.time = time_of-push records r in
     let longer : slot_count w (time_of records) ≤ slot_count w r.time = slot_count-later w (time_of records) r.time order.0 in
-    let count : length (stream_words t more) ≡ slot_count w r.time = length-words t more ∙ ap (slot_count w) time in
-    let few_more : n ≤ 3 * length (stream_words t more) / 2 = omega (arith, few, count, length-words t records, longer) in
+    let count : length (stream_words t more) ≡ slot_count w r.time = length-stream_words t more ∙ ap (slot_count w) time in
+    let few_more : n ≤ 3 * length (stream_words t more) / 2 = omega (arith, few, count, length-stream_words t records, longer) in
     ap (λ (x : List BusRecord). take n (stream_of t x)) (sym (append_assoc records (r ∷ []) later))
-    ∙ stream_of-longer t more later n (subst (λ m. InOrder m later) (sym time) order.1) few_more
+    ∙ stream_of-longer t more later n (subst (λ m. Rises m later) (sym time) order.1) few_more
     ∙ stream_of-later t records r n order.0 few
 
 -- so the first bytes of the stream of the first good records are those of the stream of all
-pub stream_of-good : (t : TableRows) (bytes : List ℕ) (records later : List BusRecord) (n : ℕ) → good_prefix bytes ≡ records ++ later → n ≤ 3 * length (stream_words t records) / 2 → take n (stream_of t (good_prefix bytes)) ≡ take n (stream_of t records)
+pub stream_of-good : (t : TableRows) (bytes : List ℕ) (records later : List BusRecord) (n : ℕ) → good_prefix bytes ≡ records ++ later
+    → n ≤ 3 * length (stream_words t records) / 2 → take n (stream_of t (good_prefix bytes)) ≡ take n (stream_of t records)
 stream_of-good t bytes records later n good few =
-    let order : InOrder 0 (records ++ later) = subst (InOrder 0) good (InOrder-good_prefix bytes) in
+    let order : Rises 0 (records ++ later) = subst (Rises 0) good (InOrder-good_prefix bytes) in
     ap (λ (x : List BusRecord). take n (stream_of t x)) good ∙ stream_of-longer t records later n (InOrder-rest 0 records later order) few

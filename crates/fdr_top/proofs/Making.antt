@@ -1,7 +1,7 @@
 -- Where no image is made.
 use Rattle.std.proofs.Common.{◌≡◌, ◌⊎◌, ⊎_elim, ℕ, List, [], Option, Some, None, refl, sym, ◌∙◌}
 use Rattle.fdr_deck.specs.State.{State, Tells}
-use Rattle.fdr_deck.specs.Moments.{IsSound}
+use Rattle.fdr_deck.specs.Moments.{IsSoundDeck}
 use Rattle.fdr_deck.proofs.Moments.{IsQuiet-here}
 use Rattle.fdr_slot.specs.declared.image.Header.{Header}
 use Rattle.fdr_ring.specs.Formatting.{Making}
@@ -24,7 +24,7 @@ unfolding table_or
 table_told rest bytes told = rw told refl
 
 -- where the table isn't read, the deck isn't touched and no image is made
-pub makes_nothing : (tells : Tells) (rest : Option (List ℕ)) (slots payload : ℕ) (d : State) (answer : Outcome) → IsSound tells d
+pub makes_nothing : (tells : Tells) (rest : Option (List ℕ)) (slots payload : ℕ) (d : State) (answer : Outcome) → IsSoundDeck tells d
     → (answer ≡ outcome.NoMemory) ⊎ IsOfTable answer
     → ByTable rest (λ (t : TableRows). Makes (new_header slots payload t.frame.words) tells d d answer)
 makes_nothing tells rest slots payload d answer sound either =

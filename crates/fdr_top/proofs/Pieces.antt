@@ -8,7 +8,8 @@ use Rattle.fdr_io.proofs.Telling.{preceded_by-gives, preceded_by-nil}
 use Rattle.fdr_top.specs.Limits.{TakesAtMost}
 
 -- where none came, nothing is left
-pub nothing_left : (told : Option (List ℕ)) (buffer : List ℕ) (n : ℕ) → IfSome told (λ left. Gives left buffer n) → n ≡ 0 → IfSome (without_first n told) (λ left. left ≡ [])
+pub nothing_left : (told : Option (List ℕ)) (buffer : List ℕ) (n : ℕ) → IfSome told (λ left. Gives left buffer n) → n ≡ 0
+    → IfSome (without_first n told) (λ left. left ≡ [])
 unfolding without_first
 nothing_left None buffer n given none = tt
 nothing_left (Some left) buffer n given none = ap (drop n) (given.end.0 none) ∙ drop-nil n

@@ -1,9 +1,8 @@
 -- The records that were streamed of a trace.
-use Rattle.std.proofs.Common.{◌≡◌, ◌≢◌, ℕ, ◌-◌, ◌*◌, ◌<◌, ◌≤◌, ⊎_elim, min, true, false, List, [], ◌∷◌, ◌++◌, length, take, Option, Some, None, Bool, ap, sym, refl, ◌∙◌, subst, length-append, arith}
-use Rattle.std.specs.Prelude.{◌||◌}
+use Rattle.std.proofs.Common.{◌≡◌, ◌≢◌, ℕ, ◌-◌, ◌*◌, ◌<◌, ◌≤◌, ⊎_elim, min, true, false, List, [], ◌∷◌, ◌++◌, length, take, Option, Some, None, ap, sym}
+use Rattle.std.proofs.Common.{refl, ◌∙◌, subst, length-append, arith}
 use Rattle.std.proofs.lemmas.Bool.{cases_Bool}
 use Rattle.std.proofs.lemmas.List.{append-nil, take_all}
-use Rattle.std.proofs.lemmas.List.Folds.{list_any-append}
 use Rattle.fdr_io.specs.Told.{followed_by}
 use Rattle.fdr_io.proofs.Telling.{followed_by-nil}
 use Rattle.fdr_deck.specs.State.{State, Tells}
@@ -12,16 +11,16 @@ use Rattle.fdr_bus.specs.declared.TraceFault.{TraceFault}
 use Rattle.fdr_bus.specs.declared.TraceFault.TheVariants as trace
 use Rattle.fdr_bus.specs.declared.RecordKind.TheVariants.{Word, End}
 use Rattle.fdr_bus.specs.Records.{good_prefix, has_end, is_end}
-use Rattle.fdr_bus.proofs.TraceLemmas.{good_prefix-append}
+use Rattle.fdr_bus.proofs.TraceLemmas.{good_prefix-append, has_end-push}
 use Rattle.fdr_table.specs.Rows.{TableRows}
 use Rattle.fdr_sampler.specs.Stream.{stream_of}
 use Rattle.fdr_stream.specs.Blocks.{due_blocks}
-use Rattle.fdr_stream.specs.Kept.{Kept}
-use Rattle.fdr_stream.specs.Past.{Stands, made}
+use Rattle.fdr_stream.specs.Kept.{StreamKept}
+use Rattle.fdr_stream.specs.Past.{RepresentsStream, stream_made}
 use Rattle.fdr_stream.proofs.Later.{due_blocks-fill}
-use Rattle.fdr_trace.specs.Kept.{Kept as Trace}
+use Rattle.fdr_trace.specs.Kept.{TraceKept}
 use Rattle.fdr_trace.specs.Pulls.{PullsMore}
-use Rattle.fdr_trace.specs.Reading.{Reads, IsNext, IsStopped}
+use Rattle.fdr_trace.specs.Reading.{RepresentsTrace, IsNextRecord, IsTraceStopped}
 use Rattle.fdr_trace.specs.declared.TraceStop.{TraceStop}
 use Rattle.fdr_trace.specs.declared.TraceStop.TheVariants as stop
 use Rattle.fdr_trace.proofs.Pulling.{PullsMore-then}
@@ -34,34 +33,31 @@ use Rattle.fdr_top.proofs.Longer.{stream_of-good}
 use Rattle.fdr_top.proofs.Blocks.{take_min}
 
 -- nothing was fed yet
-pub IsStreamed-made : (k : Kept) (t : TableRows) (written : Option (List ℕ)) → Stands k (made t 4096) → IsStreamed k t [] written written
+pub IsStreamed-made : (k : StreamKept) (t : TableRows) (written : Option (List ℕ)) → RepresentsStream k (stream_made t 4096) → IsStreamed k t [] written written
 IsStreamed-made k t written stands =
     let none : 0 ≡ due_blocks t 4096 [] = stands.blocks refl in
     record {
-      stands = subst (λ n. Stands k (record { table = t; payload = 4096; records = []; begun = None; blocks = n })) none stands;
+      stands = subst (λ n. RepresentsStream k (record { table = t; payload = 4096; records = []; begun = None; blocks = n })) none stands;
       written = sym (followed_by-nil written) ∙ ap (followed_by written) (ap (λ n. take (4096 * n) (stream_of t [])) none);
     }
 
 -- the next record may be fed
-pub ComesNext-read : (k k' : Trace) (bytes more : List ℕ) (records : List BusRecord) (r : BusRecord) → Reads k bytes records → IsNext k' (bytes ++ more) records r → ComesNext records r
+pub ComesNext-read : (k k' : TraceKept) (bytes more : List ℕ) (records : List BusRecord) (r : BusRecord) → RepresentsTrace k bytes records
+    → IsNextRecord k' (bytes ++ more) records r → ComesNext records r
 ComesNext-read k k' bytes more records r reads next = record {
   order = next.order;
   in_time = next.in_time;
   unended = ap has_end reads.good ∙ reads.unended.unended;
 }
 
-pub PullsMore-next : (tells : Tells) (a b c : State) (bytes more : List ℕ) → PullsMore tells a b [] bytes → PullsMore tells b c bytes more → PullsMore tells a c [] (bytes ++ more)
+pub PullsMore-next : (tells : Tells) (a b c : State) (bytes more : List ℕ) → PullsMore tells a b [] bytes → PullsMore tells b c bytes more
+    → PullsMore tells a c [] (bytes ++ more)
 PullsMore-next tells a b c bytes more first second = PullsMore-then tells a b c [] bytes more first second
 
-or_true : (b : Bool) → (b || true) ≡ true
-or_true true = refl
-or_true false = refl
-
-has_end-last : (records : List BusRecord) (r : BusRecord) → is_end r ≡ true → has_end (records ++ r ∷ []) ≡ true
-has_end-last records r ends = list_any-append is_end records (r ∷ []) ∙ rw ends (or_true (has_end records))
-
 -- after the end record
-pub IsStreamedTo-end : (t : TableRows) (tells : Tells) (a c : State) (k : Kept) (bytes : List ℕ) (records : List BusRecord) (r : BusRecord) (before now : Option (List ℕ)) → PullsMore tells a c [] bytes → good_prefix bytes ≡ records ++ r ∷ [] → is_end r ≡ true → IsStreamed k t (records ++ r ∷ []) before now → c.line_faults ≡ a.line_faults →
+pub IsStreamedTo-end : (t : TableRows) (tells : Tells) (a c : State) (k : StreamKept) (bytes : List ℕ) (records : List BusRecord) (r : BusRecord)
+    (before now : Option (List ℕ)) → PullsMore tells a c [] bytes → good_prefix bytes ≡ records ++ r ∷ [] → is_end r ≡ true
+    → IsStreamed k t (records ++ r ∷ []) before now → c.line_faults ≡ a.line_faults →
     IsStreamedTo t tells a c k before now outcome.Done
 IsStreamedTo-end t tells a c k bytes records r before now pulls good ends streamed quiet = record {
   pulled = bytes;
@@ -69,7 +65,7 @@ IsStreamedTo-end t tells a c k bytes records r before now pulls good ends stream
   streamed = subst (λ (x : List BusRecord). IsStreamed k t x before now) (sym good) streamed;
   of_trace = tt;
   whole = λ e. absurd (cc);
-  ended = λ e. ap has_end good ∙ has_end-last records r ends;
+  ended = λ e. ap has_end good ∙ has_end-push records r ends;
   refused = λ index why e. absurd (cc);
   truncated = λ index e. absurd (cc);
   undecided = λ e. absurd (cc);
@@ -82,14 +78,17 @@ abbrev refusal_of : Outcome → Option (ℕ × TraceFault)
 refusal_of (outcome.TraceRefused index why) = Some (index, why)
 refusal_of answer = None
 
-same_refusal : (index i : ℕ) (why w : TraceFault) → outcome.TraceRefused index why ≡ outcome.TraceRefused i w → ◌≡◌ {A = Option (ℕ × TraceFault)} (Some (index, why)) (Some (i, w))
+same_refusal : (index i : ℕ) (why w : TraceFault) → outcome.TraceRefused index why ≡ outcome.TraceRefused i w
+    → ◌≡◌ {A = Option (ℕ × TraceFault)} (Some (index, why)) (Some (i, w))
 same_refusal index i why w e = ap refusal_of e
 
 same_cause : (index i : ℕ) (why w : TraceFault) → outcome.TraceRefused index why ≡ outcome.TraceRefused i w → why ≡ w
 same_cause index i why w e = cc
 
 -- where no further record comes
-pub IsStreamedTo-stop : (t : TableRows) (tells : Tells) (a b c : State) (k : Kept) (bytes more : List ℕ) (records : List BusRecord) (s : TraceStop) (before now : Option (List ℕ)) → PullsMore tells a b [] bytes → PullsMore tells b c bytes more → IsStopped tells b c (bytes ++ more) records s → IsStreamed k t records before now → b.line_faults ≡ a.line_faults → (s ≢ stop.Failed → c.line_faults ≡ b.line_faults) →
+pub IsStreamedTo-stop : (t : TableRows) (tells : Tells) (a b c : State) (k : StreamKept) (bytes more : List ℕ) (records : List BusRecord) (s : TraceStop)
+    (before now : Option (List ℕ)) → PullsMore tells a b [] bytes → PullsMore tells b c bytes more → IsTraceStopped tells b c (bytes ++ more) records s
+    → IsStreamed k t records before now → b.line_faults ≡ a.line_faults → (s ≢ stop.Failed → c.line_faults ≡ b.line_faults) →
     IsStreamedTo t tells a c k before now (answer_of_stop s)
 IsStreamedTo-stop t tells a b c k bytes more records (stop.Refused index why) before now first second stopped streamed before_quiet quiet = record {
   pulled = bytes ++ more;
@@ -118,7 +117,8 @@ IsStreamedTo-stop t tells a b c k bytes more records stop.Failed before now firs
   quiet = λ not. absurd (not refl);
 }
 
-shorter : (t : TableRows) (bytes : List ℕ) (records later : List BusRecord) (m : ℕ) → good_prefix bytes ≡ records ++ later → take m (due_text t records) ≡ take (min m (4096 * due_blocks t 4096 records)) (stream_of t (good_prefix bytes))
+shorter : (t : TableRows) (bytes : List ℕ) (records later : List BusRecord) (m : ℕ) → good_prefix bytes ≡ records ++ later
+    → take m (due_text t records) ≡ take (min m (4096 * due_blocks t 4096 records)) (stream_of t (good_prefix bytes))
 shorter t bytes records later m good =
     let all = 4096 * due_blocks t 4096 records in
     let few : min m all ≤ all = omega arith in
@@ -126,7 +126,8 @@ shorter t bytes records later m good =
     ∙ sym (stream_of-good t bytes records later (min m all) good (omega (arith, few, due_blocks-fill t 4096 records)))
 
 -- where a block of a record couldn't be written
-pub IsStreamedPart-next : (t : TableRows) (tells : Tells) (a c : State) (bytes : List ℕ) (records later : List BusRecord) (before now : Option (List ℕ)) (m : ℕ) → PullsMore tells a c [] bytes → good_prefix bytes ≡ records ++ later → now ≡ followed_by before (take m (due_text t records)) →
+pub IsStreamedPart-next : (t : TableRows) (tells : Tells) (a c : State) (bytes : List ℕ) (records later : List BusRecord) (before now : Option (List ℕ)) (m : ℕ)
+    → PullsMore tells a c [] bytes → good_prefix bytes ≡ records ++ later → now ≡ followed_by before (take m (due_text t records)) →
     IsStreamedPart t tells a c before now
 IsStreamedPart-next t tells a c bytes records later before now m pulls good part =
     let all = 4096 * due_blocks t 4096 records in
@@ -137,13 +138,15 @@ IsStreamedPart-next t tells a c bytes records later before now m pulls good part
     }
 
 -- the good records of the bytes begin with those that were read
-pub good_so_far : (k : Trace) (bytes : List ℕ) (records : List BusRecord) → Reads k bytes records → (later : List BusRecord) × (good_prefix bytes ≡ records ++ later)
+pub good_so_far : (k : TraceKept) (bytes : List ℕ) (records : List BusRecord) → RepresentsTrace k bytes records
+    → (later : List BusRecord) × (good_prefix bytes ≡ records ++ later)
 good_so_far k bytes records reads =
     let grown = good_prefix-append reads.read k.waiting in
     (grown.0, ap good_prefix reads.split ∙ grown.1 ∙ ap (λ (x : List BusRecord). x ++ grown.0) (sym reads.good))
 
 -- the good records of the bytes begin with those that were read and the next
-pub good_with_next : (k : Trace) (bytes : List ℕ) (records : List BusRecord) (r : BusRecord) → IsNext k bytes records r → (later : List BusRecord) × (good_prefix bytes ≡ (records ++ r ∷ []) ++ later)
+pub good_with_next : (k : TraceKept) (bytes : List ℕ) (records : List BusRecord) (r : BusRecord) → IsNextRecord k bytes records r
+    → (later : List BusRecord) × (good_prefix bytes ≡ (records ++ r ∷ []) ++ later)
 good_with_next k bytes records r next = ⊎_elim
     (λ (ends : is_end r ≡ true). ([], next.ends ends ∙ sym (append-nil (records ++ r ∷ []))))
     (λ (goes_on : is_end r ≡ false). good_so_far k bytes (records ++ r ∷ []) (next.more goes_on))
@@ -156,13 +159,15 @@ pub is_end-no : (r : BusRecord) → r.kind ≡ Word → is_end r ≡ false
 is_end-no r e = rw e refl
 
 -- a record more was counted
-pub count_rises : (k k' : Trace) (bytes bytes' : List ℕ) (records : List BusRecord) (r : BusRecord) → Reads k bytes records → Reads k' bytes' (records ++ r ∷ []) → 4294967296 - k'.count < 4294967296 - k.count
+pub count_rises : (k k' : TraceKept) (bytes bytes' : List ℕ) (records : List BusRecord) (r : BusRecord) → RepresentsTrace k bytes records
+    → RepresentsTrace k' bytes' (records ++ r ∷ []) → 4294967296 - k'.count < 4294967296 - k.count
 count_rises k k' bytes bytes' records r before after =
     omega (arith, before.count, after.count, length-append records (r ∷ []), Reads-counts k' bytes' (records ++ r ∷ []) after)
 
 -- ---- what was streamed when the answer is given
 
-pub Streams-part : (t : TableRows) (tells : Tells) (a c : State) (before now : Option (List ℕ)) → IsStreamedPart t tells a c before now → Streams t tells a c before now outcome.WriteFault
+pub Streams-part : (t : TableRows) (tells : Tells) (a c : State) (before now : Option (List ℕ)) → IsStreamedPart t tells a c before now
+    → Streams t tells a c before now outcome.WriteFault
 Streams-part t tells a c before now streamed = record {
   pulled = streamed.pulled;
   pulls = streamed.pulls;
@@ -175,12 +180,14 @@ Streams-part t tells a c before now streamed = record {
   quiet = λ read write. absurd (write refl);
 }
 
-pub Streams-failed : (t : TableRows) (tells : Tells) (a c : State) (k : Kept) (before middle now : Option (List ℕ)) (answer : Outcome) (streamed : IsStreamedTo t tells a c k before middle answer) → (m : ℕ) × (now ≡ followed_by before (take m (stream_of t (good_prefix streamed.pulled)))) →
+pub Streams-failed : (t : TableRows) (tells : Tells) (a c : State) (k : StreamKept) (before middle now : Option (List ℕ)) (answer : Outcome)
+    (streamed : IsStreamedTo t tells a c k before middle answer) → (m : ℕ) × (now ≡ followed_by before (take m (stream_of t (good_prefix streamed.pulled)))) →
     Streams t tells a c before now outcome.WriteFault
 Streams-failed t tells a c k before middle now answer streamed part =
     Streams-part t tells a c before now (record { pulled = streamed.pulled; pulls = streamed.pulls; part = part })
 
-pub Streams-all : (t : TableRows) (tells : Tells) (a c : State) (k : Kept) (before middle now : Option (List ℕ)) (answer : Outcome) (streamed : IsStreamedTo t tells a c k before middle answer) → now ≡ followed_by before (stream_of t (good_prefix streamed.pulled)) →
+pub Streams-all : (t : TableRows) (tells : Tells) (a c : State) (k : StreamKept) (before middle now : Option (List ℕ)) (answer : Outcome)
+    (streamed : IsStreamedTo t tells a c k before middle answer) → now ≡ followed_by before (stream_of t (good_prefix streamed.pulled)) →
     Streams t tells a c before now answer
 Streams-all t tells a c k before middle now answer streamed all =
     let text = stream_of t (good_prefix streamed.pulled) in

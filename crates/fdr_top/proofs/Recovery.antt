@@ -9,8 +9,8 @@ use Rattle.fdr_io.specs.Output.{Emits, EmitsPart}
 use Rattle.fdr_io.proofs.Telling.{followed_by-nil}
 use Rattle.fdr_io.proofs.OutputSteps.{Emits-then, EmitsPart-then, EmitsPart-longer}
 use Rattle.fdr_slot.specs.declared.image.Header.{Header}
-use Rattle.fdr_recover.specs.Blocks.{Block, Stands, IsNumbered}
-use Rattle.fdr_recover.specs.Images.{block_at, block_in, payload_at, payload_of, recovered_run, next_of, IsRecovered, IsNextNumber}
+use Rattle.fdr_recover.specs.Blocks.{Block, StandsInSlot, AreNumberedFrom}
+use Rattle.fdr_recover.specs.Images.{block_numbered, block_in, payload_at, payload_of, recovered_run, next_of, IsRecovered, IsNextNumber}
 use Rattle.fdr_recover.proofs.Standing.{stands-standing}
 use Rattle.fdr_recover.proofs.Nexts.{IsNext-one}
 use Rattle.fdr_top.specs.Recover.{payloads_of}
@@ -22,15 +22,18 @@ nothing_emitted written waiting text = record { count = 0; written = sym (follow
 no_block : Block
 no_block = record { number = 0; payload = [] }
 
-payload_standing : (h : Header) (image : List ℕ) (number : ℕ) (b : Block) → Stands h.slots (block_in h image) b → b.number ≡ number → payload_at h image number ≡ b.payload
-unfolding block_at
+payload_standing : (h : Header) (image : List ℕ) (number : ℕ) (b : Block) → StandsInSlot h.slots (block_in h image) b → b.number ≡ number
+    → payload_at h image number ≡ b.payload
+unfolding block_numbered
 payload_standing h image number b stands same = ap payload_of (stands-standing h.slots (block_in h image) number b stands same)
 
 -- of numbered blocks that stand, each is found by its number
-payload_of_nth : (h : Header) (image : List ℕ) (first k number : ℕ) (run : List Block) → IsNumbered first run → All (Stands h.slots (block_in h image)) run → k < length run → number ≡ first + k
+payload_of_nth : (h : Header) (image : List ℕ) (first k number : ℕ) (run : List Block) → AreNumberedFrom first run
+    → All (StandsInSlot h.slots (block_in h image)) run → k < length run → number ≡ first + k
     → payload_at h image number ≡ (get_or run k no_block).payload
 payload_of_nth h image first k number [] numbered stand less is = absurd (omega (arith, less))
-payload_of_nth h image first zero number (b ∷ bs) numbered stand less is = payload_standing h image number b (stand 0 b (omega arith)) (omega (arith, numbered.0, is))
+payload_of_nth h image first zero number (b ∷ bs) numbered stand less is =
+    payload_standing h image number b (stand 0 b (omega arith)) (omega (arith, numbered.0, is))
 payload_of_nth h image first (suc k) number (b ∷ bs) numbered stand less is =
     payload_of_nth h image (first + 1) k number bs numbered.1 (λ j d below. stand (suc j) d (omega (arith, below))) (omega (arith, less)) (omega (arith, is))
 
@@ -65,22 +68,27 @@ one_more h image first next number found low high =
     ∙ ap (λ (x : List ℕ). payloads_of front ++ x) tail
 
 -- one more block went out
-pub Emits-more : (h : Header) (image : List ℕ) (first next number : ℕ) (a b c : Option (List ℕ)) (v w : List ℕ) → IsFoundRun h image first next → first ≤ number → number < next
+pub Emits-more : (h : Header) (image : List ℕ) (first next number : ℕ) (a b c : Option (List ℕ)) (v w : List ℕ) → IsFoundRun h image first next → first ≤ number
+    → number < next
     → Emits a b [] v (payloads_of (take (number - first) (recovered_run h image))) → Emits b c v w (payload_at h image number)
     → Emits a c [] w (payloads_of (take (number + 1 - first) (recovered_run h image)))
 Emits-more h image first next number a b c v w found low high before now =
     rw (one_more h image first next number found low high) (Emits-then a b c [] v w _ _ before now)
 
 -- a front part of all payloads went out
-pub part_of_run : (h : Header) (image : List ℕ) (first next number : ℕ) (a b c : Option (List ℕ)) (v : List ℕ) → IsFoundRun h image first next → first ≤ number → number < next
+pub part_of_run : (h : Header) (image : List ℕ) (first next number : ℕ) (a b c : Option (List ℕ)) (v : List ℕ) → IsFoundRun h image first next → first ≤ number
+    → number < next
     → Emits a b [] v (payloads_of (take (number - first) (recovered_run h image))) → EmitsPart b c v (payload_at h image number)
     → (k : ℕ) × (c ≡ followed_by a (take k (payloads_of (recovered_run h image))))
 part_of_run h image first next number a b c v found low high before part =
     let run = recovered_run h image in
-    let more : EmitsPart a c [] (payloads_of (take (number + 1 - first) run)) = rw (one_more h image first next number found low high) (EmitsPart-then a b c [] v _ _ before part) in
-    let all : EmitsPart a c [] (payloads_of (take (number + 1 - first) run) ++ payloads_of (drop (number + 1 - first) run)) = EmitsPart-longer a c [] _ _ more in
+    let more : EmitsPart a c [] (payloads_of (take (number + 1 - first) run)) =
+    rw (one_more h image first next number found low high) (EmitsPart-then a b c [] v _ _ before part) in
+    let all : EmitsPart a c [] (payloads_of (take (number + 1 - first) run) ++ payloads_of (drop (number + 1 - first) run)) =
+    EmitsPart-longer a c [] _ _ more in
     let whole : payloads_of (take (number + 1 - first) run) ++ payloads_of (drop (number + 1 - first) run) ≡ payloads_of run =
-    sym (flat_map-append (λ (b : Block). b.payload) (take (number + 1 - first) run) (drop (number + 1 - first) run)) ∙ ap payloads_of (take-append-drop (number + 1 - first) run) in
+    sym (flat_map-append (λ (b : Block). b.payload) (take (number + 1 - first) run) (drop (number + 1 - first) run))
+    ∙ ap payloads_of (take-append-drop (number + 1 - first) run) in
     (all.count, all.written ∙ ap (λ (x : List ℕ). followed_by a (take all.count x)) whole)
 
 -- all payloads were handed on

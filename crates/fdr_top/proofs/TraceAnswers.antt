@@ -1,5 +1,6 @@
 -- The answers to a trace on a line that is told.
-use Rattle.std.proofs.Common.{◌≡◌, ◌≢◌, ℕ, ◌+◌, ◌*◌, ◌≤◌, ◌⊎◌, inl, inr, ⊎_elim, true, false, List, [], ◌++◌, length, Option, Some, None, ap, sym, refl, ◌∙◌, eqb-true, length-append, arith}
+use Rattle.std.proofs.Common.{◌≡◌, ℕ, ◌+◌, ◌*◌, ◌≤◌, ◌⊎◌, inl, inr, ⊎_elim, true, false, List, [], ◌++◌, length, Option, Some, None, ap, sym, refl, ◌∙◌}
+use Rattle.std.proofs.Common.{eqb-true, length-append, arith}
 use Rattle.std.specs.Prelude.{IsTrue, ◌==◌, nat_lt}
 use Rattle.std.proofs.lemmas.Bool.{cases_Bool}
 use Rattle.std.proofs.lemmas.Bool.Decides.{nat_tests}
@@ -13,12 +14,12 @@ use Rattle.fdr_bus.specs.Records.{IsDecided, fault_after, good_prefix, has_end, 
 use Rattle.fdr_bus.proofs.TraceLemmas.{good_prefix-decided, trace_fault-ended}
 use Rattle.fdr_bus.proofs.WholeRecords.{record_bytes-append}
 use Rattle.fdr_deck.specs.State.{State, Tells}
-use Rattle.fdr_words.specs.Forms.{Form, stream_line}
+use Rattle.fdr_words.specs.Forms.{Form}
 use Rattle.fdr_table.specs.Rows.{TableRows}
 use Rattle.fdr_sampler.specs.Stream.{stream_of}
 use Rattle.fdr_top.specs.declared.outcome.Outcome.{Outcome}
 use Rattle.fdr_top.specs.declared.outcome.Outcome.TheVariants as outcome
-use Rattle.fdr_top.specs.Answers.{IsOfTrace, MayAnswer}
+use Rattle.fdr_top.specs.Answers.{IsOfTrace}
 use Rattle.fdr_top.specs.Stream.{Streams}
 
 answer_to : Option (ℕ × TraceFault) → Outcome
@@ -48,7 +49,9 @@ refused_decides bytes index why refused =
     (cases_Bool (has_end good))
 
 -- where the records are decided, so is the fault after them
-fault_after-decided : (good : List BusRecord) (bytes more : List ℕ) → (has_end good ≡ true) ⊎ ((length good ≡ most_records) ⊎ (16 * length good + 16 ≤ length bytes)) → fault_after good (bytes ++ more) ≡ fault_after good bytes
+fault_after-decided : (good : List BusRecord) (bytes more : List ℕ)
+    → (has_end good ≡ true) ⊎ ((length good ≡ most_records) ⊎ (16 * length good + 16 ≤ length bytes))
+    → fault_after good (bytes ++ more) ≡ fault_after good bytes
 unfolding fault_after
 fault_after-decided good bytes more decided =
     let n = length good in ⊎_elim
@@ -75,7 +78,8 @@ trace_fault-decided bytes more decided =
     ap (λ good. fault_after good (bytes ++ more)) (good_prefix-decided bytes more decided) ∙ fault_after-decided (good_prefix bytes) bytes more decided
 
 -- the fault that is answered is that of the whole line
-pub told_fault : (t : TableRows) (tells : Tells) (old new : State) (before now : Option (List ℕ)) (answer : Outcome) (index : ℕ) (why : TraceFault) → Streams t tells old new before now answer → answer ≡ outcome.TraceRefused index why → IsTrue tells.line →
+pub told_fault : (t : TableRows) (tells : Tells) (old new : State) (before now : Option (List ℕ)) (answer : Outcome) (index : ℕ) (why : TraceFault)
+    → Streams t tells old new before now answer → answer ≡ outcome.TraceRefused index why → IsTrue tells.line →
     trace_fault old.line ≡ Some (index, why)
 told_fault t tells old new before now answer index why streams refused told =
     let first = streams.refused index why refused in
@@ -87,24 +91,28 @@ told_fault t tells old new before now answer index why streams refused told =
     (λ (decided : IsDecided streams.pulled). trace_fault-decided streams.pulled new.line decided ∙ first)
     (refused_decides streams.pulled index why first)
 
-ended_line : (t : TableRows) (tells : Tells) (old new : State) (before now : Option (List ℕ)) (answer : Outcome) (streams : Streams t tells old new before now answer) → answer ≡ outcome.Done → IsTrue tells.line →
+ended_line : (t : TableRows) (tells : Tells) (old new : State) (before now : Option (List ℕ)) (answer : Outcome)
+    (streams : Streams t tells old new before now answer) → answer ≡ outcome.Done → IsTrue tells.line →
     good_prefix old.line ≡ good_prefix streams.pulled
 ended_line t tells old new before now answer streams done told =
     ap good_prefix (streams.pulls.takes.line told) ∙ good_prefix-decided streams.pulled new.line (inl (streams.ended done))
 
 -- the whole recording was written
-pub told_stream : (t : TableRows) (tells : Tells) (old new : State) (before now : Option (List ℕ)) (answer : Outcome) → Streams t tells old new before now answer → answer ≡ outcome.Done → IsTrue tells.line →
+pub told_stream : (t : TableRows) (tells : Tells) (old new : State) (before now : Option (List ℕ)) (answer : Outcome)
+    → Streams t tells old new before now answer → answer ≡ outcome.Done → IsTrue tells.line →
     now ≡ followed_by before (stream_of t (good_prefix old.line))
 told_stream t tells old new before now answer streams done told =
     streams.text (λ e. let c : outcome.Done ≡ outcome.WriteFault = sym done ∙ e in cc)
     ∙ ap (λ (x : List BusRecord). followed_by before (stream_of t x)) (sym (ended_line t tells old new before now answer streams done told))
 
 -- where the line is refused, so it is answered, unless a fault came first
-pub fault_answered : (t : TableRows) (tells : Tells) (old new : State) (before now : Option (List ℕ)) (answer : Outcome) (index : ℕ) (why : TraceFault) → Streams t tells old new before now answer → IsOfTrace answer → IsTrue tells.line → trace_fault old.line ≡ Some (index, why) →
+pub fault_answered : (t : TableRows) (tells : Tells) (old new : State) (before now : Option (List ℕ)) (answer : Outcome) (index : ℕ) (why : TraceFault)
+    → Streams t tells old new before now answer → IsOfTrace answer → IsTrue tells.line → trace_fault old.line ≡ Some (index, why) →
     (answer ≡ outcome.TraceRefused index why) ⊎ ((answer ≡ outcome.ReadFault input.Line) ⊎ (answer ≡ outcome.WriteFault))
 unfolding answer_to
 fault_answered t tells old new before now outcome.Done index why streams of_trace told first =
-    let ended : has_end (good_prefix old.line) ≡ true = ap has_end (ended_line t tells old new before now outcome.Done streams refl told) ∙ streams.ended refl in
+    let ended : has_end (good_prefix old.line) ≡ true =
+    ap has_end (ended_line t tells old new before now outcome.Done streams refl told) ∙ streams.ended refl in
     let none = trace_fault-ended old.line ended in
     absurd (let c : ◌≡◌ {A = Option (ℕ × TraceFault)} None (Some (index, why)) = sym none ∙ first in cc)
 fault_answered t tells old new before now outcome.Usage index why streams of_trace told first = absurd of_trace
@@ -123,7 +131,8 @@ fault_answered t tells old new before now outcome.TooLong index why streams of_t
 fault_answered t tells old new before now outcome.NoMemory index why streams of_trace told first = absurd of_trace
 
 -- a trace with an end record is streamed whole, where no fault came
-pub stream_done : (t : TableRows) (tells : Tells) (old new : State) (before now : Option (List ℕ)) (answer : Outcome) → Streams t tells old new before now answer → IsOfTrace answer → IsTrue tells.line → has_end (good_prefix old.line) ≡ true →
+pub stream_done : (t : TableRows) (tells : Tells) (old new : State) (before now : Option (List ℕ)) (answer : Outcome)
+    → Streams t tells old new before now answer → IsOfTrace answer → IsTrue tells.line → has_end (good_prefix old.line) ≡ true →
     (answer ≡ outcome.ReadFault input.Line → ⊥) → (answer ≡ outcome.WriteFault → ⊥) → answer ≡ outcome.Done
 stream_done t tells old new before now outcome.Done streams of_trace told ended line_quiet sink_quiet = refl
 stream_done t tells old new before now outcome.Usage streams of_trace told ended line_quiet sink_quiet = absurd of_trace
@@ -140,13 +149,6 @@ stream_done t tells old new before now outcome.DiskFault streams of_trace told e
 stream_done t tells old new before now outcome.WriteFault streams of_trace told ended line_quiet sink_quiet = absurd (sink_quiet refl)
 stream_done t tells old new before now outcome.TooLong streams of_trace told ended line_quiet sink_quiet = absurd of_trace
 stream_done t tells old new before now outcome.NoMemory streams of_trace told ended line_quiet sink_quiet = absurd of_trace
-
--- only a trace is refused as one
-pub refused_told_trace : (f : Form) (t : TableRows) (tells : Tells) (old new : State) (before now : Option (List ℕ)) (answer : Outcome) (index : ℕ) (why : TraceFault) → MayAnswer f answer →
-    ((path : List ℕ) → f ≡ stream_line path → answer ≢ outcome.NoMemory → Streams t tells old new before now answer) → answer ≡ outcome.TraceRefused index why → IsTrue tells.line → trace_fault old.line ≡ Some (index, why)
-refused_told_trace f t tells old new before now answer index why may streams refused told =
-    let trace : (table : List ℕ) × (f ≡ stream_line table) = rw refused at may in
-    told_fault t tells old new before now answer index why (streams trace.0 trace.1 (λ e. let c : outcome.TraceRefused index why ≡ outcome.NoMemory = sym refused ∙ e in cc)) refused told
 
 -- words are of one form
 pub same_form : (form : Option Form) (a b : Form) → form ≡ Some a → form ≡ Some b → a ≡ b

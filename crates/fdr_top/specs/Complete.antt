@@ -3,7 +3,7 @@ use Rattle.std.specs.Prelude.{◌≡◌, ℕ, ◌≤◌, true, List, length, Opt
 use Rattle.fdr_io.specs.Faults.{Rose}
 use Rattle.fdr_bus.specs.Records.{good_prefix, has_end}
 use Rattle.fdr_deck.specs.State.{State, Tells}
-use Rattle.fdr_ring.specs.Formatting.{fault_of}
+use Rattle.fdr_recover.specs.ImageHeader.{image_fault_of}
 use Rattle.fdr_words.specs.Forms.{Form, check_table, stream_line, list_bits, format_image, recover_image}
 use Rattle.fdr_top.specs.Limits.{most_line_bytes}
 use Rattle.fdr_top.specs.Tables.{IsAccepted}
@@ -13,12 +13,12 @@ abbrev pub TellsAccepted : Option (List ℕ) → Type 0
 TellsAccepted rest = (bytes : List ℕ) × (rest ≡ Some bytes) × IsAccepted bytes
 
 -- the input of the command of a form is whole
-abbrev pub IsWhole : Form → Option (List ℕ) → Tells → State → Type 0
-IsWhole (check_table path) rest tells d = TellsAccepted rest
-IsWhole (stream_line path) rest tells d = TellsAccepted rest × IsTrue tells.line × (has_end (good_prefix d.line) ≡ true)
-IsWhole (list_bits path) rest tells d = TellsAccepted rest × IsTrue tells.line × (length d.line ≤ most_line_bytes)
-IsWhole (format_image path image slots payload) rest tells d = TellsAccepted rest × IsTrue tells.bytes × (d.extent ≡ 0)
-IsWhole (recover_image image) rest tells d = IsTrue tells.bytes × (fault_of d.held ≡ None)
+abbrev pub IsWholeInput : Form → Option (List ℕ) → Tells → State → Type 0
+IsWholeInput (check_table path) rest tells d = TellsAccepted rest
+IsWholeInput (stream_line path) rest tells d = TellsAccepted rest × IsTrue tells.line × (has_end (good_prefix d.line) ≡ true)
+IsWholeInput (list_bits path) rest tells d = TellsAccepted rest × IsTrue tells.line × (length d.line ≤ most_line_bytes)
+IsWholeInput (format_image path image slots payload) rest tells d = TellsAccepted rest × IsTrue tells.bytes × (d.extent ≡ 0)
+IsWholeInput (recover_image image) rest tells d = IsTrue tells.bytes × (image_fault_of d.held ≡ None)
 
 -- no fault was counted
 abbrev pub IsQuietCount : ℕ → ℕ → Type 0

@@ -10,9 +10,9 @@ use Rattle.fdr_slot.specs.declared.image.ImageFault.{ImageFault}
 use Rattle.fdr_slot.specs.declared.image.ImageFault.TheVariants as fault
 use Rattle.fdr_recover.specs.Blocks.{Block}
 use Rattle.fdr_recover.specs.Images.{recovered_run}
-use Rattle.fdr_ring.specs.declared.error.RingFault.{RingFault}
-use Rattle.fdr_ring.specs.declared.error.RingFault.TheVariants as ring
-use Rattle.fdr_ring.specs.Formatting.{fault_of, header_in}
+use Rattle.fdr_recover.specs.declared.error.RingFault.{RingFault}
+use Rattle.fdr_recover.specs.declared.error.RingFault.TheVariants as ring
+use Rattle.fdr_recover.specs.ImageHeader.{image_fault_of, header_in}
 use Rattle.fdr_top.specs.declared.outcome.Outcome.{Outcome}
 use Rattle.fdr_top.specs.declared.outcome.Outcome.TheVariants as outcome
 
@@ -40,10 +40,11 @@ pub record OnlyLooks (tells : Tells) (old new : State) : Type 0 where
 -- The payloads of the image's run were written, or a front part of them and the answer says why.
 pub record Recovers (tells : Tells) (old new : State) (written_before written_now : Option (List ℕ)) (answer : Outcome) : Type 0 where
   pub looks : OnlyLooks tells old new
-  pub good : (answer ≡ outcome.DiskFault → ⊥) → ((why : ImageFault) → answer ≡ outcome.ImageRefused why → ⊥) → IsTrue tells.bytes → fault_of old.held ≡ None
+  pub good : (answer ≡ outcome.DiskFault → ⊥) → ((why : ImageFault) → answer ≡ outcome.ImageRefused why → ⊥) → IsTrue tells.bytes
+      → image_fault_of old.held ≡ None
   pub all : answer ≡ outcome.Done → IsTrue tells.bytes → written_now ≡ followed_by written_before (payloads_of (run_in old.held))
   pub part : IsTrue tells.bytes → (k : ℕ) × (written_now ≡ followed_by written_before (take k (payloads_of (run_in old.held))))
-  pub refused : (why : ImageFault) → answer ≡ outcome.ImageRefused why → IsTrue tells.bytes → fault_of old.held ≡ Some why
+  pub refused : (why : ImageFault) → answer ≡ outcome.ImageRefused why → IsTrue tells.bytes → image_fault_of old.held ≡ Some why
   pub small : (why : ImageFault) → answer ≡ outcome.ImageRefused why → (why ≡ fault.Small) ↔ (new.extent < 64)
   pub cause : answer ≡ outcome.DiskFault → Rose old.disk_faults new.disk_faults
 
@@ -52,8 +53,8 @@ pub record RecoversImage (tells : Tells) (old new : State) (written_before writt
   pub looks : OnlyLooks tells old new
   pub all : answer ≡ outcome.Done → IsTrue tells.bytes → written_now ≡ followed_by written_before (payloads_of (run_in old.held))
   pub part : IsTrue tells.bytes → (k : ℕ) × (written_now ≡ followed_by written_before (take k (payloads_of (run_in old.held))))
-  pub good : answer ≡ outcome.Done → IsTrue tells.bytes → fault_of old.held ≡ None
-  pub refused : (why : ImageFault) → answer ≡ outcome.ImageRefused why → IsTrue tells.bytes → fault_of old.held ≡ Some why
+  pub good : answer ≡ outcome.Done → IsTrue tells.bytes → image_fault_of old.held ≡ None
+  pub refused : (why : ImageFault) → answer ≡ outcome.ImageRefused why → IsTrue tells.bytes → image_fault_of old.held ≡ Some why
   pub small : (why : ImageFault) → answer ≡ outcome.ImageRefused why → (why ≡ fault.Small) ↔ (new.extent < 64)
-  pub refused_always : (why : ImageFault) → answer ≢ outcome.NoMemory → IsTrue tells.bytes → fault_of old.held ≡ Some why
+  pub refused_always : (why : ImageFault) → answer ≢ outcome.NoMemory → IsTrue tells.bytes → image_fault_of old.held ≡ Some why
       → (answer ≡ outcome.ImageRefused why) ⊎ (answer ≡ outcome.DiskFault)

@@ -9,7 +9,7 @@ use Rattle.fdr_bus.specs.declared.TraceFault.{TraceFault}
 use Rattle.fdr_bus.specs.declared.TraceFault.TheVariants as trace
 use Rattle.fdr_bus.specs.Records.{IsDecided, good_prefix, has_end, last_time, time_of, trace_fault}
 use Rattle.fdr_trace.specs.Pulls.{PullsMore}
-use Rattle.fdr_trace.specs.Reading.{Reads}
+use Rattle.fdr_trace.specs.Reading.{RepresentsTrace}
 use Rattle.fdr_top.specs.Answers.{IsOfTrace}
 use Rattle.fdr_top.specs.declared.outcome.Outcome.{Outcome}
 use Rattle.fdr_top.specs.declared.outcome.Outcome.TheVariants as outcome
@@ -17,11 +17,11 @@ use Rattle.fdr_top.specs.declared.streaming.Recording.{Recording}
 use Rattle.fdr_table.specs.Rows.{TableRows}
 use Rattle.fdr_sampler.specs.Stream.{stream_of}
 use Rattle.fdr_stream.specs.Blocks.{due_blocks}
-use Rattle.fdr_stream.specs.Kept.{Kept}
-use Rattle.fdr_stream.specs.Past.{Past, made, Stands}
+use Rattle.fdr_stream.specs.Kept.{StreamKept}
+use Rattle.fdr_stream.specs.Past.{StreamPast, stream_made, RepresentsStream}
 
 -- these records were taken, and the blocks of 4,096 bytes that are due at them were given
-abbrev pub past_of : TableRows → List BusRecord → Past
+abbrev pub past_of : TableRows → List BusRecord → StreamPast
 past_of t records = record { table = t; payload = 4096; records = records; begun = None; blocks = due_blocks t 4096 records }
 
 -- the text of these blocks
@@ -29,8 +29,8 @@ abbrev pub due_text : TableRows → List BusRecord → List ℕ
 due_text t records = take (4096 * due_blocks t 4096 records) (stream_of t records)
 
 -- The records were fed, and all blocks that are due were written.
-pub record IsStreamed (k : Kept) (t : TableRows) (records : List BusRecord) (written_before written_now : Option (List ℕ)) : Type 0 where
-  pub stands : Stands k (past_of t records)
+pub record IsStreamed (k : StreamKept) (t : TableRows) (records : List BusRecord) (written_before written_now : Option (List ℕ)) : Type 0 where
+  pub stands : RepresentsStream k (past_of t records)
   pub written : written_now ≡ followed_by written_before (due_text t records)
 
 -- The record comes next in time, and no end was fed.
@@ -40,12 +40,13 @@ pub record ComesNext (records : List BusRecord) (r : BusRecord) : Type 0 where
   pub unended : has_end records ≡ false
 
 -- Nothing was pulled of the trace and nothing drawn.
-pub record IsFresh (r : Recording) (t : TableRows) : Type 0 where
-  pub trace : Reads r.trace [] []
-  pub stream : Stands r.stream (made t 4096)
+pub record IsUnbegun (r : Recording) (t : TableRows) : Type 0 where
+  pub trace : RepresentsTrace r.trace [] []
+  pub stream : RepresentsStream r.stream (stream_made t 4096)
 
 -- the good records of these bytes were fed, and the answer is why there are no more
-pub record IsStreamedTo (t : TableRows) (tells : Tells) (old new : State) (k : Kept) (written_before written_now : Option (List ℕ)) (answer : Outcome) : Type 0 where
+pub record IsStreamedTo (t : TableRows) (tells : Tells) (old new : State) (k : StreamKept) (written_before written_now : Option (List ℕ)) (answer : Outcome)
+    : Type 0 where
   pub pulled : List ℕ
   pub pulls : PullsMore tells old new [] pulled
   pub streamed : IsStreamed k t (good_prefix pulled) written_before written_now

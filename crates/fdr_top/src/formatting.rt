@@ -7,7 +7,7 @@ ghost use Rattle.fdr_top.specs.Format.{Makes, new_header};
 ghost use Rattle.fdr_table.specs.Bounds.{most_table_bytes};
 ghost use Rattle.fdr_table.specs.Rows.{TableRows};
 ghost use Rattle.fdr_words.specs.Forms.{format_image};
-ghost use Rattle.fdr_top.specs.Complete.{IsFaultless, IsWhole};
+ghost use Rattle.fdr_top.specs.Complete.{IsFaultless, IsWholeInput};
 ghost use Rattle.fdr_top.specs.Leaves.{Causes, LeavesAll, LeavesUnused};
 ghost use Rattle.fdr_top.specs.Tables.{ByTable, ReadsItsTable};
 ghost use Rattle.fdr_top.specs.Limits.{TakesAtMost, piece_bytes};
@@ -17,7 +17,7 @@ use crate::outcome::Outcome;
 use fdr_check::Sound;
 use fdr_deck::Deck;
 use fdr_io::Source;
-use fdr_ring::RingFault;
+use fdr_recover::RingFault;
 use fdr_slot::Header;
 use std::alloc::Global;
 
@@ -76,7 +76,7 @@ pub fn format<T: Source, D: Deck>(
     ensures format { ByTable (T.rest table.old) (λ (t : TableRows). Makes (new_header slots payload t.frame.words)
         D.tells (D.state deck.old) (D.state deck.new) result) }
     ensures complete { (path image : List ℕ) (faults : ℕ)
-        → IsWhole (format_image path image slots payload) (T.rest table.old) D.tells (D.state deck.old)
+        → IsWholeInput (format_image path image slots payload) (T.rest table.old) D.tells (D.state deck.old)
         → IsFaultless (format_image path image slots payload) (T.faults table.old) (T.faults table.new)
         (D.state deck.old) (D.state deck.new) faults faults
         → (result ≡ Outcome.Done) ⊎ (result ≡ Outcome.NoMemory) }

@@ -5,7 +5,7 @@ ghost use Rattle.fdr_io.specs.Faults.{Rose};
 ghost use Rattle.fdr_io.specs.Told.{followed_by};
 ghost use Rattle.fdr_deck.specs.Calls.{LeavesDisk};
 ghost use Rattle.fdr_frame.specs.WordCount.{IsWordCount};
-ghost use Rattle.fdr_recon.specs.Past.{Stands};
+ghost use Rattle.fdr_recon.specs.Past.{RepresentsRebuild};
 ghost use Rattle.fdr_top.specs.Answers.{EndsBeforeDeck, IsOfListing, IsPastTable, MayAnswer, WritesNothing};
 ghost use Rattle.fdr_top.specs.Listbits.{Lists, ListsLine, answer_of};
 ghost use Rattle.fdr_top.specs.Limits.{TakesAtMost, most_line_bytes, piece_bytes};
@@ -13,7 +13,7 @@ ghost use Rattle.fdr_readout.specs.Listing.{listing_of};
 ghost use Rattle.fdr_table.specs.Bounds.{most_table_bytes};
 ghost use Rattle.fdr_table.specs.Rows.{TableRows};
 ghost use Rattle.fdr_words.specs.Forms.{list_bits};
-ghost use Rattle.fdr_top.specs.Complete.{IsFaultless, IsWhole};
+ghost use Rattle.fdr_top.specs.Complete.{IsFaultless, IsWholeInput};
 ghost use Rattle.fdr_top.specs.Leaves.{Causes, LeavesAll, LeavesUnused};
 ghost use Rattle.fdr_top.specs.Tables.{ByTable, ReadsItsTable};
 
@@ -50,7 +50,7 @@ fn answer_of(end: LineEnd) -> Outcome
 fn write_line<O: Sink>(work: &mut Readout, sound: &Sound, line: &PulledLine, out: &mut O) -> Outcome
     requires word_count { IsWordCount sound.now.frame.words }
     requires room { vec_len work.old.words ≡ 4 * sound.now.frame.words }
-    requires fresh { Stands work.old.rebuild sound.now [] }
+    requires fresh { RepresentsRebuild work.old.rebuild sound.now [] }
     requires empty { work.old.buffer ≡ [] }
     ensures answer { (result ≡ Outcome.WriteFault) ⊎ (result ≡ answer_of line.now.end) }
     ensures text { result ≢ Outcome.WriteFault
@@ -113,7 +113,7 @@ pub fn listbits<T: Source, D: Deck, O: Sink>(
     ensures listbits { IsPastTable result
         → ByTable (T.rest table.old) (λ (t : TableRows). ListsLine t D.tells (D.state deck.old) (D.state deck.new)
         (O.written out.old) (O.written out.new) result) }
-    ensures complete { (path : List ℕ) → IsWhole (list_bits path) (T.rest table.old) D.tells (D.state deck.old)
+    ensures complete { (path : List ℕ) → IsWholeInput (list_bits path) (T.rest table.old) D.tells (D.state deck.old)
         → IsFaultless (list_bits path) (T.faults table.old) (T.faults table.new) (D.state deck.old) (D.state deck.new)
         (O.faults out.old) (O.faults out.new)
         → (result ≡ Outcome.Done) ⊎ (result ≡ Outcome.NoMemory) }

@@ -10,7 +10,7 @@ ghost use Rattle.fdr_table.specs.declared.fault.TableFault.{TableFault};
 ghost use Rattle.fdr_check.specs.Soundness.{IsSound};
 ghost use Rattle.fdr_top.specs.Answers.{IsOfTable, refusal};
 ghost use Rattle.fdr_top.specs.Limits.{TakesAtMost, piece_bytes};
-ghost use Rattle.fdr_top.specs.Tables.{IsAccepted, IsRefused, table_in};
+ghost use Rattle.fdr_top.specs.Tables.{IsAccepted, IsTableRefused, table_in};
 
 use crate::outcome::Outcome;
 use crate::reading::{ReadError, read_table_bytes};
@@ -41,7 +41,7 @@ fn table_of(alloc: Global, bytes: &[u8]) -> Result<Sound, Outcome>
     ensures in_range { IfOk result IsInRange }
     ensures sound { IfOk result IsSound }
     ensures word_count { IfOk result (λ s. IsWordCount s.frame.words) }
-    ensures refused { (row : ℕ) (f : TableFault) → result ≡ Err (Outcome.TableRefused row f) → IsRefused bytes.now row f }
+    ensures refused { (row : ℕ) (f : TableFault) → result ≡ Err (Outcome.TableRefused row f) → IsTableRefused bytes.now row f }
     ensures answers { IfErr result IsOfTable }
     ensures no_fault { result ≡ Err (Outcome.ReadFault Input.Table) → ⊥ }
 {
@@ -64,7 +64,7 @@ pub fn load_table<T: Source>(alloc: Global, source: &mut T) -> Result<Sound, Out
     ensures sound { IfOk result IsSound }
     ensures word_count { IfOk result (λ s. IsWordCount s.frame.words) }
     ensures refused { (row : ℕ) (f : TableFault) → result ≡ Err (Outcome.TableRefused row f)
-        → (bytes : List ℕ) × IsRefused bytes row f × (T.rest source.old ≡ preceded_by bytes (T.rest source.new))
+        → (bytes : List ℕ) × IsTableRefused bytes row f × (T.rest source.old ≡ preceded_by bytes (T.rest source.new))
         × (length bytes ≤ most_table_bytes → IfSome (T.rest source.new) (λ left. left ≡ []))
         × (length bytes ≤ most_table_bytes + piece_bytes) }
     ensures answers { IfErr result IsOfTable }

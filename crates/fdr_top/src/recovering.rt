@@ -11,14 +11,13 @@ ghost use Rattle.fdr_recover.specs.Looks.{Looks};
 ghost use Rattle.fdr_top.specs.Answers.{EndsBeforeDeck, IsOfRecovery, MayAnswer, WritesNothing};
 ghost use Rattle.fdr_top.specs.Recover.{Recovers, RecoversImage, header_refusal, payloads_of};
 ghost use Rattle.fdr_words.specs.Forms.{recover_image};
-ghost use Rattle.fdr_top.specs.Complete.{IsFaultless, IsWhole};
+ghost use Rattle.fdr_top.specs.Complete.{IsFaultless, IsWholeInput};
 ghost use Rattle.fdr_top.specs.Leaves.{Causes, LeavesAll, LeavesUnused};
 
 use crate::outcome::Outcome;
 use fdr_deck::Deck;
 use fdr_io::{Failed, OutBuffer, Sink};
-use fdr_recover::{block, scan};
-use fdr_ring::{RingFault, read_image_header};
+use fdr_recover::{RingFault, block, read_image_header, scan};
 use fdr_slot::Header;
 use std::alloc::Global;
 
@@ -132,7 +131,7 @@ pub fn recover<D: Deck, O: Sink>(alloc: Global, deck: &mut D, out: &mut O) -> Ou
         (O.faults out.old) (O.faults out.new) }
     ensures recover { RecoversImage D.tells (D.state deck.old) (D.state deck.new) (O.written out.old) (O.written out.new) result }
     ensures complete { (image : List ℕ) (rest : Option (List ℕ)) (faults : ℕ)
-        → IsWhole (recover_image image) rest D.tells (D.state deck.old)
+        → IsWholeInput (recover_image image) rest D.tells (D.state deck.old)
         → IsFaultless (recover_image image) faults faults (D.state deck.old) (D.state deck.new)
         (O.faults out.old) (O.faults out.new)
         → (result ≡ Outcome.Done) ⊎ (result ≡ Outcome.NoMemory) }

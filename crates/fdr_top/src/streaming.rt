@@ -6,14 +6,14 @@ ghost use Rattle.fdr_io.specs.Told.{followed_by};
 ghost use Rattle.fdr_deck.specs.Calls.{LeavesDisk};
 ghost use Rattle.fdr_sampler.specs.Stream.{stream_of};
 ghost use Rattle.fdr_bus.specs.declared.BusRecord.{BusRecord};
-ghost use Rattle.fdr_stream.specs.Past.{Stands as StandsFor};
+ghost use Rattle.fdr_stream.specs.Past.{RepresentsStream};
 ghost use Rattle.fdr_top.specs.Answers.{EndsBeforeDeck, IsOfTrace, IsPastTable, KeepsLineAndFaults, MayAnswer, WritesNothing};
 ghost use Rattle.fdr_top.specs.Stream.{Streams, StreamsLine, answer_of_stop};
-ghost use Rattle.fdr_top.specs.Streaming.{past_of, due_text, ComesNext, IsStreamed, IsStreamedTo, IsStreamedPart, IsFresh};
+ghost use Rattle.fdr_top.specs.Streaming.{past_of, due_text, ComesNext, IsStreamed, IsStreamedTo, IsStreamedPart, IsUnbegun};
 ghost use Rattle.fdr_table.specs.Bounds.{most_table_bytes};
 ghost use Rattle.fdr_table.specs.Rows.{TableRows};
 ghost use Rattle.fdr_words.specs.Forms.{stream_line};
-ghost use Rattle.fdr_top.specs.Complete.{IsFaultless, IsWhole};
+ghost use Rattle.fdr_top.specs.Complete.{IsFaultless, IsWholeInput};
 ghost use Rattle.fdr_top.specs.Leaves.{Causes, LeavesAll, LeavesUnused};
 ghost use Rattle.fdr_top.specs.Tables.{ByTable, ReadsItsTable};
 ghost use Rattle.fdr_top.specs.Limits.{TakesAtMost, piece_bytes};
@@ -44,7 +44,7 @@ struct Recording {
 
 impl Recording {
     fn new(alloc: Global, sound: &Sound) -> Result<Recording, NoMemory>
-        ensures { IfOk result (λ r. IsFresh r sound.now) }
+        ensures { IfOk result (λ r. IsUnbegun r sound.now) }
     {
         let trace = TraceLine::new(alloc).map_err(|_| NoMemory)?;
         let stream = Stream::new(alloc, sound, PAYLOAD as u32)?;
@@ -60,7 +60,7 @@ fn write_record<O: Sink>(
     out: &mut O,
 ) -> Result<(), Failed>
     requires room { length block.old ≡ 4096 }
-    requires fed { (t : TableRows) × (records : List BusRecord) × StandsFor stream.old (past_of t records) × ComesNext records next.now }
+    requires fed { (t : TableRows) × (records : List BusRecord) × RepresentsStream stream.old (past_of t records) × ComesNext records next.now }
     ensures all { OnOk result ((t : TableRows) (records : List BusRecord) (before : Option (List ℕ))
         → IsStreamed stream.old t records before (O.written out.old) → ComesNext records next.now
         → IsStreamed stream.new t (records ++ next.now ∷ []) before (O.written out.new)) }
@@ -83,7 +83,7 @@ fn write_record<O: Sink>(
 /// Writes the last bytes of the stream.
 fn write_rest<O: Sink>(stream: &mut Stream, block: &mut [u8], out: &mut O) -> Result<(), Failed>
     requires room { length block.old ≡ 4096 }
-    requires fed { (t : TableRows) × (records : List BusRecord) × StandsFor stream.old (past_of t records) }
+    requires fed { (t : TableRows) × (records : List BusRecord) × RepresentsStream stream.old (past_of t records) }
     ensures all { OnOk result ((t : TableRows) (records : List BusRecord) (before : Option (List ℕ))
         → IsStreamed stream.old t records before (O.written out.old)
         → O.written out.new ≡ followed_by before (stream_of t records)) }
@@ -116,10 +116,10 @@ fn stream_records<D: Deck, O: Sink>(
     out: &mut O,
 ) -> Result<Outcome, Failed>
     requires room { length block.old ≡ 4096 }
-    requires fresh { (t : TableRows) × IsFresh recording.old t }
-    ensures all { (t : TableRows) → IsFresh recording.old t → IfOk result (λ answer.
+    requires fresh { (t : TableRows) × IsUnbegun recording.old t }
+    ensures all { (t : TableRows) → IsUnbegun recording.old t → IfOk result (λ answer.
         IsStreamedTo t D.tells (D.state deck.old) (D.state deck.new) recording.new.stream (O.written out.old) (O.written out.new) answer) }
-    ensures part { (t : TableRows) → IsFresh recording.old t → OnErr result (
+    ensures part { (t : TableRows) → IsUnbegun recording.old t → OnErr result (
         IsStreamedPart t D.tells (D.state deck.old) (D.state deck.new) (O.written out.old) (O.written out.new)) }
     ensures cause { OnErr result (Rose (O.faults out.old) (O.faults out.new)) }
     ensures monotone { O.faults out.old ≤ O.faults out.new }
@@ -141,9 +141,9 @@ fn stream_records<D: Deck, O: Sink>(
 
 /// Streams the trace of the deck's line, and gives the answer.
 fn stream_trace<D: Deck, O: Sink>(recording: &mut Recording, deck: &mut D, out: &mut O) -> Outcome
-    requires { (t : TableRows) × IsFresh recording.old t }
+    requires { (t : TableRows) × IsUnbegun recording.old t }
     ensures answer { IsOfTrace result }
-    ensures streams { (t : TableRows) → IsFresh recording.old t
+    ensures streams { (t : TableRows) → IsUnbegun recording.old t
         → Streams t D.tells (D.state deck.old) (D.state deck.new) (O.written out.old) (O.written out.new) result }
     ensures line_fault { result ≡ Outcome.ReadFault Input.Line → Rose (D.state deck.old).line_faults (D.state deck.new).line_faults }
     ensures write_fault { result ≡ Outcome.WriteFault → Rose (O.faults out.old) (O.faults out.new) }
@@ -204,7 +204,7 @@ pub fn stream<T: Source, D: Deck, O: Sink>(
     ensures stream { IsPastTable result
         → ByTable (T.rest table.old) (λ (t : TableRows). StreamsLine t D.tells (D.state deck.old) (D.state deck.new)
         (O.written out.old) (O.written out.new) result) }
-    ensures complete { (path : List ℕ) → IsWhole (stream_line path) (T.rest table.old) D.tells (D.state deck.old)
+    ensures complete { (path : List ℕ) → IsWholeInput (stream_line path) (T.rest table.old) D.tells (D.state deck.old)
         → IsFaultless (stream_line path) (T.faults table.old) (T.faults table.new) (D.state deck.old) (D.state deck.new)
         (O.faults out.old) (O.faults out.new)
         → (result ≡ Outcome.Done) ⊎ (result ≡ Outcome.NoMemory) }

@@ -7,7 +7,7 @@ ghost use Rattle.fdr_table.specs.Bounds.{most_table_bytes};
 ghost use Rattle.fdr_table.specs.Rows.{TableRows};
 ghost use Rattle.fdr_top.specs.Answers.{Asks, EndsBeforeDeck, IsPastTable, MayAnswer, ReadsTable, UsesDeck, WritesNothing, WritesText};
 ghost use Rattle.fdr_top.specs.Check.{Reports};
-ghost use Rattle.fdr_top.specs.Complete.{IsFaultless, IsWhole};
+ghost use Rattle.fdr_top.specs.Complete.{IsFaultless, IsWholeInput};
 ghost use Rattle.fdr_top.specs.Format.{Makes, new_header};
 ghost use Rattle.fdr_top.specs.Leaves.{Causes, LeavesAll, LeavesUnused};
 ghost use Rattle.fdr_top.specs.Limits.{TakesAtMost, piece_bytes};
@@ -88,7 +88,7 @@ pub fn run<T: Source, D: Deck, O: Sink>(
 
     // Right words, a table that is accepted, an input that is whole and no fault: all is done, or memory ended.
     ensures complete { (form : Form) → Asks (map string_bytes words.now) form
-        → IsWhole form (T.rest table.old) D.tells (D.state deck.old)
+        → IsWholeInput form (T.rest table.old) D.tells (D.state deck.old)
         → IsFaultless form (T.faults table.old) (T.faults table.new) (D.state deck.old) (D.state deck.new)
         (O.faults out.old) (O.faults out.new)
         → (result ≡ Outcome.Done) ⊎ (result ≡ Outcome.NoMemory) }

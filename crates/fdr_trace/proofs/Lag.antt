@@ -6,8 +6,8 @@ use Rattle.std.proofs.Math.Seq.{take-append-add}
 use Rattle.fdr_bus.specs.declared.BusRecord.{BusRecord}
 use Rattle.fdr_bus.specs.Records.{good_prefix}
 use Rattle.fdr_deck.specs.State.{State, Tells, Moment}
-use Rattle.fdr_deck.specs.Calls.{KeepsTold, IsFresh}
-use Rattle.fdr_deck.specs.Moments.{HasPulled, EachMoment, IsSound}
+use Rattle.fdr_deck.specs.Calls.{KeepsTold, HasOneAnnounced}
+use Rattle.fdr_deck.specs.Moments.{HasPulled, EachMoment, IsSoundDeck}
 use Rattle.fdr_deck.proofs.Moments.{EachMoment-weaken}
 use Rattle.fdr_trace.specs.Moments.{IsLastPull, IsTraceMoment, PullsFor}
 use Rattle.fdr_trace.specs.Pulls.{PullsMore}
@@ -68,10 +68,10 @@ IsInTime-pull owed start at bytes more records told before taken is enough last 
     }
 
 module _ (owed : List BusRecord → ℕ) (tells : Tells) (first old new : State)
-    (bytes more : List ℕ) (records : List BusRecord) (sound : IsSound tells old)
+    (bytes more : List ℕ) (records : List BusRecord) (sound : IsSoundDeck tells old)
     (up : KeepsUp owed tells first old bytes records)
     (pulls : PullsMore tells old new bytes more) (reads : PullsFor tells old new bytes more records)
-    (told : KeepsTold old new) (fresh : old.taken < new.taken → IsFresh new) where
+    (told : KeepsTold old new) (fresh : old.taken < new.taken → HasOneAnnounced new) where
   at_moment : (m : Moment) → IsTraceMoment old bytes more records m → IsLagMoment owed first (bytes ++ more) m
   at_moment m is = record {
     pulled = ⊎_elim

@@ -8,8 +8,8 @@ use Rattle.fdr_bus.specs.Records.{has_kind, last_time, most_records, record_faul
 use Rattle.fdr_bus.proofs.ParseLemmas.{record_fault_unnamed, record_fault_early, record_fault_late, record_fault_none}
 use Rattle.fdr_deck.specs.State.{State, Tells}
 use Rattle.fdr_trace.specs.declared.TraceStop.{TraceStop}
-use Rattle.fdr_trace.specs.Kept.{Kept}
-use Rattle.fdr_trace.specs.Reading.{Reads, IsNext, IsRefused, IsStopped, TakesRecord, RefusesRecord}
+use Rattle.fdr_trace.specs.Kept.{TraceKept}
+use Rattle.fdr_trace.specs.Reading.{RepresentsTrace, IsNextRecord, IsTraceRefused, IsTraceStopped, TakesRecord, RefusesRecord}
 use Rattle.fdr_trace.proofs.Records.{Reads-next, Reads-bad}
 
 -- no record by itself is cut short
@@ -25,7 +25,8 @@ never_truncated before bytes is = ⊎_elim
     (λ unnamed. (let e = record_fault_unnamed before bytes unnamed in absurd (cc)))
     (cases_Bool (has_kind bytes))
 
-refused_after : (tells : Tells) (now : State) (k k' : Kept) (bytes : List ℕ) (records : List BusRecord) (why : TraceStop) → Reads k bytes records → length records < most_records → (refuses : RefusesRecord k k' why) → IsRefused tells now bytes records k.count refuses.cause
+refused_after : (tells : Tells) (now : State) (k k' : TraceKept) (bytes : List ℕ) (records : List BusRecord) (why : TraceStop) → RepresentsTrace k bytes records
+    → length records < most_records → (refuses : RefusesRecord k k' why) → IsTraceRefused tells now bytes records k.count refuses.cause
 refused_after tells now k k' bytes records why reads few refuses =
     let bad = Reads-bad k k' bytes refuses.next records refuses.cause reads few refuses.sixteen refuses.waited refuses.bad refuses.first in
     record {
@@ -34,8 +35,9 @@ refused_after tells now k k' bytes records why reads few refuses =
       end = λ truncated. absurd (never_truncated k.time refuses.next (let first = refuses.first in rw truncated at first));
     }
 
-pub next_of : (tells : Tells) (old now : State) (k k' : Kept) (bytes : List ℕ) (records : List BusRecord) (r : Result BusRecord TraceStop) → Reads k bytes records → length records < most_records → IfOk r (TakesRecord k k') → IfErr r (RefusesRecord k k') →
-    MatchResult r (IsNext k' bytes records) (IsStopped tells old now bytes records)
+pub next_of : (tells : Tells) (old now : State) (k k' : TraceKept) (bytes : List ℕ) (records : List BusRecord) (r : Result BusRecord TraceStop)
+    → RepresentsTrace k bytes records → length records < most_records → IfOk r (TakesRecord k k') → IfErr r (RefusesRecord k k') →
+    MatchResult r (IsNextRecord k' bytes records) (IsTraceStopped tells old now bytes records)
 next_of tells old now k k' bytes records (Ok r) reads few takes refuses =
     Reads-next k k' bytes takes.next records r reads few takes.sixteen takes.waited takes.good takes.is takes.time takes.count
 next_of tells old now k k' bytes records (Err why) reads few takes refuses =

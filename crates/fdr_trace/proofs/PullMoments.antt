@@ -5,14 +5,14 @@ use Rattle.std.proofs.lemmas.List.{append-nil, take-append-le, take_at}
 use Rattle.fdr_bus.specs.declared.BusRecord.{BusRecord}
 use Rattle.fdr_bus.specs.Records.{IsDecided, good_prefix, most_records}
 use Rattle.fdr_deck.specs.State.{State, Tells, Moment}
-use Rattle.fdr_deck.specs.Calls.{KeepsTold, IsFresh, LeavesDisk}
-use Rattle.fdr_deck.specs.Moments.{HasPulled, IsNow, IsInside, Within, Elapses, EachMoment, IsSound}
+use Rattle.fdr_deck.specs.Calls.{KeepsTold, HasOneAnnounced, LeavesDisk}
+use Rattle.fdr_deck.specs.Moments.{HasPulled, IsNow, IsInsideCall, Within, Elapses, EachMoment, IsSoundDeck}
 use Rattle.fdr_deck.specs.Pull.{KeepsLine}
 use Rattle.fdr_deck.proofs.Moments.{Elapses-here, Elapses-then, EachMoment-then, EachMoment-weaken, KeepsTold-here, KeepsTold-then}
-use Rattle.fdr_trace.specs.Kept.{Kept}
+use Rattle.fdr_trace.specs.Kept.{TraceKept}
 use Rattle.fdr_trace.specs.Moments.{IsLastPull, IsPulling, IsTraceMoment, PullsFor}
 use Rattle.fdr_trace.specs.Pulls.{Pulled, PullsMore}
-use Rattle.fdr_trace.specs.Reading.{Reads}
+use Rattle.fdr_trace.specs.Reading.{RepresentsTrace}
 use Rattle.fdr_trace.proofs.Pulling.{LeavesDisk-here, LeavesDisk-then}
 use Rattle.fdr_trace.proofs.Records.{Reads-good, Reads-undecided}
 
@@ -20,10 +20,10 @@ use Rattle.fdr_trace.proofs.Records.{Reads-good, Reads-undecided}
 pub record KeepsDeck (tells : Tells) (old new : State) : Type 0 where
   pub disk : LeavesDisk old new
   pub told : KeepsTold old new
-  pub fresh : old.taken < new.taken → IsFresh new
+  pub fresh : old.taken < new.taken → HasOneAnnounced new
   pub time : Elapses tells old new
 
-pub KeepsDeck-here : (tells : Tells) (d : State) → IsSound tells d → KeepsDeck tells d d
+pub KeepsDeck-here : (tells : Tells) (d : State) → IsSoundDeck tells d → KeepsDeck tells d d
 KeepsDeck-here tells d sound = record {
   disk = LeavesDisk-here d;
   told = KeepsTold-here d;
@@ -32,7 +32,7 @@ KeepsDeck-here tells d sound = record {
 }
 
 pub KeepsDeck-then : (tells : Tells) (a b c : State) → KeepsDeck tells a b → LeavesDisk b c → KeepsTold b c
-    → (a.taken < c.taken → IsFresh c) → Elapses tells b c → KeepsDeck tells a c
+    → (a.taken < c.taken → HasOneAnnounced c) → Elapses tells b c → KeepsDeck tells a c
 KeepsDeck-then tells a b c first disk told fresh time = record {
   disk = LeavesDisk-then a b c first.disk disk;
   told = KeepsTold-then a b c first.told told;
@@ -41,8 +41,8 @@ KeepsDeck-then tells a b c first disk told fresh time = record {
 }
 
 -- a pull that took nothing leaves the numbers fresh
-fresh_kept : (a b c : State) → (a.taken < b.taken → IsFresh b) → KeepsLine b c → KeepsTold b c → a.taken < c.taken
-    → IsFresh c
+fresh_kept : (a b c : State) → (a.taken < b.taken → HasOneAnnounced b) → KeepsLine b c → KeepsTold b c → a.taken < c.taken
+    → HasOneAnnounced c
 fresh_kept a b c fresh line told more = ⊎_elim
     (λ anew. record { least = anew.0; greatest = anew.1 })
     (λ kept. let was = fresh (omega (arith, line.taken, more)) in
@@ -86,8 +86,8 @@ IsTraceMoment-more old bytes more later records m is = record {
 }
 
 -- a pull that gave bytes, where those before it held no whole record that wasn't read
-pub IsLastPull-pull : (tells : Tells) (a b c : State) (k : Kept) (bytes more piece : List ℕ) (records : List BusRecord)
-    → b.taken ≡ a.taken + length more → Reads k (bytes ++ more) records → length k.waiting < 16
+pub IsLastPull-pull : (tells : Tells) (a b c : State) (k : TraceKept) (bytes more piece : List ℕ) (records : List BusRecord)
+    → b.taken ≡ a.taken + length more → RepresentsTrace k (bytes ++ more) records → length k.waiting < 16
     → length records < most_records → Pulled tells b c piece → 0 < length piece
     → IsLastPull a.taken bytes (more ++ piece) records c.before c.taken
 IsLastPull-pull tells a b c k bytes more piece records taken reads waits few pull some =
@@ -105,8 +105,8 @@ IsLastPull-pull tells a b c k bytes more piece records taken reads waits few pul
     }
 
 -- the last pull after one pull more
-pub last_pulled : (tells : Tells) (a b c : State) (k : Kept) (bytes more piece : List ℕ) (records : List BusRecord)
-    → PullsMore tells a b bytes more → PullsFor tells a b bytes more records → Reads k (bytes ++ more) records
+pub last_pulled : (tells : Tells) (a b c : State) (k : TraceKept) (bytes more piece : List ℕ) (records : List BusRecord)
+    → PullsMore tells a b bytes more → PullsFor tells a b bytes more records → RepresentsTrace k (bytes ++ more) records
     → length k.waiting < 16 → length records < most_records
     → Pulled tells b c piece → 0 < length (more ++ piece) → IsLastPull a.taken bytes (more ++ piece) records c.before
     c.taken
@@ -148,7 +148,7 @@ pulled_since tells a s bytes more records m pulls last told here = ⊎_elim
     (cases_lt 0 (length more))
 
 -- Nothing was pulled yet.
-pub PullsFor-none : (tells : Tells) (d : State) (bytes : List ℕ) (records : List BusRecord) → IsSound tells d
+pub PullsFor-none : (tells : Tells) (d : State) (bytes : List ℕ) (records : List BusRecord) → IsSoundDeck tells d
     → PullsFor tells d d bytes [] records
 PullsFor-none tells d bytes records sound = record {
   last = λ some. absurd (omega (arith, some));
@@ -159,7 +159,7 @@ PullsFor-none tells d bytes records sound = record {
 
 -- One pull more, whatever it answered.
 pub PullsFor-then : (tells : Tells) (a b c : State) (bytes more piece : List ℕ) (records : List BusRecord)
-    → IsSound tells a → KeepsDeck tells a b → PullsMore tells a b bytes more → PullsFor tells a b bytes more records
+    → IsSoundDeck tells a → KeepsDeck tells a b → PullsMore tells a b bytes more → PullsFor tells a b bytes more records
     → LeavesDisk b c → Elapses tells b c
     → EachMoment tells b c (Within b c) → PullsMore tells a c bytes (more ++ piece)
     → (0 < length (more ++ piece) → IsLastPull a.taken bytes (more ++ piece) records c.before c.taken) → PullsFor
@@ -205,7 +205,7 @@ PullsFor-then tells a b c bytes more piece records sound deck pulls was disk tim
       pulled = widen m (pulled_since tells a b bytes more records m pulls was.last (told_fresh m now) now.pulled);
     }
 
-    amid : (m : Moment) → IsInside b c m → IsTraceMoment a bytes (more ++ piece) records m
+    amid : (m : Moment) → IsInsideCall b c m → IsTraceMoment a bytes (more ++ piece) records m
     amid m inside =
         let told : m.told ≡ a.told = inside.told ∙ deck.told.told in
         record {
@@ -220,7 +220,7 @@ PullsFor-then tells a b c bytes more piece records sound deck pulls was disk tim
         }
 
 -- One pull more, which failed.
-pub PullsFor-kept : (tells : Tells) (a b c : State) (bytes more : List ℕ) (records : List BusRecord) → IsSound tells a
+pub PullsFor-kept : (tells : Tells) (a b c : State) (bytes more : List ℕ) (records : List BusRecord) → IsSoundDeck tells a
     → KeepsDeck tells a b → PullsMore tells a b bytes more → PullsFor tells a b bytes more records → LeavesDisk b c
     → Elapses tells b c
     → EachMoment tells b c (Within b c) → PullsMore tells a c bytes more → KeepsLine b c → PullsFor tells a c bytes

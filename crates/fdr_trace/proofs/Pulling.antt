@@ -55,7 +55,8 @@ front_none : (taken before : ℕ) → before ≡ taken → before - taken ≡ 0
 front_none taken before same = omega arith
 
 -- one stretch of pulls behind another
-pub PullsMore-then : (tells : Tells) (a b c : State) (bytes more later : List ℕ) → PullsMore tells a b bytes more → PullsMore tells b c (bytes ++ more) later → PullsMore tells a c bytes (more ++ later)
+pub PullsMore-then : (tells : Tells) (a b c : State) (bytes more later : List ℕ) → PullsMore tells a b bytes more → PullsMore tells b c (bytes ++ more) later
+    → PullsMore tells a c bytes (more ++ later)
 PullsMore-then tells a b c bytes more later first second = record {
   takes = TakesLine-then tells a b c more later first.takes second.takes;
   none = λ e. second.none (omega (arith, length-append more later)) ∙ first.none (omega (arith, length-append more later));
@@ -80,13 +81,15 @@ PullsMore-then tells a b c bytes more later first second = record {
       let begins = second.begins here in
       let from : length more ≤ c.before - a.taken = omega (arith, begins, first.takes.taken) in
       let rest : c.before - a.taken - length more ≡ c.before - b.taken = omega (arith, begins, first.takes.taken) in
-      second.undecided here (subst IsDecided (front_of_both bytes more later (c.before - a.taken) from ∙ ap (λ n. (bytes ++ more) ++ take n later) rest) decided))
+      second.undecided here (subst IsDecided (front_of_both bytes more later (c.before - a.taken) from ∙ ap (λ n. (bytes ++ more) ++ take n later) rest)
+      decided))
       (λ none.
       let same = second.none (omega (arith, none)) in
       let some_first : 0 < length more = omega (arith, length-append more later, none) in
       let begins = first.begins some_first in
       let few = first.few some_first in
-      first.undecided some_first (subst IsDecided (ap (λ (x : List ℕ). bytes ++ x) (ap (λ n. take n (more ++ later)) (ap (λ n. n - a.taken) same) ∙ nothing_more more later (b.before - a.taken) (omega (arith, none)))) decided))
+      first.undecided some_first (subst IsDecided (ap (λ (x : List ℕ). bytes ++ x)
+      (ap (λ n. take n (more ++ later)) (ap (λ n. n - a.taken) same) ∙ nothing_more more later (b.before - a.taken) (omega (arith, none)))) decided))
       (cases_lt 0 (length later));
   faults = omega (arith, first.faults, second.faults);
 }
@@ -102,7 +105,9 @@ PullsMore-pull tells a b c bytes more piece first undecided pull faults =
       begins = λ some. omega (arith, pull.began some);
       some = λ some. omega (arith, pull.began some, pull.takes.taken, some);
       few = λ some. omega (arith, pull.began some, pull.takes.taken, pull.few);
-      undecided = λ some decided. undecided (subst IsDecided (ap (λ (x : List ℕ). (bytes ++ more) ++ x) (ap (λ n. take n piece) (front_none b.taken c.before (pull.began some))) ∙ append-nil (bytes ++ more)) decided);
+      undecided = λ some decided. undecided (subst IsDecided
+          (ap (λ (x : List ℕ). (bytes ++ more) ++ x) (ap (λ n. take n piece) (front_none b.taken c.before (pull.began some))) ∙ append-nil (bytes ++ more))
+          decided);
       faults = faults;
     })
 

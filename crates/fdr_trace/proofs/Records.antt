@@ -1,17 +1,19 @@
 -- Which records of a trace were read, as bytes are pulled and records taken.
-use Rattle.std.proofs.Common.{◌≡◌, ℕ, ◌+◌, ◌<◌, ◌≤◌, ◌≢◌, true, false, List, [], ◌∷◌, ◌++◌, length, Option, Some, ap, sym, ◌∙◌, subst, append_assoc, length-append, arith}
-use Rattle.std.proofs.lemmas.List.Sums.{fold_push}
+use Rattle.std.proofs.Common.{◌≡◌, ℕ, ◌+◌, ◌<◌, ◌≤◌, ◌≢◌, true, false, List, [], ◌∷◌, ◌++◌, length, Option, Some, ap, sym, ◌∙◌, subst, append_assoc}
+use Rattle.std.proofs.Common.{length-append, arith}
 use Rattle.fdr_bus.specs.declared.BusRecord.{BusRecord}
 use Rattle.fdr_bus.specs.declared.TraceFault.{TraceFault}
 use Rattle.fdr_bus.specs.declared.TraceFault.TheVariants as fault
 use Rattle.fdr_bus.specs.Records.{IsDecided, good_prefix, is_end, is_good, last_time, most_records, record_fault, record_of, time_of, trace_fault}
 use Rattle.fdr_bus.proofs.ParseLemmas.{is_good_in_order, is_good_in_time}
-use Rattle.fdr_bus.proofs.TraceLemmas.{good_prefix_none, IsOpen_none, length-good_prefix-most, good_prefix-next, IsOpen-next, good_prefix-rest, good_prefix-end, good_prefix-bad, good_prefix-many, trace_fault-bad, trace_fault-many, trace_fault-truncated, IsDecided-rest}
-use Rattle.fdr_trace.specs.Kept.{Kept}
-use Rattle.fdr_trace.specs.Reading.{Reads, IsNext}
+use Rattle.fdr_bus.proofs.TraceLemmas.{good_prefix_none, IsOpen_none, length-good_prefix-most, good_prefix-next, IsOpen-next, good_prefix-rest, good_prefix-end}
+use Rattle.fdr_bus.proofs.TraceLemmas.{time_of-push}
+use Rattle.fdr_bus.proofs.TraceLemmas.{good_prefix-bad, good_prefix-many, trace_fault-bad, trace_fault-many, trace_fault-truncated, IsDecided-rest}
+use Rattle.fdr_trace.specs.Kept.{TraceKept}
+use Rattle.fdr_trace.specs.Reading.{RepresentsTrace, IsNextRecord}
 
 -- nothing was pulled or read yet
-pub Reads-none : (k : Kept) → k.waiting ≡ [] → k.time ≡ 0 → k.count ≡ 0 → Reads k [] []
+pub Reads-none : (k : TraceKept) → k.waiting ≡ [] → k.time ≡ 0 → k.count ≡ 0 → RepresentsTrace k [] []
 Reads-none k waiting time count = record {
   read = [];
   split = sym waiting;
@@ -22,7 +24,8 @@ Reads-none k waiting time count = record {
 }
 
 -- a piece more
-pub Reads-pull : (k k' : Kept) (bytes piece : List ℕ) (records : List BusRecord) → Reads k bytes records → k'.waiting ≡ k.waiting ++ piece → k'.time ≡ k.time → k'.count ≡ k.count → Reads k' (bytes ++ piece) records
+pub Reads-pull : (k k' : TraceKept) (bytes piece : List ℕ) (records : List BusRecord) → RepresentsTrace k bytes records → k'.waiting ≡ k.waiting ++ piece
+    → k'.time ≡ k.time → k'.count ≡ k.count → RepresentsTrace k' (bytes ++ piece) records
 Reads-pull k k' bytes piece records reads waiting time count = record {
   read = reads.read;
   split = ap (λ (x : List ℕ). x ++ piece) reads.split ∙ append_assoc reads.read k.waiting piece ∙ ap (λ (x : List ℕ). reads.read ++ x) (sym waiting);
@@ -32,63 +35,72 @@ Reads-pull k k' bytes piece records reads waiting time count = record {
   count = count ∙ reads.count;
 }
 
-few_good : (k : Kept) (bytes : List ℕ) (records : List BusRecord) (reads : Reads k bytes records) → length records < most_records → length (good_prefix reads.read) < most_records
+few_good : (k : TraceKept) (bytes : List ℕ) (records : List BusRecord) (reads : RepresentsTrace k bytes records) → length records < most_records
+    → length (good_prefix reads.read) < most_records
 few_good k bytes records reads few = subst (λ (x : List BusRecord). length x < most_records) reads.good few
 
 -- fewer than the most records were read, where the count isn't the most
-pub Reads-few : (k : Kept) (bytes : List ℕ) (records : List BusRecord) → Reads k bytes records → k.count ≢ 4294967296 → length records < most_records
+pub Reads-few : (k : TraceKept) (bytes : List ℕ) (records : List BusRecord) → RepresentsTrace k bytes records → k.count ≢ 4294967296
+    → length records < most_records
 unfolding most_records
 Reads-few k bytes records reads not_most = omega (arith, reads.count, ap length reads.good, length-good_prefix-most reads.read, not_most)
 
-pub Reads-counts : (k : Kept) (bytes : List ℕ) (records : List BusRecord) → Reads k bytes records → k.count ≤ 4294967296
+pub Reads-counts : (k : TraceKept) (bytes : List ℕ) (records : List BusRecord) → RepresentsTrace k bytes records → k.count ≤ 4294967296
 unfolding most_records
 Reads-counts k bytes records reads = omega (arith, reads.count, ap length reads.good, length-good_prefix-most reads.read)
 
 -- where less than a record waits, the records are all the good ones
-pub Reads-good : (k : Kept) (bytes : List ℕ) (records : List BusRecord) → Reads k bytes records → length k.waiting < 16 → good_prefix bytes ≡ records
+pub Reads-good : (k : TraceKept) (bytes : List ℕ) (records : List BusRecord) → RepresentsTrace k bytes records → length k.waiting < 16
+    → good_prefix bytes ≡ records
 Reads-good k bytes records reads waits =
     ap good_prefix reads.split ∙ good_prefix-rest reads.read k.waiting reads.unended waits ∙ sym reads.good
 
-pub Reads-undecided : (k : Kept) (bytes : List ℕ) (records : List BusRecord) → Reads k bytes records → length k.waiting < 16 → length records < most_records → IsDecided bytes → ⊥
+pub Reads-undecided : (k : TraceKept) (bytes : List ℕ) (records : List BusRecord) → RepresentsTrace k bytes records → length k.waiting < 16
+    → length records < most_records → IsDecided bytes → ⊥
 Reads-undecided k bytes records reads waits few decided =
     IsDecided-rest reads.read k.waiting reads.unended (few_good k bytes records reads few) waits (subst IsDecided reads.split decided)
 
-counted : (k : Kept) (bytes : List ℕ) (records : List BusRecord) (reads : Reads k bytes records) (why : TraceFault) → ◌≡◌ {A = Option (ℕ × TraceFault)} (Some (length (good_prefix reads.read), why)) (Some (k.count, why))
+counted : (k : TraceKept) (bytes : List ℕ) (records : List BusRecord) (reads : RepresentsTrace k bytes records) (why : TraceFault)
+    → ◌≡◌ {A = Option (ℕ × TraceFault)} (Some (length (good_prefix reads.read), why)) (Some (k.count, why))
 counted k bytes records reads why = ap (λ n. let fault : Option (ℕ × TraceFault) = Some (n, why) in fault) (ap length (sym reads.good) ∙ sym reads.count)
 
-pub Reads-truncated : (k : Kept) (bytes : List ℕ) (records : List BusRecord) → Reads k bytes records → length k.waiting < 16 → length records < most_records → trace_fault bytes ≡ Some (k.count, fault.Truncated)
+pub Reads-truncated : (k : TraceKept) (bytes : List ℕ) (records : List BusRecord) → RepresentsTrace k bytes records → length k.waiting < 16
+    → length records < most_records → trace_fault bytes ≡ Some (k.count, fault.Truncated)
 Reads-truncated k bytes records reads waits few =
     ap trace_fault reads.split
     ∙ trace_fault-truncated reads.read k.waiting reads.unended (few_good k bytes records reads few) waits
     ∙ counted k bytes records reads fault.Truncated
 
 -- where the most records were read
-pub Reads-many : (k : Kept) (bytes : List ℕ) (records : List BusRecord) → Reads k bytes records → k.count ≡ most_records → (good_prefix bytes ≡ records) × (trace_fault bytes ≡ Some (k.count, fault.Many))
+pub Reads-many : (k : TraceKept) (bytes : List ℕ) (records : List BusRecord) → RepresentsTrace k bytes records → k.count ≡ most_records
+    → (good_prefix bytes ≡ records) × (trace_fault bytes ≡ Some (k.count, fault.Many))
 Reads-many k bytes records reads many =
     let all : length (good_prefix reads.read) ≡ most_records = ap length (sym reads.good) ∙ sym reads.count ∙ many in (
       ap good_prefix reads.split ∙ good_prefix-many reads.read k.waiting all ∙ sym reads.good,
       ap trace_fault reads.split ∙ trace_fault-many reads.read k.waiting reads.unended all ∙ counted k bytes records reads fault.Many,
     )
 
-good_after : (k : Kept) (bytes next : List ℕ) (records : List BusRecord) (reads : Reads k bytes records) → is_good k.time next ≡ true → is_good (time_of (good_prefix reads.read)) next ≡ true
+good_after : (k : TraceKept) (bytes next : List ℕ) (records : List BusRecord) (reads : RepresentsTrace k bytes records) → is_good k.time next ≡ true
+    → is_good (time_of (good_prefix reads.read)) next ≡ true
 good_after k bytes next records reads good = subst (λ n. is_good n next ≡ true) (reads.time ∙ ap time_of reads.good) good
 
-split_next : (k k' : Kept) (bytes next : List ℕ) (records : List BusRecord) (reads : Reads k bytes records) → k.waiting ≡ next ++ k'.waiting → bytes ≡ (reads.read ++ next) ++ k'.waiting
+split_next : (k k' : TraceKept) (bytes next : List ℕ) (records : List BusRecord) (reads : RepresentsTrace k bytes records) → k.waiting ≡ next ++ k'.waiting
+    → bytes ≡ (reads.read ++ next) ++ k'.waiting
 split_next k k' bytes next records reads waiting =
     reads.split ∙ ap (λ (x : List ℕ). reads.read ++ x) waiting ∙ sym (append_assoc reads.read next k'.waiting)
 
-time_push : (records : List BusRecord) (r : BusRecord) → time_of (records ++ r ∷ []) ≡ r.time
-time_push records r = fold_push (λ time (r : BusRecord). r.time) 0 records r
-
 -- a good record more
-pub Reads-next : (k k' : Kept) (bytes next : List ℕ) (records : List BusRecord) (r : BusRecord) → Reads k bytes records → length records < most_records → length next ≡ 16 → k.waiting ≡ next ++ k'.waiting → is_good k.time next ≡ true → r ≡ record_of next → k'.time ≡ r.time → k'.count ≡ k.count + 1 →
-    IsNext k' bytes records r
+pub Reads-next : (k k' : TraceKept) (bytes next : List ℕ) (records : List BusRecord) (r : BusRecord) → RepresentsTrace k bytes records
+    → length records < most_records → length next ≡ 16 → k.waiting ≡ next ++ k'.waiting → is_good k.time next ≡ true → r ≡ record_of next → k'.time ≡ r.time
+    → k'.count ≡ k.count + 1 →
+    IsNextRecord k' bytes records r
 Reads-next k k' bytes next records r reads few sixteen waiting good is time count =
     let good_next = good_after k bytes next records reads good in
     let few_read = few_good k bytes records reads few in
     let here = split_next k k' bytes next records reads waiting in
     record {
-      order = subst (λ (x : BusRecord). time_of records ≤ x.time) (sym is) (subst (λ n. n ≤ (record_of next).time) reads.time (is_good_in_order k.time next good));
+      order = subst (λ (x : BusRecord). time_of records ≤ x.time) (sym is)
+          (subst (λ n. n ≤ (record_of next).time) reads.time (is_good_in_order k.time next good));
       in_time = subst (λ (x : BusRecord). x.time ≤ last_time) (sym is) (is_good_in_time k.time next good);
       more = λ goes_on.
           let goes = subst (λ (x : BusRecord). is_end x ≡ false) is goes_on in
@@ -96,8 +108,9 @@ Reads-next k k' bytes next records r reads few sixteen waiting good is time coun
             read = reads.read ++ next;
             split = here;
             unended = IsOpen-next reads.read next reads.unended few_read sixteen good_next goes;
-            good = ap (λ (x : List BusRecord). x ++ r ∷ []) reads.good ∙ ap (λ (x : BusRecord). good_prefix reads.read ++ x ∷ []) is ∙ sym (good_prefix-next reads.read next reads.unended few_read sixteen good_next);
-            time = time ∙ sym (time_push records r);
+            good = ap (λ (x : List BusRecord). x ++ r ∷ []) reads.good ∙ ap (λ (x : BusRecord). good_prefix reads.read ++ x ∷ []) is
+                ∙ sym (good_prefix-next reads.read next reads.unended few_read sixteen good_next);
+            time = time ∙ sym (time_of-push records r);
             count = omega (arith, count, reads.count, length-append records (r ∷ []));
           };
       ends = λ ended.
@@ -107,7 +120,8 @@ Reads-next k k' bytes next records r reads few sixteen waiting good is time coun
     }
 
 -- a record that isn't good
-pub Reads-bad : (k k' : Kept) (bytes next : List ℕ) (records : List BusRecord) (why : TraceFault) → Reads k bytes records → length records < most_records → length next ≡ 16 → k.waiting ≡ next ++ k'.waiting → is_good k.time next ≡ false → record_fault k.time next ≡ Some why →
+pub Reads-bad : (k k' : TraceKept) (bytes next : List ℕ) (records : List BusRecord) (why : TraceFault) → RepresentsTrace k bytes records
+    → length records < most_records → length next ≡ 16 → k.waiting ≡ next ++ k'.waiting → is_good k.time next ≡ false → record_fault k.time next ≡ Some why →
     (good_prefix bytes ≡ records) × (trace_fault bytes ≡ Some (k.count, why))
 Reads-bad k k' bytes next records why reads few sixteen waiting bad first =
     let time : k.time ≡ time_of (good_prefix reads.read) = reads.time ∙ ap time_of reads.good in

@@ -2,12 +2,12 @@
 use Rattle.std.specs.Prelude.{ℕ, ◌≡◌, ◌≤◌, List, length}
 
 -- the bytes that were pulled and not yet read, the time of the last record that was read, and how many were
-pub record Kept : Type 0 where
+pub record TraceKept : Type 0 where
   pub waiting : List ℕ
   pub time : ℕ
   pub count : ℕ
 
 -- what holds of every value, whose bytes have room for this many: a piece of 4,096, and less than a record before it
-pub record IsKept (k : Kept) (capacity : ℕ) : Type 0 where
+pub record IsTraceKept (k : TraceKept) (capacity : ℕ) : Type 0 where
   pub room : capacity ≡ 4112
   pub within : length k.waiting ≤ 4112

@@ -8,10 +8,10 @@ use Rattle.fdr_bus.specs.declared.TraceFault.TheVariants as fault
 use Rattle.fdr_bus.specs.Records.{IsDecided, IsOpen, good_prefix, is_end, is_good, last_time, record_fault, record_of, time_of, trace_fault}
 use Rattle.fdr_trace.specs.declared.TraceStop.{TraceStop}
 use Rattle.fdr_trace.specs.declared.TraceStop.TheVariants as stop
-use Rattle.fdr_trace.specs.Kept.{Kept}
+use Rattle.fdr_trace.specs.Kept.{TraceKept}
 
 -- The value stands where these bytes were pulled, and these records of them were read: good ones, with no end among them.
-pub record Reads (k : Kept) (bytes : List ℕ) (records : List BusRecord) : Type 0 where
+pub record RepresentsTrace (k : TraceKept) (bytes : List ℕ) (records : List BusRecord) : Type 0 where
   pub read : List ℕ
   pub split : bytes ≡ read ++ k.waiting
   pub unended : IsOpen read
@@ -20,14 +20,14 @@ pub record Reads (k : Kept) (bytes : List ℕ) (records : List BusRecord) : Type
   pub count : k.count ≡ length records
 
 -- Of these bytes the record comes after those records. More can follow it where it isn't the end.
-pub record IsNext (k : Kept) (bytes : List ℕ) (records : List BusRecord) (r : BusRecord) : Type 0 where
+pub record IsNextRecord (k : TraceKept) (bytes : List ℕ) (records : List BusRecord) (r : BusRecord) : Type 0 where
   pub order : time_of records ≤ r.time
   pub in_time : r.time ≤ last_time
-  pub more : is_end r ≡ false → Reads k bytes (records ++ r ∷ [])
+  pub more : is_end r ≡ false → RepresentsTrace k bytes (records ++ r ∷ [])
   pub ends : is_end r ≡ true → good_prefix bytes ≡ records ++ r ∷ []
 
 -- The trace is refused after these records, which are all the good ones of these bytes.
-pub record IsRefused (tells : Tells) (new : State) (bytes : List ℕ) (records : List BusRecord) (index : ℕ) (why : TraceFault) : Type 0 where
+pub record IsTraceRefused (tells : Tells) (new : State) (bytes : List ℕ) (records : List BusRecord) (index : ℕ) (why : TraceFault) : Type 0 where
   pub good : good_prefix bytes ≡ records
   pub first : trace_fault bytes ≡ Some (index, why)
   pub end : why ≡ fault.Truncated → IsTrue tells.line → new.line ≡ []
@@ -39,17 +39,17 @@ pub record IsCutOff (old new : State) (bytes : List ℕ) (records : List BusReco
   pub cause : Rose old.line_faults new.line_faults
 
 -- why no record comes after these
-abbrev pub IsStopped : Tells → State → State → List ℕ → List BusRecord → TraceStop → Type 0
-IsStopped tells old new bytes records (stop.Refused index why) = IsRefused tells new bytes records index why
-IsStopped tells old new bytes records stop.Failed = IsCutOff old new bytes records
+abbrev pub IsTraceStopped : Tells → State → State → List ℕ → List BusRecord → TraceStop → Type 0
+IsTraceStopped tells old new bytes records (stop.Refused index why) = IsTraceRefused tells new bytes records index why
+IsTraceStopped tells old new bytes records stop.Failed = IsCutOff old new bytes records
 
 -- A whole record waits behind these records.
-pub record IsFilled (k : Kept) (bytes : List ℕ) (records : List BusRecord) : Type 0 where
-  pub reads : Reads k bytes records
+pub record IsFilled (k : TraceKept) (bytes : List ℕ) (records : List BusRecord) : Type 0 where
+  pub reads : RepresentsTrace k bytes records
   pub waits : 16 ≤ length k.waiting
 
 -- The record that waited was read, and it is a good one.
-pub record TakesRecord (old new : Kept) (r : BusRecord) : Type 0 where
+pub record TakesRecord (old new : TraceKept) (r : BusRecord) : Type 0 where
   pub next : List ℕ
   pub sixteen : length next ≡ 16
   pub waited : old.waiting ≡ next ++ new.waiting
@@ -59,7 +59,7 @@ pub record TakesRecord (old new : Kept) (r : BusRecord) : Type 0 where
   pub count : new.count ≡ old.count + 1
 
 -- The record that waited was read, and it isn't a good one.
-pub record RefusesRecord (old new : Kept) (why : TraceStop) : Type 0 where
+pub record RefusesRecord (old new : TraceKept) (why : TraceStop) : Type 0 where
   pub next : List ℕ
   pub cause : TraceFault
   pub sixteen : length next ≡ 16

@@ -1,6 +1,6 @@
 -- What a value of the program keeps.
 use Rattle.fdr_trace.specs.declared.TraceLine.TheInside.{Inside}
-use Rattle.fdr_trace.specs.Kept.{Kept}
+use Rattle.fdr_trace.specs.Kept.{TraceKept}
 
-abbrev pub kept_of : Inside → Kept
-kept_of t = record { waiting = t.waiting.items; time = t.time; count = t.count }
+abbrev pub trace_kept : Inside → TraceKept
+trace_kept t = record { waiting = t.waiting.items; time = t.time; count = t.count }

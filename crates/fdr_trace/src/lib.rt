@@ -3,14 +3,14 @@
 
 ghost use Rattle.std.specs.Prelude.{◌≡◌, ◌≢◌, ◌<◌, ◌≤◌, ◌+◌, ℕ, List, [], ◌++◌, length, Err, IfOk, IfErr, OnOk, OnErr, MatchResult, IsTrue};
 ghost use Rattle.fdr_io.specs.Faults.{Rose};
-ghost use Rattle.fdr_deck.specs.Calls.{KeepsTold, IsFresh, LeavesDisk};
+ghost use Rattle.fdr_deck.specs.Calls.{KeepsTold, HasOneAnnounced, LeavesDisk};
 ghost use Rattle.fdr_deck.specs.Moments.{Elapses, EachMoment, Within};
 ghost use Rattle.fdr_deck.specs.Pull.{KeepsLine};
 ghost use Rattle.fdr_bus.specs.Records.{most_records};
 ghost use Rattle.fdr_bus.specs.declared.BusRecord.{BusRecord};
 ghost use Rattle.fdr_trace.specs.Moments.{PullsFor};
 ghost use Rattle.fdr_trace.specs.Pulls.{Pulled, PullsMore};
-ghost use Rattle.fdr_trace.specs.Reading.{Reads, IsNext, IsStopped, IsFilled, TakesRecord, RefusesRecord};
+ghost use Rattle.fdr_trace.specs.Reading.{RepresentsTrace, IsNextRecord, IsTraceStopped, IsFilled, TakesRecord, RefusesRecord};
 
 use circular_buffer::HeapCircularBuffer;
 use fdr_bus::{BusRecord, TraceFault, parse};
@@ -20,7 +20,7 @@ use std::alloc::{AllocError, Global};
 use std::marker::Model;
 
 /// The most good records that a trace has.
-pub const MOST_RECORDS: u64 = 4_294_967_296;
+pub const MAX_RECORDS: u64 = 4_294_967_296;
 
 /// How many bytes a record has.
 const RECORD: usize = 16;
@@ -46,21 +46,21 @@ pub struct TraceLine {
 }
 
 impl Model for TraceLine {
-    ghost use Rattle.fdr_trace.specs.Kept.{Kept, IsKept};
+    ghost use Rattle.fdr_trace.specs.Kept.{TraceKept, IsTraceKept};
 
-    ghost Value = { Kept };
+    ghost Value = { TraceKept };
 
-    ghost use Rattle.fdr_trace.specs.View.{kept_of};
+    ghost use Rattle.fdr_trace.specs.View.{trace_kept};
 
-    ghost view = { kept_of };
+    ghost view = { trace_kept };
 
-    ghost invariant = { λ t. IsKept (kept_of t) t.waiting.capacity };
+    ghost invariant = { λ t. IsTraceKept (trace_kept t) t.waiting.capacity };
 }
 
 impl TraceLine {
     /// Makes room for a piece of a trace. Fails only where memory ends; no other call here takes any.
     pub fn new(alloc: Global) -> Result<TraceLine, AllocError>
-        ensures { IfOk result (λ trace. Reads trace [] []) }
+        ensures { IfOk result (λ trace. RepresentsTrace trace [] []) }
     {
         let waiting = HeapCircularBuffer::with_capacity(alloc, RECORD + PIECE)?;
         Ok(TraceLine {
@@ -73,20 +73,20 @@ impl TraceLine {
     /// The next record of the trace, which may be its end. It pulls only where less than a record waits. It
     /// leaves the deck's disk and its announced number.
     pub fn next<D: Deck>(&mut self, deck: &mut D) -> Result<BusRecord, TraceStop>
-        requires { (bytes : List ℕ) × (records : List BusRecord) × Reads self.old bytes records }
-        ensures next { (bytes : List ℕ) (records : List BusRecord) → Reads self.old bytes records
+        requires { (bytes : List ℕ) × (records : List BusRecord) × RepresentsTrace self.old bytes records }
+        ensures next { (bytes : List ℕ) (records : List BusRecord) → RepresentsTrace self.old bytes records
             → (more : List ℕ) × PullsMore D.tells (D.state deck.old) (D.state deck.new) bytes more
-            × MatchResult result (IsNext self.new (bytes ++ more) records)
-            (IsStopped D.tells (D.state deck.old) (D.state deck.new) (bytes ++ more) records)
+            × MatchResult result (IsNextRecord self.new (bytes ++ more) records)
+            (IsTraceStopped D.tells (D.state deck.old) (D.state deck.new) (bytes ++ more) records)
             × PullsFor D.tells (D.state deck.old) (D.state deck.new) bytes more records }
         ensures quiet { result ≢ Err TraceStop.Failed → (D.state deck.new).line_faults ≡ (D.state deck.old).line_faults }
         ensures disk { LeavesDisk (D.state deck.old) (D.state deck.new) }
         ensures told { KeepsTold (D.state deck.old) (D.state deck.new) }
-        ensures fresh { (D.state deck.old).taken < (D.state deck.new).taken → IsFresh (D.state deck.new) }
+        ensures fresh { (D.state deck.old).taken < (D.state deck.new).taken → HasOneAnnounced (D.state deck.new) }
         ensures time { Elapses D.tells (D.state deck.old) (D.state deck.new) }
         ensures rest { D.same_rest deck.old deck.new }
     {
-        if self.count() == MOST_RECORDS {
+        if self.count() == MAX_RECORDS {
             return Err(self.refused(TraceFault::Many));
         }
         match self.fill(deck) {
@@ -105,7 +105,7 @@ impl TraceLine {
     /// Reads the record that waits.
     fn read(&mut self) -> Result<BusRecord, TraceStop>
         requires waits { 16 ≤ length self.old.waiting }
-        requires few { self.old.count < most_records }
+        requires more_to_come { self.old.count < most_records }
         ensures good { IfOk result (TakesRecord self.old self.new) }
         ensures bad { IfErr result (RefusesRecord self.old self.new) }
     {
@@ -152,17 +152,17 @@ impl TraceLine {
 
     /// Pulls until a whole record waits.
     fn fill<D: Deck>(&mut self, deck: &mut D) -> Result<(), TraceStop>
-        requires { (bytes : List ℕ) × (records : List BusRecord) × Reads self.old bytes records × (length records < most_records) }
-        ensures filled { (bytes : List ℕ) (records : List BusRecord) → Reads self.old bytes records
+        requires { (bytes : List ℕ) × (records : List BusRecord) × RepresentsTrace self.old bytes records × (length records < most_records) }
+        ensures filled { (bytes : List ℕ) (records : List BusRecord) → RepresentsTrace self.old bytes records
             → length records < most_records
             → (more : List ℕ) × PullsMore D.tells (D.state deck.old) (D.state deck.new) bytes more
             × MatchResult result (λ done. IsFilled self.new (bytes ++ more) records)
-            (IsStopped D.tells (D.state deck.old) (D.state deck.new) (bytes ++ more) records)
+            (IsTraceStopped D.tells (D.state deck.old) (D.state deck.new) (bytes ++ more) records)
             × PullsFor D.tells (D.state deck.old) (D.state deck.new) bytes more records }
         ensures quiet { result ≢ Err TraceStop.Failed → (D.state deck.new).line_faults ≡ (D.state deck.old).line_faults }
         ensures disk { LeavesDisk (D.state deck.old) (D.state deck.new) }
         ensures told { KeepsTold (D.state deck.old) (D.state deck.new) }
-        ensures fresh { (D.state deck.old).taken < (D.state deck.new).taken → IsFresh (D.state deck.new) }
+        ensures fresh { (D.state deck.old).taken < (D.state deck.new).taken → HasOneAnnounced (D.state deck.new) }
         ensures time { Elapses D.tells (D.state deck.old) (D.state deck.new) }
         ensures rest { D.same_rest deck.old deck.new }
     {
@@ -187,7 +187,7 @@ impl TraceLine {
         ensures monotone { (D.state deck.old).line_faults ≤ (D.state deck.new).line_faults }
         ensures disk { LeavesDisk (D.state deck.old) (D.state deck.new) }
         ensures told { KeepsTold (D.state deck.old) (D.state deck.new) }
-        ensures fresh { OnOk result (IsFresh (D.state deck.new)) }
+        ensures fresh { OnOk result (HasOneAnnounced (D.state deck.new)) }
         ensures time { Elapses D.tells (D.state deck.old) (D.state deck.new) }
         ensures moments { EachMoment D.tells (D.state deck.old) (D.state deck.new) (Within (D.state deck.old) (D.state deck.new)) }
         ensures rest { D.same_rest deck.old deck.new }

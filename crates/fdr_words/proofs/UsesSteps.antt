@@ -1,27 +1,32 @@
 -- What the words give, one word at a time.
-use Rattle.std.proofs.Common.{◌≡◌, ◌∙◌, ap, subst, sym, refl, ℕ, suc, ◌+◌, ◌-◌, ◌<◌, ◌≤◌, Bool, true, false, List, [], ◌∷◌, Option, Some, None, length, get_or, take, drop, map, arith}
+use Rattle.std.proofs.Common.{◌≡◌, ◌∙◌, ap, subst, sym, refl, ℕ, suc, ◌+◌, ◌-◌, ◌<◌, ◌≤◌, Bool, true, false, List, [], ◌∷◌, Option, Some, None, length, get_or}
+use Rattle.std.proofs.Common.{take, drop, map, arith}
 use Rattle.std.specs.Prelude.{if◌then◌else◌, is_none, nat_lt}
 use Rattle.std.proofs.Math.Seq.{take-length}
 use Rattle.std.specs.Option.{option_and_then}
 use Rattle.std.proofs.lemmas.Bool.{ltb-true}
 use Rattle.fdr_words.specs.declared.uses.OptionName.{OptionName}
 use Rattle.fdr_words.specs.declared.uses.OptionName.TheVariants as name
-use Rattle.fdr_words.specs.Words.{Word, plain, named, given, wrong, is_plain, word_of, Uses, no_uses, with_plain, with_value, followed, most_form_words, uses_of}
+use Rattle.fdr_words.specs.Words.{Word, plain, named, given, wrong, is_plain, word_meaning, Uses, no_uses, with_plain, with_value, followed, most_form_words}
+use Rattle.fdr_words.specs.Words.{uses_of}
 
 -- a word that gives an option its value
-pub given_step : (word : List ℕ) (rest : List (List ℕ)) (option : OptionName) (value : List ℕ) → word_of word ≡ given option value → uses_of (word ∷ rest) ≡ option_and_then (with_value option value) (uses_of rest)
+pub given_step : (word : List ℕ) (rest : List (List ℕ)) (option : OptionName) (value : List ℕ) → word_meaning word ≡ given option value
+    → uses_of (word ∷ rest) ≡ option_and_then (with_value option value) (uses_of rest)
 given_step word [] option value is = ap (λ (w : Word). followed word w None (Some no_uses) None) is
 given_step word (next ∷ rest) option value is = ap (λ (w : Word). followed word w (Some next) (uses_of (next ∷ rest)) (uses_of rest)) is
 
 -- the same of the first of some words
-pub given_first : {A : Type 0} (bytes : A → List ℕ) (words : List A) (first : A) (option : OptionName) (value : List ℕ) (u : Uses) → 1 ≤ length words → first ≡ get_or words 0 first → word_of (bytes first) ≡ given option value → Some u ≡ uses_of (map bytes (take (length words - 1) (drop 1 words))) → with_value option value u ≡ uses_of (map bytes words)
+pub given_first : {A : Type 0} (bytes : A → List ℕ) (words : List A) (first : A) (option : OptionName) (value : List ℕ) (u : Uses) → 1 ≤ length words
+    → first ≡ get_or words 0 first → word_meaning (bytes first) ≡ given option value → Some u ≡ uses_of (map bytes (take (length words - 1) (drop 1 words)))
+    → with_value option value u ≡ uses_of (map bytes words)
 given_first bytes [] first option value u some is kind rest = absurd (omega (arith, some))
 given_first {A = A} bytes (word ∷ words) first option value u some is kind rest =
     let all : take (length words) words ≡ words = take-length words in
     let count : suc (length words) - 1 ≡ length words = omega arith in
     let after : Some u ≡ uses_of (map bytes words) = rest ∙ ap (λ n. uses_of (map bytes (take n words))) count ∙ ap (λ ws. uses_of (map bytes ws)) all in
     ap (option_and_then (with_value option value)) after
-    ∙ sym (given_step (bytes word) (map bytes words) option value (subst (λ (w : A). word_of (bytes w) ≡ given option value) is kind))
+    ∙ sym (given_step (bytes word) (map bytes words) option value (subst (λ (w : A). word_meaning (bytes w) ≡ given option value) is kind))
 
 -- ---- no more words than the longest form has
 
@@ -97,11 +102,11 @@ followed_words word wrong next after_word after_next a b le rest more v e = cc
 uses_words : (words : List (List ℕ)) → Each (length words) (uses_of words)
 uses_words [] u e = let same : no_uses ≡ u = cc in subst (AreOf 0) same (record { words = omega arith; few = omega arith })
 uses_words (word ∷ []) u e =
-    followed_words word (word_of word) None (Some no_uses) None 0 0 (omega arith)
+    followed_words word (word_meaning word) None (Some no_uses) None 0 0 (omega arith)
     (λ v h. uses_words [] v h) (λ v h. cc) u e
 uses_words (word ∷ next ∷ rest) u e =
     fewer (length (word ∷ next ∷ rest)) (length (next ∷ rest) + 1) u (omega arith)
-    (followed_words word (word_of word) (Some next) (uses_of (next ∷ rest)) (uses_of rest) (length (next ∷ rest)) (length rest) (omega arith)
+    (followed_words word (word_meaning word) (Some next) (uses_of (next ∷ rest)) (uses_of rest) (length (next ∷ rest)) (length rest) (omega arith)
     (λ v h. uses_words (next ∷ rest) v h) (λ v h. uses_words rest v h) u e)
 
 none_else : (o : Option Uses) (n : ℕ) → Each n o → most_form_words < n → None ≡ o

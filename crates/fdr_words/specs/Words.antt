@@ -1,5 +1,6 @@
 -- What the words after the program's name give: the words of the form itself, and the values of options.
-use Rattle.std.specs.Prelude.{ℕ, Bool, false, not, ◌==◌, ◌&&◌, nat_le, nat_lt, if◌then◌else◌, List, [], ◌∷◌, length, take, drop, codes, bytes_eq, Option, Some, None, is_none}
+use Rattle.std.specs.Prelude.{ℕ, Bool, false, not, ◌==◌, ◌&&◌, nat_le, nat_lt, if◌then◌else◌, List, [], ◌∷◌, length, take, drop, codes, bytes_eq, Option, Some}
+use Rattle.std.specs.Prelude.{None, is_none}
 use Rattle.std.specs.Option.{option_and_then, option_map_or}
 use Rattle.fdr_table.specs.Fields.{number_in}
 use Rattle.fdr_words.specs.declared.uses.OptionName.{OptionName}
@@ -23,8 +24,8 @@ value_after prefix word =
     if bytes_eq (take (length prefix) word) prefix && nat_lt (length prefix) (length word) then Some (drop (length prefix) word) else None
 
 -- `--NAME` and `--NAME=VALUE`, with a value that isn't empty; any other word that isn't plain is wrong
-unfoldable pub word_of : List ℕ → Word
-word_of word =
+unfoldable pub word_meaning : List ℕ → Word
+word_meaning word =
     if is_plain word then plain
     else if bytes_eq word (codes "--slots") then named name.Slots
     else if bytes_eq word (codes "--payload") then named name.Payload
@@ -64,8 +65,8 @@ most_form_words = 7
 -- what the words give, where each has its place
 abbrev pub uses_of : List (List ℕ) → Option Uses
 uses_of [] = Some no_uses
-uses_of (word ∷ []) = followed word (word_of word) None (Some no_uses) None
-uses_of (word ∷ next ∷ rest) = followed word (word_of word) (Some next) (uses_of (next ∷ rest)) (uses_of rest)
+uses_of (word ∷ []) = followed word (word_meaning word) None (Some no_uses) None
+uses_of (word ∷ next ∷ rest) = followed word (word_meaning word) (Some next) (uses_of (next ∷ rest)) (uses_of rest)
 
 -- an option's value: a number of 1 to 10 digits within bounds
 unfoldable pub value_in : ℕ → ℕ → List ℕ → Option ℕ

@@ -3,10 +3,10 @@
 ghost use Rattle.std.specs.Prelude.{◌≡◌, ◌≤◌, Some, None, IfSome, length, map, string_bytes};
 ghost use Rattle.std.specs.Option.{option_map};
 ghost use Rattle.fdr_words.specs.Views.{uses_view, word_view};
-ghost use Rattle.fdr_words.specs.Words.{is_plain, most_form_words, value_after, word_of, with_plain, with_value, uses_of, value_in};
+ghost use Rattle.fdr_words.specs.Words.{is_plain, most_form_words, value_after, word_meaning, with_plain, with_value, uses_of, value_in};
 
 /// How many words the longest form has.
-const MOST_WORDS: usize = 7;
+const MAX_WORDS: usize = 7;
 
 /// An option of a command.
 #[derive(Clone, Copy)]
@@ -113,9 +113,9 @@ fn value_after<'a>(prefix: &[u8], word: &'a [u8]) -> Option<&'a [u8]>
 }
 
 /// What a word is.
-#[tactic(auto, unfolding(crate::specs::Words::word_of))]
+#[tactic(auto, unfolding(crate::specs::Words::word_meaning))]
 fn word_of(word: &str) -> Word<'_>
-    ensures { word_view result ≡ word_of word.now }
+    ensures { word_view result ≡ word_meaning word.now }
 {
     if is_plain(word) {
         return Word::Plain;
@@ -139,7 +139,7 @@ fn word_of(word: &str) -> Word<'_>
 pub(crate) fn uses_of(words: &[String]) -> Option<Uses<'_>>
     ensures { option_map uses_view result ≡ uses_of (map string_bytes words.now) }
 {
-    if MOST_WORDS < words.len() {
+    if MAX_WORDS < words.len() {
         return None;
     }
     uses_of_few(words)

@@ -4,7 +4,7 @@ ghost use Rattle.std.specs.Prelude.{◌≡◌, ◌+◌, ◌<◌, ◌≤◌, IfOk
 ghost use Rattle.fdr_bus.specs.Records.{last_time};
 ghost use Rattle.fdr_bus.specs.declared.RecordKind.TheVariants.{Word};
 ghost use Rattle.fdr_table.specs.Rows.{TableRows};
-ghost use Rattle.fdr_sampler.specs.Past.{made, Stands};
+ghost use Rattle.fdr_sampler.specs.Past.{sampler_made, RepresentsSampler};
 
 use super::*;
 use fdr_bus::RecordKind;
@@ -22,7 +22,7 @@ const POSITION: &[u8] =
     b"F,64,2,1\nP,POS,1,310,,9,20,U,1,1,0,0,1\nL,POS,1,1,20,0,1,12,0,16\nL,POS,2,1,20,0,1,8,1,16\n";
 
 fn sampler_of(alloc: Global, table: &[u8]) -> Result<Sampler, Fail>
-    ensures { IfOk result (λ s. (t : TableRows) × Stands s (made t)) }
+    ensures { IfOk result (λ s. (t : TableRows) × RepresentsSampler s (sampler_made t)) }
 {
     let table = Table::read(alloc, table).ok().ok_or("table")?;
     let sound = check(alloc, table).ok().ok_or("sound")?;
@@ -49,7 +49,7 @@ fn word(bus: u8, word: u32, time: u64) -> BusRecord
 
 /// The first words of the recording of one bus word.
 fn words_of(alloc: Global, sampler: Sampler, r: &BusRecord, count: usize) -> Result<Vec<u16>, Fail>
-    requires stands { (t : TableRows) × Stands sampler (made t) }
+    requires stands { (t : TableRows) × RepresentsSampler sampler (sampler_made t) }
     requires kind { r.now.kind ≡ Word }
     requires in_time { r.now.time ≤ last_time }
     requires few { count ≤ 4096 }

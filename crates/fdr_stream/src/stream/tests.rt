@@ -3,7 +3,7 @@
 ghost use Rattle.std.specs.Prelude.{◌≡◌, ◌≤◌, ℕ, None, IfOk, OnOk};
 ghost use Rattle.fdr_bus.specs.Records.{last_time};
 ghost use Rattle.fdr_table.specs.Rows.{TableRows};
-ghost use Rattle.fdr_stream.specs.Past.{Past, made, with_record, MayFeed, Stands};
+ghost use Rattle.fdr_stream.specs.Past.{StreamPast, stream_made, stream_with_record, MayFeedStream, RepresentsStream};
 
 use super::*;
 use fdr_check::check;
@@ -18,7 +18,7 @@ const PAYLOAD: usize = 64;
 const MANY: usize = 16;
 
 fn stream_by(alloc: Global, table: &[u8]) -> Result<Stream, Fail>
-    ensures { IfOk result (λ s. (t : TableRows) × Stands s (made t 64)) }
+    ensures { IfOk result (λ s. (t : TableRows) × RepresentsStream s (stream_made t 64)) }
 {
     let table = Table::read(alloc, table).ok().ok_or("table")?;
     let sound = check(alloc, table).ok().ok_or("sound")?;
@@ -30,9 +30,9 @@ fn stream_by(alloc: Global, table: &[u8]) -> Result<Stream, Fail>
 
 /// Feeds a record until it is taken, appends the blocks that come of it, and answers their number.
 fn feed(stream: &mut Stream, next: &BusRecord, bytes: &mut Vec<u8>) -> Result<usize, Fail>
-    requires { (past : Past) × Stands stream.old past × MayFeed past next.now × (past.begun ≡ None) × (past.payload ≡ 64) }
-    ensures { OnOk result ((past : Past) → Stands stream.old past → MayFeed past next.now → past.begun ≡ None
-        → (blocks : ℕ) × Stands stream.new (with_record (record past { blocks = blocks }) next.now)) }
+    requires { (past : StreamPast) × RepresentsStream stream.old past × MayFeedStream past next.now × (past.begun ≡ None) × (past.payload ≡ 64) }
+    ensures { OnOk result ((past : StreamPast) → RepresentsStream stream.old past → MayFeedStream past next.now → past.begun ≡ None
+        → (blocks : ℕ) × RepresentsStream stream.new (stream_with_record (record past { blocks = blocks }) next.now)) }
 {
     for blocks in 0..MANY {
         let mut out = [0; PAYLOAD];

@@ -14,14 +14,22 @@ overflow_add-total c =
     let few = count_few (λ x. begins_at c.args.words x c.place-item.result) (768 * c.args.words) in
     omega (arith, few, c.count_starts-total.ensures, c.loop-place.invariant.few)
 
-pub returns-then-total-gt-MOST_PARTS : goal.returns-then-total-gt-MOST_PARTS
-returns-then-total-gt-MOST_PARTS c =
+pub returns-then-total-gt-MAX_PARTS : goal.returns-then-total-gt-MAX_PARTS
+returns-then-total-gt-MAX_PARTS c =
     let w = c.args.words in
     let i = c.loop-place.place-index in
     let p = c.place-item.result in
     let more = occurrences_more w c.args.places.now i p c.loop-place-test.true in
     let same : starts_of w p ≡ starts_of w (get_or c.args.places.now i p) = ap (starts_of w) c.place-item.is in
-    sym (lt-ltb _ _ (omega (arith, more, same, c.count_starts-total.ensures, c.loop-place.invariant.so_far, c.if-total-gt-MOST_PARTS.true, occurrences_take w c.args.places.now (i + 1))))
+    sym (lt-ltb _ _ (omega (
+      arith,
+      more,
+      same,
+      c.count_starts-total.ensures,
+      c.loop-place.invariant.so_far,
+      c.if-total-gt-MAX_PARTS.true,
+      occurrences_take w c.args.places.now (i + 1),
+    )))
 
 pub loop-place-preserved : goal.loop-place-preserved
 loop-place-preserved c =
@@ -32,5 +40,5 @@ loop-place-preserved c =
     let same : starts_of w p ≡ starts_of w (get_or c.args.places.now i p) = ap (starts_of w) c.place-item.is in
     record {
       so_far = omega (arith, more, same, c.count_starts-total.ensures, c.loop-place.invariant.so_far);
-      few = omega (arith, c.if-total-gt-MOST_PARTS.false);
+      few = omega (arith, c.if-total-gt-MAX_PARTS.false);
     }

@@ -19,7 +19,8 @@ pub returns-then-frame : goal.returns-then-frame
 returns-then-frame c =
     let f = frame_view c.frame.inside in
     let p = place_view c.place.inside in
-    let at_views : is_on_word p f.cword ≡ meets_counter f p = meets_word f p c.frame.invariant c.place.invariant (sym c.if-not-has_subframe.ensures) c.if-frame.true in
+    let at_views : is_on_word p f.cword ≡ meets_counter f p =
+    meets_word f p c.frame.invariant c.place.invariant (sym c.if-not-has_subframe.ensures) c.if-frame.true in
     c.is_on_word.ensures ∙ subst (λ (x : FrameRow). is_on_word c.args.place.now f.cword ≡ meets_counter x c.args.place.now) c.frame.view_is
     (subst (λ (x : PlaceRow). is_on_word x f.cword ≡ meets_counter f x) c.place.view_is at_views)
 

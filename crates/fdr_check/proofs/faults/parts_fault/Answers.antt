@@ -17,7 +17,8 @@ returns-then-not-has_parts c =
     let p = c.index-params-index.result in
     let g = c.index-groups-index.result in
     let lacks : has_parts g i p ≡ false = ap (λ ps. has_parts ps i p) (sym c.places.ensures) ∙ sym c.has_parts.ensures ∙ c.if-not-has_parts.true in
-    parts_found c.args.t.now c.params-params.result.now c.args.groups.now i p g c.param.inside.row c.params-params.ensures c.requires c.loop-index-test.true c.index-params-index.is c.index-groups-index.is c.loop-index.invariant lacks (ap (λ (x : ParamRow). x.row) c.param.view_is)
+    parts_found c.args.t.now c.params-params.result.now c.args.groups.now i p g c.param.inside.row c.params-params.ensures c.requires c.loop-index-test.true
+    c.index-params-index.is c.index-groups-index.is c.loop-index.invariant lacks (ap (λ (x : ParamRow). x.row) c.param.view_is)
 
 pub loop-index-preserved : goal.loop-index-preserved
 loop-index-preserved c =
@@ -25,7 +26,8 @@ loop-index-preserved c =
     let p = c.index-params-index.result in
     let g = c.index-groups-index.result in
     let has : has_parts g i p ≡ true = ap (λ ps. has_parts ps i p) (sym c.places.ensures) ∙ sym c.has_parts.ensures ∙ c.if-not-has_parts.false in
-    parts_not_yet c.args.t.now c.params-params.result.now c.args.groups.now i p g c.params-params.ensures c.requires c.loop-index-test.true c.index-params-index.is c.index-groups-index.is c.loop-index.invariant has
+    parts_not_yet c.args.t.now c.params-params.result.now c.args.groups.now i p g c.params-params.ensures c.requires c.loop-index-test.true
+    c.index-params-index.is c.index-groups-index.is c.loop-index.invariant has
 
 pub returns : goal.returns
 returns c = parts_none c.args.t.now c.params-params.result.now c.loop-index.index c.params-params.ensures c.loop-index-test.false c.loop-index.invariant

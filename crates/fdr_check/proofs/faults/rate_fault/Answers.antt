@@ -11,7 +11,8 @@ use Rattle.fdr_check.proofs.faults.rate_fault.Goals as goal
 pub bounds-groups-index : goal.bounds-groups-index
 bounds-groups-index c =
     let same : length c.params-params.result.now ≡ length c.args.t.now.params = ap length c.params-params.ensures in
-    let len : length c.args.groups.now ≡ length c.args.t.now.params = ap length c.requires.groups ∙ length_grouped c.args.t.now.places (length c.args.t.now.params) in
+    let len : length c.args.groups.now ≡ length c.args.t.now.params =
+    ap length c.requires.groups ∙ length_grouped c.args.t.now.places (length c.args.t.now.params) in
     omega (arith, same, len, c.loop-index-test.true)
 
 pub returns-then-is_some : goal.returns-then-is_some
@@ -21,7 +22,9 @@ returns-then-is_some c =
     let g = c.index-groups-index.result in
     let w = c.words_of-words.result in
     let fault : c.rate_of-fault.result ≡ rate_of w g i p = c.rate_of-fault.ensures ∙ ap (λ ps. rate_of w ps i p) c.places.ensures in
-    rate_is_found c.args.t.now c.params-params.result.now c.args.groups.now i p g w c.rate_of-fault.result c.words_of-words.ensures.words c.params-params.ensures c.requires.groups c.loop-index-test.true c.index-params-index.is c.index-groups-index.is fault c.loop-index.invariant (sym c.if-is_some.ensures)
+    rate_is_found c.args.t.now c.params-params.result.now c.args.groups.now i p g w c.rate_of-fault.result c.words_of-words.ensures.words
+    c.params-params.ensures c.requires.groups c.loop-index-test.true c.index-params-index.is c.index-groups-index.is fault c.loop-index.invariant
+    (sym c.if-is_some.ensures)
 
 pub loop-index-preserved : goal.loop-index-preserved
 loop-index-preserved c =
@@ -30,7 +33,8 @@ loop-index-preserved c =
     let g = c.index-groups-index.result in
     let w = c.words_of-words.result in
     let fault : c.rate_of-fault.result ≡ rate_of w g i p = c.rate_of-fault.ensures ∙ ap (λ ps. rate_of w ps i p) c.places.ensures in
-    rate_not_yet c.args.t.now c.params-params.result.now c.args.groups.now i p g w c.rate_of-fault.result c.words_of-words.ensures.words c.params-params.ensures c.requires.groups c.loop-index-test.true c.index-params-index.is c.index-groups-index.is fault c.loop-index.invariant (sym c.if-is_some.ensures)
+    rate_not_yet c.args.t.now c.params-params.result.now c.args.groups.now i p g w c.rate_of-fault.result c.words_of-words.ensures.words c.params-params.ensures
+    c.requires.groups c.loop-index-test.true c.index-params-index.is c.index-groups-index.is fault c.loop-index.invariant (sym c.if-is_some.ensures)
 
 pub returns : goal.returns
 returns c = rate_none c.args.t.now c.params-params.result.now c.loop-index.index c.params-params.ensures c.loop-index-test.false c.loop-index.invariant
@@ -41,7 +45,9 @@ rate_of-fault-requires-clause-fits c =
     let i = c.loop-index.index in
     let g = c.index-groups-index.result in
     let len : length c.params-params.result.now ≡ length t.params = ap length c.params-params.ensures in
-    let own : g ≡ places_of t.places i = group_at t.places (length t.params) i c.args.groups.now g c.requires.groups (omega (arith, len, c.loop-index-test.true)) c.index-groups-index.is in
+    let own : g ≡ places_of t.places i = group_at t.places (length t.params) i c.args.groups.now g c.requires.groups
+    (omega (arith, len, c.loop-index-test.true)) c.index-groups-index.is in
     let same : length (occurrences c.words_of-words.result c.places.result.now) ≡ length (occurrences t.frame.words (places_of t.places i)) =
-    ap (λ k. length (occurrences k c.places.result.now)) c.words_of-words.ensures.words ∙ ap (λ ps. length (occurrences t.frame.words ps)) (c.places.ensures ∙ own) in
+    ap (λ k. length (occurrences k c.places.result.now)) c.words_of-words.ensures.words
+    ∙ ap (λ ps. length (occurrences t.frame.words ps)) (c.places.ensures ∙ own) in
     omega (arith, same, c.requires.fits, occurrences_kept t.frame.words (λ (p : PlaceRow). p.param == i) t.places)

@@ -28,7 +28,8 @@ returns c =
     let t = c.args.t.now in
     let front : List RowFault = place_fault t ∷ sync_fault t ∷ counter_fault t ∷ [] in
     let last : List RowFault = parts_fault t ∷ rate_fault t ∷ many_fault t ∷ [] in
-    c.samples_fault.ensures ∙ sym (first_some_back front (overlap_fault t ∷ last) c.places_fault-fault.result c.places_fault-fault.ensures (sym c.if-is_some.ensures)
+    c.samples_fault.ensures ∙ sym (first_some_back front (overlap_fault t ∷ last) c.places_fault-fault.result c.places_fault-fault.ensures
+    (sym c.if-is_some.ensures)
     ∙ first_some_on (overlap_fault t) c.in_ok-fault.fault last c.in_ok-fault.ensures (sym c.if-is_some-2.ensures))
 
 pub samples_fault-requires-clause-fits : goal.samples_fault-requires-clause-fits

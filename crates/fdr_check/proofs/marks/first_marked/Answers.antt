@@ -23,7 +23,8 @@ returns-in-Some-first_marked_bit c =
     let bit = c.in-Some-first_marked_bit.bit in
     let first : IsFirstMarked c.args.marks.now c.in-Some.at (c.in-Some.at + c.args.place.now.width) bit =
     subst (λ n. IsFirstMarked c.args.marks.now c.in-Some.at (c.in-Some.at + n) bit) width c.in-Some-first_marked_bit.ensures.found in
-    sym (first_marked_here c.args.words c.args.place.now c.loop-at.from c.in-Some.at bit c.args.marks.now fits c.in-Some.ensures.found c.loop-at.invariant.none first)
+    sym (first_marked_here c.args.words c.args.place.now c.loop-at.from c.in-Some.at bit c.args.marks.now fits c.in-Some.ensures.found c.loop-at.invariant.none
+    first)
 
 pub loop-at-preserved : goal.loop-at-preserved
 loop-at-preserved c =

@@ -19,7 +19,9 @@ loop-at-preserved c =
     record {
       length = omega (arith, c.mark_bits.ensures.length, c.loop-at.invariant.length);
       within = omega (arith, next.within);
-      marked = λ b below. marked_next c.args.words c.args.place.now c.loop-at.from c.in-Some.at b _ _ _ fits next (c.loop-at.invariant.marked b below) (subst (λ n. is_marked c.mark_bits.new.marks b ≡ (is_marked c.loop-at.marks b || (nat_le c.in-Some.at b && nat_lt b (c.in-Some.at + n)))) width (c.mark_bits.ensures.marked b));
+      marked = λ b below. marked_next c.args.words c.args.place.now c.loop-at.from c.in-Some.at b _ _ _ fits next (c.loop-at.invariant.marked b below)
+          (subst (λ n. is_marked c.mark_bits.new.marks b ≡ (is_marked c.loop-at.marks b || (nat_le c.in-Some.at b && nat_lt b (c.in-Some.at + n)))) width
+          (c.mark_bits.ensures.marked b));
     }
 
 pub returns-clause-marked : goal.returns-clause-marked

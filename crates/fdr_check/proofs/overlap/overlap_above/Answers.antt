@@ -11,7 +11,8 @@ returns-in-Some c =
     let w = c.args.words in
     let p = c.other-item.result in
     let q = c.args.place.now in
-    overlap_found w c.args.above.now q c.loop-other.other-index p c.in-Some.bit c.place.inside.row c.overlap_at.result c.loop-other-test.true c.other-item.is c.loop-other.invariant
+    overlap_found w c.args.above.now q c.loop-other.other-index p c.in-Some.bit c.place.inside.row c.overlap_at.result c.loop-other-test.true c.other-item.is
+    c.loop-other.invariant
     (sym (c.in-Some.ensures ∙ shared_by_marks w p q c.args.marks.now c.requires.marks)) (ap (λ (x : PlaceRow). x.row) c.place.view_is) c.overlap_at.ensures
 
 pub loop-other-preserved : goal.loop-other-preserved

@@ -10,7 +10,8 @@ loop-index-init c = record { marks = c.in_ok-marks.ensures; none = refl }
 
 pub returns-then-is_some : goal.returns-then-is_some
 returns-then-is_some c =
-    overlap_among_found c.args.words c.args.places.now c.loop-index.index c.index-places-index.result c.in_ok-overlap.overlap c.loop-index-test.true c.index-places-index.is c.loop-index.invariant.none c.in_ok-overlap.ensures (sym c.if-is_some.ensures)
+    overlap_among_found c.args.words c.args.places.now c.loop-index.index c.index-places-index.result c.in_ok-overlap.overlap c.loop-index-test.true
+    c.index-places-index.is c.loop-index.invariant.none c.in_ok-overlap.ensures (sym c.if-is_some.ensures)
 
 pub loop-index-preserved : goal.loop-index-preserved
 loop-index-preserved c =
@@ -28,7 +29,8 @@ loop-index-preserved c =
     record {
       marks = subst (λ ms. AreMarks w (take (i + 1) c.args.places.now) ms) (sym whole)
           (marks_next w c.args.places.now i q old new c.loop-index-test.true c.index-places-index.is c.loop-index.invariant.marks len more);
-      none = overlap_among_not_yet w c.args.places.now i q c.in_ok-overlap.overlap c.loop-index-test.true c.index-places-index.is c.loop-index.invariant.none c.in_ok-overlap.ensures (sym c.if-is_some.ensures);
+      none = overlap_among_not_yet w c.args.places.now i q c.in_ok-overlap.overlap c.loop-index-test.true c.index-places-index.is c.loop-index.invariant.none
+          c.in_ok-overlap.ensures (sym c.if-is_some.ensures);
     }
 
 pub returns : goal.returns

@@ -6,7 +6,8 @@ use Rattle.fdr_check.proofs.parts.has_all_parts.Goals as goal
 
 pub returns-then-not-has_part : goal.returns-then-not-has_part
 returns-then-not-has_part c =
-    sym (not_all (has_part c.args.places.now c.args.param) 1 c.args.last c.loop-part.part c.loop-part.auto.part (omega (arith, c.loop-part-test.true)) (sym c.has_part.ensures ∙ c.if-not-has_part.true))
+    sym (not_all (has_part c.args.places.now c.args.param) 1 c.args.last c.loop-part.part c.loop-part.auto.part (omega (arith, c.loop-part-test.true))
+    (sym c.has_part.ensures ∙ c.if-not-has_part.true))
 
 pub loop-part-preserved : goal.loop-part-preserved
 loop-part-preserved c =

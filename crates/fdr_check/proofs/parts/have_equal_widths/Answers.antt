@@ -20,6 +20,7 @@ returns-then-place-widths c =
     let kept : f p ≡ true = eq-eqb _ _ (sym param ∙ c.if-place-param.true) in
     let read : get_or c.part_widths-widths.result (c.place.inside.part - 1) 0 ≡ widths p.part =
     ap (λ xs. get_or xs (c.place.inside.part - 1) 0) c.part_widths-widths.ensures
-    ∙ get_or-map-range_with_len widths 1 4 (c.place.inside.part - 1) p.part 0 (omega (arith, c.place.invariant.part_low, c.place.invariant.part_high)) (omega (arith, part, c.place.invariant.part_low)) in
+    ∙ get_or-map-range_with_len widths 1 4 (c.place.inside.part - 1) p.part 0 (omega (arith, c.place.invariant.part_low, c.place.invariant.part_high))
+    (omega (arith, part, c.place.invariant.part_low)) in
     let fails : t p ≡ false = ne_eqb _ _ (λ e. c.if-place-widths.true (width ∙ e ∙ sym read)) in
     sym (not_all_filtered f t c.args.places.now i p c.loop-place-test.true (ap f (sym c.place-item.is) ∙ kept) (ap t (sym c.place-item.is) ∙ fails))

@@ -6,4 +6,5 @@ use Rattle.fdr_check.proofs.parts.have_equal_widths.Given as goal
 
 abbrev pub invariant-loop-place : goal.invariant-loop-place
 invariant-loop-place l =
-    list_all (λ (p : PlaceRow). p.width == part_width l.places l.param p.part) (filter (λ (p : PlaceRow). p.param == l.param) (take l.place-index l.places)) ≡ true
+    list_all (λ (p : PlaceRow). p.width == part_width l.places l.param p.part) (filter (λ (p : PlaceRow). p.param == l.param) (take l.place-index l.places))
+    ≡ true

@@ -18,5 +18,5 @@ loop-place-preserved c =
       so_far = greatest ∙ ap (λ m. max m c.part_of.result) c.loop-place.invariant.so_far
           ∙ ap (max (last_part (take i c.args.places.now) n)) (c.part_of.ensures.part ∙ ap (λ (x : PlaceRow). cond (x.param == n) x.part 0) c.place-item.is)
           ∙ sym (last_part_more c.args.places.now n i p c.loop-place-test.true);
-      few = omega (arith, greatest, c.loop-place.invariant.few, c.part_of.ensures.few);
+      few = omega (arith, greatest, c.loop-place.invariant.few, c.part_of.ensures.four_parts);
     }

@@ -15,5 +15,5 @@ loop-part-preserved c =
       so_far = ap (λ s. s + c.part_width-width.result) c.loop-part.invariant.so_far
           ∙ ap (λ s. sum_by width (range_with_len 1 n) + s) (c.part_width-width.ensures.width ∙ ap width (sym here))
           ∙ sym more ∙ ap (λ k. sum_by width (range_with_len 1 k)) (sym next);
-      few = omega (arith, c.loop-part.auto.part, c.loop-part.invariant.few, c.part_width-width.ensures.few);
+      few = omega (arith, c.loop-part.auto.part, c.loop-part.invariant.few, c.part_width-width.ensures.one_word);
     }

@@ -1,7 +1,7 @@
 use Rattle.std.proofs.Common.{◌≡◌, ◌++◌, length, ap, ◌∙◌, arith}
 use Rattle.fdr_table.specs.Rows.{TableRows}
 use Rattle.fdr_check.specs.Occurrences.{occurrences}
-use Rattle.fdr_check.specs.Soundness.{most_parts}
+use Rattle.fdr_check.specs.Soundness.{most_superframe_parts}
 use Rattle.fdr_check.specs.Report.{is_even, param_line}
 use Rattle.fdr_check.specs.Groups.{grouped}
 use Rattle.fdr_check.proofs.Grouping.{length_grouped}
@@ -9,7 +9,7 @@ use Rattle.fdr_check.proofs.Lines.{first_line, line_step, all_lines}
 use Rattle.fdr_check.proofs.reporting.report.Goals as goal
 
 pub count_parts-parts-requires-clause-fits : goal.count_parts-parts-requires-clause-fits
-unfolding most_parts
+unfolding most_superframe_parts
 count_parts-parts-requires-clause-fits c =
     let t = c.args.t.now in
     let same = c.checked-table.ensures.table in
@@ -21,7 +21,8 @@ count_parts-parts-requires-clause-fits c =
 
 pub index-requires : goal.index-requires
 index-requires c =
-    let len : length c.in_ok-groups.groups.items ≡ length c.params-params.result.now = ap length c.in_ok-groups.ensures ∙ length_grouped c.places.result.now (length c.params-params.result.now) in
+    let len : length c.in_ok-groups.groups.items ≡ length c.params-params.result.now =
+    ap length c.in_ok-groups.ensures ∙ length_grouped c.places.result.now (length c.params-params.result.now) in
     omega (arith, len, c.loop-index-test.true, c.in_ok-groups.groups.ok.0)
 
 pub loop-index-preserved : goal.loop-index-preserved
@@ -40,7 +41,9 @@ loop-index-preserved c =
     c.in_ok-line.ensures ∙ ap (λ ps. param_line (is_even w ps i p.rate) p) c.places-in-loop-index.ensures in
     let more : c.extend_from_slice.new.self.items ≡ c.loop-index.text.items ++ c.in_ok-line.line.items =
     c.in_ok-extend_from_slice.ensures.items ∙ ap (λ xs. c.loop-index.text.items ++ xs) c.deref.ensures.value in
-    line_step t params c.in_ok-groups.groups.items i p g w (first_line t) c.loop-index.text.items c.extend_from_slice.new.self.items c.in_ok-line.line.items words groups c.loop-index-test.true c.index-params-index.is c.index.ensures c.loop-index.invariant line more
+    line_step t params c.in_ok-groups.groups.items i p g w (first_line t)
+    c.loop-index.text.items c.extend_from_slice.new.self.items c.in_ok-line.line.items words groups c.loop-index-test.true c.index-params-index.is
+    c.index.ensures c.loop-index.invariant line more
 
 pub returns : goal.returns
 returns c =

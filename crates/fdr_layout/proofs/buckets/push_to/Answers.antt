@@ -5,7 +5,8 @@ use Rattle.fdr_layout.proofs.buckets.push_to.Goals as goal
 pub returns-in-Some : goal.returns-in-Some
 returns-in-Some g c =
     on_ok_weaker c.push.result
-    (push_within (λ v. v.items) c.args.lists.now.items c.args.number c.args.item c.in-Some.list.now c.push.new.items c.in-Some.ensures.item.3.0 c.in-Some.ensures.value)
+    (push_within (λ v. v.items) c.args.lists.now.items c.args.number c.args.item c.in-Some.list.now c.push.new.items c.in-Some.ensures.item.3.0
+    c.in-Some.ensures.value)
     c.push.ensures
 
 pub returns-in-None : goal.returns-in-None

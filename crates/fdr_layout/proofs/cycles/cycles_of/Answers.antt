@@ -20,6 +20,7 @@ loop-cycle-preserved c =
     (ap (map (λ s. s.items)) c.deref.ensures.value ∙ c.in_ok-slots.ensures) in
     let few : length c.in_ok-found.found.items < 2 ^ 32 =
     omega (arith, ap length found, ending_few c.args.words c.args.samples.now c.loop-cycle.cycle, c.requires.few_samples) in
-    let step = cycles_step P (λ v. v.items) (ending_among c.args.words c.args.samples.now) c.loop-cycle.cycles.items c.push.new.items.items c.in_ok-found.found c.loop-cycle.cycle
+    let step = cycles_step P (λ v. v.items) (ending_among c.args.words c.args.samples.now)
+    c.loop-cycle.cycles.items c.push.new.items.items c.in_ok-found.found c.loop-cycle.cycle
     c.loop-cycle.invariant.so_far c.loop-cycle.invariant.few c.in_ok-push.ensures found few in
     record { so_far = step.0; few = step.1 }

@@ -12,7 +12,8 @@ loop-slot-preserved c =
     let within : c.loop-slot.slot < length c.args.slots.now = omega arith in
     slot_more (λ s. s.items) c.args.slots.now c.index-slots-slot.result c.loop-slot.found.items _ start (c.loop-slot.slot - start) _ c.loop-slot.slot within
     c.index-slots-slot.is c.loop-slot.invariant
-    (c.in_ok-add_ending_in_slot.ensures ∙ ap (λ ss. c.loop-slot.found.items ++ ending_from ss (12 * c.loop-slot.slot) 12) c.deref.ensures.value) (omega arith) (omega arith)
+    (c.in_ok-add_ending_in_slot.ensures ∙ ap (λ ss. c.loop-slot.found.items ++ ending_from ss (12 * c.loop-slot.slot) 12) c.deref.ensures.value) (omega arith)
+    (omega arith)
 
 pub returns : goal.returns
 unfolding ending_of_slots

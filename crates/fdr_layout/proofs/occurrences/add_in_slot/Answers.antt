@@ -18,7 +18,8 @@ loop-bit-preserved c =
     let standing = c.in_ok-standing.standing.items in
     let start = 12 * c.args.slot in
     bit_added c.args.words standing c.args.found.now.items c.loop-bit.found.items _ start (c.loop-bit.bit - start) _ c.loop-bit.bit c.loop-bit.invariant
-    (c.in_ok-add_at_bit.ensures ∙ ap (λ ps. c.loop-bit.found.items ++ occurrences_at c.args.words ps c.loop-bit.bit) c.deref.ensures.value) (omega arith) (omega arith)
+    (c.in_ok-add_at_bit.ensures ∙ ap (λ ps. c.loop-bit.found.items ++ occurrences_at c.args.words ps c.loop-bit.bit) c.deref.ensures.value) (omega arith)
+    (omega arith)
 
 pub returns : goal.returns
 returns c =

@@ -10,10 +10,12 @@ pub loop-subframe-preserved : goal.loop-subframe-preserved
 loop-subframe-preserved c =
     let n = 12 * (c.loop-subframe.subframe * c.args.words) in
     stretch_added c.args.words c.in_ok-chosen.chosen.items [] c.loop-subframe.found.items _ 0 n n (12 * c.args.words) _ c.loop-subframe.invariant
-    (c.in_ok-add_in_subframe.ensures ∙ ap (λ ps. c.loop-subframe.found.items ++ occurrences_from c.args.words ps n (12 * c.args.words)) c.deref.ensures.value) (omega arith) (omega arith)
+    (c.in_ok-add_in_subframe.ensures ∙ ap (λ ps. c.loop-subframe.found.items ++ occurrences_from c.args.words ps n (12 * c.args.words)) c.deref.ensures.value)
+    (omega arith) (omega arith)
 
 pub returns : goal.returns
 returns c =
     let whole : c.loop-subframe.subframe ≡ 64 = omega arith in
-    occurrences_are c.args.words c.args.places.now c.in_ok-chosen.chosen.items _ c.args.param c.args.part (12 * (c.loop-subframe.subframe * c.args.words)) c.in_ok-chosen.ensures
+    occurrences_are c.args.words c.args.places.now c.in_ok-chosen.chosen.items _ c.args.param c.args.part (12 * (c.loop-subframe.subframe * c.args.words))
+    c.in_ok-chosen.ensures
     (ap (λ q. 12 * (q * c.args.words)) whole ∙ omega arith) c.loop-subframe.invariant

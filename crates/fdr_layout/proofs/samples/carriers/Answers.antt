@@ -13,7 +13,8 @@ loop-part-preserved c =
     let shift = c.shift_of.result in
     let made : List Occurrence → ℕ → Carrier = λ os s. record { occurrences = os; shift = s } in
     let carrier : made found shift ≡ at c.loop-part.part = ap (λ os. made os shift) c.in_ok-part_occurrences.ensures ∙ ap (made _) c.shift_of.ensures.shift in
-    map_step at old _ 1 (c.loop-part.part - 1) _ c.loop-part.part c.loop-part.invariant (c.in_ok-push.ensures ∙ ap (λ k. old ++ k ∷ []) carrier) (omega arith) (omega arith)
+    map_step at old _ 1 (c.loop-part.part - 1) _ c.loop-part.part c.loop-part.invariant (c.in_ok-push.ensures ∙ ap (λ k. old ++ k ∷ []) carrier) (omega arith)
+    (omega arith)
 
 pub returns : goal.returns
 returns c =

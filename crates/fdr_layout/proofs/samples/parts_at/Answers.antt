@@ -10,6 +10,13 @@ loop-carrier-preserved c =
     let old = c.loop-carrier.parts.items in
     let added = option_to_list (part_at c.args.index c.carrier-item.result) in
     record {
-      so_far = filter_map_step (part_at c.args.index) c.args.carriers.now c.loop-carrier.carrier-index c.carrier-item.result old _ c.loop-carrier-test.true c.carrier-item.is c.loop-carrier.invariant.so_far c.in_ok-add_part_at.ensures;
-      few = omega (arith, ap length c.in_ok-add_part_at.ensures, length-append old added, length-option_to_list (part_at c.args.index c.carrier-item.result), c.loop-carrier.invariant.few);
+      so_far = filter_map_step (part_at c.args.index) c.args.carriers.now c.loop-carrier.carrier-index c.carrier-item.result old _ c.loop-carrier-test.true
+          c.carrier-item.is c.loop-carrier.invariant.so_far c.in_ok-add_part_at.ensures;
+      few = omega (
+        arith,
+        ap length c.in_ok-add_part_at.ensures,
+        length-append old added,
+        length-option_to_list (part_at c.args.index c.carrier-item.result),
+        c.loop-carrier.invariant.few,
+      );
     }

@@ -3,4 +3,4 @@ use Rattle.std.proofs.lemmas.List.{take-replicate}
 use Rattle.fdr_listing.proofs.text.add_zeros.Goals as goal
 
 pub returns-clause-appended : goal.returns-clause-appended
-returns-clause-appended c = c.add.ensures.appended ∙ ap (λ (x : List ℕ). c.args.line.now ++ x) (take-replicate c.args.zeros 9 48 c.requires.few)
+returns-clause-appended c = c.add.ensures.appended ∙ ap (λ (x : List ℕ). c.args.line.now ++ x) (take-replicate c.args.zeros 9 48 c.requires.nine_zeros)

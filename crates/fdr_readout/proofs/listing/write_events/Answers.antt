@@ -43,7 +43,11 @@ loop-at-preserved g c =
     record {
       room = c.in_ok-write_next.ensures.room ∙ c.loop-at.invariant.room;
       within = omega (arith, c.frame_end-free.ensures);
-      so_far = rw c.frame_end-free.ensures (so_far.0 ++ c.in-Some.at ∷ [], so_far_next b t.frame.words c.loop-at.free c.in-Some.at so_far.0 some so_far.1 next, c.in_ok-write_next.ensures.stands so_far.0 so_far.1 so_far.2);
+      so_far = rw c.frame_end-free.ensures (
+        so_far.0 ++ c.in-Some.at ∷ [],
+        so_far_next b t.frame.words c.loop-at.free c.in-Some.at so_far.0 some so_far.1 next,
+        c.in_ok-write_next.ensures.stands so_far.0 so_far.1 so_far.2,
+      );
       emitted = rw c.frame_end-free.ensures (
         emitted.0 ++ step,
         Emits-then _ _ _ _ _ _ _ _ emitted.1 c.in_ok-write_next.ensures.all,
@@ -61,7 +65,8 @@ returns-in_err-write_next-clause-part g c =
     let emitted = c.loop-at.invariant.emitted in
     let step = gap_lines c.loop-at.free c.in-Some.at ++ lines_of t b (Frame c.in-Some.at) in
     let rest = flat_map (lines_of t b) (events_from b t.frame.words (c.in-Some.at + 48 * t.frame.words)) in
-    let whole = append_assoc emitted.0 step rest ∙ ap (λ (x : List ℕ). emitted.0 ++ x) (sym (lines_from_first t b c.loop-at.free c.in-Some.at some next)) ∙ emitted.2 in
+    let whole = append_assoc emitted.0 step rest ∙ ap (λ (x : List ℕ). emitted.0 ++ x) (sym (lines_from_first t b c.loop-at.free c.in-Some.at some next))
+    ∙ emitted.2 in
     let p = err_from_is_err_and c.from_residual.result c.from_residual.ensures.1 in
     rw (p.1, ← whole) (EmitsPart-longer _ _ _ _ rest (EmitsPart-then _ _ _ _ _ _ _ emitted.1 c.in_err-write_next.ensures.part))
 

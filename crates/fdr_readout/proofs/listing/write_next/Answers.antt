@@ -33,7 +33,8 @@ returns-clause-all g c =
     let b = c.args.bytes.now in
     let xs = c.requires.so_far.0 in
     let some : 0 < t.frame.words = omega (arith, word_count_bounds t.frame.words c.requires.word_count) in
-    let lines = lines_of_read t b c.args.free c.args.at xs some c.requires.so_far.1 c.requires.next c.is_adjacent-adjacent.result c.is_adjacent-adjacent.ensures in
+    let lines = lines_of_read t b c.args.free c.args.at xs some c.requires.so_far.1 c.requires.next c.is_adjacent-adjacent.result
+    c.is_adjacent-adjacent.ensures in
     on_ok_weaker c.write_frame.result
     (λ emits. Emits-then _ _ _ _ _ _ _ _ c.in_ok-write_gap.ensures.all (rw lines at emits))
     (c.write_frame.ensures.all (map (frame_read b t.frame.words) xs) c.requires.so_far.2)
@@ -44,7 +45,8 @@ returns-clause-part g c =
     let b = c.args.bytes.now in
     let xs = c.requires.so_far.0 in
     let some : 0 < t.frame.words = omega (arith, word_count_bounds t.frame.words c.requires.word_count) in
-    let lines = lines_of_read t b c.args.free c.args.at xs some c.requires.so_far.1 c.requires.next c.is_adjacent-adjacent.result c.is_adjacent-adjacent.ensures in
+    let lines = lines_of_read t b c.args.free c.args.at xs some c.requires.so_far.1 c.requires.next c.is_adjacent-adjacent.result
+    c.is_adjacent-adjacent.ensures in
     on_err_weaker c.write_frame.result
     (λ part. EmitsPart-then _ _ _ _ _ _ _ c.in_ok-write_gap.ensures.all (rw lines at part))
     (c.write_frame.ensures.part (map (frame_read b t.frame.words) xs) c.requires.so_far.2)

@@ -27,7 +27,8 @@ returns-in_err-write_row-clause-part g c = λ past some stands.
     let rows = rows_looked_at c.args.table.now past (length past - 1) in
     let f = row_lines c.args.table.now in
     let within : c.loop-i.i < length rows = omega (arith, c.rows-i-end.ensures.rows c.args.table.now past stands some) in
-    let part = EmitsPart-longer _ _ _ _ (flat_map f (drop (c.loop-i.i + 1) rows)) (EmitsPart-then _ _ _ _ _ _ _ (c.loop-i.invariant.emitted past some stands) c.in_err-write_row.ensures.part) in
+    let part = EmitsPart-longer _ _ _ _ (flat_map f (drop (c.loop-i.i + 1) rows))
+    (EmitsPart-then _ _ _ _ _ _ _ (c.loop-i.invariant.emitted past some stands) c.in_err-write_row.ensures.part) in
     let p = err_from_is_err_and c.from_residual.result c.from_residual.ensures.1 in
     rw p.1 (rw (flat_map_around f rows c.loop-i.i c.row.result (c.row.ensures.row c.args.table.now past stands)) part)
 

@@ -54,7 +54,7 @@ returns-clause-records g c =
     let b : Block = record { number = next; payload = c.args.bytes.now } in
     let up : c.in_ok-ring.ring.next ≡ next + 1 = done.ring.1 ∙ ap (λ (n : ℕ). n + 1) ok.prepared.1 in
     let announces : Announces (next + 1) (s c.commit.new.deck) (s c.announce.new.self) =
-    subst (λ (n : ℕ). Announces n (s c.commit.new.deck) (s c.announce.new.self)) (c.next.ensures.is ∙ up) c.announce.ensures.announces in
+    subst (λ (n : ℕ). Announces n (s c.commit.new.deck) (s c.announce.new.self)) (c.next.ensures.number ∙ up) c.announce.ensures.announces in
     Records-added g.D.Deck.tells h next (length c.args.bytes.now) (s c.args.deck.now) (s c.prepare.new.deck)
     (g.met.D.Deck.sound c.args.deck.now) c.requires.fact c.prepare.ensures.extent c.prepare.ensures.quiet
     b ok.settled ok.succeeds c.prepare.ensures.keeps ok.block (s c.commit.new.deck) c.commit.ensures.extent
@@ -78,7 +78,7 @@ returns-clause-recorded g c =
     let b : Block = record { number = next; payload = c.args.bytes.now } in
     let up : c.in_ok-ring.ring.next ≡ next + 1 = done.ring.1 ∙ ap (λ (n : ℕ). n + 1) ok.prepared.1 in
     let announces : Announces (next + 1) (s c.commit.new.deck) (s c.announce.new.self) =
-    subst (λ (n : ℕ). Announces n (s c.commit.new.deck) (s c.announce.new.self)) (c.next.ensures.is ∙ up) c.announce.ensures.announces in
+    subst (λ (n : ℕ). Announces n (s c.commit.new.deck) (s c.announce.new.self)) (c.next.ensures.number ∙ up) c.announce.ensures.announces in
     HasRecorded-added g.D.Deck.tells h next (length c.args.bytes.now) (s c.args.deck.now) (s c.prepare.new.deck)
     (g.met.D.Deck.sound c.args.deck.now) c.requires.fact c.prepare.ensures.extent c.prepare.ensures.quiet
     b ok.settled ok.succeeds c.prepare.ensures.keeps ok.block (s c.commit.new.deck) c.commit.ensures.extent

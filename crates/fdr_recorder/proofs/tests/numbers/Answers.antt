@@ -1,9 +1,9 @@
-use Rattle.std.proofs.Common.{ℕ, List, [], ◌∷◌, ◌≤◌, refl, arith}
+use Rattle.std.proofs.Common.{ℕ, refl, arith}
 use Rattle.fdr_bus.specs.declared.BusRecord.{BusRecord}
 use Rattle.fdr_bus.specs.declared.RecordKind.TheVariants.{Word, End}
 use Rattle.fdr_slot.specs.declared.image.Header.{Header}
 use Rattle.fdr_table.specs.Rows.{TableRows}
-use Rattle.fdr_recorder.specs.Past.{Past, MayFeed, started, with_record}
+use Rattle.fdr_recorder.specs.Past.{MayFeedSession, started, session_with_record}
 use Rattle.fdr_recorder.proofs.tests.numbers.Goals as goal
 
 word : ℕ → BusRecord
@@ -12,15 +12,15 @@ word time = record { kind = Word; bus = 7; word = 0; time = time }
 end : BusRecord
 end = record { kind = End; bus = 0; word = 0; time = 1000000 }
 
-first : (t : TableRows) (h : Header) (n : ℕ) → MayFeed (started t h n) (word 0)
+first : (t : TableRows) (h : Header) (n : ℕ) → MayFeedSession (started t h n) (word 0)
 unfolding word
 first t h n = record { order = omega arith; in_time = omega arith; unended = refl }
 
-second : (t : TableRows) (h : Header) (n : ℕ) → MayFeed (with_record (started t h n) (word 0)) (word 1000000)
+second : (t : TableRows) (h : Header) (n : ℕ) → MayFeedSession (session_with_record (started t h n) (word 0)) (word 1000000)
 unfolding word
 second t h n = record { order = omega arith; in_time = omega arith; unended = refl }
 
-third : (t : TableRows) (h : Header) (n : ℕ) → MayFeed (with_record (with_record (started t h n) (word 0)) (word 1000000)) end
+third : (t : TableRows) (h : Header) (n : ℕ) → MayFeedSession (session_with_record (session_with_record (started t h n) (word 0)) (word 1000000)) end
 unfolding word end
 third t h n = record { order = omega arith; in_time = omega arith; unended = refl }
 

@@ -1,6 +1,6 @@
 use Rattle.std.proofs.Common.{◌≡◌, ◌≤◌}
 use Rattle.std.specs.Prelude.{IsTrue}
-use Rattle.fdr_deck.specs.Calls.{IsFresh}
+use Rattle.fdr_deck.specs.Calls.{HasOneAnnounced}
 use Rattle.fdr_recover.specs.Images.{block_in}
 use Rattle.fdr_recover.specs.Looks.{Looks}
 use Rattle.fdr_recover.proofs.Walking.{AllStand}
@@ -10,7 +10,7 @@ abbrev pub invariant-loop-first : goal.invariant-loop-first
 invariant-loop-first g l = record {
   looks : Looks g.D.Deck.tells (g.D.Deck.state l.fn.deck) (g.D.Deck.state l.deck);
   faults : (g.D.Deck.state l.deck).disk_faults ≡ (g.D.Deck.state l.fn.deck).disk_faults;
-  fresh : IsFresh (g.D.Deck.state l.fn.deck) → IsFresh (g.D.Deck.state l.deck);
+  fresh : HasOneAnnounced (g.D.Deck.state l.fn.deck) → HasOneAnnounced (g.D.Deck.state l.deck);
   rest : g.D.Deck.same_rest l.fn.deck l.deck;
   order : l.first ≤ l.next;
   above : l.lowest ≤ l.first;

@@ -72,7 +72,7 @@ returns-clause-block g c =
     always_ok c.sync.result Waits
     (λ told. prepared_block _ _ _ _ _
     (IsReady-deck _ _ _ _ _ c.requires.limits c.requires.fits
-    (g.met.D.Deck.sound c.args.deck.now) c.requires.fact told) c.requires.number c.requires.some
+    (g.met.D.Deck.sound c.args.deck.now) c.requires.fact told) c.requires.number c.requires.some_bytes
     (prepared_held c.args.h.now c.args.next _ _ _ _ _ _ c.gate_at.ensures.at (c.in_ok-write_body.ensures.written told)
     (c.in_ok-close_open_gate.ensures.written told) c.sync.ensures.held))
 
@@ -94,7 +94,7 @@ returns-clause-fact g c =
     let Fact : Type 0 = IsPrepared g.D.Deck.tells c.args.h.now c.args.next (g.D.Deck.state c.sync.new.self) in
     always_ok c.sync.result Fact
     (prepared_ring _ _ _ c.args.bytes.now (g.D.Deck.state c.args.deck.now) _
-    (IsReady-deck _ _ _ _ _ c.requires.limits c.requires.fits sound c.requires.fact) c.requires.number c.requires.some
+    (IsReady-deck _ _ _ _ _ c.requires.limits c.requires.fits sound c.requires.fact) c.requires.number c.requires.some_bytes
     (omega (arith, c.requires.fact.extent, c.write_body.ensures.extent, c.close_open_gate.ensures.extent, c.sync.ensures.extent))
     (λ told. prepared_held c.args.h.now c.args.next _ _ _ _ _ _ c.gate_at.ensures.at
     (c.in_ok-write_body.ensures.written told) (c.in_ok-close_open_gate.ensures.written told) c.sync.ensures.held))

@@ -22,14 +22,22 @@ loop-part-preserved c =
     let l : i < length parts = subst (λ (xs : List SlotPart). i < length xs) same c.loop-part-test.true in
     let is : a ≡ get_or parts i a = c.part-item.is ∙ ap (λ xs. get_or xs i a) same in
     let room : a.sample < length c.loop-part.raws =
-    omega (arith, ap (λ (x : SlotPart). x.sample) c.part-item.is, c.at_slot-part-items.ensures.numbers i a c.loop-part-test.true, c.requires.raws, c.loop-part.auto.raws) in
+    omega (
+      arith,
+      ap (λ (x : SlotPart). x.sample) c.part-item.is,
+      c.at_slot-part-items.ensures.numbers i a c.loop-part-test.true,
+      c.requires.raws,
+      c.loop-part.auto.raws,
+    ) in
     record {
-      small = c.with_piece-word.ensures.small;
+      small = c.with_piece-word.ensures.twelve_bits;
       drawn = λ value have.
           let so_far = c.loop-part.invariant.drawn value have in
           let At : SlotPart → Type 0 = λ x. value_at laid slot c.args.held.now before x.sample ≡ value x.sample in
-          let raw_is = value_taken value laid slot c.args.held.now before c.loop-part.raws a.sample c.sample-sample.result.now c.value_at-raw.result (subst At (sym is) (have i a l)) c.sample-sample.ensures so_far.kept c.value_at-raw.ensures.value in
-          IsDrawn-more value parts i a before c.loop-part.raws c.value_at-raw.new.raws c.loop-part.word c.with_piece-word.result c.value_at-raw.result l is so_far raw_is room c.value_at-raw.ensures.kept c.with_piece-word.ensures.small c.with_piece-word.ensures.value;
+          let raw_is = value_taken value laid slot c.args.held.now before c.loop-part.raws a.sample c.sample-sample.result.now c.value_at-raw.result
+          (subst At (sym is) (have i a l)) c.sample-sample.ensures so_far.kept c.value_at-raw.ensures.value in
+          IsDrawn-more value parts i a before c.loop-part.raws c.value_at-raw.new.raws c.loop-part.word c.with_piece-word.result c.value_at-raw.result l is
+          so_far raw_is room c.value_at-raw.ensures.kept c.with_piece-word.ensures.twelve_bits c.with_piece-word.ensures.value;
     }
 
 pub returns-clause-drawn : goal.returns-clause-drawn

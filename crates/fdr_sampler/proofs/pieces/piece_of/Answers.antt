@@ -10,4 +10,5 @@ returns-clause-piece c =
     let shift = c.part.inside.shift in
     let width = c.part.inside.width in
     let P : Part → Type 0 = λ p. bit_and (c.from.result / 2 ^ shift) (1 * 2 ^ width % 2 ^ 64 - 1) ≡ piece_of c.args.raw p in
-    subst P c.part.view_is (piece_masked c.from.result shift width (omega (arith, c.part.invariant.place.bits)) ∙ ap (λ r. r / 2 ^ shift % 2 ^ width) c.from.ensures)
+    subst P c.part.view_is (piece_masked c.from.result shift width (omega (arith, c.part.invariant.place.bits))
+    ∙ ap (λ r. r / 2 ^ shift % 2 ^ width) c.from.ensures)

@@ -28,7 +28,8 @@ loop-at-smaller c =
 pub loop-at-preserved : goal.loop-at-preserved
 loop-at-preserved c =
     let next : c.in-Some.at + 48 * c.from.result ≡ c.in-Some.at + 48 * c.args.words = ap (λ w. c.in-Some.at + 48 * w) c.from.ensures in
-    accepted_more c.args.bytes.now c.args.words c.loop-at.free c.in-Some.at _ c.loop-at.frames.items c.push.new.self.items _ c.requires.word_count c.in-Some.ensures.found next c.in_ok-push.ensures.items c.loop-at.invariant
+    accepted_more c.args.bytes.now c.args.words c.loop-at.free c.in-Some.at _ c.loop-at.frames.items c.push.new.self.items _ c.requires.word_count
+    c.in-Some.ensures.found next c.in_ok-push.ensures.items c.loop-at.invariant
 
 pub returns-clause-items : goal.returns-clause-items
 returns-clause-items c = accepted_all c.args.bytes.now c.args.words c.loop-at.free c.loop-at.frames.items _ c.in_default.ensures.none c.loop-at.invariant

@@ -57,10 +57,12 @@ loop-at-preserved c =
     elim c.if-free-at.branch [
       | then-free-at+in_ok-push w ↦
           let pushed = ap (λ v. pairs v.items) w.gaps-is ∙ ap pairs w.in_ok-push.ensures.items ∙ map-append the_pair c.loop-at.gaps.items _ in
-          gaps_more_gap c.args.bytes.now c.args.words c.loop-at.free c.in-Some.at _ (pairs c.loop-at.gaps.items) (pairs c.if-free-at.gaps.items) _ c.requires.word_count c.in-Some.ensures.found w.if-free-at.true next pushed c.loop-at.invariant
+          gaps_more_gap c.args.bytes.now c.args.words c.loop-at.free c.in-Some.at _ (pairs c.loop-at.gaps.items) (pairs c.if-free-at.gaps.items)
+          _ c.requires.word_count c.in-Some.ensures.found w.if-free-at.true next pushed c.loop-at.invariant
       | else-free-at w ↦
           ap (λ v. pairs v.items ++ gaps_from c.args.bytes.now c.args.words (c.in-Some.at + 48 * c.from.result)) w.gaps-is
-          ∙ gaps_more_none c.args.bytes.now c.args.words c.loop-at.free c.in-Some.at _ (pairs c.loop-at.gaps.items) _ c.requires.word_count c.in-Some.ensures.found w.if-free-at.false next c.loop-at.invariant
+          ∙ gaps_more_none c.args.bytes.now c.args.words c.loop-at.free c.in-Some.at _ (pairs c.loop-at.gaps.items)
+          _ c.requires.word_count c.in-Some.ensures.found w.if-free-at.false next c.loop-at.invariant
     ]
 
 pub returns-clause-items : goal.returns-clause-items
@@ -68,8 +70,10 @@ returns-clause-items c =
     elim c.if-free-end.branch [
       | then-free-end+in_ok-push-2 w ↦
           let pushed = ap (λ v. pairs v.items) w.gaps-is ∙ ap pairs w.in_ok-push-2.ensures.items ∙ map-append the_pair c.loop-at.gaps.items _ in
-          gaps_all_gap c.args.bytes.now c.args.words c.loop-at.free (pairs c.loop-at.gaps.items) (pairs c.if-free-end.gaps.items) _ c.in_default.ensures.none w.if-free-end.true pushed c.loop-at.invariant
+          gaps_all_gap c.args.bytes.now c.args.words c.loop-at.free (pairs c.loop-at.gaps.items) (pairs c.if-free-end.gaps.items)
+          _ c.in_default.ensures.none w.if-free-end.true pushed c.loop-at.invariant
       | else-free-end w ↦
           ap (λ v. pairs v.items) w.gaps-is
-          ∙ gaps_all_none c.args.bytes.now c.args.words c.loop-at.free (pairs c.loop-at.gaps.items) _ c.in_default.ensures.none w.if-free-end.false c.loop-at.invariant
+          ∙ gaps_all_none c.args.bytes.now c.args.words c.loop-at.free (pairs c.loop-at.gaps.items)
+          _ c.in_default.ensures.none w.if-free-end.false c.loop-at.invariant
     ]

@@ -20,7 +20,11 @@ returns-then-digit-last-clause-exactly c =
     let xs = c.args.field.now in
     let i = c.loop-digit.digit-index in
     let bad : (get_or xs i 0 ≤ c.loop-digit.last) ⊎ (52 < get_or xs i 0) =
-    elim c.then-digit-last.branch [ then-digit-last-via-then-digit-last w ↦ inl (omega arith) | then-digit-last-via-else-digit-last+then-digit-gt52 w ↦ inr (omega arith) ] in
+    elim c.then-digit-last.branch [
+      | then-digit-last-via-then-digit-last w ↦ inl (omega arith)
+      | then-digit-last-via-else-digit-last+then-digit-gt52 w ↦
+          inr (omega arith)
+    ] in
     sym (c.loop-digit.invariant.left ∙ left-at c.loop-digit.last c.loop-digit.set i xs c.loop-digit-test.true
     ∙ left-stop c.loop-digit.last c.loop-digit.set (get_or xs i 0) (drop (i + 1) xs) bad)
 

@@ -23,7 +23,8 @@ returns-in_default-clause-recovers g c =
       disk = c.read_image_header.ensures.disk;
       quiet = c.read_image_header.ensures.quiet;
     } in
-    nothing_recovered _ _ _ _ _ looks (λ e. absurd (cc)) (λ no_fault read told. c.in-Ok.ensures.good told) (λ why e told. absurd (cc)) (λ why e. absurd (cc)) (λ e. absurd (cc))
+    nothing_recovered _ _ _ _ _ looks (λ e. absurd (cc)) (λ no_fault read told. c.in-Ok.ensures.good told) (λ why e told. absurd (cc)) (λ why e. absurd (cc))
+    (λ e. absurd (cc))
 
 pub returns-in-Ok-write_run-clause-recovers : goal.returns-in-Ok-write_run-clause-recovers
 returns-in-Ok-write_run-clause-recovers g c =
@@ -46,7 +47,8 @@ returns-clause-recovers g c =
     } in
     run_recovered _ _ _ _ c.in-Ok.header _ _ c.in-Err-write_run.answer (g.met.D.Deck.sound c.args.deck.now) looks c.write_run.ensures.looks
     c.in-Ok.ensures.read c.in-Ok.ensures.good
-    (λ done told. absurd (⊎_elim (λ disk. let e = sym disk ∙ done in absurd (cc)) (λ sink. let e = sym sink ∙ done in absurd (cc)) c.in-Err-write_run.ensures.answer))
+    (λ done told. absurd (⊎_elim (λ disk. let e = sym disk ∙ done in absurd (cc)) (λ sink. let e = sym sink ∙ done in absurd (cc))
+    c.in-Err-write_run.ensures.answer))
     (λ told. c.write_run.ensures.part told)
     (λ why is. ⊎_elim (λ disk. let e = sym disk ∙ is in absurd (cc)) (λ sink. let e = sym sink ∙ is in absurd (cc)) c.in-Err-write_run.ensures.answer)
     (c.in-Ok.ensures.succeeds (λ e. absurd (cc))).disk_faults

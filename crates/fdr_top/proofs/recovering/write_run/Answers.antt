@@ -65,7 +65,8 @@ returns-in-Ok-finish-clause-all g c told =
       greatest = c.in-Ok.ensures.greatest held;
       recovered = c.in-Ok.ensures.recovered held;
     } in
-    let all = Emits-all c.args.h.now held c.in-Ok.found.first c.in-Ok.found.next c.loop-number.number _ _ _ found (omega (arith, c.loop-number-test.false)) (c.loop-number.invariant.emits told) in
+    let all = Emits-all c.args.h.now held c.in-Ok.found.first c.in-Ok.found.next c.loop-number.number _ _ _ found (omega (arith, c.loop-number-test.false))
+    (c.loop-number.invariant.emits told) in
     written_at_end _ _ _ _ _ all c.in-Ok-finish.ensures.all
 
 pub returns-in-Ok-finish-clause-part : goal.returns-in-Ok-finish-clause-part
@@ -77,7 +78,8 @@ returns-in-Ok-finish-clause-part g c told =
       greatest = c.in-Ok.ensures.greatest held;
       recovered = c.in-Ok.ensures.recovered held;
     } in
-    let all = Emits-all c.args.h.now held c.in-Ok.found.first c.in-Ok.found.next c.loop-number.number _ _ _ found (omega (arith, c.loop-number-test.false)) (c.loop-number.invariant.emits told) in
+    let all = Emits-all c.args.h.now held c.in-Ok.found.first c.in-Ok.found.next c.loop-number.number _ _ _ found (omega (arith, c.loop-number-test.false))
+    (c.loop-number.invariant.emits told) in
     whole_is_part _ _ _ (written_at_end _ _ _ _ _ all c.in-Ok-finish.ensures.all)
 
 pub returns-in-Err-finish-clause-part : goal.returns-in-Err-finish-clause-part
@@ -89,5 +91,6 @@ returns-in-Err-finish-clause-part g c told =
       greatest = c.in-Ok.ensures.greatest held;
       recovered = c.in-Ok.ensures.recovered held;
     } in
-    let all = Emits-all c.args.h.now held c.in-Ok.found.first c.in-Ok.found.next c.loop-number.number _ _ _ found (omega (arith, c.loop-number-test.false)) (c.loop-number.invariant.emits told) in
+    let all = Emits-all c.args.h.now held c.in-Ok.found.first c.in-Ok.found.next c.loop-number.number _ _ _ found (omega (arith, c.loop-number-test.false))
+    (c.loop-number.invariant.emits told) in
     part_at_end _ _ _ _ _ c.in-Err-finish.ensures.part.0 all c.in-Err-finish.ensures.part.1

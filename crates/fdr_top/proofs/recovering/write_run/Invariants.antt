@@ -12,5 +12,6 @@ invariant-loop-number g l = record {
   disk_quiet : (g.D.Deck.state l.deck).disk_faults ≡ (g.D.Deck.state l.fn.deck).disk_faults;
   sink_quiet : g.O.Sink.faults l.out ≡ g.O.Sink.faults l.fn.out;
   emits : IsTrue g.D.Deck.tells.bytes
-      → Emits (g.O.Sink.written l.fn.out) (g.O.Sink.written l.out) [] l.buffer (payloads_of (take (l.number - l.initial.number) (recovered_run l.h (g.D.Deck.state l.fn.deck).held)));
+      → Emits (g.O.Sink.written l.fn.out) (g.O.Sink.written l.out) [] l.buffer
+      (payloads_of (take (l.number - l.initial.number) (recovered_run l.h (g.D.Deck.state l.fn.deck).held)));
 }

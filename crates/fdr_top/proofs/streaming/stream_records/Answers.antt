@@ -3,7 +3,8 @@ use Rattle.std.proofs.lemmas.Result.{err_from_is_err_and}
 use Rattle.fdr_bus.specs.declared.BusRecord.{BusRecord}
 use Rattle.fdr_trace.specs.declared.TraceStop.{TraceStop}
 use Rattle.fdr_trace.proofs.Pulling.{LeavesDisk-here, LeavesDisk-then, PullsMore-none}
-use Rattle.fdr_top.proofs.Records.{IsStreamed-made, ComesNext-read, PullsMore-next, IsStreamedTo-end, IsStreamedTo-stop, IsStreamedPart-next, good_with_next, is_end-yes, is_end-no, count_rises}
+use Rattle.fdr_top.proofs.Records.{IsStreamed-made, ComesNext-read, PullsMore-next, IsStreamedTo-end, IsStreamedTo-stop, IsStreamedPart-next, good_with_next}
+use Rattle.fdr_top.proofs.Records.{is_end-yes, is_end-no, count_rises}
 use Rattle.fdr_top.proofs.streaming.stream_records.Goals as goal
 
 err_same : (s s' : TraceStop) → ◌≡◌ {A = Result BusRecord TraceStop} (Err s) (Err s') → s ≡ s'
@@ -23,7 +24,8 @@ pub returns-in-Err-clause-all : goal.returns-in-Err-clause-all
 returns-in-Err-clause-all g c = λ t fresh.
     let at = c.loop-next.invariant.streamed t fresh in
     let next = c.in-Err.ensures.next at.0 at.1 at.3 in
-    rw c.answer_of_stop.ensures (IsStreamedTo-stop t _ _ _ _ _ at.0 next.0 at.1 c.in-Err.stop _ _ at.2 next.1 next.2 at.4 c.loop-next.invariant.quiet (λ not. c.in-Err.ensures.quiet (λ e. not (err_same _ _ e))))
+    rw c.answer_of_stop.ensures (IsStreamedTo-stop t _ _ _ _ _ at.0 next.0 at.1 c.in-Err.stop _ _ at.2 next.1 next.2 at.4 c.loop-next.invariant.quiet
+    (λ not. c.in-Err.ensures.quiet (λ e. not (err_same _ _ e))))
 
 pub write_record-requires-clause-fed : goal.write_record-requires-clause-fed
 write_record-requires-clause-fed g c =
@@ -40,7 +42,8 @@ returns-in_err-write_record-clause-part g c = λ t fresh.
     let part = c.in_err-write_record.ensures.part t at.1 _ at.4 comes in
     let good = good_with_next _ (at.0 ++ next.0) at.1 c.in-Ok.next next.2 in
     let p = err_from_is_err_and c.from_residual.result c.from_residual.ensures.1 in
-    rw p.1 (IsStreamedPart-next t _ _ _ (at.0 ++ next.0) (at.1 ++ c.in-Ok.next ∷ []) good.0 _ _ part.0 (PullsMore-next _ _ _ _ at.0 next.0 at.2 next.1) good.1 part.1)
+    rw p.1 (IsStreamedPart-next t _ _ _ (at.0 ++ next.0) (at.1 ++ c.in-Ok.next ∷ []) good.0 _ _ part.0 (PullsMore-next _ _ _ _ at.0 next.0 at.2 next.1)
+    good.1 part.1)
 
 pub returns-in-End-clause-all : goal.returns-in-End-clause-all
 returns-in-End-clause-all g c = λ t fresh.

@@ -3,15 +3,15 @@ use Rattle.fdr_bus.specs.declared.BusRecord.{BusRecord}
 use Rattle.fdr_deck.specs.Calls.{LeavesDisk}
 use Rattle.fdr_table.specs.Rows.{TableRows}
 use Rattle.fdr_trace.specs.Pulls.{PullsMore}
-use Rattle.fdr_trace.specs.Reading.{Reads}
-use Rattle.fdr_top.specs.Streaming.{IsFresh, IsStreamed}
+use Rattle.fdr_trace.specs.Reading.{RepresentsTrace}
+use Rattle.fdr_top.specs.Streaming.{IsUnbegun, IsStreamed}
 use Rattle.fdr_top.proofs.streaming.stream_records.Given as goal
 
 abbrev pub invariant-loop-next : goal.invariant-loop-next
 invariant-loop-next g l = record {
-  streamed : (t : TableRows) → IsFresh l.fn.recording t →
+  streamed : (t : TableRows) → IsUnbegun l.fn.recording t →
       (bytes : List ℕ) × (records : List BusRecord) × PullsMore g.D.Deck.tells (g.D.Deck.state l.fn.deck) (g.D.Deck.state l.deck) [] bytes
-      × Reads l.recording.trace bytes records × IsStreamed l.recording.stream t records (g.O.Sink.written l.fn.out) (g.O.Sink.written l.out);
+      × RepresentsTrace l.recording.trace bytes records × IsStreamed l.recording.stream t records (g.O.Sink.written l.fn.out) (g.O.Sink.written l.out);
   room : length l.block ≡ 4096;
   quiet : (g.D.Deck.state l.deck).line_faults ≡ (g.D.Deck.state l.fn.deck).line_faults;
   disk : LeavesDisk (g.D.Deck.state l.fn.deck) (g.D.Deck.state l.deck);

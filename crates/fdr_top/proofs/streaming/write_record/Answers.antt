@@ -33,8 +33,11 @@ loop-i-preserved g c = record {
       let due = (c.in-Block.ensures.exactly past at.2.stands may).0 refl in (
         _,
         at.1 + 1,
-        IsGiving-block c.loop-i.stream t records c.args.next.now c.loop-i.i at.0 at.1 c.feed.new.self at.2 due (c.in-Block.ensures.begun past at.2.stands may refl),
-        λ before written. text-block before _ _ t (records ++ c.args.next.now ∷ []) at.1 c.feed.new.out (omega (arith, c.feed.auto.out, c.loop-i.invariant.room)) (c.in-Block.ensures.block past at.2.stands may refl) (at.3 before written) c.in_ok-write_whole-in-Block.ensures.whole,
+        IsGiving-block c.loop-i.stream t records c.args.next.now c.loop-i.i at.0 at.1 c.feed.new.self at.2 due
+            (c.in-Block.ensures.begun past at.2.stands may refl),
+        λ before written. text-block before _ _ t (records ++ c.args.next.now ∷ []) at.1 c.feed.new.out
+            (omega (arith, c.feed.auto.out, c.loop-i.invariant.room)) (c.in-Block.ensures.block past at.2.stands may refl) (at.3 before written)
+            c.in_ok-write_whole-in-Block.ensures.whole,
       );
   room = omega (arith, c.feed.auto.out, c.loop-i.invariant.room);
   quiet = c.in_ok-write_whole-in-Block.ensures.quiet ∙ c.loop-i.invariant.quiet;
@@ -50,7 +53,8 @@ returns-in_err-write_whole-in-Block-clause-part g c =
     let past = giving t records at.0 at.1 in
     let may = MayFeed-giving t records c.args.next.now at.0 at.1 next at.2.same in
     let due = (c.in-Block.ensures.exactly past at.2.stands may).0 refl in
-    part-block before _ _ t (records ++ c.args.next.now ∷ []) at.1 c.feed.new.out sent.0 (omega (arith, c.feed.auto.out, c.loop-i.invariant.room)) (c.in-Block.ensures.block past at.2.stands may refl) due (at.3 before streamed.written) sent.1)
+    part-block before _ _ t (records ++ c.args.next.now ∷ []) at.1 c.feed.new.out sent.0 (omega (arith, c.feed.auto.out, c.loop-i.invariant.room))
+    (c.in-Block.ensures.block past at.2.stands may refl) due (at.3 before streamed.written) sent.1)
 
 pub unreachable-requires : goal.unreachable-requires
 unreachable-requires g c =

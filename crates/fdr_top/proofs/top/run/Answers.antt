@@ -37,7 +37,8 @@ returns-in-CheckTable-clause-untouched g c = λ e. absurd (rw e at (c.check.ensu
 
 pub returns-in-CheckTable-clause-answers : goal.returns-in-CheckTable-clause-answers
 returns-in-CheckTable-clause-answers g c = λ form asks.
-    subst (λ (x : Form). MayAnswer x c.check.result) (same_form _ _ _ (c.in-Ok.ensures.form ∙ ap (λ (r : Request). Some (form_of_request r)) c.in-CheckTable.is) asks) (c.check.ensures.answers _)
+    subst (λ (x : Form). MayAnswer x c.check.result) (same_form _ _ _ (c.in-Ok.ensures.form ∙ ap (λ (r : Request). Some (form_of_request r)) c.in-CheckTable.is)
+    asks) (c.check.ensures.answers _)
 
 pub returns-in-StreamLine-clause-usage : goal.returns-in-StreamLine-clause-usage
 returns-in-StreamLine-clause-usage g c = (
@@ -50,11 +51,13 @@ returns-in-StreamLine-clause-untouched g c = λ e. absurd (rw e at (c.stream.ens
 
 pub returns-in-StreamLine-clause-answers : goal.returns-in-StreamLine-clause-answers
 returns-in-StreamLine-clause-answers g c = λ form asks.
-    subst (λ (x : Form). MayAnswer x c.stream.result) (same_form _ _ _ (c.in-Ok.ensures.form ∙ ap (λ (r : Request). Some (form_of_request r)) c.in-StreamLine.is) asks) (c.stream.ensures.answers _)
+    subst (λ (x : Form). MayAnswer x c.stream.result) (same_form _ _ _
+    (c.in-Ok.ensures.form ∙ ap (λ (r : Request). Some (form_of_request r)) c.in-StreamLine.is) asks) (c.stream.ensures.answers _)
 
 pub returns-in-StreamLine-clause-unused : goal.returns-in-StreamLine-clause-unused
 returns-in-StreamLine-clause-unused g c = λ form asks.
-    let same = same_form _ _ _ asks (c.in-Ok.ensures.form ∙ ap (λ (r : Request). Some (form_of_request r)) c.in-StreamLine.is) in rw same (c.stream.ensures.unused _)
+    let same = same_form _ _ _ asks (c.in-Ok.ensures.form ∙ ap (λ (r : Request). Some (form_of_request r)) c.in-StreamLine.is) in
+    rw same (c.stream.ensures.unused _)
 
 pub returns-in-StreamLine-clause-complete : goal.returns-in-StreamLine-clause-complete
 returns-in-StreamLine-clause-complete g c = λ form asks whole faultless.
@@ -72,11 +75,13 @@ returns-in-ListBits-clause-untouched g c = λ e. absurd (rw e at (c.listbits.ens
 
 pub returns-in-ListBits-clause-answers : goal.returns-in-ListBits-clause-answers
 returns-in-ListBits-clause-answers g c = λ form asks.
-    subst (λ (x : Form). MayAnswer x c.listbits.result) (same_form _ _ _ (c.in-Ok.ensures.form ∙ ap (λ (r : Request). Some (form_of_request r)) c.in-ListBits.is) asks) (c.listbits.ensures.answers _)
+    subst (λ (x : Form). MayAnswer x c.listbits.result)
+    (same_form _ _ _ (c.in-Ok.ensures.form ∙ ap (λ (r : Request). Some (form_of_request r)) c.in-ListBits.is) asks) (c.listbits.ensures.answers _)
 
 pub returns-in-ListBits-clause-unused : goal.returns-in-ListBits-clause-unused
 returns-in-ListBits-clause-unused g c = λ form asks.
-    let same = same_form _ _ _ asks (c.in-Ok.ensures.form ∙ ap (λ (r : Request). Some (form_of_request r)) c.in-ListBits.is) in rw same (c.listbits.ensures.unused _)
+    let same = same_form _ _ _ asks (c.in-Ok.ensures.form ∙ ap (λ (r : Request). Some (form_of_request r)) c.in-ListBits.is) in
+    rw same (c.listbits.ensures.unused _)
 
 pub returns-in-ListBits-clause-complete : goal.returns-in-ListBits-clause-complete
 returns-in-ListBits-clause-complete g c = λ form asks whole faultless.
@@ -94,7 +99,8 @@ returns-in-FormatImage-clause-untouched g c = λ e. absurd (rw e at (c.format.en
 
 pub returns-in-FormatImage-clause-answers : goal.returns-in-FormatImage-clause-answers
 returns-in-FormatImage-clause-answers g c = λ form asks.
-    subst (λ (x : Form). MayAnswer x c.format.result) (same_form _ _ _ (c.in-Ok.ensures.form ∙ ap (λ (r : Request). Some (form_of_request r)) c.in-FormatImage.is) asks) (c.format.ensures.answers _ _)
+    subst (λ (x : Form). MayAnswer x c.format.result) (same_form _ _ _
+    (c.in-Ok.ensures.form ∙ ap (λ (r : Request). Some (form_of_request r)) c.in-FormatImage.is) asks) (c.format.ensures.answers _ _)
 
 pub returns-in-FormatImage-clause-complete : goal.returns-in-FormatImage-clause-complete
 returns-in-FormatImage-clause-complete g c = λ form asks whole faultless.
@@ -103,7 +109,8 @@ returns-in-FormatImage-clause-complete g c = λ form asks whole faultless.
 
 pub returns-clause-answers : goal.returns-clause-answers
 returns-clause-answers g c = λ form asks.
-    subst (λ (x : Form). MayAnswer x c.recover.result) (same_form _ _ _ (c.in-Ok.ensures.form ∙ ap (λ (r : Request). Some (form_of_request r)) c.in-RecoverImage.is) asks) (c.recover.ensures.answers _)
+    subst (λ (x : Form). MayAnswer x c.recover.result)
+    (same_form _ _ _ (c.in-Ok.ensures.form ∙ ap (λ (r : Request). Some (form_of_request r)) c.in-RecoverImage.is) asks) (c.recover.ensures.answers _)
 
 pub returns-clause-complete : goal.returns-clause-complete
 returns-clause-complete g c = λ form asks whole faultless.

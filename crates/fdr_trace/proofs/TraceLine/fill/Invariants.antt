@@ -3,14 +3,14 @@ use Rattle.fdr_bus.specs.declared.BusRecord.{BusRecord}
 use Rattle.fdr_bus.specs.Records.{most_records}
 use Rattle.fdr_trace.specs.Moments.{PullsFor}
 use Rattle.fdr_trace.specs.Pulls.{PullsMore}
-use Rattle.fdr_trace.specs.Reading.{Reads}
+use Rattle.fdr_trace.specs.Reading.{RepresentsTrace}
 use Rattle.fdr_trace.proofs.PullMoments.{KeepsDeck}
 use Rattle.fdr_trace.proofs.TraceLine.fill.Given as goal
 
 abbrev pub invariant-loop-self : goal.invariant-loop-self
 invariant-loop-self g l = record {
-  filled : (bytes : List ℕ) (records : List BusRecord) → Reads l.fn.self bytes records → length records < most_records →
-      (more : List ℕ) × PullsMore g.D.Deck.tells (g.D.Deck.state l.fn.deck) (g.D.Deck.state l.deck) bytes more × Reads
+  filled : (bytes : List ℕ) (records : List BusRecord) → RepresentsTrace l.fn.self bytes records → length records < most_records →
+      (more : List ℕ) × PullsMore g.D.Deck.tells (g.D.Deck.state l.fn.deck) (g.D.Deck.state l.deck) bytes more × RepresentsTrace
       l.self (bytes ++ more) records
       × PullsFor g.D.Deck.tells (g.D.Deck.state l.fn.deck) (g.D.Deck.state l.deck) bytes more records;
   quiet : (g.D.Deck.state l.deck).line_faults ≡ (g.D.Deck.state l.fn.deck).line_faults;

@@ -4,8 +4,8 @@ use Rattle.fdr_bus.specs.declared.BusRecord.{BusRecord}
 use Rattle.fdr_bus.specs.declared.TraceFault.TheVariants as fault
 use Rattle.fdr_bus.specs.Records.{most_records}
 use Rattle.fdr_deck.specs.State.{State, Tells}
-use Rattle.fdr_trace.specs.Kept.{Kept}
-use Rattle.fdr_trace.specs.Reading.{Reads, IsRefused}
+use Rattle.fdr_trace.specs.Kept.{TraceKept}
+use Rattle.fdr_trace.specs.Reading.{RepresentsTrace, IsTraceRefused}
 use Rattle.fdr_deck.proofs.Moments.{Elapses-here, KeepsTold-here}
 use Rattle.fdr_trace.proofs.Pulling.{LeavesDisk-here, PullsMore-none}
 use Rattle.fdr_trace.proofs.PullMoments.{PullsFor-none}
@@ -13,7 +13,8 @@ use Rattle.fdr_trace.proofs.Records.{Reads-few, Reads-many}
 use Rattle.fdr_trace.proofs.Next.{next_of}
 use Rattle.fdr_trace.proofs.TraceLine.next.Goals as goal
 
-many_refused : (tells : Tells) (now : State) (k : Kept) (bytes : List ℕ) (records : List BusRecord) → Reads k bytes records → k.count ≡ 4294967296 → IsRefused tells now (bytes ++ []) records k.count fault.Many
+many_refused : (tells : Tells) (now : State) (k : TraceKept) (bytes : List ℕ) (records : List BusRecord) → RepresentsTrace k bytes records
+    → k.count ≡ 4294967296 → IsTraceRefused tells now (bytes ++ []) records k.count fault.Many
 unfolding most_records
 many_refused tells now k bytes records reads many =
     let all = Reads-many k bytes records reads many in
@@ -24,62 +25,62 @@ many_refused tells now k bytes records reads many =
       end = λ truncated. absurd (cc);
     }
 
-not_most : (k : Kept) (n : ℕ) → n ≡ k.count → n ≢ 4294967296 → k.count ≢ 4294967296
+not_most : (k : TraceKept) (n : ℕ) → n ≡ k.count → n ≢ 4294967296 → k.count ≢ 4294967296
 not_most k n is not = λ e. not (is ∙ e)
 
-pub returns-then-count-eq-MOST_RECORDS-clause-next : goal.returns-then-count-eq-MOST_RECORDS-clause-next
-returns-then-count-eq-MOST_RECORDS-clause-next g c = λ bytes records reads. (
+pub returns-then-count-eq-MAX_RECORDS-clause-next : goal.returns-then-count-eq-MAX_RECORDS-clause-next
+returns-then-count-eq-MAX_RECORDS-clause-next g c = λ bytes records reads. (
   [],
   PullsMore-none _ _ bytes,
   rw c.refused.ensures
       (many_refused _ _ c.args.self.now bytes records reads
-      (sym c.count.ensures ∙ c.if-count-eq-MOST_RECORDS.true)),
+      (sym c.count.ensures ∙ c.if-count-eq-MAX_RECORDS.true)),
   PullsFor-none _ _ bytes records
       (g.met.D.Deck.sound c.args.deck.now),
 )
 
-pub returns-then-count-eq-MOST_RECORDS-clause-disk : goal.returns-then-count-eq-MOST_RECORDS-clause-disk
-returns-then-count-eq-MOST_RECORDS-clause-disk g c = LeavesDisk-here _
+pub returns-then-count-eq-MAX_RECORDS-clause-disk : goal.returns-then-count-eq-MAX_RECORDS-clause-disk
+returns-then-count-eq-MAX_RECORDS-clause-disk g c = LeavesDisk-here _
 
-pub returns-then-count-eq-MOST_RECORDS-clause-told : goal.returns-then-count-eq-MOST_RECORDS-clause-told
-returns-then-count-eq-MOST_RECORDS-clause-told g c = KeepsTold-here _
+pub returns-then-count-eq-MAX_RECORDS-clause-told : goal.returns-then-count-eq-MAX_RECORDS-clause-told
+returns-then-count-eq-MAX_RECORDS-clause-told g c = KeepsTold-here _
 
-pub returns-then-count-eq-MOST_RECORDS-clause-time : goal.returns-then-count-eq-MOST_RECORDS-clause-time
-returns-then-count-eq-MOST_RECORDS-clause-time g c = Elapses-here _ _ (g.met.D.Deck.sound c.args.deck.now)
+pub returns-then-count-eq-MAX_RECORDS-clause-time : goal.returns-then-count-eq-MAX_RECORDS-clause-time
+returns-then-count-eq-MAX_RECORDS-clause-time g c = Elapses-here _ _ (g.met.D.Deck.sound c.args.deck.now)
 
-pub returns-then-count-eq-MOST_RECORDS-clause-rest : goal.returns-then-count-eq-MOST_RECORDS-clause-rest
-returns-then-count-eq-MOST_RECORDS-clause-rest g c = g.met.D.Deck.rest_here c.args.deck.now
+pub returns-then-count-eq-MAX_RECORDS-clause-rest : goal.returns-then-count-eq-MAX_RECORDS-clause-rest
+returns-then-count-eq-MAX_RECORDS-clause-rest g c = g.met.D.Deck.rest_here c.args.deck.now
 
 pub fill-requires : goal.fill-requires
 fill-requires g c =
     let r = c.requires in
-    (r.0, r.1, r.2, Reads-few c.args.self.now r.0 r.1 r.2 (not_most c.args.self.now c.count.result c.count.ensures c.if-count-eq-MOST_RECORDS.false))
+    (r.0, r.1, r.2, Reads-few c.args.self.now r.0 r.1 r.2 (not_most c.args.self.now c.count.result c.count.ensures c.if-count-eq-MAX_RECORDS.false))
 
 pub returns-in-Err-clause-next : goal.returns-in-Err-clause-next
 returns-in-Err-clause-next g c = λ bytes records reads.
-    let few = Reads-few c.args.self.now bytes records reads (not_most c.args.self.now c.count.result c.count.ensures c.if-count-eq-MOST_RECORDS.false) in
+    let few = Reads-few c.args.self.now bytes records reads (not_most c.args.self.now c.count.result c.count.ensures c.if-count-eq-MAX_RECORDS.false) in
     c.in-Err.ensures.filled bytes records reads few
 
 pub read-requires-clause-waits : goal.read-requires-clause-waits
 read-requires-clause-waits g c =
     let r = c.requires in
-    let few = Reads-few c.args.self.now r.0 r.1 r.2 (not_most c.args.self.now c.count.result c.count.ensures c.if-count-eq-MOST_RECORDS.false) in
+    let few = Reads-few c.args.self.now r.0 r.1 r.2 (not_most c.args.self.now c.count.result c.count.ensures c.if-count-eq-MAX_RECORDS.false) in
     (c.in-Ok.ensures.filled r.0 r.1 r.2 few).2.waits
 
-few_now : (k : Kept) (bytes : List ℕ) (records : List BusRecord) → Reads k bytes records
+few_now : (k : TraceKept) (bytes : List ℕ) (records : List BusRecord) → RepresentsTrace k bytes records
     → length records < most_records → k.count < most_records
 few_now k bytes records reads few = omega (arith, few, reads.count)
 
-pub read-requires-clause-few : goal.read-requires-clause-few
-read-requires-clause-few g c =
+pub read-requires-clause-more_to_come : goal.read-requires-clause-more_to_come
+read-requires-clause-more_to_come g c =
     let r = c.requires in
-    let few = Reads-few c.args.self.now r.0 r.1 r.2 (not_most c.args.self.now c.count.result c.count.ensures c.if-count-eq-MOST_RECORDS.false) in
+    let few = Reads-few c.args.self.now r.0 r.1 r.2 (not_most c.args.self.now c.count.result c.count.ensures c.if-count-eq-MAX_RECORDS.false) in
     let filled = c.in-Ok.ensures.filled r.0 r.1 r.2 few in
     few_now c.fill.new.self (r.0 ++ filled.0) r.1 filled.2.reads few
 
 pub returns-in-Ok-clause-next : goal.returns-in-Ok-clause-next
 returns-in-Ok-clause-next g c = λ bytes records reads.
-    let few = Reads-few c.args.self.now bytes records reads (not_most c.args.self.now c.count.result c.count.ensures c.if-count-eq-MOST_RECORDS.false) in
+    let few = Reads-few c.args.self.now bytes records reads (not_most c.args.self.now c.count.result c.count.ensures c.if-count-eq-MAX_RECORDS.false) in
     let filled = c.in-Ok.ensures.filled bytes records reads few in (
       filled.0,
       filled.1,

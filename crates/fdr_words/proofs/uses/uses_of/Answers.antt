@@ -4,8 +4,8 @@ use Rattle.fdr_words.specs.Words.{most_form_words}
 use Rattle.fdr_words.proofs.UsesSteps.{too_many_words}
 use Rattle.fdr_words.proofs.uses.uses_of.Goals as goal
 
-pub returns-then-words-gt-MOST_WORDS : goal.returns-then-words-gt-MOST_WORDS
-returns-then-words-gt-MOST_WORDS c =
+pub returns-then-words-gt-MAX_WORDS : goal.returns-then-words-gt-MAX_WORDS
+returns-then-words-gt-MAX_WORDS c =
     let words = map (string_bytes {Z = Global}) c.args.words.now in
     let many : most_form_words < length words = omega (arith, length-map c.args.words.now (string_bytes {Z = Global})) in
     too_many_words words many

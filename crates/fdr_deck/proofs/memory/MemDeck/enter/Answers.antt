@@ -1,5 +1,5 @@
 use Rattle.std.proofs.Common.{ap, subst, sym, ◌∙◌, List}
-use Rattle.fdr_deck.specs.Memory.{Memory, AreInside, held_after, held_in, IsInside}
+use Rattle.fdr_deck.specs.Memory.{Memory, AreInside, held_after, held_in, FitsDisk}
 use Rattle.fdr_deck.specs.declared.calls.Entry.{Entry}
 use Rattle.fdr_deck.proofs.MemoryCalls.{held_push}
 use Rattle.fdr_deck.proofs.MemoryStops.{AreInside-push}
@@ -12,5 +12,7 @@ invariant_of-self c =
     let first = c.self.inside.first.items in (
       c.self.invariant.0,
       ap (λ (es : List Entry). held_after es first) c.in-Ok.ensures.items ∙ held_push entries entry first ∙ c.requires.kept _ ∙ c.self.invariant.1,
-      subst (λ (es : List Entry). AreInside es first) (sym c.in-Ok.ensures.items) (AreInside-push entries entry first c.self.invariant.2 (subst (λ (m : Memory). IsInside c.args.call (held_in m)) (sym c.self.view_is) c.requires.inside)),
+      subst (λ (es : List Entry). AreInside es first) (sym c.in-Ok.ensures.items)
+          (AreInside-push entries entry first c.self.invariant.2
+          (subst (λ (m : Memory). FitsDisk c.args.call (held_in m)) (sym c.self.view_is) c.requires.inside)),
     )

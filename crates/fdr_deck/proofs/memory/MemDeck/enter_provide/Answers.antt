@@ -13,5 +13,6 @@ invariant_of-self c =
     let first = c.self.inside.first.items in (
       c.self.invariant.0,
       ap (λ (es : List Entry). held_after es first) c.in-Ok.ensures.items ∙ held_push entries entry first ∙ sym c.in_ok-zeros.ensures,
-      subst (λ (es : List Entry). AreInside es first) (sym c.in-Ok.ensures.items) (AreInside-push entries entry first c.self.invariant.2 (subst (λ (m : Memory). length (held_in m) ≡ 0) (sym c.self.view_is) c.requires)),
+      subst (λ (es : List Entry). AreInside es first) (sym c.in-Ok.ensures.items)
+          (AreInside-push entries entry first c.self.invariant.2 (subst (λ (m : Memory). length (held_in m) ≡ 0) (sym c.self.view_is) c.requires)),
     )

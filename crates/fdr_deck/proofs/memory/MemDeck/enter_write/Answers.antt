@@ -13,15 +13,18 @@ invariant_of-self-in-Ok c =
     let entry : Entry = record { call = Write c.args.at c.in_ok-copy.copy; numbers = c.self.inside.numbers } in
     let entries = c.self.inside.entries.items in
     let first = c.self.inside.first.items in
-    let was : held_after entries first ≡ c.in_ok-image.image.items = c.self.invariant.1 ∙ sym (c.in_ok-image.ensures.taken ∙ ap (λ (l : List ℕ). current l c.self.inside.changed) c.deref.ensures.value) in
+    let was : held_after entries first ≡ c.in_ok-image.image.items =
+    c.self.invariant.1 ∙ sym (c.in_ok-image.ensures.taken ∙ ap (λ (l : List ℕ). current l c.self.inside.changed) c.deref.ensures.value) in
     let bytes = ap (λ (l : List ℕ). patched c.args.at l (held_after entries first)) c.in_ok-copy.ensures in
     let long : length c.patch.new.image ≡ c.in_ok-image.image.len = omega (arith, c.patch.auto.image, c.in_ok-image.image.ok) in
-    let room : c.args.at + length c.args.bytes.now ≤ length (held_after entries first) = subst (λ (m : Memory). c.args.at + length c.args.bytes.now ≤ length (held_in m)) (sym c.self.view_is) c.requires in
+    let room : c.args.at + length c.args.bytes.now ≤ length (held_after entries first) =
+    subst (λ (m : Memory). c.args.at + length c.args.bytes.now ≤ length (held_in m)) (sym c.self.view_is) c.requires in
     let image = ap (λ (l : List ℕ). patched c.args.at c.args.bytes.now l) (was ∙ sym c.deref_mut.ensures.value) in (
       c.self.invariant.0,
       ap (λ (es : List Entry). held_after es first) c.in-Ok.ensures.items ∙ held_push entries entry first ∙ bytes ∙ image ∙ sym c.patch.ensures
           ∙ sym (with_items_is c.in_ok-image.image c.patch.new.image long),
-      subst (λ (es : List Entry). AreInside es first) (sym c.in-Ok.ensures.items) (AreInside-push entries entry first c.self.invariant.2 (omega (arith, ap (λ (l : List ℕ). length l) c.in_ok-copy.ensures, room))),
+      subst (λ (es : List Entry). AreInside es first) (sym c.in-Ok.ensures.items)
+          (AreInside-push entries entry first c.self.invariant.2 (omega (arith, ap (λ (l : List ℕ). length l) c.in_ok-copy.ensures, room))),
     )
 
 pub returns-in-Ok-clause-entered : goal.returns-in-Ok-clause-entered

@@ -2,10 +2,13 @@ use Rattle.fdr_deck.proofs.MemoryPass.{leaves_told, time_told, now_told}
 use Rattle.fdr_deck.proofs.memory.MemDeckDeck.announce.Goals as goal
 
 pub returns-clause-disk : goal.returns-clause-disk
-returns-clause-disk c = leaves_told c.args.count c.args.self.now c.tell.new.self c.tell.ensures.entries c.tell.ensures.first c.tell.ensures.pulled c.tell.ensures.least c.tell.ensures.greatest c.tell.ensures.disk_faults
+returns-clause-disk c = leaves_told c.args.count c.args.self.now c.tell.new.self c.tell.ensures.entries c.tell.ensures.first c.tell.ensures.pulled
+    c.tell.ensures.least c.tell.ensures.greatest c.tell.ensures.disk_faults
 
 pub returns-clause-time : goal.returns-clause-time
-returns-clause-time c = time_told c.args.count c.args.self.now c.tell.new.self c.tell.ensures.entries c.tell.ensures.first c.tell.ensures.pulled c.tell.ensures.least c.tell.ensures.greatest
+returns-clause-time c = time_told c.args.count c.args.self.now c.tell.new.self c.tell.ensures.entries c.tell.ensures.first c.tell.ensures.pulled
+    c.tell.ensures.least c.tell.ensures.greatest
 
 pub returns-clause-moments : goal.returns-clause-moments
-returns-clause-moments c = now_told c.args.count c.args.self.now c.tell.new.self c.tell.ensures.entries c.tell.ensures.first c.tell.ensures.pulled c.tell.ensures.least c.tell.ensures.greatest
+returns-clause-moments c = now_told c.args.count c.args.self.now c.tell.new.self c.tell.ensures.entries c.tell.ensures.first c.tell.ensures.pulled
+    c.tell.ensures.least c.tell.ensures.greatest

@@ -27,7 +27,14 @@ pub returns-clause-moments : goal.returns-clause-moments
 returns-clause-moments c = within_passed c.args.self.now c.pass.new.self (inl c.in_ok-pass.ensures.entered)
 
 pub copy_from-requires : goal.copy_from-requires
-copy_from-requires c = omega (arith, c.requires, ap (λ (l : List ℕ). length l) c.image.ensures, extent_passed c.args.self.now c.pass.new.self (inl c.in_ok-pass.ensures.entered))
+copy_from-requires c = omega (
+  arith,
+  c.requires,
+  ap (λ (l : List ℕ). length l) c.image.ensures,
+  extent_passed c.args.self.now c.pass.new.self (inl c.in_ok-pass.ensures.entered),
+)
 
 pub returns-clause-reads : goal.returns-clause-reads
-returns-clause-reads c = λ told. c.copy_from.ensures ∙ ap (λ (l : List ℕ). slice_range l c.args.at (c.args.at + length c.copy_from.new.buf)) (c.image.ensures ∙ (disk_passed c.args.self.now c.pass.new.self (inl c.in_ok-pass.ensures.entered)).held)
+returns-clause-reads c = λ told. c.copy_from.ensures
+    ∙ ap (λ (l : List ℕ). slice_range l c.args.at (c.args.at + length c.copy_from.new.buf))
+    (c.image.ensures ∙ (disk_passed c.args.self.now c.pass.new.self (inl c.in_ok-pass.ensures.entered)).held)

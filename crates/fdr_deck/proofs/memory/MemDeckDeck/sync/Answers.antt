@@ -23,7 +23,8 @@ pub returns-in_err-pass-clause-no_more : goal.returns-in_err-pass-clause-no_more
 returns-in_err-pass-clause-no_more c = (disk_passed c.args.self.now c.pass.new.self c.in_err-pass.ensures.failed).no_more
 
 pub returns-in_err-pass-clause-pending : goal.returns-in_err-pass-clause-pending
-returns-in_err-pass-clause-pending c = let kept : KeepsDisk (memory_state c.args.self.now) (memory_state c.pass.new.self) = disk_passed c.args.self.now c.pass.new.self c.in_err-pass.ensures.failed in search rules
+returns-in_err-pass-clause-pending c = let kept : KeepsDisk (memory_state c.args.self.now) (memory_state c.pass.new.self) =
+    disk_passed c.args.self.now c.pass.new.self c.in_err-pass.ensures.failed in search rules
 
 pub returns-clause-settles : goal.returns-clause-settles
 returns-clause-settles c = λ told. settled_sync c.args.self.now c.pass.new.self c.in_ok-pass.ensures.entered

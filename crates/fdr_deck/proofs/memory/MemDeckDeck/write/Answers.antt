@@ -1,8 +1,9 @@
 use Rattle.std.proofs.Common.{List, ℕ, length, rules}
 use Rattle.fdr_deck.specs.Disk.{Torn}
-use Rattle.fdr_deck.specs.Memory.{left_in, IsNumbered}
+use Rattle.fdr_deck.specs.Memory.{left_in, HasOneCallMore}
 use Rattle.fdr_deck.proofs.MemoryDisk.{passes_unentered, within_unentered}
-use Rattle.fdr_deck.proofs.MemoryWrite.{tears_unentered, pending_unentered, writes_put, tears_put, extent_put, passes_put, within_put, tears_failed, pending_failed, extent_failed, passes_failed, within_failed}
+use Rattle.fdr_deck.proofs.MemoryWrite.{tears_unentered, pending_unentered, writes_put, tears_put, extent_put, passes_put, within_put, tears_failed}
+use Rattle.fdr_deck.proofs.MemoryWrite.{pending_failed, extent_failed, passes_failed, within_failed}
 use Rattle.fdr_deck.proofs.memory.MemDeckDeck.write.Goals as goal
 
 pub returns-then-fails-clause-tears : goal.returns-then-fails-clause-tears
@@ -12,7 +13,8 @@ pub returns-then-fails-clause-extent : goal.returns-then-fails-clause-extent
 returns-then-fails-clause-extent c = extent_failed c.args.at c.args.bytes.now c.args.self.now c.fail_write.new.self c.fail_write.ensures.entered
 
 pub returns-then-fails-clause-passes : goal.returns-then-fails-clause-passes
-returns-then-fails-clause-passes c = passes_failed c.args.at c.args.bytes.now c.args.self.now c.fail_write.new.self c.fail_write.ensures.entered c.fail_write.ensures.pulled c.fail_write.ensures.monotone
+returns-then-fails-clause-passes c = passes_failed c.args.at c.args.bytes.now c.args.self.now c.fail_write.new.self c.fail_write.ensures.entered
+    c.fail_write.ensures.pulled c.fail_write.ensures.monotone
 
 pub returns-then-fails-clause-moments : goal.returns-then-fails-clause-moments
 returns-then-fails-clause-moments c = within_failed c.args.at c.args.bytes.now c.args.self.now c.fail_write.new.self c.fail_write.ensures.entered
@@ -36,7 +38,8 @@ pub returns-clause-extent : goal.returns-clause-extent
 returns-clause-extent c = extent_put c.args.at c.args.bytes.now c.args.self.now c.put.new.self c.in_ok-put.ensures.entered c.requires
 
 pub returns-clause-passes : goal.returns-clause-passes
-returns-clause-passes c = passes_put c.args.at c.args.bytes.now c.args.self.now c.put.new.self c.in_ok-put.ensures.entered c.put.ensures.pulled c.put.ensures.monotone
+returns-clause-passes c = passes_put c.args.at c.args.bytes.now c.args.self.now c.put.new.self c.in_ok-put.ensures.entered c.put.ensures.pulled
+    c.put.ensures.monotone
 
 pub returns-clause-moments : goal.returns-clause-moments
 returns-clause-moments c = within_put c.args.at c.args.bytes.now c.args.self.now c.put.new.self c.in_ok-put.ensures.entered
@@ -47,7 +50,7 @@ returns-then-fails-clause-torn c = pending_failed c.args.at c.args.bytes.now c.a
 
 pub returns-in_err-put-clause-torn : goal.returns-in_err-put-clause-torn
 returns-in_err-put-clause-torn c =
-    let torn : IsNumbered c.args.self.now c.put.new.self → (from image : List ℕ) → left_in c.args.self.now from
+    let torn : HasOneCallMore c.args.self.now c.put.new.self → (from image : List ℕ) → left_in c.args.self.now from
     → Torn c.args.at (length c.args.bytes.now) from image → left_in c.put.new.self image =
     pending_unentered c.args.at (length c.args.bytes.now) c.args.self.now c.put.new.self
     c.in_err-put.ensures.unentered in search rules

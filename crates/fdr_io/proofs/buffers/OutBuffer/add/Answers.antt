@@ -10,7 +10,8 @@ returns-then-bytes-gt-CAPACITY-clause-part g c =
     on_err_weaker c.write_whole.result
     (λ sent. record {
       count = length c.args.self.now + sent.0;
-      written = sent.1 ∙ ap (λ told. followed_by told (take sent.0 c.args.bytes.now)) c.in_ok-finish.ensures.all ∙ followed_by-append-take _ c.args.self.now c.args.bytes.now sent.0;
+      written = sent.1 ∙ ap (λ told. followed_by told (take sent.0 c.args.bytes.now)) c.in_ok-finish.ensures.all
+          ∙ followed_by-append-take _ c.args.self.now c.args.bytes.now sent.0;
     })
     c.write_whole.ensures.part
 

@@ -14,4 +14,5 @@ returns-clause-numbers c =
     let xs = c.self.inside.slots.items in
     let within : c.args.k < length (laid c.self.inside).slots = subst (λ (l : Laid). c.args.k < length l.slots) (sym c.self.view_is) c.requires in
     subst Q c.self.view_is
-    (subst P (sym c.as_slice.ensures.value) (All_at P (λ v. v.items) xs c.args.k _ c.self.invariant.numbers (omega (arith, length-map xs (λ v. v.items))) c.index.ensures))
+    (subst P (sym c.as_slice.ensures.value) (All_at P (λ v. v.items) xs c.args.k _ c.self.invariant.numbers (omega (arith, length-map xs (λ v. v.items)))
+    c.index.ensures))

@@ -4,8 +4,8 @@ use Rattle.fdr_layout.specs.Samples.{Sample}
 use Rattle.fdr_layout.proofs.Lists.{All_at}
 use Rattle.fdr_layout.proofs.layout.Layout.ending_in.Goals as goal
 
-pub returns-clause-few : goal.returns-clause-few
-returns-clause-few c =
+pub returns-clause-countable : goal.returns-clause-countable
+returns-clause-countable c =
     let P : List Sample → Type 0 = λ s. length s < 2 ^ 32 in
     let xs = c.self.inside.cycles.items in
     let within : c.args.cycle < length xs = omega (arith, length-map xs (λ v. v.items), c.self.invariant.cycles.count) in

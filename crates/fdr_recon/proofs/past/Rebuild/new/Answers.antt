@@ -4,8 +4,8 @@ use Rattle.std.proofs.lemmas.Result.{IfOk-weaker}
 use Rattle.fdr_table.specs.Rows.{ParamRow, TableRows}
 use Rattle.fdr_layout.specs.Samples.{Sample}
 use Rattle.fdr_layout.specs.SlotParts.{Laid}
-use Rattle.fdr_recon.specs.Kept.{Kept, IsSampleOf}
-use Rattle.fdr_recon.specs.Past.{Stands}
+use Rattle.fdr_recon.specs.Kept.{RebuildKept, IsSampleOf}
+use Rattle.fdr_recon.specs.Past.{RepresentsRebuild}
 use Rattle.fdr_recon.proofs.StandingSteps.{layout-samples, Stands-none}
 use Rattle.fdr_recon.proofs.past.Rebuild.new.Goals as goal
 
@@ -23,7 +23,7 @@ returns c =
     let t = c.args.sound.now in
     let frame : c.frame.result ≡ t.frame = c.frame.ensures ∙ ap (λ (t : TableRows). t.frame) c.table-table.ensures in
     let params : c.params.result.now ≡ t.params = c.params.ensures ∙ ap (λ (t : TableRows). t.params) c.table-table.ensures in
-    IfOk-weaker c.with_layout.result _ _ (λ (k : Kept) is.
-    let P : Kept → Type 0 = λ k. Stands k t [] in
+    IfOk-weaker c.with_layout.result _ _ (λ (k : RebuildKept) is.
+    let P : RebuildKept → Type 0 = λ k. RepresentsRebuild k t [] in
     subst P (sym is) (Stands-none t c.frame.result c.params.result.now c.args.layout.cycles frame params (ap (λ (l : Laid). l.cycles) c.requires)))
     c.with_layout.ensures

@@ -5,7 +5,7 @@ use Rattle.std.proofs.lemmas.Int.{to_z-of_z}
 use Rattle.std.proofs.lemmas.Option.{get_or_from_slice_get}
 use Rattle.fdr_table.specs.Rows.{ParamRow}
 use Rattle.fdr_table.specs.Value.{value_of}
-use Rattle.fdr_recon.specs.Kept.{Kept, kept_raw, kept_cycle, kept_value}
+use Rattle.fdr_recon.specs.Kept.{RebuildKept, kept_raw, kept_cycle, kept_value}
 use Rattle.fdr_recon.specs.Rows.{param_at}
 use Rattle.fdr_recon.proofs.KeptRows.{kept_raw-below, kept_raw-small, param_at-sample}
 use Rattle.fdr_recon.proofs.past.Rebuild.value.Goals as goal
@@ -13,16 +13,18 @@ use Rattle.fdr_recon.proofs.past.Rebuild.value.Goals as goal
 pub overflow_cast-raw : goal.overflow_cast-raw
 overflow_cast-raw c =
     let k = c.args.self.now in
-    let raw : c.raw-raw.result ≡ kept_raw k c.cycle.result c.args.sample.now.parts = c.raw-raw.ensures.raw ∙ ap (kept_raw k c.cycle.result) c.parts.ensures.parts in
+    let raw : c.raw-raw.result ≡ kept_raw k c.cycle.result c.args.sample.now.parts =
+    c.raw-raw.ensures.raw ∙ ap (kept_raw k c.cycle.result) c.parts.ensures.parts in
     let small = kept_raw-small k c.cycle.result c.args.sample.now c.requires in
     omega (arith, raw, small)
 
 pub value-requires : goal.value-requires
 value-requires c =
     let k = c.args.self.now in
-    let raw : c.raw-raw.result ≡ kept_raw k c.cycle.result c.args.sample.now.parts = c.raw-raw.ensures.raw ∙ ap (kept_raw k c.cycle.result) c.parts.ensures.parts in
+    let raw : c.raw-raw.result ≡ kept_raw k c.cycle.result c.args.sample.now.parts =
+    c.raw-raw.ensures.raw ∙ ap (kept_raw k c.cycle.result) c.parts.ensures.parts in
     let below = kept_raw-below k c.cycle.result c.args.sample.now c.requires in
-    let params : c.self.inside.params.items ≡ k.params = ap (λ (k : Kept). k.params) c.self.view_is in
+    let params : c.self.inside.params.items ≡ k.params = ap (λ (k : RebuildKept). k.params) c.self.view_is in
     let param : c.index-param.result.now ≡ c.requires.param =
     c.index-param.ensures ∙ ap (λ (ps : List ParamRow). slice_index_or ps c.param.result c.index-param.result.now) params
     ∙ ap (λ n. slice_index_or k.params n c.index-param.result.now) c.param.ensures
@@ -36,7 +38,7 @@ returns c =
     let s = c.args.sample.now in
     let raw : c.raw-raw.result ≡ kept_raw k (kept_cycle k) s.parts =
     c.raw-raw.ensures.raw ∙ ap (kept_raw k c.cycle.result) c.parts.ensures.parts ∙ ap (λ n. kept_raw k n s.parts) c.cycle.ensures.cycle in
-    let params : c.self.inside.params.items ≡ k.params = ap (λ (k : Kept). k.params) c.self.view_is in
+    let params : c.self.inside.params.items ≡ k.params = ap (λ (k : RebuildKept). k.params) c.self.view_is in
     let param : c.index-param.result.now ≡ c.requires.param =
     c.index-param.ensures ∙ ap (λ (ps : List ParamRow). slice_index_or ps c.param.result c.index-param.result.now) params
     ∙ ap (λ n. slice_index_or k.params n c.index-param.result.now) c.param.ensures

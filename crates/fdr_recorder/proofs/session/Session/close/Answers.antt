@@ -14,7 +14,7 @@ pub returns-then-count-eq0-clause-next : goal.returns-then-count-eq0-clause-next
 returns-then-count-eq0-clause-next g c past stands =
     let none = rest-none past c.finish-count.result (c.finish-count.ensures.blocks (stream_past past) stands.stream refl) c.if-count-eq0.true in
     let long : length (rest_of past) ≡ 0 = ap (λ (l : List Block). length l) none in
-    omega (arith, c.next.ensures.is, long)
+    omega (arith, c.next.ensures.number, long)
 
 pub returns-then-count-eq0-clause-records : goal.returns-then-count-eq0-clause-records
 returns-then-count-eq0-clause-records g c past stands =
@@ -30,7 +30,7 @@ pub add-requires-clause-fits : goal.add-requires-clause-fits
 add-requires-clause-fits g c =
     let past = c.requires.stands.0 in
     let stands = c.requires.stands.1 in
-    let few = c.finish-count.ensures.few (stream_past past) stands.stream in
+    let few = c.finish-count.ensures.within_payload (stream_past past) stands.stream in
     let same : c.args.self.ring.header.payload ≡ past.header.payload = ap (λ h. h.payload) stands.header in
     omega (arith, few, same, length-take c.finish-count.result c.finish-count.new.out)
 
@@ -65,7 +65,7 @@ returns-clause-next g c past stands =
     (c.finish-count.ensures.blocks (stream_past past) stands.stream refl) (omega (arith, c.if-count-eq0.false)) stands.next
     (c.finish-count.ensures.last (stream_past past) stands.stream refl) in
     let long : length (rest_of past) ≡ 1 = ap (λ (l : List Block). length l) one in
-    omega (arith, c.next-2.ensures.is, c.in_ok-ring.ensures.ring.1, long)
+    omega (arith, c.next-2.ensures.number, c.in_ok-ring.ensures.ring.1, long)
 
 pub returns-clause-records : goal.returns-clause-records
 returns-clause-records g c past stands =

@@ -3,9 +3,9 @@ use Rattle.std.proofs.lemmas.Result.{err_from_is_err_and}
 use Rattle.fdr_io.specs.Faults.{Rose}
 use Rattle.fdr_slot.specs.declared.image.Header.{Header}
 use Rattle.fdr_recover.specs.Blocks.{Block}
-use Rattle.fdr_stream.specs.Blocks.{block_at}
+use Rattle.fdr_stream.specs.Blocks.{cut_block}
 use Rattle.fdr_recorder.specs.Recording.{Records, HasRecorded, HasEnded}
-use Rattle.fdr_recorder.specs.Past.{due, due_at, bytes_of, with_record, numbered_block}
+use Rattle.fdr_recorder.specs.Past.{due, due_at, session_bytes, session_with_record, numbered_block}
 use Rattle.fdr_recorder.proofs.Ended.{ring_seq_end, ring_disk_fault}
 use Rattle.fdr_recorder.proofs.Feeding.{IsFeeding-first, IsFeeding-step, MayStream-giving, Records-step, Records-due, block_is}
 use Rattle.fdr_recorder.proofs.Feeding.{due-few, stream-taken, number-taken, next-taken, Records-taken, HasRecorded-taken, HasEnded-due}
@@ -69,12 +69,12 @@ returns-in_err-ring-in-Block-clause-records g c past stands may =
     let at = c.loop-i.invariant.feeding past stands may in
     let stream = MayStream-giving past r at.0 at.1 may at.2.same in
     let more = (c.in-Block.ensures.exactly _ at.2.stands stream).0 refl in
-    let payload : c.header-payload.result.payload ≡ past.header.payload = ap (λ (h : Header). h.payload) (c.header-payload.ensures.is ∙ stands.header) in
-    let bytes : take c.header-payload.result.payload c.feed.new.out ≡ block_at past.header.payload (bytes_of (with_record past r)) at.1 =
+    let payload : c.header-payload.result.payload ≡ past.header.payload = ap (λ (h : Header). h.payload) (c.header-payload.ensures.header ∙ stands.header) in
+    let bytes : take c.header-payload.result.payload c.feed.new.out ≡ cut_block past.header.payload (session_bytes (session_with_record past r)) at.1 =
     ap (λ n. take n c.feed.new.out) payload ∙ c.in-Block.ensures.block _ at.2.stands stream refl in
     let b : Block = record { number = c.loop-i.ring.next; payload = take c.header-payload.result.payload c.feed.new.out } in
     let same : b ≡ numbered_block
-    (with_record past r) at.1 = block_is past r c.args.self.ring.next c.loop-i.ring.next at.1 _ stands.next at.2.number at.2.since bytes in
+    (session_with_record past r) at.1 = block_is past r c.args.self.ring.next c.loop-i.ring.next at.1 _ stands.next at.2.number at.2.since bytes in
     let added : Records g.D.Deck.tells c.args.self.ring.header c.loop-i.ring.next (b ∷ []) (s c.loop-i.deck) (s c.add.new.deck) =
     subst (λ (h : Header). Records g.D.Deck.tells h c.loop-i.ring.next (b ∷ []) (s c.loop-i.deck)
     (s c.add.new.deck)) c.loop-i.invariant.header c.add.ensures.records in
@@ -118,12 +118,12 @@ loop-i-preserved g c = record {
       let at = c.loop-i.invariant.feeding past stands may in
       let stream = MayStream-giving past r at.0 at.1 may at.2.same in
       let more = (c.in-Block.ensures.exactly _ at.2.stands stream).0 refl in
-      let payload : c.header-payload.result.payload ≡ past.header.payload = ap (λ (h : Header). h.payload) (c.header-payload.ensures.is ∙ stands.header) in
-      let bytes : take c.header-payload.result.payload c.feed.new.out ≡ block_at past.header.payload (bytes_of (with_record past r)) at.1 =
+      let payload : c.header-payload.result.payload ≡ past.header.payload = ap (λ (h : Header). h.payload) (c.header-payload.ensures.header ∙ stands.header) in
+      let bytes : take c.header-payload.result.payload c.feed.new.out ≡ cut_block past.header.payload (session_bytes (session_with_record past r)) at.1 =
       ap (λ n. take n c.feed.new.out) payload ∙ c.in-Block.ensures.block _ at.2.stands stream refl in
       let b : Block = record { number = c.loop-i.ring.next; payload = take c.header-payload.result.payload c.feed.new.out } in
       let same : b ≡ numbered_block
-      (with_record past r) at.1 = block_is past r c.args.self.ring.next c.loop-i.ring.next at.1 _ stands.next at.2.number at.2.since bytes in
+      (session_with_record past r) at.1 = block_is past r c.args.self.ring.next c.loop-i.ring.next at.1 _ stands.next at.2.number at.2.since bytes in
       let ok = c.in_ok-ring-in-Block.ensures in
       let added : Records g.D.Deck.tells c.args.self.ring.header c.loop-i.ring.next (b ∷ []) (s c.loop-i.deck) (s c.add.new.deck) =
       subst (λ (h : Header). Records g.D.Deck.tells h c.loop-i.ring.next (b ∷ []) (s c.loop-i.deck)

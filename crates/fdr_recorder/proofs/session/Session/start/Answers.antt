@@ -3,13 +3,13 @@ use Rattle.std.specs.Prelude.{IsTrue}
 use Rattle.fdr_deck.specs.Calls.{IsQuiet, Announces}
 use Rattle.fdr_slot.specs.declared.image.Header.{Header}
 use Rattle.fdr_recover.specs.Images.{recovered_run, next_of}
-use Rattle.fdr_ring.specs.Formatting.{header_in}
+use Rattle.fdr_recover.specs.ImageHeader.{header_in}
 use Rattle.fdr_ring.specs.Closing.{shut}
 use Rattle.fdr_ring.specs.Gates.{gate_at}
 use Rattle.fdr_ring.specs.Runs.{last_blocks}
 use Rattle.fdr_ring.specs.Rings.{IsAttaching, OfSettled}
 use Rattle.fdr_table.specs.Rows.{FrameRow, TableRows}
-use Rattle.fdr_stream.specs.Past.{Stands as StandsFor}
+use Rattle.fdr_stream.specs.Past.{RepresentsStream}
 use Rattle.fdr_recorder.specs.Past.{due, started, stream_past}
 use Rattle.fdr_recorder.proofs.Adding.{IsSureRing-told}
 use Rattle.fdr_recorder.proofs.Starting.{Starts-looked, Starts-attached, Starts-announced, greatest-started, least-started, stream-started, next-started}
@@ -58,7 +58,7 @@ returns-clause-starts g c =
     (λ stops. subst (λ (h : Header). IsQuiet t (OfSettled (s d1) (IsAttaching h)) (s d1) (s d2)) (same stops) c.attach.ensures.quiet)
     ok.succeeds.fresh c.next.result (s d3) c.announce.ensures.announces ok.settled
     (λ stops. subst (λ (h : Header). IsAttaching h (s d1).held (s d2).held) (same stops) (c.attach.ensures.keeps ((is d0).stops_need_bytes stops)))
-    (λ stops. c.next.ensures.is ∙ ok.next ((is d0).stops_need_bytes stops) ∙ ap (λ (h : Header). next_of h (s d1).held) (same stops))
+    (λ stops. c.next.ensures.number ∙ ok.next ((is d0).stops_need_bytes stops) ∙ ap (λ (h : Header). next_of h (s d1).held) (same stops))
     c.announce.ensures.disk c.announce.ensures.line c.announce.ensures.line_faults c.announce.ensures.time c.announce.ensures.moments
 
 pub returns-clause-started : goal.returns-clause-started
@@ -82,13 +82,13 @@ returns-clause-started g c =
     let held01 : (s d1).held ≡ (s d0).held = read.disk.held in
     let held23 : (s d3).held ≡ (s d2).held = c.announce.ensures.disk.disk.held in
     let fresh = (c.in_ok-header.ensures.succeeds (λ e. absurd (cc))).fresh in
-    let announces : Announces r.next (s d2) (s d3) = subst (λ (n : ℕ). Announces n (s d2) (s d3)) c.next.ensures.is c.announce.ensures.announces in
+    let announces : Announces r.next (s d2) (s d3) = subst (λ (n : ℕ). Announces n (s d2) (s d3)) c.next.ensures.number c.announce.ensures.announces in
     let next : IsTrue t.bytes → r.next ≡ next_of r.header (s d0).held =
     (λ told. ok.next told ∙ ap (λ (l : List ℕ). next_of h l) held01 ∙ ap (λ (hh : Header). next_of hh (s d0).held) (sym same)) in
     record {
       stands = record {
         header = refl;
-        stream = subst (λ (hh : Header). StandsFor k (stream_past (started table hh r.next))) (sym same)
+        stream = subst (λ (hh : Header). RepresentsStream k (stream_past (started table hh r.next))) (sym same)
             (stream-started k table h.payload c.in_ok-stream.ensures);
         next = subst (λ (hh : Header). r.next ≡ r.next + due (started table hh r.next)) (sym same)
             (next-started k table h.payload r.next c.in_ok-stream.ensures);

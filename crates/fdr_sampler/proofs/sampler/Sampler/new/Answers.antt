@@ -7,8 +7,8 @@ use Rattle.fdr_table.specs.Rows.{FrameRow, ParamRow, TableRows}
 use Rattle.fdr_layout.specs.Samples.{Sample, samples}
 use Rattle.fdr_layout.specs.SlotParts.{Laid, laid_of, parts_in}
 use Rattle.fdr_layout.proofs.Endings.{samples_params}
-use Rattle.fdr_sampler.specs.Kept.{Kept}
-use Rattle.fdr_sampler.specs.Past.{Stands, made}
+use Rattle.fdr_sampler.specs.Kept.{SamplerKept}
+use Rattle.fdr_sampler.specs.Past.{RepresentsSampler, sampler_made}
 use Rattle.fdr_sampler.proofs.Standing.{Stands-made_of}
 use Rattle.fdr_sampler.proofs.sampler.Sampler.new.Goals as goal
 
@@ -31,8 +31,8 @@ pub returns : goal.returns
 returns c =
     let t = c.table-table.result.now in
     let laid : c.args.layout ≡ laid_of t = c.requires ∙ ap laid_of (sym c.table-table.ensures) in
-    subst (λ (x : TableRows). IfOk c.with_layout.result (λ s. Stands s (made x))) c.table-table.ensures
-    (IfOk-weaker c.with_layout.result _ _ (λ (k : Kept) is.
-    subst (λ (x : Kept). Stands x (made t)) (sym is)
+    subst (λ (x : TableRows). IfOk c.with_layout.result (λ s. RepresentsSampler s (sampler_made x))) c.table-table.ensures
+    (IfOk-weaker c.with_layout.result _ _ (λ (k : SamplerKept) is.
+    subst (λ (x : SamplerKept). RepresentsSampler x (sampler_made t)) (sym is)
     (Stands-made_of t c.frame.result c.params.result.now c.args.layout c.frame.ensures c.params.ensures laid))
     c.with_layout.ensures)

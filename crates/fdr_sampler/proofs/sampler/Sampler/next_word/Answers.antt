@@ -1,34 +1,37 @@
 use Rattle.std.proofs.Common.{◌≡◌, ℕ, List, length, refl, sym, subst, arith}
 use Rattle.std.proofs.lemmas.List.{with_items_is}
-use Rattle.fdr_sampler.specs.Kept.{Kept, slot_parts, HaveValues, IsDrawn}
-use Rattle.fdr_sampler.specs.View.{kept_of}
-use Rattle.fdr_sampler.specs.Past.{Stands}
+use Rattle.fdr_sampler.specs.Kept.{SamplerKept, slot_parts, HaveValues, IsDrawn}
+use Rattle.fdr_sampler.specs.View.{sampler_kept}
+use Rattle.fdr_sampler.specs.Past.{RepresentsSampler}
 use Rattle.fdr_sampler.proofs.Standing.{DrawsData, slot_word-stands, Stands-next}
 use Rattle.fdr_sampler.proofs.sampler.Sampler.next_word.Goals as goal
 
-draws : (c : goal.After-self-2-1) → DrawsData (kept_of c.self.inside) c.slot_within-slot.result c.data_word-plain.new.raws c.data_word-plain.result
+draws : (c : goal.After-self-2-1) → DrawsData (sampler_kept c.self.inside) c.slot_within-slot.result c.data_word-plain.new.raws c.data_word-plain.result
 draws c =
     let inside = c.self.inside in
     let slot = c.slot_within-slot.result in
     let plain = c.data_word-plain.result in
     let after = c.data_word-plain.new.raws in
-    let Draws : List ℕ → List ℕ → Type 0 = λ held raws. (value : ℕ → ℕ) → HaveValues value inside.layout slot held raws → IsDrawn value (slot_parts inside.layout slot) raws after plain in
+    let Draws : List ℕ → List ℕ → Type 0 = λ held raws. (value : ℕ → ℕ) → HaveValues value inside.layout slot held raws
+    → IsDrawn value (slot_parts inside.layout slot) raws after plain in
     record {
       slot_is = c.slot_within-slot.ensures.slot;
       below = c.slot_within-slot.ensures.below;
-      drawn = subst (Draws inside.held.items) c.deref_mut.ensures.value (subst (λ held. Draws held c.deref_mut.result.now) c.deref.ensures.value c.data_word-plain.ensures.drawn);
+      drawn = subst (Draws inside.held.items) c.deref_mut.ensures.value
+          (subst (λ held. Draws held c.deref_mut.result.now) c.deref.ensures.value c.data_word-plain.ensures.drawn);
     }
 
 pub returns-clause-word : goal.returns-clause-word
 returns-clause-word c = λ past st.
     let inside = c.self.inside in
-    let stood : Stands (kept_of inside) past = subst (λ (k : Kept). Stands k past) (sym c.self.view_is) st in
-    slot_word-stands (kept_of inside) past c.slot_within-slot.result c.data_word-plain.new.raws c.data_word-plain.result c.word_with-word.result stood (draws c) c.word_with-word.ensures.word
+    let stood : RepresentsSampler (sampler_kept inside) past = subst (λ (k : SamplerKept). RepresentsSampler k past) (sym c.self.view_is) st in
+    slot_word-stands (sampler_kept inside) past c.slot_within-slot.result c.data_word-plain.new.raws c.data_word-plain.result c.word_with-word.result stood
+    (draws c) c.word_with-word.ensures.word
 
 pub returns-clause-stands : goal.returns-clause-stands
 returns-clause-stands c = λ past st.
     let inside = c.self.inside in
-    let stood : Stands (kept_of inside) past = subst (λ (k : Kept). Stands k past) (sym c.self.view_is) st in
+    let stood : RepresentsSampler (sampler_kept inside) past = subst (λ (k : SamplerKept). RepresentsSampler k past) (sym c.self.view_is) st in
     let len : length c.data_word-plain.new.raws ≡ inside.raws.len = omega (arith, c.data_word-plain.auto.raws, c.deref_mut.ensures.len) in
-    Stands-next (kept_of inside) _ past c.slot_within-slot.result c.data_word-plain.new.raws c.data_word-plain.result stood (draws c)
+    Stands-next (sampler_kept inside) _ past c.slot_within-slot.result c.data_word-plain.new.raws c.data_word-plain.result stood (draws c)
     (with_items_is inside.raws c.data_word-plain.new.raws len) refl refl refl refl refl

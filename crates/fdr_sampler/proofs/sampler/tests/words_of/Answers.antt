@@ -1,27 +1,25 @@
-use Rattle.std.proofs.Common.{◌≡◌, ℕ, ◌*◌, ◌<◌, ◌≤◌, ⊎_elim, Bool, false, [], vec_len, refl, sym, subst, below_more, arith}
+use Rattle.std.proofs.Common.{◌≡◌, ℕ, ◌*◌, ◌<◌, ◌≤◌, Bool, false, [], vec_len, refl, sym, subst, below_more, arith}
 use Rattle.std.specs.Prelude.{◌↔◌, IsTrue}
-use Rattle.std.proofs.lemmas.Bool.{cases_lt, iff_false}
 use Rattle.fdr_bus.specs.declared.BusRecord.{BusRecord}
 use Rattle.fdr_bus.specs.declared.RecordKind.TheVariants.{Word}
 use Rattle.fdr_bus.specs.Records.{last_time}
 use Rattle.fdr_table.specs.Rows.{TableRows}
-use Rattle.fdr_sampler.specs.Past.{Past, MayTake, Stands, with_record}
+use Rattle.fdr_sampler.specs.Past.{SamplerPast, MayTake, RepresentsSampler, sampler_with_record}
+use Rattle.fdr_lists.proofs.Options.{not_below}
 use Rattle.fdr_sampler.proofs.sampler.tests.words_of.Goals as goal
 
-drawn_past : TableRows → ℕ → Past
+drawn_past : TableRows → ℕ → SamplerPast
 drawn_past t n = record { table = t; records = []; drawn = n }
 
-not_due : (b : Bool) (n x : ℕ) → (IsTrue b ↔ (n < x)) → b ≡ false → x ≤ n
-not_due b n x says missed = ⊎_elim (λ lt. absurd (iff_false says missed lt)) (λ ge. ge) (cases_lt n x)
-
-first_record : (t : TableRows) (n : ℕ) (r : BusRecord) (b : Bool) → r.kind ≡ Word → r.time ≤ last_time → (IsTrue b ↔ (n * 1000000 < r.time * t.frame.words)) → b ≡ false →
+first_record : (t : TableRows) (n : ℕ) (r : BusRecord) (b : Bool) → r.kind ≡ Word → r.time ≤ last_time → (IsTrue b ↔ (n * 1000000 < r.time * t.frame.words))
+    → b ≡ false →
     ((k : ℕ) → k < n → k * 1000000 < r.time * t.frame.words) → MayTake (drawn_past t n) r
 unfolding drawn_past
 first_record t n r b kind in_time says missed before = record {
   kind = kind;
   order = omega arith;
   in_time = in_time;
-  none_due = not_due b (n * 1000000) (r.time * t.frame.words) says missed;
+  none_due = not_below b (n * 1000000) (r.time * t.frame.words) says missed;
   counts_for_none = before;
 }
 
@@ -34,7 +32,7 @@ loop-words-preserved c =
     let r = c.args.r.now in
     let Late : ℕ → Type 0 = λ n. (k : ℕ) → k < n → k * 1000000 < r.time * t.frame.words in (
       t,
-      subst (λ n. Stands c.next_word.new.self (drawn_past t n)) (sym c.in_ok-push.ensures.len) (c.next_word.ensures.stands past inv.1),
+      subst (λ n. RepresentsSampler c.next_word.new.self (drawn_past t n)) (sym c.in_ok-push.ensures.len) (c.next_word.ensures.stands past inv.1),
       subst Late (sym c.in_ok-push.ensures.len)
           (below_more (λ k. k * 1000000 < r.time * t.frame.words) (vec_len c.loop-words.words) inv.2 ((c.due.ensures past inv.1).0 c.loop-words-test.true)),
     )
@@ -43,8 +41,12 @@ pub bus-requires : goal.bus-requires
 unfolding drawn_past
 bus-requires c =
     let inv = c.loop-words.invariant in
-    let past = drawn_past inv.0 (vec_len c.loop-words.words) in
-    (past, inv.1, first_record inv.0 (vec_len c.loop-words.words) c.args.r.now c.due.result c.requires.kind c.requires.in_time (c.due.ensures past inv.1) c.loop-words-test.false inv.2)
+    let past = drawn_past inv.0 (vec_len c.loop-words.words) in (
+      past,
+      inv.1,
+      first_record inv.0 (vec_len c.loop-words.words) c.args.r.now c.due.result c.requires.kind c.requires.in_time (c.due.ensures past inv.1)
+          c.loop-words-test.false inv.2,
+    )
 
 pub loop-words-2-init : goal.loop-words-2-init
 unfolding drawn_past
@@ -52,5 +54,6 @@ loop-words-2-init c =
     let inv = c.loop-words.invariant in
     let past = drawn_past inv.0 (vec_len c.loop-words.words) in
     let r = c.args.r.now in
-    let may = first_record inv.0 (vec_len c.loop-words.words) r c.due.result c.requires.kind c.requires.in_time (c.due.ensures past inv.1) c.loop-words-test.false inv.2 in
-    (with_record past r, c.bus.ensures past inv.1 may, refl)
+    let may = first_record inv.0 (vec_len c.loop-words.words) r c.due.result c.requires.kind c.requires.in_time (c.due.ensures past inv.1)
+    c.loop-words-test.false inv.2 in
+    (sampler_with_record past r, c.bus.ensures past inv.1 may, refl)

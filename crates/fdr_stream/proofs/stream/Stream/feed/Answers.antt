@@ -1,7 +1,7 @@
 use Rattle.std.proofs.Common.{◌≡◌, ℕ, ◌<◌, ◌≤◌, ⊎_elim, Bool, false, length, take, drop, refl, sym, ap, ◌∙◌, arith}
 use Rattle.std.specs.Prelude.{◌↔◌, IsTrue}
 use Rattle.std.proofs.lemmas.Bool.{cases_lt, iff_false}
-use Rattle.fdr_stream.specs.Kept.{Kept}
+use Rattle.fdr_stream.specs.Kept.{StreamKept}
 use Rattle.fdr_stream.proofs.Drawn.{block_is, is_due, none_due}
 use Rattle.fdr_stream.proofs.Standing.{IsDrawing-fed, Stands-block, Stands-record}
 use Rattle.fdr_stream.proofs.stream.Stream.feed.Goals as goal
@@ -46,7 +46,8 @@ pub returns-then-is_full-clause-begun : goal.returns-then-is_full-clause-begun
 returns-then-is_full-clause-begun c past st may given =
     let at = c.draw.ensures.draws past (IsDrawing-fed c.args.self.now past c.args.next.now st may) in
     let whole = c.is_full.ensures.0 c.if-is_full.true in
-    Stands-block c.args.self.now c.draw.new.self c.give.new.self past c.args.next.now st at c.draw.ensures.on whole c.draw.ensures.few c.give.ensures.rest
+    Stands-block c.args.self.now c.draw.new.self c.give.new.self past c.args.next.now st at c.draw.ensures.on whole c.draw.ensures.within_room
+    c.give.ensures.rest
 
 pub returns-then-is_full-clause-beyond : goal.returns-then-is_full-clause-beyond
 returns-then-is_full-clause-beyond c past st given =
@@ -74,5 +75,5 @@ returns-else-is_full-clause-taken c past st may given =
     let all = c.draw.ensures.all past fed few in
     let kept = c.take.ensures.kept in
     Stands-record c.args.self.now k c.take.new.self past c.args.next.now st at few all c.take.ensures.drawn
-    (ap (λ (x : Kept). x.payload) kept) (ap (λ (x : Kept). x.odd) kept) (ap (λ (x : Kept). x.bytes) kept)
+    (ap (λ (x : StreamKept). x.payload) kept) (ap (λ (x : StreamKept). x.odd) kept) (ap (λ (x : StreamKept). x.bytes) kept)
     (c.take.ensures.sampled past at.sampler may all)

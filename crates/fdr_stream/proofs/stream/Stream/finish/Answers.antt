@@ -2,10 +2,10 @@ use Rattle.std.proofs.Common.{◌≡◌, ℕ, ◌+◌, ◌*◌, ◌≤◌, List,
 use Rattle.std.proofs.lemmas.List.{drop_all, take-append-le, take_all, length-drop}
 use Rattle.std.proofs.Math.Seq.{take-length}
 use Rattle.fdr_sampler.specs.Stream.{stream_of}
-use Rattle.fdr_sampler.specs.Kept.{Kept as Sampled}
-use Rattle.fdr_sampler.specs.Past.{Stands as SamplerStands}
+use Rattle.fdr_sampler.specs.Kept.{SamplerKept}
+use Rattle.fdr_sampler.specs.Past.{RepresentsSampler}
 use Rattle.fdr_stream.specs.Packing.{last_byte}
-use Rattle.fdr_stream.specs.Kept.{Kept}
+use Rattle.fdr_stream.specs.Kept.{StreamKept}
 use Rattle.fdr_stream.proofs.Standing.{rest_is, few_left, blocks_left}
 use Rattle.fdr_stream.proofs.stream.Stream.finish.Goals as goal
 
@@ -15,7 +15,7 @@ returns-clause-rest c past st none =
     let known = c.requires in
     let items = c.self.inside.bytes.items in
     let n = c.read_into.result in
-    let left : items ≡ k.bytes ++ last_byte k.odd = ap (λ (x : Kept). x.bytes) (c.self.view_is ∙ c.pad.ensures) in
+    let left : items ≡ k.bytes ++ last_byte k.odd = ap (λ (x : StreamKept). x.bytes) (c.self.view_is ∙ c.pad.ensures) in
     let all : n ≡ length items = omega (arith, c.read_into.ensures.count, few_left k known.0 items known.1 left, known.3) in
     let whole : take n items ≡ items = ap (λ m. take m items) all ∙ take-length items in
     let within : n ≤ length (take n items) = omega (arith, all, ap (λ (xs : List ℕ). length xs) whole) in
@@ -27,7 +27,7 @@ returns-clause-count c past st none =
     let k = c.args.self.now in
     let known = c.requires in
     let items = c.self.inside.bytes.items in
-    let left : items ≡ k.bytes ++ last_byte k.odd = ap (λ (x : Kept). x.bytes) (c.self.view_is ∙ c.pad.ensures) in
+    let left : items ≡ k.bytes ++ last_byte k.odd = ap (λ (x : StreamKept). x.bytes) (c.self.view_is ∙ c.pad.ensures) in
     let all : c.read_into.result ≡ length items = omega (arith, c.read_into.ensures.count, few_left k known.0 items known.1 left, known.3) in
     all ∙ ap (λ (xs : List ℕ). length xs) (left ∙ rest_is k past st none) ∙ length-drop (past.payload * past.blocks) (stream_of past.table past.records)
 
@@ -36,7 +36,7 @@ returns-clause-blocks c past st none =
     let k = c.args.self.now in
     let known = c.requires in
     let items = c.self.inside.bytes.items in
-    let left : items ≡ k.bytes ++ last_byte k.odd = ap (λ (x : Kept). x.bytes) (c.self.view_is ∙ c.pad.ensures) in
+    let left : items ≡ k.bytes ++ last_byte k.odd = ap (λ (x : StreamKept). x.bytes) (c.self.view_is ∙ c.pad.ensures) in
     let all : length items ≡ c.read_into.result = omega (arith, c.read_into.ensures.count, few_left k known.0 items known.1 left, known.3) in
     blocks_left k past items st none left ∙ ap (λ n. past.blocks + min n 1) all
 
@@ -46,11 +46,11 @@ returns-clause-last c past st none =
     let few = few_left c.args.self.now past rest st (sym (rest_is c.args.self.now past st none)) in
     returns-clause-rest c past st none ∙ sym (take_all past.payload rest few)
 
-pub returns-clause-few : goal.returns-clause-few
-returns-clause-few c past st =
+pub returns-clause-within_payload : goal.returns-clause-within_payload
+returns-clause-within_payload c past st =
     let k = c.args.self.now in
     let items = c.self.inside.bytes.items in
-    let left : items ≡ k.bytes ++ last_byte k.odd = ap (λ (x : Kept). x.bytes) (c.self.view_is ∙ c.pad.ensures) in
+    let left : items ≡ k.bytes ++ last_byte k.odd = ap (λ (x : StreamKept). x.bytes) (c.self.view_is ∙ c.pad.ensures) in
     omega (arith, c.read_into.ensures.count, few_left k past items st left)
 
 pub returns-clause-finished : goal.returns-clause-finished
@@ -58,13 +58,19 @@ returns-clause-finished c past st none =
     let k = c.args.self.now in
     let items = c.self.inside.bytes.items in
     let padded_is = c.self.view_is ∙ c.pad.ensures in
-    let left : items ≡ k.bytes ++ last_byte k.odd = ap (λ (x : Kept). x.bytes) padded_is in
-    let all : length items ≤ c.read_into.result = omega (arith, c.read_into.ensures.count, few_left k past items st left, few_left k c.requires.0 items c.requires.1 left, c.requires.3) in
-    let same : c.self.inside.sampler ≡ k.sampler = ap (λ (x : Kept). x.sampler) padded_is in
-    let IsOf : Sampled → Type 0 = λ s. SamplerStands s (record { table = past.table; records = past.records; drawn = s.drawn }) in
+    let left : items ≡ k.bytes ++ last_byte k.odd = ap (λ (x : StreamKept). x.bytes) padded_is in
+    let all : length items ≤ c.read_into.result = omega (
+      arith,
+      c.read_into.ensures.count,
+      few_left k past items st left,
+      few_left k c.requires.0 items c.requires.1 left,
+      c.requires.3,
+    ) in
+    let same : c.self.inside.sampler ≡ k.sampler = ap (λ (x : StreamKept). x.sampler) padded_is in
+    let IsOf : SamplerKept → Type 0 = λ s. RepresentsSampler s (record { table = past.table; records = past.records; drawn = s.drawn }) in
     record {
-      payload = ap (λ (x : Kept). x.payload) padded_is ∙ st.packed.payload;
-      odd = ap (λ (x : Kept). x.odd) padded_is;
+      payload = ap (λ (x : StreamKept). x.payload) padded_is ∙ st.packed.payload;
+      odd = ap (λ (x : StreamKept). x.odd) padded_is;
       bytes = ap (λ b. b.items) c.read_into.ensures.items ∙ drop_all c.read_into.result items all;
       sampler = λ unended. subst IsOf (sym same) (st.sampler unended);
     }

@@ -1,12 +1,12 @@
 use Rattle.std.proofs.Common.{◌+◌, inr, Some, refl, arith}
-use Rattle.fdr_stream.specs.Past.{Past}
+use Rattle.fdr_stream.specs.Past.{StreamPast}
 use Rattle.fdr_stream.proofs.stream.tests.feed.Goals as goal
 
 pub feed-requires : goal.feed-requires
 feed-requires c =
     let known = c.requires in
     let at = c.loop-blocks.invariant known.0 known.1 known.2 known.3 in
-    let past : Past = record known.0 { begun = at.1; blocks = at.0 } in
+    let past : StreamPast = record known.0 { begun = at.1; blocks = at.0 } in
     (past, at.2, at.3, omega (arith, known.4))
 
 pub returns-in-Taken : goal.returns-in-Taken

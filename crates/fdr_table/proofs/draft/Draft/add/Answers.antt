@@ -25,7 +25,8 @@ invariant_of-self-2 c =
           subst AreInRange (sym w.self-inside-is) (record { frame = frame; places = c.self.invariant.places; owners = c.self.invariant.owners })
       | in-Param+in_ok-push-in-Param w ↦
           let more = ap length w.in_ok-push-in-Param.ensures.added ∙ length-append params (w.in-Param.param ∷ []) in
-          let owners = All-weaker (λ (l : PlaceRow). l.param < length params) (λ (l : PlaceRow). l.param < length w.push.new.self) (λ l lt. omega (arith, more, lt)) places c.self.invariant.owners in
+          let owners = All-weaker (λ (l : PlaceRow). l.param < length params) (λ (l : PlaceRow). l.param < length w.push.new.self)
+          (λ l lt. omega (arith, more, lt)) places c.self.invariant.owners in
           subst AreInRange (sym w.self-inside-is) (record { frame = c.self.invariant.frame; places = c.self.invariant.places; owners = owners })
       | in-Place+else-is_err w ↦
           let place : IsPlaceInRange w.in-Place.place = search rules in
@@ -33,8 +34,10 @@ invariant_of-self-2 c =
           let view = ap (λ (d : DraftRows). length d.params) c.self.view_is in
           let fits = subst (Fits c.args.self.now) w.in-Place.is c.requires.fits in
           let owner : w.in-Place.place.param < length params = omega (arith, fits, view) in
-          let inside = All-same IsPlaceInRange w.push-in-Place.new.self.items (places ++ w.in-Place.place ∷ []) items (All-push IsPlaceInRange places w.in-Place.place c.self.invariant.places place) in
+          let inside = All-same IsPlaceInRange w.push-in-Place.new.self.items (places ++ w.in-Place.place ∷ []) items
+          (All-push IsPlaceInRange places w.in-Place.place c.self.invariant.places place) in
           let owned = λ (l : PlaceRow). l.param < length params in
-          let owners = All-same owned w.push-in-Place.new.self.items (places ++ w.in-Place.place ∷ []) items (All-push owned places w.in-Place.place c.self.invariant.owners owner) in
+          let owners = All-same owned w.push-in-Place.new.self.items (places ++ w.in-Place.place ∷ []) items
+          (All-push owned places w.in-Place.place c.self.invariant.owners owner) in
           subst AreInRange (sym w.self-inside-is) (record { frame = c.self.invariant.frame; places = inside; owners = owners })
     ]

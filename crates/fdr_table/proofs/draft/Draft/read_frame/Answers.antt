@@ -9,7 +9,8 @@ use Rattle.fdr_table.proofs.draft.Draft.read_frame.Goals as goal
 pub returns-then-is_some-clause-fault : goal.returns-then-is_some-clause-fault
 returns-then-is_some-clause-fault c =
     let there = ap (λ (d : DraftRows). is_some d.frame) (sym c.self.view_is) ∙ sym c.is_some.ensures ∙ c.if-is_some.true in
-    two-frames c.args.self.now (fields_of c.args.row.now) c.requires (frame_row-right (fields_of c.args.row.now) c.in_ok-frame.frame c.in_ok-frame.ensures.read) there
+    two-frames c.args.self.now (fields_of c.args.row.now) c.requires (frame_row-right (fields_of c.args.row.now) c.in_ok-frame.frame c.in_ok-frame.ensures.read)
+    there
 
 pub returns-clause-frame : goal.returns-clause-frame
 returns-clause-frame c =

@@ -25,7 +25,8 @@ returns-then-is_some-clause-fault c =
     let there : is_some c.self.inside.frame ≡ true = grind arith in
     let index = c.find.ensures ∙ ap (index_named c.self.inside.params) c.field_at.ensures in
     let known : is_some (index_named c.self.inside.params (name_in row)) ≡ true = grind arith in
-    let named = named-right row c.in_ok-named.ensures.numbers (param_row-right c.self.inside.rows row c.in-Some.param (c.in_ok-named.ensures.read ∙ c.in-Some.is)) in
+    let named = named-right row c.in_ok-named.ensures.numbers
+    (param_row-right c.self.inside.rows row c.in-Some.param (c.in_ok-named.ensures.read ∙ c.in-Some.is)) in
     subst (λ (d : DraftRows). IsNextFault d row fault.Twice) c.self.view_is
     (param-twice (draft_view c.self.inside) row c.requires c.in_ok-named.ensures.numbers there named known)
 
@@ -36,7 +37,8 @@ returns-then-len-ge-MAX_PARAMS-clause-fault c =
     let index = c.find.ensures ∙ ap (index_named c.self.inside.params) c.field_at.ensures in
     let fresh : is_some (index_named c.self.inside.params (name_in row)) ≡ false = grind arith in
     let many : most_params ≤ length c.self.inside.params = grind arith in
-    let named = named-right row c.in_ok-named.ensures.numbers (param_row-right c.self.inside.rows row c.in-Some.param (c.in_ok-named.ensures.read ∙ c.in-Some.is)) in
+    let named = named-right row c.in_ok-named.ensures.numbers
+    (param_row-right c.self.inside.rows row c.in-Some.param (c.in_ok-named.ensures.read ∙ c.in-Some.is)) in
     subst (λ (d : DraftRows). IsNextFault d row fault.Size) c.self.view_is
     (too-many-params (draft_view c.self.inside) row c.requires c.in_ok-named.ensures.numbers there named fresh many)
 

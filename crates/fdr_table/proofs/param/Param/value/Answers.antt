@@ -8,7 +8,8 @@ use Rattle.fdr_table.proofs.param.Param.value.Goals as goal
 pub returns : goal.returns
 unfolding value_of
 returns c =
-    let sum : to_z w64 (of_z w64 (to_z w64 (of_z w64 c.self.inside.offset) +ℤ to_z w64 (of_z w64 c.scaled.result))) ≡ c.self.inside.offset +ℤ c.scaled.result = omega (arith, ints) in
+    let sum : to_z w64 (of_z w64 (to_z w64 (of_z w64 c.self.inside.offset) +ℤ to_z w64 (of_z w64 c.scaled.result))) ≡ c.self.inside.offset +ℤ c.scaled.result =
+    omega (arith, ints) in
     let raw : to_z w64 (of_z w64 c.signed_raw.result) ≡ c.signed_raw.result = omega (arith, ints) in
     let num : to_z w64 (of_z w64 c.self.inside.num) ≡ c.self.inside.num = omega (arith, ints) in
     let den : to_z w64 (of_z w64 c.self.inside.den) ≡ c.self.inside.den = omega (arith, ints) in

@@ -2,14 +2,14 @@ use Rattle.std.proofs.Common.{◌≡◌, ◌∙◌, Some, ap, arith}
 use Rattle.fdr_slot.specs.Headers.{image_fault}
 use Rattle.fdr_slot.specs.declared.image.ImageFault.TheVariants as fault
 use Rattle.fdr_deck.proofs.Moments.{IsQuiet-keep}
-use Rattle.fdr_ring.specs.Formatting.{fault_of}
+use Rattle.fdr_recover.specs.ImageHeader.{image_fault_of}
 use Rattle.fdr_deck.proofs.Quiet.{IsQuiet-look}
-use Rattle.fdr_ring.proofs.Made.{small_fault, not_small}
-use Rattle.fdr_ring.proofs.open.read_image_header.Goals as goal
+use Rattle.fdr_recover.proofs.ImageFaults.{small_fault, not_small}
+use Rattle.fdr_recover.proofs.open.read_image_header.Goals as goal
 
 pub returns-then-size-lt64-clause-first_fault : goal.returns-then-size-lt64-clause-first_fault
 returns-then-size-lt64-clause-first_fault g c told why is =
-    let small : fault_of (g.D.Deck.state c.args.deck.now).held ≡ Some fault.Small =
+    let small : image_fault_of (g.D.Deck.state c.args.deck.now).held ≡ Some fault.Small =
     small_fault _ _ (omega (
       arith,
       c.if-size-lt64.true,

@@ -1,4 +1,5 @@
-// The header of the image on a disk.
+//! The header of the image on a disk.
+
 ghost use Rattle.std.specs.Prelude.{◌≡◌, ◌≢◌, ◌≤◌, ◌<◌, ◌↔◌, ℕ, take, None, Some, Err, IfOk, OnOk, IsTrue};
 ghost use Rattle.fdr_io.specs.Faults.{Rose};
 ghost use Rattle.fdr_deck.specs.Disk.{KeepsDisk, LearnsExtent};
@@ -7,7 +8,7 @@ ghost use Rattle.fdr_slot.specs.Limits.{IsInLimits};
 ghost use Rattle.fdr_slot.specs.Places.{image_size};
 ghost use Rattle.fdr_slot.specs.declared.image.ImageFault.{ImageFault};
 ghost use Rattle.fdr_slot.specs.declared.image.ImageFault.TheVariants as fault;
-ghost use Rattle.fdr_ring.specs.Formatting.{fault_of, header_in};
+ghost use Rattle.fdr_recover.specs.ImageHeader.{image_fault_of, header_in};
 
 use crate::RingFault;
 use fdr_deck::Deck;
@@ -17,9 +18,9 @@ use fdr_slot::{Header, ImageFault, read_header};
 /// bytes, or `DiskFault`. It leaves the disk as it is.
 pub fn read_image_header<D: Deck>(deck: &mut D) -> Result<Header, RingFault>
     ensures read { IsTrue D.tells.bytes → IfOk result (λ h. h ≡ header_in (D.state deck.old).held) }
-    ensures good { IsTrue D.tells.bytes → OnOk result (fault_of (D.state deck.old).held ≡ None) }
+    ensures good { IsTrue D.tells.bytes → OnOk result (image_fault_of (D.state deck.old).held ≡ None) }
     ensures first_fault { IsTrue D.tells.bytes
-        → (why : ImageFault) → result ≡ Err (RingFault.Image why) → fault_of (D.state deck.old).held ≡ Some why }
+        → (why : ImageFault) → result ≡ Err (RingFault.Image why) → image_fault_of (D.state deck.old).held ≡ Some why }
     ensures small { (why : ImageFault) → result ≡ Err (RingFault.Image why)
         → (why ≡ fault.Small) ↔ ((D.state deck.new).extent < 64) }
     ensures only { result ≢ Err RingFault.NotEmpty × result ≢ Err RingFault.SeqEnd }

@@ -1,6 +1,6 @@
 use Rattle.std.proofs.Common.{refl, arith}
 use Rattle.fdr_words.specs.Forms.{check_table, list_bits, recover_image, stream_line}
-use Rattle.fdr_rows.proofs.sure.sure_command.Goals as goal
+use Rattle.fdr_cases_traces.proofs.sure.sure_command.Goals as goal
 
 pub returns-clause-listing : goal.returns-clause-listing
 returns-clause-listing c = λ path is accepted few.

@@ -1,5 +1,6 @@
-// Lines of bits made by hand. A subframe has 64 words, so a frame has 3,072 bits, and its sync words stand at its bits
-// 0, 768, 1,536 and 2,304.
+//! Lines of bits made by hand. A subframe has 64 words, so a frame has 3,072 bits, and its sync words stand at its bits
+//! 0, 768, 1,536 and 2,304.
+
 ghost use Rattle.std.specs.Prelude.{◌<◌};
 
 /// Puts a frame at this bit: its counter in word 2 and its altitude in word 10 of the first subframe, and no more.

@@ -1,8 +1,8 @@
 use crate::lines::{frame, put_words};
 use crate::sure_command;
-use crate::tests::{ALTITUDE, LISTBITS};
+use crate::tests::LISTBITS;
 use fdr_bus::TraceFault;
-use fdr_cases::{answer, words_of};
+use fdr_cases::{ALTITUDE, END_AT_4000000, WORD_AT_0, answer, words_of};
 use fdr_deck::{MemDeck, SureDeck};
 use fdr_io::{Input, MemSink, MemSource, NullSink, SureSource};
 use fdr_top::Outcome;
@@ -15,8 +15,6 @@ const COUNTER_LAST: &[u8] = b"F,64,64,4\nP,ALT,0,203,,11,12,U,1,1,0,0,16\nL,ALT,
 const STREAM: &[&str] = &["stream", "t1.csv"];
 
 // Words of label 203 with the value 5, of odd parity but for the one before the last, and ends.
-const WORD_AT_0: [u8; 16] = [1, 0, 0, 0, 0, 0, 0x14, 0xc1, 0, 0, 0, 0, 0, 0, 0, 0];
-
 const WORD_AT_15625: [u8; 16] = [1, 0, 0, 0, 0, 0, 0x14, 0xc1, 0, 0, 0, 0, 0, 0, 0x3d, 0x09];
 
 const WORD_AT_15626: [u8; 16] = [1, 0, 0, 0, 0, 0, 0x14, 0xc1, 0, 0, 0, 0, 0, 0, 0x3d, 0x0a];
@@ -26,8 +24,6 @@ const EVEN_AT_15625: [u8; 16] = [
 ];
 
 const WORD_AT_4000000: [u8; 16] = [1, 0, 0, 0, 0, 0, 0x14, 0xc1, 0, 0, 0, 0, 0, 0x3d, 0x09, 0];
-
-const END_AT_4000000: [u8; 16] = [2, 0, 0, 0, 0, 0, 0, 0, 0, 0, 0, 0, 0, 0x3d, 0x09, 0];
 
 const END_AT_4000001: [u8; 16] = [2, 0, 0, 0, 0, 0, 0, 0, 0, 0, 0, 0, 0, 0x3d, 0x09, 1];
 
@@ -100,7 +96,7 @@ fn refused<'a>(
     fault: TraceFault,
     written: &'a [u8],
 ) -> Case<'a> {
-    let mut case = whole(shows, ALTITUDE, trace, written);
+    let mut case = whole(shows, ALTITUDE.as_bytes(), trace, written);
     case.answer = Outcome::TraceRefused { index, fault };
     case
 }
@@ -134,10 +130,10 @@ fn streams_worked_traces(rt: HostRuntime) -> Result<(), Fail> {
     let mut a_word_more = zero.to_vec(alloc)?;
     a_word_more.extend_from_slice(&[0x47, 0x02])?;
     let cases = [
-        whole("an end", ALTITUDE, &[END_AT_4000000], &zero),
+        whole("an end", ALTITUDE.as_bytes(), &[END_AT_4000000], &zero),
         whole(
             "an end a slot later",
-            ALTITUDE,
+            ALTITUDE.as_bytes(),
             &[END_AT_4000001],
             &a_word_more,
         ),
@@ -161,7 +157,7 @@ fn streams_worked_traces(rt: HostRuntime) -> Result<(), Fail> {
         ),
         whole(
             "nothing counts behind an end",
-            ALTITUDE,
+            ALTITUDE.as_bytes(),
             &[WORD_AT_0, END_AT_4000000, OTHER_KIND],
             &five,
         ),
@@ -199,13 +195,18 @@ fn streams_what_was_pulled_before_a_fault(rt: HostRuntime) -> Result<(), Fail> {
     cut.cut = 1;
     let mut unread = whole(
         "the second pull fails",
-        ALTITUDE,
+        ALTITUDE.as_bytes(),
         &[WORD_AT_0, WORD_AT_4000000],
         &five,
     );
     unread.pulls = &[1];
     unread.answer = Outcome::ReadFault(Input::Line);
-    let mut unwritten = whole("the first write fails", ALTITUDE, &[END_AT_4000000], &[]);
+    let mut unwritten = whole(
+        "the first write fails",
+        ALTITUDE.as_bytes(),
+        &[END_AT_4000000],
+        &[],
+    );
     unwritten.writes = &[0];
     unwritten.answer = Outcome::WriteFault;
     for case in [cut, unread, unwritten] {
@@ -220,7 +221,7 @@ fn streams_what_was_pulled_before_a_fault(rt: HostRuntime) -> Result<(), Fail> {
 fn lists_what_was_streamed(rt: HostRuntime) -> Result<(), Fail> {
     let alloc = rt.alloc();
     let trace = bytes_of(alloc, &[WORD_AT_0, END_AT_4000001], 0)?;
-    let mut table = MemSource::new(ALTITUDE.to_vec(alloc)?, Vec::new(alloc));
+    let mut table = MemSource::new(ALTITUDE.as_bytes().to_vec(alloc)?, Vec::new(alloc));
     let mut deck = MemDeck::new(alloc, Vec::new(alloc), trace, Vec::new(alloc));
     let mut stream = MemSink::new(alloc, Vec::new(alloc));
     let given = answer(
@@ -232,7 +233,7 @@ fn lists_what_was_streamed(rt: HostRuntime) -> Result<(), Fail> {
     );
     assert_eq!(rt; given, Outcome::Done);
 
-    let mut table = MemSource::new(ALTITUDE.to_vec(alloc)?, Vec::new(alloc));
+    let mut table = MemSource::new(ALTITUDE.as_bytes().to_vec(alloc)?, Vec::new(alloc));
     let mut deck = MemDeck::new(
         alloc,
         Vec::new(alloc),
@@ -257,7 +258,7 @@ fn streams_where_nothing_fails(rt: HostRuntime) -> Result<(), Fail> {
     let alloc = rt.alloc();
     let image = vec![in alloc; 0]?;
     assert!(rt; image.len() > 0);
-    let mut table = SureSource::new(ALTITUDE.to_vec(alloc)?);
+    let mut table = SureSource::new(ALTITUDE.as_bytes().to_vec(alloc)?);
     let mut deck = SureDeck::new(image, END_AT_4000000.to_vec(alloc)?);
     let words = words_of(alloc, STREAM)?;
     let answer = sure_command(alloc, &words, &mut table, &mut deck, &mut NullSink::new());

@@ -1,12 +1,9 @@
-use fdr_cases::{Ran, deck_of, run_words};
+use fdr_cases::{ALTITUDE, Ran, deck_of, run_words};
 use fdr_deck::MemDeck;
 use fdr_table::TableFault;
 use fdr_top::Outcome;
 use std::alloc::{AllocError, Global};
 use std::test::Fail;
-
-/// An altitude in word 10 of the first subframe, and the counter in word 2 of it.
-pub const ALTITUDE: &str = "F,64,2,1\nP,ALT,0,203,,11,12,U,1,1,0,0,16\nL,ALT,1,1,10,0,1,12,0,1\n";
 
 /// The header of an image of 4 slots of 64 bytes for subframes of 64 words, but for the zeros at its end.
 pub const HEADER: [u8; 20] = [

@@ -1,8 +1,8 @@
-use crate::formats::{ALTITUDE, fresh_image};
-use fdr_cases::{Ran, deck_of, run_words};
+use crate::formats::fresh_image;
+use fdr_cases::{ALTITUDE, Ran, deck_of, run_words};
 use fdr_deck::MemDeck;
-use fdr_recover::{Found, scan};
-use fdr_ring::{Ring, RingFault, read_image_header};
+use fdr_recover::{Found, RingFault, read_image_header, scan};
+use fdr_ring::Ring;
 use fdr_slot::{Header, ImageFault, OPEN, write_header, write_slot_head};
 use fdr_top::Outcome;
 use std::alloc::{AllocError, Global};

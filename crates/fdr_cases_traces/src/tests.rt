@@ -4,16 +4,13 @@ use crate::lines::{
 };
 use crate::sure_command;
 use fdr_bus::TraceFault;
-use fdr_cases::{answer, words_of};
+use fdr_cases::{ALTITUDE, answer, words_of};
 use fdr_deck::{MemDeck, SureDeck};
 use fdr_io::{Input, MemSink, MemSource, NullSink, SureSource};
 use fdr_slot::ImageFault;
 use fdr_table::TableFault;
 use fdr_top::Outcome;
 use std::test::Fail;
-
-/// An altitude in word 10 of the first subframe, and the counter in word 2 of it.
-pub const ALTITUDE: &[u8] = b"F,64,2,1\nP,ALT,0,203,,11,12,U,1,1,0,0,16\nL,ALT,1,1,10,0,1,12,0,1\n";
 
 /// An altitude in the counter's word.
 const ON_COUNTER: &[u8] = b"F,64,2,1\nP,ALT,0,203,,11,12,U,1,1,0,0,16\nL,ALT,1,1,2,0,1,12,0,1\n";
@@ -51,7 +48,7 @@ fn lists_worked_lines(rt: HostRuntime) -> Result<(), Fail> {
         ),
     ];
     for (shows, line, listing) in cases {
-        let mut table = MemSource::new(ALTITUDE.to_vec(alloc)?, Vec::new(alloc));
+        let mut table = MemSource::new(ALTITUDE.as_bytes().to_vec(alloc)?, Vec::new(alloc));
         let mut deck = MemDeck::new(alloc, Vec::new(alloc), line.to_vec(alloc)?, Vec::new(alloc));
         let mut out = MemSink::new(alloc, Vec::new(alloc));
         let given = answer(alloc, &words, &mut table, &mut deck, &mut out);
@@ -85,7 +82,7 @@ fn answers_faults_and_refusals(rt: HostRuntime) -> Result<(), Fail> {
     let cases = [
         Fault {
             shows: "the second pull fails",
-            table: ALTITUDE,
+            table: ALTITUDE.as_bytes(),
             reads: &[],
             pulls: &[1],
             writes: &[],
@@ -95,7 +92,7 @@ fn answers_faults_and_refusals(rt: HostRuntime) -> Result<(), Fail> {
         },
         Fault {
             shows: "the table's first read fails",
-            table: ALTITUDE,
+            table: ALTITUDE.as_bytes(),
             reads: &[0],
             pulls: &[],
             writes: &[],
@@ -143,7 +140,7 @@ fn answers_faults_and_refusals(rt: HostRuntime) -> Result<(), Fail> {
         let given = answer(alloc, &words, &mut table, &mut deck, &mut out);
         assert_eq!(rt; given, case.answer, "{shows}");
         assert_eq!(rt; out.bytes(), case.written, "{shows}");
-        let mut table = MemSource::new(ALTITUDE.to_vec(alloc)?, Vec::new(alloc));
+        let mut table = MemSource::new(ALTITUDE.as_bytes().to_vec(alloc)?, Vec::new(alloc));
         let mut out = MemSink::new(alloc, Vec::new(alloc));
         assert_eq!(rt;
             answer(alloc, &words, &mut table, &mut deck, &mut out),
@@ -160,7 +157,7 @@ fn writes_nothing_where_the_first_write_fails(rt: HostRuntime) -> Result<(), Fai
     let alloc = rt.alloc();
     let words = words_of(alloc, LISTBITS)?;
     let line = frames_behind_five_bits().to_vec(alloc)?;
-    let mut table = MemSource::new(ALTITUDE.to_vec(alloc)?, Vec::new(alloc));
+    let mut table = MemSource::new(ALTITUDE.as_bytes().to_vec(alloc)?, Vec::new(alloc));
     let mut deck = MemDeck::new(alloc, Vec::new(alloc), line, Vec::new(alloc));
     let mut out = MemSink::new(alloc, vec![in alloc; 0]?);
     let given = answer(alloc, &words, &mut table, &mut deck, &mut out);
@@ -183,7 +180,7 @@ fn refuses_other_words_and_says_each_answer(rt: HostRuntime) -> Result<(), Fail>
     ];
     for case in cases {
         let words = words_of(alloc, case)?;
-        let mut table = MemSource::new(ALTITUDE.to_vec(alloc)?, Vec::new(alloc));
+        let mut table = MemSource::new(ALTITUDE.as_bytes().to_vec(alloc)?, Vec::new(alloc));
         let mut deck = MemDeck::new(
             alloc,
             Vec::new(alloc),
@@ -360,7 +357,7 @@ fn lists_where_nothing_fails(rt: HostRuntime) -> Result<(), Fail> {
     let words = words_of(alloc, LISTBITS)?;
     let image = vec![in alloc; 0]?;
     assert!(rt; image.len() > 0);
-    let mut table = SureSource::new(ALTITUDE.to_vec(alloc)?);
+    let mut table = SureSource::new(ALTITUDE.as_bytes().to_vec(alloc)?);
     let mut deck = SureDeck::new(image, frame(0, 5).to_vec(alloc)?);
     let answer = sure_command(alloc, &words, &mut table, &mut deck, &mut NullSink::new());
     assert_eq!(rt; answer, Outcome::Done);

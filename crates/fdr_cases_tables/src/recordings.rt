@@ -1,4 +1,4 @@
-use fdr_cases::{deck_of, run_words};
+use fdr_cases::{END_AT_4000000, WORD_AT_0, deck_of, run_words};
 use fdr_top::Outcome;
 use std::alloc::{AllocError, Global};
 use std::test::Fail;
@@ -31,9 +31,7 @@ P,PIT,1,324,,17,12,S,1,1,0,1,32
 L,PIT,1,12,51,0,1,12,0,1
 ";
 
-// Words of label 203 with the value 5, of label 310 with hexadecimal ABCDE and with 1, and ends.
-const ALTITUDE_AT_0: [u8; 16] = [1, 0, 0, 0, 0, 0, 0x14, 0xc1, 0, 0, 0, 0, 0, 0, 0, 0];
-
+// Words of label 310 with hexadecimal ABCDE and with 1, and an end.
 const POSITION_AT_0: [u8; 16] = [1, 1, 0, 0, 0x8a, 0xbc, 0xde, 0x13, 0, 0, 0, 0, 0, 0, 0, 0];
 
 const POSITION_AT_1000000: [u8; 16] = [
@@ -41,8 +39,6 @@ const POSITION_AT_1000000: [u8; 16] = [
 ];
 
 const END_AT_8000000: [u8; 16] = [2, 0, 0, 0, 0, 0, 0, 0, 0, 0, 0, 0, 0, 0x7a, 0x12, 0];
-
-const END_AT_4000000: [u8; 16] = [2, 0, 0, 0, 0, 0, 0, 0, 0, 0, 0, 0, 0, 0x3d, 0x09, 0];
 
 // Words of the ordinary table at the start: -3 feet, 125.5 knots, -0.25 g, gear down.
 const ORDINARY_WORDS: [[u8; 16]; 4] = [
@@ -149,7 +145,7 @@ fn streams_pieces_of_one_value(rt: HostRuntime) -> Result<(), Fail> {
     let expected = two_frames(alloc)?;
     let traces = [
         [
-            ALTITUDE_AT_0,
+            WORD_AT_0,
             POSITION_AT_0,
             POSITION_AT_1000000,
             END_AT_8000000,
@@ -157,7 +153,7 @@ fn streams_pieces_of_one_value(rt: HostRuntime) -> Result<(), Fail> {
         // Words of other buses at one time may come in either order.
         [
             POSITION_AT_0,
-            ALTITUDE_AT_0,
+            WORD_AT_0,
             POSITION_AT_1000000,
             END_AT_8000000,
         ],

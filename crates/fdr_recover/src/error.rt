@@ -1,4 +1,5 @@
-// Why a call of the ring is refused.
+//! Why a call of the ring is refused.
+
 use fdr_io::Failed;
 use fdr_slot::ImageFault;
 
@@ -17,7 +18,7 @@ pub enum RingFault {
 
 impl From<Failed> for RingFault {
     ghost use Rattle.std.specs.Prelude.{◌≡◌};
-    ghost use Rattle.fdr_ring.specs.declared.error.RingFault.TheVariants as fault;
+    ghost use Rattle.fdr_recover.specs.declared.error.RingFault.TheVariants as fault;
 
     ghost from_gives = { λ _ result. result ≡ fault.DiskFault };
 
@@ -28,7 +29,7 @@ impl From<Failed> for RingFault {
 
 impl From<ImageFault> for RingFault {
     ghost use Rattle.std.specs.Prelude.{◌≡◌};
-    ghost use Rattle.fdr_ring.specs.declared.error.RingFault.TheVariants as fault;
+    ghost use Rattle.fdr_recover.specs.declared.error.RingFault.TheVariants as fault;
 
     ghost from_gives = { λ why result. result ≡ fault.Image why };
 

@@ -1,0 +1,7 @@
+pub mod Ranges
+pub mod Searches
+pub mod Filters
+pub mod Sums
+pub mod Pairs
+pub mod Numbered
+pub mod Options

@@ -1,0 +1,13 @@
+-- The header of an image, and its faults.
+use Rattle.std.specs.Prelude.{List, ℕ, length, take, Option}
+use Rattle.fdr_slot.specs.declared.image.Header.{Header}
+use Rattle.fdr_slot.specs.declared.image.ImageFault.{ImageFault}
+use Rattle.fdr_slot.specs.Headers.{header_of, image_fault}
+
+-- the first fault of an image
+abbrev pub image_fault_of : List ℕ → Option ImageFault
+image_fault_of image = image_fault (take 64 image) (length image)
+
+-- what the header of an image says
+abbrev pub header_in : List ℕ → Header
+header_in image = header_of (take 64 image)
