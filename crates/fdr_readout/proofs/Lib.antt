@@ -7,6 +7,7 @@ pub mod RecordedWords
 pub mod PartsApart
 pub mod PiecesBack
 pub mod SlotKinds
+pub mod Among
 pub mod Recorded
 pub mod RecordedRows
 pub mod StreamFrames
@@ -15,3 +16,7 @@ pub mod PairLists
 pub mod SoundPlaces
 pub mod SoundTables
 pub mod ReadsBack
+pub mod RunFrames
+pub mod RunRows
+pub mod RunLines
+pub mod Surviving

@@ -1,10 +1,10 @@
 -- The rows of recorded frames are the sampled rows.
-use Rattle.std.proofs.Common.{◌≡◌, ℕ, ◌+◌, ◌-◌, ◌*◌, ◌/◌, ◌%◌, ◌^◌, ◌≤◌, List, [], ◌∷◌, map, Some, Option, refl, sym, ap, ◌∙◌, arith}
-use Rattle.std.specs.Prelude.{Contains, slice_index, slice_get}
+use Rattle.std.proofs.Common.{◌≡◌, ℕ, ◌+◌, ◌-◌, ◌*◌, ◌/◌, ◌%◌, ◌^◌, ◌≤◌, Bool, List, [], ◌∷◌, map, Some, Option, refl, sym, ap, ◌∙◌, subst, arith}
+use Rattle.std.specs.Prelude.{All, Contains, filter, nat_le, slice_index, slice_get}
 use Rattle.std.specs.List.{filter_map}
 use Rattle.std.proofs.lemmas.Nat.{mod_below}
-use Rattle.std.proofs.lemmas.Bool.{cond-true}
-use Rattle.std.proofs.lemmas.List.Elements.{All-contains_itself}
+use Rattle.std.proofs.lemmas.Bool.{cond-true, leb-true}
+use Rattle.std.proofs.lemmas.List.Elements.{All-head, All-tail, All-contains_itself}
 use Rattle.std.proofs.Math.Nat.{div-div-eq-div-mul, div-add-mod}
 use Rattle.fdr_bus.specs.declared.BusRecord.{BusRecord}
 use Rattle.fdr_sync.proofs.FrameSteps.{word_count_some}
@@ -19,7 +19,9 @@ use Rattle.fdr_recon.specs.declared.Row.{Row}
 use Rattle.fdr_recon.specs.Rows.{ReadFrame, frame_at, cycle_of_frame, reach, bits_of, raw_of_parts, row_with, row_of, rows_looked_at, rows_of_frame}
 use Rattle.fdr_readout.proofs.Recordable.{IsRecordable}
 use Rattle.fdr_readout.specs.SampledRows.{superframe_start, sampled_row, sampled_rows}
+use Rattle.fdr_readout.specs.Survival.{AreAmong, sampled_since}
 use Rattle.fdr_readout.proofs.SlotKinds.{slot_word-plain}
+use Rattle.fdr_readout.proofs.Among.{among_filtered}
 use Rattle.fdr_readout.proofs.Recorded.{AreRecorded, recorded_counter, recorded_cycle, recorded_joined}
 use Rattle.fdr_readout.proofs.PiecesBack.{data_word-piece, part_placed, pieces_make_up, ending_in-samples, contained_get}
 use Rattle.fdr_lists.proofs.Filters.{map-agree}
@@ -42,55 +44,81 @@ filter_map-some : {X Y : Type 0} (g : X → Y) (xs : List X) → filter_map (λ 
 filter_map-some g [] = refl
 filter_map-some g (x ∷ xs) = ap (λ ys. g x ∷ ys) (filter_map-some g xs)
 
-module _ (t : TableRows) (records : List BusRecord) (frames : List ReadFrame) (j : ℕ) (h : IsRecordable t) (recorded : AreRecorded t records frames j) where
+module _ (t : TableRows) (records : List BusRecord) (frames : List ReadFrame) (n j d : ℕ) (h : IsRecordable t) (are : AreRecorded t records frames n j d) where
   -- the word of a part is that of its slot in the superframe of frame j
-  part_word : (n : ℕ) (s : Sample) (p : Part) → slice_get (samples t) n ≡ Some s → Contains s.parts p → cycle_of t.frame.words p.at ≤ j % 16 →
-      slice_index (frame_at frames (j - (j % 16 - cycle_of t.frame.words p.at))).words (p.at / 12 % (4 * t.frame.words))
+  part_word : (k : ℕ) (s : Sample) (p : Part) → slice_get (samples t) k ≡ Some s → Contains s.parts p →
+      cycle_of t.frame.words p.at ≤ j % 16 → j % 16 - cycle_of t.frame.words p.at ≤ d →
+      slice_index (frame_at frames (n - (j % 16 - cycle_of t.frame.words p.at))).words (p.at / 12 % (4 * t.frame.words))
       ≡ data_word t records (superframe_start t.frame.words j) (p.at / 12)
-  part_word n s p got here low =
+  part_word k s p got here low near =
       let w = t.frame.words in
       let c = cycle_of w p.at in
-      let placed = part_placed t n s p h got here in
-      recorded.words (j - (j % 16 - c)) (p.at / 12 % (4 * w)) (omega arith) (mod_below (p.at / 12) (4 * w) (omega (arith, word_count_some w h.words)))
+      let placed = part_placed t k s p h got here in
+      are.words (j % 16 - c) (p.at / 12 % (4 * w)) near (mod_below (p.at / 12) (4 * w) (omega (arith, word_count_some w h.words)))
       ∙ ap (slot_word t records) (slot_back w j c (p.at / 12 % (4 * w)) low ∙ ap (λ x. 64 * w * (j / 16) + x) (slot_by_cycle w p.at))
       ∙ slot_word-plain t records (j / 16) (p.at / 12) h placed.slot placed.plain
 
   -- so its bits are the piece that the sample put there
-  part_bits : (n : ℕ) (s : Sample) (p : Part) → slice_get (samples t) n ≡ Some s → Contains s.parts p → cycle_of t.frame.words p.at ≤ j % 16 →
-      bits_of t.frame.words frames j (j % 16) p ≡ piece_of (raw_value t records (superframe_start t.frame.words j) s) p
-  part_bits n s p got here low =
-      ap (λ word. word / 2 ^ (p.at % 12) % 2 ^ p.width) (part_word n s p got here low)
-      ∙ data_word-piece t records (superframe_start t.frame.words j) n s p h got here
+  part_bits : (k : ℕ) (s : Sample) (p : Part) → slice_get (samples t) k ≡ Some s → Contains s.parts p →
+      cycle_of t.frame.words p.at ≤ j % 16 → j % 16 - cycle_of t.frame.words p.at ≤ d →
+      bits_of t.frame.words frames n (j % 16) p ≡ piece_of (raw_value t records (superframe_start t.frame.words j) s) p
+  part_bits k s p got here low near =
+      ap (λ word. word / 2 ^ (p.at % 12) % 2 ^ p.width) (part_word k s p got here low near)
+      ∙ data_word-piece t records (superframe_start t.frame.words j) k s p h got here
 
-  -- and together they are the value that was held
-  recorded_raw : (n : ℕ) (s : Sample) → slice_get (samples t) n ≡ Some s → EndsIn t.frame.words (j % 16) s →
-      raw_of_parts t.frame.words frames j (j % 16) s.parts ≡ raw_value t records (superframe_start t.frame.words j) s
+  -- and together they are the value that was held, where none of them lies before the frames that were recorded
+  recorded_raw : (k : ℕ) (s : Sample) → slice_get (samples t) k ≡ Some s → EndsIn t.frame.words (j % 16) s → reach t.frame.words s.parts ≤ d →
+      raw_of_parts t.frame.words frames n (j % 16) s.parts ≡ raw_value t records (superframe_start t.frame.words j) s
   unfolding raw_of_parts
-  recorded_raw n s got ends =
-      pieces_make_up t records (superframe_start t.frame.words j) n s (bits_of t.frame.words frames j (j % 16)) h got
-      (λ k d l. part_bits n s _ got (All-contains_itself s.parts k d l) (ends.high k d l))
+  recorded_raw k s got ends near =
+      let last = ends.last in
+      pieces_make_up t records (superframe_start t.frame.words j) k s (bits_of t.frame.words frames n (j % 16)) h got
+      (λ i d' l. part_bits k s _ got (All-contains_itself s.parts i d' l) (ends.high i d' l) (omega (arith, ends.low i d' l)))
 
-  -- each sample that ends in frame j is listed, with the row that was sampled
-  recorded_row : (n : ℕ) (s : Sample) → slice_get (samples t) n ≡ Some s → EndsIn t.frame.words (j % 16) s
-      → row_of t frames j s ≡ Some (sampled_row t records j s)
+  -- such a sample is listed, with the row that was sampled
+  recorded_row : (k : ℕ) (s : Sample) → slice_get (samples t) k ≡ Some s → EndsIn t.frame.words (j % 16) s → reach t.frame.words s.parts ≤ d →
+      row_of t frames n s ≡ Some (sampled_row t records j s)
   unfolding row_of sampled_row
-  recorded_row n s got ends =
+  recorded_row k s got ends near =
       let w = t.frame.words in
-      let d = reach w s.parts in
-      let near : d ≤ j = omega (arith, ends.last, ends.first) in
-      cond-true _ _ _ (recorded_joined t records frames j h recorded d near)
-      ∙ ap (λ counter. Some (row_with t s counter (raw_of_parts w frames j (cycle_of_frame t.frame (frame_at frames j).words) s.parts)))
-      (recorded_counter t records frames j h recorded (j - d) (omega arith))
-      ∙ ap (λ cycle. Some (row_with t s ((j - d) % 4096) (raw_of_parts w frames j cycle s.parts))) (recorded_cycle t records frames j h recorded)
-      ∙ ap (λ raw. Some (row_with t s ((j - d) % 4096) raw)) (recorded_raw n s got ends)
+      let e = reach w s.parts in
+      cond-true _ _ _ (recorded_joined t records frames n j d h are e near)
+      ∙ ap (λ counter. Some (row_with t s counter (raw_of_parts w frames n (cycle_of_frame t.frame (frame_at frames n).words) s.parts)))
+      (recorded_counter t records frames n j d h are e near)
+      ∙ ap (λ cycle. Some (row_with t s ((j - e) % 4096) (raw_of_parts w frames n cycle s.parts))) (recorded_cycle t records frames n j d h are)
+      ∙ ap (λ raw. Some (row_with t s ((j - e) % 4096) raw)) (recorded_raw k s got ends near)
 
-  -- the rows of frame j
-  pub recorded_rows : rows_of_frame t frames j ≡ sampled_rows t records j
-  unfolding rows_of_frame rows_looked_at sampled_rows
-  recorded_rows =
-      let some = word_count_some t.frame.words h.words in
+  -- the row of each sample that ends in this frame's cycle and lies within the recorded frames
+  row_of_each :
+      All (λ (s : Sample). reach t.frame.words s.parts ≤ d → row_of t frames n s ≡ Some (sampled_row t records j s)) (ending_in t (j % 16))
+  row_of_each k d' l =
+      let at = ending_in-samples t (j % 16) k d' l in
+      λ near. recorded_row at.0 _ (contained_get (samples t) _ at) (ending_in_ends t (j % 16) (word_count_some t.frame.words h.words) k d' l) near
+
+  -- no sample reaches further back than its superframe
+  reach_within : All (λ (s : Sample). reach t.frame.words s.parts ≤ j % 16) (ending_in t (j % 16))
+  reach_within k d' l = let ends = ending_in_ends t (j % 16) (word_count_some t.frame.words h.words) k d' l in omega (arith, ends.last)
+
+  rows_by_cycle : rows_of_frame t frames n ≡ filter_map (λ (r : Option Row). r) (map (row_of t frames n) (ending_in t (j % 16)))
+  unfolding rows_of_frame rows_looked_at
+  rows_by_cycle = ap (λ cycle. filter_map (λ (r : Option Row). r) (map (row_of t frames n) (ending_in t cycle))) (recorded_cycle t records frames n j d h are)
+
+  -- where the whole superframe up to frame j is recorded, the rows of frame n are the sampled ones
+  pub recorded_rows : j % 16 ≤ d → rows_of_frame t frames n ≡ sampled_rows t records j
+  unfolding sampled_rows
+  recorded_rows whole =
       let ending = ending_in t (j % 16) in
-      ap (λ cycle. filter_map (λ (r : Option Row). r) (map (row_of t frames j) (ending_in t cycle))) (recorded_cycle t records frames j h recorded)
-      ∙ ap (filter_map (λ (r : Option Row). r)) (map-agree (row_of t frames j) (λ s. Some (sampled_row t records j s)) ending
-      (λ k d l. let at = ending_in-samples t (j % 16) k d l in recorded_row at.0 _ (contained_get (samples t) _ at) (ending_in_ends t (j % 16) some k d l)))
+      rows_by_cycle
+      ∙ ap (filter_map (λ (r : Option Row). r)) (map-agree (row_of t frames n) (λ s. Some (sampled_row t records j s)) ending
+      (λ k d' l. row_of_each k d' l (omega (arith, reach_within k d' l))))
       ∙ filter_map-some (sampled_row t records j) ending
+
+  -- and wherever the recorded frames begin, those that were sampled from there on are among them
+  pub recorded_since : (first : ℕ) → first + d ≡ j → AreAmong (sampled_since t records first j) (rows_of_frame t frames n)
+  unfolding sampled_since
+  recorded_since first begins =
+      let ending = ending_in t (j % 16) in
+      let inside : Sample → Bool = λ s. nat_le (first + reach t.frame.words s.parts) j in
+      subst (AreAmong (map (sampled_row t records j) (filter inside ending))) (sym rows_by_cycle)
+      (among_filtered inside (row_of t frames n) (sampled_row t records j) ending
+      (λ k d' l. λ test. row_of_each k d' l (omega (arith, leb-true _ _ test))))

@@ -61,11 +61,13 @@ module _ (t : TableRows) (records : List BusRecord) (h : IsRecordable t) where
       ∙ and_from (ltb 0 p) (eqb p p) (lt-ltb 0 p (omega arith)) (eq-eqb p p (omega arith))
 
   -- so the frames up to a whole one are read as they were recorded
-  are_recorded : (j : ℕ) → j < whole_frames t records → AreRecorded t records (frames_read (j + 1)) j
+  are_recorded : (j : ℕ) → j < whole_frames t records → AreRecorded t records (frames_read (j + 1)) j j j
   are_recorded j early = record {
-    words = λ i place low within. ap (λ (r : ReadFrame). slice_index r.words place) (frame_at-read (j + 1) i (omega arith))
-        ∙ words_read i place (omega arith) within;
-    adjacent = λ i later low. ap (λ (r : ReadFrame). r.adjacent) (frame_at-read (j + 1) i (omega arith)) ∙ adjacent_read i later (omega arith);
+    read = omega arith;
+    recorded = omega arith;
+    words = λ e place near within. ap (λ (r : ReadFrame). slice_index r.words place) (frame_at-read (j + 1) (j - e) (omega arith))
+        ∙ words_read (j - e) place (omega arith) within;
+    adjacent = λ e near. ap (λ (r : ReadFrame). r.adjacent) (frame_at-read (j + 1) (j - e) (omega arith)) ∙ adjacent_read (j - e) (omega arith) (omega arith);
   }
 
   -- the accepted frames up to frame j are frames 0 to j
@@ -87,7 +89,7 @@ module _ (t : TableRows) (records : List BusRecord) (h : IsRecordable t) where
       let last : length (frame_places w (j + 1)) - 1 ≡ j = omega (arith, length-map-range_with_len (frame_place w) 0 (j + 1)) in
       ap (λ (xs : List ℕ). rows_of_frame t (map (frame_read b w) xs) (length xs - 1)) (accepted_to_frame j early)
       ∙ ap (rows_of_frame t (map (frame_read b w) (frame_places w (j + 1)))) last
-      ∙ recorded_rows t records (frames_read (j + 1)) j h (are_recorded j early)
+      ∙ recorded_rows t records (frames_read (j + 1)) j j j h (are_recorded j early) (omega arith)
 
   -- and so are their lines
   pub lines_read : (j : ℕ) → j < whole_frames t records → lines_of t (stream_of t records) (Frame (frame_place t.frame.words j)) ≡ sampled_lines t records j

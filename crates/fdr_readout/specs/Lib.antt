@@ -1,3 +1,4 @@
 pub mod Listing
 pub mod FramesSoFar
 pub mod SampledRows
+pub mod Survival

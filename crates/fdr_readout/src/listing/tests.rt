@@ -19,7 +19,7 @@ L,ALT,1,1,10,0,1,12,0,1
 ";
 
 /// More bytes than any of the lines has.
-const MANY: usize = 1000;
+const MANY: usize = 2000;
 
 /// A frame of four subframes of 64 words: its counter, and words 10 and 20 of its first subframe.
 fn frame_of(counter: u16, altitude: u16, position: u16) -> [u16; 256]
@@ -75,6 +75,28 @@ fn lists_the_values_of_two_frames(rt: HostRuntime) -> Result<(), Fail> {
     assert_eq!(rt;
         text.as_slice(),
         b"row,0,1,10,ALT,-0.1\nrow,1,1,10,ALT,0.0\nrow,0,1,20,POS,703710\n".as_slice()
+    );
+    Ok(())
+}
+
+// The last frame of one superframe and two of the next, of which the first is cut: a byte of it is missing.
+#[test]
+fn lists_what_survives_a_cut(rt: HostRuntime) -> Result<(), Fail> {
+    let alloc = rt.alloc();
+    let mut frames = Vec::new(alloc);
+    add_frame(&mut frames, &frame_of(15, 5, 0))?;
+    add_frame(&mut frames, &frame_of(16, 0xfff, 0xcde))?;
+    add_frame(&mut frames, &frame_of(17, 0, 0xab))?;
+    let mut bytes = Vec::new(alloc);
+    for (i, byte) in frames.iter().enumerate() {
+        if i != 100 {
+            bytes.push(*byte)?;
+        }
+    }
+    let text = listing(alloc, &bytes)?;
+    assert_eq!(rt;
+        text.as_slice(),
+        b"gap,0,3064\nrow,16,1,10,ALT,-0.1\nrow,17,1,10,ALT,0.0\nrow,16,1,20,POS,703710\n".as_slice()
     );
     Ok(())
 }
