@@ -79,7 +79,7 @@ def functions(path):
             contract = []
             while at < len(lines):
                 text = lines[at][len(indent):]
-                if text == "{" or text == "}":
+                if text in ("{", "}", "{}"):
                     break
                 ends = text.endswith((" {", ";")) and not text.startswith(("    ensures", "    requires", "        "))
                 contract.append(text.removesuffix(" {").removesuffix(";") if ends else text)
@@ -257,10 +257,11 @@ def outcomes():
     """The statuses and texts of the outcomes, as specs/Outcome of fdr_top has them."""
     text = (CRATES / "fdr_top" / "specs" / "Outcome.antt").read_text()
     statuses = dict(re.findall(r"^status_of \(?outcome\.(\w+)[^=]*= (\d+)", text, re.M))
-    texts = re.findall(r"^text_of \(?outcome\.(\w+)[^=]*= (.*)", text, re.M)
+    bodies = dict(re.findall(r"^(\w+_text) [^=]*= (.*)", text, re.M))
     inputs = re.findall(r'^input_text \S+ = codes "(.*)"', text, re.M)
-    for name, says in texts:
-        words = re.sub(r"decimal row", '"ROW"', re.sub(r"decimal index", '"INDEX"', re.sub(r"\w+ f$", '"FAULT"', says)))
+    for name, says in re.findall(r"^text_of \(?outcome\.(\w+)[^=]*= (.*)", text, re.M):
+        words = bodies[says.split()[0]] if says.startswith("words_text") else says
+        words = re.sub(r"decimal (\w+)", lambda number: f'"{number[1].upper()}"', re.sub(r"\w+ f$", '"FAULT"', words))
         for line in inputs if "input_text" in says else ["".join(re.findall(r'"(.*?)"', words))]:
             yield statuses[name], line
 

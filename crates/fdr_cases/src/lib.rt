@@ -6,7 +6,10 @@ mod fixtures;
 use fdr_deck::MemDeck;
 use fdr_io::{MemSink, MemSource};
 use fdr_top::{Outcome, run};
-pub use fixtures::{ALTITUDE, END_AT_4000000, WORD_AT_0};
+pub use fixtures::{
+    ALTITUDE, END_AT_4000000, END_AT_4000001, END_AT_8000000, ORDINARY, POSITION_AT_0,
+    POSITION_AT_1000000, TWO_PARTS, WORD_AT_0, WORD_AT_4000000, frame_with,
+};
 use std::alloc::{AllocError, Global};
 
 /// What a command answered and wrote.

@@ -1,44 +1,10 @@
-use fdr_cases::{END_AT_4000000, WORD_AT_0, deck_of, run_words};
+use fdr_cases::{
+    END_AT_4000000, END_AT_8000000, ORDINARY, POSITION_AT_0, POSITION_AT_1000000, TWO_PARTS,
+    WORD_AT_0, deck_of, run_words,
+};
 use fdr_top::Outcome;
 use std::alloc::{AllocError, Global};
 use std::test::Fail;
-
-/// A position in two parts, the second one frame behind the first, beside an altitude.
-const TWO_PARTS: &str = "F,64,2,1
-P,POS,1,310,,9,20,U,1,1,0,0,1
-L,POS,1,1,20,0,1,12,0,16
-L,POS,2,1,20,0,1,8,1,16
-P,ALT,0,203,,11,12,U,1,1,0,0,16
-L,ALT,1,1,10,0,1,12,0,1
-";
-
-/// A table of ordinary use, with seven parameters.
-const ORDINARY: &str = "F,256,256,4
-P,ALT,0,203,0,12,18,S,1,1,0,0,64
-L,ALT,1,1234,20,0,1,12,0,1
-L,ALT,2,1234,21,0,1,6,0,1
-P,IAS,0,206,,17,12,U,1,2,0,1,64
-L,IAS,1,1234,30,0,1,12,0,1
-P,VRTG,1,333,,17,12,S,1,1,0,3,512
-L,VRTG,1,1234,8,32,1,12,0,1
-P,FLT,2,260,,11,12,U,1,1,0,0,1
-L,FLT,1,2,100,0,1,12,0,16
-P,GEAR,3,270,,11,1,U,1,1,0,0,64
-L,GEAR,1,1234,21,0,7,1,0,1
-P,HDG,1,320,,17,12,U,1,1,0,0,32
-L,HDG,1,13,50,0,1,12,0,1
-P,PIT,1,324,,17,12,S,1,1,0,1,32
-L,PIT,1,12,51,0,1,12,0,1
-";
-
-// Words of label 310 with hexadecimal ABCDE and with 1, and an end.
-const POSITION_AT_0: [u8; 16] = [1, 1, 0, 0, 0x8a, 0xbc, 0xde, 0x13, 0, 0, 0, 0, 0, 0, 0, 0];
-
-const POSITION_AT_1000000: [u8; 16] = [
-    1, 1, 0, 0, 0x80, 0, 0x01, 0x13, 0, 0, 0, 0, 0, 0x0f, 0x42, 0x40,
-];
-
-const END_AT_8000000: [u8; 16] = [2, 0, 0, 0, 0, 0, 0, 0, 0, 0, 0, 0, 0, 0x7a, 0x12, 0];
 
 // Words of the ordinary table at the start: -3 feet, 125.5 knots, -0.25 g, gear down.
 const ORDINARY_WORDS: [[u8; 16]; 4] = [

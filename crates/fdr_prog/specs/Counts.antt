@@ -1,6 +1,6 @@
 -- What is seen of the deck of a program.
-use Rattle.std.specs.Prelude.{ℕ, List, [], false}
-use Rattle.std.proofs.Common.{refl, arith}
+use Rattle.std.specs.Prelude.{ℕ, [], false}
+use Rattle.std.proofs.Common.{arith}
 use Rattle.fdr_deck.specs.State.{State, Tells}
 use Rattle.fdr_deck.specs.Moments.{IsSoundDeck}
 use Rattle.fdr_deck.specs.Announced.{least_announced, greatest_announced}

@@ -77,6 +77,11 @@ impl<'a, R: Files<File = File>, L: Read + Drop, A: Write + Drop> FileDeck<'a, R,
             line_faults: 0,
         }
     }
+
+    /// Undoes what `provide` did to the file.
+    pub fn discard(self) {
+        self.image.discard();
+    }
 }
 
 impl<R: Files<File = File>, L: Read + Drop, A: Write + Drop> Deck for FileDeck<'_, R, L, A> {

@@ -29,6 +29,15 @@ pub struct ImageFile<'a, R: Files<File = File>> {
     writes: bool,
     file: Option<File>,
     extent: u64,
+    provided: Provided,
+}
+
+// What `provide` did to the file.
+#[derive(Clone, Copy)]
+enum Provided {
+    Nothing,
+    Filled,
+    Made,
 }
 
 impl<'a, R: Files<File = File>> Model for ImageFile<'a, R> {
@@ -53,6 +62,7 @@ impl<'a, R: Files<File = File>> ImageFile<'a, R> {
             writes,
             file: None,
             extent: 0,
+            provided: Provided::Nothing,
         }
     }
 
@@ -110,8 +120,8 @@ impl<'a, R: Files<File = File>> ImageFile<'a, R> {
     }
 
     /// Makes the file, with this many zeros, and makes durable that it and its name are there. Their room is taken now.
-    /// A file that is there and empty is filled. After an error no file is left that this call made, and one that was
-    /// empty is empty. Where the length is known and isn't 0, this does nothing.
+    /// A file that is there and empty is filled. Where the length is known and isn't 0, this does nothing. `discard`
+    /// undoes it, after an error too.
     pub fn provide(&mut self, size: u64) -> io::Result<()>
         ensures ok { OnOk result (self.old ≡ 0 → self.new ≡ size) }
         ensures known { 0 < self.old → self.new ≡ self.old }
@@ -121,18 +131,22 @@ impl<'a, R: Files<File = File>> ImageFile<'a, R> {
             return Ok(());
         }
         let folder = self.open_folder()?;
-        let (file, is_made) = self.take_empty()?;
-        if let Err(error) = fill(&file, size, &folder) {
-            let _ = if is_made {
-                fs::remove_file(self.files, self.path)
-            } else {
-                file.set_len(0)
-            };
-            return Err(error);
-        }
+        let file = self.take_empty()?;
+        let filled = fill(&file, size, &folder);
         self.file = Some(file);
+        filled?;
         self.extent = size;
         Ok(())
+    }
+
+    /// Undoes what `provide` did: a file that it made is removed, and one that it filled is empty again. The lock is held
+    /// until then, so that no other run has begun to use the file.
+    pub fn discard(mut self) {
+        let _ = match self.provided {
+            Provided::Nothing => Ok(()),
+            Provided::Filled => self.with_file(|file| file.set_len(0)),
+            Provided::Made => fs::remove_file(self.files, self.path),
+        };
     }
 
     // The folder that has the file's name.
@@ -144,17 +158,21 @@ impl<'a, R: Files<File = File>> ImageFile<'a, R> {
         open(self.files, OpenOptions::new().read(true), folder)
     }
 
-    // The file, which is empty, and whether this call made it.
-    fn take_empty(&mut self) -> io::Result<(File, bool)>
+    // The file, which is there and empty, or is made.
+    fn take_empty(&mut self) -> io::Result<File>
         ensures same { self.new ≡ self.old }
-        ensures apart { IfOk result (λ taken. IsApart taken.0) }
+        ensures apart { IfOk result IsApart }
     {
-        match self.take_file() {
-            Ok(file) if file.metadata()?.len() == 0 => Ok((file, false)),
-            Ok(_) => Err(io::Error::from(ErrorKind::AlreadyExists)),
-            Err(error) if error.kind() == ErrorKind::NotFound => Ok((self.open(true)?, true)),
-            Err(error) => Err(error),
+        let (file, provided) = match self.take_file() {
+            Ok(file) => (file, Provided::Filled),
+            Err(error) if error.kind() == ErrorKind::NotFound => (self.open(true)?, Provided::Made),
+            Err(error) => return Err(error),
+        };
+        if file.metadata()?.len() > 0 {
+            return Err(io::Error::from(ErrorKind::AlreadyExists));
         }
+        self.provided = provided;
+        Ok(file)
     }
 
     /// Fills the buffer with the bytes from `at` on.

@@ -37,7 +37,8 @@ fn outcome_of_words(error: io::Error) -> Outcome {
     }
 }
 
-/// Runs the command over the files that its words name and the standard streams.
+/// Runs the command over the files that its words name and the standard streams. Where not all was done, no image is left
+/// that it made.
 fn run_on_files(rt: &HostRuntime, words: &[String]) -> Outcome {
     let request = match read_words(rt.alloc(), words) {
         Ok(request) => request,
@@ -48,7 +49,11 @@ fn run_on_files(rt: &HostRuntime, words: &[String]) -> Outcome {
     let image = ImageFile::new(rt, request.image().unwrap_or(""), request.writes());
     let mut deck = FileDeck::new(image, rt.stdin(), rt.stderr());
     let mut out = OutSink::new(rt.stdout());
-    run(rt.alloc(), words, &mut table, &mut deck, &mut out)
+    let outcome = run(rt.alloc(), words, &mut table, &mut deck, &mut out);
+    if !matches!(&outcome, Outcome::Done) {
+        deck.discard();
+    }
+    outcome
 }
 
 /// Tells the outcome on standard error. That it can't be told changes nothing of it.

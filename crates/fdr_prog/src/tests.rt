@@ -71,8 +71,18 @@ fn deck_over<'a, R: Files<File = File>>(
     FileDeck::new(ImageFile::new(files, path, writes), b"".as_slice(), sink())
 }
 
-fn make_at(files: &impl Files<File = File>, path: &str, writes: bool) -> Result<(), Failed> {
-    make_some(&mut deck_over(files, path, writes))
+// As the program does it: what was made is discarded where not all was done.
+fn make_at<'a, R: Files<File = File>>(
+    files: &'a R,
+    path: &'a str,
+    writes: bool,
+) -> Result<(), Failed> {
+    let mut deck = deck_over(files, path, writes);
+    let outcome = make_some(&mut deck);
+    if outcome.is_err() {
+        deck.discard();
+    }
+    outcome
 }
 
 fn size_at(rt: &HostRuntime, path: &str, writes: bool) -> Result<u64, Failed> {
@@ -210,6 +220,35 @@ fn an_image_that_cannot_be_made_leaves_no_file(rt: HostRuntime) -> Result<(), Fa
         assert_eq!(rt; fs::metadata(&rt, path)?.len(), 0);
         fs::remove_file(&rt, path)?;
     }
+    Ok(())
+}
+
+// Makes an image, whose file then becomes shorter, and writes to it; discards it, and tells which of the two was done.
+fn make_and_fail<'a>(rt: &'a HostRuntime, path: &'a str) -> Result<(bool, bool), Fail> {
+    let mut deck = deck_over(rt, path, true);
+    let is_made = make_some(&mut deck).is_ok();
+    fs::write(rt, path, b"abc".as_slice())?;
+    let is_written = store_some(&mut deck).is_ok();
+    deck.discard();
+    Ok((is_made, is_written))
+}
+
+#[test]
+fn an_image_whose_header_cannot_be_written_is_discarded(rt: HostRuntime) -> Result<(), Fail> {
+    let path = "undone.bin";
+    assert_eq!(rt; make_and_fail(&rt, path)?, (true, false));
+    assert!(rt; !fs::exists(&rt, path)?);
+    // One that was there stays, and is empty.
+    fs::write(&rt, path, b"".as_slice())?;
+    assert_eq!(rt; make_and_fail(&rt, path)?, (true, false));
+    assert_eq!(rt; fs::metadata(&rt, path)?.len(), 0);
+    // One that is only looked at, or that had bytes, stays as it is.
+    fs::write(&rt, path, b"used".as_slice())?;
+    let mut deck = deck_over(&rt, path, true);
+    assert_eq!(rt; measure(&mut deck), Ok(4));
+    deck.discard();
+    assert_eq!(rt; fs::read(&rt, path)?.as_slice(), b"used".as_slice());
+    fs::remove_file(&rt, path)?;
     Ok(())
 }
 

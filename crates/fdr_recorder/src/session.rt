@@ -2,7 +2,7 @@
 
 ghost use Rattle.std.specs.Prelude.{◌≡◌, ◌≢◌, ◌⊎◌, ◌↔◌, ◌<◌, ◌≤◌, ◌^◌, ◌+◌, ℕ, [], ◌∷◌, ◌++◌, Err, Some, None, length, IfOk, OnOk, OnErr, IsTrue};
 ghost use Rattle.fdr_io.specs.Faults.{Rose};
-ghost use Rattle.fdr_deck.specs.Disk.{KeepsDisk};
+ghost use Rattle.fdr_deck.specs.Disk.{KeepsDisk, LearnsExtent};
 ghost use Rattle.fdr_deck.specs.Calls.{KeepsTold};
 ghost use Rattle.fdr_slot.specs.declared.image.ImageFault.{ImageFault};
 ghost use Rattle.fdr_slot.specs.declared.image.ImageFault.TheVariants as image_fault;
@@ -57,6 +57,7 @@ impl Session {
         ensures started { IfOk result (λ s. IsStarted D.tells sound.now s (D.state deck.old) (D.state deck.new)) }
         ensures starts { Starts D.tells (header_in (D.state deck.old).held) (D.state deck.old) (D.state deck.new) }
         ensures refused { OnErr result (KeepsTold (D.state deck.old) (D.state deck.new)) }
+        ensures learns { LearnsExtent D.tells (D.state deck.old) (D.state deck.new) }
         ensures untouched { result ≢ Err SessionFault.DiskFault
             → OnErr result (KeepsDisk (D.state deck.old) (D.state deck.new)) }
         ensures quiet { result ≢ Err SessionFault.DiskFault

@@ -1,5 +1,5 @@
 -- What recovering an image leaves and answers.
-use Rattle.std.proofs.Common.{◌≡◌, ◌≢◌, ◌⊎◌, inl, inr, ℕ, ◌<◌, List, Option, Some, None, ap, sym, refl, ◌∙◌, subst}
+use Rattle.std.proofs.Common.{◌≡◌, ◌≢◌, ◌⊎◌, ⊎_elim, inl, inr, ℕ, ◌<◌, List, Option, Some, None, ap, sym, refl, ◌∙◌, subst}
 use Rattle.std.specs.Prelude.{IsTrue, ◌↔◌, take}
 use Rattle.fdr_io.specs.Faults.{Rose}
 use Rattle.fdr_io.specs.Told.{followed_by}
@@ -19,11 +19,12 @@ use Rattle.fdr_deck.proofs.Moments.{IsQuiet-here}
 use Rattle.fdr_deck.proofs.Quiet.{IsQuiet-then}
 use Rattle.fdr_top.specs.declared.outcome.Outcome.{Outcome}
 use Rattle.fdr_top.specs.declared.outcome.Outcome.TheVariants as outcome
-use Rattle.fdr_top.specs.Answers.{IsOfRecovery}
+use Rattle.fdr_words.specs.Forms.{recover_image}
+use Rattle.fdr_top.specs.Answers.{IsOwn}
 use Rattle.fdr_top.specs.Recover.{OnlyLooks, Recovers, RecoversImage, header_refusal, payloads_of, run_in}
 
 -- one look behind another
-OnlyLooks-then : (tells : Tells) (old mid new : State) → IsSoundDeck tells old → OnlyLooks tells old mid → Looks tells mid new → OnlyLooks tells old new
+pub OnlyLooks-then : (tells : Tells) (old mid new : State) → IsSoundDeck tells old → OnlyLooks tells old mid → Looks tells mid new → OnlyLooks tells old new
 OnlyLooks-then tells old mid new sound first second = record {
   learns = record {
     bytes = λ told. second.extent ∙ first.learns.bytes told;
@@ -55,7 +56,7 @@ nothing_recovered tells old new written answer looks undone good refused small c
   cause = cause;
 }
 
-same_fault : (a b : ImageFault) → outcome.ImageRefused a ≡ outcome.ImageRefused b → a ≡ b
+pub same_fault : (a b : ImageFault) → outcome.ImageRefused a ≡ outcome.ImageRefused b → a ≡ b
 same_fault a b same = cc
 
 -- where the header isn't read
@@ -96,25 +97,24 @@ run_recovered tells old mid new h before now answer sound first second header go
     }
 
 -- where the image is refused, so it is answered, unless the disk failed or memory ended
-pub refusal_answered : (tells : Tells) (old new : State) (before now : Option (List ℕ)) (answer : Outcome) (why : ImageFault) → IsOfRecovery answer
-    → Recovers tells old new before now answer → answer ≢ outcome.NoMemory
+pub refusal_answered : (path : List ℕ) (tells : Tells) (old new : State) (before now : Option (List ℕ)) (answer : Outcome) (why : ImageFault)
+    → (answer ≡ outcome.NoMemory) ⊎ IsOwn (recover_image path) answer → Recovers tells old new before now answer → answer ≢ outcome.NoMemory
     → IsTrue tells.bytes → image_fault_of old.held ≡ Some why → (answer ≡ outcome.ImageRefused why) ⊎ (answer ≡ outcome.DiskFault)
-refusal_answered tells old new before now outcome.Done why of recovers left told first =
+refusal_answered path tells old new before now outcome.Done why of recovers left told first =
     absurd (let c : ◌≡◌ {A = Option ImageFault} None (Some why) = sym (recovers.good (λ e. absurd (cc)) (λ w e. absurd (cc)) told) ∙ first in cc)
-refusal_answered tells old new before now outcome.Usage why of recovers left told first = absurd of
-refusal_answered tells old new before now (outcome.TableRefused row f) why of recovers left told first = absurd of
-refusal_answered tells old new before now (outcome.TraceRefused index found) why of recovers left told first = absurd of
-refusal_answered tells old new before now (outcome.ImageRefused found) why of recovers left told first =
+refusal_answered path tells old new before now (outcome.ImageRefused found) why of recovers left told first =
     let same : ◌≡◌ {A = Option ImageFault} (Some found) (Some why) = sym (recovers.refused found refl told) ∙ first in
     inl (let e : found ≡ why = cc in ap outcome.ImageRefused e)
-refusal_answered tells old new before now outcome.NotEmpty why of recovers left told first = absurd of
-refusal_answered tells old new before now (outcome.ReadFault input.Table) why of recovers left told first = absurd of
-refusal_answered tells old new before now (outcome.ReadFault input.Line) why of recovers left told first = absurd of
-refusal_answered tells old new before now outcome.WriteFault why of recovers left told first =
+refusal_answered path tells old new before now outcome.WriteFault why of recovers left told first =
     absurd (let c : ◌≡◌ {A = Option ImageFault} None (Some why) = sym (recovers.good (λ e. absurd (cc)) (λ w e. absurd (cc)) told) ∙ first in cc)
-refusal_answered tells old new before now outcome.DiskFault why of recovers left told first = inr refl
-refusal_answered tells old new before now outcome.TooLong why of recovers left told first = absurd of
-refusal_answered tells old new before now outcome.NoMemory why of recovers left told first = absurd (left refl)
+refusal_answered path tells old new before now outcome.DiskFault why of recovers left told first = inr refl
+refusal_answered path tells old new before now outcome.NoMemory why of recovers left told first = absurd (left refl)
+refusal_answered path tells old new before now (outcome.ReadFault input.Table) why of recovers left told first =
+    ⊎_elim (λ memory. absurd (left memory)) (λ own. absurd own) of
+refusal_answered path tells old new before now (outcome.ReadFault input.Line) why of recovers left told first =
+    ⊎_elim (λ memory. absurd (left memory)) (λ own. absurd own) of
+refusal_answered path tells old new before now answer why of recovers left told first =
+    ⊎_elim (λ memory. absurd (left memory)) (λ own. absurd own) of
 
 -- where memory ends before the disk is looked at
 pub recovers_nothing : (tells : Tells) (d : State) (written : Option (List ℕ)) → IsSoundDeck tells d

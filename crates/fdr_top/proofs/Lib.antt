@@ -11,3 +11,11 @@ pub mod Images
 pub mod Making
 pub mod ItsTable
 pub mod Answering
+pub mod Lag
+pub mod NewBlocks
+pub mod Sessions
+pub mod SessionEnds
+pub mod RecordLines
+pub mod Readable
+pub mod ListedRuns
+pub mod ListedImages

@@ -1,5 +1,5 @@
 -- The stream as further good records come.
-use Rattle.std.proofs.Common.{◌≡◌, ℕ, ◌*◌, ◌/◌, ◌≤◌, ⊎_elim, true, false, List, [], ◌∷◌, ◌++◌, length, take, ap, sym, ◌∙◌, subst, append_assoc, arith}
+use Rattle.std.proofs.Common.{◌≡◌, ℕ, ◌*◌, ◌/◌, ◌≤◌, ⊎_elim, true, false, List, [], ◌∷◌, ◌++◌, length, take, ap, refl, sym, ◌∙◌, subst, append_assoc, arith}
 use Rattle.std.proofs.lemmas.Bool.{cases_Bool}
 use Rattle.std.proofs.lemmas.List.{append-nil}
 use Rattle.fdr_bus.specs.declared.BusRecord.{BusRecord}
@@ -51,3 +51,19 @@ pub stream_of-good : (t : TableRows) (bytes : List ℕ) (records later : List Bu
 stream_of-good t bytes records later n good few =
     let order : Rises 0 (records ++ later) = subst (Rises 0) good (InOrder-good_prefix bytes) in
     ap (λ (x : List BusRecord). take n (stream_of t x)) good ∙ stream_of-longer t records later n (InOrder-rest 0 records later order) few
+
+time_after-append : (before : ℕ) (records later : List BusRecord)
+    → time_after before (records ++ later) ≡ time_after (time_after before records) later
+time_after-append before [] later = refl
+time_after-append before (r ∷ records) later = time_after-append r.time records later
+
+later-grows : (before : ℕ) (later : List BusRecord) → Rises before later → before ≤ time_after before later
+later-grows before [] order = omega arith
+later-grows before (r ∷ later) order = omega (arith, order.0, later-grows r.time later order.1)
+
+-- so the first good records end no later than all
+pub time-grows : (bytes : List ℕ) (records later : List BusRecord) → good_prefix bytes ≡ records ++ later
+    → time_of records ≤ time_of (good_prefix bytes)
+time-grows bytes records later good =
+    let order : Rises 0 (records ++ later) = subst (Rises 0) good (InOrder-good_prefix bytes) in
+    omega (arith, later-grows (time_of records) later (InOrder-rest 0 records later order), time_after-append 0 records later, ap time_of good)

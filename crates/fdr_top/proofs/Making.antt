@@ -15,11 +15,11 @@ use Rattle.fdr_top.specs.declared.outcome.Outcome.TheVariants as outcome
 use Rattle.fdr_top.proofs.TableAnswers.{past_not_memory, table_not_past}
 
 -- the table of a source that tells it, or any
-table_or : Option (List ℕ) → TableRows
+pub table_or : Option (List ℕ) → TableRows
 table_or None = table_in []
 table_or (Some bytes) = table_in bytes
 
-table_told : (rest : Option (List ℕ)) (bytes : List ℕ) → rest ≡ Some bytes → table_or rest ≡ table_in bytes
+pub table_told : (rest : Option (List ℕ)) (bytes : List ℕ) → rest ≡ Some bytes → table_or rest ≡ table_in bytes
 unfolding table_or
 table_told rest bytes told = rw told refl
 

@@ -63,7 +63,7 @@ IsStreamedTo-end t tells a c k bytes records r before now pulls good ends stream
   pulled = bytes;
   pulls = pulls;
   streamed = subst (λ (x : List BusRecord). IsStreamed k t x before now) (sym good) streamed;
-  of_trace = tt;
+  own = λ path. tt;
   whole = λ e. absurd (cc);
   ended = λ e. ap has_end good ∙ has_end-push records r ends;
   refused = λ index why e. absurd (cc);
@@ -78,11 +78,11 @@ abbrev refusal_of : Outcome → Option (ℕ × TraceFault)
 refusal_of (outcome.TraceRefused index why) = Some (index, why)
 refusal_of answer = None
 
-same_refusal : (index i : ℕ) (why w : TraceFault) → outcome.TraceRefused index why ≡ outcome.TraceRefused i w
+pub same_refusal : (index i : ℕ) (why w : TraceFault) → outcome.TraceRefused index why ≡ outcome.TraceRefused i w
     → ◌≡◌ {A = Option (ℕ × TraceFault)} (Some (index, why)) (Some (i, w))
 same_refusal index i why w e = ap refusal_of e
 
-same_cause : (index i : ℕ) (why w : TraceFault) → outcome.TraceRefused index why ≡ outcome.TraceRefused i w → why ≡ w
+pub same_cause : (index i : ℕ) (why w : TraceFault) → outcome.TraceRefused index why ≡ outcome.TraceRefused i w → why ≡ w
 same_cause index i why w e = cc
 
 -- where no further record comes
@@ -94,7 +94,7 @@ IsStreamedTo-stop t tells a b c k bytes more records (stop.Refused index why) be
   pulled = bytes ++ more;
   pulls = PullsMore-next tells a b c bytes more first second;
   streamed = subst (λ (x : List BusRecord). IsStreamed k t x before now) (sym stopped.good) streamed;
-  of_trace = tt;
+  own = λ path. tt;
   whole = λ e. absurd (cc);
   ended = λ e. absurd (cc);
   refused = λ i w e. stopped.first ∙ same_refusal index i why w e;
@@ -107,7 +107,7 @@ IsStreamedTo-stop t tells a b c k bytes more records stop.Failed before now firs
   pulled = bytes ++ more;
   pulls = PullsMore-next tells a b c bytes more first second;
   streamed = subst (λ (x : List BusRecord). IsStreamed k t x before now) (sym stopped.good) streamed;
-  of_trace = tt;
+  own = λ path. tt;
   whole = λ e. absurd (cc);
   ended = λ e. absurd (cc);
   refused = λ i w e. absurd (cc);

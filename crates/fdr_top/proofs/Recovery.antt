@@ -53,7 +53,7 @@ payload_in_run h image first next number found low high =
     (omega (arith, found.count)) (omega (arith, same, found.count, found.is_next))
 
 -- the payload of one more block
-one_more : (h : Header) (image : List ℕ) (first next number : ℕ) → IsFoundRun h image first next → first ≤ number → number < next
+pub one_more : (h : Header) (image : List ℕ) (first next number : ℕ) → IsFoundRun h image first next → first ≤ number → number < next
     → payloads_of (take (number + 1 - first) (recovered_run h image)) ≡ payloads_of (take (number - first) (recovered_run h image)) ++ payload_at h image number
 one_more h image first next number found low high =
     let run = recovered_run h image in

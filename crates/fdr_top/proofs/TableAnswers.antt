@@ -76,18 +76,10 @@ taken_to_end old (Some left) taken bytes whole end told few = ap Some (end (omeg
 pub memory_is_left : (answer : Outcome) → IsOfTable answer → ((row : ℕ) (f : TableFault) → answer ≡ outcome.TableRefused row f → ⊥)
     → (answer ≡ outcome.ReadFault input.Table → ⊥)
     → (answer ≡ outcome.Done) ⊎ (answer ≡ outcome.NoMemory)
-memory_is_left outcome.Done of_table refused failed = inl refl
-memory_is_left outcome.Usage of_table refused failed = absurd of_table
 memory_is_left (outcome.TableRefused row f) of_table refused failed = absurd (refused row f refl)
-memory_is_left (outcome.TraceRefused index why) of_table refused failed = absurd of_table
-memory_is_left (outcome.ImageRefused why) of_table refused failed = absurd of_table
-memory_is_left outcome.NotEmpty of_table refused failed = absurd of_table
 memory_is_left (outcome.ReadFault input.Table) of_table refused failed = absurd (failed refl)
-memory_is_left (outcome.ReadFault input.Line) of_table refused failed = absurd of_table
-memory_is_left outcome.WriteFault of_table refused failed = absurd of_table
-memory_is_left outcome.DiskFault of_table refused failed = absurd of_table
-memory_is_left outcome.TooLong of_table refused failed = absurd of_table
 memory_is_left outcome.NoMemory of_table refused failed = inr refl
+memory_is_left answer of_table refused failed = absurd of_table
 
 -- an answer past the table isn't want of memory
 pub past_not_memory : (answer : Outcome) → IsPastTable answer → answer ≡ outcome.NoMemory → ⊥
@@ -95,18 +87,10 @@ past_not_memory answer past e = rw e at past
 
 -- an answer of the table isn't past it
 pub table_not_past : (answer : Outcome) → IsOfTable answer → IsPastTable answer → ⊥
-table_not_past outcome.Done of_table past = of_table
-table_not_past outcome.Usage of_table past = past
 table_not_past (outcome.TableRefused row f) of_table past = past
-table_not_past (outcome.TraceRefused index why) of_table past = of_table
-table_not_past (outcome.ImageRefused why) of_table past = of_table
-table_not_past outcome.NotEmpty of_table past = of_table
 table_not_past (outcome.ReadFault input.Table) of_table past = past
-table_not_past (outcome.ReadFault input.Line) of_table past = of_table
-table_not_past outcome.WriteFault of_table past = of_table
-table_not_past outcome.DiskFault of_table past = of_table
-table_not_past outcome.TooLong of_table past = of_table
 table_not_past outcome.NoMemory of_table past = past
+table_not_past answer of_table past = of_table
 
 -- all that was told of a line was listed
 pub whole_line : (t : TableRows) (tells : Tells) (old new : State) (before now : Option (List ℕ)) (answer : Outcome) → Lists t tells old new before now answer

@@ -14,15 +14,15 @@ use Rattle.fdr_bus.specs.Records.{IsDecided, fault_after, good_prefix, has_end, 
 use Rattle.fdr_bus.proofs.TraceLemmas.{good_prefix-decided, trace_fault-ended}
 use Rattle.fdr_bus.proofs.WholeRecords.{record_bytes-append}
 use Rattle.fdr_deck.specs.State.{State, Tells}
-use Rattle.fdr_words.specs.Forms.{Form}
+use Rattle.fdr_words.specs.Forms.{stream_line}
 use Rattle.fdr_table.specs.Rows.{TableRows}
 use Rattle.fdr_sampler.specs.Stream.{stream_of}
 use Rattle.fdr_top.specs.declared.outcome.Outcome.{Outcome}
 use Rattle.fdr_top.specs.declared.outcome.Outcome.TheVariants as outcome
-use Rattle.fdr_top.specs.Answers.{IsOfTrace}
+use Rattle.fdr_top.specs.Answers.{IsOwn}
 use Rattle.fdr_top.specs.Stream.{Streams}
 
-answer_to : Option (ℕ × TraceFault) → Outcome
+unfoldable pub answer_to : Option (ℕ × TraceFault) → Outcome
 answer_to None = outcome.Done
 answer_to (Some refusal) = outcome.TraceRefused refusal.0 refusal.1
 
@@ -31,7 +31,7 @@ cause_of None = trace.Many
 cause_of (Some refusal) = refusal.1
 
 -- bytes whose refusal isn't that they stop decide the trace
-refused_decides : (bytes : List ℕ) (index : ℕ) (why : TraceFault) → trace_fault bytes ≡ Some (index, why) → (why ≡ trace.Truncated) ⊎ IsDecided bytes
+pub refused_decides : (bytes : List ℕ) (index : ℕ) (why : TraceFault) → trace_fault bytes ≡ Some (index, why) → (why ≡ trace.Truncated) ⊎ IsDecided bytes
 unfolding trace_fault fault_after cause_of
 refused_decides bytes index why refused =
     let good = good_prefix bytes in
@@ -72,7 +72,7 @@ fault_after-decided good bytes more decided =
     (cases_Bool (n == most_records)))
     (cases_Bool (has_end good))
 
-trace_fault-decided : (bytes more : List ℕ) → IsDecided bytes → trace_fault (bytes ++ more) ≡ trace_fault bytes
+pub trace_fault-decided : (bytes more : List ℕ) → IsDecided bytes → trace_fault (bytes ++ more) ≡ trace_fault bytes
 unfolding trace_fault
 trace_fault-decided bytes more decided =
     ap (λ good. fault_after good (bytes ++ more)) (good_prefix-decided bytes more decided) ∙ fault_after-decided (good_prefix bytes) bytes more decided
@@ -106,50 +106,33 @@ told_stream t tells old new before now answer streams done told =
     ∙ ap (λ (x : List BusRecord). followed_by before (stream_of t x)) (sym (ended_line t tells old new before now answer streams done told))
 
 -- where the line is refused, so it is answered, unless a fault came first
-pub fault_answered : (t : TableRows) (tells : Tells) (old new : State) (before now : Option (List ℕ)) (answer : Outcome) (index : ℕ) (why : TraceFault)
-    → Streams t tells old new before now answer → IsOfTrace answer → IsTrue tells.line → trace_fault old.line ≡ Some (index, why) →
+pub fault_answered : (path : List ℕ) (t : TableRows) (tells : Tells) (old new : State) (before now : Option (List ℕ)) (answer : Outcome) (index : ℕ)
+    (why : TraceFault) → Streams t tells old new before now answer → IsOwn (stream_line path) answer → IsTrue tells.line
+    → trace_fault old.line ≡ Some (index, why) →
     (answer ≡ outcome.TraceRefused index why) ⊎ ((answer ≡ outcome.ReadFault input.Line) ⊎ (answer ≡ outcome.WriteFault))
 unfolding answer_to
-fault_answered t tells old new before now outcome.Done index why streams of_trace told first =
+fault_answered path t tells old new before now outcome.Done index why streams own told first =
     let ended : has_end (good_prefix old.line) ≡ true =
     ap has_end (ended_line t tells old new before now outcome.Done streams refl told) ∙ streams.ended refl in
     let none = trace_fault-ended old.line ended in
     absurd (let c : ◌≡◌ {A = Option (ℕ × TraceFault)} None (Some (index, why)) = sym none ∙ first in cc)
-fault_answered t tells old new before now outcome.Usage index why streams of_trace told first = absurd of_trace
-fault_answered t tells old new before now (outcome.TableRefused row f) index why streams of_trace told first = absurd of_trace
-fault_answered t tells old new before now (outcome.TraceRefused i w) index why streams of_trace told first =
+fault_answered path t tells old new before now (outcome.TraceRefused i w) index why streams own told first =
     let here = told_fault t tells old new before now (outcome.TraceRefused i w) i w streams refl told in
     let same : ◌≡◌ {A = Option (ℕ × TraceFault)} (Some (i, w)) (Some (index, why)) = sym here ∙ first in
     inl (ap answer_to same)
-fault_answered t tells old new before now (outcome.ReadFault input.Table) index why streams of_trace told first = absurd of_trace
-fault_answered t tells old new before now (outcome.ReadFault input.Line) index why streams of_trace told first = inr (inl refl)
-fault_answered t tells old new before now (outcome.ImageRefused fault) index why streams of_trace told first = absurd of_trace
-fault_answered t tells old new before now outcome.NotEmpty index why streams of_trace told first = absurd of_trace
-fault_answered t tells old new before now outcome.DiskFault index why streams of_trace told first = absurd of_trace
-fault_answered t tells old new before now outcome.WriteFault index why streams of_trace told first = inr (inr refl)
-fault_answered t tells old new before now outcome.TooLong index why streams of_trace told first = absurd of_trace
-fault_answered t tells old new before now outcome.NoMemory index why streams of_trace told first = absurd of_trace
+fault_answered path t tells old new before now (outcome.ReadFault input.Line) index why streams own told first = inr (inl refl)
+fault_answered path t tells old new before now outcome.WriteFault index why streams own told first = inr (inr refl)
+fault_answered path t tells old new before now answer index why streams own told first = absurd own
 
 -- a trace with an end record is streamed whole, where no fault came
-pub stream_done : (t : TableRows) (tells : Tells) (old new : State) (before now : Option (List ℕ)) (answer : Outcome)
-    → Streams t tells old new before now answer → IsOfTrace answer → IsTrue tells.line → has_end (good_prefix old.line) ≡ true →
+pub stream_done : (path : List ℕ) (t : TableRows) (tells : Tells) (old new : State) (before now : Option (List ℕ)) (answer : Outcome)
+    → Streams t tells old new before now answer → IsOwn (stream_line path) answer → IsTrue tells.line → has_end (good_prefix old.line) ≡ true →
     (answer ≡ outcome.ReadFault input.Line → ⊥) → (answer ≡ outcome.WriteFault → ⊥) → answer ≡ outcome.Done
-stream_done t tells old new before now outcome.Done streams of_trace told ended line_quiet sink_quiet = refl
-stream_done t tells old new before now outcome.Usage streams of_trace told ended line_quiet sink_quiet = absurd of_trace
-stream_done t tells old new before now (outcome.TableRefused row f) streams of_trace told ended line_quiet sink_quiet = absurd of_trace
-stream_done t tells old new before now (outcome.TraceRefused i w) streams of_trace told ended line_quiet sink_quiet =
+stream_done path t tells old new before now outcome.Done streams own told ended line_quiet sink_quiet = refl
+stream_done path t tells old new before now (outcome.TraceRefused i w) streams own told ended line_quiet sink_quiet =
     let here = told_fault t tells old new before now (outcome.TraceRefused i w) i w streams refl told in
     let none = trace_fault-ended old.line ended in
     absurd (let c : ◌≡◌ {A = Option (ℕ × TraceFault)} None (Some (i, w)) = sym none ∙ here in cc)
-stream_done t tells old new before now (outcome.ReadFault input.Table) streams of_trace told ended line_quiet sink_quiet = absurd of_trace
-stream_done t tells old new before now (outcome.ReadFault input.Line) streams of_trace told ended line_quiet sink_quiet = absurd (line_quiet refl)
-stream_done t tells old new before now (outcome.ImageRefused fault) streams of_trace told ended line_quiet sink_quiet = absurd of_trace
-stream_done t tells old new before now outcome.NotEmpty streams of_trace told ended line_quiet sink_quiet = absurd of_trace
-stream_done t tells old new before now outcome.DiskFault streams of_trace told ended line_quiet sink_quiet = absurd of_trace
-stream_done t tells old new before now outcome.WriteFault streams of_trace told ended line_quiet sink_quiet = absurd (sink_quiet refl)
-stream_done t tells old new before now outcome.TooLong streams of_trace told ended line_quiet sink_quiet = absurd of_trace
-stream_done t tells old new before now outcome.NoMemory streams of_trace told ended line_quiet sink_quiet = absurd of_trace
-
--- words are of one form
-pub same_form : (form : Option Form) (a b : Form) → form ≡ Some a → form ≡ Some b → a ≡ b
-same_form form a b first second = let c : Some a ≡ Some b = sym first ∙ second in cc
+stream_done path t tells old new before now (outcome.ReadFault input.Line) streams own told ended line_quiet sink_quiet = absurd (line_quiet refl)
+stream_done path t tells old new before now outcome.WriteFault streams own told ended line_quiet sink_quiet = absurd (sink_quiet refl)
+stream_done path t tells old new before now answer streams own told ended line_quiet sink_quiet = absurd own

@@ -4,7 +4,7 @@ use Rattle.fdr_io.specs.declared.Input.TheVariants as input
 use Rattle.fdr_deck.specs.State.{State}
 use Rattle.fdr_table.specs.declared.fault.TableError.{TableError}
 use Rattle.fdr_table.specs.declared.fault.TableError.TheVariants as error
-use Rattle.fdr_words.specs.Forms.{Form, form_of, check_table, stream_line, list_bits, format_image, recover_image, table_path, image_path}
+use Rattle.fdr_words.specs.Forms.{Form, form_of, check_table, stream_line, list_bits, format_image, record_line, recover_image, list_image, table_path}
 use Rattle.fdr_top.specs.declared.outcome.Outcome.{Outcome}
 use Rattle.fdr_top.specs.declared.outcome.Outcome.TheVariants as outcome
 
@@ -14,153 +14,46 @@ Asks words form = form_of words ≡ Some form
 
 -- the answers that reading the table gives
 abbrev pub IsOfTable : Outcome → Type 0
-IsOfTable outcome.Done = ⊥
-IsOfTable outcome.Usage = ⊥
 IsOfTable (outcome.TableRefused row f) = Unit {0}
-IsOfTable (outcome.TraceRefused index why) = ⊥
-IsOfTable (outcome.ImageRefused why) = ⊥
-IsOfTable outcome.NotEmpty = ⊥
 IsOfTable (outcome.ReadFault input.Table) = Unit {0}
-IsOfTable (outcome.ReadFault input.Line) = ⊥
-IsOfTable outcome.WriteFault = ⊥
-IsOfTable outcome.DiskFault = ⊥
-IsOfTable outcome.TooLong = ⊥
 IsOfTable outcome.NoMemory = Unit {0}
+IsOfTable answer = ⊥
 
 -- the answers that come once the words and the table are right, want of memory aside
 abbrev pub IsPastTable : Outcome → Type 0
-IsPastTable outcome.Done = Unit {0}
 IsPastTable outcome.Usage = ⊥
 IsPastTable (outcome.TableRefused row f) = ⊥
-IsPastTable (outcome.TraceRefused index why) = Unit {0}
-IsPastTable (outcome.ImageRefused why) = Unit {0}
-IsPastTable outcome.NotEmpty = Unit {0}
 IsPastTable (outcome.ReadFault input.Table) = ⊥
-IsPastTable (outcome.ReadFault input.Line) = Unit {0}
-IsPastTable outcome.WriteFault = Unit {0}
-IsPastTable outcome.DiskFault = Unit {0}
-IsPastTable outcome.TooLong = Unit {0}
 IsPastTable outcome.NoMemory = ⊥
-
--- the answers of a report of a table
-abbrev pub IsOfReport : Outcome → Type 0
-IsOfReport outcome.Done = Unit {0}
-IsOfReport outcome.Usage = ⊥
-IsOfReport (outcome.TableRefused row f) = ⊥
-IsOfReport (outcome.TraceRefused index why) = ⊥
-IsOfReport (outcome.ImageRefused why) = ⊥
-IsOfReport outcome.NotEmpty = ⊥
-IsOfReport (outcome.ReadFault input.Table) = ⊥
-IsOfReport (outcome.ReadFault input.Line) = ⊥
-IsOfReport outcome.WriteFault = Unit {0}
-IsOfReport outcome.DiskFault = ⊥
-IsOfReport outcome.TooLong = ⊥
-IsOfReport outcome.NoMemory = Unit {0}
-
--- the answers of a listing once the line is pulled
-abbrev pub IsOfListing : Outcome → Type 0
-IsOfListing outcome.Done = Unit {0}
-IsOfListing outcome.Usage = ⊥
-IsOfListing (outcome.TableRefused row f) = ⊥
-IsOfListing (outcome.TraceRefused index why) = ⊥
-IsOfListing (outcome.ImageRefused why) = ⊥
-IsOfListing outcome.NotEmpty = ⊥
-IsOfListing (outcome.ReadFault input.Table) = ⊥
-IsOfListing (outcome.ReadFault input.Line) = Unit {0}
-IsOfListing outcome.WriteFault = Unit {0}
-IsOfListing outcome.DiskFault = ⊥
-IsOfListing outcome.TooLong = Unit {0}
-IsOfListing outcome.NoMemory = ⊥
-
--- the answers of a stream once a trace is pulled
-abbrev pub IsOfTrace : Outcome → Type 0
-IsOfTrace outcome.Done = Unit {0}
-IsOfTrace outcome.Usage = ⊥
-IsOfTrace (outcome.TableRefused row f) = ⊥
-IsOfTrace (outcome.TraceRefused index why) = Unit {0}
-IsOfTrace (outcome.ImageRefused why) = ⊥
-IsOfTrace outcome.NotEmpty = ⊥
-IsOfTrace (outcome.ReadFault input.Table) = ⊥
-IsOfTrace (outcome.ReadFault input.Line) = Unit {0}
-IsOfTrace outcome.WriteFault = Unit {0}
-IsOfTrace outcome.DiskFault = ⊥
-IsOfTrace outcome.TooLong = ⊥
-IsOfTrace outcome.NoMemory = ⊥
-
--- the answers of making an image
-abbrev pub IsOfMaking : Outcome → Type 0
-IsOfMaking outcome.Done = Unit {0}
-IsOfMaking outcome.Usage = ⊥
-IsOfMaking (outcome.TableRefused row f) = ⊥
-IsOfMaking (outcome.TraceRefused index why) = ⊥
-IsOfMaking (outcome.ImageRefused why) = ⊥
-IsOfMaking outcome.NotEmpty = Unit {0}
-IsOfMaking (outcome.ReadFault input.Table) = ⊥
-IsOfMaking (outcome.ReadFault input.Line) = ⊥
-IsOfMaking outcome.WriteFault = ⊥
-IsOfMaking outcome.DiskFault = Unit {0}
-IsOfMaking outcome.TooLong = ⊥
-IsOfMaking outcome.NoMemory = ⊥
-
--- the answers of recovering an image
-abbrev pub IsOfRecovery : Outcome → Type 0
-IsOfRecovery outcome.Done = Unit {0}
-IsOfRecovery outcome.Usage = ⊥
-IsOfRecovery (outcome.TableRefused row f) = ⊥
-IsOfRecovery (outcome.TraceRefused index why) = ⊥
-IsOfRecovery (outcome.ImageRefused why) = Unit {0}
-IsOfRecovery outcome.NotEmpty = ⊥
-IsOfRecovery (outcome.ReadFault input.Table) = ⊥
-IsOfRecovery (outcome.ReadFault input.Line) = ⊥
-IsOfRecovery outcome.WriteFault = Unit {0}
-IsOfRecovery outcome.DiskFault = Unit {0}
-IsOfRecovery outcome.TooLong = ⊥
-IsOfRecovery outcome.NoMemory = Unit {0}
+IsPastTable answer = Unit {0}
 
 -- the answers that come before the line is pulled, want of memory aside
 abbrev pub IsBeforeLine : Outcome → Type 0
-IsBeforeLine outcome.Done = ⊥
 IsBeforeLine outcome.Usage = Unit {0}
 IsBeforeLine (outcome.TableRefused row f) = Unit {0}
-IsBeforeLine (outcome.TraceRefused index why) = ⊥
 IsBeforeLine (outcome.ImageRefused why) = Unit {0}
 IsBeforeLine outcome.NotEmpty = Unit {0}
+IsBeforeLine (outcome.WordsDiffer image table) = Unit {0}
 IsBeforeLine (outcome.ReadFault input.Table) = Unit {0}
-IsBeforeLine (outcome.ReadFault input.Line) = ⊥
-IsBeforeLine outcome.WriteFault = ⊥
-IsBeforeLine outcome.DiskFault = ⊥
-IsBeforeLine outcome.TooLong = ⊥
-IsBeforeLine outcome.NoMemory = ⊥
+IsBeforeLine answer = ⊥
 
 -- the answers before which the deck isn't asked for anything, want of memory aside
 abbrev pub EndsBeforeDeck : Outcome → Type 0
-EndsBeforeDeck outcome.Done = ⊥
 EndsBeforeDeck outcome.Usage = Unit {0}
 EndsBeforeDeck (outcome.TableRefused row f) = Unit {0}
-EndsBeforeDeck (outcome.TraceRefused index why) = ⊥
-EndsBeforeDeck (outcome.ImageRefused why) = ⊥
-EndsBeforeDeck outcome.NotEmpty = ⊥
 EndsBeforeDeck (outcome.ReadFault input.Table) = Unit {0}
-EndsBeforeDeck (outcome.ReadFault input.Line) = ⊥
-EndsBeforeDeck outcome.WriteFault = ⊥
-EndsBeforeDeck outcome.DiskFault = ⊥
-EndsBeforeDeck outcome.TooLong = ⊥
-EndsBeforeDeck outcome.NoMemory = ⊥
+EndsBeforeDeck answer = ⊥
 
 -- the answers after which no device is changed and nothing is written
 abbrev pub WritesNothing : Outcome → Type 0
-WritesNothing outcome.Done = ⊥
 WritesNothing outcome.Usage = Unit {0}
 WritesNothing (outcome.TableRefused row f) = Unit {0}
-WritesNothing (outcome.TraceRefused index why) = ⊥
 WritesNothing (outcome.ImageRefused why) = Unit {0}
 WritesNothing outcome.NotEmpty = Unit {0}
+WritesNothing (outcome.WordsDiffer image table) = Unit {0}
 WritesNothing (outcome.ReadFault input.Table) = Unit {0}
-WritesNothing (outcome.ReadFault input.Line) = ⊥
-WritesNothing outcome.WriteFault = ⊥
-WritesNothing outcome.DiskFault = ⊥
-WritesNothing outcome.TooLong = ⊥
 WritesNothing outcome.NoMemory = Unit {0}
+WritesNothing answer = ⊥
 
 -- the commands that read a table
 abbrev pub ReadsTable : Form → Type 0
@@ -168,7 +61,33 @@ ReadsTable form = IsSome (table_path form)
 
 -- the commands that have an image
 abbrev pub HasImage : Form → Type 0
-HasImage form = IsSome (image_path form)
+HasImage (check_table table) = ⊥
+HasImage (stream_line table) = ⊥
+HasImage (list_bits table) = ⊥
+HasImage (format_image table image slots payload) = Unit {0}
+HasImage (record_line table image) = Unit {0}
+HasImage (recover_image image) = Unit {0}
+HasImage (list_image table image) = Unit {0}
+
+-- the commands that pull a trace
+abbrev pub PullsTrace : Form → Type 0
+PullsTrace (check_table table) = ⊥
+PullsTrace (stream_line table) = Unit {0}
+PullsTrace (list_bits table) = ⊥
+PullsTrace (format_image table image slots payload) = ⊥
+PullsTrace (record_line table image) = Unit {0}
+PullsTrace (recover_image image) = ⊥
+PullsTrace (list_image table image) = ⊥
+
+-- the command that pulls the line to its end
+abbrev pub PullsBits : Form → Type 0
+PullsBits (check_table table) = ⊥
+PullsBits (stream_line table) = ⊥
+PullsBits (list_bits table) = Unit {0}
+PullsBits (format_image table image slots payload) = ⊥
+PullsBits (record_line table image) = ⊥
+PullsBits (recover_image image) = ⊥
+PullsBits (list_image table image) = ⊥
 
 -- the commands that pull the line
 abbrev pub PullsLine : Form → Type 0
@@ -176,7 +95,9 @@ PullsLine (check_table table) = ⊥
 PullsLine (stream_line table) = Unit {0}
 PullsLine (list_bits table) = Unit {0}
 PullsLine (format_image table image slots payload) = ⊥
+PullsLine (record_line table image) = Unit {0}
 PullsLine (recover_image image) = ⊥
+PullsLine (list_image table image) = ⊥
 
 -- the commands that write to the sink
 abbrev pub WritesText : Form → Type 0
@@ -184,15 +105,49 @@ WritesText (check_table table) = Unit {0}
 WritesText (stream_line table) = Unit {0}
 WritesText (list_bits table) = Unit {0}
 WritesText (format_image table image slots payload) = ⊥
+WritesText (record_line table image) = ⊥
 WritesText (recover_image image) = Unit {0}
+WritesText (list_image table image) = Unit {0}
 
 -- the command that makes an image
-abbrev pub IsFormat : Form → Type 0
-IsFormat (check_table table) = ⊥
-IsFormat (stream_line table) = ⊥
-IsFormat (list_bits table) = ⊥
-IsFormat (format_image table image slots payload) = Unit {0}
-IsFormat (recover_image image) = ⊥
+abbrev pub MakesImage : Form → Type 0
+MakesImage (check_table table) = ⊥
+MakesImage (stream_line table) = ⊥
+MakesImage (list_bits table) = ⊥
+MakesImage (format_image table image slots payload) = Unit {0}
+MakesImage (record_line table image) = ⊥
+MakesImage (recover_image image) = ⊥
+MakesImage (list_image table image) = ⊥
+
+-- the command that records in an image
+abbrev pub RecordsImage : Form → Type 0
+RecordsImage (check_table table) = ⊥
+RecordsImage (stream_line table) = ⊥
+RecordsImage (list_bits table) = ⊥
+RecordsImage (format_image table image slots payload) = ⊥
+RecordsImage (record_line table image) = Unit {0}
+RecordsImage (recover_image image) = ⊥
+RecordsImage (list_image table image) = ⊥
+
+-- the commands that read the header of an image
+abbrev pub ReadsImage : Form → Type 0
+ReadsImage (check_table table) = ⊥
+ReadsImage (stream_line table) = ⊥
+ReadsImage (list_bits table) = ⊥
+ReadsImage (format_image table image slots payload) = ⊥
+ReadsImage (record_line table image) = Unit {0}
+ReadsImage (recover_image image) = Unit {0}
+ReadsImage (list_image table image) = Unit {0}
+
+-- the commands that read a table and the header of an image
+abbrev pub ReadsBoth : Form → Type 0
+ReadsBoth (check_table table) = ⊥
+ReadsBoth (stream_line table) = ⊥
+ReadsBoth (list_bits table) = ⊥
+ReadsBoth (format_image table image slots payload) = ⊥
+ReadsBoth (record_line table image) = Unit {0}
+ReadsBoth (recover_image image) = ⊥
+ReadsBoth (list_image table image) = Unit {0}
 
 -- the commands that use the deck
 abbrev pub UsesDeck : Form → Type 0
@@ -200,22 +155,33 @@ UsesDeck (check_table table) = ⊥
 UsesDeck (stream_line table) = Unit {0}
 UsesDeck (list_bits table) = Unit {0}
 UsesDeck (format_image table image slots payload) = Unit {0}
+UsesDeck (record_line table image) = Unit {0}
 UsesDeck (recover_image image) = Unit {0}
+UsesDeck (list_image table image) = Unit {0}
 
 -- which command may give an answer
 abbrev pub MayAnswer : Form → Outcome → Type 0
 MayAnswer form outcome.Done = Unit {0}
 MayAnswer form outcome.Usage = ⊥
 MayAnswer form (outcome.TableRefused row f) = ReadsTable form
-MayAnswer form (outcome.TraceRefused index why) = (table : List ℕ) × (form ≡ stream_line table)
-MayAnswer form (outcome.ImageRefused why) = (image : List ℕ) × (form ≡ recover_image image)
-MayAnswer form outcome.NotEmpty = IsFormat form
+MayAnswer form (outcome.TraceRefused index why) = PullsTrace form
+MayAnswer form (outcome.ImageRefused why) = ReadsImage form
+MayAnswer form outcome.NotEmpty = MakesImage form
+MayAnswer form (outcome.WordsDiffer image table) = ReadsBoth form
+MayAnswer form outcome.SeqEnd = RecordsImage form
 MayAnswer form (outcome.ReadFault input.Table) = ReadsTable form
 MayAnswer form (outcome.ReadFault input.Line) = PullsLine form
 MayAnswer form outcome.WriteFault = WritesText form
 MayAnswer form outcome.DiskFault = HasImage form
-MayAnswer form outcome.TooLong = (table : List ℕ) × (form ≡ list_bits table)
+MayAnswer form outcome.TooLong = PullsBits form
 MayAnswer form outcome.NoMemory = Unit {0}
+
+-- an answer that a command gives once its words and its table are right, want of memory aside
+abbrev pub IsOwn : Form → Outcome → Type 0
+IsOwn form (outcome.TableRefused row f) = ⊥
+IsOwn form (outcome.ReadFault input.Table) = ⊥
+IsOwn form outcome.NoMemory = ⊥
+IsOwn form answer = MayAnswer form answer
 
 -- the line's state is as it was
 pub record KeepsLineAndFaults (old new : State) : Type 0 where

@@ -5,8 +5,8 @@ use Rattle.fdr_io.specs.declared.Input.TheVariants as input
 use Rattle.fdr_deck.specs.State.{State, Tells}
 use Rattle.fdr_deck.specs.Calls.{LeavesDisk}
 use Rattle.fdr_deck.specs.Disk.{KeepsDisk, LearnsExtent}
-use Rattle.fdr_words.specs.Forms.{Form, stream_line, list_bits}
-use Rattle.fdr_top.specs.Answers.{HasImage, IsBeforeLine, KeepsLineAndFaults, PullsLine}
+use Rattle.fdr_words.specs.Forms.{Form}
+use Rattle.fdr_top.specs.Answers.{HasImage, IsBeforeLine, KeepsLineAndFaults, PullsBits, PullsLine, PullsTrace, RecordsImage}
 use Rattle.fdr_top.specs.Limits.{most_line_bytes, piece_bytes}
 use Rattle.fdr_top.specs.declared.outcome.Outcome.{Outcome}
 use Rattle.fdr_top.specs.declared.outcome.Outcome.TheVariants as outcome
@@ -18,15 +18,16 @@ pub record LeavesAll (tells : Tells) (old new : State) (written_before written_n
   pub faults : faults_now ≡ faults_before
   pub disk : KeepsDisk old new
   pub extent : LearnsExtent tells old new
+  pub told : new.told ≡ old.told
   pub line : IsBeforeLine answer → KeepsLineAndFaults old new
 
 -- What the command of this form doesn't use of the deck is as it was, and no more is pulled than its most.
 pub record LeavesUnused (form : Form) (old new : State) (answer : Outcome) : Type 0 where
   pub line : (PullsLine form → ⊥) → KeepsLineAndFaults old new
   pub disk : (HasImage form → ⊥) → LeavesDisk old new
-  pub told : new.told ≡ old.told
-  pub stream : (path : List ℕ) → form ≡ stream_line path → answer ≡ outcome.NoMemory → KeepsLineAndFaults old new
-  pub listbits : (path : List ℕ) → form ≡ list_bits path → new.taken ≤ old.taken + most_line_bytes + piece_bytes
+  pub told : (RecordsImage form → ⊥) → new.told ≡ old.told
+  pub trace : PullsTrace form → answer ≡ outcome.NoMemory → KeepsLineAndFaults old new
+  pub bits : PullsBits form → new.taken ≤ old.taken + most_line_bytes + piece_bytes
 
 -- A fault that is answered was counted by what failed.
 pub record Causes (answer : Outcome) (table_before table_now : ℕ) (old new : State) (sink_before sink_now : ℕ) : Type 0 where

@@ -2,11 +2,15 @@ pub mod Outcome
 pub mod Limits
 pub mod Tables
 pub mod Answers
+pub mod Lag
 pub mod Streaming
 pub mod Check
 pub mod Listbits
 pub mod Stream
 pub mod Format
 pub mod Recover
+pub mod Record
+pub mod List
+pub mod Recording
 pub mod Leaves
 pub mod Complete

@@ -19,6 +19,8 @@ status_of (outcome.TableRefused row f) = 2
 status_of (outcome.TraceRefused index f) = 3
 status_of (outcome.ImageRefused f) = 4
 status_of outcome.NotEmpty = 5
+status_of (outcome.WordsDiffer image table) = 6
+status_of outcome.SeqEnd = 7
 status_of (outcome.ReadFault i) = 8
 status_of outcome.WriteFault = 9
 status_of outcome.DiskFault = 10
@@ -90,6 +92,10 @@ abbrev pub input_text : Input → List ℕ
 input_text input.Table = codes "fdr: table cannot be read"
 input_text input.Line = codes "fdr: input cannot be read"
 
+-- how many words the subframes of an image have, and how many those of a table
+abbrev pub words_text : ℕ → ℕ → List ℕ
+words_text image table = codes "fdr: image has " ++ decimal image ++ codes " words, table has " ++ decimal table
+
 -- what the program says of an outcome on standard error, without a line feed; nothing of Done
 abbrev pub text_of : Outcome → List ℕ
 text_of outcome.Done = []
@@ -98,6 +104,8 @@ text_of (outcome.TableRefused row f) = codes "fdr: table row " ++ decimal row ++
 text_of (outcome.TraceRefused index f) = codes "fdr: trace record " ++ decimal index ++ codes ": " ++ trace_fault_words f
 text_of (outcome.ImageRefused f) = codes "fdr: image: " ++ image_fault_words f
 text_of outcome.NotEmpty = codes "fdr: image is not empty"
+text_of (outcome.WordsDiffer image table) = words_text image table
+text_of outcome.SeqEnd = codes "fdr: sequence numbers are used up"
 text_of (outcome.ReadFault i) = input_text i
 text_of outcome.WriteFault = codes "fdr: output cannot be written"
 text_of outcome.DiskFault = codes "fdr: disk fault"

@@ -10,7 +10,8 @@ use Rattle.fdr_bus.specs.declared.TraceFault.TheVariants as trace
 use Rattle.fdr_bus.specs.Records.{IsDecided, good_prefix, has_end, last_time, time_of, trace_fault}
 use Rattle.fdr_trace.specs.Pulls.{PullsMore}
 use Rattle.fdr_trace.specs.Reading.{RepresentsTrace}
-use Rattle.fdr_top.specs.Answers.{IsOfTrace}
+use Rattle.fdr_words.specs.Forms.{stream_line}
+use Rattle.fdr_top.specs.Answers.{IsOwn}
 use Rattle.fdr_top.specs.declared.outcome.Outcome.{Outcome}
 use Rattle.fdr_top.specs.declared.outcome.Outcome.TheVariants as outcome
 use Rattle.fdr_top.specs.declared.streaming.Recording.{Recording}
@@ -50,7 +51,7 @@ pub record IsStreamedTo (t : TableRows) (tells : Tells) (old new : State) (k : S
   pub pulled : List ℕ
   pub pulls : PullsMore tells old new [] pulled
   pub streamed : IsStreamed k t (good_prefix pulled) written_before written_now
-  pub of_trace : IsOfTrace answer
+  pub own : (path : List ℕ) → IsOwn (stream_line path) answer
   pub whole : answer ≢ outcome.WriteFault
   pub ended : answer ≡ outcome.Done → has_end (good_prefix pulled) ≡ true
   pub refused : (index : ℕ) (why : TraceFault) → answer ≡ outcome.TraceRefused index why → trace_fault pulled ≡ Some (index, why)

@@ -2,7 +2,7 @@
 
 ghost use Rattle.std.specs.Prelude.{◌≡◌, ◌⊎◌, ◌+◌, ℕ, List};
 ghost use Rattle.fdr_io.specs.Faults.{Rose};
-ghost use Rattle.fdr_top.specs.Answers.{IsOfReport, IsPastTable, MayAnswer, WritesNothing};
+ghost use Rattle.fdr_top.specs.Answers.{IsOwn, IsPastTable, MayAnswer, WritesNothing};
 ghost use Rattle.fdr_top.specs.Check.{Reports};
 ghost use Rattle.fdr_table.specs.Bounds.{most_table_bytes};
 ghost use Rattle.fdr_table.specs.Rows.{TableRows};
@@ -20,7 +20,7 @@ use std::alloc::Global;
 
 /// Writes the report of a table, and gives the answer.
 pub fn write_report<O: Sink>(alloc: Global, sound: &Sound, out: &mut O) -> Outcome
-    ensures answer { IsOfReport result }
+    ensures answer { (path : List ℕ) → (result ≡ Outcome.NoMemory) ⊎ IsOwn (check_table path) result }
     ensures reports { Reports sound.now (O.written out.old) (O.written out.new) result }
     ensures write_fault { result ≡ Outcome.WriteFault → Rose (O.faults out.old) (O.faults out.new) }
     ensures no_memory { result ≡ Outcome.NoMemory → out.new ≡ out.old }

@@ -2,11 +2,11 @@
 
 ghost use Rattle.std.specs.Prelude.{◌≡◌, ◌≤◌, ◌⊎◌, ◌+◌, ℕ, List, Option};
 ghost use Rattle.fdr_frame.specs.WordCount.{IsWordCount};
-ghost use Rattle.fdr_top.specs.Answers.{EndsBeforeDeck, IsOfMaking, MayAnswer, WritesNothing};
+ghost use Rattle.fdr_top.specs.Answers.{EndsBeforeDeck, IsOwn, MayAnswer, WritesNothing};
 ghost use Rattle.fdr_top.specs.Format.{Makes, new_header};
 ghost use Rattle.fdr_table.specs.Bounds.{most_table_bytes};
 ghost use Rattle.fdr_table.specs.Rows.{TableRows};
-ghost use Rattle.fdr_words.specs.Forms.{format_image};
+ghost use Rattle.fdr_words.specs.Forms.{format_image, least_payload, least_slots, most_payload, most_slots};
 ghost use Rattle.fdr_top.specs.Complete.{IsFaultless, IsWholeInput};
 ghost use Rattle.fdr_top.specs.Leaves.{Causes, LeavesAll, LeavesUnused};
 ghost use Rattle.fdr_top.specs.Tables.{ByTable, ReadsItsTable};
@@ -35,12 +35,12 @@ fn new_header(sound: &Sound, slots: u32, payload: u32) -> Header
 
 /// Makes an image without blocks on a disk of length 0, and gives the answer.
 fn make_image<D: Deck>(sound: &Sound, slots: u32, payload: u32, deck: &mut D) -> Outcome
-    requires least_slots { 4 ≤ slots }
-    requires most_slots { slots ≤ 65536 }
-    requires least_payload { 64 ≤ payload }
-    requires most_payload { payload ≤ 4096 }
+    requires least_slots { least_slots ≤ slots }
+    requires most_slots { slots ≤ most_slots }
+    requires least_payload { least_payload ≤ payload }
+    requires most_payload { payload ≤ most_payload }
     requires word_count { IsWordCount sound.now.frame.words }
-    ensures answer { IsOfMaking result }
+    ensures answer { (path image : List ℕ) → IsOwn (format_image path image slots payload) result }
     ensures makes { Makes (new_header slots payload sound.now.frame.words) D.tells (D.state deck.old) (D.state deck.new) result }
 {
     let header = new_header(sound, slots, payload);
@@ -59,10 +59,10 @@ pub fn format<T: Source, D: Deck>(
     table: &mut T,
     deck: &mut D,
 ) -> Outcome
-    requires least_slots { 4 ≤ slots }
-    requires most_slots { slots ≤ 65536 }
-    requires least_payload { 64 ≤ payload }
-    requires most_payload { payload ≤ 4096 }
+    requires least_slots { least_slots ≤ slots }
+    requires most_slots { slots ≤ most_slots }
+    requires least_payload { least_payload ≤ payload }
+    requires most_payload { payload ≤ most_payload }
     ensures answers { (path image : List ℕ) → MayAnswer (format_image path image slots payload) result }
     ensures table { ReadsItsTable (T.rest table.old) (T.rest table.new) result }
     ensures bounded { TakesAtMost (most_table_bytes + piece_bytes) (T.rest table.old) (T.rest table.new) }

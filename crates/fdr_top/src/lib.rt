@@ -7,10 +7,12 @@
 mod checking;
 mod formatting;
 mod list_bits;
+mod listing;
 mod load;
 mod outcome;
 mod pulling;
 mod reading;
+mod recording;
 mod recovering;
 mod streaming;
 mod top;

@@ -6,7 +6,7 @@ ghost use Rattle.fdr_io.specs.Told.{followed_by};
 ghost use Rattle.fdr_deck.specs.Calls.{LeavesDisk};
 ghost use Rattle.fdr_frame.specs.WordCount.{IsWordCount};
 ghost use Rattle.fdr_recon.specs.Past.{RepresentsRebuild};
-ghost use Rattle.fdr_top.specs.Answers.{EndsBeforeDeck, IsOfListing, IsPastTable, MayAnswer, WritesNothing};
+ghost use Rattle.fdr_top.specs.Answers.{EndsBeforeDeck, IsOwn, IsPastTable, MayAnswer, WritesNothing};
 ghost use Rattle.fdr_top.specs.Listbits.{Lists, ListsLine, answer_of};
 ghost use Rattle.fdr_top.specs.Limits.{TakesAtMost, most_line_bytes, piece_bytes};
 ghost use Rattle.fdr_readout.specs.Listing.{listing_of};
@@ -74,7 +74,7 @@ pub fn list_line<D: Deck, O: Sink>(
     out: &mut O,
 ) -> Outcome
     requires word_count { IsWordCount sound.now.frame.words }
-    ensures answer { (result ≡ Outcome.NoMemory) ⊎ IsOfListing result }
+    ensures answer { (path : List ℕ) → (result ≡ Outcome.NoMemory) ⊎ IsOwn (list_bits path) result }
     ensures lists { result ≢ Outcome.NoMemory
         → Lists sound.now D.tells (D.state deck.old) (D.state deck.new) (O.written out.old) (O.written out.new) result }
     ensures line_fault { result ≡ Outcome.ReadFault Input.Line → Rose (D.state deck.old).line_faults (D.state deck.new).line_faults }

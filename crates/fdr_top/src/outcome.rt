@@ -1,7 +1,7 @@
 //! What a command answers.
 
 ghost use Rattle.std.specs.Prelude.{◌≡◌, ◌≤◌, ◌++◌, length};
-ghost use Rattle.fdr_top.specs.Outcome.{status_of, text_of, fault_words, fault_numbers, overlap_numbers, rate_numbers, trace_fault_words, image_fault_words, input_text};
+ghost use Rattle.fdr_top.specs.Outcome.{status_of, text_of, fault_words, fault_numbers, overlap_numbers, rate_numbers, words_text, trace_fault_words, image_fault_words, input_text};
 
 use fdr_bus::TraceFault;
 use fdr_io::Input;
@@ -17,13 +17,28 @@ pub enum Outcome {
     /// The words of the command line are none of the forms.
     Usage,
     /// The table is refused for this fault in this row.
-    TableRefused { row: u32, fault: TableFault },
+    TableRefused {
+        row: u32,
+        fault: TableFault,
+    },
     /// The trace is refused for this fault of the record after so many good ones.
-    TraceRefused { index: u64, fault: TraceFault },
+    TraceRefused {
+        index: u64,
+        fault: TraceFault,
+    },
     /// What the disk holds is refused as an image.
     ImageRefused(ImageFault),
     /// An image is made only where there is none.
     NotEmpty,
+    /// The image is for frames of other words than the table's.
+    WordsDiffer {
+        /// The words in a subframe of what the image is for.
+        image: u32,
+        /// The words in a subframe by the table.
+        table: u32,
+    },
+    /// A block was to be recorded, and there is no number left for it.
+    SeqEnd,
     /// The table or the line could not be read.
     ReadFault(Input),
     /// The output could not be written; a front part of it was.
@@ -48,6 +63,8 @@ impl Outcome {
             Outcome::TraceRefused { .. } => 3,
             Outcome::ImageRefused(_) => 4,
             Outcome::NotEmpty => 5,
+            Outcome::WordsDiffer { .. } => 6,
+            Outcome::SeqEnd => 7,
             Outcome::ReadFault(_) => 8,
             Outcome::WriteFault => 9,
             Outcome::DiskFault => 10,
@@ -83,6 +100,8 @@ impl Outcome {
                 line.add(image_fault_words(fault));
             }
             Outcome::NotEmpty => line.add(b"fdr: image is not empty"),
+            Outcome::WordsDiffer { image, table } => add_words(&mut line, *image, *table),
+            Outcome::SeqEnd => line.add(b"fdr: sequence numbers are used up"),
             Outcome::ReadFault(input) => line.add(input_text(input)),
             Outcome::WriteFault => line.add(b"fdr: output cannot be written"),
             Outcome::DiskFault => line.add(b"fdr: disk fault"),
@@ -159,6 +178,18 @@ fn add_rate(line: &mut Line, declared: u32, counted: u32)
     line.add(b" declared, ");
     line.add_number(u64::from(counted));
     line.add(b" counted");
+}
+
+/// Adds how many words an image's subframes have, and how many the table's.
+#[tactic(auto, using(crate::proofs::Lengths::field_numbers))]
+fn add_words(line: &mut Line, image: u32, table: u32)
+    requires { length line.old ≤ 23 }
+    ensures { line.new ≡ line.old ++ words_text image table }
+{
+    line.add(b"fdr: image has ");
+    line.add_number(u64::from(image));
+    line.add(b" words, table has ");
+    line.add_number(u64::from(table));
 }
 
 /// What is wrong with the trace, in words.

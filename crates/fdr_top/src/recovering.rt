@@ -8,7 +8,7 @@ ghost use Rattle.fdr_slot.specs.Limits.{IsInLimits};
 ghost use Rattle.fdr_slot.specs.Places.{image_size};
 ghost use Rattle.fdr_recover.specs.Images.{payload_at, recovered_run};
 ghost use Rattle.fdr_recover.specs.Looks.{Looks};
-ghost use Rattle.fdr_top.specs.Answers.{EndsBeforeDeck, IsOfRecovery, MayAnswer, WritesNothing};
+ghost use Rattle.fdr_top.specs.Answers.{EndsBeforeDeck, IsOwn, MayAnswer, WritesNothing};
 ghost use Rattle.fdr_top.specs.Recover.{Recovers, RecoversImage, header_refusal, payloads_of};
 ghost use Rattle.fdr_words.specs.Forms.{recover_image};
 ghost use Rattle.fdr_top.specs.Complete.{IsFaultless, IsWholeInput};
@@ -22,10 +22,10 @@ use fdr_slot::Header;
 use std::alloc::Global;
 
 /// How many bytes a payload has at most.
-const MAX_PAYLOAD: usize = 4096;
+pub const MAX_PAYLOAD: usize = 4096;
 
 /// The answer where the header of an image isn't read.
-fn refusal(fault: RingFault) -> Outcome
+pub fn refusal(fault: RingFault) -> Outcome
     ensures { result ≡ header_refusal fault }
 {
     match fault {
@@ -102,7 +102,7 @@ fn write_run<D: Deck, O: Sink>(
 
 /// Writes the payloads of the blocks that the deck's image holds, and gives the answer.
 fn recover_image<D: Deck, O: Sink>(alloc: Global, deck: &mut D, out: &mut O) -> Outcome
-    ensures answer { IsOfRecovery result }
+    ensures answer { (image : List ℕ) → (result ≡ Outcome.NoMemory) ⊎ IsOwn (recover_image image) result }
     ensures recovers { Recovers D.tells (D.state deck.old) (D.state deck.new) (O.written out.old) (O.written out.new) result }
     ensures write_fault { result ≡ Outcome.WriteFault → Rose (O.faults out.old) (O.faults out.new) }
     ensures unwritten { result ≢ Outcome.Done → result ≢ Outcome.WriteFault → result ≢ Outcome.DiskFault → out.new ≡ out.old }

@@ -7,7 +7,7 @@ ghost use Rattle.fdr_deck.specs.Calls.{LeavesDisk};
 ghost use Rattle.fdr_sampler.specs.Stream.{stream_of};
 ghost use Rattle.fdr_bus.specs.declared.BusRecord.{BusRecord};
 ghost use Rattle.fdr_stream.specs.Past.{RepresentsStream};
-ghost use Rattle.fdr_top.specs.Answers.{EndsBeforeDeck, IsOfTrace, IsPastTable, KeepsLineAndFaults, MayAnswer, WritesNothing};
+ghost use Rattle.fdr_top.specs.Answers.{EndsBeforeDeck, IsOwn, IsPastTable, KeepsLineAndFaults, MayAnswer, WritesNothing};
 ghost use Rattle.fdr_top.specs.Stream.{Streams, StreamsLine, answer_of_stop};
 ghost use Rattle.fdr_top.specs.Streaming.{past_of, due_text, ComesNext, IsStreamed, IsStreamedTo, IsStreamedPart, IsUnbegun};
 ghost use Rattle.fdr_table.specs.Bounds.{most_table_bytes};
@@ -98,7 +98,7 @@ fn write_rest<O: Sink>(stream: &mut Stream, block: &mut [u8], out: &mut O) -> Re
 }
 
 /// The answer where no further record of a trace comes and all was written.
-fn answer_of_stop(stop: TraceStop) -> Outcome
+pub fn answer_of_stop(stop: TraceStop) -> Outcome
     ensures { result ≡ answer_of_stop stop }
 {
     match stop {
@@ -142,7 +142,7 @@ fn stream_records<D: Deck, O: Sink>(
 /// Streams the trace of the deck's line, and gives the answer.
 fn stream_trace<D: Deck, O: Sink>(recording: &mut Recording, deck: &mut D, out: &mut O) -> Outcome
     requires { (t : TableRows) × IsUnbegun recording.old t }
-    ensures answer { IsOfTrace result }
+    ensures answer { (path : List ℕ) → IsOwn (stream_line path) result }
     ensures streams { (t : TableRows) → IsUnbegun recording.old t
         → Streams t D.tells (D.state deck.old) (D.state deck.new) (O.written out.old) (O.written out.new) result }
     ensures line_fault { result ≡ Outcome.ReadFault Input.Line → Rose (D.state deck.old).line_faults (D.state deck.new).line_faults }
@@ -168,7 +168,7 @@ fn stream_sound<D: Deck, O: Sink>(
     deck: &mut D,
     out: &mut O,
 ) -> Outcome
-    ensures answer { (result ≡ Outcome.NoMemory) ⊎ IsOfTrace result }
+    ensures answer { (path : List ℕ) → (result ≡ Outcome.NoMemory) ⊎ IsOwn (stream_line path) result }
     ensures streams { result ≢ Outcome.NoMemory
         → Streams sound.now D.tells (D.state deck.old) (D.state deck.new) (O.written out.old) (O.written out.new) result }
     ensures line_fault { result ≡ Outcome.ReadFault Input.Line → Rose (D.state deck.old).line_faults (D.state deck.new).line_faults }

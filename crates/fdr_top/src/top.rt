@@ -1,7 +1,7 @@
 //! The top call.
 
 ghost use Rattle.std.specs.Prelude.{◌≡◌, ◌↔◌, ◌⊎◌, ◌+◌, ℕ, List, map, string_bytes, None};
-ghost use Rattle.fdr_words.specs.Forms.{Form, form_of, check_table, format_image, list_bits, recover_image, stream_line};
+ghost use Rattle.fdr_words.specs.Forms.{Form, form_of, check_table, format_image, list_bits, list_image, record_line, recover_image, stream_line};
 ghost use Rattle.fdr_words.specs.Request.{form_of_request};
 ghost use Rattle.fdr_table.specs.Bounds.{most_table_bytes};
 ghost use Rattle.fdr_table.specs.Rows.{TableRows};
@@ -11,7 +11,9 @@ ghost use Rattle.fdr_top.specs.Complete.{IsFaultless, IsWholeInput};
 ghost use Rattle.fdr_top.specs.Format.{Makes, new_header};
 ghost use Rattle.fdr_top.specs.Leaves.{Causes, LeavesAll, LeavesUnused};
 ghost use Rattle.fdr_top.specs.Limits.{TakesAtMost, piece_bytes};
+ghost use Rattle.fdr_top.specs.List.{ListsImage};
 ghost use Rattle.fdr_top.specs.Listbits.{ListsLine};
+ghost use Rattle.fdr_top.specs.Record.{RecordsLine};
 ghost use Rattle.fdr_top.specs.Recover.{RecoversImage};
 ghost use Rattle.fdr_top.specs.Stream.{StreamsLine};
 ghost use Rattle.fdr_top.specs.Tables.{ByTable, ReadsItsTable};
@@ -19,7 +21,9 @@ ghost use Rattle.fdr_top.specs.Tables.{ByTable, ReadsItsTable};
 use crate::checking::check;
 use crate::formatting::format;
 use crate::list_bits::listbits;
+use crate::listing::list;
 use crate::outcome::Outcome;
+use crate::recording::record;
 use crate::recovering::recover;
 use crate::streaming::stream;
 use fdr_deck::Deck;
@@ -33,7 +37,9 @@ use std::alloc::Global;
 /// - `stream TABLE` pulls a trace of bus words from the deck's line and writes its recorded stream.
 /// - `listbits TABLE` pulls the line to its end and writes the listing of its bits.
 /// - `format TABLE IMAGE` makes an image without blocks on the deck's disk.
+/// - `record TABLE IMAGE` pulls a trace and records its stream in the image on the disk.
 /// - `recover IMAGE` writes the payloads of the blocks that the image holds.
+/// - `list TABLE IMAGE` writes the listing of the bits of these payloads.
 ///
 /// `table` gives the bytes of the table. Each answer says what was done; its clauses say when it comes and what it leaves.
 pub fn run<T: Source, D: Deck, O: Sink>(
@@ -83,8 +89,14 @@ pub fn run<T: Source, D: Deck, O: Sink>(
         → Asks (map string_bytes words.now) (format_image path image slots payload)
         → ByTable (T.rest table.old) (λ (t : TableRows). Makes (new_header slots payload t.frame.words)
         D.tells (D.state deck.old) (D.state deck.new) result) }
+    ensures record { (path image : List ℕ) → Asks (map string_bytes words.now) (record_line path image)
+        → ByTable (T.rest table.old) (λ (t : TableRows).
+        RecordsLine t D.tells (D.state deck.old) (D.state deck.new) result) }
     ensures recover { (image : List ℕ) → Asks (map string_bytes words.now) (recover_image image)
         → RecoversImage D.tells (D.state deck.old) (D.state deck.new) (O.written out.old) (O.written out.new) result }
+    ensures list { (path image : List ℕ) → Asks (map string_bytes words.now) (list_image path image)
+        → ByTable (T.rest table.old) (λ (t : TableRows). ListsImage t D.tells (D.state deck.old) (D.state deck.new)
+        (O.written out.old) (O.written out.new) result) }
 
     // Right words, a table that is accepted, an input that is whole and no fault: all is done, or memory ended.
     ensures complete { (form : Form) → Asks (map string_bytes words.now) form
@@ -103,6 +115,8 @@ pub fn run<T: Source, D: Deck, O: Sink>(
         Request::StreamLine { .. } => stream(alloc, table, deck, out),
         Request::ListBits { .. } => listbits(alloc, table, deck, out),
         Request::FormatImage { slots, payload, .. } => format(alloc, slots, payload, table, deck),
+        Request::RecordLine { .. } => record(alloc, table, deck),
+        Request::ListImage { .. } => list(alloc, table, deck, out),
         Request::RecoverImage { .. } => recover(alloc, deck, out),
     }
 }

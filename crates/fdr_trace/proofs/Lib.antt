@@ -3,4 +3,3 @@ pub mod Records
 pub mod Filling
 pub mod Next
 pub mod PullMoments
-pub mod Lag

@@ -9,7 +9,9 @@ pub data Form : Type 0 where
   stream_line : (table : List ℕ) → Form
   list_bits : (table : List ℕ) → Form
   format_image : (table image : List ℕ) (slots payload : ℕ) → Form
+  record_line : (table image : List ℕ) → Form
   recover_image : (image : List ℕ) → Form
+  list_image : (table image : List ℕ) → Form
 
 -- the form of a command with one path and no options
 abbrev pub path_form : List ℕ → List ℕ → Option Form
@@ -18,6 +20,13 @@ path_form command path =
     else if bytes_eq command (codes "stream") then Some (stream_line path)
     else if bytes_eq command (codes "listbits") then Some (list_bits path)
     else if bytes_eq command (codes "recover") then Some (recover_image path)
+    else None
+
+-- the form of a command with two paths and no options
+abbrev pub paths_form : List ℕ → List ℕ → List ℕ → Option Form
+paths_form command table image =
+    if bytes_eq command (codes "record") then Some (record_line table image)
+    else if bytes_eq command (codes "list") then Some (list_image table image)
     else None
 
 -- the image to be made, where both numbers are within their bounds
@@ -48,14 +57,15 @@ ring_form command table image slots payload =
 -- the form that has these words and options, all of them and no others
 abbrev pub form_with : List (List ℕ) → Option (List ℕ) → Option (List ℕ) → Option Form
 form_with (command ∷ path ∷ []) None None = path_form command path
+form_with (command ∷ table ∷ image ∷ []) None None = paths_form command table image
 form_with (command ∷ table ∷ image ∷ []) (Some slots) (Some payload) = ring_form command table image slots payload
 form_with words slots payload = None
 
 abbrev pub form_of_uses : Uses → Option Form
 form_of_uses u = form_with u.plain u.slots u.payload
 
--- the form that the words are of: `check TABLE`, `stream TABLE`, `listbits TABLE`, `recover IMAGE` or
--- `format TABLE IMAGE --slots N --payload P`, with the options anywhere
+-- the form that the words are of: `check TABLE`, `stream TABLE`, `listbits TABLE`, `recover IMAGE`,
+-- `record TABLE IMAGE`, `list TABLE IMAGE` or `format TABLE IMAGE --slots N --payload P`, with the options anywhere
 unfoldable pub form_of : List (List ℕ) → Option Form
 form_of words = option_and_then form_of_uses (uses_of words)
 
@@ -65,7 +75,9 @@ table_path (check_table table) = Some table
 table_path (stream_line table) = Some table
 table_path (list_bits table) = Some table
 table_path (format_image table image slots payload) = Some table
+table_path (record_line table image) = Some table
 table_path (recover_image image) = None
+table_path (list_image table image) = Some table
 
 -- the path of the image
 abbrev pub image_path : Form → Option (List ℕ)
@@ -73,7 +85,9 @@ image_path (check_table table) = None
 image_path (stream_line table) = None
 image_path (list_bits table) = None
 image_path (format_image table image slots payload) = Some image
+image_path (record_line table image) = Some image
 image_path (recover_image image) = Some image
+image_path (list_image table image) = Some image
 
 -- whether the command may write the image
 abbrev pub writes_image : Form → Bool
@@ -81,7 +95,9 @@ writes_image (check_table table) = false
 writes_image (stream_line table) = false
 writes_image (list_bits table) = false
 writes_image (format_image table image slots payload) = true
+writes_image (record_line table image) = true
 writes_image (recover_image image) = false
+writes_image (list_image table image) = false
 
 -- the numbers that a form names are within their bounds
 abbrev pub IsInBounds : Form → Type 0
@@ -90,4 +106,6 @@ IsInBounds (stream_line table) = Unit {0}
 IsInBounds (list_bits table) = Unit {0}
 IsInBounds (format_image table image slots payload) =
     (least_slots ≤ slots) × (slots ≤ most_slots) × (least_payload ≤ payload) × (payload ≤ most_payload)
+IsInBounds (record_line table image) = Unit {0}
 IsInBounds (recover_image image) = Unit {0}
+IsInBounds (list_image table image) = Unit {0}

@@ -1,5 +1,5 @@
 -- The form that a request stands for.
-use Rattle.fdr_words.specs.Forms.{Form, check_table, stream_line, list_bits, format_image, recover_image}
+use Rattle.fdr_words.specs.Forms.{Form, check_table, stream_line, list_bits, format_image, record_line, recover_image, list_image}
 use Rattle.fdr_words.specs.declared.Request.{Request}
 use Rattle.fdr_words.specs.declared.Request.TheVariants as request
 
@@ -8,4 +8,6 @@ form_of_request (request.CheckTable table) = check_table table
 form_of_request (request.StreamLine table) = stream_line table
 form_of_request (request.ListBits table) = list_bits table
 form_of_request (request.FormatImage table image slots payload) = format_image table image slots payload
+form_of_request (request.RecordLine table image) = record_line table image
 form_of_request (request.RecoverImage image) = recover_image image
+form_of_request (request.ListImage table image) = list_image table image

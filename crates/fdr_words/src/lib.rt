@@ -3,7 +3,7 @@
 
 ghost use Rattle.std.specs.Prelude.{◌≡◌, ◌↔◌, ◌≤◌, Err, Some, None, IfOk, IfSome, map, string_bytes};
 ghost use Rattle.std.specs.Option.{option_map};
-ghost use Rattle.fdr_words.specs.Forms.{form_of, path_form, image_path, table_path, writes_image, IsInBounds};
+ghost use Rattle.fdr_words.specs.Forms.{form_of, path_form, paths_form, image_path, table_path, writes_image, IsInBounds};
 ghost use Rattle.fdr_words.specs.Words.{value_in};
 ghost use Rattle.fdr_words.specs.Request.{form_of_request};
 ghost use Rattle.fdr_words.specs.declared.WordsFault.TheVariants as fault;
@@ -38,8 +38,18 @@ pub enum Request {
         /// How many bytes a block has at most, 64 to 4,096.
         payload: u32,
     },
+    /// `record TABLE IMAGE`: sample a trace of bus words into frames, and record their stream in an image.
+    RecordLine {
+        table: PathText,
+        image: PathText,
+    },
     /// `recover IMAGE`: write the blocks of an image.
     RecoverImage {
+        image: PathText,
+    },
+    /// `list TABLE IMAGE`: list the frames of the blocks of an image.
+    ListImage {
+        table: PathText,
         image: PathText,
     },
 }
@@ -74,7 +84,9 @@ impl Request {
             Request::StreamLine { table } => Some(table.text()),
             Request::ListBits { table } => Some(table.text()),
             Request::FormatImage { table, .. } => Some(table.text()),
+            Request::RecordLine { table, .. } => Some(table.text()),
             Request::RecoverImage { .. } => None,
+            Request::ListImage { table, .. } => Some(table.text()),
         }
     }
 
@@ -87,7 +99,9 @@ impl Request {
             Request::StreamLine { .. } => None,
             Request::ListBits { .. } => None,
             Request::FormatImage { image, .. } => Some(image.text()),
+            Request::RecordLine { image, .. } => Some(image.text()),
             Request::RecoverImage { image } => Some(image.text()),
+            Request::ListImage { image, .. } => Some(image.text()),
         }
     }
 
@@ -96,11 +110,12 @@ impl Request {
         ensures { result ≡ writes_image (form_of_request self.now) }
     {
         match self {
-            Request::FormatImage { .. } => true,
+            Request::FormatImage { .. } | Request::RecordLine { .. } => true,
             Request::CheckTable { .. }
             | Request::StreamLine { .. }
             | Request::ListBits { .. }
-            | Request::RecoverImage { .. } => false,
+            | Request::RecoverImage { .. }
+            | Request::ListImage { .. } => false,
         }
     }
 }
@@ -142,6 +157,31 @@ fn path_request(alloc: Global, command: &str, path: &str) -> Result<Request, Wor
     Ok(Request::RecoverImage { image })
 }
 
+/// What the words of a command with two paths and no options ask for.
+fn paths_request(
+    alloc: Global,
+    command: &str,
+    table: &str,
+    image: &str,
+) -> Result<Request, WordsFault>
+    ensures usage { (result ≡ Err fault.Usage) ↔ (paths_form command.now table.now image.now ≡ None) }
+    ensures form { IfOk result (λ request. paths_form command.now table.now image.now ≡ Some (form_of_request request)) }
+{
+    if command == "record" {
+        return Ok(Request::RecordLine {
+            table: PathText::new(alloc, table)?,
+            image: PathText::new(alloc, image)?,
+        });
+    }
+    if command != "list" {
+        return Err(WordsFault::Usage);
+    }
+    Ok(Request::ListImage {
+        table: PathText::new(alloc, table)?,
+        image: PathText::new(alloc, image)?,
+    })
+}
+
 /// The request of the words after the program's name.
 ///
 /// Words that aren't those of a command are refused before any memory is taken.
@@ -156,6 +196,9 @@ pub fn read_words(alloc: Global, words: &[String]) -> Result<Request, WordsFault
     };
     match (uses.plain, uses.slots, uses.payload) {
         (PlainWords::Two(command, path), None, None) => path_request(alloc, command, path),
+        (PlainWords::Three(command, table, image), None, None) => {
+            paths_request(alloc, command, table, image)
+        }
         (PlainWords::Three(command, table, image), Some(slots), Some(payload)) => {
             let slots = value_in(slots, 4, 65_536).ok_or(WordsFault::Usage)?;
             let payload = value_in(payload, 64, 4_096).ok_or(WordsFault::Usage)?;

@@ -36,6 +36,51 @@ fn reads_the_commands_of_a_table(rt: HostRuntime) -> Result<(), Fail> {
 }
 
 #[test]
+fn reads_a_recording(rt: HostRuntime) -> Result<(), Fail> {
+    let request = read(rt.alloc(), &["record", "t1.csv", "flight.img"])?
+        .ok()
+        .ok_or("record")?;
+    assert!(rt; matches!(&request, Request::RecordLine { .. }));
+    assert_eq!(rt;
+        (request.table(), request.image()),
+        (Some("t1.csv"), Some("flight.img"))
+    );
+    assert!(rt; request.writes());
+    let lines: [&[&str]; 3] = [
+        &["record", "t1.csv"],
+        &["record", "t1.csv", "flight.img", "--slots", "16"],
+        &["record", "t1.csv", "flight.img", "more"],
+    ];
+    for line in lines {
+        assert!(rt; matches!(read(rt.alloc(), line)?, Err(WordsFault::Usage)));
+    }
+    Ok(())
+}
+
+#[test]
+fn reads_a_listing_of_an_image(rt: HostRuntime) -> Result<(), Fail> {
+    let request = read(rt.alloc(), &["list", "t1.csv", "flight.img"])?
+        .ok()
+        .ok_or("list")?;
+    assert!(rt; matches!(&request, Request::ListImage { .. }));
+    assert_eq!(rt;
+        (request.table(), request.image()),
+        (Some("t1.csv"), Some("flight.img"))
+    );
+    assert!(rt; !request.writes());
+    let lines: [&[&str]; 4] = [
+        &["list", "t1.csv"],
+        &["list", "t1.csv", "flight.img", "--slots", "16"],
+        &["list", "t1.csv", "flight.img", "more"],
+        &["lists", "t1.csv", "flight.img"],
+    ];
+    for line in lines {
+        assert!(rt; matches!(read(rt.alloc(), line)?, Err(WordsFault::Usage)));
+    }
+    Ok(())
+}
+
+#[test]
 fn reads_the_commands_of_an_image(rt: HostRuntime) -> Result<(), Fail> {
     let request = read(rt.alloc(), &["recover", "flight.img"])?
         .ok()

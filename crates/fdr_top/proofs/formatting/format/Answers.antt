@@ -1,7 +1,8 @@
-use Rattle.std.proofs.Common.{inl, inr, ap, Err}
+use Rattle.std.proofs.Common.{[], inl, inr, ap, Err}
 use Rattle.fdr_top.proofs.ItsTable.{accepted_left, by_table, read_accepted, read_refused}
 use Rattle.fdr_top.proofs.Answering.{format_unused, making_done, making_refusal}
-use Rattle.fdr_top.proofs.Commands.{making_past}
+use Rattle.fdr_words.specs.Forms.{format_image}
+use Rattle.fdr_top.proofs.Commands.{own_may, own_not_line, own_not_sink, own_not_table, own_past, own_uses}
 use Rattle.fdr_top.proofs.Making.{makes_nothing}
 use Rattle.fdr_top.proofs.formatting.format.Goals as goal
 
@@ -23,7 +24,7 @@ pub returns-in-Ok-clause-table : goal.returns-in-Ok-clause-table
 returns-in-Ok-clause-table g c =
     let read = c.in-Ok.ensures.table in
     read_accepted _ _ read.0 c.in-Ok.sound _ read.1 read.2 read.3 c.in-Ok.ensures.end c.in-Ok.ensures.sound
-    (inr (making_past _ c.make_image.ensures.answer))
+    (inr (own_past (format_image [] [] c.args.slots c.args.payload) _ (c.make_image.ensures.answer [] [])))
 
 pub returns-in-Ok-clause-format : goal.returns-in-Ok-clause-format
 returns-in-Ok-clause-format g c =
@@ -32,11 +33,29 @@ returns-in-Ok-clause-format g c =
 
 pub returns-in-Ok-clause-refusal : goal.returns-in-Ok-clause-refusal
 returns-in-Ok-clause-refusal g c = λ nothing written faults.
-    making_refusal _ _ _ _ _ _ _ c.make_image.ensures.answer c.make_image.ensures.makes nothing
+    making_refusal [] [] c.args.slots c.args.payload _ _ _ _ _ _ _ (c.make_image.ensures.answer [] []) c.make_image.ensures.makes nothing
 
 pub returns-in-Ok-clause-unused : goal.returns-in-Ok-clause-unused
 returns-in-Ok-clause-unused g c = λ path image. format_unused path image _ _ _ _ _ _ c.make_image.ensures.makes.quiet.passes
 
 pub returns-in-Ok-clause-complete : goal.returns-in-Ok-clause-complete
 returns-in-Ok-clause-complete g c = λ path image faults whole faultless.
-    inl (making_done _ _ _ _ _ c.make_image.ensures.answer c.make_image.ensures.makes whole.1 whole.2 faultless.1)
+    inl (making_done [] [] c.args.slots c.args.payload _ _ _ _ _ (c.make_image.ensures.answer [] []) c.make_image.ensures.makes whole.1 whole.2 faultless.1)
+
+pub returns-in-Ok-clause-answers : goal.returns-in-Ok-clause-answers
+returns-in-Ok-clause-answers g c = λ path image.
+    own_may (format_image path image c.args.slots c.args.payload) _ (c.make_image.ensures.answer path image)
+
+pub returns-in-Ok-clause-deck_untouched : goal.returns-in-Ok-clause-deck_untouched
+returns-in-Ok-clause-deck_untouched g c = λ early.
+    absurd (own_uses (format_image [] [] c.args.slots c.args.payload) _ (inr (c.make_image.ensures.answer [] [])) early)
+
+pub returns-in-Ok-clause-causes : goal.returns-in-Ok-clause-causes
+returns-in-Ok-clause-causes g c = λ faults.
+    let form = format_image [] [] c.args.slots c.args.payload in
+    record {
+      table = λ e. absurd (own_not_table form _ (inr (c.make_image.ensures.answer [] [])) e);
+      line = λ e. absurd (own_not_line form _ (inr (c.make_image.ensures.answer [] [])) (λ none. none) e);
+      write = λ e. absurd (own_not_sink form _ (inr (c.make_image.ensures.answer [] [])) (λ none. none) e);
+      disk = c.make_image.ensures.makes.cause;
+    }

@@ -13,3 +13,6 @@ pub returns-in-Err-write_rest-clause-streams : goal.returns-in-Err-write_rest-cl
 returns-in-Err-write_rest-clause-streams g c = λ t fresh.
     let to = c.in-Ok.ensures.all t fresh in
     Streams-failed t _ _ _ _ _ _ _ c.in-Ok.answer to (c.in-Err-write_rest.ensures.part t _ _ to.streamed)
+
+pub returns-in-Ok-write_rest-clause-answer : goal.returns-in-Ok-write_rest-clause-answer
+returns-in-Ok-write_rest-clause-answer g c = λ path. let r = c.requires in (c.in-Ok.ensures.all r.0 r.1).own path

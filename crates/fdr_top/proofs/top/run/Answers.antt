@@ -4,9 +4,11 @@ use Rattle.fdr_words.specs.Request.{form_of_request}
 use Rattle.fdr_words.specs.declared.Request.{Request}
 use Rattle.fdr_top.specs.Answers.{HasImage, MayAnswer}
 use Rattle.fdr_top.proofs.Images.{recovers_nothing}
+use Rattle.fdr_top.proofs.ListedImages.{lists_nothing}
 use Rattle.fdr_top.proofs.Making.{makes_nothing}
+use Rattle.fdr_top.proofs.Readable.{records_nothing}
 use Rattle.fdr_top.proofs.Pieces.{TakesAtMost-none}
-use Rattle.fdr_top.proofs.TraceAnswers.{same_form}
+use Rattle.fdr_top.proofs.Commands.{may_asks, same_form}
 use Rattle.fdr_top.proofs.top.run.Goals as goal
 
 pub returns-in-Err-Usage-clause-bounded : goal.returns-in-Err-Usage-clause-bounded
@@ -37,8 +39,8 @@ returns-in-CheckTable-clause-untouched g c = λ e. absurd (rw e at (c.check.ensu
 
 pub returns-in-CheckTable-clause-answers : goal.returns-in-CheckTable-clause-answers
 returns-in-CheckTable-clause-answers g c = λ form asks.
-    subst (λ (x : Form). MayAnswer x c.check.result) (same_form _ _ _ (c.in-Ok.ensures.form ∙ ap (λ (r : Request). Some (form_of_request r)) c.in-CheckTable.is)
-    asks) (c.check.ensures.answers _)
+    may_asks _ _ _ (same_form _ _ _ (c.in-Ok.ensures.form ∙ ap (λ (r : Request). Some (form_of_request r)) c.in-CheckTable.is) asks)
+    (c.check.ensures.answers c.in-CheckTable.table)
 
 pub returns-in-StreamLine-clause-usage : goal.returns-in-StreamLine-clause-usage
 returns-in-StreamLine-clause-usage g c = (
@@ -51,8 +53,8 @@ returns-in-StreamLine-clause-untouched g c = λ e. absurd (rw e at (c.stream.ens
 
 pub returns-in-StreamLine-clause-answers : goal.returns-in-StreamLine-clause-answers
 returns-in-StreamLine-clause-answers g c = λ form asks.
-    subst (λ (x : Form). MayAnswer x c.stream.result) (same_form _ _ _
-    (c.in-Ok.ensures.form ∙ ap (λ (r : Request). Some (form_of_request r)) c.in-StreamLine.is) asks) (c.stream.ensures.answers _)
+    may_asks _ _ _ (same_form _ _ _ (c.in-Ok.ensures.form ∙ ap (λ (r : Request). Some (form_of_request r)) c.in-StreamLine.is) asks)
+    (c.stream.ensures.answers c.in-StreamLine.table)
 
 pub returns-in-StreamLine-clause-unused : goal.returns-in-StreamLine-clause-unused
 returns-in-StreamLine-clause-unused g c = λ form asks.
@@ -75,8 +77,8 @@ returns-in-ListBits-clause-untouched g c = λ e. absurd (rw e at (c.listbits.ens
 
 pub returns-in-ListBits-clause-answers : goal.returns-in-ListBits-clause-answers
 returns-in-ListBits-clause-answers g c = λ form asks.
-    subst (λ (x : Form). MayAnswer x c.listbits.result)
-    (same_form _ _ _ (c.in-Ok.ensures.form ∙ ap (λ (r : Request). Some (form_of_request r)) c.in-ListBits.is) asks) (c.listbits.ensures.answers _)
+    may_asks _ _ _ (same_form _ _ _ (c.in-Ok.ensures.form ∙ ap (λ (r : Request). Some (form_of_request r)) c.in-ListBits.is) asks)
+    (c.listbits.ensures.answers c.in-ListBits.table)
 
 pub returns-in-ListBits-clause-unused : goal.returns-in-ListBits-clause-unused
 returns-in-ListBits-clause-unused g c = λ form asks.
@@ -99,8 +101,8 @@ returns-in-FormatImage-clause-untouched g c = λ e. absurd (rw e at (c.format.en
 
 pub returns-in-FormatImage-clause-answers : goal.returns-in-FormatImage-clause-answers
 returns-in-FormatImage-clause-answers g c = λ form asks.
-    subst (λ (x : Form). MayAnswer x c.format.result) (same_form _ _ _
-    (c.in-Ok.ensures.form ∙ ap (λ (r : Request). Some (form_of_request r)) c.in-FormatImage.is) asks) (c.format.ensures.answers _ _)
+    may_asks _ _ _ (same_form _ _ _ (c.in-Ok.ensures.form ∙ ap (λ (r : Request). Some (form_of_request r)) c.in-FormatImage.is) asks)
+    (c.format.ensures.answers c.in-FormatImage.table c.in-FormatImage.image)
 
 pub returns-in-FormatImage-clause-complete : goal.returns-in-FormatImage-clause-complete
 returns-in-FormatImage-clause-complete g c = λ form asks whole faultless.
@@ -109,8 +111,8 @@ returns-in-FormatImage-clause-complete g c = λ form asks whole faultless.
 
 pub returns-clause-answers : goal.returns-clause-answers
 returns-clause-answers g c = λ form asks.
-    subst (λ (x : Form). MayAnswer x c.recover.result)
-    (same_form _ _ _ (c.in-Ok.ensures.form ∙ ap (λ (r : Request). Some (form_of_request r)) c.in-RecoverImage.is) asks) (c.recover.ensures.answers _)
+    may_asks _ _ _ (same_form _ _ _ (c.in-Ok.ensures.form ∙ ap (λ (r : Request). Some (form_of_request r)) c.in-RecoverImage.is) asks)
+    (c.recover.ensures.answers c.in-RecoverImage.image)
 
 pub returns-clause-complete : goal.returns-clause-complete
 returns-clause-complete g c = λ form asks whole faultless.
@@ -125,5 +127,59 @@ returns-in-CheckTable-clause-causes g c = record {
   table = c.check.ensures.table_fault;
   line = λ e. absurd (rw e at (c.check.ensures.answers []));
   write = c.check.ensures.write_fault;
-  disk = λ e. absurd (let has : HasImage (check_table []) = rw e at (c.check.ensures.answers []) in cc);
+  disk = λ e. absurd (let has : HasImage (check_table []) = rw e at (c.check.ensures.answers []) in has);
 }
+
+pub returns-in-Err-NoMemory-clause-record : goal.returns-in-Err-NoMemory-clause-record
+returns-in-Err-NoMemory-clause-record g c = λ path image asks.
+    records_nothing _ _ _ _ (g.met.D.Deck.sound c.args.deck.now) (λ past. past)
+
+pub returns-in-RecordLine-clause-usage : goal.returns-in-RecordLine-clause-usage
+returns-in-RecordLine-clause-usage g c = (
+  λ e. absurd (rw e at (c.record.ensures.answers [] [])),
+  λ none. absurd (let k = sym none ∙ c.in-Ok.ensures.form in cc),
+)
+
+pub returns-in-RecordLine-clause-untouched : goal.returns-in-RecordLine-clause-untouched
+returns-in-RecordLine-clause-untouched g c = λ e. absurd (rw e at (c.record.ensures.answers [] []))
+
+pub returns-in-RecordLine-clause-refusal : goal.returns-in-RecordLine-clause-refusal
+returns-in-RecordLine-clause-refusal g c = λ nothing. c.record.ensures.refusal nothing _ _
+
+pub returns-in-RecordLine-clause-complete : goal.returns-in-RecordLine-clause-complete
+returns-in-RecordLine-clause-complete g c = λ form asks whole faultless.
+    let same = same_form _ _ _ asks (c.in-Ok.ensures.form ∙ ap (λ (r : Request). Some (form_of_request r)) c.in-RecordLine.is) in
+    c.record.ensures.complete [] [] 0 (rw same at whole) (rw same at faultless)
+
+pub returns-in-RecordLine-clause-answers : goal.returns-in-RecordLine-clause-answers
+returns-in-RecordLine-clause-answers g c = λ form asks.
+    may_asks _ _ _ (same_form _ _ _ (c.in-Ok.ensures.form ∙ ap (λ (r : Request). Some (form_of_request r)) c.in-RecordLine.is) asks)
+    (c.record.ensures.answers c.in-RecordLine.table c.in-RecordLine.image)
+
+pub returns-in-Err-NoMemory-clause-list : goal.returns-in-Err-NoMemory-clause-list
+returns-in-Err-NoMemory-clause-list g c = λ path image asks.
+    lists_nothing _ _ _ _ _ (g.met.D.Deck.sound c.args.deck.now) (inl refl)
+
+pub returns-in-ListImage-clause-usage : goal.returns-in-ListImage-clause-usage
+returns-in-ListImage-clause-usage g c = (
+  λ e. absurd (rw e at (c.list.ensures.answers [] [])),
+  λ none. absurd (let k = sym none ∙ c.in-Ok.ensures.form in cc),
+)
+
+pub returns-in-ListImage-clause-untouched : goal.returns-in-ListImage-clause-untouched
+returns-in-ListImage-clause-untouched g c = λ e. absurd (rw e at (c.list.ensures.answers [] []))
+
+pub returns-in-ListImage-clause-answers : goal.returns-in-ListImage-clause-answers
+returns-in-ListImage-clause-answers g c = λ form asks.
+    may_asks _ _ _ (same_form _ _ _ (c.in-Ok.ensures.form ∙ ap (λ (r : Request). Some (form_of_request r)) c.in-ListImage.is) asks)
+    (c.list.ensures.answers c.in-ListImage.table c.in-ListImage.image)
+
+pub returns-in-ListImage-clause-unused : goal.returns-in-ListImage-clause-unused
+returns-in-ListImage-clause-unused g c = λ form asks.
+    let same = same_form _ _ _ asks (c.in-Ok.ensures.form ∙ ap (λ (r : Request). Some (form_of_request r)) c.in-ListImage.is) in
+    rw same (c.list.ensures.unused _ _)
+
+pub returns-in-ListImage-clause-complete : goal.returns-in-ListImage-clause-complete
+returns-in-ListImage-clause-complete g c = λ form asks whole faultless.
+    let same = same_form _ _ _ asks (c.in-Ok.ensures.form ∙ ap (λ (r : Request). Some (form_of_request r)) c.in-ListImage.is) in
+    c.list.ensures.complete [] [] (rw same at whole) (rw same at faultless)

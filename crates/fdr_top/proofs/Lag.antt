@@ -9,28 +9,9 @@ use Rattle.fdr_deck.specs.State.{State, Tells, Moment}
 use Rattle.fdr_deck.specs.Calls.{KeepsTold, HasOneAnnounced}
 use Rattle.fdr_deck.specs.Moments.{HasPulled, EachMoment, IsSoundDeck}
 use Rattle.fdr_deck.proofs.Moments.{EachMoment-weaken}
+use Rattle.fdr_top.specs.Lag.{IsInTime, IsLagMoment, KeepsUp}
 use Rattle.fdr_trace.specs.Moments.{IsLastPull, IsTraceMoment, PullsFor}
 use Rattle.fdr_trace.specs.Pulls.{PullsMore}
-
--- The last pull that gave bytes gave at most 4,096 of these, and what is owed for the good records of those before it is
--- announced.
-pub record IsInTime (owed : List BusRecord → ℕ) (start : ℕ) (bytes : List ℕ) (told before taken : ℕ) : Type 0 where
-  pub begins : start ≤ before
-  pub some : before < taken
-  pub few : taken ≤ before + 4096
-  pub within : taken ≤ start + length bytes
-  pub announced : owed (good_prefix (take (before - start) bytes)) ≤ told
-
--- a moment at which nothing was pulled yet, or at which what is owed is announced
-pub record IsLagMoment (owed : List BusRecord → ℕ) (first : State) (bytes : List ℕ) (m : Moment) : Type 0 where
-  pub pulled : HasPulled first m ⊎ IsInTime owed first.taken bytes m.told m.before m.taken
-
--- between two records: also the least number may be what stands at a moment, and what is owed for these records is announced
-pub record KeepsUp (owed : List BusRecord → ℕ) (tells : Tells) (first now : State) (bytes : List ℕ)
-    (records : List BusRecord) : Type 0 where
-  pub pulls : PullsMore tells first now [] bytes
-  pub least : 0 < length bytes → IsInTime owed first.taken bytes now.least now.before now.taken
-  pub told : owed records ≤ now.told
 
 pub IsInTime-more : (owed : List BusRecord → ℕ) (start : ℕ) (bytes more : List ℕ) (told told' before taken : ℕ)
     → told ≤ told' → IsInTime owed start bytes told before taken
@@ -43,7 +24,7 @@ IsInTime-more owed start bytes more told told' before taken le is =
     record {
       begins = is.begins;
       some = is.some;
-      few = is.few;
+      within_piece = is.within_piece;
       within = omega (arith, is.within, length-append bytes more);
       announced = omega (arith, le, is.announced, same);
     }
@@ -62,7 +43,7 @@ IsInTime-pull owed start at bytes more records told before taken is enough last 
     record {
       begins = omega (arith, last.begins, is);
       some = last.some;
-      few = last.few;
+      within_piece = last.few;
       within = omega (arith, last.within, is, length-append bytes more);
       announced = omega (arith, same, enough);
     }
@@ -72,7 +53,7 @@ module _ (owed : List BusRecord → ℕ) (tells : Tells) (first old new : State)
     (up : KeepsUp owed tells first old bytes records)
     (pulls : PullsMore tells old new bytes more) (reads : PullsFor tells old new bytes more records)
     (told : KeepsTold old new) (fresh : old.taken < new.taken → HasOneAnnounced new) where
-  at_moment : (m : Moment) → IsTraceMoment old bytes more records m → IsLagMoment owed first (bytes ++ more) m
+  pub at_moment : (m : Moment) → IsTraceMoment old bytes more records m → IsLagMoment owed first (bytes ++ more) m
   at_moment m is = record {
     pulled = ⊎_elim
         (λ here. ⊎_elim

@@ -1,0 +1,265 @@
+-- What listing an image leaves and answers.
+use Rattle.std.proofs.Common.{◌≡◌, ◌≢◌, ◌⊎◌, ⊎_elim, inl, inr, ℕ, ◌<◌, List, [], Option, Some, None, ap, sym, refl, ◌∙◌}
+use Rattle.std.specs.Prelude.{IsTrue, ◌↔◌, take}
+use Rattle.fdr_io.specs.Faults.{Rose}
+use Rattle.fdr_io.specs.Told.{followed_by}
+use Rattle.fdr_io.specs.declared.Input.TheVariants as input
+use Rattle.fdr_io.proofs.Telling.{followed_by-nil}
+use Rattle.fdr_deck.specs.State.{State, Tells}
+use Rattle.fdr_deck.specs.Moments.{IsSoundDeck}
+use Rattle.fdr_deck.proofs.Moments.{IsQuiet-here}
+use Rattle.fdr_slot.specs.declared.image.Header.{Header}
+use Rattle.fdr_slot.specs.declared.image.ImageFault.{ImageFault}
+use Rattle.fdr_slot.specs.declared.image.ImageFault.TheVariants as fault
+use Rattle.fdr_recover.specs.Images.{recovered_run}
+use Rattle.fdr_recover.specs.Looks.{Looks}
+use Rattle.fdr_recover.specs.ImageHeader.{image_fault_of, header_in}
+use Rattle.fdr_recover.specs.declared.error.RingFault.{RingFault}
+use Rattle.fdr_recover.specs.declared.error.RingFault.TheVariants as ring
+use Rattle.fdr_table.specs.Rows.{TableRows}
+use Rattle.fdr_readout.specs.Listing.{listing_of}
+use Rattle.fdr_recorder.specs.Starting.{IsFor}
+use Rattle.fdr_words.specs.Forms.{list_image}
+use Rattle.fdr_top.specs.Answers.{EndsBeforeDeck, IsOfTable, IsOwn, IsPastTable, MayAnswer}
+use Rattle.fdr_top.specs.Leaves.{Causes, LeavesUnused}
+use Rattle.fdr_top.specs.List.{ListsImage, listing_in}
+use Rattle.fdr_top.specs.Recover.{OnlyLooks, header_refusal, payloads_of, run_in}
+use Rattle.fdr_top.specs.Tables.{ByTable, table_in}
+use Rattle.fdr_top.specs.declared.outcome.Outcome.{Outcome}
+use Rattle.fdr_top.specs.declared.outcome.Outcome.TheVariants as outcome
+use Rattle.fdr_top.proofs.Answering.{passes_keeps}
+use Rattle.fdr_top.proofs.Commands.{own_may, own_past}
+use Rattle.fdr_top.proofs.Images.{OnlyLooks-then, same_fault}
+use Rattle.fdr_top.proofs.TableAnswers.{past_not_memory, table_not_past}
+
+-- an image has one first fault, or none
+same_first : (image : List ℕ) (a b : ImageFault) → image_fault_of image ≡ Some a → image_fault_of image ≡ Some b → a ≡ b
+same_first image a b first second = let c : ◌≡◌ {A = Option ImageFault} (Some a) (Some b) = sym first ∙ second in cc
+
+no_first : (image : List ℕ) (why : ImageFault) → image_fault_of image ≡ None → image_fault_of image ≡ Some why → ⊥
+no_first image why none some = let c : ◌≡◌ {A = Option ImageFault} None (Some why) = sym none ∙ some in cc
+
+-- where the header isn't read
+pub image_unread : (t : TableRows) (tells : Tells) (old new : State) (written : Option (List ℕ)) (f : RingFault) → OnlyLooks tells old new
+    → (f ≡ ring.NotEmpty → ⊥) → (f ≡ ring.SeqEnd → ⊥)
+    → (IsTrue tells.bytes → (why : ImageFault) → f ≡ ring.Image why → image_fault_of old.held ≡ Some why)
+    → ((why : ImageFault) → f ≡ ring.Image why → (why ≡ fault.Small) ↔ (new.extent < 64))
+    → ListsImage t tells old new written written (header_refusal f)
+image_unread t tells old new written ring.NotEmpty looks not_empty not_end first small = absurd (not_empty refl)
+image_unread t tells old new written (ring.Image found) looks not_empty not_end first small = record {
+  looks = looks;
+  text = λ done told. absurd (cc);
+  part = λ told. (0, sym (followed_by-nil written));
+  good = λ either told. absurd (⊎_elim
+      (λ (e : outcome.ImageRefused found ≡ outcome.Done). cc) (λ (e : outcome.ImageRefused found ≡ outcome.WriteFault). cc) either);
+  refused = λ why e told. first told why (ap ring.Image (same_fault found why e));
+  small = λ why e. small why (ap ring.Image (same_fault found why e));
+  refused_always = λ why past told some. inl (ap outcome.ImageRefused (same_first old.held found why (first told found refl) some));
+  words = λ image table e. absurd (cc);
+  words_always = λ image past told for other. absurd (no_first old.held found for.no_fault (first told found refl));
+}
+image_unread t tells old new written ring.DiskFault looks not_empty not_end first small = record {
+  looks = looks;
+  text = λ done told. absurd (cc);
+  part = λ told. (0, sym (followed_by-nil written));
+  good = λ either told. absurd (⊎_elim (λ (e : outcome.DiskFault ≡ outcome.Done). cc) (λ (e : outcome.DiskFault ≡ outcome.WriteFault). cc) either);
+  refused = λ why e told. absurd (cc);
+  small = λ why e. absurd (cc);
+  refused_always = λ why past told some. inr refl;
+  words = λ image table e. absurd (cc);
+  words_always = λ image past told for other. inr refl;
+}
+image_unread t tells old new written ring.SeqEnd looks not_empty not_end first small = absurd (not_end refl)
+
+-- where the image is for frames of other words
+pub words_differ : (t : TableRows) (tells : Tells) (old new : State) (written : Option (List ℕ)) (h : Header) → OnlyLooks tells old new
+    → (IsTrue tells.bytes → h ≡ header_in old.held) → (IsTrue tells.bytes → image_fault_of old.held ≡ None) → h.words ≢ t.frame.words
+    → ListsImage t tells old new written written (outcome.WordsDiffer h.words t.frame.words)
+words_differ t tells old new written h looks header good other = record {
+  looks = looks;
+  text = λ done told. absurd (cc);
+  part = λ told. (0, sym (followed_by-nil written));
+  good = λ either told. absurd (⊎_elim
+      (λ (e : outcome.WordsDiffer h.words t.frame.words ≡ outcome.Done). cc)
+      (λ (e : outcome.WordsDiffer h.words t.frame.words ≡ outcome.WriteFault). cc) either);
+  refused = λ why e told. absurd (cc);
+  small = λ why e. absurd (cc);
+  refused_always = λ why past told some. absurd (no_first old.held why (good told) some);
+  words = λ image table e. same_words image table e;
+  words_always = λ image past told for differs. inl
+      (ap (λ (n : ℕ). outcome.WordsDiffer n t.frame.words) (ap (λ (x : Header). x.words) (header told) ∙ for.words));
+}
+  where
+    same_words : (image table : ℕ) → outcome.WordsDiffer h.words t.frame.words ≡ outcome.WordsDiffer image table
+        → (table ≡ t.frame.words) × (image ≢ table) × (IsTrue tells.bytes → IsFor image old.held)
+    same_words image table e =
+        let first : h.words ≡ image = cc in
+        let second : t.frame.words ≡ table = cc in (
+          sym second,
+          λ same. other (first ∙ same ∙ sym second),
+          λ told. record { no_fault = good told; words = sym (ap (λ (x : Header). x.words) (header told)) ∙ first },
+        )
+
+-- where the image is for the table's frames
+image_for : (t : TableRows) (tells : Tells) (old new : State) (before now : Option (List ℕ)) (answer : Outcome) → OnlyLooks tells old new
+    → (IsTrue tells.bytes → IsFor t.frame.words old.held)
+    → ((why : ImageFault) → answer ≡ outcome.ImageRefused why → ⊥) → ((image table : ℕ) → answer ≡ outcome.WordsDiffer image table → ⊥)
+    → (answer ≡ outcome.Done → IsTrue tells.bytes → now ≡ followed_by before (listing_in t old.held))
+    → (IsTrue tells.bytes → (k : ℕ) × (now ≡ followed_by before (take k (listing_in t old.held))))
+    → ListsImage t tells old new before now answer
+image_for t tells old new before now answer looks for unrefused same text part = record {
+  looks = looks;
+  text = text;
+  part = part;
+  good = λ either told. for told;
+  refused = λ why e told. absurd (unrefused why e);
+  small = λ why e. absurd (unrefused why e);
+  refused_always = λ why past told some. absurd (no_first old.held why (for told).no_fault some);
+  words = λ image table e. absurd (same image table e);
+  words_always = λ image past told is differs. absurd (differs (sym is.words ∙ (for told).words));
+}
+
+-- the header that was read is for the table's frames
+read_for : (t : TableRows) (tells : Tells) (old : State) (h : Header) → (IsTrue tells.bytes → h ≡ header_in old.held)
+    → (IsTrue tells.bytes → image_fault_of old.held ≡ None) → h.words ≡ t.frame.words → IsTrue tells.bytes → IsFor t.frame.words old.held
+read_for t tells old h header good same told =
+    record { no_fault = good told; words = sym (ap (λ (x : Header). x.words) (header told)) ∙ same }
+
+-- where memory ends before a block is read
+pub unlisted : (t : TableRows) (tells : Tells) (old new : State) (written : Option (List ℕ)) (h : Header) → OnlyLooks tells old new
+    → (IsTrue tells.bytes → h ≡ header_in old.held) → (IsTrue tells.bytes → image_fault_of old.held ≡ None) → h.words ≡ t.frame.words
+    → ListsImage t tells old new written written outcome.NoMemory
+unlisted t tells old new written h looks header good same =
+    image_for t tells old new written written outcome.NoMemory looks (read_for t tells old h header good same)
+    (λ why e. cc) (λ image table e. cc) (λ done told. absurd (cc)) (λ told. (0, sym (followed_by-nil written)))
+
+-- what the blocks' listing answers
+abbrev pub IsOfBlocks : Outcome → Type 0
+IsOfBlocks answer = (answer ≡ outcome.Done) ⊎ ((answer ≡ outcome.WriteFault) ⊎ (answer ≡ outcome.DiskFault))
+
+of_blocks_unrefused : (answer : Outcome) (why : ImageFault) → IsOfBlocks answer → answer ≡ outcome.ImageRefused why → ⊥
+of_blocks_unrefused answer why of e = ⊎_elim
+    (λ (x : answer ≡ outcome.Done). let c : outcome.ImageRefused why ≡ outcome.Done = sym e ∙ x in cc)
+    (λ (rest : (answer ≡ outcome.WriteFault) ⊎ (answer ≡ outcome.DiskFault)). ⊎_elim
+    (λ (x : answer ≡ outcome.WriteFault). let c : outcome.ImageRefused why ≡ outcome.WriteFault = sym e ∙ x in cc)
+    (λ (x : answer ≡ outcome.DiskFault). let c : outcome.ImageRefused why ≡ outcome.DiskFault = sym e ∙ x in cc)
+    rest)
+    of
+
+of_blocks_same : (answer : Outcome) (image table : ℕ) → IsOfBlocks answer → answer ≡ outcome.WordsDiffer image table → ⊥
+of_blocks_same answer image table of e = ⊎_elim
+    (λ (x : answer ≡ outcome.Done). let c : outcome.WordsDiffer image table ≡ outcome.Done = sym e ∙ x in cc)
+    (λ (rest : (answer ≡ outcome.WriteFault) ⊎ (answer ≡ outcome.DiskFault)). ⊎_elim
+    (λ (x : answer ≡ outcome.WriteFault). let c : outcome.WordsDiffer image table ≡ outcome.WriteFault = sym e ∙ x in cc)
+    (λ (x : answer ≡ outcome.DiskFault). let c : outcome.WordsDiffer image table ≡ outcome.DiskFault = sym e ∙ x in cc)
+    rest)
+    of
+
+-- where the blocks are read and their bits listed
+pub blocks_listed : (t : TableRows) (tells : Tells) (old mid new : State) (h : Header) (before now : Option (List ℕ)) (answer : Outcome) → IsSoundDeck tells old
+    → OnlyLooks tells old mid → Looks tells mid new → (IsTrue tells.bytes → h ≡ header_in old.held)
+    → (IsTrue tells.bytes → image_fault_of old.held ≡ None) → h.words ≡ t.frame.words → IsOfBlocks answer
+    → (answer ≡ outcome.Done → IsTrue tells.bytes → now ≡ followed_by before (listing_of t (payloads_of (recovered_run h mid.held))))
+    → (IsTrue tells.bytes → (k : ℕ) × (now ≡ followed_by before (take k (listing_of t (payloads_of (recovered_run h mid.held))))))
+    → ListsImage t tells old new before now answer
+blocks_listed t tells old mid new h before now answer sound first second header good same of text part =
+    let whole : IsTrue tells.bytes → recovered_run h mid.held ≡ run_in old.held = λ told.
+    ap (recovered_run h) first.disk.held ∙ ap (λ (x : Header). recovered_run x old.held) (header told) in
+    image_for t tells old new before now answer (OnlyLooks-then tells old mid new sound first second)
+    (read_for t tells old h header good same)
+    (λ why e. of_blocks_unrefused answer why of e) (λ image table e. of_blocks_same answer image table of e)
+    (λ done told. text done told ∙ ap (λ run. followed_by before (listing_of t (payloads_of run))) (whole told))
+    (λ told. let p = part told in (p.0, p.1 ∙ ap (λ run. followed_by before (take p.0 (listing_of t (payloads_of run)))) (whole told)))
+
+-- a table, which is that of the source's bytes where it tells them
+any_table : (rest : Option (List ℕ)) → (t : TableRows) × ((bytes : List ℕ) → rest ≡ Some bytes → t ≡ table_in bytes)
+any_table None = (table_in [], λ bytes told. absurd (cc))
+any_table (Some found) = (table_in found, λ bytes told. let same : found ≡ bytes = cc in ap table_in same)
+
+-- where the table isn't read, the deck isn't touched and nothing is listed
+pub lists_nothing : (tells : Tells) (rest : Option (List ℕ)) (d : State) (written : Option (List ℕ)) (answer : Outcome) → IsSoundDeck tells d
+    → (answer ≡ outcome.NoMemory) ⊎ IsOfTable answer
+    → ByTable rest (λ (t : TableRows). ListsImage t tells d d written written answer)
+lists_nothing tells rest d written answer sound either =
+    let early : IsPastTable answer → ⊥ = λ past. ⊎_elim
+    (λ (m : answer ≡ outcome.NoMemory). past_not_memory answer past m)
+    (λ (of : IsOfTable answer). table_not_past answer of past) either in
+    let not : (other : Outcome) → IsPastTable other → answer ≡ other → ⊥ = λ other past e. early (rw e past) in
+    let found = any_table rest in (
+      found.0,
+      found.1,
+      record {
+        looks = record {
+          learns = record { bytes = λ told. refl; stops = λ told. refl; known = λ some. refl };
+          disk = record { held = refl; no_more = λ image leaves. leaves; no_less = λ image leaves. leaves };
+          quiet = IsQuiet-here tells d.may_leave d sound (λ told image leaves. leaves);
+        };
+        text = λ done told. absurd (not outcome.Done tt done);
+        part = λ told. (0, sym (followed_by-nil written));
+        good = λ either told. absurd (⊎_elim (not outcome.Done tt) (not outcome.WriteFault tt) either);
+        refused = λ why e told. absurd (not (outcome.ImageRefused why) tt e);
+        small = λ why e. absurd (not (outcome.ImageRefused why) tt e);
+        refused_always = λ why past told some. absurd (early past);
+        words = λ image table e. absurd (not (outcome.WordsDiffer image table) tt e);
+        words_always = λ image past told for differs. absurd (early past);
+      },
+    )
+
+-- what a listing leaves of what it doesn't use
+pub list_unused : (path image : List ℕ) (t : TableRows) (tells : Tells) (old new : State) (before now : Option (List ℕ)) (answer : Outcome)
+    → ListsImage t tells old new before now answer → LeavesUnused (list_image path image) old new answer
+list_unused path image t tells old new before now answer lists = record {
+  line = λ unused. passes_keeps tells old new lists.looks.quiet.passes;
+  disk = λ unused. absurd (unused tt);
+  told = λ unused. lists.looks.quiet.passes.told.told;
+  trace = λ other memory. absurd other;
+  bits = λ other. absurd other;
+}
+
+-- the image is for the table's frames, and nothing fails: its bits are listed, or memory ended
+pub list_done : (path image : List ℕ) (t : TableRows) (tells : Tells) (old new : State) (before now : Option (List ℕ)) (answer : Outcome)
+    → (answer ≡ outcome.NoMemory) ⊎ IsOwn (list_image path image) answer → ListsImage t tells old new before now answer
+    → IsTrue tells.bytes → IsFor t.frame.words old.held → (answer ≡ outcome.DiskFault → ⊥) → (answer ≡ outcome.WriteFault → ⊥)
+    → (answer ≡ outcome.Done) ⊎ (answer ≡ outcome.NoMemory)
+list_done path image t tells old new before now outcome.Done of lists told for disk sink = inl refl
+list_done path image t tells old new before now (outcome.ImageRefused why) of lists told for disk sink =
+    absurd (no_first old.held why for.no_fault (lists.refused why refl told))
+list_done path image t tells old new before now (outcome.WordsDiffer words table) of lists told for disk sink =
+    let differ = lists.words words table refl in
+    absurd (differ.1 (sym (differ.2 told).words ∙ for.words ∙ sym differ.0))
+list_done path image t tells old new before now outcome.WriteFault of lists told for disk sink = absurd (sink refl)
+list_done path image t tells old new before now outcome.DiskFault of lists told for disk sink = absurd (disk refl)
+list_done path image t tells old new before now outcome.NoMemory of lists told for disk sink = inr refl
+list_done path image t tells old new before now (outcome.ReadFault input.Table) of lists told for disk sink =
+    ⊎_elim (λ memory. absurd (cc)) (λ own. absurd own) of
+list_done path image t tells old new before now (outcome.ReadFault input.Line) of lists told for disk sink =
+    ⊎_elim (λ memory. absurd (cc)) (λ own. absurd own) of
+list_done path image t tells old new before now answer of lists told for disk sink = ⊎_elim (λ memory. inr memory) (λ own. absurd own) of
+
+-- an answer past the table doesn't come before the deck is asked
+past_not_before : (answer : Outcome) → IsPastTable answer → EndsBeforeDeck answer → ⊥
+past_not_before outcome.Usage past before = past
+past_not_before (outcome.TableRefused row f) past before = past
+past_not_before (outcome.ReadFault input.Table) past before = past
+past_not_before answer past before = before
+
+-- what a listing answers is an answer of the command, and comes after the deck was asked
+pub list_may : (path image : List ℕ) (answer : Outcome) → (answer ≡ outcome.NoMemory) ⊎ IsOwn (list_image path image) answer
+    → MayAnswer (list_image path image) answer
+list_may path image answer of = ⊎_elim (λ (m : answer ≡ outcome.NoMemory). rw m tt) (λ own. own_may (list_image path image) answer own) of
+
+pub list_not_before : (answer : Outcome) → (answer ≡ outcome.NoMemory) ⊎ IsOwn (list_image [] []) answer → EndsBeforeDeck answer → ⊥
+list_not_before answer of before = ⊎_elim
+    (λ (m : answer ≡ outcome.NoMemory). rw m at before)
+    (λ (own : IsOwn (list_image [] []) answer). past_not_before answer (own_past (list_image [] []) answer own) before)
+    of
+
+pub list_causes : (answer : Outcome) (t u : ℕ) (old new : State) (f g : ℕ) → (answer ≡ outcome.NoMemory) ⊎ IsOwn (list_image [] []) answer
+    → (answer ≡ outcome.DiskFault → Rose old.disk_faults new.disk_faults) → (answer ≡ outcome.WriteFault → Rose f g)
+    → Causes answer t u old new f g
+list_causes answer t u old new f g of disk sink = record {
+  table = λ e. absurd (list_not_before answer of (rw e tt));
+  line = λ (e : answer ≡ outcome.ReadFault input.Line). absurd (rw e at (list_may [] [] answer of));
+  write = sink;
+  disk = disk;
+}

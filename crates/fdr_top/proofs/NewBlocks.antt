@@ -1,0 +1,117 @@
+-- The blocks of a recording as further good records come.
+use Rattle.std.proofs.Common.{◌≡◌, ℕ, zero, suc, ◌+◌, ◌-◌, ◌*◌, ◌/◌, ◌≤◌, List, [], ◌∷◌, ◌++◌, length, map, take, drop, ap, sym, refl, ◌∙◌, subst, length-take}
+use Rattle.std.proofs.Common.{arith}
+use Rattle.std.specs.List.{range_with_len}
+use Rattle.std.proofs.lemmas.List.{drop-take, take-append-drop}
+use Rattle.std.proofs.lemmas.List.FromFn.{length-map-range_with_len, map-range_with_len_more, take-map-range_with_len}
+use Rattle.std.proofs.lemmas.Nat.{le-div, mul-le}
+use Rattle.std.proofs.Math.Nat.{div-mul-le_self, mul_comm}
+use Rattle.fdr_bus.specs.declared.BusRecord.{BusRecord}
+use Rattle.fdr_bus.specs.Records.{good_prefix, time_of}
+use Rattle.fdr_slot.specs.Limits.{IsInLimits}
+use Rattle.fdr_recover.specs.Blocks.{Block}
+use Rattle.fdr_sampler.specs.Stream.{slot_count, stream_of, stream_words}
+use Rattle.fdr_sampler.proofs.Packing.{length-packed}
+use Rattle.fdr_stream.specs.Blocks.{cut_block, blocks_of}
+use Rattle.fdr_stream.proofs.Later.{due_blocks-fill}
+use Rattle.fdr_stream.proofs.Standing.{slot_count-later}
+use Rattle.fdr_recorder.specs.Past.{SessionPast, all_blocks, blocks_from, session_bytes, due, numbered_block, recorded_of}
+use Rattle.fdr_top.specs.Recording.{fed}
+use Rattle.fdr_top.proofs.Longer.{stream_of-good, time-grows}
+use Rattle.fdr_sampler.proofs.StreamWords.{length-stream_words}
+
+-- as many as are due are recorded
+pub recorded-long : (past : SessionPast) → length (recorded_of past) ≡ due past
+recorded-long past = length-map-range_with_len (numbered_block past) 0 (due past)
+
+map_same : (f g : ℕ → Block) (most n : ℕ) → n ≤ most → ((i : ℕ) → i + 1 ≤ most → f i ≡ g i)
+    → map f (range_with_len 0 n) ≡ map g (range_with_len 0 n)
+map_same f g most zero le same = refl
+map_same f g most (suc n) le same =
+    let one : suc n ≡ n + 1 = omega arith in
+    let at : 0 + n ≡ n = omega arith in
+    ap (λ m. map f (range_with_len 0 m)) one ∙ map-range_with_len_more f 0 n n at
+    ∙ ap (λ (l : List Block). l ++ f n ∷ []) (map_same f g most n (omega (arith, le)) same)
+    ∙ ap (λ (x : Block). map g (range_with_len 0 n) ++ x ∷ []) (same n (omega (arith, le)))
+    ∙ sym (map-range_with_len_more g 0 n n at) ∙ sym (ap (λ m. map g (range_with_len 0 m)) one)
+
+module _ (past : SessionPast) (bytes : List ℕ) (records later : List BusRecord) (good : good_prefix bytes ≡ records ++ later)
+    (limits : IsInLimits past.header)
+  where
+    part : SessionPast
+    part = fed past records
+
+    whole : SessionPast
+    whole = fed past (good_prefix bytes)
+
+    p : ℕ
+    p = past.header.payload
+
+    fill : p * due (fed past records) ≤ 3 * length (stream_words past.table records) / 2
+    unfolding p
+    fill = due_blocks-fill past.table past.header.payload records
+
+    same_block : (i : ℕ) → i + 1 ≤ due (fed past records)
+        → numbered_block (fed past (good_prefix bytes)) i ≡ numbered_block (fed past records) i
+    unfolding p
+    same_block i before =
+        let n = p * i + p in
+        let within : p * (i + 1) ≤ p * due (fed past records) = mul-le p (i + 1) p (due (fed past records)) (omega arith) before in
+        let few : n ≤ 3 * length (stream_words past.table records) / 2 = omega (arith, fill, within) in
+        let same = stream_of-good past.table bytes records later n good few in
+        let is : cut_block p (stream_of past.table (good_prefix bytes)) i ≡ cut_block p (stream_of past.table records) i =
+        sym (drop-take (p * i) p (stream_of past.table (good_prefix bytes))) ∙ ap (λ (l : List ℕ). drop (p * i) l) same
+        ∙ drop-take (p * i) p (stream_of past.table records) in
+        ap (λ (l : List ℕ). record { number = past.first + i; payload = l }) is
+
+    -- the stream of all good records has so many blocks at least
+    enough : due (fed past records) ≤ length (blocks_of p (stream_of past.table (good_prefix bytes)))
+    unfolding p
+    enough =
+        let n = p * due (fed past records) in
+        let all = stream_of past.table (good_prefix bytes) in
+        let some = stream_of past.table records in
+        let long = length-packed (stream_words past.table records) in
+        let same = ap length (stream_of-good past.table bytes records later n good fill) in
+        let cut : n ≤ length all = omega (arith, same, length-take n all, length-take n some, long, fill) in
+        let count : length (blocks_of p all) ≡ (length all + p - 1) / p = length-map-range_with_len (cut_block p all) 0 ((length all + p - 1) / p) in
+        let turned : due (fed past records) * p ≡ n = mul_comm (due (fed past records)) p in
+        let least = limits.least_payload in
+        let most = le-div (due (fed past records)) (length all + p - 1) p (omega (arith, least)) (omega (arith, turned, cut, least)) in
+        omega (arith, count, most)
+
+    -- what is recorded of the first good records is a front part of what is recorded of all
+    pub new_blocks-begin : (rest : List Block) × (all_blocks (fed past (good_prefix bytes)) ≡ recorded_of (fed past records) ++ rest)
+    unfolding p
+    new_blocks-begin =
+        let n = due (fed past records) in
+        let f = numbered_block (fed past (good_prefix bytes)) in
+        let all = all_blocks (fed past (good_prefix bytes)) in
+        let front : take n all ≡ recorded_of (fed past records) =
+        take-map-range_with_len f 0 (length (blocks_of p (stream_of past.table (good_prefix bytes)))) n enough
+        ∙ map_same f (numbered_block (fed past records)) n n (omega arith) same_block in
+        (drop n all, sym (take-append-drop n all) ∙ ap (λ (l : List Block). l ++ drop n all) front)
+
+-- fewer good records give no more blocks
+pub blocks-fewer : (past : SessionPast) (bytes more : List ℕ) (later : List BusRecord) → IsInLimits past.header
+    → good_prefix (bytes ++ more) ≡ good_prefix bytes ++ later
+    → length (all_blocks (fed past (good_prefix bytes))) ≤ length (all_blocks (fed past (good_prefix (bytes ++ more))))
+blocks-fewer past bytes more later limits good =
+    let t = past.table in
+    let p = past.header.payload in
+    let a = good_prefix bytes in
+    let b = good_prefix (bytes ++ more) in
+    let time : time_of a ≤ time_of b = time-grows (bytes ++ more) a later good in
+    let words : slot_count t.frame.words (time_of a) ≤ slot_count t.frame.words (time_of b) =
+    slot_count-later t.frame.words (time_of a) (time_of b) time in
+    let la = length-packed (stream_words t a) in
+    let lb = length-packed (stream_words t b) in
+    let long : length (stream_of t a) ≤ length (stream_of t b) = omega (arith, la, lb, words, length-stream_words t a, length-stream_words t b) in
+    let count : (length (stream_of t a) + p - 1) / p ≤ (length (stream_of t b) + p - 1) / p =
+    le-div ((length (stream_of t a) + p - 1) / p) (length (stream_of t b) + p - 1) p (omega (arith, limits.least_payload))
+    (omega (arith, div-mul-le_self (length (stream_of t a) + p - 1) p, long)) in
+    let na = length-map-range_with_len (numbered_block (fed past a)) 0 (length (blocks_of p (stream_of t a))) in
+    let nb = length-map-range_with_len (numbered_block (fed past b)) 0 (length (blocks_of p (stream_of t b))) in
+    let ma = length-map-range_with_len (cut_block p (stream_of t a)) 0 ((length (stream_of t a) + p - 1) / p) in
+    let mb = length-map-range_with_len (cut_block p (stream_of t b)) 0 ((length (stream_of t b) + p - 1) / p) in
+    omega (arith, na, nb, ma, mb, count)

@@ -1,0 +1,102 @@
+-- What is recorded can be read back.
+use Rattle.std.proofs.Common.{◌≡◌, ℕ, zero, suc, ◌+◌, ◌-◌, ◌*◌, ◌/◌, ◌<◌, ◌≤◌, inl, List, [], ◌∷◌, ◌++◌, length, take, drop, map, Option}
+use Rattle.std.proofs.Common.{ap, sym, refl, ◌∙◌, subst, arith}
+use Rattle.std.specs.Prelude.{IsTrue}
+use Rattle.std.specs.List.{flat_map, range_with_len}
+use Rattle.std.proofs.lemmas.Grind.{flat_map-append}
+use Rattle.std.proofs.lemmas.List.{append-nil, take_all}
+use Rattle.std.proofs.lemmas.List.FromFn.{length-map-range_with_len}
+use Rattle.std.proofs.lemmas.Nat.{mod_below}
+use Rattle.std.proofs.Math.Nat.{div-add-mod}
+use Rattle.std.proofs.lemmas.List.Folds.{flat_map-map}
+use Rattle.fdr_lists.proofs.Ranges.{range_more}
+use Rattle.fdr_bus.specs.Records.{good_prefix}
+use Rattle.fdr_check.specs.Soundness.{IsSound}
+use Rattle.fdr_deck.specs.State.{State, Tells}
+use Rattle.fdr_deck.specs.Moments.{IsSoundDeck}
+use Rattle.fdr_slot.specs.Limits.{IsInLimits}
+use Rattle.fdr_recover.specs.Blocks.{Block}
+use Rattle.fdr_recover.specs.Images.{recovered_run}
+use Rattle.fdr_recover.specs.ImageHeader.{header_in}
+use Rattle.fdr_ring.specs.Runs.{last_blocks}
+use Rattle.fdr_table.specs.Ranges.{IsInRange}
+use Rattle.fdr_table.specs.Rows.{TableRows}
+use Rattle.fdr_stream.specs.Blocks.{cut_block, blocks_of}
+use Rattle.fdr_stream.proofs.Later.{take-block}
+use Rattle.fdr_recorder.specs.Past.{SessionPast, all_blocks, session_bytes, numbered_block}
+use Rattle.fdr_readout.specs.Listing.{listing_of}
+use Rattle.fdr_readout.proofs.ReadsBack.{stream_lists_back}
+use Rattle.fdr_readout.proofs.Surviving.{surviving_run_listed}
+use Rattle.fdr_top.specs.Answers.{IsPastTable}
+use Rattle.fdr_top.specs.Record.{RecordsAll, RecordsBlocks, RecordsLine, new_blocks, next_in}
+use Rattle.fdr_top.specs.Recover.{payloads_of, run_in}
+use Rattle.fdr_top.specs.Tables.{ByTable}
+use Rattle.fdr_top.specs.declared.outcome.Outcome.{Outcome}
+use Rattle.fdr_top.proofs.Making.{table_or, table_told}
+use Rattle.fdr_top.proofs.RecordLines.{RecordsBlocks-nothing, all_past, limits_in}
+
+-- whole blocks of p bytes that hold n of them
+enough : (p n : ℕ) → 0 < p → n ≤ p * ((n + p - 1) / p)
+enough p n some = omega (arith, div-add-mod (n + p - 1) p, mod_below (n + p - 1) p some)
+
+-- blocks one after another are the bytes that they were cut from
+joined : (p : ℕ) (bytes : List ℕ) (n : ℕ) → flat_map (cut_block p bytes) (range_with_len 0 n) ≡ take (p * n) bytes
+joined p bytes zero = let none : p * zero ≡ 0 = omega arith in ap (λ m. take m bytes) (sym none)
+joined p bytes (suc n) =
+    let one : suc n ≡ n + 1 = omega arith in
+    let at : 0 + n ≡ n = omega arith in
+    let last : flat_map (cut_block p bytes) (n ∷ []) ≡ cut_block p bytes n = append-nil (cut_block p bytes n) in
+    ap (λ m. flat_map (cut_block p bytes) (range_with_len 0 m)) one
+    ∙ ap (flat_map (cut_block p bytes)) (range_more 0 n ∙ ap (λ k. range_with_len 0 n ++ k ∷ []) at)
+    ∙ flat_map-append (cut_block p bytes) (range_with_len 0 n) (n ∷ [])
+    ∙ ap (λ (l : List ℕ). l ++ flat_map (cut_block p bytes) (n ∷ [])) (joined p bytes n)
+    ∙ ap (λ (l : List ℕ). take (p * n) bytes ++ l) last
+    ∙ sym (take-block p bytes n) ∙ ap (λ m. take (p * m) bytes) (sym one)
+
+-- the payloads of all blocks of a recording are its stream
+payloads_all : (past : SessionPast) → IsInLimits past.header → payloads_of (all_blocks past) ≡ session_bytes past
+payloads_all past limits =
+    let p = past.header.payload in
+    let bytes = session_bytes past in
+    let n = (length bytes + p - 1) / p in
+    let count : length (blocks_of p bytes) ≡ n = length-map-range_with_len (cut_block p bytes) 0 n in
+    let low : 64 ≤ p = limits.least_payload in
+    let fill : length bytes ≤ p * n = enough p (length bytes) (omega (arith, low)) in
+    flat_map-map (λ (b : Block). b.payload) (numbered_block past) (range_with_len 0 (length (blocks_of p bytes)))
+    ∙ ap (λ m. flat_map (cut_block p bytes) (range_with_len 0 m)) count
+    ∙ joined p bytes n ∙ take_all (p * n) bytes fill
+
+-- of an empty ring with room for them, all blocks are left
+all_left : (most : ℕ) (old new : List Block) → old ≡ [] → length new ≤ most → last_blocks most (old ++ new) ≡ new
+all_left most old new none fits =
+    let none_lost : length new - most ≡ 0 = omega (arith, fits) in
+    ap (λ (l : List Block). last_blocks most (l ++ new)) none ∙ ap (λ m. drop m new) none_lost
+
+pub records_line : (t : TableRows) (tells : Tells) (old new : State) (answer : Outcome) → IsInRange t → IsSound t
+    → RecordsBlocks t tells old new answer → RecordsLine t tells old new answer
+records_line t tells old new answer range sound blocks = record {
+  blocks = blocks;
+  survives = λ past b q j m it. surviving_run_listed t (good_prefix blocks.pulled) b q j m range sound it;
+  undamaged = λ all bytes none fits.
+      let has = blocks.recorded all bytes in
+      let past : SessionPast = record { table = t; header = header_in old.held; first = next_in old.held; records = good_prefix blocks.pulled } in
+      let limits = limits_in old.held (blocks.good (inl all) bytes).no_fault in
+      let run : run_in new.held ≡ new_blocks t old.held blocks.pulled =
+      ap (λ h. recovered_run h new.held) has.header ∙ has.run ∙ all_left _ _ _ none fits in
+      ap (λ (l : List Block). listing_of t (payloads_of l)) run
+      ∙ ap (listing_of t) (payloads_all past limits)
+      ∙ stream_lists_back t (good_prefix blocks.pulled) range sound;
+}
+
+-- where the table isn't read, the deck isn't touched and nothing is recorded
+pub records_nothing : (tells : Tells) (rest : Option (List ℕ)) (d : State) (answer : Outcome) → IsSoundDeck tells d
+    → (IsPastTable answer → ⊥) → ByTable rest (λ (t : TableRows). RecordsLine t tells d d answer)
+records_nothing tells rest d answer sound early = (
+  table_or rest,
+  table_told rest,
+  record {
+    blocks = RecordsBlocks-nothing (table_or rest) tells d answer sound early;
+    survives = λ past. absurd (early past);
+    undamaged = λ all. absurd (early (all_past answer all));
+  },
+)

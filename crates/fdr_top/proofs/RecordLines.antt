@@ -1,0 +1,473 @@
+-- What a recording promises, from the start of its session on.
+use Rattle.std.proofs.Common.{◌≡◌, ◌≢◌, ◌⊎◌, inl, inr, ⊎_elim, Bool, true, false, ℕ, zero, suc, ◌+◌, ◌-◌, ◌^◌, ◌<◌, ◌≤◌, max, List, [], ◌∷◌, ◌++◌, length, take}
+use Rattle.std.proofs.Common.{Option, Some, None, ap, sym, refl, ◌∙◌, subst, arith}
+use Rattle.std.specs.Prelude.{IfSome, IsTrue, if◌then◌else◌, nat_lt, not, slice_index, ◌↔◌}
+use Rattle.std.proofs.lemmas.Bool.{cases_Bool, cases_lt}
+use Rattle.fdr_io.specs.Told.{preceded_by}
+use Rattle.std.proofs.lemmas.List.{append-nil, get_or_past, take-take}
+use Rattle.fdr_io.specs.declared.Input.TheVariants as input
+use Rattle.fdr_bus.specs.declared.BusRecord.{BusRecord}
+use Rattle.fdr_bus.specs.declared.TraceFault.{TraceFault}
+use Rattle.fdr_bus.specs.declared.TraceFault.TheVariants as trace
+use Rattle.fdr_bus.specs.Records.{IsDecided, good_prefix, has_end, trace_fault}
+use Rattle.fdr_bus.proofs.TraceLemmas.{good_prefix-append, good_prefix-decided, trace_fault-ended}
+use Rattle.fdr_deck.specs.State.{Moment, State, Tells}
+use Rattle.fdr_deck.specs.Pull.{KeepsLine}
+use Rattle.fdr_deck.specs.Moments.{EachMoment, Elapses, HasPulled, IsSoundDeck}
+use Rattle.fdr_deck.proofs.Moments.{EachMoment-then, EachMoment-weaken, Elapses-then, IsQuiet-here}
+use Rattle.fdr_slot.specs.Headers.{header_of, has_magic, has_open_gate, image_fault}
+use Rattle.fdr_slot.specs.Limits.{IsInLimits, in_limits}
+use Rattle.fdr_slot.specs.Places.{image_size}
+use Rattle.fdr_slot.proofs.HeaderLemmas.{in_limits-is}
+use Rattle.fdr_slot.specs.declared.image.Header.{Header}
+use Rattle.fdr_slot.specs.declared.image.ImageFault.{ImageFault}
+use Rattle.fdr_slot.specs.declared.image.ImageFault.TheVariants as fault
+use Rattle.fdr_recover.specs.Blocks.{Block}
+use Rattle.fdr_recover.specs.Images.{next_of, recovered_run}
+use Rattle.fdr_recover.specs.ImageHeader.{image_fault_of, header_in}
+use Rattle.fdr_ring.specs.Closing.{shut}
+use Rattle.fdr_ring.specs.Gates.{gate_at}
+use Rattle.fdr_ring.specs.Rings.{IsRing}
+use Rattle.fdr_ring.proofs.Bytes.{shut_closed, shut_turned}
+use Rattle.fdr_ring.specs.Runs.{IsTail, last_blocks}
+use Rattle.fdr_table.specs.Rows.{TableRows}
+use Rattle.fdr_trace.specs.Pulls.{PullsMore}
+use Rattle.fdr_trace.proofs.Pulling.{PullsMore-kept, PullsMore-none}
+use Rattle.fdr_recorder.specs.Keeping.{Keeps, KeepsAll, KeepsBehind}
+use Rattle.fdr_recorder.specs.Past.{SessionPast, all_blocks, started}
+use Rattle.fdr_recorder.specs.Recording.{HasRecorded, IsClose, IsReady}
+use Rattle.fdr_recorder.specs.Starting.{IsFor, IsStarted, IsStarting, Starts}
+use Rattle.fdr_recorder.specs.declared.error.SessionFault.{SessionFault}
+use Rattle.fdr_recorder.specs.declared.error.SessionFault.TheVariants as session
+use Rattle.fdr_recorder.specs.declared.session.Session.{Session}
+use Rattle.fdr_recorder.proofs.Starting.{Starts-looked}
+use Rattle.fdr_recorder.proofs.Steps.{keeps_behind, keeps_more, keeps_on}
+use Rattle.fdr_words.specs.Forms.{record_line}
+use Rattle.fdr_top.specs.Answers.{IsOwn, IsPastTable, WritesNothing}
+use Rattle.fdr_top.specs.Complete.{HasRoom, TellsAccepted}
+use Rattle.fdr_top.specs.Tables.{table_in}
+use Rattle.fdr_top.proofs.TableAnswers.{taken_is_all}
+use Rattle.fdr_top.specs.Lag.{IsInTime, IsLagMoment}
+use Rattle.fdr_top.specs.Record.{AreRecorded, EndsTrace, IsRecordMoment, MayRecord, RecordsAll, RecordsBlocks, session_refusal, new_blocks, next_in, owed}
+use Rattle.fdr_top.specs.Recording.{Continues, IsSessionMoment, SessionMoment, fed}
+use Rattle.fdr_top.specs.Recover.{run_in}
+use Rattle.fdr_top.specs.declared.outcome.Outcome.{Outcome}
+use Rattle.fdr_top.specs.declared.outcome.Outcome.TheVariants as outcome
+use Rattle.fdr_top.proofs.NewBlocks.{blocks-fewer}
+use Rattle.fdr_top.proofs.Records.{PullsMore-next}
+use Rattle.fdr_top.proofs.SessionEnds.{fault_ends}
+use Rattle.fdr_top.proofs.TraceAnswers.{answer_to, refused_decides, trace_fault-decided}
+
+-- ---- moments by the image at entry
+
+-- a session's moment, by the header and the next number of the image at entry
+at_entry : (t : TableRows) (h : Header) (first : ℕ) (entry : State) (blocks : List Block) (pulled : List ℕ) (m : Moment)
+    → h ≡ header_in entry.held → first ≡ next_in entry.held → blocks ≡ new_blocks t entry.held pulled
+    → IsSessionMoment t h first entry blocks pulled m → IsRecordMoment t entry pulled m
+at_entry t h first entry blocks pulled m header next same at =
+    let by_header = subst (λ (x : Header). IsSessionMoment t x first entry blocks pulled m) header at in
+    let by_next = subst (λ (n : ℕ). IsSessionMoment t (header_in entry.held) n entry blocks pulled m) next by_header in
+    let all = subst (λ (l : List Block). IsSessionMoment t (header_in entry.held) (next_in entry.held) entry l pulled m) same by_next in
+    record { keeps = all.keeps; close = all.close; in_time = all.in_time }
+
+take_none : (n : ℕ) (xs : List Block) → n ≡ 0 → take n xs ≡ []
+take_none n xs none = ap (λ m. take m xs) none
+
+-- while the session starts
+starting_moment : (t : TableRows) (entry : State) (pulled : List ℕ) (m : Moment) → IsStarting (header_in entry.held) entry m
+    → IsRecordMoment t entry pulled m
+starting_moment t entry pulled m at =
+    let keeps = at.recording.image in
+    record {
+      keeps = keeps_more (header_in entry.held) entry.held m.image (run_in entry.held) [] (new_blocks t entry.held pulled) m.told keeps;
+      close = omega (arith, keeps.next, keeps.fits);
+      in_time = record { pulled = inl at.recording.pulled };
+    }
+
+-- from the start of the session on
+module _ (tells : Tells) (t : TableRows) (s : Session) (d0 d1 : State) (sound1 : IsSoundDeck tells d1)
+    (starts : Starts tells (header_in d0.held) d0 d1) (is : IsStarted tells t s d0 d1)
+  where
+    -- what the disk holds then keeps all blocks at entry
+    kept : IsTrue tells.stops → IsReady (next_in d0.held) d0
+        → KeepsAll (header_in d0.held) d0.held (run_in d0.held) [] d1.held
+    kept stops ready =
+        let h = header_in d0.held in
+        let m : Moment = record { image = d1.held; told = d1.told; taken = d1.taken; before = d1.before } in
+        let since = sound1.counts_now stops m (sound1.held stops) refl (record { taken = refl; before = refl }) in
+        let first = sound1.falls stops d0.clock d1.clock m starts.time.later (omega arith) since in
+        let at = (starts.moments ready stops m first).recording.image in
+        record {
+          kept = at.kept;
+          run = subst (λ (l : List Block). IsTail (h.slots - 2) (run_in d0.held ++ l) (recovered_run h d1.held))
+              (take_none at.count [] (omega (arith, at.fits))) at.run;
+          next = omega (arith, at.next, at.fits);
+        }
+
+    line_same : (m : Moment) → HasPulled d1 m → HasPulled d0 m
+    line_same m at = record { taken = at.taken ∙ starts.line.taken; before = at.before ∙ starts.line.before }
+
+    lag_before : (owed_of : List BusRecord → ℕ) (pulled : List ℕ) (m : Moment) → IsLagMoment owed_of d1 pulled m
+        → IsLagMoment owed_of d0 pulled m
+    lag_before owed_of pulled m at = record {
+      pulled = ⊎_elim (λ here. inl (line_same m here))
+          (λ late. inr (subst (λ n. IsInTime owed_of n pulled m.told m.before m.taken) starts.line.taken late)) at.pulled;
+    }
+
+    session_moment : (blocks : List Block) (pulled : List ℕ) (m : Moment) → IsTrue tells.stops → IsTrue tells.bytes
+        → MayRecord d0 → IsSessionMoment t s.ring.header s.ring.next d1 blocks pulled m
+        → IsSessionMoment t s.ring.header s.ring.next d0 blocks pulled m
+    session_moment blocks pulled m stops bytes ready at =
+        let all : KeepsAll s.ring.header d0.held (recovered_run s.ring.header d0.held) [] d1.held =
+        subst (λ (h : Header). KeepsAll h d0.held (recovered_run h d0.held) [] d1.held) (sym (is.header bytes)) (kept stops ready) in
+        let low = is.least (omega (arith, ready.greatest, is.next bytes, ap (λ (h : Header). next_of h d0.held) (is.header bytes))) in
+        record {
+          keeps = keeps_on s.ring.header d0.held d1.held m.image (recovered_run s.ring.header d0.held) [] blocks m.told all at.keeps;
+          close = at.close;
+          least = omega (arith, low, at.least);
+          in_time = lag_before (owed t s.ring.header s.ring.next) pulled m at.in_time;
+        }
+
+-- ---- what was told of the line
+
+-- the refusal that is answered is that of the whole line
+told_refusal : (tells : Tells) (old new : State) (pulled : List ℕ) (answer : Outcome) (index : ℕ) (why : TraceFault)
+    → PullsMore tells old new [] pulled → EndsTrace tells old new pulled answer → answer ≡ outcome.TraceRefused index why
+    → IsTrue tells.line → trace_fault old.line ≡ Some (index, why)
+told_refusal tells old new pulled answer index why pulls ends refused told =
+    let first = ends.refused index why refused in
+    let line : old.line ≡ pulled ++ new.line = pulls.takes.line told in
+    ap trace_fault line ∙ ⊎_elim
+    (λ (short : why ≡ trace.Truncated).
+    let end : new.line ≡ [] = ends.truncated index (refused ∙ ap (outcome.TraceRefused index) short) told in
+    ap trace_fault (ap (λ (x : List ℕ). pulled ++ x) end ∙ append-nil pulled) ∙ first)
+    (λ (decided : IsDecided pulled). trace_fault-decided pulled new.line decided ∙ first)
+    (refused_decides pulled index why first)
+
+pub told_end : (tells : Tells) (old new : State) (pulled : List ℕ) (answer : Outcome) → PullsMore tells old new [] pulled
+    → EndsTrace tells old new pulled answer → answer ≡ outcome.Done → IsTrue tells.line → good_prefix pulled ≡ good_prefix old.line
+told_end tells old new pulled answer pulls ends done told =
+    sym (ap good_prefix (pulls.takes.line told) ∙ good_prefix-decided pulled new.line (inl (ends.ended done)))
+
+-- where the line is refused, so it is answered, unless a pull failed
+refusal_told : (tells : Tells) (old new : State) (pulled : List ℕ) (answer : Outcome) (index : ℕ) (why : TraceFault)
+    → PullsMore tells old new [] pulled → EndsTrace tells old new pulled answer → RecordsAll answer → IsTrue tells.line
+    → trace_fault old.line ≡ Some (index, why)
+    → (answer ≡ outcome.TraceRefused index why) ⊎ (answer ≡ outcome.ReadFault input.Line)
+unfolding answer_to
+refusal_told tells old new pulled outcome.Done index why pulls ends all told first =
+    let same = told_end tells old new pulled outcome.Done pulls ends refl told in
+    let none = trace_fault-ended old.line (ap has_end (sym same) ∙ ends.ended refl) in
+    absurd (let c : ◌≡◌ {A = Option (ℕ × TraceFault)} None (Some (index, why)) = sym none ∙ first in cc)
+refusal_told tells old new pulled (outcome.TraceRefused i w) index why pulls ends all told first =
+    let here = told_refusal tells old new pulled (outcome.TraceRefused i w) i w pulls ends refl told in
+    let same : ◌≡◌ {A = Option (ℕ × TraceFault)} (Some (i, w)) (Some (index, why)) = sym here ∙ first in
+    inl (ap answer_to same)
+refusal_told tells old new pulled (outcome.ReadFault input.Line) index why pulls ends all told first = inr refl
+refusal_told tells old new pulled answer index why pulls ends all told first = absurd all
+
+-- a trace with an end record isn't refused
+pub told_whole : (tells : Tells) (old new : State) (pulled : List ℕ) (answer : Outcome) (index : ℕ) (why : TraceFault)
+    → PullsMore tells old new [] pulled → EndsTrace tells old new pulled answer → answer ≡ outcome.TraceRefused index why
+    → IsTrue tells.line → has_end (good_prefix old.line) ≡ true → ⊥
+told_whole tells old new pulled answer index why pulls ends refused told ended =
+    let here = told_refusal tells old new pulled answer index why pulls ends refused told in
+    let none = trace_fault-ended old.line ended in
+    let c : ◌≡◌ {A = Option (ℕ × TraceFault)} None (Some (index, why)) = sym none ∙ here in cc
+
+-- ---- all promises
+
+none_pulled : (tells : Tells) (d0 d1 : State) → KeepsLine d0 d1 → d1.line_faults ≡ d0.line_faults → PullsMore tells d0 d1 [] []
+none_pulled tells d0 d1 line faults = PullsMore-kept tells d0 d0 d1 [] [] (PullsMore-none tells d0 []) line (omega (arith, faults))
+
+chained : (t : TableRows) (tells : Tells) (old new : State) (pulled : List ℕ) → (MayRecord old → EachMoment tells old new (IsRecordMoment t old pulled))
+    → (whole : List Block) → IsTail ((header_in old.held).slots - 2) whole (run_in old.held) → MayRecord old
+    → EachMoment tells old new (λ (m : Moment). KeepsBehind (header_in old.held) whole (new_blocks t old.held pulled) m.image)
+chained t tells old new pulled moments whole tail ready = EachMoment-weaken tells old new (IsRecordMoment t old pulled)
+    (λ (m : Moment). KeepsBehind (header_in old.held) whole (new_blocks t old.held pulled) m.image)
+    (λ m at. keeps_behind (header_in old.held) old.held m.image whole (run_in old.held) (new_blocks t old.held pulled) m.told tail at.keeps)
+    (moments ready)
+
+-- where no record was fed
+pub RecordsBlocks-unbegun : (t : TableRows) (tells : Tells) (d0 d1 : State) (answer : Outcome) → Starts tells (header_in d0.held) d0 d1
+    → (RecordsAll answer → ⊥) → (answer ≡ outcome.SeqEnd → ⊥)
+    → ((index : ℕ) (why : TraceFault) → answer ≡ outcome.TraceRefused index why → ⊥)
+    → ((why : ImageFault) → answer ≡ outcome.ImageRefused why → IsTrue tells.bytes → image_fault_of d0.held ≡ Some why)
+    → ((why : ImageFault) → answer ≡ outcome.ImageRefused why → (why ≡ fault.Small) ↔ (d1.extent < 64))
+    → ((why : ImageFault) → IsPastTable answer → IsTrue tells.bytes → image_fault_of d0.held ≡ Some why
+    → (answer ≡ outcome.ImageRefused why) ⊎ (answer ≡ outcome.DiskFault))
+    → ((image table : ℕ) → answer ≡ outcome.WordsDiffer image table
+    → (table ≡ t.frame.words) × (image ≢ table) × (IsTrue tells.bytes → IsFor image d0.held))
+    → ((image : ℕ) → IsPastTable answer → IsTrue tells.bytes → IsFor image d0.held → image ≢ t.frame.words
+    → (answer ≡ outcome.WordsDiffer image t.frame.words) ⊎ (answer ≡ outcome.DiskFault))
+    → RecordsBlocks t tells d0 d1 answer
+RecordsBlocks-unbegun t tells d0 d1 answer starts not_all not_end not_trace refused small refused_always words words_always =
+    let moments : MayRecord d0 → EachMoment tells d0 d1 (IsRecordMoment t d0 []) = λ ready.
+    EachMoment-weaken tells d0 d1 (IsStarting (header_in d0.held) d0) (IsRecordMoment t d0 [])
+    (λ m at. starting_moment t d0 [] m at) (starts.moments ready) in
+    record {
+      pulled = [];
+      pulls = none_pulled tells d0 d1 starts.line starts.line_faults;
+      time = starts.time;
+      moments = moments;
+      chain = chained t tells d0 d1 [] moments;
+      recorded = λ all. absurd (not_all all);
+      within = λ all. absurd (not_all all);
+      seq_end = λ e. absurd (not_end e);
+      beyond = λ e. absurd (not_end e);
+      trace = fault_ends tells d0 d1 [] answer not_all not_trace;
+      good = λ either. absurd (⊎_elim not_all not_end either);
+      refused = refused;
+      small = small;
+      refused_always = refused_always;
+      words = words;
+      words_always = words_always;
+      whole = λ done. absurd (not_all (subst RecordsAll (sym done) tt));
+      trace_always = λ index why all. absurd (not_all all);
+    }
+
+pub all_past : (a : Outcome) → RecordsAll a → IsPastTable a
+all_past outcome.Done all = tt
+all_past (outcome.TraceRefused index why) all = tt
+all_past (outcome.ReadFault input.Line) all = tt
+all_past a all = absurd all
+
+-- where the deck wasn't used
+pub RecordsBlocks-nothing : (t : TableRows) (tells : Tells) (d : State) (answer : Outcome) → IsSoundDeck tells d
+    → (IsPastTable answer → ⊥) → RecordsBlocks t tells d d answer
+RecordsBlocks-nothing t tells d answer sound early = RecordsBlocks-unbegun t tells d d answer
+    (Starts-looked tells (header_in d.held) d d sound (IsQuiet-here tells d.may_leave d sound (λ stops image leaves. leaves)))
+    (λ all. early (all_past answer all))
+    (λ e. early (subst IsPastTable (sym e) tt))
+    (λ index why e. early (subst IsPastTable (sym e) tt))
+    (λ why e. absurd (early (subst IsPastTable (sym e) tt)))
+    (λ why e. absurd (early (subst IsPastTable (sym e) tt)))
+    (λ why past. absurd (early past))
+    (λ image table e. absurd (early (subst IsPastTable (sym e) tt)))
+    (λ image past. absurd (early past))
+
+words_same : (i w j v : ℕ) → outcome.WordsDiffer i w ≡ outcome.WordsDiffer j v → session.WordsDiffer i w ≡ session.WordsDiffer j v
+words_same i w j v e = let a : i ≡ j = cc in let b : w ≡ v = cc in ap (λ n. session.WordsDiffer n w) a ∙ ap (λ n. session.WordsDiffer j n) b
+
+words_are : (i w j v : ℕ) → i ≡ j → w ≡ v → outcome.WordsDiffer i w ≡ outcome.WordsDiffer j v
+words_are i w j v a b = ap (λ n. outcome.WordsDiffer n w) a ∙ ap (λ n. outcome.WordsDiffer j n) b
+
+some_same : (a b : ImageFault) → ◌≡◌ {A = Option ImageFault} (Some a) (Some b) → a ≡ b
+some_same a b e = cc
+
+image_same : (a b : ImageFault) → outcome.ImageRefused a ≡ outcome.ImageRefused b → a ≡ b
+image_same a b e = cc
+
+both : (a : Option ImageFault) (why : ImageFault) → a ≡ None → a ≡ Some why → ⊥
+both a why none some = let c : ◌≡◌ {A = Option ImageFault} None (Some why) = sym none ∙ some in cc
+
+-- where the session was refused
+pub RecordsBlocks-refused : (t : TableRows) (tells : Tells) (d0 d1 : State) (f : SessionFault) → Starts tells (header_in d0.held) d0 d1
+    → (f ≡ session.SeqEnd → ⊥)
+    → (IsTrue tells.bytes → (why : ImageFault) → f ≡ session.Image why → image_fault_of d0.held ≡ Some why)
+    → ((why : ImageFault) → f ≡ session.Image why → (why ≡ fault.Small) ↔ (d1.extent < 64))
+    → ((image table : ℕ) → f ≡ session.WordsDiffer image table
+    → (table ≡ t.frame.words) × (image ≢ table) × (IsTrue tells.bytes → IsFor image d0.held))
+    → RecordsBlocks t tells d0 d1 (session_refusal f)
+RecordsBlocks-refused t tells d0 d1 (session.Image w) starts not_end image small words =
+    RecordsBlocks-unbegun t tells d0 d1 (outcome.ImageRefused w) starts (λ all. all) (λ e. absurd (cc)) (λ index why e. absurd (cc))
+    (λ why e bytes. image bytes why (ap session.Image (image_same w why e)))
+    (λ why e. small why (ap session.Image (image_same w why e)))
+    (λ why past bytes first. inl (ap outcome.ImageRefused (some_same w why (sym (image bytes w refl) ∙ first))))
+    (λ i table e. absurd (cc))
+    (λ i past bytes other differ. absurd (both (image_fault_of d0.held) w other.no_fault (image bytes w refl)))
+RecordsBlocks-refused t tells d0 d1 (session.WordsDiffer i w) starts not_end image small words =
+    let here = words i w refl in
+    RecordsBlocks-unbegun t tells d0 d1 (outcome.WordsDiffer i w) starts (λ all. all) (λ e. absurd (cc)) (λ index why e. absurd (cc))
+    (λ why e. absurd (cc))
+    (λ why e. absurd (cc))
+    (λ why past bytes first. absurd (both (image_fault_of d0.held) why (here.2 bytes).no_fault first))
+    (λ j table e. words j table (words_same i w j table e))
+    (λ j past bytes other differ. inl (words_are i w j t.frame.words (sym (here.2 bytes).words ∙ other.words) here.0))
+RecordsBlocks-refused t tells d0 d1 session.DiskFault starts not_end image small words =
+    RecordsBlocks-unbegun t tells d0 d1 outcome.DiskFault starts (λ all. all) (λ e. absurd (cc)) (λ index why e. absurd (cc))
+    (λ why e. absurd (cc))
+    (λ why e. absurd (cc))
+    (λ why past bytes first. inr refl)
+    (λ j table e. absurd (cc))
+    (λ j past bytes other differ. inr refl)
+RecordsBlocks-refused t tells d0 d1 session.SeqEnd starts not_end image small words = absurd (not_end refl)
+RecordsBlocks-refused t tells d0 d1 session.NoMemory starts not_end image small words =
+    RecordsBlocks-unbegun t tells d0 d1 outcome.NoMemory starts (λ all. all) (λ e. absurd (cc)) (λ index why e. absurd (cc))
+    (λ why e. absurd (cc))
+    (λ why e. absurd (cc))
+    (λ why past. absurd past)
+    (λ j table e. absurd (cc))
+    (λ j past. absurd past)
+
+same_blocks : (t : TableRows) (h h' : Header) (n n' : ℕ) (records : List BusRecord) → h ≡ h' → n ≡ n'
+    → all_blocks (record { table = t; header = h; first = n; records = records })
+    ≡ all_blocks (record { table = t; header = h'; first = n'; records = records })
+same_blocks t h h' n n' records header next =
+    ap (λ (x : Header). all_blocks (record { table = t; header = x; first = n; records = records })) header
+    ∙ ap (λ (m : ℕ). all_blocks (record { table = t; header = h'; first = m; records = records })) next
+
+-- a gate that is shut stands after the header
+shut_front : (h : Header) (n : ℕ) (image : List ℕ) → take 64 (shut (gate_at h n) image) ≡ take 64 image
+shut_front h n image = ⊎_elim
+    (λ (within : gate_at h n < length image).
+    let at = gate_at h n in
+    let front = (shut_turned at image within).torn.front in
+    let few : 64 ≤ at = omega arith in
+    sym (take-take 64 at (shut at image) few) ∙ ap (λ (l : List ℕ). take 64 l) front ∙ take-take 64 at image few)
+    (λ (past : length image ≤ gate_at h n).
+    let none : slice_index image (gate_at h n) ≡ 0 = get_or_past image (gate_at h n) 0 past in
+    ap (λ (l : List ℕ). take 64 l) (shut_closed (gate_at h n) image (λ is. absurd (omega (arith, none, is)))))
+    (cases_lt (gate_at h n) (length image))
+
+-- where a session was started
+module _ (t : TableRows) (tells : Tells) (s : Session) (d0 d1 d2 : State) (answer : Outcome) (sound0 : IsSoundDeck tells d0) (sound1 : IsSoundDeck tells d1)
+    (starts : Starts tells (header_in d0.held) d0 d1) (is : IsStarted tells t s d0 d1)
+    (on : Continues tells (started t s.ring.header s.ring.next) d1 d2 answer)
+  where
+    first_is : IsTrue tells.bytes → s.ring.next ≡ next_in d0.held
+    first_is bytes = is.next bytes ∙ ap (λ (h : Header). next_of h d0.held) (is.header bytes)
+
+    blocks_are : IsTrue tells.bytes
+        → all_blocks (fed (started t s.ring.header s.ring.next) (good_prefix on.pulled)) ≡ new_blocks t d0.held on.pulled
+    blocks_are bytes = same_blocks t s.ring.header (header_in d0.held) s.ring.next (next_in d0.held) (good_prefix on.pulled)
+        (is.header bytes) (first_is bytes)
+
+    moments : MayRecord d0 → EachMoment tells d0 d2 (IsRecordMoment t d0 on.pulled)
+    moments ready = EachMoment-then tells d0 d1 d2 (IsRecordMoment t d0 on.pulled) starts.time on.time
+        (EachMoment-weaken tells d0 d1 (IsStarting (header_in d0.held) d0) (IsRecordMoment t d0 on.pulled)
+        (λ m at. starting_moment t d0 on.pulled m at) (starts.moments ready))
+        (λ stops m since.
+        let bytes = sound0.stops_need_bytes stops in
+        let few = is.greatest (omega (arith, ready.greatest, first_is bytes)) in
+        let at = on.moments few stops m since in
+        at_entry t s.ring.header s.ring.next d0 (all_blocks (fed (started t s.ring.header s.ring.next) (good_prefix on.pulled)))
+        on.pulled m (is.header bytes) (first_is bytes) (blocks_are bytes)
+        (session_moment tells t s d0 d1 sound1 starts is (all_blocks (fed (started t s.ring.header s.ring.next) (good_prefix on.pulled)))
+        on.pulled m stops bytes ready at))
+
+    -- the header stays: only a gate was closed at the start, and no call after it changes the header
+    header_kept : IsTrue tells.bytes → (blocks : List Block) → HasRecorded tells s.ring.header s.ring.next blocks d1 d2
+        → header_in d2.held ≡ header_in d0.held
+    header_kept bytes blocks has = ap header_of ((has.keeps bytes).kept.header
+        ∙ ap (λ (l : List ℕ). take 64 l) (is.held bytes) ∙ shut_front s.ring.header (next_of s.ring.header d0.held) d0.held)
+
+    are_recorded : (blocks new : List Block) → IsTrue tells.bytes → blocks ≡ new
+        → HasRecorded tells s.ring.header s.ring.next blocks d1 d2 → AreRecorded tells new d0 d2
+    are_recorded blocks new bytes same has =
+        let h = header_in d0.held in
+        let ring = (has.fact is.fact.ring).next bytes in
+        let count = ap length same in
+        record {
+          header = header_kept bytes blocks has;
+          run = subst (λ (x : Header). recovered_run x d2.held ≡ last_blocks (x.slots - 1) (recovered_run x d0.held ++ new)) (is.header bytes)
+              (subst (λ (l : List Block). recovered_run s.ring.header d2.held
+              ≡ last_blocks (s.ring.header.slots - 1) (recovered_run s.ring.header d0.held ++ l)) same
+              (has.last bytes (recovered_run s.ring.header d0.held) (is.run bytes)));
+          next = ap (λ (x : Header). next_of x d2.held) (sym (is.header bytes))
+              ∙ omega (arith, ring, count, first_is bytes);
+          told = omega (arith, has.told is.told, count, first_is bytes);
+          settled = λ stops. has.settled stops (is.settled stops);
+        }
+
+    all_pulls : PullsMore tells d0 d2 [] on.pulled
+    all_pulls = PullsMore-next tells d0 d1 d2 [] on.pulled (none_pulled tells d0 d1 starts.line starts.line_faults) on.pulls
+
+    all_ends : EndsTrace tells d0 d2 on.pulled answer
+    all_ends = record {
+      ended = on.trace.ended;
+      refused = on.trace.refused;
+      truncated = on.trace.truncated;
+      undecided = on.trace.undecided;
+      quiet = λ all not. on.trace.quiet all not ∙ starts.line_faults;
+    }
+
+    pub RecordsBlocks-started : (WritesNothing answer → ⊥) → (IsTrue tells.bytes → IsFor t.frame.words d0.held)
+        → RecordsBlocks t tells d0 d2 answer
+    RecordsBlocks-started begun good = record {
+      pulled = on.pulled;
+      pulls = all_pulls;
+      time = Elapses-then tells d0 d1 d2 starts.time on.time;
+      moments = moments;
+      chain = chained t tells d0 d2 on.pulled moments;
+      recorded = λ all bytes. are_recorded _ _ bytes (blocks_are bytes) (on.recorded all);
+      within = λ all bytes. omega (arith, on.within all, ap length (blocks_are bytes), first_is bytes);
+      seq_end = λ e bytes. are_recorded _ _ bytes
+          (ap (λ (l : List Block). take (2 ^ 48 - s.ring.next) l) (blocks_are bytes)
+          ∙ ap (λ n. take (2 ^ 48 - n) (new_blocks t d0.held on.pulled)) (first_is bytes)) (on.seq_end e);
+      beyond = λ e bytes. omega (arith, on.beyond e, ap length (blocks_are bytes), first_is bytes);
+      trace = all_ends;
+      good = λ either bytes. good bytes;
+      refused = λ why e. absurd (begun (subst WritesNothing (sym e) tt));
+      small = λ why e. absurd (begun (subst WritesNothing (sym e) tt));
+      refused_always = λ why past bytes first.
+          absurd (let c : ◌≡◌ {A = Option ImageFault} None (Some why) = sym (good bytes).no_fault ∙ first in cc);
+      words = λ image table e. absurd (begun (subst WritesNothing (sym e) tt));
+      words_always = λ image past bytes other differ. absurd (differ (sym other.words ∙ (good bytes).words));
+      whole = λ done told. told_end tells d0 d2 on.pulled answer all_pulls all_ends done told;
+      trace_always = λ index why all told first. refusal_told tells d0 d2 on.pulled answer index why all_pulls all_ends all told first;
+    }
+
+-- ---- a recording that nothing hinders
+
+-- the table of a source that is read to its end is that of all that was told
+pub room_of : (old new : Option (List ℕ)) (taken : List ℕ) (t : TableRows) (d : State) (accepted : TellsAccepted old)
+    → t ≡ table_in taken → old ≡ preceded_by taken new → IfSome new (λ left. left ≡ []) → HasRoom (table_in accepted.0) d → HasRoom t d
+room_of old new taken t d accepted table whole end room =
+    subst (λ (x : TableRows). HasRoom x d)
+    (ap table_in (taken_is_all old new taken accepted.0 whole end accepted.1) ∙ sym table) room
+
+-- an image without a fault has a header within its limits
+faulty : (short gate magic limits long : Bool) → limits ≡ false → (if short then Some fault.Small
+    else if not gate then Some fault.Closed
+    else if not magic then Some fault.Magic
+    else if not limits then Some fault.Geometry
+    else if long then Some fault.Short
+    else None) ≡ None → ⊥
+faulty true gate magic limits long outside none = cc
+faulty false false magic limits long outside none = cc
+faulty false true false limits long outside none = cc
+faulty false true true true long outside none = absurd (cc)
+faulty false true true false long outside none = cc
+
+pub limits_in : (image : List ℕ) → image_fault_of image ≡ None → IsInLimits (header_in image)
+unfolding image_fault
+limits_in image none = ⊎_elim
+    (λ (within : in_limits (header_in image) ≡ true). in_limits-is (header_in image) within)
+    (λ (outside : in_limits (header_in image) ≡ false). absurd (faulty (nat_lt (length image) 64) (has_open_gate (take 64 image))
+    (has_magic (take 64 image)) (in_limits (header_in image)) (nat_lt (length image) (image_size (header_in image))) outside none))
+    (cases_Bool (in_limits (header_in image)))
+
+has_room : (t : TableRows) (tells : Tells) (d0 d2 : State) (answer : Outcome) (is : RecordsBlocks t tells d0 d2 answer)
+    → answer ≡ outcome.SeqEnd → IsTrue tells.bytes → IsTrue tells.line → HasRoom t d0 → ⊥
+has_room t tells d0 d2 answer is ends bytes told room =
+    let line = is.pulls.takes.line told in
+    let grown = good_prefix-append is.pulled d2.line in
+    let past : SessionPast = record { table = t; header = header_in d0.held; first = next_in d0.held; records = [] } in
+    let limits : IsInLimits (header_in d0.held) = limits_in d0.held room.image.no_fault in
+    let fewer = blocks-fewer past is.pulled d2.line grown.0 limits grown.1 in
+    let all = ap (λ (l : List ℕ). length (new_blocks t d0.held l)) line in
+    omega (arith, is.beyond ends bytes, room.numbers, fewer, all)
+
+-- an image for the table's frames, numbers enough, and no fault: all is recorded, or memory ended
+pub record_done : (path image : List ℕ) (t : TableRows) (tells : Tells) (d0 d2 : State) (answer : Outcome)
+    → (answer ≡ outcome.NoMemory) ⊎ IsOwn (record_line path image) answer → RecordsBlocks t tells d0 d2 answer
+    → IsTrue tells.line → has_end (good_prefix d0.line) ≡ true → IsTrue tells.bytes → HasRoom t d0
+    → (answer ≡ outcome.ReadFault input.Line → ⊥) → (answer ≡ outcome.DiskFault → ⊥)
+    → (answer ≡ outcome.Done) ⊎ (answer ≡ outcome.NoMemory)
+record_done path image t tells d0 d2 outcome.Done own is told ended bytes room line disk = inl refl
+record_done path image t tells d0 d2 outcome.NoMemory own is told ended bytes room line disk = inr refl
+record_done path image t tells d0 d2 (outcome.ReadFault input.Line) own is told ended bytes room line disk = absurd (line refl)
+record_done path image t tells d0 d2 (outcome.ReadFault input.Table) own is told ended bytes room line disk =
+    ⊎_elim (λ memory. absurd (cc)) (λ it. absurd it) own
+record_done path image t tells d0 d2 outcome.DiskFault own is told ended bytes room line disk = absurd (disk refl)
+record_done path image t tells d0 d2 outcome.SeqEnd own is told ended bytes room line disk =
+    absurd (has_room t tells d0 d2 outcome.SeqEnd is refl bytes told room)
+record_done path image t tells d0 d2 (outcome.TraceRefused index why) own is told ended bytes room line disk =
+    absurd (told_whole tells d0 d2 is.pulled (outcome.TraceRefused index why) index why is.pulls is.trace refl told ended)
+record_done path image t tells d0 d2 (outcome.ImageRefused why) own is told ended bytes room line disk =
+    absurd (both (image_fault_of d0.held) why room.image.no_fault (is.refused why refl bytes))
+record_done path image t tells d0 d2 (outcome.WordsDiffer i w) own is told ended bytes room line disk =
+    let here = is.words i w refl in
+    absurd (here.1 (sym (here.2 bytes).words ∙ room.image.words ∙ sym here.0))
+record_done path image t tells d0 d2 answer own is told ended bytes room line disk = ⊎_elim (λ memory. inr memory) (λ it. absurd it) own

@@ -1,0 +1,458 @@
+-- How a recording in a session begins and ends.
+use Rattle.std.proofs.Common.{◌≡◌, ◌≢◌, ◌⊎◌, ⊎_elim, inl, inr, Result, Err, true, ℕ, ◌+◌, ◌-◌, ◌^◌, ◌<◌, ◌≤◌, List, [], ◌∷◌, ◌++◌, length, take, Option, Some}
+use Rattle.std.proofs.Common.{ap, sym, refl, ◌∙◌, subst, length-append, arith}
+use Rattle.std.proofs.lemmas.List.{take-append-le}
+use Rattle.std.proofs.Math.Seq.{take-append-add}
+use Rattle.fdr_io.specs.Faults.{Rose}
+use Rattle.fdr_io.specs.declared.Input.TheVariants as input
+use Rattle.fdr_bus.specs.declared.BusRecord.{BusRecord}
+use Rattle.fdr_bus.specs.declared.TraceFault.{TraceFault}
+use Rattle.fdr_bus.specs.declared.TraceFault.TheVariants as trace
+use Rattle.fdr_bus.specs.Records.{good_prefix, has_end, is_end}
+use Rattle.fdr_deck.specs.State.{Moment, State, Tells}
+use Rattle.fdr_deck.specs.Calls.{LeavesDisk}
+use Rattle.fdr_deck.specs.Moments.{EachMoment, Elapses, IsSoundDeck}
+use Rattle.fdr_deck.proofs.Moments.{EachMoment-weaken}
+use Rattle.fdr_slot.specs.Limits.{IsInLimits}
+use Rattle.fdr_slot.proofs.HeaderLemmas.{in_limits-is}
+use Rattle.fdr_slot.specs.declared.image.Header.{Header}
+use Rattle.fdr_recover.specs.Blocks.{Block}
+use Rattle.fdr_recover.specs.Images.{recovered_run}
+use Rattle.fdr_ring.specs.Rings.{IsRing, IsSureRing}
+use Rattle.fdr_trace.specs.Kept.{TraceKept}
+use Rattle.fdr_trace.specs.Pulls.{PullsMore}
+use Rattle.fdr_trace.specs.Reading.{IsNextRecord, IsTraceStopped, RepresentsTrace}
+use Rattle.fdr_trace.specs.declared.TraceStop.{TraceStop}
+use Rattle.fdr_trace.specs.declared.TraceStop.TheVariants as stop
+use Rattle.fdr_recorder.specs.Past.{SessionPast, MayFeedSession, RepresentsSession, all_blocks, due, due_at, recorded_of, rest_of, started}
+use Rattle.fdr_recorder.specs.Recording.{HasEnded, HasRecorded, Records}
+use Rattle.fdr_recorder.specs.Starting.{IsStarted}
+use Rattle.fdr_table.specs.Rows.{TableRows}
+use Rattle.fdr_recorder.specs.declared.error.SessionFault.{SessionFault}
+use Rattle.fdr_recorder.specs.declared.error.SessionFault.TheVariants as session
+use Rattle.fdr_recorder.specs.declared.session.Session.{Session}
+use Rattle.fdr_recorder.proofs.Adding.{IsSureRing-told}
+use Rattle.fdr_recorder.proofs.Composing.{HasRecorded-then}
+use Rattle.fdr_recorder.proofs.Joined.{recorded_of-fed}
+use Rattle.fdr_recorder.proofs.Steps.{keeps_more}
+use Rattle.fdr_words.specs.Forms.{record_line}
+use Rattle.fdr_top.specs.Answers.{IsOwn, WritesNothing}
+use Rattle.fdr_top.specs.Record.{EndsTrace, RecordsAll, session_refusal}
+use Rattle.fdr_top.specs.Recording.{Continues, HasFed, HasFedAll, IsBegun, SessionMoment, fed}
+use Rattle.fdr_top.specs.Stream.{answer_of_stop}
+use Rattle.fdr_top.specs.declared.outcome.Outcome.{Outcome}
+use Rattle.fdr_top.specs.declared.outcome.Outcome.TheVariants as outcome
+use Rattle.fdr_top.proofs.NewBlocks.{new_blocks-begin, recorded-long}
+use Rattle.fdr_top.proofs.Records.{same_cause, same_refusal}
+use Rattle.fdr_top.proofs.Sessions.{HasFed-begun, block_moments, block_pulls, block_time}
+use Rattle.fdr_bus.proofs.TraceLemmas.{has_end-push}
+
+-- nothing was fed
+pub begun : (tells : Tells) (s : Session) (k : TraceKept) (past : SessionPast) (d : State) → IsSoundDeck tells d → IsBegun tells s k past d
+    → (bytes : List ℕ) × (records : List BusRecord) × RepresentsTrace k bytes records × RepresentsSession s (fed past records)
+    × HasFed tells (fed past records) bytes d d
+begun tells s k past d sound is =
+    let stands : RepresentsSession s (fed past []) = subst (λ (r : List BusRecord). RepresentsSession s (fed past r)) is.none is.stands in (
+      [],
+      [],
+      is.reads,
+      stands,
+      HasFed-begun tells (fed past []) d sound (omega (arith, stands.next, is.number)) is.ring is.settled is.told,
+    )
+
+-- a session that was just started
+pub begun_at : (tells : Tells) (t : TableRows) (s : Session) (k : TraceKept) (d0 d1 : State) → IsStarted tells t s d0 d1 → RepresentsTrace k [] []
+    → IsBegun tells s k (started t s.ring.header s.ring.next) d1
+begun_at tells t s k d0 d1 is reads = record {
+  none = refl;
+  stands = is.stands;
+  number = refl;
+  reads = reads;
+  ring = is.fact;
+  settled = is.settled;
+  told = is.told;
+}
+
+-- the ring after the records so far
+pub sure_at : (tells : Tells) (past : SessionPast) (bytes : List ℕ) (d0 d d' : State) → IsSureRing tells past.header past.first d0
+    → HasFed tells past bytes d0 d → LeavesDisk d d' → IsSureRing tells past.header (past.first + length (recorded_of past)) d'
+sure_at tells past bytes d0 d d' ring has leaves =
+    IsSureRing-told tells past.header (past.first + length (recorded_of past)) d d' leaves (has.recorded.sure ring)
+
+next_at : (past : SessionPast) (s : Session) → RepresentsSession s past → past.first + length (recorded_of past) ≡ s.ring.next
+next_at past s stands = omega (arith, stands.next, recorded-long past)
+
+pub ring_at : (tells : Tells) (past : SessionPast) (s : Session) (d : State) → RepresentsSession s past
+    → IsSureRing tells past.header (past.first + length (recorded_of past)) d → IsRing tells s.ring.header s.ring.next d
+ring_at tells past s d stands sure =
+    subst (λ (h : Header). IsRing tells h s.ring.next d) (sym stands.header)
+    (subst (λ (n : ℕ). IsRing tells past.header n d) (next_at past s stands) sure.ring)
+
+pub ring_of : (tells : Tells) (past : SessionPast) (s : Session) (d : State) → RepresentsSession s past → IsSureRing tells past.header s.ring.next d
+    → IsRing tells s.ring.header s.ring.next d
+ring_of tells past s d stands sure = subst (λ (h : Header). IsRing tells h s.ring.next d) (sym stands.header) sure.ring
+
+-- the header of a ring is within its limits, and its number below the last
+pub limits_of : (past : SessionPast) (s : Session) → RepresentsSession s past → IsInLimits past.header
+limits_of past s stands = subst IsInLimits stands.header (in_limits-is s.ring.header s.ring.limits)
+
+pub bound_of : (past : SessionPast) (s : Session) → RepresentsSession s past → past.first + length (recorded_of past) ≤ 2 ^ 48
+bound_of past s stands = omega (arith, next_at past s stands, s.ring.bound)
+
+-- the next record is a good one
+pub MayFeed-read : (past : SessionPast) (k k' : TraceKept) (bytes more : List ℕ) (records : List BusRecord) (r : BusRecord) → RepresentsTrace k bytes records
+    → IsNextRecord k' (bytes ++ more) records r → MayFeedSession (fed past records) r
+MayFeed-read past k k' bytes more records r reads next = record {
+  order = next.order;
+  in_time = next.in_time;
+  unended = ap has_end reads.good ∙ reads.unended.unended;
+}
+
+-- what was recorded at a record, by the numbers of the past
+pub Records-at : (tells : Tells) (past : SessionPast) (s : Session) (blocks : List Block) (d d' : State) → RepresentsSession s past
+    → Records tells s.ring.header s.ring.next blocks d d'
+    → Records tells past.header (past.first + length (recorded_of past)) blocks d d'
+Records-at tells past s blocks d d' stands is =
+    subst (λ (n : ℕ). Records tells past.header n blocks d d') (sym (next_at past s stands))
+    (subst (λ (h : Header). Records tells h s.ring.next blocks d d') stands.header is)
+
+pub HasRecorded-at : (tells : Tells) (past : SessionPast) (s : Session) (blocks : List Block) (d d' : State) → RepresentsSession s past
+    → HasRecorded tells s.ring.header s.ring.next blocks d d'
+    → HasRecorded tells past.header (past.first + length (recorded_of past)) blocks d d'
+HasRecorded-at tells past s blocks d d' stands is =
+    subst (λ (n : ℕ). HasRecorded tells past.header n blocks d d') (sym (next_at past s stands))
+    (subst (λ (h : Header). HasRecorded tells h s.ring.next blocks d d') stands.header is)
+
+pub HasEnded-at : (tells : Tells) (past : SessionPast) (s : Session) (blocks : List Block) (d d' : State) → RepresentsSession s past
+    → HasEnded tells s.ring.header s.ring.next blocks d d'
+    → HasEnded tells past.header (past.first + length (recorded_of past)) blocks d d'
+HasEnded-at tells past s blocks d d' stands is =
+    subst (λ (n : ℕ). HasEnded tells past.header n blocks d d') (sym (next_at past s stands))
+    (subst (λ (h : Header). HasEnded tells h s.ring.next blocks d d') stands.header is)
+
+-- ---- how the trace ended
+
+-- the end record was fed
+pub EndsTrace-end : (tells : Tells) (d0 d' : State) (bytes : List ℕ) (records : List BusRecord) (r : BusRecord)
+    → good_prefix bytes ≡ records ++ r ∷ [] → is_end r ≡ true → d'.line_faults ≡ d0.line_faults
+    → EndsTrace tells d0 d' bytes outcome.Done
+EndsTrace-end tells d0 d' bytes records r good ends quiet = record {
+  ended = λ e. ap has_end good ∙ has_end-push records r ends;
+  refused = λ index why e. absurd (cc);
+  truncated = λ index e. absurd (cc);
+  undecided = λ e. absurd (cc);
+  quiet = λ all not. quiet;
+}
+
+-- no further record came
+pub EndsTrace-stop : (tells : Tells) (d0 d d' : State) (bytes : List ℕ) (records : List BusRecord) (s : TraceStop)
+    → IsTraceStopped tells d d' bytes records s → d.line_faults ≡ d0.line_faults → (s ≢ stop.Failed → d'.line_faults ≡ d.line_faults)
+    → EndsTrace tells d0 d' bytes (answer_of_stop s)
+EndsTrace-stop tells d0 d d' bytes records (stop.Refused index why) stopped before quiet = record {
+  ended = λ e. absurd (cc);
+  refused = λ i w e. stopped.first ∙ same_refusal index i why w e;
+  truncated = λ i e told. stopped.end (same_cause index i why trace.Truncated e) told;
+  undecided = λ e. absurd (cc);
+  quiet = λ all not. quiet (λ e. absurd (cc)) ∙ before;
+}
+EndsTrace-stop tells d0 d d' bytes records stop.Failed stopped before quiet = record {
+  ended = λ e. absurd (cc);
+  refused = λ i w e. absurd (cc);
+  truncated = λ i e. absurd (cc);
+  undecided = λ e. stopped.undecided;
+  quiet = λ all not. absurd (not refl);
+}
+
+-- the answer isn't of the trace
+pub fault_ends : (tells : Tells) (d0 d' : State) (bytes : List ℕ) (answer : Outcome) → (RecordsAll answer → ⊥)
+    → ((index : ℕ) (why : TraceFault) → answer ≡ outcome.TraceRefused index why → ⊥) → EndsTrace tells d0 d' bytes answer
+fault_ends tells d0 d' bytes answer not refused = record {
+  ended = λ e. absurd (not (subst RecordsAll (sym e) tt));
+  refused = λ i w e. absurd (refused i w e);
+  truncated = λ i e. absurd (refused i trace.Truncated e);
+  undecided = λ e. absurd (not (subst RecordsAll (sym e) tt));
+  quiet = λ all. absurd (not all);
+}
+
+-- the disk failed, or the numbers ended
+pub EndsTrace-fault : (tells : Tells) (d0 d' : State) (bytes : List ℕ) (f : SessionFault)
+    → (f ≡ session.DiskFault) ⊎ (f ≡ session.SeqEnd) → EndsTrace tells d0 d' bytes (session_refusal f)
+EndsTrace-fault tells d0 d' bytes f only = ⊎_elim
+    (λ (e : f ≡ session.DiskFault). rw e (fault_ends tells d0 d' bytes outcome.DiskFault (λ all. all) (λ i w x. absurd (cc))))
+    (λ (e : f ≡ session.SeqEnd). rw e (fault_ends tells d0 d' bytes outcome.SeqEnd (λ all. all) (λ i w x. absurd (cc))))
+    only
+
+stop_all : (s : TraceStop) → RecordsAll (answer_of_stop s)
+stop_all (stop.Refused index why) = tt
+stop_all stop.Failed = tt
+
+stop_good : (tells : Tells) (d d' : State) (bytes : List ℕ) (records : List BusRecord) (s : TraceStop)
+    → IsTraceStopped tells d d' bytes records s → good_prefix bytes ≡ records
+stop_good tells d d' bytes records (stop.Refused index why) stopped = stopped.good
+stop_good tells d d' bytes records stop.Failed stopped = stopped.good
+
+-- a line that failed was counted
+pub line_failed : (tells : Tells) (d0 d d' : State) (bytes : List ℕ) (records : List BusRecord) (s : TraceStop)
+    → answer_of_stop s ≡ outcome.ReadFault input.Line → IsTraceStopped tells d d' bytes records s → d.line_faults ≡ d0.line_faults
+    → Rose d0.line_faults d'.line_faults
+line_failed tells d0 d d' bytes records (stop.Refused index why) is stopped quiet = absurd (cc)
+line_failed tells d0 d d' bytes records stop.Failed is stopped quiet = subst (λ n. Rose n d'.line_faults) quiet stopped.cause
+
+-- all good records of the bytes were fed
+fed_all : (tells : Tells) (past : SessionPast) (s : Session) (d0 d' : State) (bytes : List ℕ) (records : List BusRecord) (answer : Outcome)
+    → IsSureRing tells past.header past.first d0 → RepresentsSession s (fed past records) → HasFed tells (fed past records) bytes d0 d'
+    → good_prefix bytes ≡ records → EndsTrace tells d0 d' bytes answer → RecordsAll answer → HasFedAll tells past s d0 d' answer
+fed_all tells past s d0 d' bytes records answer ring stands has good ends all = record {
+  pulled = bytes;
+  stands = subst (λ (r : List BusRecord). RepresentsSession s (fed past r)) (sym good) stands;
+  ring = subst (λ (n : ℕ). IsSureRing tells past.header n d') (next_at (fed past records) s stands) (has.recorded.sure ring);
+  has = subst (λ (r : List BusRecord). HasFed tells (fed past r) bytes d0 d') (sym good) has;
+  trace = ends;
+  all = all;
+}
+
+pub HasFedAll-stop : (tells : Tells) (past : SessionPast) (s : Session) (d0 d d' : State) (bytes : List ℕ) (records : List BusRecord)
+    (st : TraceStop) → IsSureRing tells past.header past.first d0 → RepresentsSession s (fed past records)
+    → HasFed tells (fed past records) bytes d0 d' → IsTraceStopped tells d d' bytes records st → d.line_faults ≡ d0.line_faults
+    → (st ≢ stop.Failed → d'.line_faults ≡ d.line_faults) → HasFedAll tells past s d0 d' (answer_of_stop st)
+HasFedAll-stop tells past s d0 d d' bytes records st ring stands has stopped before quiet =
+    fed_all tells past s d0 d' bytes records (answer_of_stop st) ring stands has (stop_good tells d d' bytes records st stopped)
+    (EndsTrace-stop tells d0 d d' bytes records st stopped before quiet) (stop_all st)
+
+pub HasFedAll-end : (tells : Tells) (past : SessionPast) (s : Session) (d0 d' : State) (bytes : List ℕ) (records : List BusRecord)
+    (r : BusRecord) → IsSureRing tells past.header past.first d0 → RepresentsSession s (fed past (records ++ r ∷ []))
+    → HasFed tells (fed past (records ++ r ∷ [])) bytes d0 d' → good_prefix bytes ≡ records ++ r ∷ []
+    → is_end r ≡ true → d'.line_faults ≡ d0.line_faults → HasFedAll tells past s d0 d' outcome.Done
+HasFedAll-end tells past s d0 d' bytes records r ring stands has good ends quiet =
+    fed_all tells past s d0 d' bytes (records ++ r ∷ []) outcome.Done ring stands has good
+    (EndsTrace-end tells d0 d' bytes records r good ends quiet) tt
+
+-- ---- where a record couldn't be fed
+
+close_same : (f f' : SessionFault) → ◌≡◌ {A = Result ℕ SessionFault} (Err f) (Err f') → f ≡ f'
+close_same f f' e = cc
+
+fault_same : (f f' : SessionFault) → ◌≡◌ {A = Result Session SessionFault} (Err f) (Err f') → f ≡ f'
+fault_same f f' e = cc
+
+-- the same of the answer of a session that is closed
+pub only_close : (f : SessionFault) → ◌≡◌ {A = Result ℕ SessionFault} (Err f) (Err session.DiskFault)
+    ⊎ ◌≡◌ {A = Result ℕ SessionFault} (Err f) (Err session.SeqEnd) → (f ≡ session.DiskFault) ⊎ (f ≡ session.SeqEnd)
+only_close f only = ⊎_elim (λ e. inl (close_same f session.DiskFault e)) (λ e. inr (close_same f session.SeqEnd e)) only
+
+pub only_two : (f : SessionFault) → ◌≡◌ {A = Result Session SessionFault} (Err f) (Err session.DiskFault)
+    ⊎ ◌≡◌ {A = Result Session SessionFault} (Err f) (Err session.SeqEnd) → (f ≡ session.DiskFault) ⊎ (f ≡ session.SeqEnd)
+only_two f only = ⊎_elim (λ e. inl (fault_same f session.DiskFault e)) (λ e. inr (fault_same f session.SeqEnd e)) only
+
+not_all : (f : SessionFault) → (f ≡ session.DiskFault) ⊎ (f ≡ session.SeqEnd) → RecordsAll (session_refusal f) → ⊥
+not_all f only all = ⊎_elim
+    (λ (e : f ≡ session.DiskFault). rw e at all)
+    (λ (e : f ≡ session.SeqEnd). rw e at all)
+    only
+
+pub is_seq_end : (f : SessionFault) → session_refusal f ≡ outcome.SeqEnd → f ≡ session.SeqEnd
+is_seq_end (session.Image why) e = absurd (cc)
+is_seq_end (session.WordsDiffer image table) e = absurd (cc)
+is_seq_end session.DiskFault e = absurd (cc)
+is_seq_end session.SeqEnd e = refl
+is_seq_end session.NoMemory e = absurd (cc)
+
+-- the first blocks of three stretches, as many as reach into the second
+take_two : (xs ys zs : List Block) (n m : ℕ) → n ≡ length xs + m → m ≤ length ys → take n ((xs ++ ys) ++ zs) ≡ xs ++ take m ys
+take_two xs ys zs n m is within =
+    take-append-le n (xs ++ ys) zs (omega (arith, is, within, length-append xs ys))
+    ∙ ap (λ k. take k (xs ++ ys)) is ∙ take-append-add xs ys m
+
+module _ (tells : Tells) (past : SessionPast) (d0 d d' : State) (bytes : List ℕ) (records later : List BusRecord) (r : BusRecord) (f : SessionFault)
+    (sound0 : IsSoundDeck tells d0) (s : Session) (k : TraceKept) (is : IsBegun tells s k past d0) (limits : IsInLimits past.header)
+    (has : HasFed tells (fed past records) bytes d0 d) (may : MayFeedSession (fed past records) r)
+    (good : good_prefix bytes ≡ (records ++ r ∷ []) ++ later)
+    (wrote : Records tells past.header (past.first + length (recorded_of (fed past records))) (due_at (fed past records) r) d d')
+    (only : (f ≡ session.DiskFault) ⊎ (f ≡ session.SeqEnd))
+  where
+    all : List Block
+    all = all_blocks (fed past (good_prefix bytes))
+
+    rest : List Block
+    rest = (new_blocks-begin past bytes (records ++ r ∷ []) later good limits).0
+
+    parts : all_blocks (fed past (good_prefix bytes))
+        ≡ (recorded_of (fed past records) ++ due_at (fed past records) r) ++ rest
+    unfolding rest
+    parts = (new_blocks-begin past bytes (records ++ r ∷ []) later good limits).1
+        ∙ ap (λ (l : List Block). l ++ rest) (recorded_of-fed (fed past records) r limits may)
+
+    moments : d0.greatest ≤ past.first
+        → EachMoment tells d0 d' (SessionMoment past d0 (all_blocks (fed past (good_prefix bytes))) bytes)
+    moments few = subst (λ (l : List Block). EachMoment tells d0 d' (SessionMoment past d0 l bytes)) (sym parts)
+        (EachMoment-weaken tells d0 d'
+        (SessionMoment past d0 (recorded_of (fed past records) ++ due_at (fed past records) r) bytes)
+        (SessionMoment past d0 ((recorded_of (fed past records) ++ due_at (fed past records) r) ++ rest) bytes)
+        (λ m at. record {
+          keeps = keeps_more past.header d0.held m.image (recovered_run past.header d0.held)
+              (recorded_of (fed past records) ++ due_at (fed past records) r) rest m.told at.keeps;
+          close = at.close;
+          least = at.least;
+          in_time = at.in_time;
+        })
+        (block_moments tells (fed past records) d0 d d' bytes sound0 is.ring is.settled is.told has
+        (due_at (fed past records) r) wrote few))
+
+    pub Continues-fault : (past.first + length (recorded_of (fed past records)) ≤ 2 ^ 48)
+        → (f ≡ session.SeqEnd
+        → HasEnded tells past.header (past.first + length (recorded_of (fed past records))) (due_at (fed past records) r) d d')
+        → Continues tells past d0 d' (session_refusal f)
+    Continues-fault bound ended =
+        let a = recorded_of (fed past records) in
+        let b = due_at (fed past records) r in
+        let long = ap length parts in
+        record {
+          pulled = bytes;
+          pulls = block_pulls tells (fed past records) d0 d d' bytes sound0 is.ring is.settled is.told has b wrote;
+          time = block_time tells (fed past records) d0 d d' bytes sound0 is.ring is.settled is.told has b wrote;
+          moments = moments;
+          recorded = λ whole. absurd (not_all f only whole);
+          within = λ whole. absurd (not_all f only whole);
+          seq_end = λ e.
+              let end = ended (is_seq_end f e) in
+              let n : 2 ^ 48 - past.first ≡ length a + (2 ^ 48 - (past.first + length a)) = omega (arith, bound) in
+              let cut : 2 ^ 48 - (past.first + length a) ≤ length b = omega (arith, end.beyond) in
+              subst (λ (l : List Block). HasRecorded tells past.header past.first l d0 d')
+              (sym (ap (λ (l : List Block). take (2 ^ 48 - past.first) l) parts
+              ∙ take_two a b rest (2 ^ 48 - past.first) (2 ^ 48 - (past.first + length a)) n cut))
+              (HasRecorded-then tells past.header past.first a (take (2 ^ 48 - (past.first + length a)) b) d0 d d' has.recorded end.recorded);
+          beyond = λ e.
+              let end = ended (is_seq_end f e) in
+              omega (arith, end.beyond, long, length-append (a ++ b) rest, length-append a b);
+          trace = EndsTrace-fault tells d0 d' bytes f only;
+        }
+
+-- ---- where the session is closed
+
+pub all_own : (path image : List ℕ) (answer : Outcome) → RecordsAll answer → IsOwn (record_line path image) answer
+all_own path image outcome.Done all = tt
+all_own path image (outcome.TraceRefused index why) all = tt
+all_own path image (outcome.ReadFault input.Line) all = tt
+all_own path image answer all = absurd all
+
+pub all_begun : (answer : Outcome) → RecordsAll answer → WritesNothing answer → ⊥
+all_begun outcome.Done all nothing = nothing
+all_begun (outcome.TraceRefused index why) all nothing = nothing
+all_begun (outcome.ReadFault input.Line) all nothing = nothing
+all_begun answer all nothing = all
+
+pub two_own : (path image : List ℕ) (f : SessionFault) → (f ≡ session.DiskFault) ⊎ (f ≡ session.SeqEnd)
+    → IsOwn (record_line path image) (session_refusal f)
+two_own path image f only = ⊎_elim
+    (λ (e : f ≡ session.DiskFault). rw e tt)
+    (λ (e : f ≡ session.SeqEnd). rw e tt)
+    only
+
+pub two_begun : (f : SessionFault) → (f ≡ session.DiskFault) ⊎ (f ≡ session.SeqEnd) → WritesNothing (session_refusal f) → ⊥
+two_begun f only nothing = ⊎_elim
+    (λ (e : f ≡ session.DiskFault). rw e at nothing)
+    (λ (e : f ≡ session.SeqEnd). rw e at nothing)
+    only
+
+pub two_not_line : (f : SessionFault) → (f ≡ session.DiskFault) ⊎ (f ≡ session.SeqEnd)
+    → session_refusal f ≡ outcome.ReadFault input.Line → ⊥
+two_not_line f only is = ⊎_elim
+    (λ (e : f ≡ session.DiskFault). let no = rw e at is in cc)
+    (λ (e : f ≡ session.SeqEnd). let no = rw e at is in cc)
+    only
+
+pub is_disk_fault : (f : SessionFault) → session_refusal f ≡ outcome.DiskFault → f ≡ session.DiskFault
+is_disk_fault (session.Image why) e = absurd (cc)
+is_disk_fault (session.WordsDiffer image table) e = absurd (cc)
+is_disk_fault session.DiskFault e = refl
+is_disk_fault session.SeqEnd e = absurd (cc)
+is_disk_fault session.NoMemory e = absurd (cc)
+
+-- a call that leaves the line leaves how the trace ended
+EndsTrace-kept : (tells : Tells) (d0 d d' : State) (bytes : List ℕ) (answer : Outcome) → EndsTrace tells d0 d bytes answer
+    → d'.line ≡ d.line → d'.line_faults ≡ d.line_faults → EndsTrace tells d0 d' bytes answer
+EndsTrace-kept tells d0 d d' bytes answer ends line faults = record {
+  ended = ends.ended;
+  refused = ends.refused;
+  truncated = λ index e told. line ∙ ends.truncated index e told;
+  undecided = ends.undecided;
+  quiet = λ all not. faults ∙ ends.quiet all not;
+}
+
+module _ (tells : Tells) (past : SessionPast) (d0 d d' : State) (s0 : Session) (k : TraceKept) (s : Session) (answer : Outcome)
+    (sound0 : IsSoundDeck tells d0) (is : IsBegun tells s0 k past d0) (whole : HasFedAll tells past s d0 d answer)
+  where
+    -- the last block is written, or an error comes
+    module _ (parts : all_blocks (fed past (good_prefix whole.pulled))
+        ≡ recorded_of (fed past (good_prefix whole.pulled)) ++ rest_of (fed past (good_prefix whole.pulled)))
+        (wrote : Records tells s.ring.header s.ring.next (rest_of (fed past (good_prefix whole.pulled))) d d')
+      where
+        wrote_at : Records tells past.header (past.first + length (recorded_of (fed past (good_prefix whole.pulled))))
+            (rest_of (fed past (good_prefix whole.pulled))) d d'
+        wrote_at = Records-at tells (fed past (good_prefix whole.pulled)) s (rest_of (fed past (good_prefix whole.pulled))) d d'
+            whole.stands wrote
+
+        closing_moments : d0.greatest ≤ past.first
+            → EachMoment tells d0 d' (SessionMoment past d0 (all_blocks (fed past (good_prefix whole.pulled))) whole.pulled)
+        closing_moments few = subst (λ (l : List Block). EachMoment tells d0 d' (SessionMoment past d0 l whole.pulled)) (sym parts)
+            (block_moments tells (fed past (good_prefix whole.pulled)) d0 d d' whole.pulled sound0 is.ring is.settled is.told whole.has
+            (rest_of (fed past (good_prefix whole.pulled))) wrote_at few)
+
+        closing_time : Elapses tells d0 d'
+        closing_time = block_time tells (fed past (good_prefix whole.pulled)) d0 d d' whole.pulled sound0 is.ring is.settled is.told
+            whole.has (rest_of (fed past (good_prefix whole.pulled))) wrote_at
+
+        closing_pulls : PullsMore tells d0 d' [] whole.pulled
+        closing_pulls = block_pulls tells (fed past (good_prefix whole.pulled)) d0 d d' whole.pulled sound0 is.ring is.settled is.told
+            whole.has (rest_of (fed past (good_prefix whole.pulled))) wrote_at
+
+        pub Continues-closed : (n : ℕ) → n ≡ s.ring.next + length (rest_of (fed past (good_prefix whole.pulled))) → n ≤ 2 ^ 48
+            → HasRecorded tells s.ring.header s.ring.next (rest_of (fed past (good_prefix whole.pulled))) d d'
+            → Continues tells past d0 d' answer
+        Continues-closed n next bound recorded =
+            let p = fed past (good_prefix whole.pulled) in
+            let a = recorded_of p in
+            let b = rest_of p in
+            record {
+              pulled = whole.pulled;
+              pulls = closing_pulls;
+              time = closing_time;
+              moments = closing_moments;
+              recorded = λ all. subst (λ (l : List Block). HasRecorded tells past.header past.first l d0 d') (sym parts)
+                  (HasRecorded-then tells past.header past.first a b d0 d d' whole.has.recorded
+                  (HasRecorded-at tells p s b d d' whole.stands recorded));
+              within = λ all. omega (arith, bound, next, next_at p s whole.stands, ap length parts, length-append a b);
+              seq_end = λ e. absurd (rw e at whole.all);
+              beyond = λ e. absurd (rw e at whole.all);
+              trace = EndsTrace-kept tells d0 d d' whole.pulled answer whole.trace wrote.line.line wrote.line_faults;
+            }
+
+        pub Continues-unclosed : (f : SessionFault) → (f ≡ session.DiskFault) ⊎ (f ≡ session.SeqEnd)
+            → (f ≡ session.SeqEnd
+            → HasEnded tells s.ring.header s.ring.next (rest_of (fed past (good_prefix whole.pulled))) d d')
+            → Continues tells past d0 d' (session_refusal f)
+        Continues-unclosed f only ended =
+            let p = fed past (good_prefix whole.pulled) in
+            let a = recorded_of p in
+            let b = rest_of p in
+            let bound = bound_of p s whole.stands in
+            record {
+              pulled = whole.pulled;
+              pulls = closing_pulls;
+              time = closing_time;
+              moments = closing_moments;
+              recorded = λ all. absurd (not_all f only all);
+              within = λ all. absurd (not_all f only all);
+              seq_end = λ e.
+                  let end = HasEnded-at tells p s b d d' whole.stands (ended (is_seq_end f e)) in
+                  let n : 2 ^ 48 - past.first ≡ length a + (2 ^ 48 - (past.first + length a)) = omega (arith, bound) in
+                  subst (λ (l : List Block). HasRecorded tells past.header past.first l d0 d')
+                  (sym (ap (λ (l : List Block). take (2 ^ 48 - past.first) l) parts
+                  ∙ ap (λ m. take m (a ++ b)) n ∙ take-append-add a b (2 ^ 48 - (past.first + length a))))
+                  (HasRecorded-then tells past.header past.first a (take (2 ^ 48 - (past.first + length a)) b) d0 d d'
+                  whole.has.recorded end.recorded);
+              beyond = λ e.
+                  let end = HasEnded-at tells p s b d d' whole.stands (ended (is_seq_end f e)) in
+                  omega (arith, end.beyond, ap length parts, length-append a b);
+              trace = EndsTrace-fault tells d0 d' whole.pulled f only;
+            }

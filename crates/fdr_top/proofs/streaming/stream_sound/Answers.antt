@@ -1,0 +1,16 @@
+use Rattle.std.proofs.Common.{[], inr}
+use Rattle.fdr_words.specs.Forms.{stream_line}
+use Rattle.fdr_top.proofs.Commands.{own_not_memory}
+use Rattle.fdr_top.proofs.streaming.stream_sound.Goals as goal
+
+pub returns-in-Ok-clause-answer : goal.returns-in-Ok-clause-answer
+returns-in-Ok-clause-answer g c = λ path. inr (c.stream_trace.ensures.answer path)
+
+pub returns-in-Ok-clause-no_memory : goal.returns-in-Ok-clause-no_memory
+returns-in-Ok-clause-no_memory g c = λ memory. absurd (own_not_memory (stream_line []) _ (c.stream_trace.ensures.answer []) memory)
+
+pub returns-in-Ok-clause-no_memory_faults : goal.returns-in-Ok-clause-no_memory_faults
+returns-in-Ok-clause-no_memory_faults g c = λ memory. absurd (own_not_memory (stream_line []) _ (c.stream_trace.ensures.answer []) memory)
+
+pub returns-in-Ok-clause-no_memory_line : goal.returns-in-Ok-clause-no_memory_line
+returns-in-Ok-clause-no_memory_line g c = λ memory. absurd (own_not_memory (stream_line []) _ (c.stream_trace.ensures.answer []) memory)
