@@ -3,7 +3,7 @@
 PREFIX ?= /usr/local
 PROGRAM = crates/fdr_prog
 
-.PHONY: build demo streams test install clean
+.PHONY: build demo streams crash-test test install clean
 
 # Proves the program and everything below it, and puts it at bin/fdr.
 build:
@@ -11,14 +11,20 @@ build:
 	mkdir -p bin
 	cp $(PROGRAM)/out/fdr_prog bin/fdr
 
-# Builds the program once, without its proofs, and runs each command on the cases of examples/, whose output is compared.
+# Builds the program once, without its proofs, and runs each command on the cases of examples/, whose output is compared:
+# images are made, recorded in and listed, and one is listed again as a cut of the power left it.
 demo:
 	cd $(PROGRAM) && rt try --cases ../../examples/cases --data t1.csv=../../examples/t1.csv \
-		--data ordinary.csv=../../examples/ordinary.csv --data ring.img=../../examples/ring.img
+		--data ordinary.csv=../../examples/ordinary.csv --data ring.img=../../examples/ring.img \
+		--data recorded.img=../../examples/recorded.img --data cut.img=../../examples/cut.img
 
 # Runs the built program with each of its standard streams closed.
 streams: build
 	examples/closed_streams.sh bin/fdr
+
+# Ends recordings of the built program at random moments, and looks at what the image holds then.
+crash-test: build
+	tools/crash_test.py bin/fdr
 
 # The gate: every proof, must-fail edit, test and program.
 test:

@@ -1,7 +1,7 @@
 #!/bin/sh
 # Runs the program with each of its standard streams closed at the start, and compares its answers. The files that it
 # opens then must not take the place of a stream: a closed input is a fault of the input, a closed output one of the
-# output, and what would go to a closed standard error is dropped.
+# output, and what would go to a closed standard error is dropped, the acknowledgements of a recording too.
 #
 # Usage: examples/closed_streams.sh [PROGRAM]
 
@@ -21,7 +21,7 @@ expect() {
 
 same() {
     if ! cmp -s "$1" "$2"; then
-        echo "closed streams: $3 made another image" >&2
+        echo "closed streams: $3 made another file" >&2
         failed=1
     fi
 }
@@ -36,6 +36,10 @@ expect 8 $? "stream without an input"
 expect 9 $? "listbits without an output"
 "$fdr" check "$here/t1.csv" >&- 2>/dev/null
 expect 9 $? "check without an output"
+"$fdr" recover "$here/ring.img" >&- 2>/dev/null
+expect 9 $? "recover without an output"
+"$fdr" list "$here/t1.csv" "$here/recorded.img" >&- 2>/dev/null
+expect 9 $? "list without an output"
 
 make_image "$room/open.img"
 expect 0 $? "format"
@@ -51,6 +55,24 @@ same "$room/open.img" "$room/none.img" "format without any stream"
 "$fdr" recover "$room/none.img" <&- >&- 2>&-
 expect 0 $? "recover of an empty image without any stream"
 same "$room/open.img" "$room/none.img" "recover without any stream"
+
+make_large() { "$fdr" format "$here/t1.csv" "$1" --slots 32 --payload 64; }
+
+make_large "$room/told.img"
+make_large "$room/untold.img"
+head -c 64 "$room/told.img" >"$room/header"
+"$fdr" record "$here/t1.csv" "$room/told.img" <"$here/cases/stream_a_trace" 2>"$room/acks"
+expect 0 $? "record"
+"$fdr" record "$here/t1.csv" "$room/untold.img" <"$here/cases/stream_a_trace" 2>&-
+expect 0 $? "record without a standard error"
+head -c 64 "$room/untold.img" >"$room/header_after"
+same "$room/header" "$room/header_after" "the header, record without a standard error"
+same "$room/told.img" "$room/untold.img" "record without a standard error"
+"$fdr" recover "$room/untold.img" >"$room/recovered"
+same "$here/cases/stream_a_trace.stdout" "$room/recovered" "recover of what was recorded without a standard error"
+"$fdr" record "$here/t1.csv" "$room/told.img" <&- 2>/dev/null
+expect 8 $? "record without an input"
+same "$room/told.img" "$room/untold.img" "record without an input"
 
 [ "$failed" -eq 0 ] && echo "closed streams: as they should be"
 exit "$failed"

@@ -1,0 +1,212 @@
+#!/usr/bin/env python3
+"""Measures `record`, beside a plain loop that makes the same writes and syncs.
+
+    tools/measure_record.py PROGRAM [--disk FOLDER] [--memory FOLDER] [--hours H H] [--repeat N]
+
+A trace is recorded by examples/ordinary.csv in an image of 8,448 slots of 4,096 bytes: one of an hour in a file on a disk,
+whose syncs take their time, and one of 25 hours in a file in memory, where a sync costs next to nothing. The trace comes
+from a file, and the acknowledgements go to /dev/null. Each is made several times, and the middle one counts.
+
+The plain loop is Python, in a process of its own. For each block it writes what stands after the gate, reads the gate of
+the following slot and closes it where it is open, syncs, opens the gate, syncs, and writes the acknowledgement. It has
+the blocks in memory, so it samples and packs nothing. Its seconds are those of the loop alone.
+
+Before a figure counts, what `recover` writes of the image is compared with what `stream` writes. The calls of the system
+are counted by strace, where it is there, in a run of their own.
+
+It prints a table: seconds, of the processor too, writes and syncs for each block, and the most memory.
+"""
+
+import argparse
+import collections
+import contextlib
+import csv
+import os
+import pathlib
+import random
+import re
+import shutil
+import struct
+import subprocess
+import sys
+import tempfile
+import time
+
+TOP = pathlib.Path(__file__).resolve().parent.parent
+TABLE = TOP / "examples" / "ordinary.csv"
+SLOTS, PAYLOAD = 8448, 4096
+HEADER, HEAD = 64, 16
+SUPERFRAME = 64  # seconds, in which a parameter comes as often as its rate says
+CALLS = ["pwrite64", "fdatasync", "fsync", "pread64", "fstat", "read"]
+
+Figures = collections.namedtuple("Figures", "seconds processor peak")
+
+
+# --- the trace
+
+
+def parity(word):
+    """What makes the number of ones odd."""
+    return (bin(word).count("1") + 1) % 2 << 31
+
+
+def trace_of(hours):
+    """A trace in which each parameter of the table sends as often as the table samples it."""
+    chance = random.Random(1)
+    seconds = int(hours * 3600)
+    records = []
+    with open(TABLE, newline="") as rows:
+        for row in csv.reader(rows):
+            if row[0] != "P":
+                continue
+            bus, label, sdi, every = int(row[2]), int(row[3], 8), int(row[4] or 0), SUPERFRAME / int(row[12])
+            low = int(f"{label:08b}"[::-1], 2) | sdi << 8
+            for k in range(int(seconds / every)):
+                word = low | chance.getrandbits(21) << 10
+                records.append((int(k * every * 1_000_000), struct.pack(">BBHI", 1, bus, 0, word | parity(word))))
+    records.sort()
+    end = struct.pack(">BBHIQ", 2, 0, 0, 0, seconds * 1_000_000)
+    return b"".join(front + struct.pack(">Q", at) for at, front in records) + end
+
+
+# --- the plain loop
+
+
+def plain_loop(path, stream):
+    """Makes the writes and syncs of a recording, and answers what that took."""
+    blocks = [stream[at : at + PAYLOAD] for at in range(0, len(stream), PAYLOAD)]
+    image = os.open(path, os.O_RDWR)
+    told = os.open(os.devnull, os.O_WRONLY)
+    began, used = time.monotonic(), time.process_time()
+    for number, block in enumerate(blocks):
+        gate = HEADER + number % SLOTS * (HEAD + PAYLOAD)
+        following = HEADER + (number + 1) % SLOTS * (HEAD + PAYLOAD)
+        os.pwrite(image, struct.pack(">xHIQ", len(block), 0, number) + block, gate + 1)
+        if os.pread(image, 1, following) == b"\x5a":
+            os.pwrite(image, b"\x00", following)
+        os.fdatasync(image)
+        os.pwrite(image, b"\x5a", gate)
+        os.fdatasync(image)
+        os.write(told, b"ack %d\n" % (number + 1))
+    return time.monotonic() - began, time.process_time() - used
+
+
+# --- runs
+
+
+def peak_of(process):
+    """The most memory of a running process so far, in kB, or nothing where it has just ended."""
+    with contextlib.suppress(OSError):
+        for line in pathlib.Path(f"/proc/{process}/status").read_text().splitlines():
+            if line.startswith("VmHWM:"):
+                return int(line.split()[1])
+    return 0
+
+
+def run(words, given=os.devnull, written=os.devnull):
+    """Runs a program, and answers its figures.
+
+    Its memory is looked at while it runs: what the system says at its end counts the memory of who started it, too.
+    """
+    peak, ended = 0, 0
+    with open(given, "rb") as source, open(written, "wb") as sink, open(os.devnull, "wb") as told:
+        began = time.monotonic()
+        child = subprocess.Popen([str(word) for word in words], stdin=source, stdout=sink, stderr=told)
+        while not ended:
+            time.sleep(0.001)
+            peak = max(peak, peak_of(child.pid))
+            ended, status, used = os.wait4(child.pid, os.WNOHANG)
+        seconds = time.monotonic() - began
+    child.returncode = os.waitstatus_to_exitcode(status)
+    if child.returncode != 0:
+        sys.exit(f"{' '.join(map(str, words))} ended with {child.returncode}")
+    return Figures(seconds, used.ru_utime + used.ru_stime, peak / 1024)
+
+
+def middle(figures):
+    """The run whose time is the middle one."""
+    return sorted(figures)[len(figures) // 2]
+
+
+def make_image(program, path):
+    path.unlink(missing_ok=True)
+    run([program, "format", TABLE, path, "--slots", SLOTS, "--payload", PAYLOAD])
+    subprocess.run(["sync", path], check=True)
+
+
+def compare(program, path, stream, room):
+    """Wants what was recorded to be the stream, but for blocks that are no longer promised."""
+    run([program, "recover", path], written=room / "recovered")
+    found, wanted = (room / "recovered").read_bytes(), stream.read_bytes()
+    if not wanted.endswith(found) or len(found) < min(len(wanted), (SLOTS - 2) * PAYLOAD):
+        sys.exit(f"the image holds {len(found)} bytes of {len(wanted)}, or others")
+
+
+def calls_of(words, given, room):
+    """How often a program made each call of the system, or nothing where strace isn't there."""
+    if not shutil.which("strace"):
+        return None
+    run(["strace", "-f", "-c", "-o", room / "calls", "-e", "trace=" + ",".join(CALLS), *words], given=given)
+    found = re.findall(r"^ *[\d.]+ +[\d.]+ +\d+ +(\d+) +(?:\d+ +)?(\w+)$", (room / "calls").read_text(), re.M)
+    return {name: int(count) for count, name in found}
+
+
+def measured(program, hours, folder, repeat, room):
+    """The figures of `record` and of the plain loop, and the calls of both."""
+    trace, stream = room / "trace", room / "stream"
+    trace.write_bytes(trace_of(hours))
+    run([program, "stream", TABLE], given=trace, written=stream)
+    image = folder / f"measured_{os.getpid()}.img"
+    record = [program, "record", TABLE, image]
+    plain = [sys.executable, __file__, "--plain", image, stream]
+    figures, calls = {}, {}
+    try:
+        for name, words, given in (("record", record, trace), ("plain loop", plain, os.devnull)):
+            taken = []
+            for _ in range(repeat):
+                make_image(program, image)
+                one = run(words, given=given, written=room / "said")
+                said = (room / "said").read_text().split()
+                taken.append(Figures(*map(float, said), None) if said else one)
+                compare(program, image, stream, room)
+            figures[name] = middle(taken)
+            make_image(program, image)
+            calls[name] = calls_of(words, given, room)
+    finally:
+        image.unlink(missing_ok=True)
+    blocks = -(-stream.stat().st_size // PAYLOAD)
+    return blocks, trace.stat().st_size // 16, figures, calls
+
+
+def print_row(cells):
+    print("| " + " | ".join(cells) + " |")
+
+
+def main():
+    words = argparse.ArgumentParser(description=__doc__.splitlines()[0])
+    words.add_argument("program", type=pathlib.Path)
+    words.add_argument("--disk", type=pathlib.Path, default=pathlib.Path("/var/tmp"))
+    words.add_argument("--memory", type=pathlib.Path, default=pathlib.Path("/dev/shm"))
+    words.add_argument("--hours", type=float, nargs=2, default=[1, 25], help="on the disk, and in memory")
+    words.add_argument("--repeat", type=int, default=3)
+    given = words.parse_args()
+    program = given.program.resolve()
+    figures = ["seconds", "of the processor", "writes a block", "syncs a block", "peak MB"]
+    print_row(["file", "hours", "records", "blocks", "by", *figures])
+    print_row(["---"] * 5 + ["---:"] * 5)
+    for name, folder, hours in (("disk", given.disk, given.hours[0]), ("memory", given.memory, given.hours[1])):
+        with tempfile.TemporaryDirectory(prefix="measure_record_") as room:
+            blocks, records, figures, calls = measured(program, hours, folder, given.repeat, pathlib.Path(room))
+        for who, it in figures.items():
+            made = calls[who]
+            writes = f"{made['pwrite64'] / blocks:.2f}" if made else "-"
+            syncs = f"{(made.get('fdatasync', 0) + made.get('fsync', 0)) / blocks:.2f}" if made else "-"
+            row = [name, f"{hours:g}", f"{records:,}", f"{blocks:,}", who, f"{it.seconds:.3f}", f"{it.processor:.3f}"]
+            print_row(row + [writes, syncs, f"{it.peak:.1f}" if it.peak else "-"])
+
+
+if __name__ == "__main__":
+    if sys.argv[1:2] == ["--plain"]:
+        print(*plain_loop(sys.argv[2], pathlib.Path(sys.argv[3]).read_bytes()))
+    else:
+        main()
