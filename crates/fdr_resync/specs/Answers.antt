@@ -1,0 +1,20 @@
+-- The events that a scanner's answers name.
+use Rattle.std.specs.Prelude.{ℕ, Option, Some, None, List, [], ◌∷◌}
+use Rattle.fdr_resync.specs.declared.Event.{Event as Answer}
+use Rattle.fdr_resync.specs.declared.Event.TheVariants.{Frame as FrameAnswer, Gap as GapAnswer}
+use Rattle.fdr_sync.specs.Events.{Event, Frame, Gap}
+
+abbrev pub answered_event : Answer → Event
+answered_event (FrameAnswer at) = Frame at
+answered_event (GapAnswer at bits) = Gap at bits
+
+-- the event that an answer names, if it is one
+abbrev pub answered_events : Option Answer → List Event
+answered_events None = []
+answered_events (Some e) = answered_event e ∷ []
+
+-- where the frame begins that an answer names, if it names one
+abbrev pub answered_frame : Option Answer → Option ℕ
+answered_frame None = None
+answered_frame (Some (FrameAnswer at)) = Some at
+answered_frame (Some (GapAnswer at bits)) = None

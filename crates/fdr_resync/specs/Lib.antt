@@ -1,0 +1,4 @@
+pub mod Past
+pub mod View
+pub mod Answers
+pub mod Adjacency
