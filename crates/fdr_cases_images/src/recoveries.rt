@@ -1,5 +1,5 @@
 use crate::formats::fresh_image;
-use fdr_cases::{ALTITUDE, Ran, deck_of, run_words};
+use fdr_cases::{ALTITUDE, Ran, deck_of, frame_with, run_words};
 use fdr_deck::MemDeck;
 use fdr_recover::{Found, RingFault, read_image_header, scan};
 use fdr_ring::Ring;
@@ -11,26 +11,6 @@ use std::test::Fail;
 /// Recovers an image. The table isn't read.
 pub fn recover(alloc: Global, deck: &mut MemDeck) -> Result<Ran, AllocError> {
     run_words(alloc, &["recover", "flight.img"], "", deck, &[])
-}
-
-/// The 384 bytes of a frame with counter 0 and altitude 0.
-fn empty_frame(alloc: Global) -> Result<Vec<u8>, AllocError> {
-    let mut frame = vec![in alloc; 0; 384]?;
-    for (at, byte) in [
-        (0, 0x47),
-        (1, 0x02),
-        (96, 0xb8),
-        (97, 0x05),
-        (192, 0x47),
-        (193, 0x0a),
-        (288, 0xb8),
-        (289, 0x0d),
-    ] {
-        if let Some(place) = frame.get_mut(at) {
-            *place = byte;
-        }
-    }
-    Ok(frame)
 }
 
 /// Adds a block to the ring of an image, which has room for its bytes.
@@ -47,7 +27,7 @@ fn add_block(deck: &mut MemDeck, bytes: &[u8]) -> Result<(), RingFault> {
 
 /// The image of 4 slots after the six blocks of a frame.
 pub fn image_of_a_frame(alloc: Global) -> Result<Vec<u8>, Fail> {
-    let frame = empty_frame(alloc)?;
+    let frame = frame_with(alloc, &[])?;
     let mut deck = deck_of(alloc, &fresh_image(alloc)?, &[], &[])?;
     for block in frame.chunks(64) {
         add_block(&mut deck, block).ok().ok_or("the disk")?;
@@ -62,7 +42,7 @@ fn recovers_the_last_blocks_of_a_ring(rt: HostRuntime) -> Result<(), Fail> {
     let mut deck = deck_of(alloc, &image, &[], &[])?;
     let recovered = recover(alloc, &mut deck)?;
     assert_eq!(rt; recovered.outcome, Outcome::Done);
-    let frame = empty_frame(alloc)?;
+    let frame = frame_with(alloc, &[])?;
     let last = frame.get(192..).ok_or("three blocks")?;
     assert_eq!(rt; recovered.written.as_slice(), last);
     assert_eq!(rt; deck.image(), image.as_slice());

@@ -14,6 +14,11 @@ pub const END_AT_0: [u8; 16] = [2, 0, 0, 0, 0, 0, 0, 0, 0, 0, 0, 0, 0, 0, 0, 0];
 
 /// An image of so many slots of 64 bytes without blocks.
 pub fn fresh(alloc: Global, slots: &str) -> Result<Vec<u8>, Fail> {
+    formatted(alloc, slots, "64")
+}
+
+/// An image of so many slots of so many bytes without blocks.
+pub fn formatted(alloc: Global, slots: &str, payload: &str) -> Result<Vec<u8>, Fail> {
     let mut deck = deck_of(alloc, &[], &[], &[])?;
     let words = [
         "format",
@@ -22,7 +27,7 @@ pub fn fresh(alloc: Global, slots: &str) -> Result<Vec<u8>, Fail> {
         "--slots",
         slots,
         "--payload",
-        "64",
+        payload,
     ];
     let ran = run_words(alloc, &words, ALTITUDE, &mut deck, &[])?;
     if ran.outcome != Outcome::Done {

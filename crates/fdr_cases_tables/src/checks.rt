@@ -1,4 +1,4 @@
-use fdr_cases::{deck_of, run_words};
+use fdr_cases::{ALTITUDE, ORDINARY, deck_of, run_words};
 use fdr_table::TableFault;
 use fdr_top::Outcome;
 use std::alloc::Global;
@@ -14,10 +14,7 @@ fn checked(alloc: Global, table: &str) -> Result<(Outcome, Vec<u8>), Fail> {
 #[test]
 fn reports_on_sound_tables(rt: HostRuntime) -> Result<(), Fail> {
     let cases = [
-        (
-            "F,64,2,1\nP,ALT,0,203,,11,12,U,1,1,0,0,16\nL,ALT,1,1,10,0,1,12,0,1\n",
-            "frame,64,1,16\nparam,ALT,16,even\n",
-        ),
+        (ALTITUDE, "frame,64,1,16\nparam,ALT,16,even\n"),
         // Two parameters that take turns in one bit.
         (
             "F,64,2,1\nP,A,0,1,,11,1,U,1,1,0,0,8\nL,A,1,1,20,0,3,1,0,2\nP,B,0,2,,11,1,U,1,1,0,0,4\nL,B,1,1,20,0,3,1,1,4\n",
@@ -25,23 +22,7 @@ fn reports_on_sound_tables(rt: HostRuntime) -> Result<(), Fail> {
         ),
         ("F,1024,2,4\n", "frame,1024,0,0\n"),
         (
-            "F,256,256,4
-P,ALT,0,203,0,12,18,S,1,1,0,0,64
-L,ALT,1,1234,20,0,1,12,0,1
-L,ALT,2,1234,21,0,1,6,0,1
-P,IAS,0,206,,17,12,U,1,2,0,1,64
-L,IAS,1,1234,30,0,1,12,0,1
-P,VRTG,1,333,,17,12,S,1,1,0,3,512
-L,VRTG,1,1234,8,32,1,12,0,1
-P,FLT,2,260,,11,12,U,1,1,0,0,1
-L,FLT,1,2,100,0,1,12,0,16
-P,GEAR,3,270,,11,1,U,1,1,0,0,64
-L,GEAR,1,1234,21,0,7,1,0,1
-P,HDG,1,320,,17,12,U,1,1,0,0,32
-L,HDG,1,13,50,0,1,12,0,1
-P,PIT,1,324,,17,12,S,1,1,0,1,32
-L,PIT,1,12,51,0,1,12,0,1
-",
+            ORDINARY,
             "frame,256,7,833
 param,ALT,64,even
 param,IAS,64,even

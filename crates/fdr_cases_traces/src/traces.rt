@@ -2,7 +2,9 @@ use crate::lines::{frame, put_words};
 use crate::sure_command;
 use crate::tests::LISTBITS;
 use fdr_bus::TraceFault;
-use fdr_cases::{ALTITUDE, END_AT_4000000, WORD_AT_0, answer, words_of};
+use fdr_cases::{
+    ALTITUDE, END_AT_4000000, END_AT_4000001, WORD_AT_0, WORD_AT_4000000, answer, words_of,
+};
 use fdr_deck::{MemDeck, SureDeck};
 use fdr_io::{Input, MemSink, MemSource, NullSink, SureSource};
 use fdr_top::Outcome;
@@ -22,10 +24,6 @@ const WORD_AT_15626: [u8; 16] = [1, 0, 0, 0, 0, 0, 0x14, 0xc1, 0, 0, 0, 0, 0, 0,
 const EVEN_AT_15625: [u8; 16] = [
     1, 0, 0, 0, 0x80, 0, 0x14, 0xc1, 0, 0, 0, 0, 0, 0, 0x3d, 0x09,
 ];
-
-const WORD_AT_4000000: [u8; 16] = [1, 0, 0, 0, 0, 0, 0x14, 0xc1, 0, 0, 0, 0, 0, 0x3d, 0x09, 0];
-
-const END_AT_4000001: [u8; 16] = [2, 0, 0, 0, 0, 0, 0, 0, 0, 0, 0, 0, 0, 0x3d, 0x09, 1];
 
 const OTHER_KIND: [u8; 16] = [3, 0, 0, 0, 0, 0, 0, 0, 0, 0, 0, 0, 0, 0, 0, 0];
 

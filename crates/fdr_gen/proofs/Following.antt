@@ -79,6 +79,11 @@ words_rise senders seed frames =
     rises_seconds (second_records senders seed) 0 (4 * frames) 0 (end_record frames ∷ []) (second_times senders seed) (omega arith)
     (λ b h. let le : b ≤ 4000000 * frames = omega arith in (le, tt))
 
+-- no record of a generated trace comes before the one before it
+pub trace_rises : (t : TableRows) (seed frames : ℕ) → Rises 0 (generated_trace t seed frames)
+unfolding generated_trace
+trace_rises t seed frames = words_rise (map sender_of t.params) seed frames
+
 pub trace_follows : (t : TableRows) (seed frames n : ℕ) (r : BusRecord) → frames ≤ most_frames
     → slice_get (generated_trace t seed frames) n ≡ Some r → MayFollow (take n (generated_trace t seed frames)) r
 unfolding generated_trace

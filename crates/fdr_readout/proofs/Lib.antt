@@ -1,6 +1,9 @@
 pub mod Recordable
 pub mod SoFarLemmas
 pub mod Lines
+pub mod EntryLemmas
+pub mod TakerLemmas
+pub mod SummaryLemmas
 pub mod PackedWords
 pub mod SlotPlaces
 pub mod RecordedWords

@@ -4,7 +4,7 @@ use Rattle.std.specs.Prelude.{All, Contains, filter, nat_le, slice_index, slice_
 use Rattle.std.specs.List.{filter_map}
 use Rattle.std.proofs.lemmas.Nat.{mod_below}
 use Rattle.std.proofs.lemmas.Bool.{cond-true, leb-true}
-use Rattle.std.proofs.lemmas.List.Elements.{All-head, All-tail, All-contains_itself}
+use Rattle.std.proofs.lemmas.List.Elements.{All-contains_itself}
 use Rattle.std.proofs.Math.Nat.{div-div-eq-div-mul, div-add-mod}
 use Rattle.fdr_bus.specs.declared.BusRecord.{BusRecord}
 use Rattle.fdr_sync.proofs.FrameSteps.{word_count_some}

@@ -1,9 +1,14 @@
-//! The listing of bits: their frames, the gaps between them, and the lines of the frames' rows. And the laws that a
-//! recording reads back as what was sampled, and that so does each run of its frames that survives.
+//! The listing of bits: their frames, the gaps between them, and the lines of the frames' rows. The summary of them: how
+//! many there are, and what the rows' values add up to. And the laws that a recording reads back as what was sampled, and
+//! that so does each run of its frames that survives.
 #![tactic(auto)]
 
+mod entries;
 mod law;
 mod listing;
+mod takers;
+mod tally;
 
 pub use law::{damage_elsewhere, reads_back, survives};
-pub use listing::{Readout, write_listing};
+pub use listing::{Readout, summarize, write_listing};
+pub use tally::Summary;

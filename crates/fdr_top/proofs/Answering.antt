@@ -1,5 +1,5 @@
 -- From what a command's work gives to what the command promises.
-use Rattle.std.proofs.Common.{◌≡◌, ◌⊎◌, inl, inr, ⊎_elim, ℕ, ◌+◌, ◌<◌, ◌≤◌, List, length, Option, Some, None, sym, refl, ◌∙◌, arith, subst, length-append, ap}
+use Rattle.std.proofs.Common.{◌≡◌, ◌⊎◌, inl, inr, ⊎_elim, ℕ, ◌+◌, ◌<◌, ◌≤◌, List, length, Option, Some, None, sym, refl, ◌∙◌, arith, length-append, ap}
 use Rattle.std.specs.Prelude.{IsTrue}
 use Rattle.fdr_io.specs.Faults.{Rose}
 use Rattle.fdr_io.specs.declared.Input.TheVariants as input

@@ -1,5 +1,5 @@
 -- Which answers commands give.
-use Rattle.std.proofs.Common.{◌≡◌, ◌⊎◌, ⊎_elim, ℕ, List, Option, Some, None, sym, ◌∙◌, subst}
+use Rattle.std.proofs.Common.{◌≡◌, ◌⊎◌, ⊎_elim, ℕ, List, Option, Some, sym, ◌∙◌, subst}
 use Rattle.fdr_io.specs.declared.Input.TheVariants as input
 use Rattle.fdr_words.specs.Forms.{Form}
 use Rattle.fdr_top.specs.declared.outcome.Outcome.{Outcome}

@@ -1,5 +1,5 @@
 -- What is announced lags behind what was pulled, over one record after another.
-use Rattle.std.proofs.Common.{◌≡◌, ◌⊎◌, inl, inr, ⊎_elim, ℕ, ◌+◌, ◌-◌, ◌<◌, ◌≤◌, List, [], ◌++◌, length, take, ap, sym, ◌∙◌, subst, length-append, arith}
+use Rattle.std.proofs.Common.{◌≡◌, inl, inr, ⊎_elim, ℕ, ◌+◌, ◌-◌, ◌<◌, ◌≤◌, List, ◌++◌, length, take, ap, sym, ◌∙◌, subst, length-append, arith}
 use Rattle.std.proofs.lemmas.Bool.{cases_lt}
 use Rattle.std.proofs.lemmas.List.{take-append-le}
 use Rattle.std.proofs.Math.Seq.{take-append-add}
@@ -7,7 +7,7 @@ use Rattle.fdr_bus.specs.declared.BusRecord.{BusRecord}
 use Rattle.fdr_bus.specs.Records.{good_prefix}
 use Rattle.fdr_deck.specs.State.{State, Tells, Moment}
 use Rattle.fdr_deck.specs.Calls.{KeepsTold, HasOneAnnounced}
-use Rattle.fdr_deck.specs.Moments.{HasPulled, EachMoment, IsSoundDeck}
+use Rattle.fdr_deck.specs.Moments.{EachMoment, IsSoundDeck}
 use Rattle.fdr_deck.proofs.Moments.{EachMoment-weaken}
 use Rattle.fdr_top.specs.Lag.{IsInTime, IsLagMoment, KeepsUp}
 use Rattle.fdr_trace.specs.Moments.{IsLastPull, IsTraceMoment, PullsFor}

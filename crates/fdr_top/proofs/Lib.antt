@@ -14,8 +14,12 @@ pub mod Answering
 pub mod Lag
 pub mod NewBlocks
 pub mod Sessions
+pub mod Supplies
 pub mod SessionEnds
 pub mod RecordLines
 pub mod Readable
 pub mod ListedRuns
 pub mod ListedImages
+pub mod Drills
+pub mod Drilled
+pub mod NothingDone

@@ -20,9 +20,10 @@ use Rattle.fdr_table.specs.Rows.{TableRows}
 use Rattle.fdr_readout.specs.Listing.{listing_of}
 use Rattle.fdr_recorder.specs.Starting.{IsFor}
 use Rattle.fdr_words.specs.Forms.{list_image}
-use Rattle.fdr_top.specs.Answers.{EndsBeforeDeck, IsOfTable, IsOwn, IsPastTable, MayAnswer}
+use Rattle.fdr_top.specs.Answers.{EndsBeforeDeck, IsOfTable, IsOwn, IsPastTable, MayAnswer, WritesNothing}
 use Rattle.fdr_top.specs.Leaves.{Causes, LeavesUnused}
-use Rattle.fdr_top.specs.List.{ListsImage, listing_in}
+use Rattle.fdr_top.specs.List.{KeepsShut, ListsImage}
+use Rattle.fdr_top.specs.Refusals.{RefusesImage}
 use Rattle.fdr_top.specs.Recover.{OnlyLooks, header_refusal, payloads_of, run_in}
 use Rattle.fdr_top.specs.Tables.{ByTable, table_in}
 use Rattle.fdr_top.specs.declared.outcome.Outcome.{Outcome}
@@ -30,58 +31,49 @@ use Rattle.fdr_top.specs.declared.outcome.Outcome.TheVariants as outcome
 use Rattle.fdr_top.proofs.Answering.{passes_keeps}
 use Rattle.fdr_top.proofs.Commands.{own_may, own_past}
 use Rattle.fdr_top.proofs.Images.{OnlyLooks-then, same_fault}
+use Rattle.fdr_top.proofs.RecordLines.{refuses_nothing, takes_image}
 use Rattle.fdr_top.proofs.TableAnswers.{past_not_memory, table_not_past}
 
 -- an image has one first fault, or none
 same_first : (image : List ℕ) (a b : ImageFault) → image_fault_of image ≡ Some a → image_fault_of image ≡ Some b → a ≡ b
 same_first image a b first second = let c : ◌≡◌ {A = Option ImageFault} (Some a) (Some b) = sym first ∙ second in cc
 
-no_first : (image : List ℕ) (why : ImageFault) → image_fault_of image ≡ None → image_fault_of image ≡ Some why → ⊥
+pub no_first : (image : List ℕ) (why : ImageFault) → image_fault_of image ≡ None → image_fault_of image ≡ Some why → ⊥
 no_first image why none some = let c : ◌≡◌ {A = Option ImageFault} None (Some why) = sym none ∙ some in cc
 
 -- where the header isn't read
-pub image_unread : (t : TableRows) (tells : Tells) (old new : State) (written : Option (List ℕ)) (f : RingFault) → OnlyLooks tells old new
-    → (f ≡ ring.NotEmpty → ⊥) → (f ≡ ring.SeqEnd → ⊥)
+pub header_refused : (t : TableRows) (tells : Tells) (old new : State) (f : RingFault) → (f ≡ ring.NotEmpty → ⊥) → (f ≡ ring.SeqEnd → ⊥)
     → (IsTrue tells.bytes → (why : ImageFault) → f ≡ ring.Image why → image_fault_of old.held ≡ Some why)
     → ((why : ImageFault) → f ≡ ring.Image why → (why ≡ fault.Small) ↔ (new.extent < 64))
-    → ListsImage t tells old new written written (header_refusal f)
-image_unread t tells old new written ring.NotEmpty looks not_empty not_end first small = absurd (not_empty refl)
-image_unread t tells old new written (ring.Image found) looks not_empty not_end first small = record {
-  looks = looks;
-  text = λ done told. absurd (cc);
-  part = λ told. (0, sym (followed_by-nil written));
-  good = λ either told. absurd (⊎_elim
-      (λ (e : outcome.ImageRefused found ≡ outcome.Done). cc) (λ (e : outcome.ImageRefused found ≡ outcome.WriteFault). cc) either);
+    → RefusesImage t tells old new (header_refusal f)
+header_refused t tells old new ring.NotEmpty not_empty not_end first small = absurd (not_empty refl)
+header_refused t tells old new (ring.Image found) not_empty not_end first small = record {
   refused = λ why e told. first told why (ap ring.Image (same_fault found why e));
   small = λ why e. small why (ap ring.Image (same_fault found why e));
   refused_always = λ why past told some. inl (ap outcome.ImageRefused (same_first old.held found why (first told found refl) some));
   words = λ image table e. absurd (cc);
   words_always = λ image past told for other. absurd (no_first old.held found for.no_fault (first told found refl));
 }
-image_unread t tells old new written ring.DiskFault looks not_empty not_end first small = record {
-  looks = looks;
-  text = λ done told. absurd (cc);
-  part = λ told. (0, sym (followed_by-nil written));
-  good = λ either told. absurd (⊎_elim (λ (e : outcome.DiskFault ≡ outcome.Done). cc) (λ (e : outcome.DiskFault ≡ outcome.WriteFault). cc) either);
+header_refused t tells old new ring.DiskFault not_empty not_end first small = record {
   refused = λ why e told. absurd (cc);
   small = λ why e. absurd (cc);
   refused_always = λ why past told some. inr refl;
   words = λ image table e. absurd (cc);
   words_always = λ image past told for other. inr refl;
 }
-image_unread t tells old new written ring.SeqEnd looks not_empty not_end first small = absurd (not_end refl)
+header_refused t tells old new ring.SeqEnd not_empty not_end first small = absurd (not_end refl)
+
+pub header_shut : (f : RingFault) → KeepsShut (header_refusal f)
+header_shut ring.NotEmpty = tt
+header_shut (ring.Image why) = tt
+header_shut ring.DiskFault = tt
+header_shut ring.SeqEnd = tt
 
 -- where the image is for frames of other words
-pub words_differ : (t : TableRows) (tells : Tells) (old new : State) (written : Option (List ℕ)) (h : Header) → OnlyLooks tells old new
-    → (IsTrue tells.bytes → h ≡ header_in old.held) → (IsTrue tells.bytes → image_fault_of old.held ≡ None) → h.words ≢ t.frame.words
-    → ListsImage t tells old new written written (outcome.WordsDiffer h.words t.frame.words)
-words_differ t tells old new written h looks header good other = record {
-  looks = looks;
-  text = λ done told. absurd (cc);
-  part = λ told. (0, sym (followed_by-nil written));
-  good = λ either told. absurd (⊎_elim
-      (λ (e : outcome.WordsDiffer h.words t.frame.words ≡ outcome.Done). cc)
-      (λ (e : outcome.WordsDiffer h.words t.frame.words ≡ outcome.WriteFault). cc) either);
+pub words_refused : (t : TableRows) (tells : Tells) (old new : State) (h : Header) → (IsTrue tells.bytes → h ≡ header_in old.held)
+    → (IsTrue tells.bytes → image_fault_of old.held ≡ None) → h.words ≢ t.frame.words
+    → RefusesImage t tells old new (outcome.WordsDiffer h.words t.frame.words)
+words_refused t tells old new h header good other = record {
   refused = λ why e told. absurd (cc);
   small = λ why e. absurd (cc);
   refused_always = λ why past told some. absurd (no_first old.held why (good told) some);
@@ -100,76 +92,67 @@ words_differ t tells old new written h looks header good other = record {
           λ told. record { no_fault = good told; words = sym (ap (λ (x : Header). x.words) (header told)) ∙ first },
         )
 
--- where the image is for the table's frames
-image_for : (t : TableRows) (tells : Tells) (old new : State) (before now : Option (List ℕ)) (answer : Outcome) → OnlyLooks tells old new
-    → (IsTrue tells.bytes → IsFor t.frame.words old.held)
-    → ((why : ImageFault) → answer ≡ outcome.ImageRefused why → ⊥) → ((image table : ℕ) → answer ≡ outcome.WordsDiffer image table → ⊥)
-    → (answer ≡ outcome.Done → IsTrue tells.bytes → now ≡ followed_by before (listing_in t old.held))
-    → (IsTrue tells.bytes → (k : ℕ) × (now ≡ followed_by before (take k (listing_in t old.held))))
-    → ListsImage t tells old new before now answer
-image_for t tells old new before now answer looks for unrefused same text part = record {
-  looks = looks;
-  text = text;
-  part = part;
-  good = λ either told. for told;
-  refused = λ why e told. absurd (unrefused why e);
-  small = λ why e. absurd (unrefused why e);
-  refused_always = λ why past told some. absurd (no_first old.held why (for told).no_fault some);
-  words = λ image table e. absurd (same image table e);
-  words_always = λ image past told is differs. absurd (differs (sym is.words ∙ (for told).words));
-}
-
 -- the header that was read is for the table's frames
-read_for : (t : TableRows) (tells : Tells) (old : State) (h : Header) → (IsTrue tells.bytes → h ≡ header_in old.held)
+pub read_for : (t : TableRows) (tells : Tells) (old : State) (h : Header) → (IsTrue tells.bytes → h ≡ header_in old.held)
     → (IsTrue tells.bytes → image_fault_of old.held ≡ None) → h.words ≡ t.frame.words → IsTrue tells.bytes → IsFor t.frame.words old.held
 read_for t tells old h header good same told =
     record { no_fault = good told; words = sym (ap (λ (x : Header). x.words) (header told)) ∙ same }
 
--- where memory ends before a block is read
-pub unlisted : (t : TableRows) (tells : Tells) (old new : State) (written : Option (List ℕ)) (h : Header) → OnlyLooks tells old new
-    → (IsTrue tells.bytes → h ≡ header_in old.held) → (IsTrue tells.bytes → image_fault_of old.held ≡ None) → h.words ≡ t.frame.words
-    → ListsImage t tells old new written written outcome.NoMemory
-unlisted t tells old new written h looks header good same =
-    image_for t tells old new written written outcome.NoMemory looks (read_for t tells old h header good same)
-    (λ why e. cc) (λ image table e. cc) (λ done told. absurd (cc)) (λ told. (0, sym (followed_by-nil written)))
+shut_not_done : (answer : Outcome) → KeepsShut answer → answer ≡ outcome.Done → ⊥
+shut_not_done answer shut e = rw e at shut
+
+shut_not_write : (answer : Outcome) → KeepsShut answer → answer ≡ outcome.WriteFault → ⊥
+shut_not_write answer shut e = rw e at shut
+
+-- where the image isn't opened
+pub unlisted : (t : TableRows) (tells : Tells) (old new : State) (written : Option (List ℕ)) (answer : Outcome) → OnlyLooks tells old new
+    → KeepsShut answer → RefusesImage t tells old new answer → ListsImage t tells old new written written answer
+unlisted t tells old new written answer looks shut image = record {
+  looks = looks;
+  text = λ done told. absurd (shut_not_done answer shut done);
+  part = λ told. (0, sym (followed_by-nil written));
+  good = λ either told. absurd (⊎_elim (shut_not_done answer shut) (shut_not_write answer shut) either);
+  image = image;
+}
+
+pub shut_own : (path image : List ℕ) (answer : Outcome) → KeepsShut answer
+    → (answer ≡ outcome.NoMemory) ⊎ IsOwn (list_image path image) answer
+shut_own path image (outcome.ImageRefused why) shut = inr tt
+shut_own path image (outcome.WordsDiffer i w) shut = inr tt
+shut_own path image outcome.DiskFault shut = inr tt
+shut_own path image outcome.NoMemory shut = inl refl
+shut_own path image answer shut = absurd shut
 
 -- what the blocks' listing answers
 abbrev pub IsOfBlocks : Outcome → Type 0
 IsOfBlocks answer = (answer ≡ outcome.Done) ⊎ ((answer ≡ outcome.WriteFault) ⊎ (answer ≡ outcome.DiskFault))
 
-of_blocks_unrefused : (answer : Outcome) (why : ImageFault) → IsOfBlocks answer → answer ≡ outcome.ImageRefused why → ⊥
-of_blocks_unrefused answer why of e = ⊎_elim
-    (λ (x : answer ≡ outcome.Done). let c : outcome.ImageRefused why ≡ outcome.Done = sym e ∙ x in cc)
+pub of_blocks_begun : (answer : Outcome) → IsOfBlocks answer → WritesNothing answer → ⊥
+of_blocks_begun answer of nothing = ⊎_elim
+    (λ (x : answer ≡ outcome.Done). absurd (rw x at nothing))
     (λ (rest : (answer ≡ outcome.WriteFault) ⊎ (answer ≡ outcome.DiskFault)). ⊎_elim
-    (λ (x : answer ≡ outcome.WriteFault). let c : outcome.ImageRefused why ≡ outcome.WriteFault = sym e ∙ x in cc)
-    (λ (x : answer ≡ outcome.DiskFault). let c : outcome.ImageRefused why ≡ outcome.DiskFault = sym e ∙ x in cc)
-    rest)
-    of
-
-of_blocks_same : (answer : Outcome) (image table : ℕ) → IsOfBlocks answer → answer ≡ outcome.WordsDiffer image table → ⊥
-of_blocks_same answer image table of e = ⊎_elim
-    (λ (x : answer ≡ outcome.Done). let c : outcome.WordsDiffer image table ≡ outcome.Done = sym e ∙ x in cc)
-    (λ (rest : (answer ≡ outcome.WriteFault) ⊎ (answer ≡ outcome.DiskFault)). ⊎_elim
-    (λ (x : answer ≡ outcome.WriteFault). let c : outcome.WordsDiffer image table ≡ outcome.WriteFault = sym e ∙ x in cc)
-    (λ (x : answer ≡ outcome.DiskFault). let c : outcome.WordsDiffer image table ≡ outcome.DiskFault = sym e ∙ x in cc)
+    (λ (x : answer ≡ outcome.WriteFault). absurd (rw x at nothing))
+    (λ (x : answer ≡ outcome.DiskFault). absurd (rw x at nothing))
     rest)
     of
 
 -- where the blocks are read and their bits listed
 pub blocks_listed : (t : TableRows) (tells : Tells) (old mid new : State) (h : Header) (before now : Option (List ℕ)) (answer : Outcome) → IsSoundDeck tells old
     → OnlyLooks tells old mid → Looks tells mid new → (IsTrue tells.bytes → h ≡ header_in old.held)
-    → (IsTrue tells.bytes → image_fault_of old.held ≡ None) → h.words ≡ t.frame.words → IsOfBlocks answer
+    → (IsTrue tells.bytes → IsFor t.frame.words old.held) → IsOfBlocks answer
     → (answer ≡ outcome.Done → IsTrue tells.bytes → now ≡ followed_by before (listing_of t (payloads_of (recovered_run h mid.held))))
     → (IsTrue tells.bytes → (k : ℕ) × (now ≡ followed_by before (take k (listing_of t (payloads_of (recovered_run h mid.held))))))
     → ListsImage t tells old new before now answer
-blocks_listed t tells old mid new h before now answer sound first second header good same of text part =
+blocks_listed t tells old mid new h before now answer sound first second header for of text part =
     let whole : IsTrue tells.bytes → recovered_run h mid.held ≡ run_in old.held = λ told.
     ap (recovered_run h) first.disk.held ∙ ap (λ (x : Header). recovered_run x old.held) (header told) in
-    image_for t tells old new before now answer (OnlyLooks-then tells old mid new sound first second)
-    (read_for t tells old h header good same)
-    (λ why e. of_blocks_unrefused answer why of e) (λ image table e. of_blocks_same answer image table of e)
-    (λ done told. text done told ∙ ap (λ run. followed_by before (listing_of t (payloads_of run))) (whole told))
-    (λ told. let p = part told in (p.0, p.1 ∙ ap (λ run. followed_by before (take p.0 (listing_of t (payloads_of run)))) (whole told)))
+    record {
+      looks = OnlyLooks-then tells old mid new sound first second;
+      text = λ done told. text done told ∙ ap (λ run. followed_by before (listing_of t (payloads_of run))) (whole told);
+      part = λ told. let p = part told in (p.0, p.1 ∙ ap (λ run. followed_by before (take p.0 (listing_of t (payloads_of run)))) (whole told));
+      good = λ either told. for told;
+      image = takes_image t tells old new answer (of_blocks_begun answer of) for;
+    }
 
 -- a table, which is that of the source's bytes where it tells them
 any_table : (rest : Option (List ℕ)) → (t : TableRows) × ((bytes : List ℕ) → rest ≡ Some bytes → t ≡ table_in bytes)
@@ -197,11 +180,7 @@ lists_nothing tells rest d written answer sound either =
         text = λ done told. absurd (not outcome.Done tt done);
         part = λ told. (0, sym (followed_by-nil written));
         good = λ either told. absurd (⊎_elim (not outcome.Done tt) (not outcome.WriteFault tt) either);
-        refused = λ why e told. absurd (not (outcome.ImageRefused why) tt e);
-        small = λ why e. absurd (not (outcome.ImageRefused why) tt e);
-        refused_always = λ why past told some. absurd (early past);
-        words = λ image table e. absurd (not (outcome.WordsDiffer image table) tt e);
-        words_always = λ image past told for differs. absurd (early past);
+        image = refuses_nothing found.0 tells d d answer early;
       },
     )
 
@@ -223,9 +202,9 @@ pub list_done : (path image : List ℕ) (t : TableRows) (tells : Tells) (old new
     → (answer ≡ outcome.Done) ⊎ (answer ≡ outcome.NoMemory)
 list_done path image t tells old new before now outcome.Done of lists told for disk sink = inl refl
 list_done path image t tells old new before now (outcome.ImageRefused why) of lists told for disk sink =
-    absurd (no_first old.held why for.no_fault (lists.refused why refl told))
+    absurd (no_first old.held why for.no_fault (lists.image.refused why refl told))
 list_done path image t tells old new before now (outcome.WordsDiffer words table) of lists told for disk sink =
-    let differ = lists.words words table refl in
+    let differ = lists.image.words words table refl in
     absurd (differ.1 (sym (differ.2 told).words ∙ for.words ∙ sym differ.0))
 list_done path image t tells old new before now outcome.WriteFault of lists told for disk sink = absurd (sink refl)
 list_done path image t tells old new before now outcome.DiskFault of lists told for disk sink = absurd (disk refl)

@@ -22,7 +22,7 @@ InOrder-good_from before (bytes ∷ rest) = ⊎_elim
     (λ (bad : is_good before bytes ≡ false). rw bad tt)
     (cases_Bool (is_good before bytes))
 
-InOrder-good_prefix : (bytes : List ℕ) → Rises 0 (good_prefix bytes)
+pub InOrder-good_prefix : (bytes : List ℕ) → Rises 0 (good_prefix bytes)
 unfolding good_prefix
 InOrder-good_prefix bytes = InOrder-good_from 0 (take most_records (whole_records bytes))
 
@@ -45,11 +45,11 @@ stream_of-longer t records (r ∷ later) n order few =
     ∙ stream_of-longer t more later n (subst (λ m. Rises m later) (sym time) order.1) few_more
     ∙ stream_of-later t records r n order.0 few
 
--- so the first bytes of the stream of the first good records are those of the stream of all
-pub stream_of-good : (t : TableRows) (bytes : List ℕ) (records later : List BusRecord) (n : ℕ) → good_prefix bytes ≡ records ++ later
-    → n ≤ 3 * length (stream_words t records) / 2 → take n (stream_of t (good_prefix bytes)) ≡ take n (stream_of t records)
-stream_of-good t bytes records later n good few =
-    let order : Rises 0 (records ++ later) = subst (Rises 0) good (InOrder-good_prefix bytes) in
+-- so the first bytes of the stream of the first records are those of the stream of all
+pub stream_of-good : (t : TableRows) (all records later : List BusRecord) (n : ℕ) → Rises 0 all → all ≡ records ++ later
+    → n ≤ 3 * length (stream_words t records) / 2 → take n (stream_of t all) ≡ take n (stream_of t records)
+stream_of-good t all records later n rises good few =
+    let order : Rises 0 (records ++ later) = subst (Rises 0) good rises in
     ap (λ (x : List BusRecord). take n (stream_of t x)) good ∙ stream_of-longer t records later n (InOrder-rest 0 records later order) few
 
 time_after-append : (before : ℕ) (records later : List BusRecord)
@@ -61,9 +61,8 @@ later-grows : (before : ℕ) (later : List BusRecord) → Rises before later →
 later-grows before [] order = omega arith
 later-grows before (r ∷ later) order = omega (arith, order.0, later-grows r.time later order.1)
 
--- so the first good records end no later than all
-pub time-grows : (bytes : List ℕ) (records later : List BusRecord) → good_prefix bytes ≡ records ++ later
-    → time_of records ≤ time_of (good_prefix bytes)
-time-grows bytes records later good =
-    let order : Rises 0 (records ++ later) = subst (Rises 0) good (InOrder-good_prefix bytes) in
+-- so the first records end no later than all
+pub time-grows : (all records later : List BusRecord) → Rises 0 all → all ≡ records ++ later → time_of records ≤ time_of all
+time-grows all records later rises good =
+    let order : Rises 0 (records ++ later) = subst (Rises 0) good rises in
     omega (arith, later-grows (time_of records) later (InOrder-rest 0 records later order), time_after-append 0 records later, ap time_of good)

@@ -1,5 +1,5 @@
--- The blocks of a recording as further good records come.
-use Rattle.std.proofs.Common.{◌≡◌, ℕ, zero, suc, ◌+◌, ◌-◌, ◌*◌, ◌/◌, ◌≤◌, List, [], ◌∷◌, ◌++◌, length, map, take, drop, ap, sym, refl, ◌∙◌, subst, length-take}
+-- The blocks of a recording as further records come.
+use Rattle.std.proofs.Common.{◌≡◌, ℕ, zero, suc, ◌+◌, ◌-◌, ◌*◌, ◌/◌, ◌≤◌, List, [], ◌∷◌, ◌++◌, length, map, take, drop, ap, sym, refl, ◌∙◌, length-take}
 use Rattle.std.proofs.Common.{arith}
 use Rattle.std.specs.List.{range_with_len}
 use Rattle.std.proofs.lemmas.List.{drop-take, take-append-drop}
@@ -8,6 +8,7 @@ use Rattle.std.proofs.lemmas.Nat.{le-div, mul-le}
 use Rattle.std.proofs.Math.Nat.{div-mul-le_self, mul_comm}
 use Rattle.fdr_bus.specs.declared.BusRecord.{BusRecord}
 use Rattle.fdr_bus.specs.Records.{good_prefix, time_of}
+use Rattle.fdr_bus.proofs.TraceLemmas.{Rises}
 use Rattle.fdr_slot.specs.Limits.{IsInLimits}
 use Rattle.fdr_recover.specs.Blocks.{Block}
 use Rattle.fdr_sampler.specs.Stream.{slot_count, stream_of, stream_words}
@@ -15,9 +16,9 @@ use Rattle.fdr_sampler.proofs.Packing.{length-packed}
 use Rattle.fdr_stream.specs.Blocks.{cut_block, blocks_of}
 use Rattle.fdr_stream.proofs.Later.{due_blocks-fill}
 use Rattle.fdr_stream.proofs.Standing.{slot_count-later}
-use Rattle.fdr_recorder.specs.Past.{SessionPast, all_blocks, blocks_from, session_bytes, due, numbered_block, recorded_of}
+use Rattle.fdr_recorder.specs.Past.{SessionPast, all_blocks, due, numbered_block, recorded_of}
 use Rattle.fdr_top.specs.Recording.{fed}
-use Rattle.fdr_top.proofs.Longer.{stream_of-good, time-grows}
+use Rattle.fdr_top.proofs.Longer.{InOrder-good_prefix, stream_of-good, time-grows}
 use Rattle.fdr_sampler.proofs.StreamWords.{length-stream_words}
 
 -- as many as are due are recorded
@@ -35,15 +36,9 @@ map_same f g most (suc n) le same =
     ∙ ap (λ (x : Block). map g (range_with_len 0 n) ++ x ∷ []) (same n (omega (arith, le)))
     ∙ sym (map-range_with_len_more g 0 n n at) ∙ sym (ap (λ m. map g (range_with_len 0 m)) one)
 
-module _ (past : SessionPast) (bytes : List ℕ) (records later : List BusRecord) (good : good_prefix bytes ≡ records ++ later)
+module _ (past : SessionPast) (all records later : List BusRecord) (order : Rises 0 all) (good : all ≡ records ++ later)
     (limits : IsInLimits past.header)
   where
-    part : SessionPast
-    part = fed past records
-
-    whole : SessionPast
-    whole = fed past (good_prefix bytes)
-
     p : ℕ
     p = past.header.payload
 
@@ -52,45 +47,45 @@ module _ (past : SessionPast) (bytes : List ℕ) (records later : List BusRecord
     fill = due_blocks-fill past.table past.header.payload records
 
     same_block : (i : ℕ) → i + 1 ≤ due (fed past records)
-        → numbered_block (fed past (good_prefix bytes)) i ≡ numbered_block (fed past records) i
+        → numbered_block (fed past all) i ≡ numbered_block (fed past records) i
     unfolding p
     same_block i before =
         let n = p * i + p in
         let within : p * (i + 1) ≤ p * due (fed past records) = mul-le p (i + 1) p (due (fed past records)) (omega arith) before in
         let few : n ≤ 3 * length (stream_words past.table records) / 2 = omega (arith, fill, within) in
-        let same = stream_of-good past.table bytes records later n good few in
-        let is : cut_block p (stream_of past.table (good_prefix bytes)) i ≡ cut_block p (stream_of past.table records) i =
-        sym (drop-take (p * i) p (stream_of past.table (good_prefix bytes))) ∙ ap (λ (l : List ℕ). drop (p * i) l) same
+        let same = stream_of-good past.table all records later n order good few in
+        let is : cut_block p (stream_of past.table all) i ≡ cut_block p (stream_of past.table records) i =
+        sym (drop-take (p * i) p (stream_of past.table all)) ∙ ap (λ (l : List ℕ). drop (p * i) l) same
         ∙ drop-take (p * i) p (stream_of past.table records) in
         ap (λ (l : List ℕ). record { number = past.first + i; payload = l }) is
 
-    -- the stream of all good records has so many blocks at least
-    enough : due (fed past records) ≤ length (blocks_of p (stream_of past.table (good_prefix bytes)))
+    -- the stream of all records has so many blocks at least
+    enough : due (fed past records) ≤ length (blocks_of p (stream_of past.table all))
     unfolding p
     enough =
         let n = p * due (fed past records) in
-        let all = stream_of past.table (good_prefix bytes) in
+        let whole = stream_of past.table all in
         let some = stream_of past.table records in
         let long = length-packed (stream_words past.table records) in
-        let same = ap length (stream_of-good past.table bytes records later n good fill) in
-        let cut : n ≤ length all = omega (arith, same, length-take n all, length-take n some, long, fill) in
-        let count : length (blocks_of p all) ≡ (length all + p - 1) / p = length-map-range_with_len (cut_block p all) 0 ((length all + p - 1) / p) in
+        let same = ap length (stream_of-good past.table all records later n order good fill) in
+        let cut : n ≤ length whole = omega (arith, same, length-take n whole, length-take n some, long, fill) in
+        let count : length (blocks_of p whole) ≡ (length whole + p - 1) / p = length-map-range_with_len (cut_block p whole) 0 ((length whole + p - 1) / p) in
         let turned : due (fed past records) * p ≡ n = mul_comm (due (fed past records)) p in
         let least = limits.least_payload in
-        let most = le-div (due (fed past records)) (length all + p - 1) p (omega (arith, least)) (omega (arith, turned, cut, least)) in
+        let most = le-div (due (fed past records)) (length whole + p - 1) p (omega (arith, least)) (omega (arith, turned, cut, least)) in
         omega (arith, count, most)
 
-    -- what is recorded of the first good records is a front part of what is recorded of all
-    pub new_blocks-begin : (rest : List Block) × (all_blocks (fed past (good_prefix bytes)) ≡ recorded_of (fed past records) ++ rest)
+    -- what is recorded of the first records is a front part of what is recorded of all
+    pub new_blocks-begin : (rest : List Block) × (all_blocks (fed past all) ≡ recorded_of (fed past records) ++ rest)
     unfolding p
     new_blocks-begin =
         let n = due (fed past records) in
-        let f = numbered_block (fed past (good_prefix bytes)) in
-        let all = all_blocks (fed past (good_prefix bytes)) in
-        let front : take n all ≡ recorded_of (fed past records) =
-        take-map-range_with_len f 0 (length (blocks_of p (stream_of past.table (good_prefix bytes)))) n enough
+        let f = numbered_block (fed past all) in
+        let blocks = all_blocks (fed past all) in
+        let front : take n blocks ≡ recorded_of (fed past records) =
+        take-map-range_with_len f 0 (length (blocks_of p (stream_of past.table all))) n enough
         ∙ map_same f (numbered_block (fed past records)) n n (omega arith) same_block in
-        (drop n all, sym (take-append-drop n all) ∙ ap (λ (l : List Block). l ++ drop n all) front)
+        (drop n blocks, sym (take-append-drop n blocks) ∙ ap (λ (l : List Block). l ++ drop n blocks) front)
 
 -- fewer good records give no more blocks
 pub blocks-fewer : (past : SessionPast) (bytes more : List ℕ) (later : List BusRecord) → IsInLimits past.header
@@ -101,7 +96,7 @@ blocks-fewer past bytes more later limits good =
     let p = past.header.payload in
     let a = good_prefix bytes in
     let b = good_prefix (bytes ++ more) in
-    let time : time_of a ≤ time_of b = time-grows (bytes ++ more) a later good in
+    let time : time_of a ≤ time_of b = time-grows b a later (InOrder-good_prefix (bytes ++ more)) good in
     let words : slot_count t.frame.words (time_of a) ≤ slot_count t.frame.words (time_of b) =
     slot_count-later t.frame.words (time_of a) (time_of b) time in
     let la = length-packed (stream_words t a) in

@@ -1,7 +1,6 @@
 -- What is recorded can be read back.
-use Rattle.std.proofs.Common.{◌≡◌, ℕ, zero, suc, ◌+◌, ◌-◌, ◌*◌, ◌/◌, ◌<◌, ◌≤◌, inl, List, [], ◌∷◌, ◌++◌, length, take, drop, map, Option}
-use Rattle.std.proofs.Common.{ap, sym, refl, ◌∙◌, subst, arith}
-use Rattle.std.specs.Prelude.{IsTrue}
+use Rattle.std.proofs.Common.{◌≡◌, ℕ, zero, suc, ◌+◌, ◌-◌, ◌*◌, ◌/◌, ◌<◌, ◌≤◌, inl, List, [], ◌∷◌, ◌++◌, length, take, drop, Option}
+use Rattle.std.proofs.Common.{ap, sym, ◌∙◌, subst, arith}
 use Rattle.std.specs.List.{flat_map, range_with_len}
 use Rattle.std.proofs.lemmas.Grind.{flat_map-append}
 use Rattle.std.proofs.lemmas.List.{append-nil, take_all}
@@ -10,6 +9,7 @@ use Rattle.std.proofs.lemmas.Nat.{mod_below}
 use Rattle.std.proofs.Math.Nat.{div-add-mod}
 use Rattle.std.proofs.lemmas.List.Folds.{flat_map-map}
 use Rattle.fdr_lists.proofs.Ranges.{range_more}
+use Rattle.fdr_bus.specs.declared.BusRecord.{BusRecord}
 use Rattle.fdr_bus.specs.Records.{good_prefix}
 use Rattle.fdr_check.specs.Soundness.{IsSound}
 use Rattle.fdr_deck.specs.State.{State, Tells}
@@ -28,12 +28,14 @@ use Rattle.fdr_readout.specs.Listing.{listing_of}
 use Rattle.fdr_readout.proofs.ReadsBack.{stream_lists_back}
 use Rattle.fdr_readout.proofs.Surviving.{surviving_run_listed}
 use Rattle.fdr_top.specs.Answers.{IsPastTable}
-use Rattle.fdr_top.specs.Record.{RecordsAll, RecordsBlocks, RecordsLine, new_blocks, next_in}
+use Rattle.fdr_top.specs.Record.{ListsSurvivors, ListsUndamaged, RecordsAll, RecordsBlocks, RecordsLine, new_blocks, next_in}
+use Rattle.fdr_top.specs.Recording.{RecordsSupply}
+use Rattle.fdr_top.specs.Supply.{line_trace}
 use Rattle.fdr_top.specs.Recover.{payloads_of, run_in}
 use Rattle.fdr_top.specs.Tables.{ByTable}
 use Rattle.fdr_top.specs.declared.outcome.Outcome.{Outcome}
 use Rattle.fdr_top.proofs.Making.{table_or, table_told}
-use Rattle.fdr_top.proofs.RecordLines.{RecordsBlocks-nothing, all_past, limits_in}
+use Rattle.fdr_top.proofs.RecordLines.{RecordsSupply-nothing, all_past, limits_in, reading_past, refusal_told, told_end}
 
 -- whole blocks of p bytes that hold n of them
 enough : (p n : ℕ) → 0 < p → n ≤ p * ((n + p - 1) / p)
@@ -72,31 +74,54 @@ all_left most old new none fits =
     let none_lost : length new - most ≡ 0 = omega (arith, fits) in
     ap (λ (l : List Block). last_blocks most (l ++ new)) none ∙ ap (λ m. drop m new) none_lost
 
+-- what was recorded lists as what was sampled
+pub lists_undamaged : (t : TableRows) (tells : Tells) (records : List BusRecord) (old new : State) (answer : Outcome) → IsInRange t → IsSound t
+    → RecordsBlocks t tells records old new answer → RecordsAll answer → ListsUndamaged t tells records old new
+lists_undamaged t tells records old new answer range sound blocks all bytes none fits =
+    let has = blocks.recorded all bytes in
+    let past : SessionPast = record { table = t; header = header_in old.held; first = next_in old.held; records = records } in
+    let limits = limits_in old.held (blocks.good (inl all) bytes).no_fault in
+    let run : run_in new.held ≡ new_blocks t old.held records =
+    ap (λ h. recovered_run h new.held) has.header ∙ has.run ∙ all_left _ _ _ none fits in
+    ap (λ (l : List Block). listing_of t (payloads_of l)) run
+    ∙ ap (listing_of t) (payloads_all past limits)
+    ∙ stream_lists_back t records range sound
+
+-- and each run of its frames that survives is listed
+pub lists_survivors : (t : TableRows) (records : List BusRecord) → IsInRange t → IsSound t → ListsSurvivors t records
+lists_survivors t records range sound b q j m it = surviving_run_listed t records b q j m range sound it
+
 pub records_line : (t : TableRows) (tells : Tells) (old new : State) (answer : Outcome) → IsInRange t → IsSound t
-    → RecordsBlocks t tells old new answer → RecordsLine t tells old new answer
-records_line t tells old new answer range sound blocks = record {
-  blocks = blocks;
-  survives = λ past b q j m it. surviving_run_listed t (good_prefix blocks.pulled) b q j m range sound it;
-  undamaged = λ all bytes none fits.
-      let has = blocks.recorded all bytes in
-      let past : SessionPast = record { table = t; header = header_in old.held; first = next_in old.held; records = good_prefix blocks.pulled } in
-      let limits = limits_in old.held (blocks.good (inl all) bytes).no_fault in
-      let run : run_in new.held ≡ new_blocks t old.held blocks.pulled =
-      ap (λ h. recovered_run h new.held) has.header ∙ has.run ∙ all_left _ _ _ none fits in
-      ap (λ (l : List Block). listing_of t (payloads_of l)) run
-      ∙ ap (listing_of t) (payloads_all past limits)
-      ∙ stream_lists_back t (good_prefix blocks.pulled) range sound;
+    → RecordsSupply line_trace t tells old new answer → RecordsLine t tells old new answer
+records_line t tells old new answer range sound is = record {
+  pulled = is.pulled;
+  pulls = is.pulls;
+  blocks = is.blocks;
+  in_time = is.in_time;
+  trace = is.ends;
+  whole = λ done told. told_end tells old new is.pulled answer is.pulls is.ends done told;
+  trace_always = λ index why all told first. refusal_told tells old new is.pulled answer index why is.pulls is.ends all told first;
+  survives = λ past. lists_survivors t (good_prefix is.pulled) range sound;
+  undamaged = λ all. lists_undamaged t tells (good_prefix is.pulled) old new answer range sound is.blocks all;
 }
 
 -- where the table isn't read, the deck isn't touched and nothing is recorded
 pub records_nothing : (tells : Tells) (rest : Option (List ℕ)) (d : State) (answer : Outcome) → IsSoundDeck tells d
     → (IsPastTable answer → ⊥) → ByTable rest (λ (t : TableRows). RecordsLine t tells d d answer)
-records_nothing tells rest d answer sound early = (
-  table_or rest,
-  table_told rest,
-  record {
-    blocks = RecordsBlocks-nothing (table_or rest) tells d answer sound early;
-    survives = λ past. absurd (early past);
-    undamaged = λ all. absurd (early (all_past answer all));
-  },
-)
+records_nothing tells rest d answer sound early =
+    let t = table_or rest in
+    let is = RecordsSupply-nothing line_trace t tells d answer sound early in (
+      t,
+      table_told rest,
+      record {
+        pulled = is.pulled;
+        pulls = is.pulls;
+        blocks = is.blocks;
+        in_time = is.in_time;
+        trace = is.ends;
+        whole = λ done. absurd (early (subst IsPastTable (sym done) tt));
+        trace_always = λ index why all. absurd (early (reading_past answer all));
+        survives = λ past. absurd (early past);
+        undamaged = λ all. absurd (early (all_past answer all));
+      },
+    )

@@ -1,5 +1,5 @@
 -- What a recording promises, from the start of its session on.
-use Rattle.std.proofs.Common.{◌≡◌, ◌≢◌, ◌⊎◌, inl, inr, ⊎_elim, Bool, true, false, ℕ, zero, suc, ◌+◌, ◌-◌, ◌^◌, ◌<◌, ◌≤◌, max, List, [], ◌∷◌, ◌++◌, length, take}
+use Rattle.std.proofs.Common.{◌≡◌, ◌≢◌, ◌⊎◌, inl, inr, ⊎_elim, Bool, true, false, ℕ, ◌+◌, ◌-◌, ◌^◌, ◌<◌, ◌≤◌, max, List, [], ◌++◌, length, take}
 use Rattle.std.proofs.Common.{Option, Some, None, ap, sym, refl, ◌∙◌, subst, arith}
 use Rattle.std.specs.Prelude.{IfSome, IsTrue, if◌then◌else◌, nat_lt, not, slice_index, ◌↔◌}
 use Rattle.std.proofs.lemmas.Bool.{cases_Bool, cases_lt}
@@ -13,7 +13,7 @@ use Rattle.fdr_bus.specs.Records.{IsDecided, good_prefix, has_end, trace_fault}
 use Rattle.fdr_bus.proofs.TraceLemmas.{good_prefix-append, good_prefix-decided, trace_fault-ended}
 use Rattle.fdr_deck.specs.State.{Moment, State, Tells}
 use Rattle.fdr_deck.specs.Pull.{KeepsLine}
-use Rattle.fdr_deck.specs.Moments.{EachMoment, Elapses, HasPulled, IsSoundDeck}
+use Rattle.fdr_deck.specs.Moments.{EachMoment, HasPulled, IsSoundDeck}
 use Rattle.fdr_deck.proofs.Moments.{EachMoment-then, EachMoment-weaken, Elapses-then, IsQuiet-here}
 use Rattle.fdr_slot.specs.Headers.{header_of, has_magic, has_open_gate, image_fault}
 use Rattle.fdr_slot.specs.Limits.{IsInLimits, in_limits}
@@ -27,15 +27,14 @@ use Rattle.fdr_recover.specs.Images.{next_of, recovered_run}
 use Rattle.fdr_recover.specs.ImageHeader.{image_fault_of, header_in}
 use Rattle.fdr_ring.specs.Closing.{shut}
 use Rattle.fdr_ring.specs.Gates.{gate_at}
-use Rattle.fdr_ring.specs.Rings.{IsRing}
 use Rattle.fdr_ring.proofs.Bytes.{shut_closed, shut_turned}
 use Rattle.fdr_ring.specs.Runs.{IsTail, last_blocks}
 use Rattle.fdr_table.specs.Rows.{TableRows}
 use Rattle.fdr_trace.specs.Pulls.{PullsMore}
 use Rattle.fdr_trace.proofs.Pulling.{PullsMore-kept, PullsMore-none}
-use Rattle.fdr_recorder.specs.Keeping.{Keeps, KeepsAll, KeepsBehind}
+use Rattle.fdr_recorder.specs.Keeping.{KeepsAll, KeepsBehind}
 use Rattle.fdr_recorder.specs.Past.{SessionPast, all_blocks, started}
-use Rattle.fdr_recorder.specs.Recording.{HasRecorded, IsClose, IsReady}
+use Rattle.fdr_recorder.specs.Recording.{HasRecorded, IsReady}
 use Rattle.fdr_recorder.specs.Starting.{IsFor, IsStarted, IsStarting, Starts}
 use Rattle.fdr_recorder.specs.declared.error.SessionFault.{SessionFault}
 use Rattle.fdr_recorder.specs.declared.error.SessionFault.TheVariants as session
@@ -48,40 +47,41 @@ use Rattle.fdr_top.specs.Complete.{HasRoom, TellsAccepted}
 use Rattle.fdr_top.specs.Tables.{table_in}
 use Rattle.fdr_top.proofs.TableAnswers.{taken_is_all}
 use Rattle.fdr_top.specs.Lag.{IsInTime, IsLagMoment}
-use Rattle.fdr_top.specs.Record.{AreRecorded, EndsTrace, IsRecordMoment, MayRecord, RecordsAll, RecordsBlocks, session_refusal, new_blocks, next_in, owed}
-use Rattle.fdr_top.specs.Recording.{Continues, IsSessionMoment, SessionMoment, fed}
+use Rattle.fdr_top.specs.Record.{AreRecorded, EndsReading, EndsTrace, IsBlockMoment, MayRecord, RecordsAll, RecordsBlocks, new_blocks, next_in, owed}
+use Rattle.fdr_top.specs.Record.{session_refusal}
+use Rattle.fdr_top.specs.Refusals.{RefusesImage}
+use Rattle.fdr_top.specs.Recording.{Continues, IsSessionMoment, RecordsSupply, fed}
+use Rattle.fdr_top.specs.Supply.{RecordSupply, EndsSupply, PullsNothing, drawn_trace, line_trace, supplied}
 use Rattle.fdr_top.specs.Recover.{run_in}
 use Rattle.fdr_top.specs.declared.outcome.Outcome.{Outcome}
 use Rattle.fdr_top.specs.declared.outcome.Outcome.TheVariants as outcome
 use Rattle.fdr_top.proofs.NewBlocks.{blocks-fewer}
 use Rattle.fdr_top.proofs.Records.{PullsMore-next}
-use Rattle.fdr_top.proofs.SessionEnds.{fault_ends}
+use Rattle.fdr_top.proofs.SessionEnds.{fault_ends_supply, is_seq_end}
 use Rattle.fdr_top.proofs.TraceAnswers.{answer_to, refused_decides, trace_fault-decided}
 
 -- ---- moments by the image at entry
 
 -- a session's moment, by the header and the next number of the image at entry
-at_entry : (t : TableRows) (h : Header) (first : ℕ) (entry : State) (blocks : List Block) (pulled : List ℕ) (m : Moment)
-    → h ≡ header_in entry.held → first ≡ next_in entry.held → blocks ≡ new_blocks t entry.held pulled
-    → IsSessionMoment t h first entry blocks pulled m → IsRecordMoment t entry pulled m
-at_entry t h first entry blocks pulled m header next same at =
+at_entry : (t : TableRows) (h : Header) (first : ℕ) (entry : State) (blocks new : List Block) (pulled : List ℕ) (m : Moment)
+    → h ≡ header_in entry.held → first ≡ next_in entry.held → blocks ≡ new
+    → IsSessionMoment t h first entry blocks pulled m → IsSessionMoment t (header_in entry.held) (next_in entry.held) entry new pulled m
+at_entry t h first entry blocks new pulled m header next same at =
     let by_header = subst (λ (x : Header). IsSessionMoment t x first entry blocks pulled m) header at in
     let by_next = subst (λ (n : ℕ). IsSessionMoment t (header_in entry.held) n entry blocks pulled m) next by_header in
-    let all = subst (λ (l : List Block). IsSessionMoment t (header_in entry.held) (next_in entry.held) entry l pulled m) same by_next in
-    record { keeps = all.keeps; close = all.close; in_time = all.in_time }
+    subst (λ (l : List Block). IsSessionMoment t (header_in entry.held) (next_in entry.held) entry l pulled m) same by_next
 
 take_none : (n : ℕ) (xs : List Block) → n ≡ 0 → take n xs ≡ []
 take_none n xs none = ap (λ m. take m xs) none
 
 -- while the session starts
-starting_moment : (t : TableRows) (entry : State) (pulled : List ℕ) (m : Moment) → IsStarting (header_in entry.held) entry m
-    → IsRecordMoment t entry pulled m
-starting_moment t entry pulled m at =
+pub starting_moment : (t : TableRows) (entry : State) (records : List BusRecord) (m : Moment) → IsStarting (header_in entry.held) entry m
+    → IsBlockMoment t entry records m
+starting_moment t entry records m at =
     let keeps = at.recording.image in
     record {
-      keeps = keeps_more (header_in entry.held) entry.held m.image (run_in entry.held) [] (new_blocks t entry.held pulled) m.told keeps;
+      keeps = keeps_more (header_in entry.held) entry.held m.image (run_in entry.held) [] (new_blocks t entry.held records) m.told keeps;
       close = omega (arith, keeps.next, keeps.fits);
-      in_time = record { pulled = inl at.recording.pulled };
     }
 
 -- from the start of the session on
@@ -150,8 +150,8 @@ told_end tells old new pulled answer pulls ends done told =
     sym (ap good_prefix (pulls.takes.line told) ∙ good_prefix-decided pulled new.line (inl (ends.ended done)))
 
 -- where the line is refused, so it is answered, unless a pull failed
-refusal_told : (tells : Tells) (old new : State) (pulled : List ℕ) (answer : Outcome) (index : ℕ) (why : TraceFault)
-    → PullsMore tells old new [] pulled → EndsTrace tells old new pulled answer → RecordsAll answer → IsTrue tells.line
+pub refusal_told : (tells : Tells) (old new : State) (pulled : List ℕ) (answer : Outcome) (index : ℕ) (why : TraceFault)
+    → PullsMore tells old new [] pulled → EndsTrace tells old new pulled answer → EndsReading answer → IsTrue tells.line
     → trace_fault old.line ≡ Some (index, why)
     → (answer ≡ outcome.TraceRefused index why) ⊎ (answer ≡ outcome.ReadFault input.Line)
 unfolding answer_to
@@ -180,71 +180,101 @@ told_whole tells old new pulled answer index why pulls ends refused told ended =
 none_pulled : (tells : Tells) (d0 d1 : State) → KeepsLine d0 d1 → d1.line_faults ≡ d0.line_faults → PullsMore tells d0 d1 [] []
 none_pulled tells d0 d1 line faults = PullsMore-kept tells d0 d0 d1 [] [] (PullsMore-none tells d0 []) line (omega (arith, faults))
 
-chained : (t : TableRows) (tells : Tells) (old new : State) (pulled : List ℕ) → (MayRecord old → EachMoment tells old new (IsRecordMoment t old pulled))
+pub chained : (t : TableRows) (tells : Tells) (old new : State) (records : List BusRecord)
+    → (MayRecord old → EachMoment tells old new (IsBlockMoment t old records))
     → (whole : List Block) → IsTail ((header_in old.held).slots - 2) whole (run_in old.held) → MayRecord old
-    → EachMoment tells old new (λ (m : Moment). KeepsBehind (header_in old.held) whole (new_blocks t old.held pulled) m.image)
-chained t tells old new pulled moments whole tail ready = EachMoment-weaken tells old new (IsRecordMoment t old pulled)
-    (λ (m : Moment). KeepsBehind (header_in old.held) whole (new_blocks t old.held pulled) m.image)
-    (λ m at. keeps_behind (header_in old.held) old.held m.image whole (run_in old.held) (new_blocks t old.held pulled) m.told tail at.keeps)
+    → EachMoment tells old new (λ (m : Moment). KeepsBehind (header_in old.held) whole (new_blocks t old.held records) m.image)
+chained t tells old new records moments whole tail ready = EachMoment-weaken tells old new (IsBlockMoment t old records)
+    (λ (m : Moment). KeepsBehind (header_in old.held) whole (new_blocks t old.held records) m.image)
+    (λ m at. keeps_behind (header_in old.held) old.held m.image whole (run_in old.held) (new_blocks t old.held records) m.told tail at.keeps)
     (moments ready)
 
 -- where no record was fed
-pub RecordsBlocks-unbegun : (t : TableRows) (tells : Tells) (d0 d1 : State) (answer : Outcome) → Starts tells (header_in d0.held) d0 d1
+pub RecordsBlocks-unbegun : (t : TableRows) (tells : Tells) (records : List BusRecord) (d0 d1 : State) (answer : Outcome)
+    → Starts tells (header_in d0.held) d0 d1
     → (RecordsAll answer → ⊥) → (answer ≡ outcome.SeqEnd → ⊥)
-    → ((index : ℕ) (why : TraceFault) → answer ≡ outcome.TraceRefused index why → ⊥)
-    → ((why : ImageFault) → answer ≡ outcome.ImageRefused why → IsTrue tells.bytes → image_fault_of d0.held ≡ Some why)
-    → ((why : ImageFault) → answer ≡ outcome.ImageRefused why → (why ≡ fault.Small) ↔ (d1.extent < 64))
-    → ((why : ImageFault) → IsPastTable answer → IsTrue tells.bytes → image_fault_of d0.held ≡ Some why
-    → (answer ≡ outcome.ImageRefused why) ⊎ (answer ≡ outcome.DiskFault))
-    → ((image table : ℕ) → answer ≡ outcome.WordsDiffer image table
-    → (table ≡ t.frame.words) × (image ≢ table) × (IsTrue tells.bytes → IsFor image d0.held))
-    → ((image : ℕ) → IsPastTable answer → IsTrue tells.bytes → IsFor image d0.held → image ≢ t.frame.words
-    → (answer ≡ outcome.WordsDiffer image t.frame.words) ⊎ (answer ≡ outcome.DiskFault))
-    → RecordsBlocks t tells d0 d1 answer
-RecordsBlocks-unbegun t tells d0 d1 answer starts not_all not_end not_trace refused small refused_always words words_always =
-    let moments : MayRecord d0 → EachMoment tells d0 d1 (IsRecordMoment t d0 []) = λ ready.
-    EachMoment-weaken tells d0 d1 (IsStarting (header_in d0.held) d0) (IsRecordMoment t d0 [])
-    (λ m at. starting_moment t d0 [] m at) (starts.moments ready) in
+    → RefusesImage t tells d0 d1 answer
+    → RecordsBlocks t tells records d0 d1 answer
+RecordsBlocks-unbegun t tells records d0 d1 answer starts not_all not_end image =
+    let moments : MayRecord d0 → EachMoment tells d0 d1 (IsBlockMoment t d0 records) = λ ready.
+    EachMoment-weaken tells d0 d1 (IsStarting (header_in d0.held) d0) (IsBlockMoment t d0 records)
+    (λ m at. starting_moment t d0 records m at) (starts.moments ready) in
     record {
-      pulled = [];
-      pulls = none_pulled tells d0 d1 starts.line starts.line_faults;
       time = starts.time;
       moments = moments;
-      chain = chained t tells d0 d1 [] moments;
+      chain = chained t tells d0 d1 records moments;
       recorded = λ all. absurd (not_all all);
       within = λ all. absurd (not_all all);
+      ready = λ all. absurd (not_all all);
+      near = λ all. absurd (not_all all);
       seq_end = λ e. absurd (not_end e);
       beyond = λ e. absurd (not_end e);
-      trace = fault_ends tells d0 d1 [] answer not_all not_trace;
       good = λ either. absurd (⊎_elim not_all not_end either);
-      refused = refused;
-      small = small;
-      refused_always = refused_always;
-      words = words;
-      words_always = words_always;
-      whole = λ done. absurd (not_all (subst RecordsAll (sym done) tt));
-      trace_always = λ index why all. absurd (not_all all);
+      image = image;
     }
+
+none_of : (from : RecordSupply) → PullsNothing from []
+none_of line_trace = tt
+none_of (drawn_trace t seed frames) = refl
+
+-- so nothing was pulled
+RecordsSupply-unbegun : (from : RecordSupply) (t : TableRows) (tells : Tells) (d0 d1 : State) (answer : Outcome)
+    → Starts tells (header_in d0.held) d0 d1 → (EndsReading answer → ⊥)
+    → ((index : ℕ) (why : TraceFault) → answer ≡ outcome.TraceRefused index why → ⊥)
+    → RecordsBlocks t tells (supplied from []) d0 d1 answer → RecordsSupply from t tells d0 d1 answer
+RecordsSupply-unbegun from t tells d0 d1 answer starts not_all not_trace blocks = record {
+  pulled = [];
+  pulls = none_pulled tells d0 d1 starts.line starts.line_faults;
+  blocks = blocks;
+  in_time = λ ready. EachMoment-weaken tells d0 d1 (IsStarting (header_in d0.held) d0)
+      (IsLagMoment (owed t (header_in d0.held) (next_in d0.held)) d0 [])
+      (λ m at. record { pulled = inl at.recording.pulled }) (starts.moments ready);
+  ends = fault_ends_supply from tells d0 d1 [] answer not_all not_trace (none_of from);
+}
+
+nothing_started : (tells : Tells) (d : State) → IsSoundDeck tells d → Starts tells (header_in d.held) d d
+nothing_started tells d sound =
+    Starts-looked tells (header_in d.held) d d sound (IsQuiet-here tells d.may_leave d sound (λ stops image leaves. leaves))
+
+pub reading_past : (a : Outcome) → EndsReading a → IsPastTable a
+reading_past outcome.Done all = tt
+reading_past (outcome.TraceRefused index why) all = tt
+reading_past (outcome.ReadFault input.Line) all = tt
+reading_past a all = absurd all
 
 pub all_past : (a : Outcome) → RecordsAll a → IsPastTable a
 all_past outcome.Done all = tt
 all_past (outcome.TraceRefused index why) all = tt
 all_past (outcome.ReadFault input.Line) all = tt
+all_past outcome.WriteFault all = tt
 all_past a all = absurd all
 
+-- an answer that comes before the image is asked for
+pub refuses_nothing : (t : TableRows) (tells : Tells) (old new : State) (answer : Outcome) → (IsPastTable answer → ⊥)
+    → RefusesImage t tells old new answer
+refuses_nothing t tells old new answer early = record {
+  refused = λ why e. absurd (early (subst IsPastTable (sym e) tt));
+  small = λ why e. absurd (early (subst IsPastTable (sym e) tt));
+  refused_always = λ why past. absurd (early past);
+  words = λ image table e. absurd (early (subst IsPastTable (sym e) tt));
+  words_always = λ image past. absurd (early past);
+}
+
 -- where the deck wasn't used
-pub RecordsBlocks-nothing : (t : TableRows) (tells : Tells) (d : State) (answer : Outcome) → IsSoundDeck tells d
-    → (IsPastTable answer → ⊥) → RecordsBlocks t tells d d answer
-RecordsBlocks-nothing t tells d answer sound early = RecordsBlocks-unbegun t tells d d answer
-    (Starts-looked tells (header_in d.held) d d sound (IsQuiet-here tells d.may_leave d sound (λ stops image leaves. leaves)))
+pub RecordsBlocks-nothing : (t : TableRows) (tells : Tells) (records : List BusRecord) (d : State) (answer : Outcome) → IsSoundDeck tells d
+    → (IsPastTable answer → ⊥) → RecordsBlocks t tells records d d answer
+RecordsBlocks-nothing t tells records d answer sound early = RecordsBlocks-unbegun t tells records d d answer
+    (nothing_started tells d sound)
     (λ all. early (all_past answer all))
     (λ e. early (subst IsPastTable (sym e) tt))
+    (refuses_nothing t tells d d answer early)
+
+pub RecordsSupply-nothing : (from : RecordSupply) (t : TableRows) (tells : Tells) (d : State) (answer : Outcome) → IsSoundDeck tells d
+    → (IsPastTable answer → ⊥) → RecordsSupply from t tells d d answer
+RecordsSupply-nothing from t tells d answer sound early = RecordsSupply-unbegun from t tells d d answer (nothing_started tells d sound)
+    (λ all. early (reading_past answer all))
     (λ index why e. early (subst IsPastTable (sym e) tt))
-    (λ why e. absurd (early (subst IsPastTable (sym e) tt)))
-    (λ why e. absurd (early (subst IsPastTable (sym e) tt)))
-    (λ why past. absurd (early past))
-    (λ image table e. absurd (early (subst IsPastTable (sym e) tt)))
-    (λ image past. absurd (early past))
+    (RecordsBlocks-nothing t tells (supplied from []) d answer sound early)
 
 words_same : (i w j v : ℕ) → outcome.WordsDiffer i w ≡ outcome.WordsDiffer j v → session.WordsDiffer i w ≡ session.WordsDiffer j v
 words_same i w j v e = let a : i ≡ j = cc in let b : w ≡ v = cc in ap (λ n. session.WordsDiffer n w) a ∙ ap (λ n. session.WordsDiffer j n) b
@@ -262,43 +292,70 @@ both : (a : Option ImageFault) (why : ImageFault) → a ≡ None → a ≡ Some 
 both a why none some = let c : ◌≡◌ {A = Option ImageFault} None (Some why) = sym none ∙ some in cc
 
 -- where the session was refused
-pub RecordsBlocks-refused : (t : TableRows) (tells : Tells) (d0 d1 : State) (f : SessionFault) → Starts tells (header_in d0.held) d0 d1
+session_image : (t : TableRows) (tells : Tells) (d0 d1 : State) (f : SessionFault) → (f ≡ session.SeqEnd → ⊥)
+    → (IsTrue tells.bytes → (why : ImageFault) → f ≡ session.Image why → image_fault_of d0.held ≡ Some why)
+    → ((why : ImageFault) → f ≡ session.Image why → (why ≡ fault.Small) ↔ (d1.extent < 64))
+    → ((image table : ℕ) → f ≡ session.WordsDiffer image table
+    → (table ≡ t.frame.words) × (image ≢ table) × (IsTrue tells.bytes → IsFor image d0.held))
+    → RefusesImage t tells d0 d1 (session_refusal f)
+session_image t tells d0 d1 (session.Image w) not_end image small words = record {
+  refused = λ why e bytes. image bytes why (ap session.Image (image_same w why e));
+  small = λ why e. small why (ap session.Image (image_same w why e));
+  refused_always = λ why past bytes first. inl (ap outcome.ImageRefused (some_same w why (sym (image bytes w refl) ∙ first)));
+  words = λ i table e. absurd (cc);
+  words_always = λ i past bytes other differ. absurd (both (image_fault_of d0.held) w other.no_fault (image bytes w refl));
+}
+session_image t tells d0 d1 (session.WordsDiffer i w) not_end image small words =
+    let here = words i w refl in
+    record {
+      refused = λ why e. absurd (cc);
+      small = λ why e. absurd (cc);
+      refused_always = λ why past bytes first. absurd (both (image_fault_of d0.held) why (here.2 bytes).no_fault first);
+      words = λ j table e. words j table (words_same i w j table e);
+      words_always = λ j past bytes other differ. inl (words_are i w j t.frame.words (sym (here.2 bytes).words ∙ other.words) here.0);
+    }
+session_image t tells d0 d1 session.DiskFault not_end image small words = record {
+  refused = λ why e. absurd (cc);
+  small = λ why e. absurd (cc);
+  refused_always = λ why past bytes first. inr refl;
+  words = λ j table e. absurd (cc);
+  words_always = λ j past bytes other differ. inr refl;
+}
+session_image t tells d0 d1 session.SeqEnd not_end image small words = absurd (not_end refl)
+session_image t tells d0 d1 session.NoMemory not_end image small words = refuses_nothing t tells d0 d1 outcome.NoMemory (λ past. past)
+
+refusal_records_none : (f : SessionFault) → RecordsAll (session_refusal f) → ⊥
+refusal_records_none (session.Image w) all = all
+refusal_records_none (session.WordsDiffer i w) all = all
+refusal_records_none session.DiskFault all = all
+refusal_records_none session.SeqEnd all = all
+refusal_records_none session.NoMemory all = all
+
+refusal_not_all : (f : SessionFault) → EndsReading (session_refusal f) → ⊥
+refusal_not_all (session.Image w) all = all
+refusal_not_all (session.WordsDiffer i w) all = all
+refusal_not_all session.DiskFault all = all
+refusal_not_all session.SeqEnd all = all
+refusal_not_all session.NoMemory all = all
+
+refusal_not_trace : (f : SessionFault) (index : ℕ) (why : TraceFault) → session_refusal f ≡ outcome.TraceRefused index why → ⊥
+refusal_not_trace (session.Image w) index why e = cc
+refusal_not_trace (session.WordsDiffer i w) index why e = cc
+refusal_not_trace session.DiskFault index why e = cc
+refusal_not_trace session.SeqEnd index why e = cc
+refusal_not_trace session.NoMemory index why e = cc
+
+pub RecordsSupply-refused : (from : RecordSupply) (t : TableRows) (tells : Tells) (d0 d1 : State) (f : SessionFault) → Starts tells (header_in d0.held) d0 d1
     → (f ≡ session.SeqEnd → ⊥)
     → (IsTrue tells.bytes → (why : ImageFault) → f ≡ session.Image why → image_fault_of d0.held ≡ Some why)
     → ((why : ImageFault) → f ≡ session.Image why → (why ≡ fault.Small) ↔ (d1.extent < 64))
     → ((image table : ℕ) → f ≡ session.WordsDiffer image table
     → (table ≡ t.frame.words) × (image ≢ table) × (IsTrue tells.bytes → IsFor image d0.held))
-    → RecordsBlocks t tells d0 d1 (session_refusal f)
-RecordsBlocks-refused t tells d0 d1 (session.Image w) starts not_end image small words =
-    RecordsBlocks-unbegun t tells d0 d1 (outcome.ImageRefused w) starts (λ all. all) (λ e. absurd (cc)) (λ index why e. absurd (cc))
-    (λ why e bytes. image bytes why (ap session.Image (image_same w why e)))
-    (λ why e. small why (ap session.Image (image_same w why e)))
-    (λ why past bytes first. inl (ap outcome.ImageRefused (some_same w why (sym (image bytes w refl) ∙ first))))
-    (λ i table e. absurd (cc))
-    (λ i past bytes other differ. absurd (both (image_fault_of d0.held) w other.no_fault (image bytes w refl)))
-RecordsBlocks-refused t tells d0 d1 (session.WordsDiffer i w) starts not_end image small words =
-    let here = words i w refl in
-    RecordsBlocks-unbegun t tells d0 d1 (outcome.WordsDiffer i w) starts (λ all. all) (λ e. absurd (cc)) (λ index why e. absurd (cc))
-    (λ why e. absurd (cc))
-    (λ why e. absurd (cc))
-    (λ why past bytes first. absurd (both (image_fault_of d0.held) why (here.2 bytes).no_fault first))
-    (λ j table e. words j table (words_same i w j table e))
-    (λ j past bytes other differ. inl (words_are i w j t.frame.words (sym (here.2 bytes).words ∙ other.words) here.0))
-RecordsBlocks-refused t tells d0 d1 session.DiskFault starts not_end image small words =
-    RecordsBlocks-unbegun t tells d0 d1 outcome.DiskFault starts (λ all. all) (λ e. absurd (cc)) (λ index why e. absurd (cc))
-    (λ why e. absurd (cc))
-    (λ why e. absurd (cc))
-    (λ why past bytes first. inr refl)
-    (λ j table e. absurd (cc))
-    (λ j past bytes other differ. inr refl)
-RecordsBlocks-refused t tells d0 d1 session.SeqEnd starts not_end image small words = absurd (not_end refl)
-RecordsBlocks-refused t tells d0 d1 session.NoMemory starts not_end image small words =
-    RecordsBlocks-unbegun t tells d0 d1 outcome.NoMemory starts (λ all. all) (λ e. absurd (cc)) (λ index why e. absurd (cc))
-    (λ why e. absurd (cc))
-    (λ why e. absurd (cc))
-    (λ why past. absurd past)
-    (λ j table e. absurd (cc))
-    (λ j past. absurd past)
+    → RecordsSupply from t tells d0 d1 (session_refusal f)
+RecordsSupply-refused from t tells d0 d1 f starts not_end image small words = RecordsSupply-unbegun from t tells d0 d1 (session_refusal f) starts
+    (refusal_not_all f) (refusal_not_trace f)
+    (RecordsBlocks-unbegun t tells (supplied from []) d0 d1 (session_refusal f) starts (refusal_records_none f)
+    (λ e. not_end (is_seq_end f e)) (session_image t tells d0 d1 f not_end image small words))
 
 same_blocks : (t : TableRows) (h h' : Header) (n n' : ℕ) (records : List BusRecord) → h ≡ h' → n ≡ n'
     → all_blocks (record { table = t; header = h; first = n; records = records })
@@ -320,31 +377,64 @@ shut_front h n image = ⊎_elim
     ap (λ (l : List ℕ). take 64 l) (shut_closed (gate_at h n) image (λ is. absurd (omega (arith, none, is)))))
     (cases_lt (gate_at h n) (length image))
 
+-- an image that is for the table's frames isn't refused
+pub takes_image : (t : TableRows) (tells : Tells) (old new : State) (answer : Outcome) → (WritesNothing answer → ⊥)
+    → (IsTrue tells.bytes → IsFor t.frame.words old.held) → RefusesImage t tells old new answer
+takes_image t tells old new answer begun good = record {
+  refused = λ why e. absurd (begun (subst WritesNothing (sym e) tt));
+  small = λ why e. absurd (begun (subst WritesNothing (sym e) tt));
+  refused_always = λ why past bytes first. absurd (both (image_fault_of old.held) why (good bytes).no_fault first);
+  words = λ image table e. absurd (begun (subst WritesNothing (sym e) tt));
+  words_always = λ image past bytes other differ. absurd (differ (sym other.words ∙ (good bytes).words));
+}
+
+EndsSupply-since : (from : RecordSupply) (tells : Tells) (d0 d1 d2 : State) (pulled : List ℕ) (answer : Outcome) → d1.line_faults ≡ d0.line_faults
+    → EndsSupply from tells d1 d2 pulled answer → EndsSupply from tells d0 d2 pulled answer
+EndsSupply-since line_trace tells d0 d1 d2 pulled answer faults ends = record {
+  ended = ends.ended;
+  refused = ends.refused;
+  truncated = ends.truncated;
+  undecided = ends.undecided;
+  quiet = λ all not. ends.quiet all not ∙ faults;
+}
+EndsSupply-since (drawn_trace t seed frames) tells d0 d1 d2 pulled answer faults ends = ends
+
 -- where a session was started
-module _ (t : TableRows) (tells : Tells) (s : Session) (d0 d1 d2 : State) (answer : Outcome) (sound0 : IsSoundDeck tells d0) (sound1 : IsSoundDeck tells d1)
-    (starts : Starts tells (header_in d0.held) d0 d1) (is : IsStarted tells t s d0 d1)
-    (on : Continues tells (started t s.ring.header s.ring.next) d1 d2 answer)
+module _ (from : RecordSupply) (t : TableRows) (tells : Tells) (s : Session) (d0 d1 d2 : State) (answer : Outcome) (sound0 : IsSoundDeck tells d0)
+    (sound1 : IsSoundDeck tells d1) (starts : Starts tells (header_in d0.held) d0 d1) (is : IsStarted tells t s d0 d1)
+    (on : Continues from tells (started t s.ring.header s.ring.next) d1 d2 answer)
   where
     first_is : IsTrue tells.bytes → s.ring.next ≡ next_in d0.held
     first_is bytes = is.next bytes ∙ ap (λ (h : Header). next_of h d0.held) (is.header bytes)
 
     blocks_are : IsTrue tells.bytes
-        → all_blocks (fed (started t s.ring.header s.ring.next) (good_prefix on.pulled)) ≡ new_blocks t d0.held on.pulled
-    blocks_are bytes = same_blocks t s.ring.header (header_in d0.held) s.ring.next (next_in d0.held) (good_prefix on.pulled)
+        → all_blocks (fed (started t s.ring.header s.ring.next) (supplied from on.pulled)) ≡ new_blocks t d0.held (supplied from on.pulled)
+    blocks_are bytes = same_blocks t s.ring.header (header_in d0.held) s.ring.next (next_in d0.held) (supplied from on.pulled)
         (is.header bytes) (first_is bytes)
 
-    moments : MayRecord d0 → EachMoment tells d0 d2 (IsRecordMoment t d0 on.pulled)
-    moments ready = EachMoment-then tells d0 d1 d2 (IsRecordMoment t d0 on.pulled) starts.time on.time
-        (EachMoment-weaken tells d0 d1 (IsStarting (header_in d0.held) d0) (IsRecordMoment t d0 on.pulled)
-        (λ m at. starting_moment t d0 on.pulled m at) (starts.moments ready))
-        (λ stops m since.
+    session_moments : MayRecord d0 → IsTrue tells.stops → (m : Moment) → d2.since d1.clock m
+        → IsSessionMoment t (header_in d0.held) (next_in d0.held) d0 (new_blocks t d0.held (supplied from on.pulled)) on.pulled m
+    session_moments ready stops m since =
         let bytes = sound0.stops_need_bytes stops in
         let few = is.greatest (omega (arith, ready.greatest, first_is bytes)) in
         let at = on.moments few stops m since in
-        at_entry t s.ring.header s.ring.next d0 (all_blocks (fed (started t s.ring.header s.ring.next) (good_prefix on.pulled)))
-        on.pulled m (is.header bytes) (first_is bytes) (blocks_are bytes)
-        (session_moment tells t s d0 d1 sound1 starts is (all_blocks (fed (started t s.ring.header s.ring.next) (good_prefix on.pulled)))
-        on.pulled m stops bytes ready at))
+        let all = all_blocks (fed (started t s.ring.header s.ring.next) (supplied from on.pulled)) in
+        at_entry t s.ring.header s.ring.next d0 all (new_blocks t d0.held (supplied from on.pulled)) on.pulled m
+        (is.header bytes) (first_is bytes) (blocks_are bytes)
+        (session_moment tells t s d0 d1 sound1 starts is all on.pulled m stops bytes ready at)
+
+    moments : MayRecord d0 → EachMoment tells d0 d2 (IsBlockMoment t d0 (supplied from on.pulled))
+    moments ready = EachMoment-then tells d0 d1 d2 (IsBlockMoment t d0 (supplied from on.pulled)) starts.time on.time
+        (EachMoment-weaken tells d0 d1 (IsStarting (header_in d0.held) d0) (IsBlockMoment t d0 (supplied from on.pulled))
+        (λ m at. starting_moment t d0 (supplied from on.pulled) m at) (starts.moments ready))
+        (λ stops m since. let at = session_moments ready stops m since in record { keeps = at.keeps; close = at.close })
+
+    lags : MayRecord d0 → EachMoment tells d0 d2 (IsLagMoment (owed t (header_in d0.held) (next_in d0.held)) d0 on.pulled)
+    lags ready = EachMoment-then tells d0 d1 d2 (IsLagMoment (owed t (header_in d0.held) (next_in d0.held)) d0 on.pulled) starts.time on.time
+        (EachMoment-weaken tells d0 d1 (IsStarting (header_in d0.held) d0)
+        (IsLagMoment (owed t (header_in d0.held) (next_in d0.held)) d0 on.pulled)
+        (λ m at. record { pulled = inl at.recording.pulled }) (starts.moments ready))
+        (λ stops m since. (session_moments ready stops m since).in_time)
 
     -- the header stays: only a gate was closed at the start, and no call after it changes the header
     header_kept : IsTrue tells.bytes → (blocks : List Block) → HasRecorded tells s.ring.header s.ring.next blocks d1 d2
@@ -373,48 +463,64 @@ module _ (t : TableRows) (tells : Tells) (s : Session) (d0 d1 d2 : State) (answe
     all_pulls : PullsMore tells d0 d2 [] on.pulled
     all_pulls = PullsMore-next tells d0 d1 d2 [] on.pulled (none_pulled tells d0 d1 starts.line starts.line_faults) on.pulls
 
-    all_ends : EndsTrace tells d0 d2 on.pulled answer
-    all_ends = record {
-      ended = on.trace.ended;
-      refused = on.trace.refused;
-      truncated = on.trace.truncated;
-      undecided = on.trace.undecided;
-      quiet = λ all not. on.trace.quiet all not ∙ starts.line_faults;
-    }
+    all_ends : EndsSupply from tells d0 d2 on.pulled answer
+    all_ends = EndsSupply-since from tells d0 d1 d2 on.pulled answer starts.line_faults on.ends
 
-    pub RecordsBlocks-started : (WritesNothing answer → ⊥) → (IsTrue tells.bytes → IsFor t.frame.words d0.held)
-        → RecordsBlocks t tells d0 d2 answer
-    RecordsBlocks-started begun good = record {
+    -- what a further recording rests on
+    recorded_all : IsTrue tells.bytes → MayRecord d0
+        → HasRecorded tells s.ring.header s.ring.next (all_blocks (fed (started t s.ring.header s.ring.next) (supplied from on.pulled))) d1 d2
+        → (next_in d2.held ≡ next_in d0.held + length (new_blocks t d0.held (supplied from on.pulled)))
+        × (d2.greatest ≤ next_in d2.held) × (next_in d2.held ≤ max (next_in d0.held) d2.least + 1)
+    recorded_all bytes may has =
+        let blocks = all_blocks (fed (started t s.ring.header s.ring.next) (supplied from on.pulled)) in
+        let first = first_is bytes in
+        let count = ap length (blocks_are bytes) in
+        let stands = are_recorded _ _ bytes (blocks_are bytes) has in
+        let next : next_in d2.held ≡ next_in d0.held + length (new_blocks t d0.held (supplied from on.pulled)) =
+        ap (λ (h : Header). next_of h d2.held) stands.header ∙ stands.next in
+        let top = has.greatest (is.greatest (omega (arith, may.greatest, first))) in
+        let low = has.near s.ring.next (record { told = is.told; least = omega arith }) in
+        (next, omega (arith, top, next, first, count), omega (arith, low.least, next, first, count))
+
+    pub RecordsSupply-started : (WritesNothing answer → ⊥) → (RecordsAll answer → EndsReading answer) → (IsTrue tells.bytes → IsFor t.frame.words d0.held)
+        → RecordsSupply from t tells d0 d2 answer
+    RecordsSupply-started begun all_read good = record {
       pulled = on.pulled;
       pulls = all_pulls;
-      time = Elapses-then tells d0 d1 d2 starts.time on.time;
-      moments = moments;
-      chain = chained t tells d0 d2 on.pulled moments;
-      recorded = λ all bytes. are_recorded _ _ bytes (blocks_are bytes) (on.recorded all);
-      within = λ all bytes. omega (arith, on.within all, ap length (blocks_are bytes), first_is bytes);
-      seq_end = λ e bytes. are_recorded _ _ bytes
-          (ap (λ (l : List Block). take (2 ^ 48 - s.ring.next) l) (blocks_are bytes)
-          ∙ ap (λ n. take (2 ^ 48 - n) (new_blocks t d0.held on.pulled)) (first_is bytes)) (on.seq_end e);
-      beyond = λ e bytes. omega (arith, on.beyond e, ap length (blocks_are bytes), first_is bytes);
-      trace = all_ends;
-      good = λ either bytes. good bytes;
-      refused = λ why e. absurd (begun (subst WritesNothing (sym e) tt));
-      small = λ why e. absurd (begun (subst WritesNothing (sym e) tt));
-      refused_always = λ why past bytes first.
-          absurd (let c : ◌≡◌ {A = Option ImageFault} None (Some why) = sym (good bytes).no_fault ∙ first in cc);
-      words = λ image table e. absurd (begun (subst WritesNothing (sym e) tt));
-      words_always = λ image past bytes other differ. absurd (differ (sym other.words ∙ (good bytes).words));
-      whole = λ done told. told_end tells d0 d2 on.pulled answer all_pulls all_ends done told;
-      trace_always = λ index why all told first. refusal_told tells d0 d2 on.pulled answer index why all_pulls all_ends all told first;
+      blocks = record {
+        time = Elapses-then tells d0 d1 d2 starts.time on.time;
+        moments = moments;
+        chain = chained t tells d0 d2 (supplied from on.pulled) moments;
+        recorded = λ all bytes. are_recorded _ _ bytes (blocks_are bytes) (on.recorded (all_read all));
+        within = λ all bytes. omega (arith, on.within (all_read all), ap length (blocks_are bytes), first_is bytes);
+        ready = λ all stops may.
+            let has = on.recorded (all_read all) in
+            record {
+              settled = has.settled stops (is.settled stops);
+              greatest = (recorded_all (sound0.stops_need_bytes stops) may has).1;
+            };
+        near = λ all bytes may.
+            let after = recorded_all bytes may (on.recorded (all_read all)) in
+            omega (arith, after.0, after.2);
+        seq_end = λ e bytes. are_recorded _ _ bytes
+            (ap (λ (l : List Block). take (2 ^ 48 - s.ring.next) l) (blocks_are bytes)
+            ∙ ap (λ n. take (2 ^ 48 - n) (new_blocks t d0.held (supplied from on.pulled))) (first_is bytes)) (on.seq_end e);
+        beyond = λ e bytes. omega (arith, on.beyond e, ap length (blocks_are bytes), first_is bytes);
+        good = λ either bytes. good bytes;
+        image = takes_image t tells d0 d2 answer begun good;
+      };
+      in_time = lags;
+      ends = all_ends;
     }
 
 -- ---- a recording that nothing hinders
 
 -- the table of a source that is read to its end is that of all that was told
 pub room_of : (old new : Option (List ℕ)) (taken : List ℕ) (t : TableRows) (d : State) (accepted : TellsAccepted old)
-    → t ≡ table_in taken → old ≡ preceded_by taken new → IfSome new (λ left. left ≡ []) → HasRoom (table_in accepted.0) d → HasRoom t d
-room_of old new taken t d accepted table whole end room =
-    subst (λ (x : TableRows). HasRoom x d)
+    → t ≡ table_in taken → old ≡ preceded_by taken new → IfSome new (λ left. left ≡ []) → (records : TableRows → List BusRecord)
+    → HasRoom (table_in accepted.0) d (records (table_in accepted.0)) → HasRoom t d (records t)
+room_of old new taken t d accepted table whole end records room =
+    subst (λ (x : TableRows). HasRoom x d (records x))
     (ap table_in (taken_is_all old new taken accepted.0 whole end accepted.1) ∙ sym table) room
 
 -- an image without a fault has a header within its limits
@@ -438,21 +544,21 @@ limits_in image none = ⊎_elim
     (has_magic (take 64 image)) (in_limits (header_in image)) (nat_lt (length image) (image_size (header_in image))) outside none))
     (cases_Bool (in_limits (header_in image)))
 
-has_room : (t : TableRows) (tells : Tells) (d0 d2 : State) (answer : Outcome) (is : RecordsBlocks t tells d0 d2 answer)
-    → answer ≡ outcome.SeqEnd → IsTrue tells.bytes → IsTrue tells.line → HasRoom t d0 → ⊥
+has_room : (t : TableRows) (tells : Tells) (d0 d2 : State) (answer : Outcome) (is : RecordsSupply line_trace t tells d0 d2 answer)
+    → answer ≡ outcome.SeqEnd → IsTrue tells.bytes → IsTrue tells.line → HasRoom t d0 (good_prefix d0.line) → ⊥
 has_room t tells d0 d2 answer is ends bytes told room =
     let line = is.pulls.takes.line told in
     let grown = good_prefix-append is.pulled d2.line in
     let past : SessionPast = record { table = t; header = header_in d0.held; first = next_in d0.held; records = [] } in
     let limits : IsInLimits (header_in d0.held) = limits_in d0.held room.image.no_fault in
     let fewer = blocks-fewer past is.pulled d2.line grown.0 limits grown.1 in
-    let all = ap (λ (l : List ℕ). length (new_blocks t d0.held l)) line in
-    omega (arith, is.beyond ends bytes, room.numbers, fewer, all)
+    let all = ap (λ (l : List ℕ). length (new_blocks t d0.held (good_prefix l))) line in
+    omega (arith, is.blocks.beyond ends bytes, room.numbers, fewer, all)
 
 -- an image for the table's frames, numbers enough, and no fault: all is recorded, or memory ended
 pub record_done : (path image : List ℕ) (t : TableRows) (tells : Tells) (d0 d2 : State) (answer : Outcome)
-    → (answer ≡ outcome.NoMemory) ⊎ IsOwn (record_line path image) answer → RecordsBlocks t tells d0 d2 answer
-    → IsTrue tells.line → has_end (good_prefix d0.line) ≡ true → IsTrue tells.bytes → HasRoom t d0
+    → (answer ≡ outcome.NoMemory) ⊎ IsOwn (record_line path image) answer → RecordsSupply line_trace t tells d0 d2 answer
+    → IsTrue tells.line → has_end (good_prefix d0.line) ≡ true → IsTrue tells.bytes → HasRoom t d0 (good_prefix d0.line)
     → (answer ≡ outcome.ReadFault input.Line → ⊥) → (answer ≡ outcome.DiskFault → ⊥)
     → (answer ≡ outcome.Done) ⊎ (answer ≡ outcome.NoMemory)
 record_done path image t tells d0 d2 outcome.Done own is told ended bytes room line disk = inl refl
@@ -464,10 +570,10 @@ record_done path image t tells d0 d2 outcome.DiskFault own is told ended bytes r
 record_done path image t tells d0 d2 outcome.SeqEnd own is told ended bytes room line disk =
     absurd (has_room t tells d0 d2 outcome.SeqEnd is refl bytes told room)
 record_done path image t tells d0 d2 (outcome.TraceRefused index why) own is told ended bytes room line disk =
-    absurd (told_whole tells d0 d2 is.pulled (outcome.TraceRefused index why) index why is.pulls is.trace refl told ended)
+    absurd (told_whole tells d0 d2 is.pulled (outcome.TraceRefused index why) index why is.pulls is.ends refl told ended)
 record_done path image t tells d0 d2 (outcome.ImageRefused why) own is told ended bytes room line disk =
-    absurd (both (image_fault_of d0.held) why room.image.no_fault (is.refused why refl bytes))
+    absurd (both (image_fault_of d0.held) why room.image.no_fault (is.blocks.image.refused why refl bytes))
 record_done path image t tells d0 d2 (outcome.WordsDiffer i w) own is told ended bytes room line disk =
-    let here = is.words i w refl in
+    let here = is.blocks.image.words i w refl in
     absurd (here.1 (sym (here.2 bytes).words ∙ room.image.words ∙ sym here.0))
 record_done path image t tells d0 d2 answer own is told ended bytes room line disk = ⊎_elim (λ memory. inr memory) (λ it. absurd it) own

@@ -29,7 +29,7 @@ use Rattle.fdr_top.specs.declared.outcome.Outcome.{Outcome}
 use Rattle.fdr_top.specs.declared.outcome.Outcome.TheVariants as outcome
 use Rattle.fdr_top.specs.Stream.{Streams, answer_of_stop}
 use Rattle.fdr_top.specs.Streaming.{due_text, ComesNext, IsStreamed, IsStreamedTo, IsStreamedPart}
-use Rattle.fdr_top.proofs.Longer.{stream_of-good}
+use Rattle.fdr_top.proofs.Longer.{InOrder-good_prefix, stream_of-good}
 use Rattle.fdr_top.proofs.Blocks.{take_min}
 
 -- nothing was fed yet
@@ -123,7 +123,7 @@ shorter t bytes records later m good =
     let all = 4096 * due_blocks t 4096 records in
     let few : min m all ≤ all = omega arith in
     take_min m all (stream_of t records)
-    ∙ sym (stream_of-good t bytes records later (min m all) good (omega (arith, few, due_blocks-fill t 4096 records)))
+    ∙ sym (stream_of-good t (good_prefix bytes) records later (min m all) (InOrder-good_prefix bytes) good (omega (arith, few, due_blocks-fill t 4096 records)))
 
 -- where a block of a record couldn't be written
 pub IsStreamedPart-next : (t : TableRows) (tells : Tells) (a c : State) (bytes : List ℕ) (records later : List BusRecord) (before now : Option (List ℕ)) (m : ℕ)

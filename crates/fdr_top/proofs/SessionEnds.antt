@@ -1,5 +1,5 @@
 -- How a recording in a session begins and ends.
-use Rattle.std.proofs.Common.{◌≡◌, ◌≢◌, ◌⊎◌, ⊎_elim, inl, inr, Result, Err, true, ℕ, ◌+◌, ◌-◌, ◌^◌, ◌<◌, ◌≤◌, List, [], ◌∷◌, ◌++◌, length, take, Option, Some}
+use Rattle.std.proofs.Common.{◌≡◌, ◌≢◌, ◌⊎◌, ⊎_elim, inl, inr, Result, Err, true, ℕ, ◌+◌, ◌-◌, ◌^◌, ◌≤◌, List, [], ◌∷◌, ◌++◌, length, take}
 use Rattle.std.proofs.Common.{ap, sym, refl, ◌∙◌, subst, length-append, arith}
 use Rattle.std.proofs.lemmas.List.{take-append-le}
 use Rattle.std.proofs.Math.Seq.{take-append-add}
@@ -9,8 +9,9 @@ use Rattle.fdr_bus.specs.declared.BusRecord.{BusRecord}
 use Rattle.fdr_bus.specs.declared.TraceFault.{TraceFault}
 use Rattle.fdr_bus.specs.declared.TraceFault.TheVariants as trace
 use Rattle.fdr_bus.specs.Records.{good_prefix, has_end, is_end}
-use Rattle.fdr_deck.specs.State.{Moment, State, Tells}
+use Rattle.fdr_deck.specs.State.{State, Tells}
 use Rattle.fdr_deck.specs.Calls.{LeavesDisk}
+use Rattle.fdr_deck.specs.Pull.{KeepsLine}
 use Rattle.fdr_deck.specs.Moments.{EachMoment, Elapses, IsSoundDeck}
 use Rattle.fdr_deck.proofs.Moments.{EachMoment-weaken}
 use Rattle.fdr_slot.specs.Limits.{IsInLimits}
@@ -19,12 +20,11 @@ use Rattle.fdr_slot.specs.declared.image.Header.{Header}
 use Rattle.fdr_recover.specs.Blocks.{Block}
 use Rattle.fdr_recover.specs.Images.{recovered_run}
 use Rattle.fdr_ring.specs.Rings.{IsRing, IsSureRing}
-use Rattle.fdr_trace.specs.Kept.{TraceKept}
 use Rattle.fdr_trace.specs.Pulls.{PullsMore}
-use Rattle.fdr_trace.specs.Reading.{IsNextRecord, IsTraceStopped, RepresentsTrace}
+use Rattle.fdr_trace.specs.Reading.{IsTraceStopped}
 use Rattle.fdr_trace.specs.declared.TraceStop.{TraceStop}
 use Rattle.fdr_trace.specs.declared.TraceStop.TheVariants as stop
-use Rattle.fdr_recorder.specs.Past.{SessionPast, MayFeedSession, RepresentsSession, all_blocks, due, due_at, recorded_of, rest_of, started}
+use Rattle.fdr_recorder.specs.Past.{SessionPast, MayFeedSession, RepresentsSession, all_blocks, due_at, recorded_of, rest_of, started}
 use Rattle.fdr_recorder.specs.Recording.{HasEnded, HasRecorded, Records}
 use Rattle.fdr_recorder.specs.Starting.{IsStarted}
 use Rattle.fdr_table.specs.Rows.{TableRows}
@@ -36,38 +36,59 @@ use Rattle.fdr_recorder.proofs.Composing.{HasRecorded-then}
 use Rattle.fdr_recorder.proofs.Joined.{recorded_of-fed}
 use Rattle.fdr_recorder.proofs.Steps.{keeps_more}
 use Rattle.fdr_words.specs.Forms.{record_line}
-use Rattle.fdr_top.specs.Answers.{IsOwn, WritesNothing}
-use Rattle.fdr_top.specs.Record.{EndsTrace, RecordsAll, session_refusal}
+use Rattle.fdr_top.specs.Answers.{IsOwn, KeepsLineAndFaults, WritesNothing}
+use Rattle.fdr_top.specs.Record.{CutsShort, EndsReading, EndsTrace, RecordsAll, RefusesSession, session_refusal}
 use Rattle.fdr_top.specs.Recording.{Continues, HasFed, HasFedAll, IsBegun, SessionMoment, fed}
 use Rattle.fdr_top.specs.Stream.{answer_of_stop}
+use Rattle.fdr_top.specs.Supply.{RecordSupply, EndsSupply, HasRunOut, PullsNothing, RepresentsSupply, drawn_trace, line_trace, supplied}
 use Rattle.fdr_top.specs.declared.outcome.Outcome.{Outcome}
 use Rattle.fdr_top.specs.declared.outcome.Outcome.TheVariants as outcome
+use Rattle.fdr_top.specs.declared.supply.RecordSource.{RecordSource}
 use Rattle.fdr_top.proofs.NewBlocks.{new_blocks-begin, recorded-long}
 use Rattle.fdr_top.proofs.Records.{same_cause, same_refusal}
 use Rattle.fdr_top.proofs.Sessions.{HasFed-begun, block_moments, block_pulls, block_time}
+use Rattle.fdr_top.proofs.Supplies.{supplied-rises}
 use Rattle.fdr_bus.proofs.TraceLemmas.{has_end-push}
 
+-- ---- the line is left alone
+
+pub keeps_line : (a b : State) → b.line ≡ a.line → b.taken ≡ a.taken → b.before ≡ a.before → b.line_faults ≡ a.line_faults
+    → KeepsLineAndFaults a b
+keeps_line a b line taken before faults = record { line = line; taken = taken; before = before; faults = faults }
+
+-- a call that does nothing, and then one that leaves the line
+pub keeps_line_then : (a b c d : State) → KeepsLineAndFaults a b → c ≡ b → KeepsLine c d → d.line_faults ≡ c.line_faults → KeepsLineAndFaults a d
+keeps_line_then a b c d kept same line faults = record {
+  line = line.line ∙ ap (λ (x : State). x.line) same ∙ kept.line;
+  taken = line.taken ∙ ap (λ (x : State). x.taken) same ∙ kept.taken;
+  before = line.before ∙ ap (λ (x : State). x.before) same ∙ kept.before;
+  faults = faults ∙ ap (λ (x : State). x.line_faults) same ∙ kept.faults;
+}
+
+-- ---- how it begins
+
 -- nothing was fed
-pub begun : (tells : Tells) (s : Session) (k : TraceKept) (past : SessionPast) (d : State) → IsSoundDeck tells d → IsBegun tells s k past d
-    → (bytes : List ℕ) × (records : List BusRecord) × RepresentsTrace k bytes records × RepresentsSession s (fed past records)
+pub begun : (tells : Tells) (from : RecordSupply) (s : Session) (source : RecordSource) (past : SessionPast) (d : State) → IsSoundDeck tells d
+    → IsBegun tells from s source past d
+    → (bytes : List ℕ) × (records : List BusRecord) × RepresentsSupply from source bytes records × RepresentsSession s (fed past records)
     × HasFed tells (fed past records) bytes d d
-begun tells s k past d sound is =
+begun tells from s source past d sound is =
     let stands : RepresentsSession s (fed past []) = subst (λ (r : List BusRecord). RepresentsSession s (fed past r)) is.none is.stands in (
       [],
       [],
-      is.reads,
+      is.gives,
       stands,
       HasFed-begun tells (fed past []) d sound (omega (arith, stands.next, is.number)) is.ring is.settled is.told,
     )
 
 -- a session that was just started
-pub begun_at : (tells : Tells) (t : TableRows) (s : Session) (k : TraceKept) (d0 d1 : State) → IsStarted tells t s d0 d1 → RepresentsTrace k [] []
-    → IsBegun tells s k (started t s.ring.header s.ring.next) d1
-begun_at tells t s k d0 d1 is reads = record {
+pub begun_at : (tells : Tells) (t : TableRows) (from : RecordSupply) (s : Session) (source : RecordSource) (d0 d1 : State) → IsStarted tells t s d0 d1
+    → RepresentsSupply from source [] [] → IsBegun tells from s source (started t s.ring.header s.ring.next) d1
+begun_at tells t from s source d0 d1 is gives = record {
   none = refl;
   stands = is.stands;
   number = refl;
-  reads = reads;
+  gives = gives;
   ring = is.fact;
   settled = is.settled;
   told = is.told;
@@ -79,7 +100,7 @@ pub sure_at : (tells : Tells) (past : SessionPast) (bytes : List ℕ) (d0 d d' :
 sure_at tells past bytes d0 d d' ring has leaves =
     IsSureRing-told tells past.header (past.first + length (recorded_of past)) d d' leaves (has.recorded.sure ring)
 
-next_at : (past : SessionPast) (s : Session) → RepresentsSession s past → past.first + length (recorded_of past) ≡ s.ring.next
+pub next_at : (past : SessionPast) (s : Session) → RepresentsSession s past → past.first + length (recorded_of past) ≡ s.ring.next
 next_at past s stands = omega (arith, stands.next, recorded-long past)
 
 pub ring_at : (tells : Tells) (past : SessionPast) (s : Session) (d : State) → RepresentsSession s past
@@ -98,15 +119,6 @@ limits_of past s stands = subst IsInLimits stands.header (in_limits-is s.ring.he
 
 pub bound_of : (past : SessionPast) (s : Session) → RepresentsSession s past → past.first + length (recorded_of past) ≤ 2 ^ 48
 bound_of past s stands = omega (arith, next_at past s stands, s.ring.bound)
-
--- the next record is a good one
-pub MayFeed-read : (past : SessionPast) (k k' : TraceKept) (bytes more : List ℕ) (records : List BusRecord) (r : BusRecord) → RepresentsTrace k bytes records
-    → IsNextRecord k' (bytes ++ more) records r → MayFeedSession (fed past records) r
-MayFeed-read past k k' bytes more records r reads next = record {
-  order = next.order;
-  in_time = next.in_time;
-  unended = ap has_end reads.good ∙ reads.unended.unended;
-}
 
 -- what was recorded at a record, by the numbers of the past
 pub Records-at : (tells : Tells) (past : SessionPast) (s : Session) (blocks : List Block) (d d' : State) → RepresentsSession s past
@@ -164,68 +176,108 @@ EndsTrace-stop tells d0 d d' bytes records stop.Failed stopped before quiet = re
 }
 
 -- the answer isn't of the trace
-pub fault_ends : (tells : Tells) (d0 d' : State) (bytes : List ℕ) (answer : Outcome) → (RecordsAll answer → ⊥)
+pub fault_ends : (tells : Tells) (d0 d' : State) (bytes : List ℕ) (answer : Outcome) → (EndsReading answer → ⊥)
     → ((index : ℕ) (why : TraceFault) → answer ≡ outcome.TraceRefused index why → ⊥) → EndsTrace tells d0 d' bytes answer
 fault_ends tells d0 d' bytes answer not refused = record {
-  ended = λ e. absurd (not (subst RecordsAll (sym e) tt));
+  ended = λ e. absurd (not (subst EndsReading (sym e) tt));
   refused = λ i w e. absurd (refused i w e);
   truncated = λ i e. absurd (refused i trace.Truncated e);
-  undecided = λ e. absurd (not (subst RecordsAll (sym e) tt));
+  undecided = λ e. absurd (not (subst EndsReading (sym e) tt));
   quiet = λ all. absurd (not all);
 }
 
+-- so of every supply
+pub fault_ends_supply : (from : RecordSupply) (tells : Tells) (d0 d' : State) (bytes : List ℕ) (answer : Outcome) → (EndsReading answer → ⊥)
+    → ((index : ℕ) (why : TraceFault) → answer ≡ outcome.TraceRefused index why → ⊥) → PullsNothing from bytes
+    → EndsSupply from tells d0 d' bytes answer
+fault_ends_supply line_trace tells d0 d' bytes answer not refused none = fault_ends tells d0 d' bytes answer not refused
+fault_ends_supply (drawn_trace t seed frames) tells d0 d' bytes answer not refused none = (none, λ reading. absurd (not reading))
+
 -- the disk failed, or the numbers ended
-pub EndsTrace-fault : (tells : Tells) (d0 d' : State) (bytes : List ℕ) (f : SessionFault)
-    → (f ≡ session.DiskFault) ⊎ (f ≡ session.SeqEnd) → EndsTrace tells d0 d' bytes (session_refusal f)
-EndsTrace-fault tells d0 d' bytes f only = ⊎_elim
-    (λ (e : f ≡ session.DiskFault). rw e (fault_ends tells d0 d' bytes outcome.DiskFault (λ all. all) (λ i w x. absurd (cc))))
-    (λ (e : f ≡ session.SeqEnd). rw e (fault_ends tells d0 d' bytes outcome.SeqEnd (λ all. all) (λ i w x. absurd (cc))))
+EndsSupply-fault : (from : RecordSupply) (tells : Tells) (d0 d' : State) (bytes : List ℕ) (f : SessionFault)
+    → (f ≡ session.DiskFault) ⊎ (f ≡ session.SeqEnd) → PullsNothing from bytes → EndsSupply from tells d0 d' bytes (session_refusal f)
+EndsSupply-fault from tells d0 d' bytes f only none = ⊎_elim
+    (λ (e : f ≡ session.DiskFault). rw e (fault_ends_supply from tells d0 d' bytes outcome.DiskFault (λ all. all) (λ i w x. absurd (cc)) none))
+    (λ (e : f ≡ session.SeqEnd). rw e (fault_ends_supply from tells d0 d' bytes outcome.SeqEnd (λ all. all) (λ i w x. absurd (cc)) none))
     only
 
-stop_all : (s : TraceStop) → RecordsAll (answer_of_stop s)
-stop_all (stop.Refused index why) = tt
-stop_all stop.Failed = tt
+-- the end record was fed
+EndsSupply-end : (from : RecordSupply) (tells : Tells) (d0 d' : State) (bytes : List ℕ) (records : List BusRecord) (r : BusRecord)
+    → supplied from bytes ≡ records ++ r ∷ [] → is_end r ≡ true → PullsNothing from bytes → d'.line_faults ≡ d0.line_faults
+    → EndsSupply from tells d0 d' bytes outcome.Done
+EndsSupply-end line_trace tells d0 d' bytes records r good ends none quiet = EndsTrace-end tells d0 d' bytes records r good ends quiet
+EndsSupply-end (drawn_trace t seed frames) tells d0 d' bytes records r good ends none quiet = (none, λ reading. refl)
+
+failed_stop : (s : TraceStop) → answer_of_stop s ≡ outcome.ReadFault input.Line → s ≡ stop.Failed
+failed_stop (stop.Refused index why) is = absurd (cc)
+failed_stop stop.Failed is = refl
+
+-- no further record came
+EndsSupply-stop : (from : RecordSupply) (tells : Tells) (d0 d d' : State) (bytes : List ℕ) (records : List BusRecord) (answer : Outcome)
+    → HasRunOut from tells d d' bytes records answer → d.line_faults ≡ d0.line_faults
+    → (answer ≢ outcome.ReadFault input.Line → d'.line_faults ≡ d.line_faults) → EndsSupply from tells d0 d' bytes answer
+EndsSupply-stop from tells d0 d d' bytes records answer out before quiet =
+    subst (λ (x : RecordSupply). EndsSupply x tells d0 d' bytes answer) (sym out.line)
+    (subst (λ (x : Outcome). EndsTrace tells d0 d' bytes x) (sym out.is)
+    (EndsTrace-stop tells d0 d d' bytes records out.stop out.stopped before
+    (λ not. quiet (λ e. not (failed_stop out.stop (sym out.is ∙ e))))))
+
+stop_reading : (s : TraceStop) → EndsReading (answer_of_stop s)
+stop_reading (stop.Refused index why) = tt
+stop_reading stop.Failed = tt
 
 stop_good : (tells : Tells) (d d' : State) (bytes : List ℕ) (records : List BusRecord) (s : TraceStop)
     → IsTraceStopped tells d d' bytes records s → good_prefix bytes ≡ records
 stop_good tells d d' bytes records (stop.Refused index why) stopped = stopped.good
 stop_good tells d d' bytes records stop.Failed stopped = stopped.good
 
+out_good : (from : RecordSupply) (tells : Tells) (d d' : State) (bytes : List ℕ) (records : List BusRecord) (answer : Outcome)
+    → HasRunOut from tells d d' bytes records answer → supplied from bytes ≡ records
+out_good from tells d d' bytes records answer out =
+    ap (λ (x : RecordSupply). supplied x bytes) out.line ∙ stop_good tells d d' bytes records out.stop out.stopped
+
 -- a line that failed was counted
-pub line_failed : (tells : Tells) (d0 d d' : State) (bytes : List ℕ) (records : List BusRecord) (s : TraceStop)
+stop_failed : (tells : Tells) (d0 d d' : State) (bytes : List ℕ) (records : List BusRecord) (s : TraceStop)
     → answer_of_stop s ≡ outcome.ReadFault input.Line → IsTraceStopped tells d d' bytes records s → d.line_faults ≡ d0.line_faults
     → Rose d0.line_faults d'.line_faults
-line_failed tells d0 d d' bytes records (stop.Refused index why) is stopped quiet = absurd (cc)
-line_failed tells d0 d d' bytes records stop.Failed is stopped quiet = subst (λ n. Rose n d'.line_faults) quiet stopped.cause
+stop_failed tells d0 d d' bytes records (stop.Refused index why) is stopped quiet = absurd (cc)
+stop_failed tells d0 d d' bytes records stop.Failed is stopped quiet = subst (λ n. Rose n d'.line_faults) quiet stopped.cause
 
--- all good records of the bytes were fed
-fed_all : (tells : Tells) (past : SessionPast) (s : Session) (d0 d' : State) (bytes : List ℕ) (records : List BusRecord) (answer : Outcome)
-    → IsSureRing tells past.header past.first d0 → RepresentsSession s (fed past records) → HasFed tells (fed past records) bytes d0 d'
-    → good_prefix bytes ≡ records → EndsTrace tells d0 d' bytes answer → RecordsAll answer → HasFedAll tells past s d0 d' answer
-fed_all tells past s d0 d' bytes records answer ring stands has good ends all = record {
+pub line_failed : (from : RecordSupply) (tells : Tells) (d0 d d' : State) (bytes : List ℕ) (records : List BusRecord) (answer : Outcome)
+    → answer ≡ outcome.ReadFault input.Line → HasRunOut from tells d d' bytes records answer → d.line_faults ≡ d0.line_faults
+    → Rose d0.line_faults d'.line_faults
+line_failed from tells d0 d d' bytes records answer is out quiet =
+    stop_failed tells d0 d d' bytes records out.stop (sym out.is ∙ is) out.stopped quiet
+
+-- all records of the supply were fed
+fed_all : (from : RecordSupply) (tells : Tells) (past : SessionPast) (s : Session) (d0 d' : State) (bytes : List ℕ) (records : List BusRecord)
+    (answer : Outcome) → IsSureRing tells past.header past.first d0 → RepresentsSession s (fed past records)
+    → HasFed tells (fed past records) bytes d0 d' → supplied from bytes ≡ records → EndsSupply from tells d0 d' bytes answer
+    → EndsReading answer → HasFedAll from tells past s d0 d' answer
+fed_all from tells past s d0 d' bytes records answer ring stands has good ends all = record {
   pulled = bytes;
   stands = subst (λ (r : List BusRecord). RepresentsSession s (fed past r)) (sym good) stands;
   ring = subst (λ (n : ℕ). IsSureRing tells past.header n d') (next_at (fed past records) s stands) (has.recorded.sure ring);
   has = subst (λ (r : List BusRecord). HasFed tells (fed past r) bytes d0 d') (sym good) has;
-  trace = ends;
+  ends = ends;
   all = all;
 }
 
-pub HasFedAll-stop : (tells : Tells) (past : SessionPast) (s : Session) (d0 d d' : State) (bytes : List ℕ) (records : List BusRecord)
-    (st : TraceStop) → IsSureRing tells past.header past.first d0 → RepresentsSession s (fed past records)
-    → HasFed tells (fed past records) bytes d0 d' → IsTraceStopped tells d d' bytes records st → d.line_faults ≡ d0.line_faults
-    → (st ≢ stop.Failed → d'.line_faults ≡ d.line_faults) → HasFedAll tells past s d0 d' (answer_of_stop st)
-HasFedAll-stop tells past s d0 d d' bytes records st ring stands has stopped before quiet =
-    fed_all tells past s d0 d' bytes records (answer_of_stop st) ring stands has (stop_good tells d d' bytes records st stopped)
-    (EndsTrace-stop tells d0 d d' bytes records st stopped before quiet) (stop_all st)
+pub HasFedAll-stop : (from : RecordSupply) (tells : Tells) (past : SessionPast) (s : Session) (d0 d d' : State) (bytes : List ℕ)
+    (records : List BusRecord) (answer : Outcome) → IsSureRing tells past.header past.first d0 → RepresentsSession s (fed past records)
+    → HasFed tells (fed past records) bytes d0 d' → HasRunOut from tells d d' bytes records answer → d.line_faults ≡ d0.line_faults
+    → (answer ≢ outcome.ReadFault input.Line → d'.line_faults ≡ d.line_faults) → HasFedAll from tells past s d0 d' answer
+HasFedAll-stop from tells past s d0 d d' bytes records answer ring stands has out before quiet =
+    fed_all from tells past s d0 d' bytes records answer ring stands has (out_good from tells d d' bytes records answer out)
+    (EndsSupply-stop from tells d0 d d' bytes records answer out before quiet) (subst EndsReading (sym out.is) (stop_reading out.stop))
 
-pub HasFedAll-end : (tells : Tells) (past : SessionPast) (s : Session) (d0 d' : State) (bytes : List ℕ) (records : List BusRecord)
-    (r : BusRecord) → IsSureRing tells past.header past.first d0 → RepresentsSession s (fed past (records ++ r ∷ []))
-    → HasFed tells (fed past (records ++ r ∷ [])) bytes d0 d' → good_prefix bytes ≡ records ++ r ∷ []
-    → is_end r ≡ true → d'.line_faults ≡ d0.line_faults → HasFedAll tells past s d0 d' outcome.Done
-HasFedAll-end tells past s d0 d' bytes records r ring stands has good ends quiet =
-    fed_all tells past s d0 d' bytes (records ++ r ∷ []) outcome.Done ring stands has good
-    (EndsTrace-end tells d0 d' bytes records r good ends quiet) tt
+pub HasFedAll-end : (from : RecordSupply) (tells : Tells) (past : SessionPast) (s : Session) (d0 d' : State) (bytes : List ℕ)
+    (records : List BusRecord) (r : BusRecord) → IsSureRing tells past.header past.first d0 → RepresentsSession s (fed past (records ++ r ∷ []))
+    → HasFed tells (fed past (records ++ r ∷ [])) bytes d0 d' → supplied from bytes ≡ records ++ r ∷ []
+    → is_end r ≡ true → PullsNothing from bytes → d'.line_faults ≡ d0.line_faults → HasFedAll from tells past s d0 d' outcome.Done
+HasFedAll-end from tells past s d0 d' bytes records r ring stands has good ends none quiet =
+    fed_all from tells past s d0 d' bytes (records ++ r ∷ []) outcome.Done ring stands has good
+    (EndsSupply-end from tells d0 d' bytes records r good ends none quiet) tt
 
 -- ---- where a record couldn't be fed
 
@@ -244,10 +296,17 @@ pub only_two : (f : SessionFault) → ◌≡◌ {A = Result Session SessionFault
     ⊎ ◌≡◌ {A = Result Session SessionFault} (Err f) (Err session.SeqEnd) → (f ≡ session.DiskFault) ⊎ (f ≡ session.SeqEnd)
 only_two f only = ⊎_elim (λ e. inl (fault_same f session.DiskFault e)) (λ e. inr (fault_same f session.SeqEnd e)) only
 
-not_all : (f : SessionFault) → (f ≡ session.DiskFault) ⊎ (f ≡ session.SeqEnd) → RecordsAll (session_refusal f) → ⊥
+not_all : (f : SessionFault) → (f ≡ session.DiskFault) ⊎ (f ≡ session.SeqEnd) → EndsReading (session_refusal f) → ⊥
 not_all f only all = ⊎_elim
     (λ (e : f ≡ session.DiskFault). rw e at all)
     (λ (e : f ≡ session.SeqEnd). rw e at all)
+    only
+
+-- the two answers that cut a recording short
+pub two_cut : (f : SessionFault) → (f ≡ session.DiskFault) ⊎ (f ≡ session.SeqEnd) → CutsShort (session_refusal f)
+two_cut f only = ⊎_elim
+    (λ (e : f ≡ session.DiskFault). rw e tt)
+    (λ (e : f ≡ session.SeqEnd). rw e tt)
     only
 
 pub is_seq_end : (f : SessionFault) → session_refusal f ≡ outcome.SeqEnd → f ≡ session.SeqEnd
@@ -263,27 +322,24 @@ take_two xs ys zs n m is within =
     take-append-le n (xs ++ ys) zs (omega (arith, is, within, length-append xs ys))
     ∙ ap (λ k. take k (xs ++ ys)) is ∙ take-append-add xs ys m
 
-module _ (tells : Tells) (past : SessionPast) (d0 d d' : State) (bytes : List ℕ) (records later : List BusRecord) (r : BusRecord) (f : SessionFault)
-    (sound0 : IsSoundDeck tells d0) (s : Session) (k : TraceKept) (is : IsBegun tells s k past d0) (limits : IsInLimits past.header)
-    (has : HasFed tells (fed past records) bytes d0 d) (may : MayFeedSession (fed past records) r)
-    (good : good_prefix bytes ≡ (records ++ r ∷ []) ++ later)
+module _ (from : RecordSupply) (tells : Tells) (past : SessionPast) (d0 d d' : State) (bytes : List ℕ) (records later : List BusRecord) (r : BusRecord)
+    (f : SessionFault) (sound0 : IsSoundDeck tells d0) (s : Session) (source : RecordSource) (is : IsBegun tells from s source past d0)
+    (limits : IsInLimits past.header) (has : HasFed tells (fed past records) bytes d0 d) (may : MayFeedSession (fed past records) r)
+    (good : supplied from bytes ≡ (records ++ r ∷ []) ++ later) (none : PullsNothing from bytes)
     (wrote : Records tells past.header (past.first + length (recorded_of (fed past records))) (due_at (fed past records) r) d d')
     (only : (f ≡ session.DiskFault) ⊎ (f ≡ session.SeqEnd))
   where
-    all : List Block
-    all = all_blocks (fed past (good_prefix bytes))
-
     rest : List Block
-    rest = (new_blocks-begin past bytes (records ++ r ∷ []) later good limits).0
+    rest = (new_blocks-begin past (supplied from bytes) (records ++ r ∷ []) later (supplied-rises from bytes) good limits).0
 
-    parts : all_blocks (fed past (good_prefix bytes))
+    parts : all_blocks (fed past (supplied from bytes))
         ≡ (recorded_of (fed past records) ++ due_at (fed past records) r) ++ rest
     unfolding rest
-    parts = (new_blocks-begin past bytes (records ++ r ∷ []) later good limits).1
+    parts = (new_blocks-begin past (supplied from bytes) (records ++ r ∷ []) later (supplied-rises from bytes) good limits).1
         ∙ ap (λ (l : List Block). l ++ rest) (recorded_of-fed (fed past records) r limits may)
 
     moments : d0.greatest ≤ past.first
-        → EachMoment tells d0 d' (SessionMoment past d0 (all_blocks (fed past (good_prefix bytes))) bytes)
+        → EachMoment tells d0 d' (SessionMoment past d0 (all_blocks (fed past (supplied from bytes))) bytes)
     moments few = subst (λ (l : List Block). EachMoment tells d0 d' (SessionMoment past d0 l bytes)) (sym parts)
         (EachMoment-weaken tells d0 d'
         (SessionMoment past d0 (recorded_of (fed past records) ++ due_at (fed past records) r) bytes)
@@ -301,7 +357,7 @@ module _ (tells : Tells) (past : SessionPast) (d0 d d' : State) (bytes : List �
     pub Continues-fault : (past.first + length (recorded_of (fed past records)) ≤ 2 ^ 48)
         → (f ≡ session.SeqEnd
         → HasEnded tells past.header (past.first + length (recorded_of (fed past records))) (due_at (fed past records) r) d d')
-        → Continues tells past d0 d' (session_refusal f)
+        → Continues from tells past d0 d' (session_refusal f)
     Continues-fault bound ended =
         let a = recorded_of (fed past records) in
         let b = due_at (fed past records) r in
@@ -324,42 +380,53 @@ module _ (tells : Tells) (past : SessionPast) (d0 d d' : State) (bytes : List �
           beyond = λ e.
               let end = ended (is_seq_end f e) in
               omega (arith, end.beyond, long, length-append (a ++ b) rest, length-append a b);
-          trace = EndsTrace-fault tells d0 d' bytes f only;
+          ends = EndsSupply-fault from tells d0 d' bytes f only none;
         }
 
 -- ---- where the session is closed
 
-pub all_own : (path image : List ℕ) (answer : Outcome) → RecordsAll answer → IsOwn (record_line path image) answer
+pub all_own : (path image : List ℕ) (answer : Outcome) → EndsReading answer → IsOwn (record_line path image) answer
 all_own path image outcome.Done all = tt
 all_own path image (outcome.TraceRefused index why) all = tt
 all_own path image (outcome.ReadFault input.Line) all = tt
 all_own path image answer all = absurd all
 
-pub all_begun : (answer : Outcome) → RecordsAll answer → WritesNothing answer → ⊥
-all_begun outcome.Done all nothing = nothing
-all_begun (outcome.TraceRefused index why) all nothing = nothing
-all_begun (outcome.ReadFault input.Line) all nothing = nothing
-all_begun answer all nothing = all
+pub reading_begun : (answer : Outcome) → EndsReading answer → WritesNothing answer → ⊥
+reading_begun outcome.Done all nothing = nothing
+reading_begun (outcome.TraceRefused index why) all nothing = nothing
+reading_begun (outcome.ReadFault input.Line) all nothing = nothing
+reading_begun answer all nothing = all
 
-pub two_own : (path image : List ℕ) (f : SessionFault) → (f ≡ session.DiskFault) ⊎ (f ≡ session.SeqEnd)
-    → IsOwn (record_line path image) (session_refusal f)
-two_own path image f only = ⊎_elim
-    (λ (e : f ≡ session.DiskFault). rw e tt)
-    (λ (e : f ≡ session.SeqEnd). rw e tt)
-    only
+pub cut_begun : (answer : Outcome) → CutsShort answer → WritesNothing answer → ⊥
+cut_begun outcome.DiskFault cut nothing = nothing
+cut_begun outcome.SeqEnd cut nothing = nothing
+cut_begun answer cut nothing = cut
 
-pub two_begun : (f : SessionFault) → (f ≡ session.DiskFault) ⊎ (f ≡ session.SeqEnd) → WritesNothing (session_refusal f) → ⊥
-two_begun f only nothing = ⊎_elim
-    (λ (e : f ≡ session.DiskFault). rw e at nothing)
-    (λ (e : f ≡ session.SeqEnd). rw e at nothing)
-    only
+pub cut_reads : (answer : Outcome) → CutsShort answer → RecordsAll answer → EndsReading answer
+cut_reads outcome.DiskFault cut all = all
+cut_reads outcome.SeqEnd cut all = all
+cut_reads answer cut all = absurd cut
 
-pub two_not_line : (f : SessionFault) → (f ≡ session.DiskFault) ⊎ (f ≡ session.SeqEnd)
-    → session_refusal f ≡ outcome.ReadFault input.Line → ⊥
-two_not_line f only is = ⊎_elim
-    (λ (e : f ≡ session.DiskFault). let no = rw e at is in cc)
-    (λ (e : f ≡ session.SeqEnd). let no = rw e at is in cc)
-    only
+pub cut_refuses : (answer : Outcome) → CutsShort answer → RefusesSession answer
+cut_refuses outcome.DiskFault cut = tt
+cut_refuses outcome.SeqEnd cut = tt
+cut_refuses answer cut = absurd cut
+
+pub refusal_refuses : (f : SessionFault) → RefusesSession (session_refusal f)
+refusal_refuses (session.Image why) = tt
+refusal_refuses (session.WordsDiffer image table) = tt
+refusal_refuses session.DiskFault = tt
+refusal_refuses session.SeqEnd = tt
+refusal_refuses session.NoMemory = tt
+
+pub refuses_own : (path image : List ℕ) (answer : Outcome) → RefusesSession answer
+    → (answer ≡ outcome.NoMemory) ⊎ IsOwn (record_line path image) answer
+refuses_own path image (outcome.ImageRefused why) refuses = inr tt
+refuses_own path image (outcome.WordsDiffer i w) refuses = inr tt
+refuses_own path image outcome.DiskFault refuses = inr tt
+refuses_own path image outcome.SeqEnd refuses = inr tt
+refuses_own path image outcome.NoMemory refuses = inl refl
+refuses_own path image answer refuses = absurd refuses
 
 pub is_disk_fault : (f : SessionFault) → session_refusal f ≡ outcome.DiskFault → f ≡ session.DiskFault
 is_disk_fault (session.Image why) e = absurd (cc)
@@ -379,38 +446,48 @@ EndsTrace-kept tells d0 d d' bytes answer ends line faults = record {
   quiet = λ all not. faults ∙ ends.quiet all not;
 }
 
-module _ (tells : Tells) (past : SessionPast) (d0 d d' : State) (s0 : Session) (k : TraceKept) (s : Session) (answer : Outcome)
-    (sound0 : IsSoundDeck tells d0) (is : IsBegun tells s0 k past d0) (whole : HasFedAll tells past s d0 d answer)
+EndsSupply-kept : (from : RecordSupply) (tells : Tells) (d0 d d' : State) (bytes : List ℕ) (answer : Outcome) → EndsSupply from tells d0 d bytes answer
+    → d'.line ≡ d.line → d'.line_faults ≡ d.line_faults → EndsSupply from tells d0 d' bytes answer
+EndsSupply-kept line_trace tells d0 d d' bytes answer ends line faults = EndsTrace-kept tells d0 d d' bytes answer ends line faults
+EndsSupply-kept (drawn_trace t seed frames) tells d0 d d' bytes answer ends line faults = ends
+
+nothing_pulled : (from : RecordSupply) (tells : Tells) (d0 d : State) (bytes : List ℕ) (answer : Outcome) → EndsSupply from tells d0 d bytes answer
+    → PullsNothing from bytes
+nothing_pulled line_trace tells d0 d bytes answer ends = tt
+nothing_pulled (drawn_trace t seed frames) tells d0 d bytes answer ends = ends.0
+
+module _ (from : RecordSupply) (tells : Tells) (past : SessionPast) (d0 d d' : State) (s0 : Session) (source : RecordSource) (s : Session)
+    (answer : Outcome) (sound0 : IsSoundDeck tells d0) (is : IsBegun tells from s0 source past d0) (whole : HasFedAll from tells past s d0 d answer)
   where
     -- the last block is written, or an error comes
-    module _ (parts : all_blocks (fed past (good_prefix whole.pulled))
-        ≡ recorded_of (fed past (good_prefix whole.pulled)) ++ rest_of (fed past (good_prefix whole.pulled)))
-        (wrote : Records tells s.ring.header s.ring.next (rest_of (fed past (good_prefix whole.pulled))) d d')
+    module _ (parts : all_blocks (fed past (supplied from whole.pulled))
+        ≡ recorded_of (fed past (supplied from whole.pulled)) ++ rest_of (fed past (supplied from whole.pulled)))
+        (wrote : Records tells s.ring.header s.ring.next (rest_of (fed past (supplied from whole.pulled))) d d')
       where
-        wrote_at : Records tells past.header (past.first + length (recorded_of (fed past (good_prefix whole.pulled))))
-            (rest_of (fed past (good_prefix whole.pulled))) d d'
-        wrote_at = Records-at tells (fed past (good_prefix whole.pulled)) s (rest_of (fed past (good_prefix whole.pulled))) d d'
+        wrote_at : Records tells past.header (past.first + length (recorded_of (fed past (supplied from whole.pulled))))
+            (rest_of (fed past (supplied from whole.pulled))) d d'
+        wrote_at = Records-at tells (fed past (supplied from whole.pulled)) s (rest_of (fed past (supplied from whole.pulled))) d d'
             whole.stands wrote
 
         closing_moments : d0.greatest ≤ past.first
-            → EachMoment tells d0 d' (SessionMoment past d0 (all_blocks (fed past (good_prefix whole.pulled))) whole.pulled)
+            → EachMoment tells d0 d' (SessionMoment past d0 (all_blocks (fed past (supplied from whole.pulled))) whole.pulled)
         closing_moments few = subst (λ (l : List Block). EachMoment tells d0 d' (SessionMoment past d0 l whole.pulled)) (sym parts)
-            (block_moments tells (fed past (good_prefix whole.pulled)) d0 d d' whole.pulled sound0 is.ring is.settled is.told whole.has
-            (rest_of (fed past (good_prefix whole.pulled))) wrote_at few)
+            (block_moments tells (fed past (supplied from whole.pulled)) d0 d d' whole.pulled sound0 is.ring is.settled is.told whole.has
+            (rest_of (fed past (supplied from whole.pulled))) wrote_at few)
 
         closing_time : Elapses tells d0 d'
-        closing_time = block_time tells (fed past (good_prefix whole.pulled)) d0 d d' whole.pulled sound0 is.ring is.settled is.told
-            whole.has (rest_of (fed past (good_prefix whole.pulled))) wrote_at
+        closing_time = block_time tells (fed past (supplied from whole.pulled)) d0 d d' whole.pulled sound0 is.ring is.settled is.told
+            whole.has (rest_of (fed past (supplied from whole.pulled))) wrote_at
 
         closing_pulls : PullsMore tells d0 d' [] whole.pulled
-        closing_pulls = block_pulls tells (fed past (good_prefix whole.pulled)) d0 d d' whole.pulled sound0 is.ring is.settled is.told
-            whole.has (rest_of (fed past (good_prefix whole.pulled))) wrote_at
+        closing_pulls = block_pulls tells (fed past (supplied from whole.pulled)) d0 d d' whole.pulled sound0 is.ring is.settled is.told
+            whole.has (rest_of (fed past (supplied from whole.pulled))) wrote_at
 
-        pub Continues-closed : (n : ℕ) → n ≡ s.ring.next + length (rest_of (fed past (good_prefix whole.pulled))) → n ≤ 2 ^ 48
-            → HasRecorded tells s.ring.header s.ring.next (rest_of (fed past (good_prefix whole.pulled))) d d'
-            → Continues tells past d0 d' answer
+        pub Continues-closed : (n : ℕ) → n ≡ s.ring.next + length (rest_of (fed past (supplied from whole.pulled))) → n ≤ 2 ^ 48
+            → HasRecorded tells s.ring.header s.ring.next (rest_of (fed past (supplied from whole.pulled))) d d'
+            → Continues from tells past d0 d' answer
         Continues-closed n next bound recorded =
-            let p = fed past (good_prefix whole.pulled) in
+            let p = fed past (supplied from whole.pulled) in
             let a = recorded_of p in
             let b = rest_of p in
             record {
@@ -424,15 +501,23 @@ module _ (tells : Tells) (past : SessionPast) (d0 d d' : State) (s0 : Session) (
               within = λ all. omega (arith, bound, next, next_at p s whole.stands, ap length parts, length-append a b);
               seq_end = λ e. absurd (rw e at whole.all);
               beyond = λ e. absurd (rw e at whole.all);
-              trace = EndsTrace-kept tells d0 d d' whole.pulled answer whole.trace wrote.line.line wrote.line_faults;
+              ends = EndsSupply-kept from tells d0 d d' whole.pulled answer whole.ends wrote.line.line wrote.line_faults;
             }
+
+        -- its number is announced
+        pub told_closed : (n : ℕ) → n ≡ s.ring.next + length (rest_of (fed past (supplied from whole.pulled)))
+            → HasRecorded tells s.ring.header s.ring.next (rest_of (fed past (supplied from whole.pulled))) d d' → n ≡ d'.told
+        told_closed n next recorded =
+            let p = fed past (supplied from whole.pulled) in
+            let here = whole.has.recorded.told is.told in
+            omega (arith, next, next_at p s whole.stands, here, recorded.told (omega (arith, here, next_at p s whole.stands)))
 
         pub Continues-unclosed : (f : SessionFault) → (f ≡ session.DiskFault) ⊎ (f ≡ session.SeqEnd)
             → (f ≡ session.SeqEnd
-            → HasEnded tells s.ring.header s.ring.next (rest_of (fed past (good_prefix whole.pulled))) d d')
-            → Continues tells past d0 d' (session_refusal f)
+            → HasEnded tells s.ring.header s.ring.next (rest_of (fed past (supplied from whole.pulled))) d d')
+            → Continues from tells past d0 d' (session_refusal f)
         Continues-unclosed f only ended =
-            let p = fed past (good_prefix whole.pulled) in
+            let p = fed past (supplied from whole.pulled) in
             let a = recorded_of p in
             let b = rest_of p in
             let bound = bound_of p s whole.stands in
@@ -454,5 +539,6 @@ module _ (tells : Tells) (past : SessionPast) (d0 d d' : State) (s0 : Session) (
               beyond = λ e.
                   let end = HasEnded-at tells p s b d d' whole.stands (ended (is_seq_end f e)) in
                   omega (arith, end.beyond, ap length parts, length-append a b);
-              trace = EndsTrace-fault tells d0 d' whole.pulled f only;
+              ends = EndsSupply-fault from tells d0 d' whole.pulled f only
+                  (nothing_pulled from tells d0 d whole.pulled answer whole.ends);
             }

@@ -1,5 +1,5 @@
 -- A trace that is recorded in a session, record by record.
-use Rattle.std.proofs.Common.{◌≡◌, ◌⊎◌, inl, inr, ⊎_elim, ℕ, ◌+◌, ◌-◌, ◌^◌, ◌<◌, ◌≤◌, max, List, [], ◌∷◌, ◌++◌, length, take, ap, sym, refl, ◌∙◌, subst}
+use Rattle.std.proofs.Common.{◌≡◌, inl, inr, ⊎_elim, ℕ, ◌+◌, ◌-◌, ◌<◌, ◌≤◌, List, [], ◌∷◌, ◌++◌, length, take, ap, sym, ◌∙◌, subst}
 use Rattle.std.proofs.Common.{length-append, arith}
 use Rattle.std.specs.Prelude.{IsTrue}
 use Rattle.std.proofs.lemmas.Bool.{cases_lt}
@@ -27,8 +27,8 @@ use Rattle.fdr_recorder.proofs.Adding.{IsRing-told, IsSureRing-told}
 use Rattle.fdr_recorder.proofs.Composing.{HasRecorded-here, HasRecorded-then}
 use Rattle.fdr_recorder.proofs.Joined.{recorded_of-fed}
 use Rattle.fdr_recorder.proofs.Steps.{keeps_more, keeps_on, keeps_run, same_run}
-use Rattle.fdr_top.specs.Lag.{IsInTime, IsLagMoment, KeepsUp}
-use Rattle.fdr_top.specs.Recording.{HasFed, SessionMoment, fed, owed_by}
+use Rattle.fdr_top.specs.Lag.{IsLagMoment, KeepsUp}
+use Rattle.fdr_top.specs.Recording.{HasFed, SessionMoment, owed_by}
 use Rattle.fdr_top.proofs.Lag.{IsInTime-more, at_moment, least_up}
 use Rattle.fdr_top.proofs.NewBlocks.{recorded-long}
 use Rattle.fdr_top.proofs.Records.{PullsMore-next}

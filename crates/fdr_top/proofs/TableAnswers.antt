@@ -1,5 +1,5 @@
 -- The table of a source that tells its bytes, and what is answered to it.
-use Rattle.std.proofs.Common.{◌≡◌, ℕ, ◌<◌, ◌≤◌, true, List, [], ◌++◌, length, Option, Some, None, ap, sym, refl, ◌∙◌, subst, inl, inr, ◌⊎◌, ⊎_elim, arith}
+use Rattle.std.proofs.Common.{◌≡◌, ℕ, ◌<◌, ◌≤◌, true, List, [], ◌++◌, length, Option, Some, None, ap, sym, refl, ◌∙◌, subst, inr, ◌⊎◌, ⊎_elim, arith}
 use Rattle.std.proofs.Common.{length-append}
 use Rattle.std.specs.Prelude.{IfSome, IsTrue, nat_lt}
 use Rattle.std.proofs.lemmas.Bool.{cases_lt}

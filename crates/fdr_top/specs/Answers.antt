@@ -4,7 +4,8 @@ use Rattle.fdr_io.specs.declared.Input.TheVariants as input
 use Rattle.fdr_deck.specs.State.{State}
 use Rattle.fdr_table.specs.declared.fault.TableError.{TableError}
 use Rattle.fdr_table.specs.declared.fault.TableError.TheVariants as error
-use Rattle.fdr_words.specs.Forms.{Form, form_of, check_table, stream_line, list_bits, format_image, record_line, recover_image, list_image, table_path}
+use Rattle.fdr_words.specs.Forms.{Form, form_of, check_table, stream_line, list_bits, format_image, record_line}
+use Rattle.fdr_words.specs.Forms.{recover_image, list_image, drill_image, table_path}
 use Rattle.fdr_top.specs.declared.outcome.Outcome.{Outcome}
 use Rattle.fdr_top.specs.declared.outcome.Outcome.TheVariants as outcome
 
@@ -68,6 +69,7 @@ HasImage (format_image table image slots payload) = Unit {0}
 HasImage (record_line table image) = Unit {0}
 HasImage (recover_image image) = Unit {0}
 HasImage (list_image table image) = Unit {0}
+HasImage (drill_image table image seed frames) = Unit {0}
 
 -- the commands that pull a trace
 abbrev pub PullsTrace : Form → Type 0
@@ -78,6 +80,7 @@ PullsTrace (format_image table image slots payload) = ⊥
 PullsTrace (record_line table image) = Unit {0}
 PullsTrace (recover_image image) = ⊥
 PullsTrace (list_image table image) = ⊥
+PullsTrace (drill_image table image seed frames) = ⊥
 
 -- the command that pulls the line to its end
 abbrev pub PullsBits : Form → Type 0
@@ -88,6 +91,7 @@ PullsBits (format_image table image slots payload) = ⊥
 PullsBits (record_line table image) = ⊥
 PullsBits (recover_image image) = ⊥
 PullsBits (list_image table image) = ⊥
+PullsBits (drill_image table image seed frames) = ⊥
 
 -- the commands that pull the line
 abbrev pub PullsLine : Form → Type 0
@@ -98,6 +102,7 @@ PullsLine (format_image table image slots payload) = ⊥
 PullsLine (record_line table image) = Unit {0}
 PullsLine (recover_image image) = ⊥
 PullsLine (list_image table image) = ⊥
+PullsLine (drill_image table image seed frames) = ⊥
 
 -- the commands that write to the sink
 abbrev pub WritesText : Form → Type 0
@@ -108,6 +113,7 @@ WritesText (format_image table image slots payload) = ⊥
 WritesText (record_line table image) = ⊥
 WritesText (recover_image image) = Unit {0}
 WritesText (list_image table image) = Unit {0}
+WritesText (drill_image table image seed frames) = Unit {0}
 
 -- the command that makes an image
 abbrev pub MakesImage : Form → Type 0
@@ -118,8 +124,9 @@ MakesImage (format_image table image slots payload) = Unit {0}
 MakesImage (record_line table image) = ⊥
 MakesImage (recover_image image) = ⊥
 MakesImage (list_image table image) = ⊥
+MakesImage (drill_image table image seed frames) = ⊥
 
--- the command that records in an image
+-- the commands that record in an image
 abbrev pub RecordsImage : Form → Type 0
 RecordsImage (check_table table) = ⊥
 RecordsImage (stream_line table) = ⊥
@@ -128,6 +135,7 @@ RecordsImage (format_image table image slots payload) = ⊥
 RecordsImage (record_line table image) = Unit {0}
 RecordsImage (recover_image image) = ⊥
 RecordsImage (list_image table image) = ⊥
+RecordsImage (drill_image table image seed frames) = Unit {0}
 
 -- the commands that read the header of an image
 abbrev pub ReadsImage : Form → Type 0
@@ -138,6 +146,7 @@ ReadsImage (format_image table image slots payload) = ⊥
 ReadsImage (record_line table image) = Unit {0}
 ReadsImage (recover_image image) = Unit {0}
 ReadsImage (list_image table image) = Unit {0}
+ReadsImage (drill_image table image seed frames) = Unit {0}
 
 -- the commands that read a table and the header of an image
 abbrev pub ReadsBoth : Form → Type 0
@@ -148,6 +157,7 @@ ReadsBoth (format_image table image slots payload) = ⊥
 ReadsBoth (record_line table image) = Unit {0}
 ReadsBoth (recover_image image) = ⊥
 ReadsBoth (list_image table image) = Unit {0}
+ReadsBoth (drill_image table image seed frames) = Unit {0}
 
 -- the commands that use the deck
 abbrev pub UsesDeck : Form → Type 0
@@ -158,6 +168,7 @@ UsesDeck (format_image table image slots payload) = Unit {0}
 UsesDeck (record_line table image) = Unit {0}
 UsesDeck (recover_image image) = Unit {0}
 UsesDeck (list_image table image) = Unit {0}
+UsesDeck (drill_image table image seed frames) = Unit {0}
 
 -- which command may give an answer
 abbrev pub MayAnswer : Form → Outcome → Type 0

@@ -2,6 +2,7 @@ pub mod Outcome
 pub mod Limits
 pub mod Tables
 pub mod Answers
+pub mod Refusals
 pub mod Lag
 pub mod Streaming
 pub mod Check
@@ -11,6 +12,9 @@ pub mod Format
 pub mod Recover
 pub mod Record
 pub mod List
+pub mod Drill
+pub mod Supply
 pub mod Recording
 pub mod Leaves
 pub mod Complete
+pub mod Commands

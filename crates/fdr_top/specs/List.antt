@@ -1,15 +1,17 @@
 -- What `list` promises: the listing of the bits of the recovered run of what the disk holds.
-use Rattle.std.specs.Prelude.{◌≡◌, ◌≢◌, ◌⊎◌, ◌↔◌, ◌<◌, ℕ, List, Option, Some, IsTrue, take}
+use Rattle.std.specs.Prelude.{◌≡◌, ◌⊎◌, ◌*◌, ◌≤◌, ℕ, List, [], Option, IsTrue, take, vec_len, vec_capacity}
 use Rattle.fdr_io.specs.Told.{followed_by}
 use Rattle.fdr_deck.specs.State.{State, Tells}
-use Rattle.fdr_slot.specs.declared.image.ImageFault.{ImageFault}
-use Rattle.fdr_slot.specs.declared.image.ImageFault.TheVariants as fault
-use Rattle.fdr_recover.specs.ImageHeader.{image_fault_of}
+use Rattle.fdr_slot.specs.Limits.{IsInLimits}
+use Rattle.fdr_slot.specs.Places.{image_size}
+use Rattle.fdr_recon.specs.Past.{RepresentsRebuild}
+use Rattle.fdr_recover.specs.ImageHeader.{header_in}
 use Rattle.fdr_table.specs.Rows.{TableRows}
 use Rattle.fdr_readout.specs.Listing.{listing_of}
 use Rattle.fdr_recorder.specs.Starting.{IsFor}
-use Rattle.fdr_top.specs.Answers.{IsPastTable}
+use Rattle.fdr_top.specs.Refusals.{RefusesImage}
 use Rattle.fdr_top.specs.Recover.{OnlyLooks, payloads_of, run_in}
+use Rattle.fdr_top.specs.declared.listing.ImageReader.{ImageReader}
 use Rattle.fdr_top.specs.declared.outcome.Outcome.{Outcome}
 use Rattle.fdr_top.specs.declared.outcome.Outcome.TheVariants as outcome
 
@@ -23,11 +25,25 @@ pub record ListsImage (t : TableRows) (tells : Tells) (old new : State) (written
   pub text : answer ≡ outcome.Done → IsTrue tells.bytes → written_now ≡ followed_by written_before (listing_in t old.held)
   pub part : IsTrue tells.bytes → (k : ℕ) × (written_now ≡ followed_by written_before (take k (listing_in t old.held)))
   pub good : (answer ≡ outcome.Done) ⊎ (answer ≡ outcome.WriteFault) → IsTrue tells.bytes → IsFor t.frame.words old.held
-  pub refused : (why : ImageFault) → answer ≡ outcome.ImageRefused why → IsTrue tells.bytes → image_fault_of old.held ≡ Some why
-  pub small : (why : ImageFault) → answer ≡ outcome.ImageRefused why → (why ≡ fault.Small) ↔ (new.extent < 64)
-  pub refused_always : (why : ImageFault) → IsPastTable answer → IsTrue tells.bytes → image_fault_of old.held ≡ Some why
-      → (answer ≡ outcome.ImageRefused why) ⊎ (answer ≡ outcome.DiskFault)
-  pub words : (image table : ℕ) → answer ≡ outcome.WordsDiffer image table
-      → (table ≡ t.frame.words) × (image ≢ table) × (IsTrue tells.bytes → IsFor image old.held)
-  pub words_always : (image : ℕ) → IsPastTable answer → IsTrue tells.bytes → IsFor image old.held → image ≢ t.frame.words
-      → (answer ≡ outcome.WordsDiffer image t.frame.words) ⊎ (answer ≡ outcome.DiskFault)
+  pub image : RefusesImage t tells old new answer
+
+-- An image was opened to be listed: its header was read, it is for the table's frames, and there is memory for its blocks and
+-- their listing.
+pub record IsOpened (t : TableRows) (tells : Tells) (old new : State) (r : ImageReader) : Type 0 where
+  pub limits : IsInLimits r.header
+  pub whole : image_size r.header ≤ new.extent
+  pub header : IsTrue tells.bytes → r.header ≡ header_in old.held
+  pub image : IsTrue tells.bytes → IsFor t.frame.words old.held
+  pub memory : vec_len r.work.words ≡ 4 * t.frame.words
+  pub fresh : RepresentsRebuild r.work.rebuild t []
+  pub unwritten : r.work.buffer ≡ []
+  pub room : r.header.slots * r.header.payload ≤ vec_capacity r.bytes
+  pub empty : r.bytes.items ≡ []
+
+-- the answers where no image is opened
+abbrev pub KeepsShut : Outcome → Type 0
+KeepsShut (outcome.ImageRefused why) = Unit {0}
+KeepsShut (outcome.WordsDiffer image table) = Unit {0}
+KeepsShut outcome.DiskFault = Unit {0}
+KeepsShut outcome.NoMemory = Unit {0}
+KeepsShut answer = ⊥

@@ -1,5 +1,5 @@
 -- What `record` promises: the blocks of a trace in an image, at every moment and in the end.
-use Rattle.std.specs.Prelude.{◌≡◌, ◌≢◌, ◌⊎◌, ◌↔◌, ◌<◌, ◌≤◌, ℕ, ◌+◌, ◌-◌, ◌^◌, true, List, [], ◌++◌, length, take, Some, IsTrue}
+use Rattle.std.specs.Prelude.{◌≡◌, ◌≢◌, ◌⊎◌, ◌<◌, ◌≤◌, ℕ, ◌+◌, ◌-◌, ◌^◌, max, true, List, [], ◌++◌, length, take, Some, IsTrue}
 use Rattle.fdr_io.specs.declared.Input.TheVariants as input
 use Rattle.fdr_bus.specs.declared.BusRecord.{BusRecord}
 use Rattle.fdr_bus.specs.declared.TraceFault.{TraceFault}
@@ -9,11 +9,9 @@ use Rattle.fdr_deck.specs.State.{Moment, State, Tells}
 use Rattle.fdr_deck.specs.Disk.{IsSettled}
 use Rattle.fdr_deck.specs.Moments.{Elapses, EachMoment}
 use Rattle.fdr_slot.specs.declared.image.Header.{Header}
-use Rattle.fdr_slot.specs.declared.image.ImageFault.{ImageFault}
-use Rattle.fdr_slot.specs.declared.image.ImageFault.TheVariants as fault
 use Rattle.fdr_recover.specs.Blocks.{Block}
 use Rattle.fdr_recover.specs.Images.{next_of, recovered_run}
-use Rattle.fdr_recover.specs.ImageHeader.{image_fault_of, header_in}
+use Rattle.fdr_recover.specs.ImageHeader.{header_in}
 use Rattle.fdr_ring.specs.Runs.{IsTail, last_blocks}
 use Rattle.fdr_table.specs.Rows.{TableRows}
 use Rattle.fdr_trace.specs.Pulls.{PullsMore}
@@ -25,6 +23,7 @@ use Rattle.fdr_recorder.specs.Starting.{IsFor}
 use Rattle.fdr_recorder.specs.declared.error.SessionFault.{SessionFault}
 use Rattle.fdr_recorder.specs.declared.error.SessionFault.TheVariants as session
 use Rattle.fdr_top.specs.Answers.{IsPastTable}
+use Rattle.fdr_top.specs.Refusals.{RefusesImage}
 use Rattle.fdr_top.specs.Lag.{IsLagMoment}
 use Rattle.fdr_readout.specs.Listing.{listing_of}
 use Rattle.fdr_readout.specs.SampledRows.{sampled_listing}
@@ -45,11 +44,11 @@ session_refusal session.NoMemory = outcome.NoMemory
 abbrev pub next_in : List ℕ → ℕ
 next_in image = next_of (header_in image) image
 
--- The blocks that a recording of these bytes adds to an image: those of the stream of their good records, with numbers that
--- go on from the image's next.
-abbrev pub new_blocks : TableRows → List ℕ → List ℕ → List Block
-new_blocks t image bytes =
-    all_blocks (record { table = t; header = header_in image; first = next_in image; records = good_prefix bytes })
+-- The blocks that a recording of these records adds to an image: those of their stream, with numbers that go on from the
+-- image's next.
+abbrev pub new_blocks : TableRows → List ℕ → List BusRecord → List Block
+new_blocks t image records =
+    all_blocks (record { table = t; header = header_in image; first = next_in image; records = records })
 
 -- the number that is announced once all blocks stand that are due at these records
 abbrev pub owed : TableRows → Header → ℕ → List BusRecord → ℕ
@@ -59,15 +58,13 @@ owed t h first records = first + due_blocks t h.payload records
 abbrev pub MayRecord : State → Type 0
 MayRecord d = IsReady (next_in d.held) d
 
--- a moment of a recording, up to which these bytes were pulled or some of them
-pub record IsRecordMoment (t : TableRows) (entry : State) (pulled : List ℕ) (m : Moment) : Type 0 where
+-- a moment of a recording of these records
+pub record IsBlockMoment (t : TableRows) (entry : State) (records : List BusRecord) (m : Moment) : Type 0 where
   -- A stop leaves the blocks at entry and the first of the new ones, but for the oldest; all that were announced are among
   -- them, or older than those that are promised.
-  pub keeps : Keeps (header_in entry.held) entry.held (run_in entry.held) (new_blocks t entry.held pulled) m.told m.image
+  pub keeps : Keeps (header_in entry.held) entry.held (run_in entry.held) (new_blocks t entry.held records) m.told m.image
   -- At most one recorded block isn't announced.
   pub close : IsClose (header_in entry.held) (next_in entry.held) m
-  -- What is owed for the records before the last pull is announced.
-  pub in_time : IsLagMoment (owed t (header_in entry.held) (next_in entry.held)) entry pulled m
 
 -- These blocks stand after the run at entry, and are announced.
 pub record AreRecorded (tells : Tells) (blocks : List Block) (old new : State) : Type 0 where
@@ -78,12 +75,35 @@ pub record AreRecorded (tells : Tells) (blocks : List Block) (old new : State) :
   pub told : new.told ≡ next_in old.held + length blocks
   pub settled : IsTrue tells.stops → IsSettled new
 
--- the answers after which all of a trace is recorded that could be read of it
+-- the answers that tell how the reading of a trace ended
+abbrev pub EndsReading : Outcome → Type 0
+EndsReading outcome.Done = Unit {0}
+EndsReading (outcome.TraceRefused index why) = Unit {0}
+EndsReading (outcome.ReadFault input.Line) = Unit {0}
+EndsReading answer = ⊥
+
+-- the answers after which all of a trace is recorded that there was to record; a drill's line alone can fail to be written
 abbrev pub RecordsAll : Outcome → Type 0
 RecordsAll outcome.Done = Unit {0}
 RecordsAll (outcome.TraceRefused index why) = Unit {0}
 RecordsAll (outcome.ReadFault input.Line) = Unit {0}
+RecordsAll outcome.WriteFault = Unit {0}
 RecordsAll answer = ⊥
+
+-- the answers that cut a recording short
+abbrev pub CutsShort : Outcome → Type 0
+CutsShort outcome.DiskFault = Unit {0}
+CutsShort outcome.SeqEnd = Unit {0}
+CutsShort answer = ⊥
+
+-- the answers where a session is refused
+abbrev pub RefusesSession : Outcome → Type 0
+RefusesSession (outcome.ImageRefused why) = Unit {0}
+RefusesSession (outcome.WordsDiffer image table) = Unit {0}
+RefusesSession outcome.DiskFault = Unit {0}
+RefusesSession outcome.SeqEnd = Unit {0}
+RefusesSession outcome.NoMemory = Unit {0}
+RefusesSession answer = ⊥
 
 -- how a trace ended, of which these bytes were pulled, by the answer
 pub record EndsTrace (tells : Tells) (old new : State) (pulled : List ℕ) (answer : Outcome) : Type 0 where
@@ -92,47 +112,54 @@ pub record EndsTrace (tells : Tells) (old new : State) (pulled : List ℕ) (answ
       → trace_fault pulled ≡ Some (index, why)
   pub truncated : (index : ℕ) → answer ≡ outcome.TraceRefused index trace.Truncated → IsTrue tells.line → new.line ≡ []
   pub undecided : answer ≡ outcome.ReadFault input.Line → IsDecided pulled → ⊥
-  pub quiet : RecordsAll answer → answer ≢ outcome.ReadFault input.Line → new.line_faults ≡ old.line_faults
+  pub quiet : EndsReading answer → answer ≢ outcome.ReadFault input.Line → new.line_faults ≡ old.line_faults
 
--- The trace was recorded: what was pulled, what a stop leaves at each moment, what stands in the end, and which refusal is
+-- Blocks of these records were recorded: what a stop leaves at each moment, what stands in the end, and which refusal is
 -- answered.
-pub record RecordsBlocks (t : TableRows) (tells : Tells) (old new : State) (answer : Outcome) : Type 0 where
-  pub pulled : List ℕ
-  pub pulls : PullsMore tells old new [] pulled
+pub record RecordsBlocks (t : TableRows) (tells : Tells) (records : List BusRecord) (old new : State) (answer : Outcome)
+    : Type 0 where
   pub time : Elapses tells old new
-  pub moments : MayRecord old → EachMoment tells old new (IsRecordMoment t old pulled)
+  pub moments : MayRecord old → EachMoment tells old new (IsBlockMoment t old records)
   -- So many recordings one after another wear nothing away: the run at entry may be the last blocks of any list.
   pub chain : (whole : List Block) → IsTail ((header_in old.held).slots - 2) whole (run_in old.held) → MayRecord old
-      → EachMoment tells old new (λ (m : Moment). KeepsBehind (header_in old.held) whole (new_blocks t old.held pulled) m.image)
-  pub recorded : RecordsAll answer → IsTrue tells.bytes → AreRecorded tells (new_blocks t old.held pulled) old new
-  pub within : RecordsAll answer → IsTrue tells.bytes → next_in old.held + length (new_blocks t old.held pulled) ≤ 2 ^ 48
+      → EachMoment tells old new (λ (m : Moment). KeepsBehind (header_in old.held) whole (new_blocks t old.held records) m.image)
+  pub recorded : RecordsAll answer → IsTrue tells.bytes → AreRecorded tells (new_blocks t old.held records) old new
+  pub within : RecordsAll answer → IsTrue tells.bytes → next_in old.held + length (new_blocks t old.held records) ≤ 2 ^ 48
+  -- A further recording may follow at once, and at most one recorded block isn't announced by what may stand announced now.
+  pub ready : RecordsAll answer → IsTrue tells.stops → MayRecord old → MayRecord new
+  pub near : RecordsAll answer → IsTrue tells.bytes → MayRecord old
+      → next_in old.held + length (new_blocks t old.held records) ≤ max (next_in old.held) new.least + 1
   pub seq_end : answer ≡ outcome.SeqEnd → IsTrue tells.bytes
-      → AreRecorded tells (take (2 ^ 48 - next_in old.held) (new_blocks t old.held pulled)) old new
+      → AreRecorded tells (take (2 ^ 48 - next_in old.held) (new_blocks t old.held records)) old new
   pub beyond : answer ≡ outcome.SeqEnd → IsTrue tells.bytes
-      → 2 ^ 48 < next_in old.held + length (new_blocks t old.held pulled)
-  pub trace : EndsTrace tells old new pulled answer
+      → 2 ^ 48 < next_in old.held + length (new_blocks t old.held records)
   pub good : RecordsAll answer ⊎ (answer ≡ outcome.SeqEnd) → IsTrue tells.bytes → IsFor t.frame.words old.held
-  pub refused : (why : ImageFault) → answer ≡ outcome.ImageRefused why → IsTrue tells.bytes → image_fault_of old.held ≡ Some why
-  pub small : (why : ImageFault) → answer ≡ outcome.ImageRefused why → (why ≡ fault.Small) ↔ (new.extent < 64)
-  pub refused_always : (why : ImageFault) → IsPastTable answer → IsTrue tells.bytes → image_fault_of old.held ≡ Some why
-      → (answer ≡ outcome.ImageRefused why) ⊎ (answer ≡ outcome.DiskFault)
-  pub words : (image table : ℕ) → answer ≡ outcome.WordsDiffer image table
-      → (table ≡ t.frame.words) × (image ≢ table) × (IsTrue tells.bytes → IsFor image old.held)
-  pub words_always : (image : ℕ) → IsPastTable answer → IsTrue tells.bytes → IsFor image old.held → image ≢ t.frame.words
-      → (answer ≡ outcome.WordsDiffer image t.frame.words) ⊎ (answer ≡ outcome.DiskFault)
+  pub image : RefusesImage t tells old new answer
+
+-- Frames of a recording of these records that survive in any bits at all are listed from them.
+abbrev pub ListsSurvivors : TableRows → List BusRecord → Type 0
+ListsSurvivors t records = (b : List ℕ) (q j m : ℕ) → Survives t records b q j m → AreListed t records b q j m
+
+-- A recording of these records on an empty ring that has room for it lists as what was sampled.
+abbrev pub ListsUndamaged : TableRows → Tells → List BusRecord → State → State → Type 0
+ListsUndamaged t tells records old new = IsTrue tells.bytes → run_in old.held ≡ []
+    → length (new_blocks t old.held records) ≤ (header_in old.held).slots - 1
+    → listing_of t (payloads_of (run_in new.held)) ≡ sampled_listing t records
+
+-- All that `record` promises of a table: the recording of the trace of which these bytes were pulled, how the trace ended, and
+-- that what was recorded can be read back.
+pub record RecordsLine (t : TableRows) (tells : Tells) (old new : State) (answer : Outcome) : Type 0 where
+  pub pulled : List ℕ
+  pub pulls : PullsMore tells old new [] pulled
+  pub blocks : RecordsBlocks t tells (good_prefix pulled) old new answer
+  -- What is owed for the records before the last pull is announced.
+  pub in_time : MayRecord old
+      → EachMoment tells old new (IsLagMoment (owed t (header_in old.held) (next_in old.held)) old pulled)
+  pub trace : EndsTrace tells old new pulled answer
   -- What was told of the line decides how a recording of all of it ends.
   pub whole : answer ≡ outcome.Done → IsTrue tells.line → good_prefix pulled ≡ good_prefix old.line
-  pub trace_always : (index : ℕ) (why : TraceFault) → RecordsAll answer → IsTrue tells.line
+  pub trace_always : (index : ℕ) (why : TraceFault) → EndsReading answer → IsTrue tells.line
       → trace_fault old.line ≡ Some (index, why)
       → (answer ≡ outcome.TraceRefused index why) ⊎ (answer ≡ outcome.ReadFault input.Line)
-
--- All that `record` promises of a table: what it records, and that it can be read back.
-pub record RecordsLine (t : TableRows) (tells : Tells) (old new : State) (answer : Outcome) : Type 0 where
-  pub blocks : RecordsBlocks t tells old new answer
-  -- Frames of this recording that survive in any bits at all are listed from them.
-  pub survives : IsPastTable answer → (b : List ℕ) (q j m : ℕ) → Survives t (good_prefix blocks.pulled) b q j m
-      → AreListed t (good_prefix blocks.pulled) b q j m
-  -- A recording on an empty ring that has room for it lists as what was sampled.
-  pub undamaged : RecordsAll answer → IsTrue tells.bytes → run_in old.held ≡ []
-      → length (new_blocks t old.held blocks.pulled) ≤ (header_in old.held).slots - 1
-      → listing_of t (payloads_of (run_in new.held)) ≡ sampled_listing t (good_prefix blocks.pulled)
+  pub survives : IsPastTable answer → ListsSurvivors t (good_prefix pulled)
+  pub undamaged : RecordsAll answer → ListsUndamaged t tells (good_prefix pulled) old new

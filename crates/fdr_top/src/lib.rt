@@ -5,6 +5,7 @@
 #![tactic(auto)]
 
 mod checking;
+mod drilling;
 mod formatting;
 mod list_bits;
 mod listing;
@@ -15,6 +16,7 @@ mod reading;
 mod recording;
 mod recovering;
 mod streaming;
+mod supply;
 mod top;
 
 pub use outcome::Outcome;

@@ -1,6 +1,6 @@
 //! The listing of the bits of the blocks that an image holds.
 
-ghost use Rattle.std.specs.Prelude.{◌≡◌, ◌≢◌, ◌⊎◌, ◌+◌, ◌*◌, ◌<◌, ◌≤◌, ◌^◌, ℕ, List, [], ◌++◌, length, take, vec_len, vec_capacity, OnOk, OnErr, IsTrue};
+ghost use Rattle.std.specs.Prelude.{◌≡◌, ◌≢◌, ◌⊎◌, ◌+◌, ◌*◌, ◌<◌, ◌≤◌, ◌^◌, ℕ, List, [], ◌++◌, length, take, vec_len, vec_capacity, OnOk, OnErr, IfOk, IfErr, IsTrue};
 ghost use Rattle.fdr_io.specs.Faults.{Rose};
 ghost use Rattle.fdr_io.specs.Told.{followed_by};
 ghost use Rattle.fdr_frame.specs.WordCount.{IsWordCount};
@@ -17,8 +17,9 @@ ghost use Rattle.fdr_top.specs.Answers.{EndsBeforeDeck, IsOwn, MayAnswer, Writes
 ghost use Rattle.fdr_top.specs.Complete.{IsFaultless, IsWholeInput};
 ghost use Rattle.fdr_top.specs.Leaves.{Causes, LeavesAll, LeavesUnused};
 ghost use Rattle.fdr_top.specs.Limits.{TakesAtMost, piece_bytes};
-ghost use Rattle.fdr_top.specs.List.{ListsImage};
-ghost use Rattle.fdr_top.specs.Recover.{payloads_of};
+ghost use Rattle.fdr_top.specs.List.{IsOpened, KeepsShut, ListsImage};
+ghost use Rattle.fdr_top.specs.Recover.{OnlyLooks, payloads_of};
+ghost use Rattle.fdr_top.specs.Refusals.{RefusesImage};
 ghost use Rattle.fdr_top.specs.Tables.{ByTable, ReadsItsTable};
 
 use crate::load::load_table;
@@ -80,7 +81,7 @@ fn add_block<D: Deck>(
 }
 
 /// Puts the payloads of the recovered run, one after another, into bytes that have room for all of them.
-fn read_run<D: Deck>(deck: &mut D, h: &Header, bytes: &mut Vec<u8>) -> Result<(), Failed>
+pub fn read_run<D: Deck>(deck: &mut D, h: &Header, bytes: &mut Vec<u8>) -> Result<(), Failed>
     requires limits { IsInLimits h.now }
     requires whole { image_size h.now ≤ (D.state deck.old).extent }
     requires room { h.now.slots * h.now.payload ≤ vec_capacity bytes.old }
@@ -99,49 +100,98 @@ fn read_run<D: Deck>(deck: &mut D, h: &Header, bytes: &mut Vec<u8>) -> Result<()
     Ok(())
 }
 
-/// Reads the blocks that the deck's image holds, and lists their bits.
-fn list_blocks<D: Deck, O: Sink>(
-    work: &mut Readout,
+/// The words in a subframe by a table.
+fn words_of(sound: &Sound) -> u32
+    ensures { result ≡ sound.now.frame.words }
+{
+    sound.table().frame().words
+}
+
+/// The header of an image, and the memory for its blocks and for their listing.
+#[derive(Drop)]
+pub struct ImageReader {
+    pub work: Readout,
+    pub header: Header,
+    pub bytes: Vec<u8>,
+}
+
+/// Reads the header of the deck's image, which has to be for the table's frames, and takes all memory for its listing.
+pub fn open_image<D: Deck>(
+    alloc: Global,
     sound: &Sound,
-    h: &Header,
-    mut bytes: Vec<u8>,
+    deck: &mut D,
+) -> Result<ImageReader, Outcome>
+    requires { IsWordCount sound.now.frame.words }
+    ensures opened { IfOk result (IsOpened sound.now D.tells (D.state deck.old) (D.state deck.new)) }
+    ensures refused { IfErr result (RefusesImage sound.now D.tells (D.state deck.old) (D.state deck.new)) }
+    ensures shut { IfErr result KeepsShut }
+    ensures looks { OnlyLooks D.tells (D.state deck.old) (D.state deck.new) }
+    ensures disk_fault { IfErr result (λ answer. answer ≡ Outcome.DiskFault
+        → Rose (D.state deck.old).disk_faults (D.state deck.new).disk_faults) }
+{
+    let header = match read_image_header(deck) {
+        Ok(header) => header,
+        Err(fault) => return Err(refusal(fault)),
+    };
+    let words = words_of(sound);
+    if header.words != words {
+        return Err(Outcome::WordsDiffer {
+            image: header.words,
+            table: words,
+        });
+    }
+    let Ok(work) = Readout::new(alloc, sound) else {
+        return Err(Outcome::NoMemory);
+    };
+    let Ok(bytes) = Vec::with_capacity(alloc, most_bytes(&header)) else {
+        return Err(Outcome::NoMemory);
+    };
+    Ok(ImageReader {
+        work,
+        header,
+        bytes,
+    })
+}
+
+/// Reads the blocks that an opened image holds, and lists their bits.
+fn list_blocks<D: Deck, O: Sink>(
+    reader: ImageReader,
+    sound: &Sound,
     deck: &mut D,
     out: &mut O,
 ) -> Outcome
     requires word_count { IsWordCount sound.now.frame.words }
-    requires memory { vec_len work.old.words ≡ 4 * sound.now.frame.words }
-    requires fresh { RepresentsRebuild work.old.rebuild sound.now [] }
-    requires unwritten { work.old.buffer ≡ [] }
-    requires limits { IsInLimits h.now }
-    requires whole { image_size h.now ≤ (D.state deck.old).extent }
-    requires room { h.now.slots * h.now.payload ≤ vec_capacity bytes }
-    requires empty { bytes.items ≡ [] }
+    requires memory { vec_len reader.work.words ≡ 4 * sound.now.frame.words }
+    requires fresh { RepresentsRebuild reader.work.rebuild sound.now [] }
+    requires unwritten { reader.work.buffer ≡ [] }
+    requires limits { IsInLimits reader.header }
+    requires whole { image_size reader.header ≤ (D.state deck.old).extent }
+    requires room { reader.header.slots * reader.header.payload ≤ vec_capacity reader.bytes }
+    requires empty { reader.bytes.items ≡ [] }
     ensures answer { (result ≡ Outcome.Done) ⊎ ((result ≡ Outcome.WriteFault) ⊎ (result ≡ Outcome.DiskFault)) }
     ensures text { result ≡ Outcome.Done → IsTrue D.tells.bytes → O.written out.new
-        ≡ followed_by (O.written out.old) (listing_of sound.now (payloads_of (recovered_run h.now (D.state deck.old).held))) }
+        ≡ followed_by (O.written out.old) (listing_of sound.now (payloads_of (recovered_run reader.header (D.state deck.old).held))) }
     ensures part { IsTrue D.tells.bytes → (k : ℕ) × (O.written out.new ≡ followed_by (O.written out.old)
-        (take k (listing_of sound.now (payloads_of (recovered_run h.now (D.state deck.old).held))))) }
+        (take k (listing_of sound.now (payloads_of (recovered_run reader.header (D.state deck.old).held))))) }
     ensures looks { Looks D.tells (D.state deck.old) (D.state deck.new) }
     ensures unread { result ≡ Outcome.DiskFault → out.new ≡ out.old }
     ensures disk_fault { result ≡ Outcome.DiskFault
         → Rose (D.state deck.old).disk_faults (D.state deck.new).disk_faults }
     ensures write_fault { result ≡ Outcome.WriteFault → Rose (O.faults out.old) (O.faults out.new) }
 {
-    match read_run(deck, h, &mut bytes) {
+    let ImageReader {
+        mut work,
+        header,
+        mut bytes,
+    } = reader;
+    match read_run(deck, &header, &mut bytes) {
         Ok(()) => {}
         Err(Failed) => return Outcome::DiskFault,
     }
-    match write_listing(work, sound, &bytes, out) {
+    match write_listing(&mut work, sound, &bytes, out) {
         Ok(()) => Outcome::Done,
         Err(Failed) => Outcome::WriteFault,
     }
-}
-
-/// The words in a subframe by a table.
-fn words_of(sound: &Sound) -> u32
-    ensures { result ≡ sound.now.frame.words }
-{
-    sound.table().frame().words
 }
 
 /// Lists the bits of the blocks that the deck's image holds by a table. All memory is taken before a block is read.
@@ -155,24 +205,10 @@ fn list_image<D: Deck, O: Sink>(alloc: Global, sound: &Sound, deck: &mut D, out:
     ensures write_fault { result ≡ Outcome.WriteFault → Rose (O.faults out.old) (O.faults out.new) }
     ensures unwritten { result ≢ Outcome.Done → result ≢ Outcome.WriteFault → out.new ≡ out.old }
 {
-    let header = match read_image_header(deck) {
-        Ok(header) => header,
-        Err(fault) => return refusal(fault),
-    };
-    let words = words_of(sound);
-    if header.words != words {
-        return Outcome::WordsDiffer {
-            image: header.words,
-            table: words,
-        };
+    match open_image(alloc, sound, deck) {
+        Ok(reader) => list_blocks(reader, sound, deck, out),
+        Err(answer) => answer,
     }
-    let Ok(mut work) = Readout::new(alloc, sound) else {
-        return Outcome::NoMemory;
-    };
-    let Ok(bytes) = Vec::with_capacity(alloc, most_bytes(&header)) else {
-        return Outcome::NoMemory;
-    };
-    list_blocks(&mut work, sound, &header, bytes, deck, out)
 }
 
 /// `list`: reads a table, and lists the bits of the blocks that the deck's image holds.

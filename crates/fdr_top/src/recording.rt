@@ -1,6 +1,6 @@
 //! Recording the trace of a deck's line in the image on its disk.
 
-ghost use Rattle.std.specs.Prelude.{◌≡◌, ◌≢◌, ◌⊎◌, ◌+◌, ◌≤◌, ℕ, List, [], Option, IfOk, IfErr, IsTrue};
+ghost use Rattle.std.specs.Prelude.{◌≡◌, ◌⊎◌, ◌+◌, ◌≤◌, ℕ, List, [], Option, IfOk, IfErr, IsTrue};
 ghost use Rattle.fdr_io.specs.Faults.{Rose};
 ghost use Rattle.fdr_deck.specs.Disk.{KeepsDisk, LearnsExtent};
 ghost use Rattle.fdr_recorder.specs.Past.{SessionPast};
@@ -11,13 +11,14 @@ ghost use Rattle.fdr_top.specs.Answers.{EndsBeforeDeck, IsOwn, KeepsLineAndFault
 ghost use Rattle.fdr_top.specs.Complete.{IsFaultless, IsWholeInput};
 ghost use Rattle.fdr_top.specs.Leaves.{Causes, LeavesAll, LeavesUnused};
 ghost use Rattle.fdr_top.specs.Limits.{TakesAtMost, piece_bytes};
-ghost use Rattle.fdr_top.specs.Record.{RecordsBlocks, RecordsLine, session_refusal};
-ghost use Rattle.fdr_top.specs.Recording.{Continues, HasFedAll, IsBegun};
+ghost use Rattle.fdr_top.specs.Record.{CutsShort, EndsReading, RecordsLine, RefusesSession, next_in, session_refusal};
+ghost use Rattle.fdr_top.specs.Recording.{Continues, HasFedAll, IsBegun, RecordsSupply};
+ghost use Rattle.fdr_top.specs.Supply.{RecordSupply, IsGenerator, RepresentsSupply, line_trace};
 ghost use Rattle.fdr_top.specs.Tables.{ByTable, ReadsItsTable};
 
 use crate::load::load_table;
 use crate::outcome::Outcome;
-use crate::streaming::answer_of_stop;
+use crate::supply::RecordSource;
 use fdr_bus::RecordKind;
 use fdr_check::Sound;
 use fdr_deck::Deck;
@@ -26,11 +27,25 @@ use fdr_recorder::{Session, SessionFault};
 use fdr_trace::TraceLine;
 use std::alloc::Global;
 
-/// A session that was fed all records of a trace that could be read, and the answer to how the trace ended.
+/// A session that was fed all records of a source, and the answer to how the source ended.
 #[derive(Drop)]
 struct Fed {
     session: Session,
     answer: Outcome,
+}
+
+/// A recording that was closed: the answer to how its source ended, and the image's next number.
+#[derive(Drop)]
+struct Closed {
+    answer: Outcome,
+    next: u64,
+}
+
+/// A recording of all that a source gives: the answer to how the source ended, and how many blocks were recorded.
+#[derive(Drop)]
+pub struct Recorded {
+    pub answer: Outcome,
+    pub blocks: u64,
 }
 
 /// The answer where a session is refused.
@@ -46,35 +61,30 @@ fn refusal(fault: SessionFault) -> Outcome
     }
 }
 
-/// Records the records of a trace up to its end, or to where no further one comes.
+/// Records the records of a source up to their end, or to where no further one comes.
 fn record_records<D: Deck>(
     mut session: Session,
-    trace: &mut TraceLine,
+    source: &mut RecordSource,
     deck: &mut D,
 ) -> Result<Fed, Outcome>
-    requires { (past : SessionPast) × IsBegun D.tells session trace.old past (D.state deck.old) }
-    ensures fed { (past : SessionPast) → IsBegun D.tells session trace.old past (D.state deck.old) → IfOk result (λ f.
-        HasFedAll D.tells past f.session (D.state deck.old) (D.state deck.new) f.answer) }
-    ensures ended { (past : SessionPast) → IsBegun D.tells session trace.old past (D.state deck.old) → IfErr result
-        (Continues D.tells past (D.state deck.old) (D.state deck.new)) }
-    ensures answer { (path image : List ℕ) → IfErr result (IsOwn (record_line path image)) }
-    ensures begun { IfErr result (λ answer. WritesNothing answer → ⊥) }
+    requires { (from : RecordSupply) × (past : SessionPast) × IsBegun D.tells from session source.old past (D.state deck.old) }
+    ensures fed { (from : RecordSupply) (past : SessionPast) → IsBegun D.tells from session source.old past (D.state deck.old)
+        → IfOk result (λ f. HasFedAll from D.tells past f.session (D.state deck.old) (D.state deck.new) f.answer) }
+    ensures ended { (from : RecordSupply) (past : SessionPast) → IsBegun D.tells from session source.old past (D.state deck.old)
+        → IfErr result (Continues from D.tells past (D.state deck.old) (D.state deck.new)) }
+    ensures only { IfErr result CutsShort }
     ensures line_fault { IfOk result (λ f. f.answer ≡ Outcome.ReadFault Input.Line
         → Rose (D.state deck.old).line_faults (D.state deck.new).line_faults) }
-    ensures not_line { IfErr result (λ answer. answer ≢ Outcome.ReadFault Input.Line) }
     ensures disk_fault { IfErr result (λ answer. answer ≡ Outcome.DiskFault
         → Rose (D.state deck.old).disk_faults (D.state deck.new).disk_faults) }
     ensures disk_quiet { IfOk result (λ f. (D.state deck.new).disk_faults ≡ (D.state deck.old).disk_faults) }
-    ensures line_monotone { (D.state deck.old).line_faults ≤ (D.state deck.new).line_faults }
+    ensures unpulled { IsGenerator source.old → KeepsLineAndFaults (D.state deck.old) (D.state deck.new) }
     ensures extent { (D.state deck.new).extent ≡ (D.state deck.old).extent }
 {
     loop {
-        let next = match trace.next(deck) {
+        let next = match source.next(deck) {
             Ok(next) => next,
-            Err(stop) => {
-                let answer = answer_of_stop(stop);
-                return Ok(Fed { session, answer });
-            }
+            Err(answer) => return Ok(Fed { session, answer }),
         };
         session = match session.feed(deck, &next) {
             Ok(session) => session,
@@ -90,32 +100,80 @@ fn record_records<D: Deck>(
     }
 }
 
-/// Records the trace of the deck's line in a session that was just started, and gives the answer.
-fn record_trace<D: Deck>(session: Session, trace: &mut TraceLine, deck: &mut D) -> Outcome
-    requires { (past : SessionPast) × IsBegun D.tells session trace.old past (D.state deck.old) }
-    ensures continues { (past : SessionPast) → IsBegun D.tells session trace.old past (D.state deck.old)
-        → Continues D.tells past (D.state deck.old) (D.state deck.new) result }
-    ensures answer { (path image : List ℕ) → IsOwn (record_line path image) result }
-    ensures begun { WritesNothing result → ⊥ }
-    ensures line_fault { result ≡ Outcome.ReadFault Input.Line
-        → Rose (D.state deck.old).line_faults (D.state deck.new).line_faults }
-    ensures disk_fault { result ≡ Outcome.DiskFault
-        → Rose (D.state deck.old).disk_faults (D.state deck.new).disk_faults }
+/// Records all that a source gives in a session that was just started.
+fn record_all<D: Deck>(
+    session: Session,
+    source: &mut RecordSource,
+    deck: &mut D,
+) -> Result<Closed, Outcome>
+    requires { (from : RecordSupply) × (past : SessionPast) × IsBegun D.tells from session source.old past (D.state deck.old) }
+    ensures closed { (from : RecordSupply) (past : SessionPast) → IsBegun D.tells from session source.old past (D.state deck.old)
+        → IfOk result (λ r. Continues from D.tells past (D.state deck.old) (D.state deck.new) r.answer) }
+    ensures ended { (from : RecordSupply) (past : SessionPast) → IsBegun D.tells from session source.old past (D.state deck.old)
+        → IfErr result (Continues from D.tells past (D.state deck.old) (D.state deck.new)) }
+    ensures next { IfOk result (λ r. r.next ≡ (D.state deck.new).told) }
+    ensures later { IfOk result (λ r. session.ring.next ≤ r.next) }
+    ensures all { IfOk result (λ r. EndsReading r.answer) }
+    ensures only { IfErr result CutsShort }
+    ensures line_fault { IfOk result (λ r. r.answer ≡ Outcome.ReadFault Input.Line
+        → Rose (D.state deck.old).line_faults (D.state deck.new).line_faults) }
+    ensures disk_fault { IfErr result (λ answer. answer ≡ Outcome.DiskFault
+        → Rose (D.state deck.old).disk_faults (D.state deck.new).disk_faults) }
+    ensures disk_quiet { IfOk result (λ r. (D.state deck.new).disk_faults ≡ (D.state deck.old).disk_faults) }
+    ensures unpulled { IsGenerator source.old → KeepsLineAndFaults (D.state deck.old) (D.state deck.new) }
     ensures extent { (D.state deck.new).extent ≡ (D.state deck.old).extent }
 {
-    let fed = match record_records(session, trace, deck) {
-        Ok(fed) => fed,
-        Err(answer) => return answer,
-    };
+    let fed = record_records(session, source, deck)?;
+    let answer = fed.answer;
     match fed.session.close(deck) {
-        Ok(_) => fed.answer,
-        Err(fault) => refusal(fault),
+        Ok(next) => Ok(Closed { answer, next }),
+        Err(fault) => Err(refusal(fault)),
     }
+}
+
+/// Records all that a source gives in the image on the deck's disk, by a table. The rest of the memory is taken before the
+/// disk is written.
+pub fn record_source<D: Deck>(
+    alloc: Global,
+    sound: &Sound,
+    source: &mut RecordSource,
+    deck: &mut D,
+) -> Result<Recorded, Outcome>
+    requires { (from : RecordSupply) × RepresentsSupply from source.old [] [] }
+    ensures recorded { (from : RecordSupply) → RepresentsSupply from source.old [] []
+        → IfOk result (λ r. RecordsSupply from sound.now D.tells (D.state deck.old) (D.state deck.new) r.answer) }
+    ensures ended { (from : RecordSupply) → RepresentsSupply from source.old [] []
+        → IfErr result (RecordsSupply from sound.now D.tells (D.state deck.old) (D.state deck.new)) }
+    ensures blocks { IfOk result (λ r. IsTrue D.tells.bytes → next_in (D.state deck.old).held + r.blocks ≡ (D.state deck.new).told) }
+    ensures all { IfOk result (λ r. EndsReading r.answer) }
+    ensures refused { IfErr result RefusesSession }
+    ensures untouched { IfErr result (λ answer. WritesNothing answer → KeepsDisk (D.state deck.old) (D.state deck.new)) }
+    ensures told { IfErr result (λ answer. WritesNothing answer → (D.state deck.new).told ≡ (D.state deck.old).told) }
+    ensures line { IfErr result (λ answer. WritesNothing answer
+        → KeepsLineAndFaults (D.state deck.old) (D.state deck.new)) }
+    ensures unpulled { IsGenerator source.old → KeepsLineAndFaults (D.state deck.old) (D.state deck.new) }
+    ensures learns { LearnsExtent D.tells (D.state deck.old) (D.state deck.new) }
+    ensures line_fault { IfOk result (λ r. r.answer ≡ Outcome.ReadFault Input.Line
+        → Rose (D.state deck.old).line_faults (D.state deck.new).line_faults) }
+    ensures disk_fault { IfErr result (λ answer. answer ≡ Outcome.DiskFault
+        → Rose (D.state deck.old).disk_faults (D.state deck.new).disk_faults) }
+    ensures disk_quiet { IfOk result (λ r. (D.state deck.new).disk_faults ≡ (D.state deck.old).disk_faults) }
+{
+    let session = match Session::start(alloc, sound, deck) {
+        Ok(session) => session,
+        Err(fault) => return Err(refusal(fault)),
+    };
+    let first = session.next();
+    let closed = record_all(session, source, deck)?;
+    Ok(Recorded {
+        answer: closed.answer,
+        blocks: closed.next - first,
+    })
 }
 
 /// Records the trace of the deck's line by a table. All memory is taken before the disk is written.
 fn record_line<D: Deck>(alloc: Global, sound: &Sound, deck: &mut D) -> Outcome
-    ensures records { RecordsBlocks sound.now D.tells (D.state deck.old) (D.state deck.new) result }
+    ensures records { RecordsSupply line_trace sound.now D.tells (D.state deck.old) (D.state deck.new) result }
     ensures answer { (path image : List ℕ) → (result ≡ Outcome.NoMemory) ⊎ IsOwn (record_line path image) result }
     ensures untouched { WritesNothing result → KeepsDisk (D.state deck.old) (D.state deck.new) }
     ensures told { WritesNothing result → (D.state deck.new).told ≡ (D.state deck.old).told }
@@ -126,12 +184,13 @@ fn record_line<D: Deck>(alloc: Global, sound: &Sound, deck: &mut D) -> Outcome
     ensures disk_fault { result ≡ Outcome.DiskFault
         → Rose (D.state deck.old).disk_faults (D.state deck.new).disk_faults }
 {
-    let Ok(mut trace) = TraceLine::new(alloc) else {
+    let Ok(trace) = TraceLine::new(alloc) else {
         return Outcome::NoMemory;
     };
-    match Session::start(alloc, sound, deck) {
-        Ok(session) => record_trace(session, &mut trace, deck),
-        Err(fault) => refusal(fault),
+    let mut source = RecordSource::Line(trace);
+    match record_source(alloc, sound, &mut source, deck) {
+        Ok(recorded) => recorded.answer,
+        Err(answer) => answer,
     }
 }
 

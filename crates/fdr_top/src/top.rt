@@ -1,24 +1,17 @@
 //! The top call.
 
-ghost use Rattle.std.specs.Prelude.{◌≡◌, ◌↔◌, ◌⊎◌, ◌+◌, ℕ, List, map, string_bytes, None};
-ghost use Rattle.fdr_words.specs.Forms.{Form, form_of, check_table, format_image, list_bits, list_image, record_line, recover_image, stream_line};
-ghost use Rattle.fdr_words.specs.Request.{form_of_request};
+ghost use Rattle.std.specs.Prelude.{◌≡◌, ◌↔◌, ◌⊎◌, ◌+◌, map, string_bytes, None};
+ghost use Rattle.fdr_words.specs.Forms.{Form, form_of};
 ghost use Rattle.fdr_table.specs.Bounds.{most_table_bytes};
-ghost use Rattle.fdr_table.specs.Rows.{TableRows};
-ghost use Rattle.fdr_top.specs.Answers.{Asks, EndsBeforeDeck, IsPastTable, MayAnswer, ReadsTable, UsesDeck, WritesNothing, WritesText};
-ghost use Rattle.fdr_top.specs.Check.{Reports};
+ghost use Rattle.fdr_top.specs.Answers.{Asks, EndsBeforeDeck, MayAnswer, ReadsTable, UsesDeck, WritesNothing, WritesText};
+ghost use Rattle.fdr_top.specs.Commands.{CarriesOut};
 ghost use Rattle.fdr_top.specs.Complete.{IsFaultless, IsWholeInput};
-ghost use Rattle.fdr_top.specs.Format.{Makes, new_header};
 ghost use Rattle.fdr_top.specs.Leaves.{Causes, LeavesAll, LeavesUnused};
 ghost use Rattle.fdr_top.specs.Limits.{TakesAtMost, piece_bytes};
-ghost use Rattle.fdr_top.specs.List.{ListsImage};
-ghost use Rattle.fdr_top.specs.Listbits.{ListsLine};
-ghost use Rattle.fdr_top.specs.Record.{RecordsLine};
-ghost use Rattle.fdr_top.specs.Recover.{RecoversImage};
-ghost use Rattle.fdr_top.specs.Stream.{StreamsLine};
-ghost use Rattle.fdr_top.specs.Tables.{ByTable, ReadsItsTable};
+ghost use Rattle.fdr_top.specs.Tables.{ReadsItsTable};
 
 use crate::checking::check;
+use crate::drilling::drill;
 use crate::formatting::format;
 use crate::list_bits::listbits;
 use crate::listing::list;
@@ -40,6 +33,7 @@ use std::alloc::Global;
 /// - `record TABLE IMAGE` pulls a trace and records its stream in the image on the disk.
 /// - `recover IMAGE` writes the payloads of the blocks that the image holds.
 /// - `list TABLE IMAGE` writes the listing of the bits of these payloads.
+/// - `drill TABLE IMAGE` records a generated trace in the image, and writes a line of what the image then lists as.
 ///
 /// `table` gives the bytes of the table. Each answer says what was done; its clauses say when it comes and what it leaves.
 pub fn run<T: Source, D: Deck, O: Sink>(
@@ -67,36 +61,15 @@ pub fn run<T: Source, D: Deck, O: Sink>(
         (O.written out.old) (O.written out.new) (O.faults out.old) (O.faults out.new) result }
     ensures unused { (form : Form) → Asks (map string_bytes words.now) form
         → LeavesUnused form (D.state deck.old) (D.state deck.new) result }
-    ensures leaves_table { (form : Form) → Asks (map string_bytes words.now) form → (ReadsTable form → ⊥)
-        → table.new ≡ table.old }
-    ensures leaves_deck { (form : Form) → Asks (map string_bytes words.now) form → (UsesDeck form → ⊥)
-        → deck.new ≡ deck.old }
-    ensures leaves_sink { (form : Form) → Asks (map string_bytes words.now) form → (WritesText form → ⊥)
-        → out.new ≡ out.old }
+    ensures left_alone { (form : Form) → Asks (map string_bytes words.now) form
+        → ((ReadsTable form → ⊥) → table.new ≡ table.old) × ((UsesDeck form → ⊥) → deck.new ≡ deck.old)
+        × ((WritesText form → ⊥) → out.new ≡ out.old) }
     ensures causes { Causes result (T.faults table.old) (T.faults table.new) (D.state deck.old) (D.state deck.new)
         (O.faults out.old) (O.faults out.new) }
 
     // What each command does.
-    ensures check { (path : List ℕ) → Asks (map string_bytes words.now) (check_table path) → IsPastTable result
-        → ByTable (T.rest table.old) (λ (t : TableRows). Reports t (O.written out.old) (O.written out.new) result) }
-    ensures stream { (path : List ℕ) → Asks (map string_bytes words.now) (stream_line path) → IsPastTable result
-        → ByTable (T.rest table.old) (λ (t : TableRows). StreamsLine t D.tells (D.state deck.old) (D.state deck.new)
-        (O.written out.old) (O.written out.new) result) }
-    ensures listbits { (path : List ℕ) → Asks (map string_bytes words.now) (list_bits path) → IsPastTable result
-        → ByTable (T.rest table.old) (λ (t : TableRows). ListsLine t D.tells (D.state deck.old) (D.state deck.new)
-        (O.written out.old) (O.written out.new) result) }
-    ensures format { (path image : List ℕ) (slots payload : ℕ)
-        → Asks (map string_bytes words.now) (format_image path image slots payload)
-        → ByTable (T.rest table.old) (λ (t : TableRows). Makes (new_header slots payload t.frame.words)
-        D.tells (D.state deck.old) (D.state deck.new) result) }
-    ensures record { (path image : List ℕ) → Asks (map string_bytes words.now) (record_line path image)
-        → ByTable (T.rest table.old) (λ (t : TableRows).
-        RecordsLine t D.tells (D.state deck.old) (D.state deck.new) result) }
-    ensures recover { (image : List ℕ) → Asks (map string_bytes words.now) (recover_image image)
-        → RecoversImage D.tells (D.state deck.old) (D.state deck.new) (O.written out.old) (O.written out.new) result }
-    ensures list { (path image : List ℕ) → Asks (map string_bytes words.now) (list_image path image)
-        → ByTable (T.rest table.old) (λ (t : TableRows). ListsImage t D.tells (D.state deck.old) (D.state deck.new)
-        (O.written out.old) (O.written out.new) result) }
+    ensures carries_out { (form : Form) → Asks (map string_bytes words.now) form → CarriesOut form (T.rest table.old)
+        D.tells (D.state deck.old) (D.state deck.new) (O.written out.old) (O.written out.new) result }
 
     // Right words, a table that is accepted, an input that is whole and no fault: all is done, or memory ended.
     ensures complete { (form : Form) → Asks (map string_bytes words.now) form
@@ -118,5 +91,6 @@ pub fn run<T: Source, D: Deck, O: Sink>(
         Request::RecordLine { .. } => record(alloc, table, deck),
         Request::ListImage { .. } => list(alloc, table, deck, out),
         Request::RecoverImage { .. } => recover(alloc, deck, out),
+        Request::Drill { seed, frames, .. } => drill(alloc, seed, frames, table, deck, out),
     }
 }

@@ -1,1 +1,5 @@
 pub mod UsesSteps
+pub mod Placed
+pub mod ClapSteps
+pub mod ClapWalk
+pub mod ClapLaws

@@ -9,6 +9,7 @@ use Rattle.fdr_words.specs.declared.uses.OptionName.{OptionName}
 use Rattle.fdr_words.specs.declared.uses.OptionName.TheVariants as name
 use Rattle.fdr_words.specs.Words.{Word, plain, named, given, wrong, is_plain, word_meaning, Uses, no_uses, with_plain, with_value, followed, most_form_words}
 use Rattle.fdr_words.specs.Words.{uses_of}
+use Rattle.fdr_words.specs.Forms.{form_with, form_of_uses, form_of}
 
 -- a word that gives an option its value
 pub given_step : (word : List ℕ) (rest : List (List ℕ)) (option : OptionName) (value : List ℕ) → word_meaning word ≡ given option value
@@ -31,7 +32,7 @@ given_first {A = A} bytes (word ∷ words) first option value u some is kind res
 -- ---- no more words than the longest form has
 
 -- the words that an option takes
-abbrev taken : Option (List ℕ) → ℕ
+abbrev pub taken : Option (List ℕ) → ℕ
 taken None = 0
 taken (Some value) = 2
 
@@ -44,11 +45,11 @@ taken_none None e = refl
 taken_none (Some value) e = cc
 
 -- these uses are of so many words at least
-record AreOf (n : ℕ) (u : Uses) : Type 0 where
-  words : n ≤ length u.plain + taken u.slots + taken u.payload
-  few : length u.plain ≤ 3
+pub record AreOf (n : ℕ) (u : Uses) : Type 0 where
+  pub words : n ≤ length u.plain + taken u.slots + taken u.payload + taken u.seed + taken u.frames
+  pub few : length u.plain ≤ 3
 
-where_some : {A : Type 0} (b : Bool) (x y : A) → (if b then Some x else None) ≡ Some y → (b ≡ true) × (x ≡ y)
+pub where_some : {A : Type 0} (b : Bool) (x y : A) → (if b then Some x else None) ≡ Some y → (b ≡ true) × (x ≡ y)
 where_some true x y e = (refl, cc)
 where_some false x y e = cc
 
@@ -58,24 +59,33 @@ then_some f (Some a) b e = (a, refl, e)
 
 plain_more : (word : List ℕ) (u v : Uses) (n : ℕ) → AreOf n u → with_plain word u ≡ Some v → AreOf (n + 1) v
 plain_more word u v n h e =
-    let more = where_some (nat_lt (length u.plain) 3) (record { plain = word ∷ u.plain; slots = u.slots; payload = u.payload }) v e in
+    let w : Uses = record { plain = word ∷ u.plain; slots = u.slots; payload = u.payload; seed = u.seed; frames = u.frames } in
+    let more = where_some (nat_lt (length u.plain) 3) w v e in
     let room = ltb-true (length u.plain) 3 more.0 in
     subst (AreOf (n + 1)) more.1 (record { words = omega (arith, h.words); few = omega (arith, room) })
 
 value_more : (option : OptionName) (value : List ℕ) (u v : Uses) (n : ℕ) → AreOf n u → with_value option value u ≡ Some v → AreOf (n + 2) v
 value_more name.Slots value u v n h e =
-    let more = where_some (is_none u.slots) (record { plain = u.plain; slots = Some value; payload = u.payload }) v e in
+    let more = where_some (is_none u.slots) (record { plain = u.plain; slots = Some value; payload = u.payload; seed = u.seed; frames = u.frames }) v e in
     let free = taken_none u.slots more.0 in
     subst (AreOf (n + 2)) more.1 (record { words = omega (arith, h.words, free); few = h.few })
 value_more name.Payload value u v n h e =
-    let more = where_some (is_none u.payload) (record { plain = u.plain; slots = u.slots; payload = Some value }) v e in
+    let more = where_some (is_none u.payload) (record { plain = u.plain; slots = u.slots; payload = Some value; seed = u.seed; frames = u.frames }) v e in
     let free = taken_none u.payload more.0 in
+    subst (AreOf (n + 2)) more.1 (record { words = omega (arith, h.words, free); few = h.few })
+value_more name.Seed value u v n h e =
+    let more = where_some (is_none u.seed) (record { plain = u.plain; slots = u.slots; payload = u.payload; seed = Some value; frames = u.frames }) v e in
+    let free = taken_none u.seed more.0 in
+    subst (AreOf (n + 2)) more.1 (record { words = omega (arith, h.words, free); few = h.few })
+value_more name.Frames value u v n h e =
+    let more = where_some (is_none u.frames) (record { plain = u.plain; slots = u.slots; payload = u.payload; seed = u.seed; frames = Some value }) v e in
+    let free = taken_none u.frames more.0 in
     subst (AreOf (n + 2)) more.1 (record { words = omega (arith, h.words, free); few = h.few })
 
 fewer : (m n : ℕ) (u : Uses) → m ≤ n → AreOf n u → AreOf m u
 fewer m n u le h = record { words = omega (arith, h.words, le); few = h.few }
 
-abbrev Each : ℕ → Option Uses → Type 0
+abbrev pub Each : ℕ → Option Uses → Type 0
 Each n o = (u : Uses) → o ≡ Some u → AreOf n u
 
 -- an option and the word that is its value
@@ -99,7 +109,7 @@ followed_words word (named option) (Some value) after_word after_next a b le res
     named_words option value (is_plain value) after_next a b le more v e
 followed_words word wrong next after_word after_next a b le rest more v e = cc
 
-uses_words : (words : List (List ℕ)) → Each (length words) (uses_of words)
+pub uses_words : (words : List (List ℕ)) → Each (length words) (uses_of words)
 uses_words [] u e = let same : no_uses ≡ u = cc in subst (AreOf 0) same (record { words = omega arith; few = omega arith })
 uses_words (word ∷ []) u e =
     followed_words word (word_meaning word) None (Some no_uses) None 0 0 (omega arith)
@@ -109,12 +119,16 @@ uses_words (word ∷ next ∷ rest) u e =
     (followed_words word (word_meaning word) (Some next) (uses_of (next ∷ rest)) (uses_of rest) (length (next ∷ rest)) (length rest) (omega arith)
     (λ v h. uses_words (next ∷ rest) v h) (λ v h. uses_words rest v h) u e)
 
-none_else : (o : Option Uses) (n : ℕ) → Each n o → most_form_words < n → None ≡ o
-none_else None n each many = refl
-none_else (Some u) n each many =
-    let h = each u refl in
-    absurd (omega (arith, h.words, h.few, taken_few u.slots, taken_few u.payload))
+-- more words than the longest form has are of no form
+no_form : (words : List (List ℕ)) (slots payload seed frames : Option (List ℕ)) → length words ≤ 3
+    → most_form_words < length words + taken slots + taken payload + taken seed + taken frames → form_with words slots payload seed frames ≡ None
+no_form words slots payload seed frames few many = grind arith
 
--- more words than the longest form has give nothing
-pub too_many_words : (words : List (List ℕ)) → most_form_words < length words → None ≡ uses_of words
-too_many_words words many = none_else (uses_of words) (length words) (uses_words words) many
+formless : (o : Option Uses) (n : ℕ) → Each n o → most_form_words < n → option_and_then form_of_uses o ≡ None
+formless None n each many = refl
+formless (Some u) n each many =
+    let h = each u refl in
+    no_form u.plain u.slots u.payload u.seed u.frames h.few (omega (arith, h.words, many))
+
+pub too_many_words : (words : List (List ℕ)) → most_form_words < length words → form_of words ≡ None
+too_many_words words many = unfold form_of in formless (uses_of words) (length words) (uses_words words) many

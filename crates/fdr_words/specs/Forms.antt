@@ -12,6 +12,7 @@ pub data Form : Type 0 where
   record_line : (table image : List ℕ) → Form
   recover_image : (image : List ℕ) → Form
   list_image : (table image : List ℕ) → Form
+  drill_image : (table image : List ℕ) (seed frames : ℕ) → Form
 
 -- the form of a command with one path and no options
 abbrev pub path_form : List ℕ → List ℕ → Option Form
@@ -54,18 +55,42 @@ ring_form command table image slots payload =
     if bytes_eq command (codes "format")
     then format_form table image (value_in least_slots most_slots slots) (value_in least_payload most_payload payload) else None
 
+-- the drill of an image, where both numbers are within their bounds
+abbrev pub drill_form : List ℕ → List ℕ → Option ℕ → Option ℕ → Option Form
+drill_form table image None frames = None
+drill_form table image (Some seed) None = None
+drill_form table image (Some seed) (Some frames) = Some (drill_image table image seed frames)
+
+-- the greatest seed of a drill, and how many frames it may have
+abbrev pub most_seed : ℕ
+most_seed = 4294967295
+
+abbrev pub least_drill_frames : ℕ
+least_drill_frames = 1
+
+abbrev pub most_drill_frames : ℕ
+most_drill_frames = 100000
+
+-- the form of a command with two paths and the options of a drill
+abbrev pub seeded_form : List ℕ → List ℕ → List ℕ → List ℕ → List ℕ → Option Form
+seeded_form command table image seed frames =
+    if bytes_eq command (codes "drill")
+    then drill_form table image (value_in 0 most_seed seed) (value_in least_drill_frames most_drill_frames frames) else None
+
 -- the form that has these words and options, all of them and no others
-abbrev pub form_with : List (List ℕ) → Option (List ℕ) → Option (List ℕ) → Option Form
-form_with (command ∷ path ∷ []) None None = path_form command path
-form_with (command ∷ table ∷ image ∷ []) None None = paths_form command table image
-form_with (command ∷ table ∷ image ∷ []) (Some slots) (Some payload) = ring_form command table image slots payload
-form_with words slots payload = None
+abbrev pub form_with : List (List ℕ) → Option (List ℕ) → Option (List ℕ) → Option (List ℕ) → Option (List ℕ) → Option Form
+form_with (command ∷ path ∷ []) None None None None = path_form command path
+form_with (command ∷ table ∷ image ∷ []) None None None None = paths_form command table image
+form_with (command ∷ table ∷ image ∷ []) (Some slots) (Some payload) None None = ring_form command table image slots payload
+form_with (command ∷ table ∷ image ∷ []) None None (Some seed) (Some frames) = seeded_form command table image seed frames
+form_with words slots payload seed frames = None
 
 abbrev pub form_of_uses : Uses → Option Form
-form_of_uses u = form_with u.plain u.slots u.payload
+form_of_uses u = form_with u.plain u.slots u.payload u.seed u.frames
 
 -- the form that the words are of: `check TABLE`, `stream TABLE`, `listbits TABLE`, `recover IMAGE`,
--- `record TABLE IMAGE`, `list TABLE IMAGE` or `format TABLE IMAGE --slots N --payload P`, with the options anywhere
+-- `record TABLE IMAGE`, `list TABLE IMAGE`, `format TABLE IMAGE --slots N --payload P` or
+-- `drill TABLE IMAGE --seed S --frames F`, with the options anywhere
 unfoldable pub form_of : List (List ℕ) → Option Form
 form_of words = option_and_then form_of_uses (uses_of words)
 
@@ -78,6 +103,7 @@ table_path (format_image table image slots payload) = Some table
 table_path (record_line table image) = Some table
 table_path (recover_image image) = None
 table_path (list_image table image) = Some table
+table_path (drill_image table image seed frames) = Some table
 
 -- the path of the image
 abbrev pub image_path : Form → Option (List ℕ)
@@ -88,6 +114,7 @@ image_path (format_image table image slots payload) = Some image
 image_path (record_line table image) = Some image
 image_path (recover_image image) = Some image
 image_path (list_image table image) = Some image
+image_path (drill_image table image seed frames) = Some image
 
 -- whether the command may write the image
 abbrev pub writes_image : Form → Bool
@@ -98,6 +125,7 @@ writes_image (format_image table image slots payload) = true
 writes_image (record_line table image) = true
 writes_image (recover_image image) = false
 writes_image (list_image table image) = false
+writes_image (drill_image table image seed frames) = true
 
 -- the numbers that a form names are within their bounds
 abbrev pub IsInBounds : Form → Type 0
@@ -109,3 +137,4 @@ IsInBounds (format_image table image slots payload) =
 IsInBounds (record_line table image) = Unit {0}
 IsInBounds (recover_image image) = Unit {0}
 IsInBounds (list_image table image) = Unit {0}
+IsInBounds (drill_image table image seed frames) = (seed ≤ most_seed) × (least_drill_frames ≤ frames) × (frames ≤ most_drill_frames)

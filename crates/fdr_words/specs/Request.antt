@@ -1,5 +1,5 @@
 -- The form that a request stands for.
-use Rattle.fdr_words.specs.Forms.{Form, check_table, stream_line, list_bits, format_image, record_line, recover_image, list_image}
+use Rattle.fdr_words.specs.Forms.{Form, check_table, stream_line, list_bits, format_image, record_line, recover_image, list_image, drill_image}
 use Rattle.fdr_words.specs.declared.Request.{Request}
 use Rattle.fdr_words.specs.declared.Request.TheVariants as request
 
@@ -11,3 +11,4 @@ form_of_request (request.FormatImage table image slots payload) = format_image t
 form_of_request (request.RecordLine table image) = record_line table image
 form_of_request (request.RecoverImage image) = recover_image image
 form_of_request (request.ListImage table image) = list_image table image
+form_of_request (request.Drill table image seed frames) = drill_image table image seed frames

@@ -25,4 +25,6 @@ uses_view u = record {
   plain = plain_view u.plain;
   slots = option_map (λ value. value.now) u.slots;
   payload = option_map (λ value. value.now) u.payload;
+  seed = option_map (λ value. value.now) u.seed;
+  frames = option_map (λ value. value.now) u.frames;
 }

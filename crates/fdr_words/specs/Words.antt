@@ -29,26 +29,40 @@ word_meaning word =
     if is_plain word then plain
     else if bytes_eq word (codes "--slots") then named name.Slots
     else if bytes_eq word (codes "--payload") then named name.Payload
+    else if bytes_eq word (codes "--seed") then named name.Seed
+    else if bytes_eq word (codes "--frames") then named name.Frames
     else option_map_or (λ value. given name.Slots value) (value_after (codes "--slots=") word)
-    (option_map_or (λ value. given name.Payload value) (value_after (codes "--payload=") word) wrong)
+    (option_map_or (λ value. given name.Payload value) (value_after (codes "--payload=") word)
+    (option_map_or (λ value. given name.Seed value) (value_after (codes "--seed=") word)
+    (option_map_or (λ value. given name.Frames value) (value_after (codes "--frames=") word) wrong)))
 
 -- The plain words in order, and the value that each option is given.
 pub record Uses : Type 0 where
   pub plain : List (List ℕ)
   pub slots : Option (List ℕ)
   pub payload : Option (List ℕ)
+  pub seed : Option (List ℕ)
+  pub frames : Option (List ℕ)
 
 abbrev pub no_uses : Uses
-no_uses = record { plain = []; slots = None; payload = None }
+no_uses = record { plain = []; slots = None; payload = None; seed = None; frames = None }
 
 -- another plain word in front; no form has more than three
 abbrev pub with_plain : List ℕ → Uses → Option Uses
-with_plain word u = if nat_lt (length u.plain) 3 then Some (record { plain = word ∷ u.plain; slots = u.slots; payload = u.payload }) else None
+with_plain word u =
+    if nat_lt (length u.plain) 3
+    then Some (record { plain = word ∷ u.plain; slots = u.slots; payload = u.payload; seed = u.seed; frames = u.frames }) else None
 
 -- an option with its value; none may be given twice
 abbrev pub with_value : OptionName → List ℕ → Uses → Option Uses
-with_value name.Slots value u = if is_none u.slots then Some (record { plain = u.plain; slots = Some value; payload = u.payload }) else None
-with_value name.Payload value u = if is_none u.payload then Some (record { plain = u.plain; slots = u.slots; payload = Some value }) else None
+with_value name.Slots value u =
+    if is_none u.slots then Some (record { plain = u.plain; slots = Some value; payload = u.payload; seed = u.seed; frames = u.frames }) else None
+with_value name.Payload value u =
+    if is_none u.payload then Some (record { plain = u.plain; slots = u.slots; payload = Some value; seed = u.seed; frames = u.frames }) else None
+with_value name.Seed value u =
+    if is_none u.seed then Some (record { plain = u.plain; slots = u.slots; payload = u.payload; seed = Some value; frames = u.frames }) else None
+with_value name.Frames value u =
+    if is_none u.frames then Some (record { plain = u.plain; slots = u.slots; payload = u.payload; seed = u.seed; frames = Some value }) else None
 
 -- a word and what follows it: another word, and the uses of what comes after either
 abbrev pub followed : List ℕ → Word → Option (List ℕ) → Option Uses → Option Uses → Option Uses

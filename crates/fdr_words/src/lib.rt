@@ -1,18 +1,24 @@
 //! The words after the program's name, and the request that they make.
 #![tactic(auto)]
 
-ghost use Rattle.std.specs.Prelude.{◌≡◌, ◌↔◌, ◌≤◌, Err, Some, None, IfOk, IfSome, map, string_bytes};
+ghost use Rattle.std.specs.Prelude.{◌≡◌, ◌↔◌, ◌≤◌, Err, Some, None, IfOk, IfSome, length, map, string_bytes};
 ghost use Rattle.std.specs.Option.{option_map};
-ghost use Rattle.fdr_words.specs.Forms.{form_of, path_form, paths_form, image_path, table_path, writes_image, IsInBounds};
-ghost use Rattle.fdr_words.specs.Words.{value_in};
+ghost use Rattle.fdr_words.specs.Forms.{form_of, form_of_uses, path_form, paths_form, ring_form, seeded_form, image_path, table_path, writes_image, IsInBounds};
+ghost use Rattle.fdr_words.specs.Views.{uses_view};
+ghost use Rattle.fdr_words.specs.Words.{most_form_words, uses_of, value_in};
 ghost use Rattle.fdr_words.specs.Request.{form_of_request};
 ghost use Rattle.fdr_words.specs.declared.WordsFault.TheVariants as fault;
 
-use crate::uses::{PlainWords, uses_of};
+use crate::reader::read;
+use crate::uses::{PlainWords, Uses, uses_of};
 use fdr_table::{NoMemory, PathText, number_in};
 use std::alloc::Global;
 
+mod reader;
 mod uses;
+
+/// How many words the longest form has.
+const MAX_WORDS: usize = 7;
 
 /// What the program is asked to do.
 #[derive(Debug, Drop)]
@@ -52,6 +58,15 @@ pub enum Request {
         table: PathText,
         image: PathText,
     },
+    /// `drill TABLE IMAGE --seed S --frames F`: record a trace drawn from a seed in an image.
+    Drill {
+        table: PathText,
+        image: PathText,
+        /// What the trace is drawn from, 0 to 4,294,967,295.
+        seed: u64,
+        /// How many frames are drawn, 1 to 100,000.
+        frames: u32,
+    },
 }
 
 /// Why the words make no request.
@@ -87,6 +102,7 @@ impl Request {
             Request::RecordLine { table, .. } => Some(table.text()),
             Request::RecoverImage { .. } => None,
             Request::ListImage { table, .. } => Some(table.text()),
+            Request::Drill { table, .. } => Some(table.text()),
         }
     }
 
@@ -102,6 +118,7 @@ impl Request {
             Request::RecordLine { image, .. } => Some(image.text()),
             Request::RecoverImage { image } => Some(image.text()),
             Request::ListImage { image, .. } => Some(image.text()),
+            Request::Drill { image, .. } => Some(image.text()),
         }
     }
 
@@ -110,7 +127,8 @@ impl Request {
         ensures { result ≡ writes_image (form_of_request self.now) }
     {
         match self {
-            Request::FormatImage { .. } | Request::RecordLine { .. } => true,
+            Request::FormatImage { .. } | Request::RecordLine { .. } | Request::Drill { .. } =>
+                true,
             Request::CheckTable { .. }
             | Request::StreamLine { .. }
             | Request::ListBits { .. }
@@ -182,37 +200,109 @@ fn paths_request(
     })
 }
 
+/// What the words of a command with two paths and the options of a ring ask for.
+fn ring_request(
+    alloc: Global,
+    command: &str,
+    table: &str,
+    image: &str,
+    slots: &[u8],
+    payload: &[u8],
+) -> Result<Request, WordsFault>
+    ensures usage { (result ≡ Err fault.Usage) ↔ (ring_form command.now table.now image.now slots.now payload.now ≡ None) }
+    ensures form { IfOk result (λ request. ring_form command.now table.now image.now slots.now payload.now ≡ Some (form_of_request request)) }
+    ensures limits { IfOk result (λ request. IsInBounds (form_of_request request)) }
+{
+    if command != "format" {
+        return Err(WordsFault::Usage);
+    }
+    let slots = value_in(slots, 4, 65_536).ok_or(WordsFault::Usage)?;
+    let payload = value_in(payload, 64, 4_096).ok_or(WordsFault::Usage)?;
+    Ok(Request::FormatImage {
+        table: PathText::new(alloc, table)?,
+        image: PathText::new(alloc, image)?,
+        slots,
+        payload,
+    })
+}
+
+/// What the words of a command with two paths and the options of a drill ask for.
+fn seeded_request(
+    alloc: Global,
+    command: &str,
+    table: &str,
+    image: &str,
+    seed: &[u8],
+    frames: &[u8],
+) -> Result<Request, WordsFault>
+    ensures usage { (result ≡ Err fault.Usage) ↔ (seeded_form command.now table.now image.now seed.now frames.now ≡ None) }
+    ensures form { IfOk result (λ request. seeded_form command.now table.now image.now seed.now frames.now ≡ Some (form_of_request request)) }
+    ensures limits { IfOk result (λ request. IsInBounds (form_of_request request)) }
+{
+    if command != "drill" {
+        return Err(WordsFault::Usage);
+    }
+    let seed = value_in(seed, 0, 4_294_967_295).ok_or(WordsFault::Usage)?;
+    let frames = value_in(frames, 1, 100_000).ok_or(WordsFault::Usage)?;
+    Ok(Request::Drill {
+        table: PathText::new(alloc, table)?,
+        image: PathText::new(alloc, image)?,
+        seed: u64::from(seed),
+        frames,
+    })
+}
+
+/// What the uses of words ask for.
+fn request_of(alloc: Global, uses: Uses<'_>) -> Result<Request, WordsFault>
+    ensures usage { (result ≡ Err fault.Usage) ↔ (form_of_uses (uses_view uses.entry) ≡ None) }
+    ensures form { IfOk result (λ request. form_of_uses (uses_view uses.entry) ≡ Some (form_of_request request)) }
+    ensures limits { IfOk result (λ request. IsInBounds (form_of_request request)) }
+{
+    match (uses.plain, uses.slots, uses.payload, uses.seed, uses.frames) {
+        (PlainWords::Two(command, path), None, None, None, None) => {
+            path_request(alloc, command, path)
+        }
+        (PlainWords::Three(command, table, image), None, None, None, None) => {
+            paths_request(alloc, command, table, image)
+        }
+        (PlainWords::Three(command, table, image), Some(slots), Some(payload), None, None) => {
+            ring_request(alloc, command, table, image, slots, payload)
+        }
+        (PlainWords::Three(command, table, image), None, None, Some(seed), Some(frames)) => {
+            seeded_request(alloc, command, table, image, seed, frames)
+        }
+        _ => Err(WordsFault::Usage),
+    }
+}
+
+/// The uses of the words, read by `clap`. Where there is no memory for `clap`, they are read without it, so that words of
+/// no form are refused as such all the same.
+fn uses_in_words(alloc: Global, words: &[String]) -> Option<Uses<'_>>
+    requires { length words.now ≤ most_form_words }
+    ensures { option_map uses_view result ≡ uses_of (map string_bytes words.now) }
+{
+    match read(alloc, words) {
+        Ok(uses) => Some(uses),
+        Err(WordsFault::Usage) => None,
+        Err(WordsFault::NoMemory) => uses_of(words),
+    }
+}
+
 /// The request of the words after the program's name.
 ///
-/// Words that aren't those of a command are refused before any memory is taken.
+/// More words than the longest form has are refused before any memory is taken.
 #[tactic(auto, unfolding(crate::specs::Forms::form_of))]
 pub fn read_words(alloc: Global, words: &[String]) -> Result<Request, WordsFault>
     ensures usage { (result ≡ Err fault.Usage) ↔ (form_of (map string_bytes words.now) ≡ None) }
     ensures form { IfOk result (λ request. form_of (map string_bytes words.now) ≡ Some (form_of_request request)) }
     ensures limits { IfOk result (λ request. IsInBounds (form_of_request request)) }
 {
-    let Some(uses) = uses_of(words) else {
+    if MAX_WORDS < words.len() {
         return Err(WordsFault::Usage);
-    };
-    match (uses.plain, uses.slots, uses.payload) {
-        (PlainWords::Two(command, path), None, None) => path_request(alloc, command, path),
-        (PlainWords::Three(command, table, image), None, None) => {
-            paths_request(alloc, command, table, image)
-        }
-        (PlainWords::Three(command, table, image), Some(slots), Some(payload)) => {
-            let slots = value_in(slots, 4, 65_536).ok_or(WordsFault::Usage)?;
-            let payload = value_in(payload, 64, 4_096).ok_or(WordsFault::Usage)?;
-            if command != "format" {
-                return Err(WordsFault::Usage);
-            }
-            Ok(Request::FormatImage {
-                table: PathText::new(alloc, table)?,
-                image: PathText::new(alloc, image)?,
-                slots,
-                payload,
-            })
-        }
-        _ => Err(WordsFault::Usage),
+    }
+    match uses_in_words(alloc, words) {
+        Some(uses) => request_of(alloc, uses),
+        None => Err(WordsFault::Usage),
     }
 }
 

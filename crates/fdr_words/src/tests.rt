@@ -135,6 +135,80 @@ fn reads_the_commands_of_an_image(rt: HostRuntime) -> Result<(), Fail> {
 }
 
 #[test]
+fn reads_a_drill(rt: HostRuntime) -> Result<(), Fail> {
+    let lines: [&[&str]; 4] = [
+        &[
+            "drill",
+            "t1.csv",
+            "flight.img",
+            "--seed",
+            "1",
+            "--frames",
+            "10",
+        ],
+        &["drill", "t1.csv", "flight.img", "--frames=10", "--seed=1"],
+        &[
+            "--frames",
+            "0000000010",
+            "drill",
+            "--seed=01",
+            "t1.csv",
+            "flight.img",
+        ],
+        &[
+            "drill",
+            "t1.csv",
+            "--seed",
+            "1",
+            "flight.img",
+            "--frames=10",
+        ],
+    ];
+    for line in lines {
+        let request = read(rt.alloc(), line)?.ok().ok_or("drill")?;
+        assert_eq!(rt;
+            (request.table(), request.image()),
+            (Some("t1.csv"), Some("flight.img"))
+        );
+        assert!(rt; request.writes());
+        let Request::Drill { seed, frames, .. } = request else {
+            return Err("another command")?;
+        };
+        assert_eq!(rt; (seed, frames), (1, 10));
+    }
+    let lines: [&[&str]; 2] = [
+        &["drill", "t", "i", "--seed=0", "--frames=1"],
+        &["drill", "t", "i", "--seed=4294967295", "--frames=100000"],
+    ];
+    for line in lines {
+        assert!(rt; matches!(read(rt.alloc(), line)?, Ok(Request::Drill { .. })));
+    }
+    Ok(())
+}
+
+#[test]
+fn refuses_other_words_of_a_drill(rt: HostRuntime) -> Result<(), Fail> {
+    let lines: [&[&str]; 11] = [
+        &["drill", "t", "i"],
+        &["drill", "t", "i", "--seed", "1"],
+        &["drill", "t", "i", "--frames", "1"],
+        &["drill", "t", "--seed=1", "--frames=1"],
+        &["drill", "t", "i", "--seed=1", "--frames=0"],
+        &["drill", "t", "i", "--seed=1", "--frames=100001"],
+        &["drill", "t", "i", "--seed=4294967296", "--frames=1"],
+        &["drill", "t", "i", "--seed=1", "--seed=1"],
+        &["drill", "t", "i", "--slots=16", "--payload=64"],
+        &["format", "t", "i", "--seed=1", "--frames=1"],
+        &["record", "t", "i", "--seed", "1"],
+    ];
+    for line in lines {
+        let answer = read(rt.alloc(), line)?;
+        assert_eq!(rt; answer.err(), Some(WordsFault::Usage));
+    }
+    Ok(())
+}
+
+#[test]
 fn refuses_other_words(rt: HostRuntime) -> Result<(), Fail> {
     let lines: [&[&str]; 24] = [
         &[],

@@ -5,9 +5,6 @@ ghost use Rattle.std.specs.Option.{option_map};
 ghost use Rattle.fdr_words.specs.Views.{uses_view, word_view};
 ghost use Rattle.fdr_words.specs.Words.{is_plain, most_form_words, value_after, word_meaning, with_plain, with_value, uses_of, value_in};
 
-/// How many words the longest form has.
-const MAX_WORDS: usize = 7;
-
 /// An option of a command.
 #[derive(Clone, Copy)]
 pub(crate) enum OptionName {
@@ -15,11 +12,15 @@ pub(crate) enum OptionName {
     Slots,
     /// How many bytes a block has at most.
     Payload,
+    /// What a drill's trace is drawn from.
+    Seed,
+    /// How many frames a drill has.
+    Frames,
 }
 
 /// What a word is.
 #[derive(Clone, Copy)]
-enum Word<'a> {
+pub(crate) enum Word<'a> {
     /// A word of the form itself.
     Plain,
     /// `--NAME`: the option's value is the next word.
@@ -45,6 +46,8 @@ pub(crate) struct Uses<'a> {
     pub(crate) plain: PlainWords<'a>,
     pub(crate) slots: Option<&'a [u8]>,
     pub(crate) payload: Option<&'a [u8]>,
+    pub(crate) seed: Option<&'a [u8]>,
+    pub(crate) frames: Option<&'a [u8]>,
 }
 
 impl<'a> Uses<'a> {
@@ -58,11 +61,7 @@ impl<'a> Uses<'a> {
             PlainWords::Two(first, second) => PlainWords::Three(word, first, second),
             PlainWords::Three(..) => return None,
         };
-        Some(Uses {
-            plain,
-            slots: self.slots,
-            payload: self.payload,
-        })
+        Some(Uses { plain, ..self })
     }
 
     /// An option with its value, which isn't given yet.
@@ -72,17 +71,29 @@ impl<'a> Uses<'a> {
         match option {
             OptionName::Slots => match self.slots {
                 None => Some(Uses {
-                    plain: self.plain,
                     slots: Some(value),
-                    payload: self.payload,
+                    ..self
                 }),
                 Some(_) => None,
             },
             OptionName::Payload => match self.payload {
                 None => Some(Uses {
-                    plain: self.plain,
-                    slots: self.slots,
                     payload: Some(value),
+                    ..self
+                }),
+                Some(_) => None,
+            },
+            OptionName::Seed => match self.seed {
+                None => Some(Uses {
+                    seed: Some(value),
+                    ..self
+                }),
+                Some(_) => None,
+            },
+            OptionName::Frames => match self.frames {
+                None => Some(Uses {
+                    frames: Some(value),
+                    ..self
                 }),
                 Some(_) => None,
             },
@@ -114,7 +125,7 @@ fn value_after<'a>(prefix: &[u8], word: &'a [u8]) -> Option<&'a [u8]>
 
 /// What a word is.
 #[tactic(auto, unfolding(crate::specs::Words::word_meaning))]
-fn word_of(word: &str) -> Word<'_>
+pub(crate) fn word_of(word: &str) -> Word<'_>
     ensures { word_view result ≡ word_meaning word.now }
 {
     if is_plain(word) {
@@ -126,29 +137,31 @@ fn word_of(word: &str) -> Word<'_>
     if word == "--payload" {
         return Word::Named(OptionName::Payload);
     }
+    if word == "--seed" {
+        return Word::Named(OptionName::Seed);
+    }
+    if word == "--frames" {
+        return Word::Named(OptionName::Frames);
+    }
     if let Some(value) = value_after(b"--slots=", word.as_bytes()) {
         return Word::Given(OptionName::Slots, value);
     }
-    match value_after(b"--payload=", word.as_bytes()) {
-        Some(value) => Word::Given(OptionName::Payload, value),
+    if let Some(value) = value_after(b"--payload=", word.as_bytes()) {
+        return Word::Given(OptionName::Payload, value);
+    }
+    if let Some(value) = value_after(b"--seed=", word.as_bytes()) {
+        return Word::Given(OptionName::Seed, value);
+    }
+    match value_after(b"--frames=", word.as_bytes()) {
+        Some(value) => Word::Given(OptionName::Frames, value),
         None => Word::Wrong,
     }
 }
 
-/// What the words give, where each has its place. More words than the longest form has give nothing.
-pub(crate) fn uses_of(words: &[String]) -> Option<Uses<'_>>
-    ensures { option_map uses_view result ≡ uses_of (map string_bytes words.now) }
-{
-    if MAX_WORDS < words.len() {
-        return None;
-    }
-    uses_of_few(words)
-}
-
-/// What no more words give than the longest form has. It calls itself for the words after the first, so that a bound on
-/// their number is a bound on the stack.
+/// What the words give, where each has its place. It calls itself for the words after the first, so that the bound on
+/// their number, which the longest form has, is a bound on the stack.
 #[tactic(auto, using(crate::proofs::UsesSteps::given_step))]
-fn uses_of_few(words: &[String]) -> Option<Uses<'_>>
+pub(crate) fn uses_of(words: &[String]) -> Option<Uses<'_>>
     requires { length words.now ≤ most_form_words }
     ensures { option_map uses_view result ≡ uses_of (map string_bytes words.now) }
 {
@@ -157,12 +170,14 @@ fn uses_of_few(words: &[String]) -> Option<Uses<'_>>
             plain: PlainWords::None,
             slots: None,
             payload: None,
+            seed: None,
+            frames: None,
         });
     };
     let word = word.as_str();
     match word_of(word) {
-        Word::Plain => uses_of_few(rest)?.with_plain(word),
-        Word::Given(option, value) => uses_of_few(rest)?.with_value(option, value),
+        Word::Plain => uses_of(rest)?.with_plain(word),
+        Word::Given(option, value) => uses_of(rest)?.with_value(option, value),
         Word::Named(option) => {
             let [next, rest @ ..] = rest else {
                 return None;
@@ -170,7 +185,7 @@ fn uses_of_few(words: &[String]) -> Option<Uses<'_>>
             if !is_plain(next.as_str()) {
                 return None;
             }
-            uses_of_few(rest)?.with_value(option, next.as_str().as_bytes())
+            uses_of(rest)?.with_value(option, next.as_str().as_bytes())
         }
         Word::Wrong => None,
     }

@@ -7,6 +7,7 @@ use fdr_bits::pack_pair;
 use fdr_check::check;
 use fdr_frame::SYNC;
 use fdr_io::MemSink;
+use fdr_table::Table;
 use std::test::Fail;
 
 /// A position of two parts, one in each of two frames, and a signed altitude in steps of a half in each frame.
@@ -97,6 +98,48 @@ fn lists_what_survives_a_cut(rt: HostRuntime) -> Result<(), Fail> {
     assert_eq!(rt;
         text.as_slice(),
         b"gap,0,3064\nrow,16,1,10,ALT,-0.1\nrow,17,1,10,ALT,0.0\nrow,16,1,20,POS,703710\n".as_slice()
+    );
+    Ok(())
+}
+
+/// The summary of two frames in a row with these altitudes.
+fn summary_of_two(alloc: Global, first: u16, second: u16) -> Result<Summary, Fail>
+    requires first { first < 4096 }
+    requires second { second < 4096 }
+{
+    let table = Table::read(alloc, TABLE).ok().ok_or("table")?;
+    let sound = check(alloc, table).ok().ok_or("sound")?;
+    let mut bytes = Vec::new(alloc);
+    add_frame(&mut bytes, &frame_of(0, first, 0))?;
+    add_frame(&mut bytes, &frame_of(1, second, 0))?;
+    if sound.table().frame().words != 64 || bytes.len() > MANY {
+        return Err("size")?;
+    }
+    let Ok(mut work) = Readout::new(alloc, &sound) else {
+        return Err("memory")?;
+    };
+    Ok(summarize(&mut work, &sound, &bytes))
+}
+
+// Each frame has a row of the altitude, and the second one of the position, which is 0.
+#[test]
+fn summarizes_two_frames(rt: HostRuntime) -> Result<(), Fail> {
+    let alloc = rt.alloc();
+    assert_eq!(rt;
+        summary_of_two(alloc, 10, 10)?,
+        Summary {
+            frames: 2,
+            rows: 3,
+            sum: 10
+        }
+    );
+    assert_eq!(rt;
+        summary_of_two(alloc, 0xfff, 0xfff)?,
+        Summary {
+            frames: 2,
+            rows: 3,
+            sum: u64::MAX - 1
+        }
     );
     Ok(())
 }

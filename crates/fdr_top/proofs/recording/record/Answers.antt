@@ -1,4 +1,6 @@
 use Rattle.std.proofs.Common.{[], ap, inl, inr, ⊎_elim, Err}
+use Rattle.fdr_bus.specs.Records.{good_prefix}
+use Rattle.fdr_table.specs.Rows.{TableRows}
 use Rattle.fdr_words.specs.Forms.{record_line}
 use Rattle.fdr_top.proofs.ItsTable.{accepted_left, by_table, read_accepted, read_refused}
 use Rattle.fdr_top.proofs.Commands.{memory_may, own_not_sink, own_not_table, own_past, own_uses}
@@ -60,5 +62,6 @@ returns-in-Ok-clause-complete g c = λ path image faults whole faultless.
     let read = c.in-Ok.ensures.table in
     record_done path image _ _ _ _ _ (c.record_line.ensures.answer path image) c.record_line.ensures.records
     whole.1 whole.2 whole.3
-    (room_of _ _ read.0 _ _ whole.0 read.2 read.3 c.in-Ok.ensures.end whole.4)
+    (room_of _ _ read.0 _ _ whole.0 read.2 read.3 c.in-Ok.ensures.end
+    (λ (t : TableRows). good_prefix (g.D.Deck.state c.args.deck.now).line) whole.4)
     (λ e. faultless.1 (c.record_line.ensures.line_fault e)) (λ e. faultless.2 (c.record_line.ensures.disk_fault e))

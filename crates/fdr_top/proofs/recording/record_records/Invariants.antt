@@ -1,19 +1,21 @@
-use Rattle.std.proofs.Common.{◌≡◌, ◌-◌, ℕ, List, []}
+use Rattle.std.proofs.Common.{◌≡◌, ℕ, List}
 use Rattle.fdr_bus.specs.declared.BusRecord.{BusRecord}
-use Rattle.fdr_trace.specs.Reading.{RepresentsTrace}
 use Rattle.fdr_recorder.specs.Past.{SessionPast, RepresentsSession}
+use Rattle.fdr_top.specs.Answers.{KeepsLineAndFaults}
 use Rattle.fdr_top.specs.Recording.{HasFed, IsBegun, fed}
+use Rattle.fdr_top.specs.Supply.{RecordSupply, IsGenerator, RepresentsSupply, records_left}
 use Rattle.fdr_top.proofs.recording.record_records.Given as goal
 
 abbrev pub invariant-loop-next : goal.invariant-loop-next
 invariant-loop-next g l = record {
-  has : (past : SessionPast) → IsBegun g.D.Deck.tells l.fn.session l.fn.trace past (g.D.Deck.state l.fn.deck) →
-      (bytes : List ℕ) × (records : List BusRecord) × RepresentsTrace l.trace bytes records × RepresentsSession l.session (fed past records)
+  has : (from : RecordSupply) (past : SessionPast) → IsBegun g.D.Deck.tells from l.fn.session l.fn.source past (g.D.Deck.state l.fn.deck) →
+      (bytes : List ℕ) × (records : List BusRecord) × RepresentsSupply from l.source bytes records × RepresentsSession l.session (fed past records)
       × HasFed g.D.Deck.tells (fed past records) bytes (g.D.Deck.state l.fn.deck) (g.D.Deck.state l.deck);
   quiet : (g.D.Deck.state l.deck).line_faults ≡ (g.D.Deck.state l.fn.deck).line_faults;
   disk_quiet : (g.D.Deck.state l.deck).disk_faults ≡ (g.D.Deck.state l.fn.deck).disk_faults;
+  unpulled : IsGenerator l.fn.source → IsGenerator l.source × KeepsLineAndFaults (g.D.Deck.state l.fn.deck) (g.D.Deck.state l.deck);
   extent : (g.D.Deck.state l.deck).extent ≡ (g.D.Deck.state l.fn.deck).extent;
 }
 
 abbrev pub decreases-loop-next : goal.decreases-loop-next
-decreases-loop-next g l = 4294967296 - l.trace.count
+decreases-loop-next g l = records_left l.source

@@ -1,14 +1,11 @@
-use Rattle.std.proofs.Common.{inl, refl, ap, sym, subst, ◌∙◌, [], Some, None}
-use Rattle.fdr_words.specs.Forms.{Form, check_table}
+use Rattle.std.proofs.Common.{◌∙◌, ap, refl, sym, [], Some, None}
+use Rattle.fdr_words.specs.Forms.{check_table}
 use Rattle.fdr_words.specs.Request.{form_of_request}
 use Rattle.fdr_words.specs.declared.Request.{Request}
-use Rattle.fdr_top.specs.Answers.{HasImage, MayAnswer}
-use Rattle.fdr_top.proofs.Images.{recovers_nothing}
-use Rattle.fdr_top.proofs.ListedImages.{lists_nothing}
-use Rattle.fdr_top.proofs.Making.{makes_nothing}
-use Rattle.fdr_top.proofs.Readable.{records_nothing}
+use Rattle.fdr_top.specs.Answers.{HasImage}
 use Rattle.fdr_top.proofs.Pieces.{TakesAtMost-none}
 use Rattle.fdr_top.proofs.Commands.{may_asks, same_form}
+use Rattle.fdr_top.proofs.NothingDone.{nothing_done}
 use Rattle.fdr_top.proofs.top.run.Goals as goal
 
 pub returns-in-Err-Usage-clause-bounded : goal.returns-in-Err-Usage-clause-bounded
@@ -17,16 +14,34 @@ returns-in-Err-Usage-clause-bounded g c = TakesAtMost-none 1052672 (g.T.Source.r
 pub returns-in-Err-NoMemory-clause-bounded : goal.returns-in-Err-NoMemory-clause-bounded
 returns-in-Err-NoMemory-clause-bounded g c = TakesAtMost-none 1052672 (g.T.Source.rest c.args.table.now)
 
-pub returns-in-Err-NoMemory-clause-format : goal.returns-in-Err-NoMemory-clause-format
-returns-in-Err-NoMemory-clause-format g c = λ path image slots payload asks.
-    makes_nothing _ _ _ _ _ _ (g.met.D.Deck.sound c.args.deck.now) (inl refl)
+pub returns-in-Err-NoMemory-clause-carries_out : goal.returns-in-Err-NoMemory-clause-carries_out
+returns-in-Err-NoMemory-clause-carries_out g c = λ form asks.
+    nothing_done form _ _ _ _ (g.met.D.Deck.sound c.args.deck.now)
 
-pub returns-in-Err-NoMemory-clause-recover : goal.returns-in-Err-NoMemory-clause-recover
-returns-in-Err-NoMemory-clause-recover g c = λ image asks.
-    recovers_nothing _ _ _ (g.met.D.Deck.sound c.args.deck.now)
+pub returns-in-RecoverImage-clause-bounded : goal.returns-in-RecoverImage-clause-bounded
+returns-in-RecoverImage-clause-bounded g c = TakesAtMost-none 1052672 (g.T.Source.rest c.args.table.now)
 
-pub returns-clause-bounded : goal.returns-clause-bounded
-returns-clause-bounded g c = TakesAtMost-none 1052672 (g.T.Source.rest c.args.table.now)
+pub drill-requires-clause-some_frames : goal.drill-requires-clause-some_frames
+drill-requires-clause-some_frames g c = let limits = rw c.in-Drill.is at c.in-Ok.ensures.limits in limits.1
+
+pub drill-requires-clause-frame_limit : goal.drill-requires-clause-frame_limit
+drill-requires-clause-frame_limit g c = let limits = rw c.in-Drill.is at c.in-Ok.ensures.limits in limits.2
+
+pub returns-in-CheckTable-clause-causes : goal.returns-in-CheckTable-clause-causes
+returns-in-CheckTable-clause-causes g c = record {
+  table = c.check.ensures.table_fault;
+  line = λ e. absurd (rw e at (c.check.ensures.answers []));
+  write = c.check.ensures.write_fault;
+  disk = λ e. absurd (let has : HasImage (check_table []) = rw e at (c.check.ensures.answers []) in has);
+}
+
+pub returns-in-FormatImage-clause-refusal : goal.returns-in-FormatImage-clause-refusal
+returns-in-FormatImage-clause-refusal g c = λ nothing. c.format.ensures.refusal nothing _ _
+
+pub returns-in-RecordLine-clause-refusal : goal.returns-in-RecordLine-clause-refusal
+returns-in-RecordLine-clause-refusal g c = λ nothing. c.record.ensures.refusal nothing _ _
+
+-- ---- check
 
 pub returns-in-CheckTable-clause-usage : goal.returns-in-CheckTable-clause-usage
 returns-in-CheckTable-clause-usage g c = (
@@ -41,6 +56,18 @@ pub returns-in-CheckTable-clause-answers : goal.returns-in-CheckTable-clause-ans
 returns-in-CheckTable-clause-answers g c = λ form asks.
     may_asks _ _ _ (same_form _ _ _ (c.in-Ok.ensures.form ∙ ap (λ (r : Request). Some (form_of_request r)) c.in-CheckTable.is) asks)
     (c.check.ensures.answers c.in-CheckTable.table)
+
+pub returns-in-CheckTable-clause-left_alone : goal.returns-in-CheckTable-clause-left_alone
+returns-in-CheckTable-clause-left_alone g c = λ form asks.
+    let same = same_form _ _ _ asks (c.in-Ok.ensures.form ∙ ap (λ (r : Request). Some (form_of_request r)) c.in-CheckTable.is) in
+    rw same (λ no. absurd (no refl), λ no. refl, λ no. absurd (no tt))
+
+pub returns-in-CheckTable-clause-carries_out : goal.returns-in-CheckTable-clause-carries_out
+returns-in-CheckTable-clause-carries_out g c = λ form asks.
+    let same = same_form _ _ _ asks (c.in-Ok.ensures.form ∙ ap (λ (r : Request). Some (form_of_request r)) c.in-CheckTable.is) in
+    rw same c.check.ensures.check
+
+-- ---- stream
 
 pub returns-in-StreamLine-clause-usage : goal.returns-in-StreamLine-clause-usage
 returns-in-StreamLine-clause-usage g c = (
@@ -61,10 +88,22 @@ returns-in-StreamLine-clause-unused g c = λ form asks.
     let same = same_form _ _ _ asks (c.in-Ok.ensures.form ∙ ap (λ (r : Request). Some (form_of_request r)) c.in-StreamLine.is) in
     rw same (c.stream.ensures.unused _)
 
+pub returns-in-StreamLine-clause-left_alone : goal.returns-in-StreamLine-clause-left_alone
+returns-in-StreamLine-clause-left_alone g c = λ form asks.
+    let same = same_form _ _ _ asks (c.in-Ok.ensures.form ∙ ap (λ (r : Request). Some (form_of_request r)) c.in-StreamLine.is) in
+    rw same (λ no. absurd (no refl), λ no. absurd (no tt), λ no. absurd (no tt))
+
+pub returns-in-StreamLine-clause-carries_out : goal.returns-in-StreamLine-clause-carries_out
+returns-in-StreamLine-clause-carries_out g c = λ form asks.
+    let same = same_form _ _ _ asks (c.in-Ok.ensures.form ∙ ap (λ (r : Request). Some (form_of_request r)) c.in-StreamLine.is) in
+    rw same c.stream.ensures.stream
+
 pub returns-in-StreamLine-clause-complete : goal.returns-in-StreamLine-clause-complete
 returns-in-StreamLine-clause-complete g c = λ form asks whole faultless.
     let same = same_form _ _ _ asks (c.in-Ok.ensures.form ∙ ap (λ (r : Request). Some (form_of_request r)) c.in-StreamLine.is) in
     c.stream.ensures.complete [] (rw same at whole) (rw same at faultless)
+
+-- ---- listbits
 
 pub returns-in-ListBits-clause-usage : goal.returns-in-ListBits-clause-usage
 returns-in-ListBits-clause-usage g c = (
@@ -85,10 +124,22 @@ returns-in-ListBits-clause-unused g c = λ form asks.
     let same = same_form _ _ _ asks (c.in-Ok.ensures.form ∙ ap (λ (r : Request). Some (form_of_request r)) c.in-ListBits.is) in
     rw same (c.listbits.ensures.unused _)
 
+pub returns-in-ListBits-clause-left_alone : goal.returns-in-ListBits-clause-left_alone
+returns-in-ListBits-clause-left_alone g c = λ form asks.
+    let same = same_form _ _ _ asks (c.in-Ok.ensures.form ∙ ap (λ (r : Request). Some (form_of_request r)) c.in-ListBits.is) in
+    rw same (λ no. absurd (no refl), λ no. absurd (no tt), λ no. absurd (no tt))
+
+pub returns-in-ListBits-clause-carries_out : goal.returns-in-ListBits-clause-carries_out
+returns-in-ListBits-clause-carries_out g c = λ form asks.
+    let same = same_form _ _ _ asks (c.in-Ok.ensures.form ∙ ap (λ (r : Request). Some (form_of_request r)) c.in-ListBits.is) in
+    rw same c.listbits.ensures.listbits
+
 pub returns-in-ListBits-clause-complete : goal.returns-in-ListBits-clause-complete
 returns-in-ListBits-clause-complete g c = λ form asks whole faultless.
     let same = same_form _ _ _ asks (c.in-Ok.ensures.form ∙ ap (λ (r : Request). Some (form_of_request r)) c.in-ListBits.is) in
     c.listbits.ensures.complete [] (rw same at whole) (rw same at faultless)
+
+-- ---- format
 
 pub returns-in-FormatImage-clause-usage : goal.returns-in-FormatImage-clause-usage
 returns-in-FormatImage-clause-usage g c = (
@@ -104,35 +155,22 @@ returns-in-FormatImage-clause-answers g c = λ form asks.
     may_asks _ _ _ (same_form _ _ _ (c.in-Ok.ensures.form ∙ ap (λ (r : Request). Some (form_of_request r)) c.in-FormatImage.is) asks)
     (c.format.ensures.answers c.in-FormatImage.table c.in-FormatImage.image)
 
+pub returns-in-FormatImage-clause-left_alone : goal.returns-in-FormatImage-clause-left_alone
+returns-in-FormatImage-clause-left_alone g c = λ form asks.
+    let same = same_form _ _ _ asks (c.in-Ok.ensures.form ∙ ap (λ (r : Request). Some (form_of_request r)) c.in-FormatImage.is) in
+    rw same (λ no. absurd (no refl), λ no. absurd (no tt), λ no. refl)
+
+pub returns-in-FormatImage-clause-carries_out : goal.returns-in-FormatImage-clause-carries_out
+returns-in-FormatImage-clause-carries_out g c = λ form asks.
+    let same = same_form _ _ _ asks (c.in-Ok.ensures.form ∙ ap (λ (r : Request). Some (form_of_request r)) c.in-FormatImage.is) in
+    rw same c.format.ensures.format
+
 pub returns-in-FormatImage-clause-complete : goal.returns-in-FormatImage-clause-complete
 returns-in-FormatImage-clause-complete g c = λ form asks whole faultless.
     let same = same_form _ _ _ asks (c.in-Ok.ensures.form ∙ ap (λ (r : Request). Some (form_of_request r)) c.in-FormatImage.is) in
     c.format.ensures.complete [] [] 0 (rw same at whole) (rw same at faultless)
 
-pub returns-clause-answers : goal.returns-clause-answers
-returns-clause-answers g c = λ form asks.
-    may_asks _ _ _ (same_form _ _ _ (c.in-Ok.ensures.form ∙ ap (λ (r : Request). Some (form_of_request r)) c.in-RecoverImage.is) asks)
-    (c.recover.ensures.answers c.in-RecoverImage.image)
-
-pub returns-clause-complete : goal.returns-clause-complete
-returns-clause-complete g c = λ form asks whole faultless.
-    let same = same_form _ _ _ asks (c.in-Ok.ensures.form ∙ ap (λ (r : Request). Some (form_of_request r)) c.in-RecoverImage.is) in
-    c.recover.ensures.complete [] None 0 (rw same at whole) (rw same at faultless)
-
-pub returns-in-FormatImage-clause-refusal : goal.returns-in-FormatImage-clause-refusal
-returns-in-FormatImage-clause-refusal g c = λ nothing. c.format.ensures.refusal nothing _ _
-
-pub returns-in-CheckTable-clause-causes : goal.returns-in-CheckTable-clause-causes
-returns-in-CheckTable-clause-causes g c = record {
-  table = c.check.ensures.table_fault;
-  line = λ e. absurd (rw e at (c.check.ensures.answers []));
-  write = c.check.ensures.write_fault;
-  disk = λ e. absurd (let has : HasImage (check_table []) = rw e at (c.check.ensures.answers []) in has);
-}
-
-pub returns-in-Err-NoMemory-clause-record : goal.returns-in-Err-NoMemory-clause-record
-returns-in-Err-NoMemory-clause-record g c = λ path image asks.
-    records_nothing _ _ _ _ (g.met.D.Deck.sound c.args.deck.now) (λ past. past)
+-- ---- record
 
 pub returns-in-RecordLine-clause-usage : goal.returns-in-RecordLine-clause-usage
 returns-in-RecordLine-clause-usage g c = (
@@ -143,22 +181,27 @@ returns-in-RecordLine-clause-usage g c = (
 pub returns-in-RecordLine-clause-untouched : goal.returns-in-RecordLine-clause-untouched
 returns-in-RecordLine-clause-untouched g c = λ e. absurd (rw e at (c.record.ensures.answers [] []))
 
-pub returns-in-RecordLine-clause-refusal : goal.returns-in-RecordLine-clause-refusal
-returns-in-RecordLine-clause-refusal g c = λ nothing. c.record.ensures.refusal nothing _ _
+pub returns-in-RecordLine-clause-answers : goal.returns-in-RecordLine-clause-answers
+returns-in-RecordLine-clause-answers g c = λ form asks.
+    may_asks _ _ _ (same_form _ _ _ (c.in-Ok.ensures.form ∙ ap (λ (r : Request). Some (form_of_request r)) c.in-RecordLine.is) asks)
+    (c.record.ensures.answers c.in-RecordLine.table c.in-RecordLine.image)
+
+pub returns-in-RecordLine-clause-left_alone : goal.returns-in-RecordLine-clause-left_alone
+returns-in-RecordLine-clause-left_alone g c = λ form asks.
+    let same = same_form _ _ _ asks (c.in-Ok.ensures.form ∙ ap (λ (r : Request). Some (form_of_request r)) c.in-RecordLine.is) in
+    rw same (λ no. absurd (no refl), λ no. absurd (no tt), λ no. refl)
+
+pub returns-in-RecordLine-clause-carries_out : goal.returns-in-RecordLine-clause-carries_out
+returns-in-RecordLine-clause-carries_out g c = λ form asks.
+    let same = same_form _ _ _ asks (c.in-Ok.ensures.form ∙ ap (λ (r : Request). Some (form_of_request r)) c.in-RecordLine.is) in
+    rw same c.record.ensures.record
 
 pub returns-in-RecordLine-clause-complete : goal.returns-in-RecordLine-clause-complete
 returns-in-RecordLine-clause-complete g c = λ form asks whole faultless.
     let same = same_form _ _ _ asks (c.in-Ok.ensures.form ∙ ap (λ (r : Request). Some (form_of_request r)) c.in-RecordLine.is) in
     c.record.ensures.complete [] [] 0 (rw same at whole) (rw same at faultless)
 
-pub returns-in-RecordLine-clause-answers : goal.returns-in-RecordLine-clause-answers
-returns-in-RecordLine-clause-answers g c = λ form asks.
-    may_asks _ _ _ (same_form _ _ _ (c.in-Ok.ensures.form ∙ ap (λ (r : Request). Some (form_of_request r)) c.in-RecordLine.is) asks)
-    (c.record.ensures.answers c.in-RecordLine.table c.in-RecordLine.image)
-
-pub returns-in-Err-NoMemory-clause-list : goal.returns-in-Err-NoMemory-clause-list
-returns-in-Err-NoMemory-clause-list g c = λ path image asks.
-    lists_nothing _ _ _ _ _ (g.met.D.Deck.sound c.args.deck.now) (inl refl)
+-- ---- list
 
 pub returns-in-ListImage-clause-usage : goal.returns-in-ListImage-clause-usage
 returns-in-ListImage-clause-usage g c = (
@@ -179,7 +222,81 @@ returns-in-ListImage-clause-unused g c = λ form asks.
     let same = same_form _ _ _ asks (c.in-Ok.ensures.form ∙ ap (λ (r : Request). Some (form_of_request r)) c.in-ListImage.is) in
     rw same (c.list.ensures.unused _ _)
 
+pub returns-in-ListImage-clause-left_alone : goal.returns-in-ListImage-clause-left_alone
+returns-in-ListImage-clause-left_alone g c = λ form asks.
+    let same = same_form _ _ _ asks (c.in-Ok.ensures.form ∙ ap (λ (r : Request). Some (form_of_request r)) c.in-ListImage.is) in
+    rw same (λ no. absurd (no refl), λ no. absurd (no tt), λ no. absurd (no tt))
+
+pub returns-in-ListImage-clause-carries_out : goal.returns-in-ListImage-clause-carries_out
+returns-in-ListImage-clause-carries_out g c = λ form asks.
+    let same = same_form _ _ _ asks (c.in-Ok.ensures.form ∙ ap (λ (r : Request). Some (form_of_request r)) c.in-ListImage.is) in
+    rw same c.list.ensures.list
+
 pub returns-in-ListImage-clause-complete : goal.returns-in-ListImage-clause-complete
 returns-in-ListImage-clause-complete g c = λ form asks whole faultless.
     let same = same_form _ _ _ asks (c.in-Ok.ensures.form ∙ ap (λ (r : Request). Some (form_of_request r)) c.in-ListImage.is) in
     c.list.ensures.complete [] [] (rw same at whole) (rw same at faultless)
+
+-- ---- recover
+
+pub returns-in-RecoverImage-clause-usage : goal.returns-in-RecoverImage-clause-usage
+returns-in-RecoverImage-clause-usage g c = (
+  λ e. absurd (rw e at (c.recover.ensures.answers [])),
+  λ none. absurd (let k = sym none ∙ c.in-Ok.ensures.form in cc),
+)
+
+pub returns-in-RecoverImage-clause-answers : goal.returns-in-RecoverImage-clause-answers
+returns-in-RecoverImage-clause-answers g c = λ form asks.
+    may_asks _ _ _ (same_form _ _ _ (c.in-Ok.ensures.form ∙ ap (λ (r : Request). Some (form_of_request r)) c.in-RecoverImage.is) asks)
+    (c.recover.ensures.answers c.in-RecoverImage.image)
+
+pub returns-in-RecoverImage-clause-left_alone : goal.returns-in-RecoverImage-clause-left_alone
+returns-in-RecoverImage-clause-left_alone g c = λ form asks.
+    let same = same_form _ _ _ asks (c.in-Ok.ensures.form ∙ ap (λ (r : Request). Some (form_of_request r)) c.in-RecoverImage.is) in
+    rw same (λ no. refl, λ no. absurd (no tt), λ no. absurd (no tt))
+
+pub returns-in-RecoverImage-clause-carries_out : goal.returns-in-RecoverImage-clause-carries_out
+returns-in-RecoverImage-clause-carries_out g c = λ form asks.
+    let same = same_form _ _ _ asks (c.in-Ok.ensures.form ∙ ap (λ (r : Request). Some (form_of_request r)) c.in-RecoverImage.is) in
+    rw same c.recover.ensures.recover
+
+pub returns-in-RecoverImage-clause-complete : goal.returns-in-RecoverImage-clause-complete
+returns-in-RecoverImage-clause-complete g c = λ form asks whole faultless.
+    let same = same_form _ _ _ asks (c.in-Ok.ensures.form ∙ ap (λ (r : Request). Some (form_of_request r)) c.in-RecoverImage.is) in
+    c.recover.ensures.complete [] None 0 (rw same at whole) (rw same at faultless)
+
+-- ---- drill
+
+pub returns-clause-usage : goal.returns-clause-usage
+returns-clause-usage g c = (
+  λ e. absurd (rw e at (c.drill.ensures.answers [] [])),
+  λ none. absurd (let k = sym none ∙ c.in-Ok.ensures.form in cc),
+)
+
+pub returns-clause-untouched : goal.returns-clause-untouched
+returns-clause-untouched g c = λ e. absurd (rw e at (c.drill.ensures.answers [] []))
+
+pub returns-clause-answers : goal.returns-clause-answers
+returns-clause-answers g c = λ form asks.
+    may_asks _ _ _ (same_form _ _ _ (c.in-Ok.ensures.form ∙ ap (λ (r : Request). Some (form_of_request r)) c.in-Drill.is) asks)
+    (c.drill.ensures.answers c.in-Drill.table c.in-Drill.image)
+
+pub returns-clause-unused : goal.returns-clause-unused
+returns-clause-unused g c = λ form asks.
+    let same = same_form _ _ _ asks (c.in-Ok.ensures.form ∙ ap (λ (r : Request). Some (form_of_request r)) c.in-Drill.is) in
+    rw same (c.drill.ensures.unused _ _)
+
+pub returns-clause-left_alone : goal.returns-clause-left_alone
+returns-clause-left_alone g c = λ form asks.
+    let same = same_form _ _ _ asks (c.in-Ok.ensures.form ∙ ap (λ (r : Request). Some (form_of_request r)) c.in-Drill.is) in
+    rw same (λ no. absurd (no refl), λ no. absurd (no tt), λ no. absurd (no tt))
+
+pub returns-clause-carries_out : goal.returns-clause-carries_out
+returns-clause-carries_out g c = λ form asks.
+    let same = same_form _ _ _ asks (c.in-Ok.ensures.form ∙ ap (λ (r : Request). Some (form_of_request r)) c.in-Drill.is) in
+    rw same c.drill.ensures.drill
+
+pub returns-clause-complete : goal.returns-clause-complete
+returns-clause-complete g c = λ form asks whole faultless.
+    let same = same_form _ _ _ asks (c.in-Ok.ensures.form ∙ ap (λ (r : Request). Some (form_of_request r)) c.in-Drill.is) in
+    c.drill.ensures.complete [] [] (rw same at whole) (rw same at faultless)

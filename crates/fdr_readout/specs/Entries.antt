@@ -1,0 +1,55 @@
+-- What bits hold, entry by entry: their gaps, their accepted frames, and behind each frame its rows.
+use Rattle.std.specs.Prelude.{ℕ, ◌-◌, Bool, true, false, nat_lt, if◌then◌else◌, List, [], ◌∷◌, length, map, Option, Some, None}
+use Rattle.std.specs.List.{flat_map}
+use Rattle.fdr_sync.specs.Events.{Event, Frame, Gap, events_of}
+use Rattle.fdr_table.specs.Rows.{TableRows}
+use Rattle.fdr_recon.specs.declared.Row.{Row}
+use Rattle.fdr_recon.specs.Rows.{ReadFrame, rows_looked_at}
+use Rattle.fdr_listing.specs.Text.{gap_text}
+use Rattle.fdr_readout.specs.Listing.{rows_at, row_line_of}
+
+-- a gap that begins at a bit and has so many bits, a frame, or a row of the frame before
+pub data Entry : Type 0 where
+  GapEntry : ℕ → ℕ → Entry
+  FrameEntry : Entry
+  RowEntry : Row → Entry
+
+-- the entry of the gap from one bit to another, if there is a bit between them
+unfoldable pub gap_entries : ℕ → ℕ → List Entry
+gap_entries from end = if nat_lt from end then GapEntry from (end - from) ∷ [] else []
+
+-- the entry of a row, where it is listed
+unfoldable pub row_entries : Option Row → List Entry
+row_entries None = []
+row_entries (Some r) = RowEntry r ∷ []
+
+-- the entries of the last of the frames that were read
+unfoldable pub last_frame_entries : TableRows → List ReadFrame → List Entry
+last_frame_entries t frames = FrameEntry ∷ flat_map row_entries (rows_looked_at t frames (length frames - 1))
+
+-- the entries of an event
+unfoldable pub entries_at : TableRows → List ℕ → Event → List Entry
+entries_at t b (Frame a) = FrameEntry ∷ map RowEntry (rows_at t b a)
+entries_at t b (Gap a n) = GapEntry a n ∷ []
+
+-- all entries
+unfoldable pub entries_of : TableRows → List ℕ → List Entry
+entries_of t b = flat_map (entries_at t b) (events_of b t.frame.words)
+
+-- the line of an entry; a frame has none of its own
+unfoldable pub entry_lines : TableRows → Entry → List ℕ
+entry_lines t (GapEntry a n) = gap_text a n
+entry_lines t FrameEntry = []
+entry_lines t (RowEntry r) = row_line_of t r
+
+-- the row of an entry that is one
+abbrev pub row_of_entry : Entry → Option Row
+row_of_entry (GapEntry a n) = None
+row_of_entry FrameEntry = None
+row_of_entry (RowEntry r) = Some r
+
+-- whether an entry is a frame
+abbrev pub is_frame_entry : Entry → Bool
+is_frame_entry (GapEntry a n) = false
+is_frame_entry FrameEntry = true
+is_frame_entry (RowEntry r) = false

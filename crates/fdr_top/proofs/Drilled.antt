@@ -1,0 +1,248 @@
+-- What a drill leaves and answers.
+use Rattle.std.proofs.Common.{◌≡◌, ◌≢◌, ◌⊎◌, ⊎_elim, inl, inr, ℕ, ◌+◌, ◌≤◌, List, [], length, Option, ap, sym, refl, ◌∙◌, subst, take, arith}
+use Rattle.std.specs.Prelude.{IsTrue}
+use Rattle.fdr_io.specs.Told.{followed_by}
+use Rattle.fdr_io.specs.declared.Input.TheVariants as input
+use Rattle.fdr_check.specs.Soundness.{IsSound}
+use Rattle.fdr_deck.specs.State.{State, Tells}
+use Rattle.fdr_deck.specs.Disk.{KeepsDisk, LearnsExtent}
+use Rattle.fdr_deck.specs.Moments.{IsSoundDeck}
+use Rattle.fdr_gen.specs.Past.{GeneratorKept, RepresentsGenerator, generator_made}
+use Rattle.fdr_gen.specs.Trace.{generated_trace, most_frames}
+use Rattle.fdr_slot.specs.declared.image.Header.{Header}
+use Rattle.fdr_recover.specs.Images.{recovered_run}
+use Rattle.fdr_recover.specs.ImageHeader.{header_in}
+use Rattle.fdr_recover.specs.Looks.{Looks}
+use Rattle.fdr_table.specs.Ranges.{IsInRange}
+use Rattle.fdr_table.specs.Rows.{TableRows}
+use Rattle.fdr_readout.specs.Summary.{summary_of}
+use Rattle.fdr_recorder.proofs.Starting.{Starts-looked}
+use Rattle.fdr_words.specs.Forms.{drill_image}
+use Rattle.fdr_top.specs.Answers.{IsOwn, IsPastTable, KeepsLineAndFaults}
+use Rattle.fdr_top.specs.Complete.{HasRoom}
+use Rattle.fdr_top.specs.Drill.{DrillsImage, drill_line, drill_text}
+use Rattle.fdr_top.specs.Leaves.{LeavesAll, LeavesUnused}
+use Rattle.fdr_top.specs.List.{KeepsShut}
+use Rattle.fdr_top.specs.Record.{EndsReading, RecordsAll, RecordsBlocks, RefusesSession, new_blocks, next_in}
+use Rattle.fdr_top.specs.Recording.{RecordsSupply}
+use Rattle.fdr_top.specs.Recover.{OnlyLooks, payloads_of, run_in}
+use Rattle.fdr_top.specs.Refusals.{RefusesImage}
+use Rattle.fdr_top.specs.Supply.{RepresentsSupply, drawn_trace}
+use Rattle.fdr_top.specs.Tables.{ByTable}
+use Rattle.fdr_top.specs.declared.outcome.Outcome.{Outcome}
+use Rattle.fdr_top.specs.declared.outcome.Outcome.TheVariants as outcome
+use Rattle.fdr_top.specs.declared.supply.RecordSource.{RecordSource}
+use Rattle.fdr_top.specs.declared.supply.RecordSource.TheVariants as source
+use Rattle.fdr_top.proofs.Drills.{RecordsBlocks-after, RecordsBlocks-before}
+use Rattle.fdr_top.proofs.ListedImages.{IsOfBlocks, no_first}
+use Rattle.fdr_top.proofs.Making.{table_or, table_told}
+use Rattle.fdr_top.proofs.Readable.{lists_survivors, lists_undamaged}
+use Rattle.fdr_top.proofs.RecordLines.{RecordsBlocks-nothing, RecordsBlocks-unbegun, all_past}
+
+-- what was recorded, and what was written of it
+drills : (t : TableRows) (seed frames : ℕ) (tells : Tells) (old new : State) (before now : Option (List ℕ)) (answer : Outcome) → IsInRange t → IsSound t
+    → RecordsBlocks t tells (generated_trace t seed frames) old new answer
+    → (answer ≡ outcome.Done → IsTrue tells.bytes → now
+    ≡ followed_by before (drill_line t (length (new_blocks t old.held (generated_trace t seed frames))) new.held))
+    → (answer ≡ outcome.WriteFault → IsTrue tells.bytes → (k : ℕ) × (now ≡ followed_by before
+    (take k (drill_line t (length (new_blocks t old.held (generated_trace t seed frames))) new.held))))
+    → (answer ≢ outcome.Done → answer ≢ outcome.WriteFault → now ≡ before)
+    → DrillsImage t seed frames tells old new before now answer
+drills t seed frames tells old new before now answer range sound blocks text part silent = record {
+  blocks = blocks;
+  text = text;
+  part = part;
+  silent = silent;
+  survives = λ past. lists_survivors t (generated_trace t seed frames) range sound;
+  undamaged = λ all. lists_undamaged t tells (generated_trace t seed frames) old new answer range sound blocks all;
+}
+
+-- ---- where the image isn't opened, or memory ends
+
+shut_records_none : (answer : Outcome) → KeepsShut answer → RecordsAll answer → ⊥
+shut_records_none (outcome.ImageRefused why) shut all = all
+shut_records_none (outcome.WordsDiffer image table) shut all = all
+shut_records_none outcome.DiskFault shut all = all
+shut_records_none outcome.NoMemory shut all = all
+shut_records_none answer shut all = shut
+
+shut_not_end : (answer : Outcome) → KeepsShut answer → answer ≡ outcome.SeqEnd → ⊥
+shut_not_end answer shut e = rw e at shut
+
+pub drill_shut : (t : TableRows) (seed frames : ℕ) (tells : Tells) (old new : State) (written : Option (List ℕ)) (answer : Outcome) → IsInRange t
+    → IsSound t → IsSoundDeck tells old → OnlyLooks tells old new → KeepsShut answer → RefusesImage t tells old new answer
+    → DrillsImage t seed frames tells old new written written answer
+drill_shut t seed frames tells old new written answer range sound deck looks shut image =
+    drills t seed frames tells old new written written answer range sound
+    (RecordsBlocks-unbegun t tells (generated_trace t seed frames) old new answer (Starts-looked tells (header_in old.held) old new deck looks.quiet)
+    (shut_records_none answer shut) (shut_not_end answer shut) image)
+    (λ done. absurd (shut_records_none answer shut (subst RecordsAll (sym done) tt)))
+    (λ fails. absurd (shut_records_none answer shut (subst RecordsAll (sym fails) tt)))
+    (λ done fails. refl)
+
+-- ---- where the recording was cut short
+
+pub session_not_all : (answer : Outcome) → RefusesSession answer → RecordsAll answer → ⊥
+session_not_all (outcome.ImageRefused why) refuses all = all
+session_not_all (outcome.WordsDiffer image table) refuses all = all
+session_not_all outcome.DiskFault refuses all = all
+session_not_all outcome.SeqEnd refuses all = all
+session_not_all outcome.NoMemory refuses all = all
+session_not_all answer refuses all = refuses
+
+-- a trace that is generated is pulled of nothing
+drawn_blocks : (t : TableRows) (seed frames : ℕ) (tells : Tells) (a b c : State) (answer : Outcome) → IsSoundDeck tells a → OnlyLooks tells a b
+    → RecordsSupply (drawn_trace t seed frames) t tells b c answer → RecordsBlocks t tells (generated_trace t seed frames) a c answer
+drawn_blocks t seed frames tells a b c answer sound looks is =
+    RecordsBlocks-before t tells (generated_trace t seed frames) a b c answer sound looks is.blocks
+
+pub drill_cut : (t : TableRows) (seed frames : ℕ) (tells : Tells) (a b c : State) (written : Option (List ℕ)) (answer : Outcome) → IsInRange t → IsSound t
+    → IsSoundDeck tells a → OnlyLooks tells a b → RefusesSession answer → RecordsSupply (drawn_trace t seed frames) t tells b c answer
+    → DrillsImage t seed frames tells a c written written answer
+drill_cut t seed frames tells a b c written answer range sound deck looks refuses is =
+    drills t seed frames tells a c written written answer range sound (drawn_blocks t seed frames tells a b c answer deck looks is)
+    (λ done. absurd (session_not_all answer refuses (subst RecordsAll (sym done) tt)))
+    (λ fails. absurd (session_not_all answer refuses (subst RecordsAll (sym fails) tt)))
+    (λ done fails. refl)
+
+-- ---- where all was recorded
+
+module _ (t : TableRows) (seed frames : ℕ) (tells : Tells) (a b c d : State) (h : Header) (count : ℕ) (was answer : Outcome) (before now : Option (List ℕ))
+    (sound_a : IsSoundDeck tells a) (sound_c : IsSoundDeck tells c) (first : OnlyLooks tells a b)
+    (is : RecordsSupply (drawn_trace t seed frames) t tells b c was) (reading : EndsReading was) (last : Looks tells c d) (of : IsOfBlocks answer)
+    (header : IsTrue tells.bytes → h ≡ header_in a.held) (blocks : IsTrue tells.bytes → next_in b.held + count ≡ c.told)
+  where
+    done : RecordsBlocks t tells (generated_trace t seed frames) a c outcome.Done
+    done = drawn_blocks t seed frames tells a b c outcome.Done sound_a first
+        (subst (λ (x : Outcome). RecordsSupply (drawn_trace t seed frames) t tells b c x) (is.ends.1 reading) is)
+
+    whole : RecordsBlocks t tells (generated_trace t seed frames) a d answer
+    whole = RecordsBlocks-after t tells (generated_trace t seed frames) a c d answer sound_a sound_c done last of
+
+    same_run : IsTrue tells.bytes → recovered_run h c.held ≡ run_in d.held
+    same_run told =
+        let held : c.held ≡ d.held = sym last.disk.held in
+        let head : h ≡ header_in d.held = header told ∙ sym (done.recorded tt told).header ∙ ap header_in held in
+        ap (λ (x : Header). recovered_run x c.held) head ∙ ap (recovered_run (header_in d.held)) held
+
+    same_count : IsTrue tells.bytes → count ≡ length (new_blocks t a.held (generated_trace t seed frames))
+    same_count told =
+        let stands = (done.recorded tt told).told in
+        omega (arith, blocks told, stands, ap next_in first.disk.held)
+
+    same_line : IsTrue tells.bytes → drill_text count (summary_of t (payloads_of (recovered_run h c.held)))
+        ≡ drill_line t (length (new_blocks t a.held (generated_trace t seed frames))) d.held
+    same_line told =
+        ap (λ n. drill_text n (summary_of t (payloads_of (recovered_run h c.held)))) (same_count told)
+        ∙ ap (λ run. drill_text (length (new_blocks t a.held (generated_trace t seed frames))) (summary_of t (payloads_of run))) (same_run told)
+
+    pub drill_told : IsInRange t → IsSound t
+        → (answer ≡ outcome.Done → IsTrue tells.bytes → now ≡ followed_by before (drill_text count (summary_of t (payloads_of (recovered_run h c.held)))))
+        → (answer ≡ outcome.WriteFault → IsTrue tells.bytes
+        → (k : ℕ) × (now ≡ followed_by before (take k (drill_text count (summary_of t (payloads_of (recovered_run h c.held)))))))
+        → (answer ≡ outcome.DiskFault → now ≡ before) → DrillsImage t seed frames tells a d before now answer
+    drill_told range sound text part unread = drills t seed frames tells a d before now answer range sound whole
+        (λ e told. text e told ∙ ap (followed_by before) (same_line told))
+        (λ e told. let p = part e told in (p.0, p.1 ∙ ap (λ l. followed_by before (take p.0 l)) (same_line told)))
+        (λ not_done not_write. ⊎_elim (λ e. absurd (not_done e))
+        (λ rest. ⊎_elim (λ e. absurd (not_write e)) (λ e. unread e) rest) of)
+
+-- ---- where the table isn't read
+
+pub drills_nothing : (seed frames : ℕ) (tells : Tells) (rest : Option (List ℕ)) (d : State) (written : Option (List ℕ)) (answer : Outcome)
+    → IsSoundDeck tells d → (IsPastTable answer → ⊥)
+    → ByTable rest (λ (t : TableRows). DrillsImage t seed frames tells d d written written answer)
+drills_nothing seed frames tells rest d written answer sound early =
+    let t = table_or rest in (
+      t,
+      table_told rest,
+      record {
+        blocks = RecordsBlocks-nothing t tells (generated_trace t seed frames) d answer sound early;
+        text = λ done. absurd (early (subst IsPastTable (sym done) tt));
+        part = λ fails. absurd (early (subst IsPastTable (sym fails) tt));
+        silent = λ done fails. refl;
+        survives = λ past. absurd (early past);
+        undamaged = λ all. absurd (early (all_past answer all));
+      },
+    )
+
+-- ---- its answers
+
+pub shut_drills : (path image : List ℕ) (seed frames : ℕ) (answer : Outcome) → KeepsShut answer
+    → (answer ≡ outcome.NoMemory) ⊎ IsOwn (drill_image path image seed frames) answer
+shut_drills path image seed frames (outcome.ImageRefused why) shut = inr tt
+shut_drills path image seed frames (outcome.WordsDiffer i w) shut = inr tt
+shut_drills path image seed frames outcome.DiskFault shut = inr tt
+shut_drills path image seed frames outcome.NoMemory shut = inl refl
+shut_drills path image seed frames answer shut = absurd shut
+
+pub session_drills : (path image : List ℕ) (seed frames : ℕ) (answer : Outcome) → RefusesSession answer
+    → (answer ≡ outcome.NoMemory) ⊎ IsOwn (drill_image path image seed frames) answer
+session_drills path image seed frames (outcome.ImageRefused why) refuses = inr tt
+session_drills path image seed frames (outcome.WordsDiffer i w) refuses = inr tt
+session_drills path image seed frames outcome.DiskFault refuses = inr tt
+session_drills path image seed frames outcome.SeqEnd refuses = inr tt
+session_drills path image seed frames outcome.NoMemory refuses = inl refl
+session_drills path image seed frames answer refuses = absurd refuses
+
+pub blocks_drill : (path image : List ℕ) (seed frames : ℕ) (answer : Outcome) → IsOfBlocks answer
+    → (answer ≡ outcome.NoMemory) ⊎ IsOwn (drill_image path image seed frames) answer
+blocks_drill path image seed frames answer of = ⊎_elim
+    (λ (x : answer ≡ outcome.Done). rw x (inr tt))
+    (λ (rest : (answer ≡ outcome.WriteFault) ⊎ (answer ≡ outcome.DiskFault)). ⊎_elim
+    (λ (x : answer ≡ outcome.WriteFault). rw x (inr tt))
+    (λ (x : answer ≡ outcome.DiskFault). rw x (inr tt))
+    rest)
+    of
+
+pub drill_unused : (path image : List ℕ) (seed frames : ℕ) (old new : State) (answer : Outcome) → KeepsLineAndFaults old new
+    → LeavesUnused (drill_image path image seed frames) old new answer
+drill_unused path image seed frames old new answer line = record {
+  line = λ unused. line;
+  disk = λ unused. absurd (unused tt);
+  told = λ unused. absurd (unused tt);
+  trace = λ other memory. absurd other;
+  bits = λ other. absurd other;
+}
+
+-- an image for the table's frames, numbers enough, and no fault: all is done, or memory ended
+pub drill_done : (path image : List ℕ) (seed frames : ℕ) (t : TableRows) (tells : Tells) (old new : State) (before now : Option (List ℕ)) (answer : Outcome)
+    → (answer ≡ outcome.NoMemory) ⊎ IsOwn (drill_image path image seed frames) answer → DrillsImage t seed frames tells old new before now answer
+    → IsTrue tells.bytes → HasRoom t old (generated_trace t seed frames) → (answer ≡ outcome.DiskFault → ⊥) → (answer ≡ outcome.WriteFault → ⊥)
+    → (answer ≡ outcome.Done) ⊎ (answer ≡ outcome.NoMemory)
+drill_done path image seed frames t tells old new before now outcome.Done own is bytes room disk sink = inl refl
+drill_done path image seed frames t tells old new before now outcome.NoMemory own is bytes room disk sink = inr refl
+drill_done path image seed frames t tells old new before now outcome.WriteFault own is bytes room disk sink = absurd (sink refl)
+drill_done path image seed frames t tells old new before now outcome.DiskFault own is bytes room disk sink = absurd (disk refl)
+drill_done path image seed frames t tells old new before now outcome.SeqEnd own is bytes room disk sink =
+    absurd (omega (arith, is.blocks.beyond refl bytes, room.numbers))
+drill_done path image seed frames t tells old new before now (outcome.ImageRefused why) own is bytes room disk sink =
+    absurd (no_first old.held why room.image.no_fault (is.blocks.image.refused why refl bytes))
+drill_done path image seed frames t tells old new before now (outcome.WordsDiffer i w) own is bytes room disk sink =
+    let here = is.blocks.image.words i w refl in
+    absurd (here.1 (sym (here.2 bytes).words ∙ room.image.words ∙ sym here.0))
+drill_done path image seed frames t tells old new before now (outcome.ReadFault input.Table) own is bytes room disk sink =
+    ⊎_elim (λ memory. absurd (cc)) (λ it. absurd it) own
+drill_done path image seed frames t tells old new before now (outcome.ReadFault input.Line) own is bytes room disk sink =
+    ⊎_elim (λ memory. absurd (cc)) (λ it. absurd it) own
+drill_done path image seed frames t tells old new before now answer own is bytes room disk sink = ⊎_elim (λ memory. inr memory) (λ it. absurd it) own
+
+-- where the drill was refused, all is as it was
+pub drill_leaves : (tells : Tells) (old new : State) (before now : Option (List ℕ)) (f g : ℕ) (answer : Outcome) → now ≡ before → g ≡ f
+    → KeepsDisk old new → LearnsExtent tells old new → new.told ≡ old.told → KeepsLineAndFaults old new
+    → LeavesAll tells old new before now f g answer
+drill_leaves tells old new before now f g answer written faults disk learns told line = record {
+  written = written;
+  faults = faults;
+  disk = disk;
+  extent = learns;
+  told = told;
+  line = λ first. line;
+}
+
+-- a generator that was just made
+pub begun_generator : (t : TableRows) (seed frames : ℕ) (g : GeneratorKept) (s : RecordSource) → s ≡ source.Generator g
+    → RepresentsGenerator g (generator_made t seed frames) → frames ≤ most_frames → RepresentsSupply (drawn_trace t seed frames) s [] []
+begun_generator t seed frames g s same stands few =
+    subst (λ (x : RecordSource). RepresentsSupply (drawn_trace t seed frames) x [] []) (sym same)
+    (record { stands = stands; first = refl; unended = refl; within = few; unpulled = refl })

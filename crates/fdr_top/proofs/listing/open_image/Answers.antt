@@ -1,0 +1,9 @@
+use Rattle.std.proofs.Common.{ap, Err}
+use Rattle.fdr_top.proofs.ListedImages.{header_refused}
+use Rattle.fdr_top.proofs.listing.open_image.Goals as goal
+
+pub returns-in-Err-clause-refused : goal.returns-in-Err-clause-refused
+returns-in-Err-clause-refused g c =
+    let e = c.in-Err.ensures in
+    rw c.refusal.ensures (header_refused c.args.sound.now _ _ _ c.in-Err.fault (λ x. e.only.0 (ap Err x)) (λ x. e.only.1 (ap Err x))
+    (λ told why x. e.first_fault told why (ap Err x)) (λ why x. e.small why (ap Err x)))

@@ -1,0 +1,90 @@
+use Rattle.std.proofs.Common.{◌∙◌, ap, refl, Err, arith}
+use Rattle.fdr_top.specs.Recording.{fed}
+use Rattle.fdr_top.specs.Supply.{supplied}
+use Rattle.fdr_top.proofs.SessionEnds.{Continues-closed, Continues-unclosed, keeps_line_then, only_close, ring_of, told_closed}
+use Rattle.fdr_top.proofs.recording.record_all.Goals as goal
+
+pub close-requires-clause-stands : goal.close-requires-clause-stands
+close-requires-clause-stands g c =
+    let r = c.requires in
+    let whole = c.in_ok-fed.ensures.fed r.0 r.1 r.2 in
+    (fed r.1 (supplied r.0 whole.pulled), whole.stands)
+
+pub close-requires-clause-fact : goal.close-requires-clause-fact
+close-requires-clause-fact g c =
+    let r = c.requires in
+    let whole = c.in_ok-fed.ensures.fed r.0 r.1 r.2 in
+    ring_of _ (fed r.1 (supplied r.0 whole.pulled)) _ _ whole.stands whole.ring
+
+pub returns-in-Ok-clause-closed : goal.returns-in-Ok-clause-closed
+returns-in-Ok-clause-closed g c = λ from past is.
+    let whole = c.in_ok-fed.ensures.fed from past is in
+    let p = fed past (supplied from whole.pulled) in
+    let e = c.in-Ok.ensures in
+    Continues-closed from _ past _ _ _ _ _ _ _ (g.met.D.Deck.sound c.args.deck.now) is whole (e.all p whole.stands) (e.records p whole.stands)
+    c.in-Ok.next (e.next p whole.stands) e.room (e.recorded p whole.stands)
+
+pub returns-in-Ok-clause-next : goal.returns-in-Ok-clause-next
+returns-in-Ok-clause-next g c =
+    let r = c.requires in
+    let whole = c.in_ok-fed.ensures.fed r.0 r.1 r.2 in
+    let p = fed r.1 (supplied r.0 whole.pulled) in
+    let e = c.in-Ok.ensures in
+    told_closed r.0 _ r.1 _ _ _ _ _ _ _ (g.met.D.Deck.sound c.args.deck.now) r.2 whole (e.all p whole.stands) (e.records p whole.stands)
+    c.in-Ok.next (e.next p whole.stands) (e.recorded p whole.stands)
+
+pub returns-in-Err-clause-ended : goal.returns-in-Err-clause-ended
+returns-in-Err-clause-ended g c = λ from past is.
+    let whole = c.in_ok-fed.ensures.fed from past is in
+    let p = fed past (supplied from whole.pulled) in
+    let e = c.in-Err.ensures in
+    rw c.refusal.ensures (Continues-unclosed from _ past _ _ _ _ _ _ _ (g.met.D.Deck.sound c.args.deck.now) is whole (e.all p whole.stands)
+    (e.records p whole.stands) c.in-Err.fault (only_close _ e.only) (λ ends. e.seq_end p whole.stands (ap Err ends)))
+
+pub returns-in-Ok-clause-later : goal.returns-in-Ok-clause-later
+returns-in-Ok-clause-later g c =
+    let r = c.requires in
+    let whole = c.in_ok-fed.ensures.fed r.0 r.1 r.2 in
+    omega (arith, r.2.number, whole.stands.next, c.in-Ok.ensures.next (fed r.1 (supplied r.0 whole.pulled)) whole.stands)
+
+pub returns-in-Ok-clause-all : goal.returns-in-Ok-clause-all
+returns-in-Ok-clause-all g c = let r = c.requires in (c.in_ok-fed.ensures.fed r.0 r.1 r.2).all
+
+pub returns-in-Ok-clause-line_fault : goal.returns-in-Ok-clause-line_fault
+returns-in-Ok-clause-line_fault g c = λ fails.
+    let r = c.requires in
+    let whole = c.in_ok-fed.ensures.fed r.0 r.1 r.2 in
+    let same = (c.in-Ok.ensures.records (fed r.1 (supplied r.0 whole.pulled)) whole.stands).line_faults in
+    omega (arith, same, c.in_ok-fed.ensures.line_fault fails)
+
+pub returns-in-Ok-clause-unpulled : goal.returns-in-Ok-clause-unpulled
+returns-in-Ok-clause-unpulled g c = λ is.
+    let r = c.requires in
+    let whole = c.in_ok-fed.ensures.fed r.0 r.1 r.2 in
+    let records = c.in-Ok.ensures.records (fed r.1 (supplied r.0 whole.pulled)) whole.stands in
+    keeps_line_then _ _ _ _ (c.in_ok-fed.ensures.unpulled is) refl records.line records.line_faults
+
+pub returns-in-Ok-clause-extent : goal.returns-in-Ok-clause-extent
+returns-in-Ok-clause-extent g c =
+    let r = c.requires in
+    let whole = c.in_ok-fed.ensures.fed r.0 r.1 r.2 in
+    (c.in-Ok.ensures.records (fed r.1 (supplied r.0 whole.pulled)) whole.stands).extent ∙ c.in_ok-fed.ensures.extent
+
+pub returns-in-Err-clause-unpulled : goal.returns-in-Err-clause-unpulled
+returns-in-Err-clause-unpulled g c = λ is.
+    let r = c.requires in
+    let whole = c.in_ok-fed.ensures.fed r.0 r.1 r.2 in
+    let records = c.in-Err.ensures.records (fed r.1 (supplied r.0 whole.pulled)) whole.stands in
+    keeps_line_then _ _ _ _ (c.in_ok-fed.ensures.unpulled is) refl records.line records.line_faults
+
+pub returns-in-Err-clause-extent : goal.returns-in-Err-clause-extent
+returns-in-Err-clause-extent g c =
+    let r = c.requires in
+    let whole = c.in_ok-fed.ensures.fed r.0 r.1 r.2 in
+    (c.in-Err.ensures.records (fed r.1 (supplied r.0 whole.pulled)) whole.stands).extent ∙ c.in_ok-fed.ensures.extent
+
+pub returns-in-Ok-clause-disk_quiet : goal.returns-in-Ok-clause-disk_quiet
+returns-in-Ok-clause-disk_quiet g c =
+    let r = c.requires in
+    let whole = c.in_ok-fed.ensures.fed r.0 r.1 r.2 in
+    (c.in-Ok.ensures.recorded (fed r.1 (supplied r.0 whole.pulled)) whole.stands).disk_faults ∙ c.in_ok-fed.ensures.disk_quiet

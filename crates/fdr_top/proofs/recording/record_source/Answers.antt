@@ -1,0 +1,32 @@
+use Rattle.std.proofs.Common.{◌∙◌, ap, rules, Err}
+use Rattle.fdr_recorder.specs.Past.{started}
+use Rattle.fdr_top.proofs.RecordLines.{RecordsSupply-refused, RecordsSupply-started}
+use Rattle.fdr_top.proofs.SessionEnds.{begun_at, cut_begun, cut_reads, reading_begun}
+use Rattle.fdr_top.proofs.recording.record_source.Goals as goal
+
+pub returns-in-Err-clause-ended : goal.returns-in-Err-clause-ended
+returns-in-Err-clause-ended g c = λ from gives.
+    let e = c.in-Err.ensures in
+    rw c.refusal.ensures (RecordsSupply-refused from c.args.sound.now _ _ _ c.in-Err.fault c.start.ensures.starts
+    (λ ends. e.numbers (ap Err ends)) (λ bytes why is. e.image bytes why (ap Err is)) (λ why is. e.small why (ap Err is))
+    (λ image table is. e.words image table (ap Err is)))
+
+pub returns-in_err-closed-clause-ended : goal.returns-in_err-closed-clause-ended
+returns-in_err-closed-clause-ended g c = λ from gives.
+    let s = g.met.D.Deck.sound in
+    let e = c.in_err-closed.ensures in
+    let is = RecordsSupply-started from c.args.sound.now _ c.in-Ok.session _ _ _ _ (s c.args.deck.now) (s c.start.new.deck) c.start.ensures.starts
+    c.in-Ok.ensures.started (e.ended from (started _ _ _) (begun_at _ _ from c.in-Ok.session _ _ _ c.in-Ok.ensures.started gives))
+    (cut_begun _ e.only) (cut_reads _ e.only) c.in-Ok.ensures.good in
+    search rules
+
+pub returns-clause-recorded : goal.returns-clause-recorded
+returns-clause-recorded g c = λ from gives.
+    let s = g.met.D.Deck.sound in
+    let e = c.in_ok-closed.ensures in
+    RecordsSupply-started from c.args.sound.now _ c.in-Ok.session _ _ _ _ (s c.args.deck.now) (s c.start.new.deck) c.start.ensures.starts
+    c.in-Ok.ensures.started (e.closed from (started _ _ _) (begun_at _ _ from c.in-Ok.session _ _ _ c.in-Ok.ensures.started gives))
+    (reading_begun _ e.all) (λ all. e.all) c.in-Ok.ensures.good
+
+pub returns-clause-disk_quiet : goal.returns-clause-disk_quiet
+returns-clause-disk_quiet g c = c.in_ok-closed.ensures.disk_quiet ∙ c.in-Ok.ensures.quiet (λ x. absurd (cc))

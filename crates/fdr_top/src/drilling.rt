@@ -1,0 +1,183 @@
+//! A recording that generates its own trace, and tells what the image then lists as.
+
+ghost use Rattle.std.specs.Prelude.{◌≡◌, ◌≢◌, ◌⊎◌, ◌+◌, ◌*◌, ◌≤◌, ℕ, List, [], ◌++◌, length, take, vec_len, vec_capacity, IsTrue};
+ghost use Rattle.fdr_io.specs.Faults.{Rose};
+ghost use Rattle.fdr_io.specs.Told.{followed_by};
+ghost use Rattle.fdr_deck.specs.Disk.{KeepsDisk, LearnsExtent};
+ghost use Rattle.fdr_frame.specs.WordCount.{IsWordCount};
+ghost use Rattle.fdr_slot.specs.Limits.{IsInLimits};
+ghost use Rattle.fdr_slot.specs.Places.{image_size};
+ghost use Rattle.fdr_recover.specs.Images.{recovered_run};
+ghost use Rattle.fdr_recover.specs.Looks.{Looks};
+ghost use Rattle.fdr_gen.specs.Trace.{most_frames};
+ghost use Rattle.fdr_recon.specs.Past.{RepresentsRebuild};
+ghost use Rattle.fdr_readout.specs.Summary.{summary_of};
+ghost use Rattle.fdr_table.specs.Bounds.{most_table_bytes};
+ghost use Rattle.fdr_table.specs.Ranges.{IsInRange};
+ghost use Rattle.fdr_table.specs.Rows.{TableRows};
+ghost use Rattle.fdr_check.specs.Soundness.{IsSound};
+ghost use Rattle.fdr_words.specs.Forms.{drill_image};
+ghost use Rattle.fdr_top.specs.Answers.{EndsBeforeDeck, IsOwn, KeepsLineAndFaults, MayAnswer, WritesNothing};
+ghost use Rattle.fdr_top.specs.Complete.{IsFaultless, IsWholeInput};
+ghost use Rattle.fdr_top.specs.Drill.{DrillsImage, drill_text, field_text};
+ghost use Rattle.fdr_top.specs.Leaves.{Causes, LeavesAll, LeavesUnused};
+ghost use Rattle.fdr_top.specs.Limits.{TakesAtMost, piece_bytes};
+ghost use Rattle.fdr_top.specs.Recover.{payloads_of};
+ghost use Rattle.fdr_top.specs.Tables.{ByTable, ReadsItsTable};
+
+use crate::listing::{ImageReader, open_image, read_run};
+use crate::load::load_table;
+use crate::outcome::Outcome;
+use crate::recording::record_source;
+use crate::supply::RecordSource;
+use fdr_check::Sound;
+use fdr_deck::Deck;
+use fdr_gen::Gen;
+use fdr_io::{Failed, Sink, Source, write_whole};
+use fdr_listing::Line;
+use fdr_readout::{Summary, summarize};
+use std::alloc::Global;
+
+/// Adds a comma and a number, where there is room for the longest.
+#[tactic(auto, using(fdr_listing::proofs::Lengths::numbers))]
+fn add_field(line: &mut Line, number: u64)
+    requires { length line.old ≤ 75 }
+    ensures text { line.new ≡ line.old ++ field_text number }
+    ensures few { length line.new ≤ length line.old + 21 }
+{
+    line.add(b",");
+    line.add_number(number);
+}
+
+/// The line of a drill that recorded so many blocks: what the image then lists as.
+#[tactic(auto, unfolding(crate::specs::Drill::drill_text))]
+fn drill_line(blocks: u64, summary: &Summary) -> Line
+    ensures { result ≡ drill_text blocks summary.now }
+{
+    let mut line = Line::new();
+    line.add(b"drill");
+    add_field(&mut line, blocks);
+    add_field(&mut line, summary.frames);
+    add_field(&mut line, summary.rows);
+    add_field(&mut line, summary.sum);
+    line.add(b"\n");
+    line
+}
+
+/// Reads the blocks that an opened image holds, and writes the line of what they list as.
+fn write_summary<D: Deck, O: Sink>(
+    reader: ImageReader,
+    sound: &Sound,
+    blocks: u64,
+    deck: &mut D,
+    out: &mut O,
+) -> Outcome
+    requires word_count { IsWordCount sound.now.frame.words }
+    requires memory { vec_len reader.work.words ≡ 4 * sound.now.frame.words }
+    requires fresh { RepresentsRebuild reader.work.rebuild sound.now [] }
+    requires limits { IsInLimits reader.header }
+    requires whole { image_size reader.header ≤ (D.state deck.old).extent }
+    requires room { reader.header.slots * reader.header.payload ≤ vec_capacity reader.bytes }
+    requires empty { reader.bytes.items ≡ [] }
+    ensures answer { (result ≡ Outcome.Done) ⊎ ((result ≡ Outcome.WriteFault) ⊎ (result ≡ Outcome.DiskFault)) }
+    ensures text { result ≡ Outcome.Done → IsTrue D.tells.bytes → O.written out.new ≡ followed_by (O.written out.old)
+        (drill_text blocks (summary_of sound.now (payloads_of (recovered_run reader.header (D.state deck.old).held)))) }
+    ensures part { result ≡ Outcome.WriteFault → IsTrue D.tells.bytes → (k : ℕ) × (O.written out.new ≡ followed_by (O.written out.old)
+        (take k (drill_text blocks (summary_of sound.now (payloads_of (recovered_run reader.header (D.state deck.old).held)))))) }
+    ensures looks { Looks D.tells (D.state deck.old) (D.state deck.new) }
+    ensures unread { result ≡ Outcome.DiskFault → out.new ≡ out.old }
+    ensures disk_fault { result ≡ Outcome.DiskFault
+        → Rose (D.state deck.old).disk_faults (D.state deck.new).disk_faults }
+    ensures write_fault { result ≡ Outcome.WriteFault → Rose (O.faults out.old) (O.faults out.new) }
+{
+    let ImageReader {
+        mut work,
+        header,
+        mut bytes,
+    } = reader;
+    match read_run(deck, &header, &mut bytes) {
+        Ok(()) => {}
+        Err(Failed) => return Outcome::DiskFault,
+    }
+    let summary = summarize(&mut work, sound, &bytes);
+    match write_whole(out, drill_line(blocks, &summary).bytes()) {
+        Ok(()) => Outcome::Done,
+        Err(Failed) => Outcome::WriteFault,
+    }
+}
+
+/// Records the trace of a seed in the deck's image by a table, and writes the line of what the image then lists as. All memory
+/// is taken before the disk is written.
+fn drill_image<D: Deck, O: Sink>(
+    alloc: Global,
+    sound: &Sound,
+    seed: u64,
+    frames: u32,
+    deck: &mut D,
+    out: &mut O,
+) -> Outcome
+    requires word_count { IsWordCount sound.now.frame.words }
+    requires in_range { IsInRange sound.now }
+    requires sound { IsSound sound.now }
+    requires some_frames { 1 ≤ frames }
+    requires frame_limit { frames ≤ most_frames }
+    ensures answer { (path image : List ℕ) → (result ≡ Outcome.NoMemory) ⊎ IsOwn (drill_image path image seed frames) result }
+    ensures drills { DrillsImage sound.now seed frames D.tells (D.state deck.old) (D.state deck.new)
+        (O.written out.old) (O.written out.new) result }
+    ensures untouched { WritesNothing result → KeepsDisk (D.state deck.old) (D.state deck.new) }
+    ensures told { WritesNothing result → (D.state deck.new).told ≡ (D.state deck.old).told }
+    ensures line { KeepsLineAndFaults (D.state deck.old) (D.state deck.new) }
+    ensures learns { LearnsExtent D.tells (D.state deck.old) (D.state deck.new) }
+    ensures disk_fault { result ≡ Outcome.DiskFault
+        → Rose (D.state deck.old).disk_faults (D.state deck.new).disk_faults }
+    ensures write_fault { result ≡ Outcome.WriteFault → Rose (O.faults out.old) (O.faults out.new) }
+    ensures unwritten { result ≢ Outcome.Done → result ≢ Outcome.WriteFault → out.new ≡ out.old }
+{
+    let reader = match open_image(alloc, sound, deck) {
+        Ok(reader) => reader,
+        Err(answer) => return answer,
+    };
+    let Ok(generator) = Gen::new(alloc, sound, seed, frames) else {
+        return Outcome::NoMemory;
+    };
+    let mut source = RecordSource::Generator(generator);
+    match record_source(alloc, sound, &mut source, deck) {
+        Ok(recorded) => write_summary(reader, sound, recorded.blocks, deck, out),
+        Err(answer) => answer,
+    }
+}
+
+/// `drill`: reads a table, records the trace of a seed in the deck's image, and writes a line of what the image then lists as.
+pub fn drill<T: Source, D: Deck, O: Sink>(
+    alloc: Global,
+    seed: u64,
+    frames: u32,
+    table: &mut T,
+    deck: &mut D,
+    out: &mut O,
+) -> Outcome
+    requires some_frames { 1 ≤ frames }
+    requires frame_limit { frames ≤ most_frames }
+    ensures answers { (path image : List ℕ) → MayAnswer (drill_image path image seed frames) result }
+    ensures table { ReadsItsTable (T.rest table.old) (T.rest table.new) result }
+    ensures bounded { TakesAtMost (most_table_bytes + piece_bytes) (T.rest table.old) (T.rest table.new) }
+    ensures deck_untouched { EndsBeforeDeck result → deck.new ≡ deck.old }
+    ensures refusal { WritesNothing result → LeavesAll D.tells (D.state deck.old) (D.state deck.new)
+        (O.written out.old) (O.written out.new) (O.faults out.old) (O.faults out.new) result }
+    ensures unused { (path image : List ℕ)
+        → LeavesUnused (drill_image path image seed frames) (D.state deck.old) (D.state deck.new) result }
+    ensures causes { Causes result (T.faults table.old) (T.faults table.new) (D.state deck.old) (D.state deck.new)
+        (O.faults out.old) (O.faults out.new) }
+    ensures drill { ByTable (T.rest table.old) (λ (t : TableRows). DrillsImage t seed frames D.tells
+        (D.state deck.old) (D.state deck.new) (O.written out.old) (O.written out.new) result) }
+    ensures complete { (path image : List ℕ)
+        → IsWholeInput (drill_image path image seed frames) (T.rest table.old) D.tells (D.state deck.old)
+        → IsFaultless (drill_image path image seed frames) (T.faults table.old) (T.faults table.new)
+        (D.state deck.old) (D.state deck.new) (O.faults out.old) (O.faults out.new)
+        → (result ≡ Outcome.Done) ⊎ (result ≡ Outcome.NoMemory) }
+{
+    match load_table(alloc, table) {
+        Ok(sound) => drill_image(alloc, &sound, seed, frames, deck, out),
+        Err(answer) => answer,
+    }
+}
