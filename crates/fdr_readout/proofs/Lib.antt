@@ -2,6 +2,8 @@ pub mod Recordable
 pub mod SoFarLemmas
 pub mod Lines
 pub mod EntryLemmas
+pub mod EventFrames
+pub mod Readings
 pub mod TakerLemmas
 pub mod SummaryLemmas
 pub mod PackedWords

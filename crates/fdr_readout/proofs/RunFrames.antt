@@ -16,11 +16,10 @@ use Rattle.fdr_sync.specs.Events.{Event, Frame, gap_between, events_from, events
 use Rattle.fdr_sync.proofs.FrameLemmas.{frame_within}
 use Rattle.fdr_sync.proofs.SameLemmas.{frame_same}
 use Rattle.fdr_sync.proofs.EventSteps.{events_from_first}
-use Rattle.fdr_readout.specs.FramesSoFar.{SoFar}
 use Rattle.fdr_readout.specs.Listing.{accepted_to}
 use Rattle.fdr_readout.specs.Survival.{IsClearBefore, Survives, frames_from}
 use Rattle.fdr_readout.proofs.Recordable.{IsRecordable}
-use Rattle.fdr_readout.proofs.SoFarLemmas.{SoFar-none, all_split, accepted_to_next, adjacent_next, so_far_next}
+use Rattle.fdr_readout.proofs.SoFarLemmas.{SoFar, SoFar-none, all_split, accepted_to_next, adjacent_next, so_far_next}
 use Rattle.fdr_readout.proofs.StreamFrames.{frame_place, some_words, next_frame}
 
 -- ---- a search comes to a frame that no other one reaches into

@@ -10,17 +10,22 @@ use Rattle.std.proofs.lemmas.Bool.Decides.{nat_tests}
 use Rattle.std.proofs.Math.Nat.{eq-or-lt_of_le}
 use Rattle.fdr_sync.specs.Frames.{IsFirstFrameFrom}
 use Rattle.fdr_sync.specs.Accepted.{accepted_from, accepted_frames}
-use Rattle.fdr_readout.specs.FramesSoFar.{SoFar}
 use Rattle.fdr_sync.proofs.ChoiceLemmas.{accepted_first}
 use Rattle.fdr_sync.proofs.AcceptedLemmas.{accepted_behind}
 use Rattle.fdr_lists.proofs.Filters.{filter_none}
 use Rattle.std.proofs.Math.Bool.{or-false, or-true}
 use Rattle.std.proofs.lemmas.Bool.{le-leb, lt-leb, ne_eqb, eq-eqb, lt-ltb, le-ltb, and_from}
 
+-- xs are the accepted frames that end at bit `free` or before it: none, or the last of them ends there.
+pub record SoFar (b : List ℕ) (w free : ℕ) (xs : List ℕ) : Type 0 where
+  pub all : accepted_frames b w ≡ xs ++ accepted_from b w free
+  pub before : All (λ x. x + 48 * w ≤ free) xs
+  pub last : (free ≡ 0) ⊎ ((0 < free) × (list_any (λ x. x + 48 * w == free) xs ≡ true))
+
 pub SoFar-none : (b : List ℕ) (w : ℕ) → SoFar b w 0 []
 SoFar-none b w = record { all = refl; before = λ k d h. absurd (omega arith); last = inl refl }
 
-filter_all : (p : ℕ → Bool) (xs : List ℕ) → All (λ x. p x ≡ true) xs → filter p xs ≡ xs
+pub filter_all : (p : ℕ → Bool) (xs : List ℕ) → All (λ x. p x ≡ true) xs → filter p xs ≡ xs
 filter_all p [] h = refl
 filter_all p (x ∷ xs) h =
     let head = All-head (λ x. p x ≡ true) x xs h in

@@ -14,8 +14,7 @@ use Rattle.fdr_sync.proofs.FrameLemmas.{frame_within, frame_by_syncs}
 use Rattle.fdr_sync.proofs.FrameSteps.{word_count_some}
 use Rattle.fdr_readout.proofs.Recordable.{IsRecordable}
 use Rattle.fdr_readout.specs.SampledRows.{whole_frames}
-use Rattle.fdr_readout.specs.FramesSoFar.{SoFar}
-use Rattle.fdr_readout.proofs.SoFarLemmas.{SoFar-none, so_far_next}
+use Rattle.fdr_readout.proofs.SoFarLemmas.{SoFar, SoFar-none, so_far_next}
 use Rattle.fdr_readout.proofs.SlotKinds.{slot_word-sync}
 use Rattle.fdr_readout.proofs.RecordedWords.{word_at-stream, stream-bits}
 

@@ -1,5 +1,5 @@
 -- What bits hold, entry by entry: their gaps, their accepted frames, and behind each frame its rows.
-use Rattle.std.specs.Prelude.{ℕ, ◌-◌, Bool, true, false, nat_lt, if◌then◌else◌, List, [], ◌∷◌, length, map, Option, Some, None}
+use Rattle.std.specs.Prelude.{ℕ, ◌-◌, Bool, true, false, List, [], ◌∷◌, length, map, Option, Some, None}
 use Rattle.std.specs.List.{flat_map}
 use Rattle.fdr_sync.specs.Events.{Event, Frame, Gap, events_of}
 use Rattle.fdr_table.specs.Rows.{TableRows}
@@ -14,10 +14,6 @@ pub data Entry : Type 0 where
   FrameEntry : Entry
   RowEntry : Row → Entry
 
--- the entry of the gap from one bit to another, if there is a bit between them
-unfoldable pub gap_entries : ℕ → ℕ → List Entry
-gap_entries from end = if nat_lt from end then GapEntry from (end - from) ∷ [] else []
-
 -- the entry of a row, where it is listed
 unfoldable pub row_entries : Option Row → List Entry
 row_entries None = []
@@ -27,7 +23,12 @@ row_entries (Some r) = RowEntry r ∷ []
 unfoldable pub last_frame_entries : TableRows → List ReadFrame → List Entry
 last_frame_entries t frames = FrameEntry ∷ flat_map row_entries (rows_looked_at t frames (length frames - 1))
 
--- the entries of an event
+-- the entries of an event, where these frames were read up to it
+abbrev pub event_entries : TableRows → List ReadFrame → Event → List Entry
+event_entries t read (Frame a) = last_frame_entries t read
+event_entries t read (Gap a n) = GapEntry a n ∷ []
+
+-- the entries of an event of bytes
 unfoldable pub entries_at : TableRows → List ℕ → Event → List Entry
 entries_at t b (Frame a) = FrameEntry ∷ map RowEntry (rows_at t b a)
 entries_at t b (Gap a n) = GapEntry a n ∷ []

@@ -1,6 +1,7 @@
 pub mod Listing
-pub mod FramesSoFar
 pub mod Entries
+pub mod Reading
+pub mod Fresh
 pub mod Takers
 pub mod Summary
 pub mod TakersSound

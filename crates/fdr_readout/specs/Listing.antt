@@ -1,12 +1,12 @@
 -- The listing of a bit list: the text of its gaps and of the rows of its accepted frames, in bit order.
-use Rattle.std.specs.Prelude.{ℕ, ◌+◌, ◌-◌, ◌*◌, ◌==◌, nat_le, nat_lt, if◌then◌else◌, List, [], length, map, filter, Option, Some, None}
+use Rattle.std.specs.Prelude.{ℕ, ◌+◌, ◌-◌, ◌*◌, ◌==◌, nat_le, nat_lt, if◌then◌else◌, List, [], length, map, filter}
 use Rattle.std.specs.List.{flat_map, range_with_len, list_any}
 use Rattle.fdr_bits.specs.Bits.{word_at}
 use Rattle.fdr_sync.specs.Accepted.{accepted_frames}
 use Rattle.fdr_sync.specs.Events.{Event, Frame, Gap, events_of}
 use Rattle.fdr_table.specs.Rows.{TableRows}
 use Rattle.fdr_recon.specs.declared.Row.{Row}
-use Rattle.fdr_recon.specs.Rows.{ReadFrame, rows_of_frame, rows_looked_at, param_at}
+use Rattle.fdr_recon.specs.Rows.{ReadFrame, rows_of_frame, param_at}
 use Rattle.fdr_listing.specs.Text.{gap_text, row_text}
 
 -- the words of the frame that begins at bit a
@@ -28,15 +28,6 @@ rows_at t b a = let before = accepted_to b t.frame.words a in rows_of_frame t (m
 -- the line of a row, with its parameter's name and number of decimals
 unfoldable pub row_line_of : TableRows → Row → List ℕ
 row_line_of t r = let p = param_at t.params r.param in row_text r p.name p.decimals
-
--- the line of a row, where it is listed
-unfoldable pub row_lines : TableRows → Option Row → List ℕ
-row_lines t None = []
-row_lines t (Some r) = row_line_of t r
-
--- the lines of the last of the frames that were read
-unfoldable pub last_frame_lines : TableRows → List ReadFrame → List ℕ
-last_frame_lines t frames = flat_map (row_lines t) (rows_looked_at t frames (length frames - 1))
 
 -- the line of the gap from one bit to another, if there is a bit between them
 unfoldable pub gap_lines : ℕ → ℕ → List ℕ

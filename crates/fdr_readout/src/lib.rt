@@ -4,6 +4,7 @@
 #![tactic(auto)]
 
 mod entries;
+mod events;
 mod law;
 mod listing;
 mod takers;

@@ -4,10 +4,10 @@ use Rattle.fdr_io.specs.Told.{followed_by}
 use Rattle.fdr_deck.specs.State.{State, Tells}
 use Rattle.fdr_slot.specs.Limits.{IsInLimits}
 use Rattle.fdr_slot.specs.Places.{image_size}
-use Rattle.fdr_recon.specs.Past.{RepresentsRebuild}
 use Rattle.fdr_recover.specs.ImageHeader.{header_in}
 use Rattle.fdr_table.specs.Rows.{TableRows}
 use Rattle.fdr_readout.specs.Listing.{listing_of}
+use Rattle.fdr_readout.specs.Fresh.{IsFresh}
 use Rattle.fdr_recorder.specs.Starting.{IsFor}
 use Rattle.fdr_top.specs.Refusals.{RefusesImage}
 use Rattle.fdr_top.specs.Recover.{OnlyLooks, payloads_of, run_in}
@@ -34,9 +34,7 @@ pub record IsOpened (t : TableRows) (tells : Tells) (old new : State) (r : Image
   pub whole : image_size r.header ≤ new.extent
   pub header : IsTrue tells.bytes → r.header ≡ header_in old.held
   pub image : IsTrue tells.bytes → IsFor t.frame.words old.held
-  pub memory : vec_len r.work.words ≡ 4 * t.frame.words
-  pub fresh : RepresentsRebuild r.work.rebuild t []
-  pub unwritten : r.work.buffer ≡ []
+  pub fresh : IsFresh t r.work
   pub room : r.header.slots * r.header.payload ≤ vec_capacity r.bytes
   pub empty : r.bytes.items ≡ []
 

@@ -5,11 +5,11 @@ ghost use Rattle.fdr_io.specs.Faults.{Rose};
 ghost use Rattle.fdr_io.specs.Told.{followed_by};
 ghost use Rattle.fdr_deck.specs.Calls.{LeavesDisk};
 ghost use Rattle.fdr_frame.specs.WordCount.{IsWordCount};
-ghost use Rattle.fdr_recon.specs.Past.{RepresentsRebuild};
 ghost use Rattle.fdr_top.specs.Answers.{EndsBeforeDeck, IsOwn, IsPastTable, MayAnswer, WritesNothing};
 ghost use Rattle.fdr_top.specs.Listbits.{Lists, ListsLine, answer_of};
 ghost use Rattle.fdr_top.specs.Limits.{TakesAtMost, most_line_bytes, piece_bytes};
 ghost use Rattle.fdr_readout.specs.Listing.{listing_of};
+ghost use Rattle.fdr_readout.specs.Fresh.{IsFresh};
 ghost use Rattle.fdr_table.specs.Bounds.{most_table_bytes};
 ghost use Rattle.fdr_table.specs.Rows.{TableRows};
 ghost use Rattle.fdr_words.specs.Forms.{list_bits};
@@ -48,10 +48,7 @@ fn answer_of(end: LineEnd) -> Outcome
 
 /// Writes the listing of what was pulled of a line, and gives the answer.
 fn write_line<O: Sink>(work: &mut Readout, sound: &Sound, line: &PulledLine, out: &mut O) -> Outcome
-    requires word_count { IsWordCount sound.now.frame.words }
-    requires room { vec_len work.old.words ≡ 4 * sound.now.frame.words }
-    requires fresh { RepresentsRebuild work.old.rebuild sound.now [] }
-    requires empty { work.old.buffer ≡ [] }
+    requires fresh { IsFresh sound.now work.old }
     ensures answer { (result ≡ Outcome.WriteFault) ⊎ (result ≡ answer_of line.now.end) }
     ensures text { result ≢ Outcome.WriteFault
         → O.written out.new ≡ followed_by (O.written out.old) (listing_of sound.now (take most_line_bytes line.now.bytes.items)) }

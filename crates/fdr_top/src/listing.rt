@@ -8,8 +8,8 @@ ghost use Rattle.fdr_slot.specs.Limits.{IsInLimits};
 ghost use Rattle.fdr_slot.specs.Places.{image_size};
 ghost use Rattle.fdr_recover.specs.Images.{payload_at, recovered_run};
 ghost use Rattle.fdr_recover.specs.Looks.{Looks};
-ghost use Rattle.fdr_recon.specs.Past.{RepresentsRebuild};
 ghost use Rattle.fdr_readout.specs.Listing.{listing_of};
+ghost use Rattle.fdr_readout.specs.Fresh.{IsFresh};
 ghost use Rattle.fdr_table.specs.Bounds.{most_table_bytes};
 ghost use Rattle.fdr_table.specs.Rows.{TableRows};
 ghost use Rattle.fdr_words.specs.Forms.{list_image};
@@ -160,10 +160,7 @@ fn list_blocks<D: Deck, O: Sink>(
     deck: &mut D,
     out: &mut O,
 ) -> Outcome
-    requires word_count { IsWordCount sound.now.frame.words }
-    requires memory { vec_len reader.work.words ≡ 4 * sound.now.frame.words }
-    requires fresh { RepresentsRebuild reader.work.rebuild sound.now [] }
-    requires unwritten { reader.work.buffer ≡ [] }
+    requires fresh { IsFresh sound.now reader.work }
     requires limits { IsInLimits reader.header }
     requires whole { image_size reader.header ≤ (D.state deck.old).extent }
     requires room { reader.header.slots * reader.header.payload ≤ vec_capacity reader.bytes }

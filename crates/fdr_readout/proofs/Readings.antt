@@ -1,0 +1,76 @@
+-- A reader of events goes on.
+use Rattle.std.proofs.Common.{◌≡◌, ℕ, ◌+◌, ◌*◌, ◌≤◌, ◌==◌, Bool, true, false, List, [], ◌∷◌, ◌++◌, map}
+use Rattle.std.proofs.Common.{sym, ap, refl, ◌∙◌, arith, append_assoc, append-nil}
+use Rattle.std.specs.Prelude.{Some, is_some}
+use Rattle.std.specs.List.{filter_map, list_any}
+use Rattle.std.proofs.lemmas.List.{map-append}
+use Rattle.std.proofs.lemmas.List.Elements.{filter_map-append}
+use Rattle.std.proofs.lemmas.List.Sums.{fold-append}
+use Rattle.fdr_lists.proofs.Ranges.{map-range-agree}
+use Rattle.fdr_bits.specs.Bits.{bits_in, word_at}
+use Rattle.fdr_bits.proofs.AppendLemmas.{word_at_append_left}
+use Rattle.fdr_sync.specs.Accepted.{accepted_frames}
+use Rattle.fdr_sync.specs.Events.{Event, Frame, Gap, frame_of_event}
+use Rattle.fdr_resync.specs.Past.{ScannerPast, scanner_with_bytes, scanner_with_events, scanner_finished}
+use Rattle.fdr_resync.specs.Adjacency.{ends_with_frame}
+use Rattle.fdr_resync.specs.declared.Event.{Event as Answer}
+use Rattle.fdr_resync.specs.declared.Event.TheVariants.{Frame as FrameAnswer, Gap as GapAnswer}
+use Rattle.fdr_resync.specs.Answers.{answered_event, answered_frame}
+use Rattle.fdr_table.specs.Rows.{TableRows}
+use Rattle.fdr_recon.specs.Rows.{ReadFrame}
+use Rattle.fdr_recon.specs.Past.{read_frame}
+use Rattle.fdr_readout.specs.Listing.{frame_read, frame_words}
+use Rattle.fdr_readout.specs.Reading.{MayGoOn, AreRead}
+
+-- the words of a frame that is whole
+words_stay : (b more : List ℕ) (w a : ℕ) → a + 48 * w ≤ bits_in b → frame_words (b ++ more) w a ≡ frame_words b w a
+unfolding frame_words
+words_stay b more w a within =
+    map-range-agree (λ k. word_at (b ++ more) (a + 12 * k)) (λ k. word_at b (a + 12 * k)) 0 (4 * w)
+    (λ k low high. word_at_append_left b more (a + 12 * k) (omega arith))
+
+pub ends_with_one : (es : List Event) (e : Event) → ends_with_frame (es ++ e ∷ []) ≡ is_some (frame_of_event e)
+ends_with_one es e = fold-append (λ was e. is_some (frame_of_event e)) false es (e ∷ [])
+
+-- ---- what was read, as the past goes on
+
+pub read_made : (t : TableRows) (past : ScannerPast) → past.taken ≡ [] → AreRead t past []
+read_made t past none = λ more may. ap (λ es. map (frame_read (past.bytes ++ more) t.frame.words) (filter_map frame_of_event es)) (sym none)
+
+pub read_on : (t : TableRows) (past : ScannerPast) (piece : List ℕ) (read : List ReadFrame) → past.finished ≡ false → AreRead t past read
+    → AreRead t (scanner_with_bytes past piece) read
+read_on t past piece read going is = λ more may.
+    is (piece ++ more) (λ finished. let wrong : true ≡ false = sym finished ∙ going in cc)
+    ∙ ap (λ b. map (frame_read b t.frame.words) (filter_map frame_of_event past.taken)) (sym (append_assoc past.bytes piece more))
+
+pub read_to_end : (t : TableRows) (past : ScannerPast) (read : List ReadFrame) → AreRead t past read → AreRead t (scanner_finished past) read
+read_to_end t past read is = λ more may. is more (λ finished. may refl)
+
+pub read_gap : (t : TableRows) (past : ScannerPast) (a n : ℕ) (read : List ReadFrame) → AreRead t past read
+    → AreRead t (scanner_with_events past (Gap a n ∷ [])) read
+read_gap t past a n read is = λ more may.
+    is more may
+    ∙ ap (map (frame_read (past.bytes ++ more) t.frame.words))
+    (sym (filter_map-append frame_of_event past.taken (Gap a n ∷ []) ∙ append-nil (filter_map frame_of_event past.taken)))
+
+pub read_one : (t : TableRows) (past : ScannerPast) (a : ℕ) (adjacent : Bool) (read : List ReadFrame) → a + 48 * t.frame.words ≤ bits_in past.bytes
+    → ((more : List ℕ) → MayGoOn past more
+    → list_any (λ x. x + 48 * t.frame.words == a) (accepted_frames (past.bytes ++ more) t.frame.words) ≡ adjacent)
+    → AreRead t past read
+    → AreRead t (scanner_with_events past (Frame a ∷ [])) (read ++ read_frame adjacent (frame_words past.bytes t.frame.words a) ∷ [])
+unfolding frame_read
+read_one t past a adjacent read within joined is = λ more may.
+    let w = t.frame.words in
+    let b = past.bytes ++ more in
+    let f = frame_read b w in
+    let xs = filter_map frame_of_event past.taken in
+    let here : f a ≡ read_frame adjacent (frame_words past.bytes w a) =
+    ap (λ (j : Bool). read_frame j (frame_words b w a)) (joined more may) ∙ ap (read_frame adjacent) (words_stay past.bytes more w a within) in
+    ap (λ (front : List ReadFrame). front ++ read_frame adjacent (frame_words past.bytes w a) ∷ []) (is more may)
+    ∙ ap (λ (r : ReadFrame). map f xs ++ r ∷ []) (sym here)
+    ∙ sym (map-append f xs (a ∷ []))
+    ∙ ap (map f) (sym (filter_map-append frame_of_event past.taken (Frame a ∷ [])))
+
+pub frame_answered : (e : Answer) → answered_frame (Some e) ≡ frame_of_event (answered_event e)
+frame_answered (FrameAnswer at) = refl
+frame_answered (GapAnswer at bits) = refl

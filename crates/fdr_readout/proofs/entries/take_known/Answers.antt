@@ -1,0 +1,103 @@
+use Rattle.std.proofs.Common.{◌≡◌, ◌<◌, Some, length, [], ◌∷◌, ◌++◌, refl, sym, ap, ◌∙◌, subst, append_assoc, append-nil}
+use Rattle.std.specs.Prelude.{IsSome}
+use Rattle.std.proofs.lemmas.Result.{err_from_is_err_and}
+use Rattle.fdr_sync.specs.Events.{events_of}
+use Rattle.fdr_resync.specs.Past.{scanner_with_events, known_events}
+use Rattle.fdr_resync.specs.Answers.{answered_event, answered_frame}
+use Rattle.fdr_readout.specs.Entries.{event_entries}
+use Rattle.fdr_readout.specs.Reading.{ReadsEvents, entries_in}
+use Rattle.fdr_readout.proofs.EventFrames.{some_read, entries_step, entries_rest}
+use Rattle.fdr_readout.proofs.Readings.{frame_answered}
+use Rattle.fdr_readout.proofs.entries.take_known.Goals as goal
+
+pub loop-event-init : goal.loop-event-init
+loop-event-init g c = record {
+  taken = λ past reads. (
+    [],
+    [],
+    subst (λ es. ReadsEvents c.args.table.now c.args.reader.now (record past { taken = es })) (sym (append-nil past.taken)) reads,
+    g.met.T.Taker.laws.nothing _ _ _,
+    λ more may. ap (entries_in c.args.table.now (past.bytes ++ more)) (append-nil past.taken)
+        ∙ sym (append-nil (entries_in c.args.table.now (past.bytes ++ more) past.taken)),
+  );
+  pushed = refl;
+  ended = refl;
+  quiet = refl;
+}
+
+pub take_event-requires : goal.take_event-requires
+take_event-requires g c =
+    let past = c.requires.0 in
+    let inv = c.loop-event.invariant.taken past c.requires.1 in
+    let now = c.in-Some.ensures.stands c.args.table.now (scanner_with_events past inv.0) inv.2 in (
+      now.frames.0,
+      now.frames.1,
+      λ frame. some_read (past.bytes ++ []) c.args.table.now.frame.words (past.taken ++ inv.0) (answered_event c.in-Some.event) now.frames.0
+          (subst IsSome (frame_answered c.in-Some.event) frame) (now.frames.2 [] (λ finished. refl)),
+    )
+
+pub loop-event-preserved : goal.loop-event-preserved
+loop-event-preserved g c = record {
+  taken = λ past reads.
+      let t = c.args.table.now in
+      let inv = c.loop-event.invariant.taken past reads in
+      let e = answered_event c.in-Some.event in
+      let mid = scanner_with_events past inv.0 in
+      let now = c.in-Some.ensures.stands t mid inv.2 in
+      let some : IsSome (answered_frame (Some c.in-Some.event)) → 0 < length now.frames.0 =
+      λ frame. some_read (past.bytes ++ []) t.frame.words (past.taken ++ inv.0) e now.frames.0
+      (subst IsSome (frame_answered c.in-Some.event) frame) (now.frames.2 [] (λ finished. refl)) in
+      let took = c.in_ok-take_event.ensures.all now.frames.0 now.frames.1 some in (
+        inv.0 ++ e ∷ [],
+        inv.1 ++ event_entries t now.frames.0 e,
+        subst (λ es. ReadsEvents t c.next.new.self (record past { taken = es })) (append_assoc past.taken inv.0 (e ∷ [])) now,
+        g.met.T.Taker.laws.then _ _ _ _ _ _ _ _ _ inv.3 took,
+        λ more may.
+            let ahead = c.in-Some.ensures.ahead t mid more inv.2 may in
+            entries_step t (past.bytes ++ more) past.taken inv.0 e ahead.0 inv.1 now.frames.0 reads.count
+            (ap (events_of (past.bytes ++ more)) (sym reads.words) ∙ ahead.1) (now.frames.2 more may) (inv.4 more may),
+      );
+  pushed = c.next.ensures.pushed ∙ c.loop-event.invariant.pushed;
+  ended = c.next.ensures.ended ∙ c.loop-event.invariant.ended;
+  quiet = c.in_ok-take_event.ensures.quiet ∙ c.loop-event.invariant.quiet;
+}
+
+pub returns-in_err-take_event-clause-part : goal.returns-in_err-take_event-clause-part
+returns-in_err-take_event-clause-part g c = λ past reads.
+    let t = c.args.table.now in
+    let inv = c.loop-event.invariant.taken past reads in
+    let e = answered_event c.in-Some.event in
+    let mid = scanner_with_events past inv.0 in
+    let now = c.in-Some.ensures.stands t mid inv.2 in
+    let some : IsSome (answered_frame (Some c.in-Some.event)) → 0 < length now.frames.0 =
+    λ frame. some_read (past.bytes ++ []) t.frame.words (past.taken ++ inv.0) e now.frames.0
+    (subst IsSome (frame_answered c.in-Some.event) frame) (now.frames.2 [] (λ finished. refl)) in
+    let failed = c.in_err-take_event.ensures.part now.frames.0 now.frames.1 some in
+    let p = err_from_is_err_and c.from_residual.result c.from_residual.ensures.1 in
+    rw p.1 (
+      inv.1 ++ event_entries t now.frames.0 e,
+      g.met.T.Taker.laws.fails_then _ _ _ _ _ _ _ _ inv.3 failed,
+      λ more may.
+          let ahead = c.in-Some.ensures.ahead t mid more inv.2 may in (
+            entries_in t (past.bytes ++ more) ahead.0,
+            entries_rest t (past.bytes ++ more) past.taken inv.0 e ahead.0 inv.1 now.frames.0 reads.count
+                (ap (events_of (past.bytes ++ more)) (sym reads.words) ∙ ahead.1) (now.frames.2 more may) (inv.4 more may),
+          ),
+    )
+
+pub returns-clause-stands : goal.returns-clause-stands
+returns-clause-stands g c = λ past reads.
+    let t = c.args.table.now in
+    let inv = c.loop-event.invariant.taken past reads in
+    let mid = scanner_with_events past inv.0 in
+    let known : past.taken ++ inv.0 ≡ known_events past = c.in_default.ensures.none t mid inv.2 refl in
+    subst (λ es. ReadsEvents t c.next.new.self (record past { taken = es })) (append-nil (past.taken ++ inv.0) ∙ known)
+    (c.in_default.ensures.stands t mid inv.2)
+
+pub returns-clause-all : goal.returns-clause-all
+returns-clause-all g c = λ past reads.
+    let t = c.args.table.now in
+    let inv = c.loop-event.invariant.taken past reads in
+    let mid = scanner_with_events past inv.0 in
+    let known : past.taken ++ inv.0 ≡ known_events past = c.in_default.ensures.none t mid inv.2 refl in
+    (inv.1, inv.3, λ more may. ap (entries_in t (past.bytes ++ more)) (sym known) ∙ inv.4 more may)

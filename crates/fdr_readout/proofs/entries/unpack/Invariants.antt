@@ -1,6 +1,0 @@
-use Rattle.std.proofs.Common.{◌≡◌, ℕ, ◌+◌, ◌*◌, ◌<◌, get_or}
-use Rattle.fdr_bits.specs.Bits.{word_at}
-use Rattle.fdr_readout.proofs.entries.unpack.Given as goal
-
-abbrev pub invariant-loop-i : goal.invariant-loop-i
-invariant-loop-i l = (k : ℕ) → k < l.i → get_or l.words k 0 ≡ word_at l.bytes (l.from + 12 * k)
