@@ -86,3 +86,12 @@ pub fn frames_far_apart() -> [u8; 4480] {
     put_frame(&mut bytes, 32768, 1, 7);
     bytes
 }
+
+/// Thirty frames one after the other, with the counters 0 to 29 and the altitude 5.
+pub fn thirty_frames() -> [u8; 11_520] {
+    let mut bytes = [0; 11_520];
+    for counter in 0..30 {
+        put_frame(&mut bytes, 3072 * u32::from(counter), counter, 5);
+    }
+    bytes
+}

@@ -1,11 +1,11 @@
 use crate::lines::{
     frame, frame_behind_a_false_one, frame_with_a_bit_struck_out, frames_behind_five_bits,
-    frames_far_apart,
+    frames_far_apart, thirty_frames,
 };
 use crate::sure_command;
 use fdr_bus::TraceFault;
 use fdr_cases::{ALTITUDE, answer, words_of};
-use fdr_deck::{MemDeck, SureDeck};
+use fdr_deck::{Deck, MemDeck, SureDeck};
 use fdr_io::{Input, MemSink, MemSource, NullSink, SureSource};
 use fdr_slot::ImageFault;
 use fdr_table::TableFault;
@@ -163,6 +163,48 @@ fn writes_nothing_where_the_first_write_fails(rt: HostRuntime) -> Result<(), Fai
     let given = answer(alloc, &words, &mut table, &mut deck, &mut out);
     assert_eq!(rt; given, Outcome::WriteFault);
     assert_eq!(rt; out.bytes().len(), 0);
+    Ok(())
+}
+
+/// How many bytes of the deck's line are left. It pulls them all.
+fn left_of(deck: &mut MemDeck) -> Result<usize, Fail> {
+    let mut left = 0_usize;
+    let mut piece = [0; 512];
+    for _ in 0..64 {
+        let count = deck.pull(&mut piece).ok().ok_or("pull")?;
+        left = left.saturating_add(count);
+    }
+    Ok(left)
+}
+
+// The lines of the first frames are written before the line is pulled further, so the fault of the sink comes early.
+#[test]
+fn pulls_no_further_where_a_write_fails(rt: HostRuntime) -> Result<(), Fail> {
+    let alloc = rt.alloc();
+    let words = words_of(alloc, LISTBITS)?;
+    let line = thirty_frames().to_vec(alloc)?;
+    let mut table = MemSource::new(ALTITUDE.as_bytes().to_vec(alloc)?, Vec::new(alloc));
+    let mut deck = MemDeck::new(alloc, Vec::new(alloc), line, Vec::new(alloc));
+    let mut out = MemSink::new(alloc, vec![in alloc; 0]?);
+    let given = answer(alloc, &words, &mut table, &mut deck, &mut out);
+    assert_eq!(rt; given, Outcome::WriteFault);
+    assert_eq!(rt; out.bytes().len(), 0);
+    assert!(rt; left_of(&mut deck)? >= 7041);
+    Ok(())
+}
+
+// One zero byte more than are listed.
+#[test]
+fn lists_the_first_bytes_of_a_line_too_long(rt: HostRuntime) -> Result<(), Fail> {
+    let alloc = rt.alloc();
+    let words = words_of(alloc, LISTBITS)?;
+    let line = vec![in alloc; 0; 268_435_457]?;
+    let mut table = MemSource::new(ALTITUDE.as_bytes().to_vec(alloc)?, Vec::new(alloc));
+    let mut deck = MemDeck::new(alloc, Vec::new(alloc), line, Vec::new(alloc));
+    let mut out = MemSink::new(alloc, Vec::new(alloc));
+    let given = answer(alloc, &words, &mut table, &mut deck, &mut out);
+    assert_eq!(rt; given, Outcome::TooLong);
+    assert_eq!(rt; out.bytes(), b"gap,0,2147483648\n".as_slice());
     Ok(())
 }
 

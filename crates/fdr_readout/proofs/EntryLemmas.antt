@@ -50,7 +50,7 @@ unfolding entry_lines entries_at lines_of
 event_lines t b (Frame a) = row_entry_lines t (rows_at t b a)
 event_lines t b (Gap a n) = append-nil _
 
-lines_of_events : (t : TableRows) (b : List ℕ) (es : List Event) → flat_map (entry_lines t) (flat_map (entries_at t b) es) ≡ flat_map (lines_of t b) es
+pub lines_of_events : (t : TableRows) (b : List ℕ) (es : List Event) → flat_map (entry_lines t) (flat_map (entries_at t b) es) ≡ flat_map (lines_of t b) es
 lines_of_events t b [] = refl
 lines_of_events t b (e ∷ es) =
     flat_map-append (entry_lines t) (entries_at t b e) (flat_map (entries_at t b) es)

@@ -4,6 +4,7 @@ pub mod Lines
 pub mod EntryLemmas
 pub mod EventFrames
 pub mod Readings
+pub mod Taking
 pub mod TakerLemmas
 pub mod SummaryLemmas
 pub mod PackedWords

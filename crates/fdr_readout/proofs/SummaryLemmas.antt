@@ -22,7 +22,7 @@ use Rattle.fdr_recon.specs.Rows.{ReadFrame, rows_of_frame, rows_looked_at, row_o
 use Rattle.fdr_readout.specs.declared.tally.Summary.{Summary}
 use Rattle.fdr_readout.specs.Listing.{rows_at, accepted_to, frame_read}
 use Rattle.fdr_readout.specs.Entries.{Entry, FrameEntry, RowEntry, entries_at, entries_of, row_of_entry, is_frame_entry}
-use Rattle.fdr_readout.specs.Summary.{Tallies, rows_among, value_bits, listed_rows, summary_of}
+use Rattle.fdr_readout.specs.Summary.{Tallies, no_summary, rows_among, value_bits, listed_rows, summary_of}
 
 -- ---- what is counted of entries
 
@@ -138,7 +138,7 @@ last_bits now n small e = omega arith
 
 -- what is counted from nothing on is the summary
 pub summary_is : (t : TableRows) (b : List ℕ) (now : Summary) → IsSound t → length b ≤ 2 ^ 32
-    → Tallies (record { frames = 0; rows = 0; sum = 0 }) now (entries_of t b) → now ≡ summary_of t b
+    → Tallies no_summary now (entries_of t b) → now ≡ summary_of t b
 unfolding summary_of
 summary_is t b now sound short h =
     let fits = h.fits (record { frames = omega arith; rows = omega arith; sum = omega arith }) in

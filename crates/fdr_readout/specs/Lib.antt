@@ -1,7 +1,7 @@
 pub mod Listing
 pub mod Entries
 pub mod Reading
-pub mod Fresh
+pub mod Taken
 pub mod Takers
 pub mod Summary
 pub mod TakersSound

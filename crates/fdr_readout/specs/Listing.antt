@@ -3,7 +3,7 @@ use Rattle.std.specs.Prelude.{ℕ, ◌+◌, ◌-◌, ◌*◌, ◌==◌, nat_le, 
 use Rattle.std.specs.List.{flat_map, range_with_len, list_any}
 use Rattle.fdr_bits.specs.Bits.{word_at}
 use Rattle.fdr_sync.specs.Accepted.{accepted_frames}
-use Rattle.fdr_sync.specs.Events.{Event, Frame, Gap, events_of}
+use Rattle.fdr_sync.specs.Events.{Event, Frame, Gap, decided_events, events_of}
 use Rattle.fdr_table.specs.Rows.{TableRows}
 use Rattle.fdr_recon.specs.declared.Row.{Row}
 use Rattle.fdr_recon.specs.Rows.{ReadFrame, rows_of_frame, param_at}
@@ -41,3 +41,7 @@ lines_of t b (Gap a n) = gap_text a n
 -- the listing
 unfoldable pub listing_of : TableRows → List ℕ → List ℕ
 listing_of t b = flat_map (lines_of t b) (events_of b t.frame.words)
+
+-- the lines of the events that bytes decide which may go on
+unfoldable pub decided_listing : TableRows → List ℕ → List ℕ
+decided_listing t b = flat_map (lines_of t b) (decided_events b t.frame.words)

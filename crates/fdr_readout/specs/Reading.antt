@@ -1,8 +1,8 @@
 -- What was read of bytes that come in pieces.
-use Rattle.std.specs.Prelude.{ℕ, ◌≡◌, ◌*◌, ◌++◌, true, List, [], map, vec_len}
+use Rattle.std.specs.Prelude.{ℕ, ◌≡◌, ◌*◌, ◌++◌, true, false, List, [], map, vec_len}
 use Rattle.std.specs.List.{flat_map, filter_map}
 use Rattle.fdr_frame.specs.WordCount.{IsWordCount}
-use Rattle.fdr_sync.specs.Events.{Event, frame_of_event}
+use Rattle.fdr_sync.specs.Events.{Event, decided_events, frame_of_event}
 use Rattle.fdr_resync.specs.Past.{ScannerPast, RepresentsScanner}
 use Rattle.fdr_resync.specs.Adjacency.{ends_with_frame}
 use Rattle.fdr_table.specs.Rows.{TableRows}
@@ -29,6 +29,10 @@ pub record ReadsEvents (t : TableRows) (r : EventReader) (past : ScannerPast) : 
   pub room : vec_len r.words ≡ 4 * t.frame.words
   pub adjacent : r.after_frame ≡ ends_with_frame past.taken
   pub frames : (read : List ReadFrame) × RepresentsRebuild r.rebuild t read × AreRead t past read
+
+-- the past where these bytes came and the events that they decide were taken
+abbrev pub decided_past : ℕ → List ℕ → ScannerPast
+decided_past w b = record { words = w; bytes = b; taken = decided_events b w; finished = false }
 
 -- the entries of some events of bytes
 abbrev pub entries_in : TableRows → List ℕ → List Event → List Entry

@@ -25,6 +25,10 @@ summary_of t b = record {
   sum = sum_by value_bits (listed_rows t b) % 2 ^ 64;
 }
 
+-- the summary of nothing
+abbrev pub no_summary : Summary
+no_summary = record { frames = 0; rows = 0; sum = 0 }
+
 -- the rows among entries
 abbrev pub rows_among : List Entry → List Row
 rows_among entries = filter_map row_of_entry entries

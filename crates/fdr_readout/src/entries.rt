@@ -4,19 +4,20 @@ ghost use Rattle.std.specs.Prelude.{◌≡◌, ◌+◌, ◌≤◌, ◌<◌, ◌^
 ghost use Rattle.std.specs.List.{flat_map};
 ghost use Rattle.fdr_io.specs.Faults.{Rose};
 ghost use Rattle.fdr_table.specs.Rows.{TableRows};
-ghost use Rattle.fdr_resync.specs.Past.{ScannerPast, scanner_made, known_events, bytes_pushed};
+ghost use Rattle.fdr_resync.specs.Past.{ScannerPast, known_events, bytes_pushed};
 ghost use Rattle.fdr_resync.specs.Answers.{answered_event, answered_frame};
 ghost use Rattle.fdr_recon.specs.Rows.{ReadFrame};
 ghost use Rattle.fdr_recon.specs.Kept.{IsRow};
 ghost use Rattle.fdr_recon.specs.Past.{RepresentsRebuild};
 ghost use Rattle.fdr_readout.specs.Entries.{Entry, row_entries, last_frame_entries, event_entries, entries_of};
 ghost use Rattle.fdr_readout.specs.Reading.{MayGoOn, ReadsEvents, entries_in};
+ghost use Rattle.fdr_readout.specs.Taken.{HasTaken};
 
 use crate::events::EventReader;
 use crate::takers::Taker;
 use fdr_io::{Failed, Sink};
 use fdr_recon::{Rebuild, Row};
-use fdr_resync::{Event, stays_decided};
+use fdr_resync::Event;
 use fdr_table::Table;
 
 /// Hands on a row, if it is listed.
@@ -90,7 +91,7 @@ fn take_event<O: Sink, T: Taker<O>>(
 }
 
 /// Hands on all events that are known and were not handed on before.
-pub(crate) fn take_known<O: Sink, T: Taker<O>>(
+fn take_known<O: Sink, T: Taker<O>>(
     reader: &mut EventReader,
     table: &Table,
     taker: &mut T,
@@ -119,28 +120,58 @@ pub(crate) fn take_known<O: Sink, T: Taker<O>>(
     Ok(())
 }
 
-/// Hands on all gaps, frames and rows of the bits.
-pub(crate) fn take_entries<O: Sink, T: Taker<O>>(
+/// Takes a piece of at most 4,096 bytes, and hands on all gaps, frames and rows that are decided with it, however the bytes
+/// go on. At `Failed` the taker failed in them.
+pub fn take_piece<O: Sink, T: Taker<O>>(
     reader: &mut EventReader,
     table: &Table,
-    bytes: &[u8],
+    piece: &[u8],
     taker: &mut T,
     out: &mut O,
 ) -> Result<(), Failed>
-    requires short { length bytes.now ≤ 2 ^ 28 }
-    requires fresh { ReadsEvents table.now reader.old (scanner_made table.now.frame.words) }
-    ensures all { OnOk result (T.took table.now taker.old out.old taker.new out.new (entries_of table.now bytes.now)) }
-    ensures part { OnErr result (T.failed_in table.now taker.old out.old out.new (entries_of table.now bytes.now)) }
+    requires piece { length piece.now ≤ 4096 }
+    requires stands { (bytes : List ℕ) × (first : T) × (out_first : O)
+        × HasTaken T.took table.now reader.old bytes first out_first taker.old out.old × (length bytes + length piece.now ≤ 2 ^ 28) }
+    ensures all { (bytes : List ℕ) (first : T) (out_first : O)
+        → HasTaken T.took table.now reader.old bytes first out_first taker.old out.old
+        → OnOk result (HasTaken T.took table.now reader.new (bytes ++ piece.now) first out_first taker.new out.new) }
+    ensures part { (bytes more : List ℕ) (first : T) (out_first : O)
+        → HasTaken T.took table.now reader.old bytes first out_first taker.old out.old
+        → OnErr result (T.failed_in table.now first out_first out.new (entries_of table.now ((bytes ++ piece.now) ++ more))) }
+    ensures step { OnOk result ((entries : List Entry) × T.took table.now taker.old out.old taker.new out.new entries) }
+    ensures step_part { OnErr result ((entries : List Entry) × T.failed_in table.now taker.old out.old out.new entries) }
     ensures cause { OnErr result (Rose (O.faults out.old) (O.faults out.new)) }
     ensures quiet { OnOk result (O.faults out.new ≡ O.faults out.old) }
     ensures monotone { O.faults out.old ≤ O.faults out.new }
 {
-    stays_decided();
-    let mut at = 0;
-    while at < bytes.len() {
-        at += reader.push(&bytes[at..]);
-        take_known(reader, table, taker, out)?;
-    }
+    reader.push(piece);
+    take_known(reader, table, taker, out)
+}
+
+/// Hands on what is left once no further byte comes. At `Failed` the taker failed in it.
+pub fn take_rest<O: Sink, T: Taker<O>>(
+    reader: &mut EventReader,
+    table: &Table,
+    taker: &mut T,
+    out: &mut O,
+) -> Result<(), Failed>
+    requires stands { (bytes : List ℕ) × (first : T) × (out_first : O)
+        × HasTaken T.took table.now reader.old bytes first out_first taker.old out.old }
+    ensures all { (bytes : List ℕ) (first : T) (out_first : O)
+        → HasTaken T.took table.now reader.old bytes first out_first taker.old out.old
+        → OnOk result (T.took table.now first out_first taker.new out.new (entries_of table.now bytes)) }
+    ensures part { (bytes : List ℕ) (first : T) (out_first : O)
+        → HasTaken T.took table.now reader.old bytes first out_first taker.old out.old
+        → OnErr result (T.failed_in table.now first out_first out.new (entries_of table.now bytes)) }
+    ensures step { OnOk result ((entries : List Entry) × T.took table.now taker.old out.old taker.new out.new entries) }
+    ensures step_part { OnErr result ((entries : List Entry) × T.failed_in table.now taker.old out.old out.new entries) }
+    ensures cause { OnErr result (Rose (O.faults out.old) (O.faults out.new)) }
+    ensures quiet { OnOk result (O.faults out.new ≡ O.faults out.old) }
+    ensures monotone { O.faults out.old ≤ O.faults out.new }
+{
     reader.finish();
     take_known(reader, table, taker, out)
 }
+
+#[cfg(test)]
+mod tests;

@@ -7,9 +7,9 @@ ghost use Rattle.fdr_bits.specs.Bits.{bits_in};
 ghost use Rattle.fdr_recon.specs.Rows.{ReadFrame};
 ghost use Rattle.fdr_recon.specs.Past.{RepresentsRebuild, read_frame};
 ghost use Rattle.fdr_readout.specs.Listing.{frame_words};
-ghost use Rattle.fdr_resync.specs.Past.{ScannerPast, RepresentsScanner, scanner_made, scanner_with_bytes, scanner_with_events, scanner_finished, known_events, bytes_pushed, bits_left};
+ghost use Rattle.fdr_resync.specs.Past.{ScannerPast, RepresentsScanner, scanner_with_bytes, scanner_with_events, scanner_finished, known_events, bytes_pushed, bits_left};
 ghost use Rattle.fdr_resync.specs.Answers.{answered_event, answered_events};
-ghost use Rattle.fdr_readout.specs.Reading.{MayGoOn, ReadsEvents};
+ghost use Rattle.fdr_readout.specs.Reading.{MayGoOn, ReadsEvents, decided_past};
 
 use fdr_check::Sound;
 use fdr_layout::Layout;
@@ -18,9 +18,9 @@ use fdr_resync::{Event, Scanner, adjacent_after_a_frame, stays_decided};
 use fdr_table::NoMemory;
 use std::alloc::Global;
 
-/// ReadsEvents the events of bytes that come in pieces. It takes all its memory when it is made.
+/// Reads the events of bytes that come in pieces, 268,435,456 at most. It takes all its memory when it is made.
 #[derive(Drop)]
-pub(crate) struct EventReader {
+pub struct EventReader {
     scanner: Scanner,
     pub(crate) rebuild: Rebuild,
     words: Vec<u16>,
@@ -31,9 +31,10 @@ pub(crate) struct EventReader {
 impl EventReader {
     /// Takes the memory for reading the events of bytes by a table.
     pub fn new(alloc: Global, sound: &Sound) -> Result<EventReader, NoMemory>
-        ensures { IfOk result (λ r. ReadsEvents sound.now r (scanner_made sound.now.frame.words)) }
+        ensures { IfOk result (λ r. ReadsEvents sound.now r (decided_past sound.now.frame.words [])) }
     {
         sound.holds();
+        stays_decided();
         let count = word_count(sound);
         let layout = Layout::make(alloc, sound)?;
         let rebuild = Rebuild::new(alloc, layout, sound)?;
@@ -50,7 +51,7 @@ impl EventReader {
     }
 
     /// Takes bytes from the front of a piece, and answers how many: of up to 4,096 all, where all known events were taken.
-    pub fn push(&mut self, piece: &[u8]) -> usize
+    pub(crate) fn push(&mut self, piece: &[u8]) -> usize
         requires open { self.old.scanner.ended ≡ false }
         requires limit { bytes_pushed self.old.scanner + length piece.now ≤ 2 ^ 28 }
         ensures front { result ≤ length piece.now }
@@ -65,14 +66,14 @@ impl EventReader {
     }
 
     /// Says that no further byte comes.
-    pub fn finish(&mut self)
+    pub(crate) fn finish(&mut self)
         ensures { (t : TableRows) (past : ScannerPast) → ReadsEvents t self.old past → ReadsEvents t self.new (scanner_finished past) }
     {
         self.scanner.finish();
     }
 
     /// The next event, as soon as it is known. A frame has been read then.
-    pub fn next(&mut self) -> Option<Event>
+    pub(crate) fn next(&mut self) -> Option<Event>
         requires { (t : TableRows) × (past : ScannerPast) × ReadsEvents t self.old past }
         ensures stands { (t : TableRows) (past : ScannerPast) → ReadsEvents t self.old past
             → ReadsEvents t self.new (scanner_with_events past (answered_events result)) }
@@ -106,7 +107,7 @@ impl EventReader {
     }
 }
 
-/// ReadsEvents the frame that the scanner gave last.
+/// Reads the frame that the scanner gave last.
 #[tactic(auto, unfolding(crate::specs::Listing::frame_words))]
 fn read_frame(scanner: &Scanner, rebuild: &mut Rebuild, words: &mut [u16], adjacent: bool)
     requires frame { IsSome scanner.now.frame }

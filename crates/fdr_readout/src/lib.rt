@@ -6,10 +6,11 @@
 mod entries;
 mod events;
 mod law;
-mod listing;
 mod takers;
 mod tally;
 
+pub use entries::{take_piece, take_rest};
+pub use events::EventReader;
 pub use law::{damage_elsewhere, reads_back, survives};
-pub use listing::{Readout, summarize, write_listing};
+pub use takers::Taker;
 pub use tally::Summary;

@@ -18,7 +18,7 @@ use fdr_table::Table;
 
 /// Takes the gaps, the frames and the rows of bits in their order. The rows of a frame follow it. What is handed on goes
 /// to the sink beside it.
-pub(crate) trait Taker<O: Sink> {
+pub trait Taker<O: Sink> {
     // These entries were taken, from one state of the taker and of the sink to another.
     ghost took: { TableRows → Self → O → Self → O → List Entry → Type 0 };
 

@@ -1,6 +1,7 @@
 //! The taker that counts.
 
-ghost use Rattle.fdr_readout.specs.Summary.{Tallies};
+ghost use Rattle.std.specs.Prelude.{◌≡◌};
+ghost use Rattle.fdr_readout.specs.Summary.{Tallies, no_summary};
 ghost use Rattle.fdr_readout.specs.TakersSound.{tally_laws};
 
 use crate::takers::Taker;
@@ -17,6 +18,19 @@ pub struct Summary {
     pub rows: u64,
     /// The sum of the rows' values, modulo `2^64`.
     pub sum: u64,
+}
+
+impl Summary {
+    /// The summary of nothing.
+    pub fn new() -> Self
+        ensures { result ≡ no_summary }
+    {
+        Summary {
+            frames: 0,
+            rows: 0,
+            sum: 0,
+        }
+    }
 }
 
 /// Counts what it takes, and never fails.

@@ -143,12 +143,13 @@ memory_leaves tells old new before now f g answer memory leaves told written fau
 }
 
 pub listing_unused : (path : List ℕ) (old new : State) (answer : Outcome) → LeavesDisk old new → new.told ≡ old.told
+    → (answer ≡ outcome.NoMemory → KeepsLineAndFaults old new)
     → new.taken ≤ old.taken + most_line_bytes + piece_bytes → LeavesUnused (list_bits path) old new answer
-listing_unused path old new answer leaves told bounded = record {
+listing_unused path old new answer leaves told memory bounded = record {
   line = λ unused. absurd (unused tt);
   disk = λ unused. leaves;
   told = λ unused. told;
-  trace = λ other memory. absurd other;
+  memory = λ pulls none. memory none;
   bits = λ pulls. bounded;
 }
 
@@ -158,7 +159,7 @@ stream_unused path old new answer leaves told memory = record {
   line = λ unused. absurd (unused tt);
   disk = λ unused. leaves;
   told = λ unused. told;
-  trace = λ pulls none. memory none;
+  memory = λ pulls none. memory none;
   bits = λ other. absurd other;
 }
 
@@ -173,7 +174,7 @@ format_unused path image slots payload tells old new answer passes = record {
   line = λ unused. passes_keeps tells old new passes;
   disk = λ unused. absurd (unused tt);
   told = λ unused. passes.told.told;
-  trace = λ other memory. absurd other;
+  memory = λ other none. absurd other;
   bits = λ other. absurd other;
 }
 
@@ -183,7 +184,7 @@ recover_unused image tells old new answer passes = record {
   line = λ unused. passes_keeps tells old new passes;
   disk = λ unused. absurd (unused tt);
   told = λ unused. passes.told.told;
-  trace = λ other memory. absurd other;
+  memory = λ other none. absurd other;
   bits = λ other. absurd other;
 }
 
@@ -209,7 +210,7 @@ record_unused path image old new answer memory = record {
   line = λ unused. absurd (unused tt);
   disk = λ unused. absurd (unused tt);
   told = λ unused. absurd (unused tt);
-  trace = λ pulls none. memory none;
+  memory = λ pulls none. memory none;
   bits = λ other. absurd other;
 }
 

@@ -201,7 +201,7 @@ drill_unused path image seed frames old new answer line = record {
   line = λ unused. line;
   disk = λ unused. absurd (unused tt);
   told = λ unused. absurd (unused tt);
-  trace = λ other memory. absurd other;
+  memory = λ other none. absurd other;
   bits = λ other. absurd other;
 }
 

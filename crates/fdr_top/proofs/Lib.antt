@@ -19,6 +19,7 @@ pub mod SessionEnds
 pub mod RecordLines
 pub mod Readable
 pub mod ListedRuns
+pub mod ListedLines
 pub mod ListedImages
 pub mod Drills
 pub mod Drilled

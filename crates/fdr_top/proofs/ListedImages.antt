@@ -191,7 +191,7 @@ list_unused path image t tells old new before now answer lists = record {
   line = λ unused. passes_keeps tells old new lists.looks.quiet.passes;
   disk = λ unused. absurd (unused tt);
   told = λ unused. lists.looks.quiet.passes.told.told;
-  trace = λ other memory. absurd other;
+  memory = λ other none. absurd other;
   bits = λ other. absurd other;
 }
 

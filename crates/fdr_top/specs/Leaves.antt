@@ -6,7 +6,7 @@ use Rattle.fdr_deck.specs.State.{State, Tells}
 use Rattle.fdr_deck.specs.Calls.{LeavesDisk}
 use Rattle.fdr_deck.specs.Disk.{KeepsDisk, LearnsExtent}
 use Rattle.fdr_words.specs.Forms.{Form}
-use Rattle.fdr_top.specs.Answers.{HasImage, IsBeforeLine, KeepsLineAndFaults, PullsBits, PullsLine, PullsTrace, RecordsImage}
+use Rattle.fdr_top.specs.Answers.{HasImage, IsBeforeLine, KeepsLineAndFaults, PullsBits, PullsLine, RecordsImage}
 use Rattle.fdr_top.specs.Limits.{most_line_bytes, piece_bytes}
 use Rattle.fdr_top.specs.declared.outcome.Outcome.{Outcome}
 use Rattle.fdr_top.specs.declared.outcome.Outcome.TheVariants as outcome
@@ -26,7 +26,7 @@ pub record LeavesUnused (form : Form) (old new : State) (answer : Outcome) : Typ
   pub line : (PullsLine form → ⊥) → KeepsLineAndFaults old new
   pub disk : (HasImage form → ⊥) → LeavesDisk old new
   pub told : (RecordsImage form → ⊥) → new.told ≡ old.told
-  pub trace : PullsTrace form → answer ≡ outcome.NoMemory → KeepsLineAndFaults old new
+  pub memory : PullsLine form → answer ≡ outcome.NoMemory → KeepsLineAndFaults old new
   pub bits : PullsBits form → new.taken ≤ old.taken + most_line_bytes + piece_bytes
 
 -- A fault that is answered was counted by what failed.

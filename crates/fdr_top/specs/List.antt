@@ -1,5 +1,5 @@
 -- What `list` promises: the listing of the bits of the recovered run of what the disk holds.
-use Rattle.std.specs.Prelude.{◌≡◌, ◌⊎◌, ◌*◌, ◌≤◌, ℕ, List, [], Option, IsTrue, take, vec_len, vec_capacity}
+use Rattle.std.specs.Prelude.{◌≡◌, ◌⊎◌, ◌≤◌, ℕ, List, [], Option, IsTrue, take}
 use Rattle.fdr_io.specs.Told.{followed_by}
 use Rattle.fdr_deck.specs.State.{State, Tells}
 use Rattle.fdr_slot.specs.Limits.{IsInLimits}
@@ -7,7 +7,7 @@ use Rattle.fdr_slot.specs.Places.{image_size}
 use Rattle.fdr_recover.specs.ImageHeader.{header_in}
 use Rattle.fdr_table.specs.Rows.{TableRows}
 use Rattle.fdr_readout.specs.Listing.{listing_of}
-use Rattle.fdr_readout.specs.Fresh.{IsFresh}
+use Rattle.fdr_readout.specs.Reading.{ReadsEvents, decided_past}
 use Rattle.fdr_recorder.specs.Starting.{IsFor}
 use Rattle.fdr_top.specs.Refusals.{RefusesImage}
 use Rattle.fdr_top.specs.Recover.{OnlyLooks, payloads_of, run_in}
@@ -27,16 +27,13 @@ pub record ListsImage (t : TableRows) (tells : Tells) (old new : State) (written
   pub good : (answer ≡ outcome.Done) ⊎ (answer ≡ outcome.WriteFault) → IsTrue tells.bytes → IsFor t.frame.words old.held
   pub image : RefusesImage t tells old new answer
 
--- An image was opened to be listed: its header was read, it is for the table's frames, and there is memory for its blocks and
--- their listing.
+-- An image was opened to be listed: its header was read, it is for the table's frames, and there is memory for reading its bits.
 pub record IsOpened (t : TableRows) (tells : Tells) (old new : State) (r : ImageReader) : Type 0 where
   pub limits : IsInLimits r.header
   pub whole : image_size r.header ≤ new.extent
   pub header : IsTrue tells.bytes → r.header ≡ header_in old.held
   pub image : IsTrue tells.bytes → IsFor t.frame.words old.held
-  pub fresh : IsFresh t r.work
-  pub room : r.header.slots * r.header.payload ≤ vec_capacity r.bytes
-  pub empty : r.bytes.items ≡ []
+  pub fresh : ReadsEvents t r.events (decided_past t.frame.words [])
 
 -- the answers where no image is opened
 abbrev pub KeepsShut : Outcome → Type 0

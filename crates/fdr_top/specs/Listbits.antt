@@ -1,11 +1,11 @@
 -- What `listbits` promises: the listing of all bits of the line.
-use Rattle.std.specs.Prelude.{◌≡◌, ◌≢◌, ℕ, ◌+◌, ◌<◌, ◌≤◌, ◌⊎◌, List, [], length, take, Option, IsTrue}
+use Rattle.std.specs.Prelude.{◌≡◌, ◌≢◌, ℕ, ◌+◌, ◌-◌, ◌<◌, ◌≤◌, ◌⊎◌, List, [], length, take, Option, IsTrue}
 use Rattle.fdr_io.specs.Told.{followed_by}
 use Rattle.fdr_io.specs.declared.Input.TheVariants as input
 use Rattle.fdr_deck.specs.State.{State, Tells}
 use Rattle.fdr_deck.specs.Pull.{TakesLine}
 use Rattle.fdr_table.specs.Rows.{TableRows}
-use Rattle.fdr_readout.specs.Listing.{listing_of}
+use Rattle.fdr_readout.specs.Listing.{decided_listing, listing_of}
 use Rattle.fdr_top.specs.Limits.{most_line_bytes, piece_bytes}
 use Rattle.fdr_top.specs.declared.pulling.LineEnd.{LineEnd}
 use Rattle.fdr_top.specs.declared.pulling.LineEnd.TheVariants as line_end
@@ -18,13 +18,45 @@ answer_of line_end.End = outcome.Done
 answer_of line_end.Fault = outcome.ReadFault input.Line
 answer_of line_end.TooLong = outcome.TooLong
 
+-- The last pull that gave bytes gave at most 4,096.
+pub record LastPull (old new : State) : Type 0 where
+  pub begins : old.taken ≤ new.before
+  pub some : new.before < new.taken
+  pub within_piece : new.taken ≤ new.before + piece_bytes
+
+-- Of the line these bytes were pulled, piece by piece, and at most a piece more than are listed.
+pub record PullsPieces (tells : Tells) (old new : State) (pulled : List ℕ) : Type 0 where
+  pub takes : TakesLine tells old new pulled
+  pub last : 0 < length pulled → LastPull old new
+  pub bounded : length pulled ≤ most_line_bytes + piece_bytes
+
+-- what an end says of the bytes that were pulled
+pub record EndsLine (tells : Tells) (new : State) (pulled : List ℕ) (end : LineEnd) : Type 0 where
+  pub few : end ≡ line_end.End → length pulled ≤ most_line_bytes
+  pub fault_few : end ≡ line_end.Fault → length pulled ≤ most_line_bytes
+  pub many : end ≡ line_end.TooLong → most_line_bytes < length pulled
+  pub empty : end ≡ line_end.End → IsTrue tells.line → new.line ≡ []
+
+-- At least as many bytes were written as the lines have of the events that the bytes decide which were pulled before the last
+-- pull that gave some.
+pub record HasWrittenDecided (t : TableRows) (old new : State) (pulled : List ℕ) (written_before written_now : Option (List ℕ)) : Type 0 where
+  pub gone : List ℕ
+  pub written : written_now ≡ followed_by written_before gone
+  pub enough : length (decided_listing t (take (new.before - old.taken) pulled)) ≤ length gone
+
+-- a front part of the listing was written
+abbrev pub WritesPart : TableRows → List ℕ → Option (List ℕ) → Option (List ℕ) → Type 0
+WritesPart t pulled before now = (k : ℕ) × (now ≡ followed_by before (take k (listing_of t (take most_line_bytes pulled))))
+
 -- Of the line these bytes were pulled, and of the listing of as many as are listed a front part was written, all of it
--- but where the answer is a fault of writing.
+-- but where the answer is a fault of writing. It was written as it was decided.
 pub record Lists (t : TableRows) (tells : Tells) (old new : State) (written_before written_now : Option (List ℕ)) (answer : Outcome) : Type 0 where
   pub pulled : List ℕ
   pub takes : TakesLine tells old new pulled
   pub text : answer ≢ outcome.WriteFault → written_now ≡ followed_by written_before (listing_of t (take most_line_bytes pulled))
-  pub part : (k : ℕ) × (written_now ≡ followed_by written_before (take k (listing_of t (take most_line_bytes pulled))))
+  pub part : WritesPart t pulled written_before written_now
+  pub last : 0 < length pulled → LastPull old new
+  pub in_time : answer ≡ outcome.WriteFault → HasWrittenDecided t old new pulled written_before written_now
   pub few : answer ≡ outcome.Done → length pulled ≤ most_line_bytes
   pub fault_few : answer ≡ outcome.ReadFault input.Line → length pulled ≤ most_line_bytes
   pub many : answer ≡ outcome.TooLong → most_line_bytes < length pulled

@@ -1,6 +1,6 @@
 //! A recording that generates its own trace, and tells what the image then lists as.
 
-ghost use Rattle.std.specs.Prelude.{◌≡◌, ◌≢◌, ◌⊎◌, ◌+◌, ◌*◌, ◌≤◌, ℕ, List, [], ◌++◌, length, take, vec_len, vec_capacity, IsTrue};
+ghost use Rattle.std.specs.Prelude.{◌≡◌, ◌≢◌, ◌⊎◌, ◌+◌, ◌*◌, ◌≤◌, ℕ, List, [], ◌++◌, length, take, IsTrue};
 ghost use Rattle.fdr_io.specs.Faults.{Rose};
 ghost use Rattle.fdr_io.specs.Told.{followed_by};
 ghost use Rattle.fdr_deck.specs.Disk.{KeepsDisk, LearnsExtent};
@@ -10,7 +10,7 @@ ghost use Rattle.fdr_slot.specs.Places.{image_size};
 ghost use Rattle.fdr_recover.specs.Images.{recovered_run};
 ghost use Rattle.fdr_recover.specs.Looks.{Looks};
 ghost use Rattle.fdr_gen.specs.Trace.{most_frames};
-ghost use Rattle.fdr_readout.specs.Fresh.{IsFresh};
+ghost use Rattle.fdr_readout.specs.Reading.{ReadsEvents, decided_past};
 ghost use Rattle.fdr_readout.specs.Summary.{summary_of};
 ghost use Rattle.fdr_table.specs.Bounds.{most_table_bytes};
 ghost use Rattle.fdr_table.specs.Ranges.{IsInRange};
@@ -25,7 +25,7 @@ ghost use Rattle.fdr_top.specs.Limits.{TakesAtMost, piece_bytes};
 ghost use Rattle.fdr_top.specs.Recover.{payloads_of};
 ghost use Rattle.fdr_top.specs.Tables.{ByTable, ReadsItsTable};
 
-use crate::listing::{ImageReader, open_image, read_run};
+use crate::listing::{BlocksFault, ImageReader, open_image, take_blocks};
 use crate::load::load_table;
 use crate::outcome::Outcome;
 use crate::recording::record_source;
@@ -33,9 +33,9 @@ use crate::supply::RecordSource;
 use fdr_check::Sound;
 use fdr_deck::Deck;
 use fdr_gen::Gen;
-use fdr_io::{Failed, Sink, Source, write_whole};
+use fdr_io::{Failed, NullSink, Sink, Source, write_whole};
 use fdr_listing::Line;
-use fdr_readout::{Summary, summarize};
+use fdr_readout::Summary;
 use std::alloc::Global;
 
 /// Adds a comma and a number, where there is room for the longest.
@@ -66,38 +66,39 @@ fn drill_line(blocks: u64, summary: &Summary) -> Line
 
 /// Reads the blocks that an opened image holds, and writes the line of what they list as.
 fn write_summary<D: Deck, O: Sink>(
-    reader: ImageReader,
+    reader: &mut ImageReader,
     sound: &Sound,
     blocks: u64,
     deck: &mut D,
     out: &mut O,
 ) -> Outcome
-    requires fresh { IsFresh sound.now reader.work }
-    requires limits { IsInLimits reader.header }
-    requires whole { image_size reader.header ≤ (D.state deck.old).extent }
-    requires room { reader.header.slots * reader.header.payload ≤ vec_capacity reader.bytes }
-    requires empty { reader.bytes.items ≡ [] }
+    requires fresh { ReadsEvents sound.now reader.old.events (decided_past sound.now.frame.words []) }
+    requires limits { IsInLimits reader.old.header }
+    requires whole { image_size reader.old.header ≤ (D.state deck.old).extent }
     ensures answer { (result ≡ Outcome.Done) ⊎ ((result ≡ Outcome.WriteFault) ⊎ (result ≡ Outcome.DiskFault)) }
     ensures text { result ≡ Outcome.Done → IsTrue D.tells.bytes → O.written out.new ≡ followed_by (O.written out.old)
-        (drill_text blocks (summary_of sound.now (payloads_of (recovered_run reader.header (D.state deck.old).held)))) }
+        (drill_text blocks (summary_of sound.now (payloads_of (recovered_run reader.old.header (D.state deck.old).held)))) }
     ensures part { result ≡ Outcome.WriteFault → IsTrue D.tells.bytes → (k : ℕ) × (O.written out.new ≡ followed_by (O.written out.old)
-        (take k (drill_text blocks (summary_of sound.now (payloads_of (recovered_run reader.header (D.state deck.old).held)))))) }
+        (take k (drill_text blocks (summary_of sound.now (payloads_of (recovered_run reader.old.header (D.state deck.old).held)))))) }
     ensures looks { Looks D.tells (D.state deck.old) (D.state deck.new) }
     ensures unread { result ≡ Outcome.DiskFault → out.new ≡ out.old }
     ensures disk_fault { result ≡ Outcome.DiskFault
         → Rose (D.state deck.old).disk_faults (D.state deck.new).disk_faults }
     ensures write_fault { result ≡ Outcome.WriteFault → Rose (O.faults out.old) (O.faults out.new) }
 {
-    let ImageReader {
-        mut work,
-        header,
-        mut bytes,
-    } = reader;
-    match read_run(deck, &header, &mut bytes) {
+    sound.holds();
+    let mut summary = Summary::new();
+    match take_blocks(
+        reader,
+        sound.table(),
+        deck,
+        &mut summary,
+        &mut NullSink::new(),
+    ) {
         Ok(()) => {}
-        Err(Failed) => return Outcome::DiskFault,
+        Err(BlocksFault::Disk) => return Outcome::DiskFault,
+        Err(BlocksFault::Taker) => unreachable!(),
     }
-    let summary = summarize(&mut work, sound, &bytes);
     match write_whole(out, drill_line(blocks, &summary).bytes()) {
         Ok(()) => Outcome::Done,
         Err(Failed) => Outcome::WriteFault,
@@ -131,7 +132,7 @@ fn drill_image<D: Deck, O: Sink>(
     ensures write_fault { result ≡ Outcome.WriteFault → Rose (O.faults out.old) (O.faults out.new) }
     ensures unwritten { result ≢ Outcome.Done → result ≢ Outcome.WriteFault → out.new ≡ out.old }
 {
-    let reader = match open_image(alloc, sound, deck) {
+    let mut reader = match open_image(alloc, sound, deck) {
         Ok(reader) => reader,
         Err(answer) => return answer,
     };
@@ -139,10 +140,11 @@ fn drill_image<D: Deck, O: Sink>(
         return Outcome::NoMemory;
     };
     let mut source = RecordSource::Generator(generator);
-    match record_source(alloc, sound, &mut source, deck) {
-        Ok(recorded) => write_summary(reader, sound, recorded.blocks, deck, out),
-        Err(answer) => answer,
-    }
+    let recorded = match record_source(alloc, sound, &mut source, deck) {
+        Ok(recorded) => recorded,
+        Err(answer) => return answer,
+    };
+    write_summary(&mut reader, sound, recorded.blocks, deck, out)
 }
 
 /// `drill`: reads a table, records the trace of a seed in the deck's image, and writes a line of what the image then lists as.

@@ -2,14 +2,11 @@
 
 ghost use Rattle.std.specs.Prelude.{◌≡◌, ◌≢◌, ◌+◌, ◌*◌, ◌≤◌, ◌<◌, ◌^◌, ℕ, List, [], length, take, vec_len, OnOk, OnErr, IfOk, ◌⊎◌};
 ghost use Rattle.fdr_io.specs.Faults.{Rose};
-ghost use Rattle.fdr_io.specs.Told.{followed_by};
 ghost use Rattle.fdr_deck.specs.Calls.{LeavesDisk};
-ghost use Rattle.fdr_frame.specs.WordCount.{IsWordCount};
-ghost use Rattle.fdr_top.specs.Answers.{EndsBeforeDeck, IsOwn, IsPastTable, MayAnswer, WritesNothing};
+ghost use Rattle.fdr_top.specs.Answers.{EndsBeforeDeck, IsOwn, KeepsLineAndFaults, IsPastTable, MayAnswer, WritesNothing};
 ghost use Rattle.fdr_top.specs.Listbits.{Lists, ListsLine, answer_of};
 ghost use Rattle.fdr_top.specs.Limits.{TakesAtMost, most_line_bytes, piece_bytes};
-ghost use Rattle.fdr_readout.specs.Listing.{listing_of};
-ghost use Rattle.fdr_readout.specs.Fresh.{IsFresh};
+ghost use Rattle.fdr_readout.specs.Reading.{ReadsEvents, decided_past};
 ghost use Rattle.fdr_table.specs.Bounds.{most_table_bytes};
 ghost use Rattle.fdr_table.specs.Rows.{TableRows};
 ghost use Rattle.fdr_words.specs.Forms.{list_bits};
@@ -19,21 +16,13 @@ ghost use Rattle.fdr_top.specs.Tables.{ByTable, ReadsItsTable};
 
 use crate::load::load_table;
 use crate::outcome::Outcome;
-use crate::pulling::{LineEnd, MAX_LINE_BYTES, PulledLine, pull_line};
+use crate::pulling::{LineEnd, list_pieces};
 use fdr_check::Sound;
 use fdr_deck::Deck;
-use fdr_io::{Failed, Input, Sink, Source};
-use fdr_readout::{Readout, write_listing};
+use fdr_io::{Failed, Input, OutBuffer, Sink, Source};
+use fdr_readout::{EventReader, take_rest};
+use fdr_table::Table;
 use std::alloc::Global;
-
-/// The bytes that are listed: as many as were pulled, or the most that are listed.
-fn listed(line: &PulledLine) -> &[u8]
-    ensures bytes { result.now ≡ take most_line_bytes line.now.bytes.items }
-    ensures few { length result.now ≤ most_line_bytes }
-{
-    let count = line.bytes.len().min(MAX_LINE_BYTES);
-    &line.bytes[..count]
-}
 
 /// The answer where all was written.
 fn answer_of(end: LineEnd) -> Outcome
@@ -46,31 +35,39 @@ fn answer_of(end: LineEnd) -> Outcome
     }
 }
 
-/// Writes the listing of what was pulled of a line, and gives the answer.
-fn write_line<O: Sink>(work: &mut Readout, sound: &Sound, line: &PulledLine, out: &mut O) -> Outcome
-    requires fresh { IsFresh sound.now work.old }
-    ensures answer { (result ≡ Outcome.WriteFault) ⊎ (result ≡ answer_of line.now.end) }
-    ensures text { result ≢ Outcome.WriteFault
-        → O.written out.new ≡ followed_by (O.written out.old) (listing_of sound.now (take most_line_bytes line.now.bytes.items)) }
-    ensures part { (k : ℕ) × (O.written out.new
-        ≡ followed_by (O.written out.old) (take k (listing_of sound.now (take most_line_bytes line.now.bytes.items)))) }
-    ensures cause { result ≡ Outcome.WriteFault → Rose (O.faults out.old) (O.faults out.new) }
-    ensures monotone { O.faults out.old ≤ O.faults out.new }
+/// Writes the listing of the deck's line while it is pulled, and answers why no more was pulled. At `Failed` the sink failed.
+fn write_line<D: Deck, O: Sink>(
+    reader: &mut EventReader,
+    table: &Table,
+    buffer: &mut OutBuffer,
+    deck: &mut D,
+    out: &mut O,
+) -> Result<LineEnd, Failed>
+    requires fresh { ReadsEvents table.now reader.old (decided_past table.now.frame.words []) }
+    requires empty { buffer.old ≡ [] }
+    ensures all { IfOk result (λ end. Lists table.now D.tells (D.state deck.old) (D.state deck.new)
+        (O.written out.old) (O.written out.new) (answer_of end)) }
+    ensures part { OnErr result (Lists table.now D.tells (D.state deck.old) (D.state deck.new)
+        (O.written out.old) (O.written out.new) Outcome.WriteFault) }
+    ensures line_fault { IfOk result (λ end. end ≡ LineEnd.Fault → Rose (D.state deck.old).line_faults (D.state deck.new).line_faults) }
+    ensures write_fault { OnErr result (Rose (O.faults out.old) (O.faults out.new)) }
+    ensures disk { LeavesDisk (D.state deck.old) (D.state deck.new) }
+    ensures told { (D.state deck.new).told ≡ (D.state deck.old).told }
+    ensures bounded { (D.state deck.new).taken ≤ (D.state deck.old).taken + most_line_bytes + piece_bytes }
 {
-    match write_listing(work, sound, listed(line), out) {
-        Ok(()) => answer_of(line.end),
-        Err(Failed) => Outcome::WriteFault,
-    }
+    let end = list_pieces(reader, table, buffer, deck, out)?;
+    take_rest(reader, table, buffer, out)?;
+    buffer.finish(out)?;
+    Ok(end)
 }
 
-/// Lists the bits of the deck's line by a table.
+/// Lists the bits of the deck's line by a table. All memory is taken before the first pull.
 pub fn list_line<D: Deck, O: Sink>(
     alloc: Global,
     sound: &Sound,
     deck: &mut D,
     out: &mut O,
 ) -> Outcome
-    requires word_count { IsWordCount sound.now.frame.words }
     ensures answer { (path : List ℕ) → (result ≡ Outcome.NoMemory) ⊎ IsOwn (list_bits path) result }
     ensures lists { result ≢ Outcome.NoMemory
         → Lists sound.now D.tells (D.state deck.old) (D.state deck.new) (O.written out.old) (O.written out.new) result }
@@ -78,17 +75,21 @@ pub fn list_line<D: Deck, O: Sink>(
     ensures write_fault { result ≡ Outcome.WriteFault → Rose (O.faults out.old) (O.faults out.new) }
     ensures no_memory { result ≡ Outcome.NoMemory → O.written out.new ≡ O.written out.old }
     ensures no_memory_faults { result ≡ Outcome.NoMemory → O.faults out.new ≡ O.faults out.old }
+    ensures no_memory_line { result ≡ Outcome.NoMemory → KeepsLineAndFaults (D.state deck.old) (D.state deck.new) }
     ensures disk { LeavesDisk (D.state deck.old) (D.state deck.new) }
     ensures told { (D.state deck.new).told ≡ (D.state deck.old).told }
     ensures bounded { (D.state deck.new).taken ≤ (D.state deck.old).taken + most_line_bytes + piece_bytes }
 {
-    let Ok(mut work) = Readout::new(alloc, sound) else {
+    let Ok(mut reader) = EventReader::new(alloc, sound) else {
         return Outcome::NoMemory;
     };
-    let Ok(line) = pull_line(alloc, deck) else {
+    let Ok(mut buffer) = OutBuffer::new(alloc) else {
         return Outcome::NoMemory;
     };
-    write_line(&mut work, sound, &line, out)
+    match write_line(&mut reader, sound.table(), &mut buffer, deck, out) {
+        Ok(end) => answer_of(end),
+        Err(Failed) => Outcome::WriteFault,
+    }
 }
 
 /// `listbits`: reads a table and lists the bits of the line.

@@ -1,6 +1,6 @@
 //! The listing of the bits of the blocks that an image holds.
 
-ghost use Rattle.std.specs.Prelude.{◌≡◌, ◌≢◌, ◌⊎◌, ◌+◌, ◌*◌, ◌<◌, ◌≤◌, ◌^◌, ℕ, List, [], ◌++◌, length, take, vec_len, vec_capacity, OnOk, OnErr, IfOk, IfErr, IsTrue};
+ghost use Rattle.std.specs.Prelude.{◌≡◌, ◌≢◌, ◌⊎◌, ◌+◌, ◌*◌, ◌<◌, ◌≤◌, ◌^◌, ℕ, List, [], ◌++◌, length, take, OnOk, OnErr, IfOk, IfErr, IsErrOf, IsTrue};
 ghost use Rattle.fdr_io.specs.Faults.{Rose};
 ghost use Rattle.fdr_io.specs.Told.{followed_by};
 ghost use Rattle.fdr_frame.specs.WordCount.{IsWordCount};
@@ -8,8 +8,10 @@ ghost use Rattle.fdr_slot.specs.Limits.{IsInLimits};
 ghost use Rattle.fdr_slot.specs.Places.{image_size};
 ghost use Rattle.fdr_recover.specs.Images.{payload_at, recovered_run};
 ghost use Rattle.fdr_recover.specs.Looks.{Looks};
+ghost use Rattle.fdr_readout.specs.Entries.{Entry, entries_of};
 ghost use Rattle.fdr_readout.specs.Listing.{listing_of};
-ghost use Rattle.fdr_readout.specs.Fresh.{IsFresh};
+ghost use Rattle.fdr_readout.specs.Reading.{ReadsEvents, decided_past};
+ghost use Rattle.fdr_readout.specs.Taken.{HasTaken};
 ghost use Rattle.fdr_table.specs.Bounds.{most_table_bytes};
 ghost use Rattle.fdr_table.specs.Rows.{TableRows};
 ghost use Rattle.fdr_words.specs.Forms.{list_image};
@@ -27,77 +29,102 @@ use crate::outcome::Outcome;
 use crate::recovering::{MAX_PAYLOAD, refusal};
 use fdr_check::Sound;
 use fdr_deck::Deck;
-use fdr_io::{Failed, Sink, Source};
-use fdr_readout::{Readout, write_listing};
+use fdr_io::{Failed, OutBuffer, Sink, Source};
+use fdr_readout::{EventReader, Taker, take_piece, take_rest};
 use fdr_recover::{block, scan};
 use fdr_ring::read_image_header;
 use fdr_slot::Header;
+use fdr_table::Table;
 use std::alloc::Global;
 
-/// How many bytes the blocks of an image have at most.
-fn most_bytes(h: &Header) -> usize
-    requires { IsInLimits h.now }
-    ensures { result ≡ h.now.slots * h.now.payload }
-{
-    h.slots as usize * h.payload as usize
+/// Why the bits of an image's blocks weren't all handed on.
+#[derive(Clone, Copy, Debug, PartialEq, Eq)]
+pub enum BlocksFault {
+    /// A block couldn't be read.
+    Disk,
+    /// What they were handed to failed.
+    Taker,
 }
 
-/// Adds bytes for which there is room.
-fn add_bytes(bytes: &mut Vec<u8>, more: &[u8])
-    requires { vec_len bytes.old + length more.now ≤ vec_capacity bytes.old }
-    ensures bytes { bytes.new.items ≡ bytes.old.items ++ more.now }
-    ensures count { vec_len bytes.new ≡ vec_len bytes.old + length more.now }
-    ensures room { vec_capacity bytes.old ≤ vec_capacity bytes.new }
-{
-    match bytes.extend_from_slice(more) {
-        Ok(()) => {}
-        Err(_) => unreachable!(),
-    }
-}
-
-/// Adds the payload of the block with a number to the bytes, which have room for it.
-fn add_block<D: Deck>(
-    deck: &mut D,
-    h: &Header,
+/// Reads the block with a number of an image, and hands on what it decides behind the blocks before it.
+fn take_block<D: Deck, O: Sink, T: Taker<O>>(
+    reader: &mut ImageReader,
+    table: &Table,
     number: u64,
-    bytes: &mut Vec<u8>,
-) -> Result<(), Failed>
-    requires limits { IsInLimits h.now }
-    requires whole { image_size h.now ≤ (D.state deck.old).extent }
+    deck: &mut D,
+    taker: &mut T,
+    out: &mut O,
+) -> Result<(), BlocksFault>
+    requires limits { IsInLimits reader.old.header }
+    requires whole { image_size reader.old.header ≤ (D.state deck.old).extent }
     requires fits { number < 2 ^ 48 }
-    requires room { vec_len bytes.old + h.now.payload ≤ vec_capacity bytes.old }
-    ensures payload { IsTrue D.tells.bytes
-        → OnOk result (bytes.new.items ≡ bytes.old.items ++ payload_at h.now (D.state deck.old).held number) }
-    ensures few { vec_len bytes.new ≤ vec_len bytes.old + h.now.payload }
-    ensures room { vec_capacity bytes.old ≤ vec_capacity bytes.new }
-    ensures cause { OnErr result (Rose (D.state deck.old).disk_faults (D.state deck.new).disk_faults) }
+    requires stands { (bytes : List ℕ) × (first : T) × (out_first : O)
+        × HasTaken T.took table.now reader.old.events bytes first out_first taker.old out.old
+        × (length bytes + reader.old.header.payload ≤ 2 ^ 28) }
+    ensures all { (bytes : List ℕ) (first : T) (out_first : O)
+        → HasTaken T.took table.now reader.old.events bytes first out_first taker.old out.old
+        → OnOk result ((payload : List ℕ) × HasTaken T.took table.now reader.new.events (bytes ++ payload) first out_first taker.new out.new
+        × (length payload ≤ reader.old.header.payload)
+        × (IsTrue D.tells.bytes → payload ≡ payload_at reader.old.header (D.state deck.old).held number)) }
+    ensures part { (bytes : List ℕ) (first : T) (out_first : O)
+        → HasTaken T.took table.now reader.old.events bytes first out_first taker.old out.old
+        → IsErrOf result BlocksFault.Taker → (payload : List ℕ)
+        × ((more : List ℕ) → T.failed_in table.now first out_first out.new (entries_of table.now ((bytes ++ payload) ++ more)))
+        × (IsTrue D.tells.bytes → payload ≡ payload_at reader.old.header (D.state deck.old).held number) }
+    ensures same { IsErrOf result BlocksFault.Disk → taker.new ≡ taker.old }
+    ensures unwritten { IsErrOf result BlocksFault.Disk → out.new ≡ out.old }
+    ensures header { reader.new.header ≡ reader.old.header }
+    ensures disk_fault { IsErrOf result BlocksFault.Disk → Rose (D.state deck.old).disk_faults (D.state deck.new).disk_faults }
+    ensures write_fault { IsErrOf result BlocksFault.Taker → Rose (O.faults out.old) (O.faults out.new) }
     ensures disk_quiet { OnOk result ((D.state deck.new).disk_faults ≡ (D.state deck.old).disk_faults) }
+    ensures quiet { OnOk result (O.faults out.new ≡ O.faults out.old) }
     ensures looks { Looks D.tells (D.state deck.old) (D.state deck.new) }
 {
     let mut payload = [0; MAX_PAYLOAD];
-    let length = block(deck, h, number, &mut payload)?;
-    add_bytes(bytes, &payload[..length]);
-    Ok(())
+    let Ok(count) = block(deck, &reader.header, number, &mut payload) else {
+        return Err(BlocksFault::Disk);
+    };
+    match take_piece(&mut reader.events, table, &payload[..count], taker, out) {
+        Ok(()) => Ok(()),
+        Err(Failed) => Err(BlocksFault::Taker),
+    }
 }
 
-/// Puts the payloads of the recovered run, one after another, into bytes that have room for all of them.
-pub fn read_run<D: Deck>(deck: &mut D, h: &Header, bytes: &mut Vec<u8>) -> Result<(), Failed>
-    requires limits { IsInLimits h.now }
-    requires whole { image_size h.now ≤ (D.state deck.old).extent }
-    requires room { h.now.slots * h.now.payload ≤ vec_capacity bytes.old }
-    requires empty { bytes.old.items ≡ [] }
-    ensures all { IsTrue D.tells.bytes
-        → OnOk result (bytes.new.items ≡ payloads_of (recovered_run h.now (D.state deck.old).held)) }
-    ensures few { vec_len bytes.new ≤ h.now.slots * h.now.payload }
-    ensures cause { OnErr result (Rose (D.state deck.old).disk_faults (D.state deck.new).disk_faults) }
-    ensures disk_quiet { OnOk result ((D.state deck.new).disk_faults ≡ (D.state deck.old).disk_faults) }
+/// Reads the blocks of the recovered run of an image, one after another, and hands on all gaps, frames and rows of their bits.
+pub fn take_blocks<D: Deck, O: Sink, T: Taker<O>>(
+    reader: &mut ImageReader,
+    table: &Table,
+    deck: &mut D,
+    taker: &mut T,
+    out: &mut O,
+) -> Result<(), BlocksFault>
+    requires fresh { ReadsEvents table.now reader.old.events (decided_past table.now.frame.words []) }
+    requires limits { IsInLimits reader.old.header }
+    requires whole { image_size reader.old.header ≤ (D.state deck.old).extent }
+    ensures all { IsTrue D.tells.bytes → OnOk result (T.took table.now taker.old out.old taker.new out.new
+        (entries_of table.now (payloads_of (recovered_run reader.old.header (D.state deck.old).held)))) }
+    ensures part { IsTrue D.tells.bytes → IsErrOf result BlocksFault.Taker → T.failed_in table.now taker.old out.old out.new
+        (entries_of table.now (payloads_of (recovered_run reader.old.header (D.state deck.old).held))) }
+    ensures front { IsTrue D.tells.bytes → IsErrOf result BlocksFault.Disk → (entries rest : List Entry)
+        × T.took table.now taker.old out.old taker.new out.new entries
+        × (entries_of table.now (payloads_of (recovered_run reader.old.header (D.state deck.old).held)) ≡ entries ++ rest) }
+    ensures few { IsTrue D.tells.bytes
+        → OnOk result (length (payloads_of (recovered_run reader.old.header (D.state deck.old).held)) ≤ 2 ^ 28) }
+    ensures disk_fault { IsErrOf result BlocksFault.Disk → Rose (D.state deck.old).disk_faults (D.state deck.new).disk_faults }
+    ensures write_fault { IsErrOf result BlocksFault.Taker → Rose (O.faults out.old) (O.faults out.new) }
+    ensures quiet { OnOk result (O.faults out.new ≡ O.faults out.old) }
     ensures looks { Looks D.tells (D.state deck.old) (D.state deck.new) }
 {
-    let found = scan(deck, h)?;
+    let Ok(found) = scan(deck, &reader.header) else {
+        return Err(BlocksFault::Disk);
+    };
     for number in found.first..found.next {
-        add_block(deck, h, number, bytes)?;
+        take_block(reader, table, number, deck, taker, out)?;
     }
-    Ok(())
+    match take_rest(&mut reader.events, table, taker, out) {
+        Ok(()) => Ok(()),
+        Err(Failed) => Err(BlocksFault::Taker),
+    }
 }
 
 /// The words in a subframe by a table.
@@ -107,15 +134,14 @@ fn words_of(sound: &Sound) -> u32
     sound.table().frame().words
 }
 
-/// The header of an image, and the memory for its blocks and for their listing.
+/// The header of an image, and what reads the bits of its blocks.
 #[derive(Drop)]
 pub struct ImageReader {
-    pub work: Readout,
     pub header: Header,
-    pub bytes: Vec<u8>,
+    pub events: EventReader,
 }
 
-/// Reads the header of the deck's image, which has to be for the table's frames, and takes all memory for its listing.
+/// Reads the header of the deck's image, which has to be for the table's frames, and takes all memory for reading its bits.
 pub fn open_image<D: Deck>(
     alloc: Global,
     sound: &Sound,
@@ -140,54 +166,45 @@ pub fn open_image<D: Deck>(
             table: words,
         });
     }
-    let Ok(work) = Readout::new(alloc, sound) else {
+    let Ok(events) = EventReader::new(alloc, sound) else {
         return Err(Outcome::NoMemory);
     };
-    let Ok(bytes) = Vec::with_capacity(alloc, most_bytes(&header)) else {
-        return Err(Outcome::NoMemory);
-    };
-    Ok(ImageReader {
-        work,
-        header,
-        bytes,
-    })
+    Ok(ImageReader { header, events })
 }
 
-/// Reads the blocks that an opened image holds, and lists their bits.
+/// Reads the blocks that an opened image holds, and lists their bits. Where the disk fails, the lines of the blocks before
+/// go out.
 fn list_blocks<D: Deck, O: Sink>(
-    reader: ImageReader,
-    sound: &Sound,
+    reader: &mut ImageReader,
+    buffer: &mut OutBuffer,
+    table: &Table,
     deck: &mut D,
     out: &mut O,
 ) -> Outcome
-    requires fresh { IsFresh sound.now reader.work }
-    requires limits { IsInLimits reader.header }
-    requires whole { image_size reader.header ≤ (D.state deck.old).extent }
-    requires room { reader.header.slots * reader.header.payload ≤ vec_capacity reader.bytes }
-    requires empty { reader.bytes.items ≡ [] }
+    requires fresh { ReadsEvents table.now reader.old.events (decided_past table.now.frame.words []) }
+    requires empty { buffer.old ≡ [] }
+    requires limits { IsInLimits reader.old.header }
+    requires whole { image_size reader.old.header ≤ (D.state deck.old).extent }
     ensures answer { (result ≡ Outcome.Done) ⊎ ((result ≡ Outcome.WriteFault) ⊎ (result ≡ Outcome.DiskFault)) }
-    ensures text { result ≡ Outcome.Done → IsTrue D.tells.bytes → O.written out.new
-        ≡ followed_by (O.written out.old) (listing_of sound.now (payloads_of (recovered_run reader.header (D.state deck.old).held))) }
+    ensures text { result ≡ Outcome.Done → IsTrue D.tells.bytes → O.written out.new ≡ followed_by (O.written out.old)
+        (listing_of table.now (payloads_of (recovered_run reader.old.header (D.state deck.old).held))) }
     ensures part { IsTrue D.tells.bytes → (k : ℕ) × (O.written out.new ≡ followed_by (O.written out.old)
-        (take k (listing_of sound.now (payloads_of (recovered_run reader.header (D.state deck.old).held))))) }
+        (take k (listing_of table.now (payloads_of (recovered_run reader.old.header (D.state deck.old).held))))) }
     ensures looks { Looks D.tells (D.state deck.old) (D.state deck.new) }
-    ensures unread { result ≡ Outcome.DiskFault → out.new ≡ out.old }
     ensures disk_fault { result ≡ Outcome.DiskFault
         → Rose (D.state deck.old).disk_faults (D.state deck.new).disk_faults }
     ensures write_fault { result ≡ Outcome.WriteFault → Rose (O.faults out.old) (O.faults out.new) }
 {
-    let ImageReader {
-        mut work,
-        header,
-        mut bytes,
-    } = reader;
-    match read_run(deck, &header, &mut bytes) {
-        Ok(()) => {}
-        Err(Failed) => return Outcome::DiskFault,
-    }
-    match write_listing(&mut work, sound, &bytes, out) {
-        Ok(()) => Outcome::Done,
-        Err(Failed) => Outcome::WriteFault,
+    match take_blocks(reader, table, deck, buffer, out) {
+        Ok(()) => match buffer.finish(out) {
+            Ok(()) => Outcome::Done,
+            Err(Failed) => Outcome::WriteFault,
+        },
+        Err(BlocksFault::Disk) => {
+            let _ = buffer.finish(out);
+            Outcome::DiskFault
+        }
+        Err(BlocksFault::Taker) => Outcome::WriteFault,
     }
 }
 
@@ -200,12 +217,16 @@ fn list_image<D: Deck, O: Sink>(alloc: Global, sound: &Sound, deck: &mut D, out:
     ensures disk_fault { result ≡ Outcome.DiskFault
         → Rose (D.state deck.old).disk_faults (D.state deck.new).disk_faults }
     ensures write_fault { result ≡ Outcome.WriteFault → Rose (O.faults out.old) (O.faults out.new) }
-    ensures unwritten { result ≢ Outcome.Done → result ≢ Outcome.WriteFault → out.new ≡ out.old }
+    ensures unwritten { WritesNothing result → out.new ≡ out.old }
 {
-    match open_image(alloc, sound, deck) {
-        Ok(reader) => list_blocks(reader, sound, deck, out),
-        Err(answer) => answer,
-    }
+    let mut reader = match open_image(alloc, sound, deck) {
+        Ok(reader) => reader,
+        Err(answer) => return answer,
+    };
+    let Ok(mut buffer) = OutBuffer::new(alloc) else {
+        return Outcome::NoMemory;
+    };
+    list_blocks(&mut reader, &mut buffer, sound.table(), deck, out)
 }
 
 /// `list`: reads a table, and lists the bits of the blocks that the deck's image holds.

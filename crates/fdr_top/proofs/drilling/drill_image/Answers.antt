@@ -2,6 +2,7 @@ use Rattle.std.proofs.Common.{ap, refl, arith}
 use Rattle.fdr_top.specs.Supply.{drawn_trace}
 use Rattle.fdr_top.specs.declared.outcome.Outcome.TheVariants as outcome
 use Rattle.fdr_top.proofs.Drilled.{begun_generator, drill_cut, drill_shut, drill_told}
+use Rattle.fdr_top.proofs.ListedImages.{of_blocks_begun}
 use Rattle.fdr_top.proofs.RecordLines.{refuses_nothing}
 use Rattle.fdr_top.proofs.drilling.drill_image.Goals as goal
 
@@ -21,8 +22,8 @@ record_source-requires g c = (
   begun_generator c.args.sound.now c.args.seed c.args.frames _ _ refl c.in-Ok-new.ensures c.requires.frame_limit,
 )
 
-pub returns-in-Ok-record_source-clause-drills : goal.returns-in-Ok-record_source-clause-drills
-returns-in-Ok-record_source-clause-drills g c =
+pub returns-clause-drills : goal.returns-clause-drills
+returns-clause-drills g c =
     let s = g.met.D.Deck.sound in
     let e = c.in-Ok-record_source.ensures in
     let begun = begun_generator c.args.sound.now c.args.seed c.args.frames _ _ refl c.in-Ok-new.ensures c.requires.frame_limit in
@@ -32,8 +33,8 @@ returns-in-Ok-record_source-clause-drills g c =
     c.write_summary.ensures.answer c.in-Ok.ensures.opened.header e.blocks c.requires.in_range c.requires.sound
     c.write_summary.ensures.text c.write_summary.ensures.part (λ x. ap g.O.Sink.written (c.write_summary.ensures.unread x))
 
-pub returns-in-Ok-record_source-clause-disk_fault : goal.returns-in-Ok-record_source-clause-disk_fault
-returns-in-Ok-record_source-clause-disk_fault g c = λ fails.
+pub returns-clause-disk_fault : goal.returns-clause-disk_fault
+returns-clause-disk_fault g c = λ fails.
     let looked = c.open_image.ensures.looks.quiet.passes.disk_faults in
     let still = c.in-Ok-record_source.ensures.disk_quiet in
     let rose = c.write_summary.ensures.disk_fault fails in
@@ -46,3 +47,6 @@ returns-in-Err-record_source-clause-drills g c =
     drill_cut c.args.sound.now _ _ _ _ _ _ _ c.in-Err-record_source.answer c.requires.in_range c.requires.sound
     (g.met.D.Deck.sound c.args.deck.now) c.open_image.ensures.looks e.refused
     (e.ended (drawn_trace c.args.sound.now c.args.seed c.args.frames) begun)
+
+pub returns-clause-untouched : goal.returns-clause-untouched
+returns-clause-untouched g c = λ nothing. absurd (of_blocks_begun c.write_summary.result c.write_summary.ensures.answer nothing)

@@ -38,7 +38,8 @@ returns-in-Ok-clause-refusal g c = λ nothing. ⊎_elim
     (c.list_line.ensures.answer [])
 
 pub returns-in-Ok-clause-unused : goal.returns-in-Ok-clause-unused
-returns-in-Ok-clause-unused g c = λ path. listing_unused path _ _ _ c.list_line.ensures.disk c.list_line.ensures.told c.list_line.ensures.bounded
+returns-in-Ok-clause-unused g c = λ path. listing_unused path _ _ _ c.list_line.ensures.disk c.list_line.ensures.told
+    c.list_line.ensures.no_memory_line c.list_line.ensures.bounded
 
 pub returns-in-Ok-clause-answers : goal.returns-in-Ok-clause-answers
 returns-in-Ok-clause-answers g c = λ path. memory_may (list_bits path) _ (c.list_line.ensures.answer path)

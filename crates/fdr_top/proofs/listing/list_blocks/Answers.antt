@@ -1,6 +1,37 @@
-use Rattle.std.proofs.Common.{sym}
-use Rattle.fdr_io.proofs.Telling.{followed_by-nil}
+use Rattle.std.proofs.Common.{Err, ap}
+use Rattle.fdr_io.proofs.OutputSteps.{part_at_end, whole_is_part, written_at_end}
+use Rattle.fdr_recover.specs.Images.{recovered_run}
+use Rattle.fdr_readout.proofs.EntryLemmas.{lines_of_entries}
+use Rattle.fdr_top.specs.Recover.{payloads_of}
+use Rattle.fdr_top.proofs.ListedLines.{part_of_first, part_of_lines}
 use Rattle.fdr_top.proofs.listing.list_blocks.Goals as goal
 
+pub returns-in-Ok-finish-clause-text : goal.returns-in-Ok-finish-clause-text
+returns-in-Ok-finish-clause-text g c = λ done told.
+    let emits = rw (c.requires.empty, lines_of_entries) at c.in-Ok.ensures.all told in
+    written_at_end _ _ _ _ _ emits c.in-Ok-finish.ensures.all
+
+pub returns-in-Ok-finish-clause-part : goal.returns-in-Ok-finish-clause-part
+returns-in-Ok-finish-clause-part g c = λ told.
+    let emits = rw (c.requires.empty, lines_of_entries) at c.in-Ok.ensures.all told in
+    whole_is_part _ _ _ (written_at_end _ _ _ _ _ emits c.in-Ok-finish.ensures.all)
+
 pub returns-in-Err-clause-part : goal.returns-in-Err-clause-part
-returns-in-Err-clause-part g c told = (0, sym (followed_by-nil _))
+returns-in-Err-clause-part g c = λ told.
+    let emits = rw (c.requires.empty, lines_of_entries) at c.in-Ok.ensures.all told in
+    part_at_end _ _ _ _ _ c.in-Err.ensures.part.0 emits c.in-Err.ensures.part.1
+
+pub returns-in-Err-Disk-clause-part : goal.returns-in-Err-Disk-clause-part
+returns-in-Err-Disk-clause-part g c = λ told.
+    let t = c.args.table.now in
+    let run = payloads_of (recovered_run c.args.reader.now.header (g.D.Deck.state c.args.deck.now).held) in
+    let front = c.in-Err-Disk.ensures.front told (ap Err c.in-Err-Disk.field-0-is) in
+    let emits = rw c.requires.empty at front.2 in
+    part_of_first t run (g.O.Sink.written c.args.out.now) (g.O.Sink.written c.take_blocks.new.out)
+    (g.O.Sink.written c.finish-in-Err-Disk.new.out) c.take_blocks.new.taker front.0 front.1 c.finish-in-Err-Disk.result front.3 emits
+    c.finish-in-Err-Disk.ensures.all c.finish-in-Err-Disk.ensures.part
+
+pub returns-in-Err-Taker-clause-part : goal.returns-in-Err-Taker-clause-part
+returns-in-Err-Taker-clause-part g c = λ told.
+    part_of_lines c.args.table.now _ (g.O.Sink.written c.args.out.now) (g.O.Sink.written c.take_blocks.new.out)
+    (rw c.requires.empty at (c.in-Err-Taker.ensures.part told (ap Err c.in-Err-Taker.field-0-is)))

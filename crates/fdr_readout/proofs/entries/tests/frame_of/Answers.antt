@@ -1,6 +1,6 @@
 use Rattle.std.proofs.Common.{ℕ, ◌<◌, List, set, replicate, arith}
 use Rattle.std.proofs.lemmas.List.Elements.{All-set, All-replicate}
-use Rattle.fdr_readout.proofs.listing.tests.frame_of.Goals as goal
+use Rattle.fdr_readout.proofs.entries.tests.frame_of.Goals as goal
 
 pub returns : goal.returns
 returns c =

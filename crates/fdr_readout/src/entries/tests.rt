@@ -1,13 +1,15 @@
 //! The listing of worked frames.
 
-ghost use Rattle.std.specs.Prelude.{◌≡◌, ◌<◌, All};
+ghost use Rattle.std.specs.Prelude.{◌≡◌, ◌<◌, ◌≤◌, [], length, All};
+ghost use Rattle.fdr_readout.specs.Reading.{ReadsEvents, decided_past};
 
 use super::*;
+use crate::Summary;
 use fdr_bits::pack_pair;
 use fdr_check::check;
 use fdr_frame::SYNC;
-use fdr_io::MemSink;
-use fdr_table::Table;
+use fdr_io::{MemSink, NullSink, OutBuffer};
+use std::alloc::Global;
 use std::test::Fail;
 
 /// A position of two parts, one in each of two frames, and a signed altitude in steps of a half in each frame.
@@ -49,19 +51,39 @@ fn add_frame(bytes: &mut Vec<u8>, words: &[u16; 256]) -> Result<(), Fail>
     Ok(())
 }
 
+/// Hands on all that these bytes hold.
+fn take_all<O: Sink, T: Taker<O>>(
+    reader: &mut EventReader,
+    table: &Table,
+    bytes: &[u8],
+    taker: &mut T,
+    out: &mut O,
+) -> Result<(), Fail>
+    requires short { length bytes.now ≤ 2000 }
+    requires fresh { ReadsEvents table.now reader.old (decided_past table.now.frame.words []) }
+{
+    let Ok(()) = take_piece(reader, table, bytes, taker, out) else {
+        return Err("piece")?;
+    };
+    let Ok(()) = take_rest(reader, table, taker, out) else {
+        return Err("rest")?;
+    };
+    Ok(())
+}
+
 fn listing(alloc: Global, bytes: &[u8]) -> Result<Vec<u8>, Fail> {
     let table = Table::read(alloc, TABLE).ok().ok_or("table")?;
     let sound = check(alloc, table).ok().ok_or("sound")?;
     if sound.table().frame().words != 64 || bytes.len() > MANY {
         return Err("size")?;
     }
-    let Ok(mut work) = Readout::new(alloc, &sound) else {
+    let Ok(mut reader) = EventReader::new(alloc, &sound) else {
         return Err("memory")?;
     };
+    let mut buffer = OutBuffer::new(alloc)?;
     let mut out = MemSink::new(alloc, Vec::new(alloc));
-    write_listing(&mut work, &sound, bytes, &mut out)
-        .ok()
-        .ok_or("write")?;
+    take_all(&mut reader, sound.table(), bytes, &mut buffer, &mut out)?;
+    buffer.finish(&mut out).ok().ok_or("write")?;
     Ok(Vec::from_slice(alloc, out.bytes())?)
 }
 
@@ -115,10 +137,13 @@ fn summary_of_two(alloc: Global, first: u16, second: u16) -> Result<Summary, Fai
     if sound.table().frame().words != 64 || bytes.len() > MANY {
         return Err("size")?;
     }
-    let Ok(mut work) = Readout::new(alloc, &sound) else {
+    let Ok(mut reader) = EventReader::new(alloc, &sound) else {
         return Err("memory")?;
     };
-    Ok(summarize(&mut work, &sound, &bytes))
+    let mut summary = Summary::new();
+    let mut out = NullSink::new();
+    take_all(&mut reader, sound.table(), &bytes, &mut summary, &mut out)?;
+    Ok(summary)
 }
 
 // Each frame has a row of the altitude, and the second one of the position, which is 0.
