@@ -3,7 +3,7 @@
 PREFIX ?= /usr/local
 PROGRAM = crates/fdr_prog
 
-.PHONY: build demo streams crash-test test install clean
+.PHONY: build demo streams crash-test check-real check-memory bench test install clean
 
 # Proves the program and everything below it, and puts it at bin/fdr.
 build:
@@ -25,6 +25,18 @@ streams: build
 # Ends recordings of the built program at random moments, and looks at what the image holds then.
 crash-test: build
 	tools/crash_test.py bin/fdr
+
+# Runs the built program on real files, devices and streams, and on what goes wrong with them.
+check-real: build
+	tests/real/run bin/fdr
+
+# Refuses the built program its memory, one request at a time.
+check-memory: build
+	tests/real/memory bin/fdr
+
+# Measures the built program on large inputs, beside `cat` of the same bytes: some minutes, and 1.5 GB for the inputs.
+bench: build
+	tools/bench.py bin/fdr
 
 # The gate: every proof, must-fail edit, test and program.
 test:

@@ -4,12 +4,12 @@
     tools/documents.py write    writes docs/clauses/CRATE.md anew from the source
     tools/documents.py check    prints what differs, and ends with 1 where something does
 
-The check wants: the pages of docs/clauses as the source says; each name in `these marks` of docs/GUARANTEES.md to be one
-of the source; README.md to say of how many definitions the contract of `run` speaks; docs/MODEL.md to list exactly the
-public definitions of specs/, crate by crate; the crates' edges in docs/ARCHITECTURE.md to be those of crates.txt; the
-forms, statuses and texts of docs/fdr.1 to be those of the source; README.md, CHANGELOG.md and docs/fdr.1 to name the
-version of VERSION; each link to lead to a file and heading; no two public definitions of specs/ to share a name; and no
-line of specs/ and proofs/ to be over 160 columns.
+The check wants: the pages of docs/clauses as the source says; each name in `these marks` of docs/GUARANTEES.md and
+docs/LAYERS.md to be one of the source; README.md to say of how many definitions the contract of `run` speaks;
+docs/MODEL.md to list exactly the public definitions of specs/, crate by crate; the crates' edges in
+docs/ARCHITECTURE.md to be those of crates.txt; the forms, statuses and texts of docs/fdr.1 to be those of the source;
+README.md, CHANGELOG.md and docs/fdr.1 to name the version of VERSION; each link to lead to a file and heading; no two
+public definitions of specs/ to share a name; and no line of specs/ and proofs/ to be over 160 columns.
 """
 
 import pathlib
@@ -214,7 +214,7 @@ def check_model():
 
 
 def check_guarantees():
-    """Names in code marks of GUARANTEES.md are names of the source; `clause.field` names a field of a record in specs/."""
+    """Names in code marks of these pages are names of the source; `clause.field` names a field of a record in specs/."""
     known, fields = set(), {"old", "new", "now"}
     for crate, _ in crate_lines():
         known.add(crate)
@@ -225,17 +225,18 @@ def check_guarantees():
             known.update(re.findall(r"[A-Za-z_]\w*", path.read_text()))
             fields.update(re.findall(r"^ +pub (\w+) :", path.read_text(), flags=re.M))
         known.update(path.stem for path in (CRATES / crate / "must-fail").glob("*.edit"))
-    text = (TOP / "docs" / "GUARANTEES.md").read_text()
-    for number, line in enumerate(re.sub(r"```.*?```", lambda m: "\n" * m.group().count("\n"), text, flags=re.S).splitlines(), 1):
-        for mark in re.findall(r"`([^`]+)`", line):
-            if re.search(r"[^\w:.]|\.\w+\(|^_|^[0-9a-f]{16}$", mark):
-                continue
-            promise = re.fullmatch(r"([a-z]\w*)\.([a-z]\w*)", mark)
-            if promise and promise[2] not in fields:
-                yield f"docs/GUARANTEES.md:{number}: no record has a promise `{promise[2]}`"
-            for name in re.findall(r"\w+", mark):
-                if name not in known:
-                    yield f"docs/GUARANTEES.md:{number}: nothing is named `{name}`"
+    for page in ["GUARANTEES.md", "LAYERS.md"]:
+        text = re.sub(r"```.*?```", lambda m: "\n" * m.group().count("\n"), (TOP / "docs" / page).read_text(), flags=re.S)
+        for number, line in enumerate(text.splitlines(), 1):
+            for mark in re.findall(r"`([^`]+)`", line):
+                if re.search(r"[^\w:.]|\.\w+\(|^_|^[0-9a-f]{16}$", mark):
+                    continue
+                promise = re.fullmatch(r"([a-z]\w*)\.([a-z]\w*)", mark)
+                if promise and promise[2] not in fields:
+                    yield f"docs/{page}:{number}: no record has a promise `{promise[2]}`"
+                for name in re.findall(r"\w+", mark):
+                    if name not in known:
+                        yield f"docs/{page}:{number}: nothing is named `{name}`"
 
 
 def check_edges():

@@ -3,7 +3,7 @@
 ghost use Rattle.std.specs.Prelude.{◌≡◌, ◌<◌, IfOk, OnOk, OnErr};
 ghost use Rattle.fdr_prog.specs.Apart.{IsApart};
 
-use crate::system::{lock, open};
+use crate::system::{apart, lock, open};
 use std::fs::{File, OpenOptions};
 use std::io::ErrorKind;
 use std::marker::Model;
@@ -66,15 +66,37 @@ impl<'a, R: Files<File = File>> ImageFile<'a, R> {
         }
     }
 
-    // Opens the file, or makes it, and takes its lock.
-    fn open(&self, is_new: bool) -> io::Result<File>
+    // Opens the file and takes its lock. What is there and is no file isn't opened: a named pipe would be waited for, and a
+    // device has no length of its own.
+    fn open(&self) -> io::Result<File>
         ensures { IfOk result IsApart }
     {
+        if !fs::metadata(self.files, self.path)?.is_file() {
+            return Err(io::Error::from(ErrorKind::InvalidInput));
+        }
         let mut how = OpenOptions::new();
-        how.read(true).write(self.writes).create_new(is_new);
+        how.read(true).write(self.writes);
         let file = open(self.files, &how, self.path)?;
         lock(&file, self.writes)?;
         Ok(file)
+    }
+
+    // Makes the file and takes its lock. Where it can't be kept apart from the standard streams it is removed again.
+    fn make(&self) -> io::Result<File>
+        ensures { IfOk result IsApart }
+    {
+        let mut how = OpenOptions::new();
+        how.read(true).write(self.writes).create_new(true);
+        match apart(how.open(self.files, self.path)?) {
+            Ok(file) => {
+                lock(&file, self.writes)?;
+                Ok(file)
+            }
+            Err(error) => {
+                let _ = fs::remove_file(self.files, self.path);
+                Err(error)
+            }
+        }
     }
 
     // The file, open.
@@ -84,7 +106,7 @@ impl<'a, R: Files<File = File>> ImageFile<'a, R> {
     {
         match self.file.take() {
             Some(file) => Ok(file),
-            None => self.open(false),
+            None => self.open(),
         }
     }
 
@@ -165,7 +187,7 @@ impl<'a, R: Files<File = File>> ImageFile<'a, R> {
     {
         let (file, provided) = match self.take_file() {
             Ok(file) => (file, Provided::Filled),
-            Err(error) if error.kind() == ErrorKind::NotFound => (self.open(true)?, Provided::Made),
+            Err(error) if error.kind() == ErrorKind::NotFound => (self.make()?, Provided::Made),
             Err(error) => return Err(error),
         };
         if file.metadata()?.len() > 0 {

@@ -12,16 +12,24 @@ use std::io::{ErrorKind, Read};
 use std::os::fd::AsRawFd;
 use std::rt::Files;
 
-/// Opens a file whose descriptor is none of the standard streams'. The system hands out the lowest number that is free,
-/// which is a stream's where that stream was closed at the start. The file then gets another number, which the system
-/// hands out above 2, and the stream is closed as before: a read or a write of it fails.
+/// Opens a file apart from the standard streams.
 pub fn open<R: Files<File = File>>(files: &R, how: &OpenOptions, path: &str) -> io::Result<File>
     ensures { IfOk result IsApart }
 {
-    let mut file = how.open(files, path)?;
-    if file.as_raw_fd() < 3 {
-        file = file.try_clone()?;
-    }
+    apart(how.open(files, path)?)
+}
+
+/// The same file under a descriptor that is none of the standard streams'. The system hands out the lowest number that is
+/// free, which is a stream's where that stream was closed at the start. The file then gets another number, which the
+/// system hands out above 2, and the stream is closed as before: a read or a write of it fails.
+pub fn apart(file: File) -> io::Result<File>
+    ensures { IfOk result IsApart }
+{
+    let file = if file.as_raw_fd() < 3 {
+        file.try_clone()?
+    } else {
+        file
+    };
     match file.as_raw_fd() {
         ..=2 => Err(io::Error::from(ErrorKind::Other)),
         _ => Ok(file),

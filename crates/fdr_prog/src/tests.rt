@@ -167,6 +167,17 @@ fn a_file_that_has_bytes_stays(rt: HostRuntime) -> Result<(), Fail> {
     Ok(())
 }
 
+// A device has no length of its own, so that it would count as an empty file.
+#[test]
+fn what_is_no_file_is_a_fault(rt: HostRuntime) -> Result<(), Fail> {
+    for path in ["/dev/null", "."] {
+        assert_eq!(rt; size_at(&rt, path, false), Err(Failed), "{path}");
+        assert_eq!(rt; size_at(&rt, path, true), Err(Failed), "{path}");
+        assert_eq!(rt; make_at(&rt, path, true), Err(Failed), "{path}");
+    }
+    Ok(())
+}
+
 #[test]
 fn a_lock_that_another_holds_is_a_fault(rt: HostRuntime) -> Result<(), Fail> {
     let path = "locked.bin";

@@ -1,0 +1,290 @@
+#!/usr/bin/env python3
+"""Measures the built program on large inputs, beside `cat` of the same bytes.
+
+    tools/bench.py PROGRAM [--size MB] [--repeat N] [--folder FOLDER] [--only WORD]
+
+The inputs are made here, in a folder that is removed at the end, and without the program: tables, frames by them,
+noise, frames with a bit too many in each, traces, and a full image. The seed is fixed, so the inputs are the same in
+every run. Each work is run once with its output in a file, for its size, and then N times with its output to
+/dev/null; the run with the middle seconds of the processor counts. `cat` of the same file to /dev/null is what
+reading the bytes costs.
+
+It prints the machine, and a table in Markdown: bytes in and out, seconds of the processor (of the program, and of the
+system for it), bytes of the input a second of these, the most memory, and the seconds of `cat`. docs/PERFORMANCE.md
+says how to read it.
+"""
+
+import argparse
+import array
+import bisect
+import collections
+import csv
+import os
+import pathlib
+import platform
+import random
+import struct
+import sys
+import tempfile
+
+TOP = pathlib.Path(__file__).resolve().parent.parent
+sys.dont_write_bytecode = True
+sys.path.insert(0, str(TOP / "tests" / "real"))
+
+from inputs import HEAD, HEADER, OPEN, ORDINARY, SYNCS, T1, empty_image, end_at, largest_table, packed, with_parity
+from measure_record import PAYLOAD, SLOTS, SUPERFRAME, print_row, run
+
+COUNTERS = 4096
+DISTINCT = 256  # frames with data of their own, before they come again with other counters
+MOST_WORDS = 50  # that a parameter sends in a second
+MB = 1_000_000
+SECOND = 1_000_000  # microseconds
+
+Parameter = collections.namedtuple("Parameter", "bus label sdi rate")
+Place = collections.namedtuple("Place", "subframes word step lsb width cycle period")
+Work = collections.namedtuple("Work", "name words given measured")
+
+
+# --- tables
+
+
+def dense_table():
+    """1,024 words a subframe and 200 parameters, from eight times a second down to once in 64 seconds."""
+    rows = ["F,1024,1024,4"]
+    free = (word for word in range(13, 1024) if word % 128 not in range(3, 13) and word % 512 not in range(20, 60))
+    scales = ["U,1,1,0,0", "S,1,4,0,2", "U,3,7,-100,1", "S,1,1000,0,3"]
+
+    def add(rate, width, *places):
+        number = len([row for row in rows if row.startswith("P")])
+        sdi = "" if number % 2 else number // 2 % 4
+        scale, rest = scales[number % 4].split(",", 1)
+        rows.append(f"P,D{number},{number % 5},{number % 200 + 1:o},{sdi},11,{width},{scale},{rest},{rate}")
+        for part, (subframes, word, step, bits, cycle, period) in enumerate(places, 1):
+            rows.append(f"L,D{number},{part},{subframes},{word},{step},1,{bits},{cycle},{period}")
+
+    for number in range(10):
+        add(512, 12, ("1234", 3 + number, 128, 12, 0, 1))
+    for number in range(40):
+        add(128, 12, ("1234", 20 + number, 512, 12, 0, 1))
+    for number in range(75):
+        add(64, 10, ("1234", next(free), 0, 10, 0, 1))
+    for number in range(25):
+        add(64, 18, ("1234", next(free), 0, 12, 0, 1), ("1234", next(free), 0, 6, 0, 1))
+    for number in range(30):
+        add(16, 8, (1 + number % 4, next(free), 0, 8, 0, 1))
+    for number in range(20):
+        add(1, 12, (2, next(free), 0, 12, number % 16, 16))
+    return "\n".join(rows + [""]).encode()
+
+
+def full_table():
+    """Four parts in each word from the third of a subframe on: 261,632 parts."""
+    rows = ["F,1024,2,4"]
+    for number in range(4):
+        rows.append(f"P,E{number},{number},{number + 1},,11,3,U,1,1,0,0,65408")
+        rows.append(f"L,E{number},1,1234,3,1,{1 + 3 * number},3,0,1")
+    return "\n".join(rows + [""]).encode()
+
+
+class Table:
+    """What the rows of a table say, as far as frames and traces are made by it."""
+
+    def __init__(self, text):
+        self.parameters, self.places = [], []
+        for row in csv.reader(text.decode().splitlines()):
+            if row[0] == "F":
+                self.words = int(row[1])
+                self.counter = (int(row[3]) - 1) * self.words + int(row[2]) - 1
+            elif row[0] == "P":
+                self.parameters.append(Parameter(int(row[2]), int(row[3], 8), int(row[4] or 0), int(row[12])))
+            else:
+                self.places.append(Place([int(digit) for digit in row[3]], *map(int, row[4:])))
+
+    def masks(self):
+        """The bits of each word of a frame that a place has, for each frame of a superframe."""
+        masks = [[0] * (4 * self.words) for _ in range(16)]
+        for place in self.places:
+            bits = (1 << place.width) - 1 << place.lsb - 1
+            for cycle in range(place.cycle, 16, place.period):
+                for subframe in place.subframes:
+                    last = self.words if place.step else place.word
+                    for word in range(place.word, last + 1, place.step or 1):
+                        masks[cycle][(subframe - 1) * self.words + word - 1] |= bits
+        return masks
+
+
+# --- bits
+
+
+def frames(table, chance):
+    """All frames from counter 0 to 4095, with drawn numbers where the table has places and zeros elsewhere."""
+    masks, line = table.masks(), bytearray()
+    for number in range(DISTINCT):
+        drawn = chance.choices(range(4096), k=4 * table.words)
+        words = [word & mask for word, mask in zip(drawn, masks[number % 16])]
+        words[:: table.words] = SYNCS
+        words[table.counter] = 0
+        line += packed(words)
+    line *= COUNTERS // DISTINCT
+    size = 6 * table.words
+    for counter in range(COUNTERS):
+        at, half = divmod(counter * size * 2 + table.counter * 3, 2)
+        both = int.from_bytes(line[at : at + 2], "little") | counter << 4 * half
+        line[at : at + 2] = both.to_bytes(2, "little")
+    return bytes(line), size
+
+
+def with_a_bit_in_each(line, size, chance):
+    """The frames with a bit put into each, somewhere behind its first word. Eight of them are whole bytes again."""
+    pieces = []
+    for at in range(0, len(line), 8 * size):
+        bits, length = 0, 0
+        for begin in range(at, at + 8 * size, size):
+            frame, place = int.from_bytes(line[begin : begin + size], "little"), chance.randrange(12, 8 * size)
+            frame = frame & (1 << place) - 1 | chance.getrandbits(1) << place | frame >> place << place + 1
+            bits, length = bits | frame << length, length + 8 * size + 1
+        pieces.append(bits.to_bytes(length // 8, "little"))
+    return b"".join(pieces)
+
+
+def write_again_and_again(path, line, size):
+    """Writes a file of so many bytes: the line as often as it fits, and a front part of it."""
+    with open(path, "wb") as file:
+        for _ in range(size // len(line)):
+            file.write(line)
+        file.write(line[: size % len(line)])
+
+
+def write_noise(path, size, chance):
+    with open(path, "wb") as file:
+        for _ in range(size // MB):
+            file.write(chance.randbytes(MB))
+
+
+def write_full_image(path, line):
+    """An image of frames of 256 words as a recorder leaves it that filled it: only the first slot is closed."""
+    with open(path, "wb") as file:
+        file.write(empty_image(SLOTS, PAYLOAD, words=256)[: HEADER + HEAD + PAYLOAD])
+        for number in range(1, SLOTS):
+            at = number * PAYLOAD % len(line)
+            file.write(struct.pack(">BxHIQ", OPEN, PAYLOAD, 0, number) + line[at : at + PAYLOAD])
+
+
+# --- traces
+
+
+def write_trace(path, table, seconds, chance):
+    """Each parameter sends as often as it is sampled, at most 50 times a second. The words repeat each 64 seconds."""
+    records = []
+    for parameter in table.parameters:
+        count = min(parameter.rate, MOST_WORDS * SUPERFRAME)
+        low = int(f"{parameter.label:08b}"[::-1], 2) | parameter.sdi << 8
+        for number in range(count):
+            word = with_parity(low | chance.getrandbits(21) << 10)
+            records.append((number * SUPERFRAME * SECOND // count, 1 << 56 | parameter.bus << 48 | word))
+    records.sort()
+    times, fronts = [time for time, _ in records], array.array("Q", [front for _, front in records])
+    with open(path, "wb") as file:
+        for begin in range(0, seconds, SUPERFRAME):
+            count = bisect.bisect_left(times, (seconds - begin) * SECOND)
+            both = array.array("Q", bytes(16 * count))
+            both[0::2] = fronts[:count]
+            both[1::2] = array.array("Q", [time + begin * SECOND for time in times[:count]])
+            if sys.byteorder == "little":
+                both.byteswap()
+            file.write(both)
+        file.write(end_at(seconds * SECOND))
+
+
+# --- the works
+
+
+def make_works(room, size, hours):
+    """Makes the inputs in a folder, and answers the works: the words, the input and the file whose bytes count."""
+    chance = random.Random(717)
+    texts = {"t1": T1, "ordinary": ORDINARY, "dense": dense_table(), "full": full_table(), "largest": largest_table()}
+    for name, text in texts.items():
+        (room / f"{name}.csv").write_bytes(text)
+    table_of = {name: Table(text) for name, text in texts.items()}
+
+    def at(name):
+        return room / name
+
+    works = []
+
+    def add(name, words, given=None, measured=None):
+        works.append(Work(name, words, given or os.devnull, measured or given))
+
+    for name in ("t1", "ordinary", "dense"):
+        line, frame = frames(table_of[name], chance)
+        write_again_and_again(at(f"{name}.bits"), line, size // frame * frame)
+        add(f"listbits, frames by the {name} table", ["listbits", at(f"{name}.csv")], at(f"{name}.bits"))
+        if name == "ordinary":
+            write_again_and_again(at("altered.bits"), with_a_bit_in_each(line, frame, chance), size)
+            write_full_image(at("full.img"), line)
+    write_noise(at("noise"), size, chance)
+    add("listbits, noise", ["listbits", at("ordinary.csv")], at("noise"))
+    add("listbits, a bit put into each frame", ["listbits", at("ordinary.csv")], at("altered.bits"))
+    add("listbits, the largest table, no input", ["listbits", at("largest.csv")], measured=at("largest.csv"))
+    add("list, a full image", ["list", at("ordinary.csv"), at("full.img")], measured=at("full.img"))
+    add("recover, a full image", ["recover", at("full.img")], measured=at("full.img"))
+    for name, seconds in (("ordinary", 25 * 3600), ("dense", 3600), ("full", 3600)):
+        write_trace(at(f"{name}.trace"), table_of[name], int(seconds * hours), chance)
+        what = {"full": "four parts in each slot"}.get(name, f"the {name} table")
+        add(f"stream, {what}, {seconds // 3600 * hours:g} h", ["stream", at(f"{name}.csv")], at(f"{name}.trace"))
+    add("check, the largest table", ["check", at("largest.csv")], measured=at("largest.csv"))
+    return works
+
+
+# --- the runs
+
+
+def middle_run(words, given, repeat):
+    """The run with the middle seconds of the processor, and the most memory of all."""
+    runs = sorted((run(words, given=given) for _ in range(repeat)), key=lambda one: one.processor)
+    return runs[repeat // 2]._replace(peak=max(one.peak for one in runs))
+
+
+def row_of(program, work, repeat, room):
+    words, shown = [program, *work.words], room / "shown"
+    run(words, given=work.given, written=shown)
+    written, read = shown.stat().st_size, work.measured.stat().st_size
+    shown.unlink()
+    figures, floor = middle_run(words, work.given, repeat), middle_run(["cat", work.measured], os.devnull, repeat)
+    speed = f"{read / figures.processor / MB:,.0f}" if figures.processor else "-"
+    cells = [work.name, f"{read:,}", f"{written:,}", f"{figures.processor:.3f}", speed, f"{figures.peak:.1f}"]
+    return cells + [f"{floor.processor:.3f}"]
+
+
+def machine():
+    """The processors, the memory, the system and how busy it is."""
+    info = pathlib.Path("/proc/cpuinfo").read_text().splitlines()
+    kind = next((line.split(":")[1].strip() for line in info if line.startswith("model name")), platform.machine())
+    memory = os.sysconf("SC_PHYS_PAGES") * os.sysconf("SC_PAGE_SIZE") / (1 << 30)
+    busy = os.getloadavg()[0]
+    system = f"{platform.system()} {platform.release()}"
+    return f"{os.cpu_count()} processors, {kind}; {memory:.0f} GB; {system}; load {busy:.1f}"
+
+
+def main():
+    words = argparse.ArgumentParser(description=__doc__.splitlines()[0])
+    words.add_argument("program", type=pathlib.Path)
+    words.add_argument("--size", type=int, default=200, help="millions of bytes in each input of listbits")
+    words.add_argument("--hours", type=float, default=1, help="what the hours of the traces are multiplied by")
+    words.add_argument("--repeat", type=int, default=5)
+    words.add_argument("--folder", help="where the inputs are made")
+    words.add_argument("--only", default="", help="the works with this in their names")
+    given = words.parse_args()
+    print(f"{machine()}\n")
+    with tempfile.TemporaryDirectory(prefix="fdr_bench_", dir=given.folder) as room:
+        room = pathlib.Path(room)
+        works = [work for work in make_works(room, given.size * MB, given.hours) if given.only in work.name]
+        print_row(["work", "bytes in", "bytes out", "seconds", "MB a second", "peak MB", "`cat`, seconds"])
+        print_row(["---"] + ["---:"] * 6)
+        for work in works:
+            print_row(row_of(given.program.resolve(), work, given.repeat, room))
+            sys.stdout.flush()
+
+
+if __name__ == "__main__":
+    main()
