@@ -1,0 +1,107 @@
+//! Images whose making is stopped within a call, or fails at one: none, or the whole empty one.
+
+use crate::rings::{TEARS, empty_ring, left_by_stop};
+use fdr_cases::{ALTITUDE, Ran, deck_of, run_words};
+use fdr_deck::MemDeck;
+use fdr_slot::ImageFault;
+use fdr_top::Outcome;
+use std::alloc::Global;
+use std::process::Abort;
+use std::test::Fail;
+
+/// Makes an image of four slots on an empty disk where the listed calls fail.
+fn format(alloc: Global, failing: &[u64]) -> Result<(Ran, MemDeck), Fail> {
+    let mut deck = deck_of(alloc, &[], &[], failing)?;
+    let words = [
+        "format",
+        "t1.csv",
+        "flight.img",
+        "--slots=4",
+        "--payload=64",
+    ];
+    let ran = run_words(alloc, &words, ALTITUDE, &mut deck, &[])?;
+    Ok((ran, deck))
+}
+
+/// What is to be answered to what is left, by its bytes: there is no image yet, or the whole empty one. None is neither.
+fn answer_to(image: &[u8], whole: &[u8]) -> Option<Outcome> {
+    if image.len() < 64 {
+        Some(Outcome::ImageRefused(ImageFault::Small))
+    } else if image.first() != Some(&0x5a) {
+        Some(Outcome::ImageRefused(ImageFault::Closed))
+    } else if image == whole {
+        Some(Outcome::Done)
+    } else {
+        None
+    }
+}
+
+/// How many images were too small, closed and whole.
+#[derive(Drop)]
+struct Seen {
+    small: u32,
+    closed: u32,
+    whole: u32,
+}
+
+/// Checks that an image is recovered as its bytes say, of which nothing is written, and counts it.
+fn check_image(rt: &impl Abort, alloc: Global, image: &[u8], seen: &mut Seen) -> Result<(), Fail> {
+    let answer = answer_to(image, &empty_ring(alloc, 4, 64)?).ok_or("another image")?;
+    let mut deck = deck_of(alloc, image, &[], &[])?;
+    let ran = run_words(alloc, &["recover", "flight.img"], "", &mut deck, &[])?;
+    assert_eq!(rt; ran.outcome, answer);
+    assert_eq!(rt; ran.written.len(), 0);
+    match answer {
+        Outcome::Done => seen.whole = seen.whole.saturating_add(1),
+        Outcome::ImageRefused(ImageFault::Small) => seen.small = seen.small.saturating_add(1),
+        _ => seen.closed = seen.closed.saturating_add(1),
+    }
+    Ok(())
+}
+
+// The calls are the size, the zeros, the header but for its gate, a sync, the gate, and a sync. The disk is empty before
+// the zeros. The gate's one byte has no half, and opens where it is new or filled with its own value.
+#[test]
+fn a_stop_leaves_no_image_or_a_whole_one(rt: HostRuntime) -> Result<(), Fail> {
+    let alloc = rt.alloc();
+    let (ran, deck) = format(alloc, &[])?;
+    assert_eq!(rt; ran.outcome, Outcome::Done);
+    assert_eq!(rt; deck.calls(), 6);
+    let mut seen = Seen {
+        small: 0,
+        closed: 0,
+        whole: 0,
+    };
+    for call in 0..deck.calls() {
+        for tear in TEARS {
+            let image = left_by_stop(alloc, &deck, call, tear)?;
+            check_image(&rt, alloc, &image, &mut seen)?;
+        }
+    }
+    assert_eq!(rt; (seen.small, seen.closed, seen.whole), (7, 25, 4));
+    Ok(())
+}
+
+// Of each failed call, what the disk holds and what stops within it leave.
+#[test]
+fn a_failed_call_leaves_no_image_or_a_whole_one(rt: HostRuntime) -> Result<(), Fail> {
+    let alloc = rt.alloc();
+    let mut seen = Seen {
+        small: 0,
+        closed: 0,
+        whole: 0,
+    };
+    for call in 0..6 {
+        let (ran, deck) = format(alloc, &[call])?;
+        assert_eq!(rt; ran.outcome, Outcome::DiskFault, "call {call}");
+        assert_eq!(rt; deck.calls(), call + 1, "call {call}");
+        assert_eq!(rt; deck.told(), 0, "call {call}");
+        check_image(&rt, alloc, deck.image(), &mut seen)?;
+        for tear in TEARS {
+            let image = left_by_stop(alloc, &deck, call, tear)?;
+            check_image(&rt, alloc, &image, &mut seen)?;
+        }
+    }
+    assert_eq!(rt; (seen.small, seen.closed, seen.whole), (9, 28, 5));
+    Ok(())
+}
