@@ -1,3 +1,5 @@
+pub mod Stretches
+pub mod Placing
 pub mod Walking
 pub mod Ranges
 pub mod Starting

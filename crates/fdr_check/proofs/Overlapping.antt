@@ -27,7 +27,7 @@ whole_superframe : (w : ℕ) → 16 * frame_bits w ≡ 768 * w
 whole_superframe w = omega arith
 
 -- a place's own marks tell which bits another shares with it
-pub shared_by_marks : (w : ℕ) (p q : PlaceRow) (marks : List Bool) → AreMarks w (q ∷ []) marks
+pub shared_by_marks : (w : ℕ) (p q : PlaceRow) (marks : List ℕ) → AreMarks w (q ∷ []) marks
     → find (λ b. covers w p b && is_marked marks b) (range_with_len 0 (768 * w)) ≡ first_shared w p q
 unfolding first_shared
 shared_by_marks w p q marks are =
@@ -35,7 +35,7 @@ shared_by_marks w p q marks are =
     (λ b low high. ap (λ m. covers w p b && m) (are.each b (omega arith) ∙ or-false (covers w q b)))
     ∙ ap (λ n. find (λ b. covers w p b && covers w q b) (range_with_len 0 n)) (sym (whole_superframe w))
 
-pub marks_push : (w : ℕ) (places : List PlaceRow) (p : PlaceRow) (old new : List Bool) → AreMarks w places old → length new ≡ length old
+pub marks_push : (w : ℕ) (places : List PlaceRow) (p : PlaceRow) (old new : List ℕ) → AreMarks w places old → length new ≡ length old
     → ((b : ℕ) → b < 768 * w → is_marked new b ≡ (is_marked old b || covers w p b)) → AreMarks w (places ++ p ∷ []) new
 marks_push w places p old new are len more = record {
   length = len ∙ are.length;
@@ -99,7 +99,7 @@ unshared w (p ∷ above) q h = overlap_with_cons w p above q (first_unshared w p
     (or_right (covers w p b) (list_any (λ (p : PlaceRow). covers w p b) above) parts.1)))))
 
 -- unmarked bits are shared with no place above
-pub none_by_marks : (w : ℕ) (above : List PlaceRow) (q : PlaceRow) (marks : List Bool)
+pub none_by_marks : (w : ℕ) (above : List PlaceRow) (q : PlaceRow) (marks : List ℕ)
     → ((b : ℕ) → b < 768 * w → is_marked marks b ≡ list_any (λ (p : PlaceRow). covers w p b) above)
     → find (λ b. covers w q b && is_marked marks b) (range_with_len 0 (768 * w)) ≡ None → overlap_with w above q ≡ None
 none_by_marks w above q marks each none =
@@ -154,7 +154,7 @@ unfolding overlap_among
 no_overlap_among w places i all none =
     sym (ap (λ ps. first_some (map (overlap_by_index w places) (enumerate_from 0 ps))) (sym (take_all i places all)) ∙ none)
 
-pub marks_next : (w : ℕ) (places : List PlaceRow) (i : ℕ) (p : PlaceRow) (old new : List Bool) → i < length places → p ≡ get_or places i p
+pub marks_next : (w : ℕ) (places : List PlaceRow) (i : ℕ) (p : PlaceRow) (old new : List ℕ) → i < length places → p ≡ get_or places i p
     → AreMarks w (take i places) old → length new ≡ length old → ((b : ℕ) → b < 768 * w → is_marked new b ≡ (is_marked old b || covers w p b))
     → AreMarks w (take (i + 1) places) new
 marks_next w places i p old new l is are len more =

@@ -1,5 +1,5 @@
 -- Searches and counts over ranges.
-use Rattle.std.proofs.Common.{◌≡◌, ℕ, ◌+◌, ◌-◌, ◌<◌, ◌≤◌, Bool, true, false, ◌&&◌, cond, [], ◌∷◌, Some, None, zero, suc, inl, inr, sym, ap, ◌∙◌}
+use Rattle.std.proofs.Common.{◌≡◌, ℕ, ◌+◌, ◌<◌, ◌≤◌, Bool, true, false, ◌&&◌, [], ◌∷◌, Some, None, zero, suc, inl, inr, sym, ap, ◌∙◌}
 use Rattle.std.proofs.Common.{refl, arith}
 use Rattle.std.specs.List.{range_with_len, count_by, find, sum_by, list_all}
 use Rattle.std.proofs.lemmas.List.FromFn.{length-range_with_len}
@@ -8,40 +8,6 @@ use Rattle.std.proofs.lemmas.List.Sums.{sum_by_push, count_by-le-length}
 use Rattle.std.proofs.lemmas.Bool.{cond-true, cond-false, true≢false, and_from, and_left, and_right, cases_eq, cases_Bool}
 use Rattle.std.proofs.lemmas.Option.{none-some}
 use Rattle.fdr_lists.proofs.Ranges.{range_more}
-
-count_more : (t : ℕ → Bool) (n : ℕ) → count_by t (range_with_len 0 (n + 1)) ≡ count_by t (range_with_len 0 n) + cond (t n) 1 0
-count_more t n =
-    let e : 0 + n ≡ n = omega arith in
-    ap (count_by t) (range_more 0 n) ∙ sum_by_push (λ x. cond (t x) 1 0) (range_with_len 0 n) (0 + n)
-    ∙ ap (λ k. count_by t (range_with_len 0 n) + cond (t k) 1 0) e
-
--- a stretch in which no number passes
-pub count_stays : (t : ℕ → Bool) (from n : ℕ) → ((x : ℕ) → from ≤ x → x < from + n → t x ≡ false)
-    → count_by t (range_with_len 0 (from + n)) ≡ count_by t (range_with_len 0 from)
-count_stays t from zero none = let e : from + zero ≡ from = omega arith in ap (λ k. count_by t (range_with_len 0 k)) e
-count_stays t from (suc n) none =
-    let e : from + suc n ≡ from + n + 1 = omega arith in
-    let fails : t (from + n) ≡ false = none (from + n) (omega arith) (omega arith) in
-    let none_more : count_by t (range_with_len 0 (from + n)) + 0 ≡ count_by t (range_with_len 0 (from + n)) = omega arith in
-    ap (λ k. count_by t (range_with_len 0 k)) e ∙ count_more t (from + n)
-    ∙ ap (λ b. count_by t (range_with_len 0 (from + n)) + cond b 1 0) fails
-    ∙ none_more
-    ∙ count_stays t from n (λ x low high. none x low (omega arith))
-
--- and the next that passes
-pub count_next : (t : ℕ → Bool) (from at : ℕ) → from ≤ at → t at ≡ true → ((x : ℕ) → from ≤ x → x < at → t x ≡ false)
-    → count_by t (range_with_len 0 (at + 1)) ≡ count_by t (range_with_len 0 from) + 1
-count_next t from at low passes none =
-    let e : from + (at - from) ≡ at = omega arith in
-    let stays : count_by t (range_with_len 0 at) ≡ count_by t (range_with_len 0 from) =
-    ap (λ k. count_by t (range_with_len 0 k)) (sym e) ∙ count_stays t from (at - from) (λ x l h. none x l (omega arith)) in
-    count_more t at ∙ ap (λ b. count_by t (range_with_len 0 at) + cond b 1 0) passes ∙ ap (λ k. k + 1) stays
-
-pub count_past : (t : ℕ → Bool) (from n : ℕ) → from ≤ n → ((x : ℕ) → from ≤ x → x < n → t x ≡ false)
-    → count_by t (range_with_len 0 from) ≡ count_by t (range_with_len 0 n)
-count_past t from n low none =
-    let e : from + (n - from) ≡ n = omega arith in
-    sym (ap (λ k. count_by t (range_with_len 0 k)) (sym e) ∙ count_stays t from (n - from) (λ x l h. none x l (omega arith)))
 
 pub count_few : (t : ℕ → Bool) (n : ℕ) → count_by t (range_with_len 0 n) ≤ n
 count_few t n = omega (arith, count_by-le-length t (range_with_len 0 n), length-range_with_len 0 n)

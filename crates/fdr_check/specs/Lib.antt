@@ -5,3 +5,4 @@ pub mod Report
 pub mod Walks
 pub mod Groups
 pub mod Slots
+pub mod Sorting

@@ -28,9 +28,17 @@ is_on_word p v = if p.step == 0 then v == p.word else (nat_le p.word v && ((v - 
 abbrev pub occurs : ℕ → PlaceRow → ℕ → Bool
 occurs w p k = (frame_of w k % p.period == p.cycle) && has_subframe p.subs (subframe_of w k) && is_on_word p (word_of w k)
 
+-- the word slots of the superframe in which the place occurs, in their order
+unfoldable pub slots_of : ℕ → PlaceRow → List ℕ
+slots_of w p = filter (occurs w p) (range_with_len 0 (64 * w))
+
 -- the place has an occurrence whose lowest bit is bit x of the superframe
 unfoldable pub begins_at : ℕ → ℕ → PlaceRow → Bool
 begins_at w x p = (x % 12 + 1 == p.lsb) && occurs w p (x / 12)
+
+-- the bits of the superframe at which occurrences of the place begin, in their order
+unfoldable pub place_bits : ℕ → PlaceRow → List ℕ
+place_bits w p = filter (λ x. begins_at w x p) (range_with_len 0 (768 * w))
 
 -- An occurrence of a place: where its lowest bit stands, and how many bits it has.
 pub record Occurrence : Type 0 where
@@ -52,6 +60,10 @@ is_part param part p = (p.param == param) && (p.part == part)
 -- the occurrences of a part, which are those of all its places
 unfoldable pub part_occurrences : ℕ → List PlaceRow → ℕ → ℕ → List Occurrence
 part_occurrences w places param part = occurrences w (filter (is_part param part) places)
+
+-- the bits at which they begin, in their order
+unfoldable pub part_bits : ℕ → List PlaceRow → ℕ → ℕ → List ℕ
+part_bits w places param part = map (λ (o : Occurrence). o.at) (part_occurrences w places param part)
 
 -- the width of a part, which its places share
 unfoldable pub part_width : List PlaceRow → ℕ → ℕ → ℕ

@@ -1,43 +1,58 @@
--- A walk over the occurrences of a place in a superframe, and marks on its bits.
-use Rattle.std.specs.Prelude.{ℕ, ◌*◌, ◌<◌, ◌≤◌, ◌≡◌, ◌%◌, ◌==◌, ◌&&◌, Bool, true, false, List, length, slice_index_or, count_by, not, if◌then◌else◌, Option}
-use Rattle.std.specs.Prelude.{Some, None}
-use Rattle.std.specs.List.{list_any, range_with_len}
-use Rattle.fdr_frame.specs.Slots.{frame_of, subframe_of}
+-- Of the code: the walk over the occurrences of a place in a superframe, and marks on its bits. The contracts of private
+-- functions cite these, and no public one does.
+use Rattle.std.specs.Prelude.{ℕ, ◌+◌, ◌-◌, ◌*◌, ◌/◌, ◌%◌, ◌<◌, ◌≤◌, ◌≡◌, ◌==◌, ◌&&◌, Bool, true, false, List, [], length, map, filter, nat_le, nat_lt}
+use Rattle.std.specs.Prelude.{slice_index}
+use Rattle.std.specs.Prelude.{count_by, not, if◌then◌else◌, Option, Some, None}
+use Rattle.std.specs.Int.{bit_at}
+use Rattle.std.specs.List.{list_any, flat_map, range_with_len}
 use Rattle.fdr_table.specs.Rows.{PlaceRow}
-use Rattle.fdr_check.specs.Occurrences.{has_subframe, begins_at}
+use Rattle.fdr_check.specs.Occurrences.{has_subframe, is_on_word, begins_at}
 use Rattle.fdr_check.specs.Soundness.{covers, has_part}
 use Rattle.fdr_check.specs.Faults.{count_of}
 
--- the place occurs in the subframe of slot k
-abbrev pub is_in_subframe : ℕ → PlaceRow → ℕ → Bool
-is_in_subframe w p k = (frame_of w k % p.period == p.cycle) && has_subframe p.subs (subframe_of w k)
+-- the words of a subframe that the place is on
+unfoldable pub words_on : ℕ → PlaceRow → List ℕ
+words_on w p = filter (is_on_word p) (range_with_len 1 w)
 
--- bit `at` of the superframe is the first, from bit `from` on, at which an occurrence of the place begins
-pub record IsNextOccurrence (w : ℕ) (p : PlaceRow) (from at : ℕ) : Type 0 where
-  pub within : at < 768 * w
-  pub low : from ≤ at
-  pub begins : begins_at w at p ≡ true
-  pub none : (x : ℕ) → from ≤ x → x < at → begins_at w x p ≡ false
+-- from one word of the place in a subframe of w words it is n words to the next, if there is one
+pub record IsStep (w : ℕ) (p : PlaceRow) (n : ℕ) : Type 0 where
+  pub some : 0 < n
+  pub next : (v : ℕ) → is_on_word p v ≡ true → v + n ≤ w → is_on_word p (v + n) ≡ true
+  pub between : (v d : ℕ) → is_on_word p v ≡ true → 0 < d → d < n → v + d ≤ w → is_on_word p (v + d) ≡ false
 
--- no occurrence of the place begins from bit `from` on
-abbrev pub IsPast : ℕ → PlaceRow → ℕ → Type 0
-IsPast w p from = (x : ℕ) → from ≤ x → x < 768 * w → begins_at w x p ≡ false
+-- the slots of these words in a subframe that begins at this slot
+unfoldable pub slots_on : ℕ → PlaceRow → ℕ → List ℕ
+slots_on w p start = map (λ v. start + (v - 1)) (words_on w p)
 
--- bit b is marked
-abbrev pub is_marked : List Bool → ℕ → Bool
-is_marked marks b = slice_index_or marks b false
+-- the place occurs in this subframe of the superframe, counted from 0: four of them are a frame
+abbrev pub occurs_in_subframe : ℕ → PlaceRow → Bool
+occurs_in_subframe j p = (j / 4 % p.period == p.cycle) && has_subframe p.subs (j % 4 + 1)
+
+-- the slots in which the place occurs in this subframe
+unfoldable pub subframe_slots : ℕ → PlaceRow → ℕ → List ℕ
+subframe_slots w p j = if occurs_in_subframe j p then slots_on w p (j * w) else []
+
+-- and those in this frame of the superframe, counted from 0
+unfoldable pub frame_slots : ℕ → PlaceRow → ℕ → List ℕ
+frame_slots w p f = flat_map (subframe_slots w p) (range_with_len (4 * f) 4)
+
+-- the place takes bit c of the words that it stands in
+abbrev pub takes_bit : PlaceRow → ℕ → Bool
+takes_bit p c = nat_le p.lsb (c + 1) && nat_lt (c + 1) (p.lsb + p.width)
+
+-- the bits of a word are those that the place takes
+pub record AreItsBits (p : PlaceRow) (bits : ℕ) : Type 0 where
+  pub fits : bits < 4096
+  pub each : (c : ℕ) → c < 12 → (bit_at bits c == 1) ≡ takes_bit p c
+
+-- bit b of the superframe is marked: there is a mark of 12 bits for each slot
+abbrev pub is_marked : List ℕ → ℕ → Bool
+is_marked marks b = bit_at (slice_index marks (b / 12)) (b % 12) == 1
 
 -- the marks of a superframe are on the bits of these places
-pub record AreMarks (w : ℕ) (places : List PlaceRow) (marks : List Bool) : Type 0 where
-  pub length : length marks ≡ 768 * w
+pub record AreMarks (w : ℕ) (places : List PlaceRow) (marks : List ℕ) : Type 0 where
+  pub length : length marks ≡ 64 * w
   pub each : (b : ℕ) → b < 768 * w → is_marked marks b ≡ list_any (λ (p : PlaceRow). covers w p b) places
-
--- bit `at` is the first marked one of those from `from` on, below `to`
-pub record IsFirstMarked (marks : List Bool) (from to at : ℕ) : Type 0 where
-  pub low : from ≤ at
-  pub high : at < to
-  pub marked : is_marked marks at ≡ true
-  pub none : (b : ℕ) → from ≤ b → b < at → is_marked marks b ≡ false
 
 -- how often a place occurs in a superframe
 abbrev pub starts_of : ℕ → PlaceRow → ℕ

@@ -11,7 +11,7 @@ use std::marker::Model;
 
 /// The places of a parameter, in the order of their rows.
 #[derive(Drop)]
-pub(crate) struct Group {
+pub struct Group {
     places: Vec<Place>,
 }
 
@@ -39,7 +39,7 @@ impl Group {
         push(&mut self.places, place)
     }
 
-    pub(crate) fn places(&self) -> &[Place]
+    pub fn places(&self) -> &[Place]
         ensures { result.now ≡ self.now }
     {
         self.places.as_slice()
@@ -58,7 +58,7 @@ fn empty_groups(alloc: Global, count: usize) -> Result<Vec<Group>, NoMemory>
 }
 
 /// The places of each of so many parameters.
-pub(crate) fn places_by_param(
+pub fn places_by_param(
     alloc: Global,
     count: usize,
     places: &[Place],

@@ -14,12 +14,18 @@ mod overlap;
 mod parts;
 mod reporting;
 mod slots;
+mod sorting;
 mod sound;
 mod walk;
 
 pub use checking::check;
+pub use groups::{Group, places_by_param};
+pub use memory::push;
 pub use reporting::report;
+pub use slots::part_bits;
+pub use sorting::{Sorted, sorted_by_key};
 pub use sound::Sound;
+pub use walk::add_slots;
 
 #[cfg(test)]
 mod tests;

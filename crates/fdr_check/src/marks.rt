@@ -1,81 +1,60 @@
 //! Marks on the bits of a superframe.
 
-ghost use Rattle.std.specs.Prelude.{◌≡◌, ◌<◌, ◌≤◌, ◌+◌, ◌*◌, ◌&&◌, ◌||◌, ℕ, true, false, IfOk, IfSome, IfNone, length, find, nat_le, nat_lt, []};
+ghost use Rattle.std.specs.Prelude.{◌≡◌, ◌<◌, ◌≤◌, ◌*◌, ◌/◌, ◌&&◌, ◌||◌, ℕ, IfOk, length, find, []};
 ghost use Rattle.std.specs.List.{range_with_len};
+ghost use Rattle.fdr_check.specs.Occurrences.{slots_of};
 ghost use Rattle.fdr_check.specs.Soundness.{covers};
-ghost use Rattle.fdr_check.specs.Walks.{is_marked, AreMarks, IsFirstMarked};
+ghost use Rattle.fdr_check.specs.Walks.{is_marked, AreMarks, AreItsBits};
 
-use crate::walk::next_start;
 use fdr_table::{NoMemory, Place};
 use std::alloc::Global;
+use std::marker::Model;
 
-/// Marks for a superframe, all unset.
-pub(crate) fn unmarked(alloc: Global, words: u32) -> Result<Vec<bool>, NoMemory>
+/// Marks for a superframe, all unset: one of 12 bits for each word slot.
+pub(crate) fn unmarked(alloc: Global, words: u32) -> Result<Vec<u16>, NoMemory>
     requires { words ≤ 1024 }
     ensures { IfOk result (λ marks. AreMarks words [] marks.items) }
 {
-    Ok(vec![in alloc; false; 768 * words as usize]?)
+    Ok(vec![in alloc; 0; 64 * words as usize]?)
 }
 
-/// Marks the bits of an occurrence.
-fn mark_bits(marks: &mut [bool], from: u32, width: u8)
-    requires near { from < 786432 }
-    requires within { from + width ≤ length marks.old }
-    ensures length { length marks.new ≡ length marks.old }
-    ensures marked { (b : ℕ) → is_marked marks.new b
-        ≡ (is_marked marks.old b || (nat_le from b && nat_lt b (from + width))) }
+/// The bits that a place takes of a word.
+fn bits_of(place: &Place) -> u16
+    ensures { AreItsBits place.now result }
 {
-    for bit in from..from + u32::from(width) {
-        marks[bit as usize] = true;
-    }
+    let low = place.lsb - 1;
+    (1 << (low + place.width)) - (1 << low)
 }
 
-/// Marks the bits of a place.
-pub(crate) fn mark(words: u32, place: &Place, marks: &mut [bool])
-    requires some_words { 0 < words }
+/// Marks the bits of a place in the slots in which it occurs.
+pub(crate) fn mark(words: u32, place: &Place, slots: &[u32], marks: &mut [u16])
     requires word_limit { words ≤ 1024 }
-    requires length { length marks.old ≡ 768 * words }
+    requires slots { slots.now ≡ slots_of words place.now }
+    requires length { length marks.old ≡ 64 * words }
     ensures length { length marks.new ≡ length marks.old }
     ensures marked { (b : ℕ) → b < 768 * words → is_marked marks.new b
         ≡ (is_marked marks.old b || covers words place.now b) }
 {
-    let mut from = 0;
-    while let Some(at) = next_start(words, place, from) {
-        mark_bits(marks, at, place.width);
-        from = at + 1;
+    let bits = bits_of(place);
+    for slot in slots {
+        marks[*slot as usize] |= bits;
     }
 }
 
-/// The first marked bit of an occurrence.
-fn first_marked_bit(marks: &[bool], from: u32, width: u8) -> Option<u32>
-    requires near { from < 786432 }
-    requires within { from + width ≤ length marks.now }
-    ensures found { IfSome result (λ at. IsFirstMarked marks.now from (from + width) at) }
-    ensures none { IfNone result
-        ((b : ℕ) → from ≤ b → b < from + width → is_marked marks.now b ≡ false) }
-{
-    for bit in from..from + u32::from(width) {
-        if marks[bit as usize] {
-            return Some(bit);
-        }
-    }
-    None
-}
-
-/// The first marked bit of a place.
-pub(crate) fn first_marked(words: u32, place: &Place, marks: &[bool]) -> Option<u32>
-    requires some_words { 0 < words }
+/// The first marked bit of a place, which occurs in these slots.
+pub(crate) fn first_marked(words: u32, place: &Place, slots: &[u32], marks: &[u16]) -> Option<u32>
     requires word_limit { words ≤ 1024 }
-    requires length { length marks.now ≡ 768 * words }
+    requires slots { slots.now ≡ slots_of words place.now }
+    requires length { length marks.now ≡ 64 * words }
     ensures { result ≡ find (λ b. covers words place.now b && is_marked marks.now b)
         (range_with_len 0 (768 * words)) }
 {
-    let mut from = 0;
-    while let Some(at) = next_start(words, place, from) {
-        if let Some(bit) = first_marked_bit(marks, at, place.width) {
-            return Some(bit);
+    let bits = bits_of(place);
+    for slot in slots {
+        let shared = marks[*slot as usize] & bits;
+        if shared != 0 {
+            return Some(12 * *slot + shared.trailing_zeros());
         }
-        from = at + 1;
     }
     None
 }

@@ -1,10 +1,13 @@
-//! The walk over the occurrences of a place in a superframe.
+//! The walk over the occurrences of a place in a superframe: through the frames that it occurs in, their subframes and
+//! the words of these, so that no slot is looked at in vain.
 
-ghost use Rattle.std.specs.Prelude.{◌≡◌, ◌<◌, ◌≤◌, ◌+◌, ◌*◌, ◌==◌, ℕ, true, false, IfSome, IfNone};
-ghost use Rattle.fdr_check.specs.Occurrences.{has_subframe, is_on_word, occurs, begins_at};
-ghost use Rattle.fdr_check.specs.Walks.{is_in_subframe, IsNextOccurrence, IsPast, starts_of};
+ghost use Rattle.std.specs.Prelude.{◌≡◌, ◌<◌, ◌≤◌, ◌+◌, ◌*◌, ◌%◌, ◌++◌, ℕ, OnOk, length};
+ghost use Rattle.fdr_check.specs.Occurrences.{has_subframe, is_on_word, slots_of};
+ghost use Rattle.fdr_check.specs.Walks.{words_on, IsStep, slots_on, subframe_slots, frame_slots, starts_of};
 
-use fdr_table::Place;
+use crate::memory::push;
+use fdr_table::{NoMemory, Place};
+use std::marker::Model;
 
 /// Whether subframe 1 to 4 is in a set.
 pub(crate) fn has_subframe(subs: u8, subframe: u8) -> bool
@@ -26,91 +29,128 @@ pub(crate) fn is_on_word(place: &Place, word: u32) -> bool
     }
 }
 
-/// Whether a place occurs in the subframe of a word slot.
-fn is_in_subframe(words: u32, place: &Place, slot: u32) -> bool
+/// How many words on from one word of the place the next one is, or at least past the last word of the subframe.
+fn step_of(words: u32, place: &Place) -> u32
     requires some_words { 0 < words }
     requires word_limit { words ≤ 1024 }
-    ensures { result ≡ is_in_subframe words place.now slot }
+    ensures step { IsStep words place.now result }
+    ensures near { result ≤ 1024 }
 {
-    slot / (4 * words) % u32::from(place.period) == u32::from(place.cycle)
-        && has_subframe(place.subs, (slot / words % 4) as u8 + 1)
+    if place.step == 0 { words } else { place.step }
 }
 
-/// How many words on from a word the place has none at least; 0 where the word is the place's.
-fn words_to_go(place: &Place, word: u32) -> u32
-    requires { word ≤ 1024 }
-    ensures here { (result == 0) ≡ is_on_word place.now word }
-    ensures none { (d : ℕ) → d < result → is_on_word place.now (word + d) ≡ false }
-    ensures word_limit { result ≤ 1024 }
+/// Adds the slots of the words of a place in the subframe that starts at this slot.
+fn add_words(slots: &mut Vec<u32>, words: u32, place: &Place, start: u32) -> Result<(), NoMemory>
+    requires some_words { 0 < words }
+    requires word_limit { words ≤ 1024 }
+    requires within { start < 65536 }
+    ensures { OnOk result (slots.new.items ≡ slots.old.items ++ slots_on words place.now start) }
 {
-    if word <= place.word {
-        return place.word - word;
+    let step = step_of(words, place);
+    let mut word = place.word;
+    while word <= words {
+        push(slots, start + (word - 1))?;
+        word += step;
     }
-    if place.step == 0 {
-        return 1024;
-    }
-    let over = (word - place.word) % place.step;
-    if over == 0 { 0 } else { place.step - over }
+    Ok(())
 }
 
-/// A later slot than one in which the place doesn't occur: it occurs in none between them.
-fn later_slot(words: u32, place: &Place, slot: u32) -> u32
+/// Adds the slots in which a place occurs in a subframe of a frame that it occurs in; subframes count from 0.
+fn add_in_subframe(
+    slots: &mut Vec<u32>,
+    words: u32,
+    place: &Place,
+    frame: u32,
+    subframe: u8,
+) -> Result<(), NoMemory>
     requires some_words { 0 < words }
     requires word_limit { words ≤ 1024 }
-    requires within { slot < 64 * words }
-    requires absent { occurs words place.now slot ≡ false }
-    ensures later { slot < result }
-    ensures near { result ≤ slot + words }
-    ensures none { (k : ℕ) → slot ≤ k → k < result → occurs words place.now k ≡ false }
+    requires within { frame < 16 }
+    requires frame { frame % place.now.period ≡ place.now.cycle }
+    requires subframe { subframe < 4 }
+    ensures { OnOk result (slots.new.items ≡ slots.old.items ++ subframe_slots words place.now (4 * frame + subframe)) }
 {
-    let subframe_end = (slot / words + 1) * words;
-    if !is_in_subframe(words, place, slot) {
-        return subframe_end;
-    }
-    let next = slot + words_to_go(place, slot % words + 1);
-    next.min(subframe_end)
-}
-
-fn occurs(words: u32, place: &Place, slot: u32) -> bool
-    requires some_words { 0 < words }
-    requires word_limit { words ≤ 1024 }
-    ensures { result ≡ occurs words place.now slot }
-{
-    is_in_subframe(words, place, slot) && is_on_word(place, slot % words + 1)
-}
-
-/// The first slot from this one on in which the place occurs, or one past the superframe.
-fn next_slot(words: u32, place: &Place, from: u32) -> u32
-    requires some_words { 0 < words }
-    requires word_limit { words ≤ 1024 }
-    requires within { from ≤ 64 * words }
-    ensures low { from ≤ result }
-    ensures near { result ≤ 65 * words }
-    ensures found { result < 64 * words → occurs words place.now result ≡ true }
-    ensures none { (k : ℕ) → from ≤ k → k < result → occurs words place.now k ≡ false }
-{
-    let mut slot = from;
-    while slot < 64 * words && !occurs(words, place, slot) {
-        slot = later_slot(words, place, slot);
-    }
-    slot
-}
-
-/// The first bit from this one on at which an occurrence of the place begins.
-pub(crate) fn next_start(words: u32, place: &Place, from: u32) -> Option<u32>
-    requires some_words { 0 < words }
-    requires word_limit { words ≤ 1024 }
-    requires within { from ≤ 768 * words }
-    ensures found { IfSome result (λ at. IsNextOccurrence words place.now from at) }
-    ensures none { IfNone result (IsPast words place.now from) }
-{
-    let lowest = u32::from(place.lsb) - 1;
-    let slot = next_slot(words, place, (from + 11 - lowest) / 12);
-    if slot < 64 * words {
-        Some(12 * slot + lowest)
+    if has_subframe(place.subs, subframe + 1) {
+        add_words(
+            slots,
+            words,
+            place,
+            (4 * frame + u32::from(subframe)) * words,
+        )
     } else {
-        None
+        Ok(())
     }
+}
+
+/// Adds the slots in which a place occurs in a frame that it occurs in.
+fn add_in_frame(slots: &mut Vec<u32>, words: u32, place: &Place, frame: u32) -> Result<(), NoMemory>
+    requires some_words { 0 < words }
+    requires word_limit { words ≤ 1024 }
+    requires within { frame < 16 }
+    requires frame { frame % place.now.period ≡ place.now.cycle }
+    ensures { OnOk result (slots.new.items ≡ slots.old.items ++ frame_slots words place.now frame) }
+{
+    for subframe in 0..4u8 {
+        add_in_subframe(slots, words, place, frame, subframe)?;
+    }
+    Ok(())
+}
+
+/// Adds the word slots of a superframe in which a place occurs, in their order.
+pub fn add_slots(slots: &mut Vec<u32>, words: u32, place: &Place) -> Result<(), NoMemory>
+    requires some_words { 0 < words }
+    requires word_limit { words ≤ 1024 }
+    ensures { OnOk result (slots.new.items ≡ slots.old.items ++ slots_of words place.now) }
+{
+    let mut frame = u32::from(place.cycle);
+    while frame < 16 {
+        add_in_frame(slots, words, place, frame)?;
+        frame += u32::from(place.period);
+    }
+    Ok(())
+}
+
+/// Puts the word slots of a superframe in which a place occurs in place of others.
+pub(crate) fn put_slots(slots: &mut Vec<u32>, words: u32, place: &Place) -> Result<(), NoMemory>
+    requires some_words { 0 < words }
+    requires word_limit { words ≤ 1024 }
+    ensures { OnOk result (slots.new.items ≡ slots_of words place.now) }
+{
+    slots.clear();
+    add_slots(slots, words, place)
+}
+
+/// How many words of a subframe a place is on.
+fn count_words(words: u32, place: &Place) -> u32
+    requires some_words { 0 < words }
+    requires word_limit { words ≤ 1024 }
+    ensures { result ≡ length (words_on words place.now) }
+{
+    let step = step_of(words, place);
+    let mut count = 0;
+    let mut word = place.word;
+    while word <= words {
+        count += 1;
+        word += step;
+    }
+    count
+}
+
+/// How often a place occurs in a frame that it occurs in.
+fn count_in_frame(words: u32, place: &Place) -> u32
+    requires some_words { 0 < words }
+    requires word_limit { words ≤ 1024 }
+    ensures count { (frame : ℕ) → frame % place.now.period ≡ place.now.cycle → length (frame_slots words place.now frame) ≡ result }
+    ensures few { result ≤ 4096 }
+{
+    let in_subframe = count_words(words, place);
+    let mut count = 0;
+    for subframe in 0..4u8 {
+        if has_subframe(place.subs, subframe + 1) {
+            count += in_subframe;
+        }
+    }
+    count
 }
 
 /// How often a place occurs in a superframe.
@@ -119,11 +159,12 @@ pub(crate) fn count_starts(words: u32, place: &Place) -> u32
     requires word_limit { words ≤ 1024 }
     ensures { result ≡ starts_of words place.now }
 {
+    let in_frame = count_in_frame(words, place);
     let mut count = 0;
-    let mut from = 0;
-    while let Some(at) = next_start(words, place, from) {
-        count += 1;
-        from = at + 1;
+    let mut frame = u32::from(place.cycle);
+    while frame < 16 {
+        count += in_frame;
+        frame += u32::from(place.period);
     }
     count
 }

@@ -23,4 +23,7 @@ pub enum SlotKind {
 
 mod slots;
 
-pub use slots::{counter_of, slot_kind, subframe_of, word_of};
+pub use slots::{
+    counter_of, frame_words_before, frames_before, slot_kind, subframe_of, subframes_before,
+    word_of, words_before,
+};

@@ -1,10 +1,72 @@
 //! The place of a word slot within its frame.
 
-ghost use Rattle.std.specs.Prelude.{◌≡◌, ◌%◌};
+ghost use Rattle.std.specs.Prelude.{◌≡◌, ◌<◌, ◌*◌, ◌/◌, ◌%◌};
 ghost use Rattle.fdr_frame.specs.WordCount.{IsWordCount};
 ghost use Rattle.fdr_frame.specs.Slots.{frame_of, subframe_of, word_of, kind_of};
 
 use crate::SlotKind;
+
+/// How many whole subframes stand before word slot `k`: `k / words`. Each branch knows its divisor, so that none of them
+/// divides.
+#[tactic(auto, using(crate::proofs::WordCounts::word_count_cases))]
+pub fn subframes_before(k: u64, words: u32) -> u64
+    requires { IsWordCount words }
+    ensures { result ≡ k / words }
+{
+    match words {
+        64 => k / 64,
+        128 => k / 128,
+        256 => k / 256,
+        512 => k / 512,
+        _ => k / 1024,
+    }
+}
+
+/// How many words of its subframe stand before word slot `k`: `k % words`.
+#[tactic(auto, using(crate::proofs::WordCounts::word_count_cases))]
+pub fn words_before(k: u64, words: u32) -> u64
+    requires { IsWordCount words }
+    ensures { result ≡ k % words }
+{
+    match words {
+        64 => k % 64,
+        128 => k % 128,
+        256 => k % 256,
+        512 => k % 512,
+        _ => k % 1024,
+    }
+}
+
+/// How many whole frames stand before word slot `k`: `k / (4 * words)`.
+#[tactic(auto, using(crate::proofs::WordCounts::word_count_cases))]
+pub fn frames_before(k: u64, words: u32) -> u64
+    requires { IsWordCount words }
+    ensures { result ≡ frame_of words k }
+{
+    match words {
+        64 => k / 256,
+        128 => k / 512,
+        256 => k / 1024,
+        512 => k / 2048,
+        _ => k / 4096,
+    }
+}
+
+/// How many words of its frame stand before word slot `k`: `k % (4 * words)`.
+#[tactic(auto, using(crate::proofs::WordCounts::word_count_cases))]
+pub fn frame_words_before(k: u64, words: u32) -> u64
+    requires { IsWordCount words }
+    ensures place { result ≡ k % (4 * words) }
+    ensures within { result < 4 * words }
+{
+    match words {
+        64 => k % 256,
+        128 => k % 512,
+        256 => k % 1024,
+        512 => k % 2048,
+        _ => k % 4096,
+    }
+}
 
 /// What stands in word slot `k`, where the frame counter has word `cword` of subframe `csub`.
 #[tactic(auto, using(crate::proofs::WordCounts::word_count_bounds))]
@@ -28,7 +90,7 @@ pub fn counter_of(k: u64, words: u32) -> u16
     requires { IsWordCount words }
     ensures { result ≡ frame_of words k % 4096 }
 {
-    (k / (4 * u64::from(words)) % 4096) as u16
+    (frames_before(k, words) % 4096) as u16
 }
 
 /// The subframe of word slot `k`, from 1 to 4.
@@ -37,7 +99,7 @@ pub fn subframe_of(k: u64, words: u32) -> u8
     requires { IsWordCount words }
     ensures { result ≡ subframe_of words k }
 {
-    (k / u64::from(words) % 4) as u8 + 1
+    (subframes_before(k, words) % 4) as u8 + 1
 }
 
 /// The word of word slot `k` within its subframe, from 1 to `words`.
@@ -46,7 +108,7 @@ pub fn word_of(k: u64, words: u32) -> u32
     requires { IsWordCount words }
     ensures { result ≡ word_of words k }
 {
-    (k % u64::from(words)) as u32 + 1
+    words_before(k, words) as u32 + 1
 }
 
 #[cfg(test)]

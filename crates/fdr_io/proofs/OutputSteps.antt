@@ -44,6 +44,25 @@ EmitsPart-longer a b u s t part =
       written = part.written ∙ ap (λ (x : List ℕ). followed_by a x) front.1 ∙ ap (λ (x : List ℕ). followed_by a (take front.0 x)) (append_assoc u s t);
     }
 
+-- a part of what waited is a part of it and the text behind it
+pub EmitsPart-waiting : (a b : Option (List ℕ)) (w text : List ℕ) → (k : ℕ) × (b ≡ followed_by a (take k w)) → EmitsPart a b w text
+EmitsPart-waiting a b w text sent =
+    let front = take_of_front sent.0 w text in
+    record { count = front.0; written = sent.1 ∙ ap (λ (x : List ℕ). followed_by a x) front.1 }
+
+-- what holds anyway holds where a call failed
+pub failed_or_not : {T E : Type 0} {P : Type 0} (r : Result T E) → P → OnErr r P
+failed_or_not (Ok x) holds = tt
+failed_or_not (Err e) holds = holds
+
+-- all that waited went out
+pub Emits-waiting : (a b : Option (List ℕ)) (w now : List ℕ) → b ≡ followed_by a w → now ≡ [] → Emits a b w now []
+Emits-waiting a b w now sent empty = record { gone = w; written = sent; waits = ap (λ (x : List ℕ). w ++ x) empty }
+
+-- room was made, and a text put there
+pub Emits-put : (a b : Option (List ℕ)) (u v w text : List ℕ) → Emits a b u v [] → w ≡ v ++ text → Emits a b u w text
+Emits-put a b u v w text first put = Emits-then a b b u v w [] text first (record { gone = []; written = sym (followed_by-nil b); waits = put })
+
 -- what waited went out too
 pub written_at_end : (a b c : Option (List ℕ)) (w text : List ℕ) → Emits a b [] w text → c ≡ followed_by b w → c ≡ followed_by a text
 written_at_end a b c w text emits last =

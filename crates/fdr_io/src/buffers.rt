@@ -13,19 +13,21 @@ use std::marker::Model;
 /// bytes that wait to be written.
 #[derive(Drop)]
 pub struct OutBuffer {
-    waiting: Vec<u8>,
+    room: Vec<u8>,
+    used: usize,
 }
 
 impl Model for OutBuffer {
-    ghost use Rattle.std.specs.Prelude.{◌≤◌, ℕ, List, vec_capacity, vec_len};
+    ghost use Rattle.std.specs.Prelude.{◌≡◌, ◌≤◌, ℕ, List, length, take};
 
     ghost Value = { List ℕ };
 
-    ghost view = { λ b. b.waiting.items };
+    ghost view = { λ b. take b.used b.room.items };
 
-    ghost invariant = { λ b. (65536 ≤ vec_capacity b.waiting) × (vec_len b.waiting ≤ 65536) };
+    ghost invariant = { λ b. (length b.room.items ≡ 65536) × (b.used ≤ 65536) };
 }
 
+/// How many bytes wait at most.
 const CAPACITY: usize = 65536;
 
 impl OutBuffer {
@@ -33,8 +35,8 @@ impl OutBuffer {
     pub fn new(alloc: Global) -> Result<OutBuffer, AllocError>
         ensures { IfOk result (λ b. b ≡ []) }
     {
-        let waiting = Vec::with_capacity(alloc, CAPACITY)?;
-        Ok(OutBuffer { waiting })
+        let room = vec![in alloc; 0; CAPACITY]?;
+        Ok(OutBuffer { room, used: 0 })
     }
 
     /// Adds bytes, and writes what waits where they don't fit. At `Failed` a front part of all
@@ -49,15 +51,15 @@ impl OutBuffer {
         ensures quiet { OnOk result (S.faults out.new ≡ S.faults out.old) }
         ensures monotone { S.faults out.old ≤ S.faults out.new }
     {
-        if bytes.len() <= CAPACITY - self.waiting.len() {
-            self.gather(bytes);
+        if bytes.len() <= CAPACITY - self.used {
+            self.put_all(bytes);
             return Ok(());
         }
         self.finish(out)?;
         if bytes.len() > CAPACITY {
             return write_whole(out, bytes);
         }
-        self.gather(bytes);
+        self.put_all(bytes);
         Ok(())
     }
 
@@ -71,18 +73,59 @@ impl OutBuffer {
         ensures quiet { OnOk result (S.faults out.new ≡ S.faults out.old) }
         ensures monotone { S.faults out.old ≤ S.faults out.new }
     {
-        let result = write_whole(out, &self.waiting);
-        self.waiting.clear();
-        result
+        let waiting = self.used;
+        self.used = 0;
+        write_whole(out, &self.room[..waiting])
     }
 
-    fn gather(&mut self, bytes: &[u8])
-        requires { length self.old + length bytes.now ≤ 65536 }
-        ensures { self.new ≡ self.old ++ bytes.now }
+    /// Makes room for so many bytes more, and writes what waits where they don't fit. At `Failed` a front part of it went
+    /// out, and the rest is dropped.
+    #[tactic(auto, using(crate::proofs::Telling::telling))]
+    pub fn make_room<S: Sink>(&mut self, out: &mut S, count: usize) -> Result<(), Failed>
+        requires { count ≤ 65536 }
+        ensures all { OnOk result (Emits (S.written out.old) (S.written out.new) self.old self.new []) }
+        ensures room { OnOk result (length self.new + count ≤ 65536) }
+        ensures part { OnErr result (EmitsPart (S.written out.old) (S.written out.new) self.old []) }
+        ensures dropped { OnErr result (self.new ≡ []) }
+        ensures cause { OnErr result (Rose (S.faults out.old) (S.faults out.new)) }
+        ensures quiet { OnOk result (S.faults out.new ≡ S.faults out.old) }
+        ensures monotone { S.faults out.old ≤ S.faults out.new }
     {
-        match self.waiting.extend_from_slice(bytes) {
-            Ok(()) => {}
-            Err(_) => unreachable!(),
+        if CAPACITY - self.used < count {
+            self.finish(out)?;
         }
+        Ok(())
+    }
+
+    /// Puts the first `count` of these bytes at the end, where room was made for all of them. The copy is one of all `N`,
+    /// whose length the compiler knows: that is faster than one of `count`.
+    pub fn put<const N: usize>(&mut self, bytes: &[u8; N], count: usize)
+        requires room { length self.old + N ≤ 65536 }
+        requires front { count ≤ N }
+        ensures appended { self.new ≡ self.old ++ take count bytes.now }
+        ensures length { length self.new ≡ length self.old + count }
+    {
+        let kept = self.used + count;
+        self.put_all(bytes);
+        self.keep(kept);
+    }
+
+    /// Puts these bytes at the end, where room was made for them.
+    pub fn put_all(&mut self, bytes: &[u8])
+        requires { length self.old + length bytes.now ≤ 65536 }
+        ensures appended { self.new ≡ self.old ++ bytes.now }
+        ensures length { length self.new ≡ length self.old + length bytes.now }
+    {
+        let end = self.used + bytes.len();
+        self.room[self.used..end].copy_from_slice(bytes);
+        self.used = end;
+    }
+
+    /// Keeps the first so many of the bytes that wait.
+    fn keep(&mut self, count: usize)
+        requires { count ≤ length self.old }
+        ensures { self.new ≡ take count self.old }
+    {
+        self.used = count;
     }
 }

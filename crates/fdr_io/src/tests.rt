@@ -44,3 +44,16 @@ fn buffered_output_goes_out_in_large_pieces(rt: HostRuntime) -> Result<(), Fail>
     assert_eq!(rt; sink.bytes().len(), 65539);
     Ok(())
 }
+
+#[test]
+fn a_front_part_of_a_whole_copy_counts(rt: HostRuntime) -> Result<(), Fail> {
+    let mut sink = MemSink::new(rt.alloc(), Vec::new(rt.alloc()));
+    let mut output = OutBuffer::new(rt.alloc())?;
+    assert_eq!(rt; output.make_room(&mut sink, 16), Ok(()));
+    output.put(b"one more", 3);
+    output.put_all(b", two");
+    assert_eq!(rt; sink.bytes().len(), 0);
+    assert_eq!(rt; output.make_room(&mut sink, 65536), Ok(()));
+    assert_eq!(rt; sink.bytes(), b"one, two".as_slice());
+    Ok(())
+}

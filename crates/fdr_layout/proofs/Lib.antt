@@ -1,9 +1,12 @@
 pub mod Lists
-pub mod Steps
 pub mod Ending
 pub mod Endings
 pub mod SlotLemmas
-pub mod Narrowing
-pub mod Filling
-pub mod SlotEndings
 pub mod Few
+pub mod Bits
+pub mod Carrying
+pub mod Steps
+pub mod Drafting
+pub mod Flats
+pub mod Laying
+pub mod Reading

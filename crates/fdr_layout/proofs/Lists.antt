@@ -1,12 +1,10 @@
 -- One more element: of a range, a filter, a search, an enumeration.
-use Rattle.std.proofs.Common.{◌≡◌, ℕ, ◌+◌, ◌<◌, List, [], ◌∷◌, ◌++◌, Option, Some, None, length, get_or, take, map, refl, subst}
-use Rattle.std.proofs.Common.{zero-add, lit≤, ◌≤◌, sym, ap, ◌∙◌, zero, suc, add-zero, ◌*◌, arith}
-use Rattle.std.specs.Option.{option_to_list}
-use Rattle.std.specs.List.{range_with_len, flat_map, filter_map, cons_option, enumerate_from, All}
-use Rattle.std.proofs.lemmas.List.{take_more, append-nil, append_assoc, map_push, length-map, get_or-map, length-take-le}
-use Rattle.std.proofs.lemmas.List.FromFn.{map-range_with_len_more, length-map-range_with_len, get_or-map-range_with_len}
+use Rattle.std.proofs.Common.{◌≡◌, ℕ, ◌+◌, ◌<◌, List, [], ◌∷◌, ◌++◌, length, get_or, take, map, refl}
+use Rattle.std.proofs.Common.{zero-add, ◌≤◌, sym, ap, ◌∙◌, zero, suc, add-zero, ◌*◌, arith}
+use Rattle.std.specs.List.{range_with_len, flat_map, enumerate_from}
+use Rattle.std.proofs.lemmas.List.{take_more, append-nil, append_assoc, length-take-le}
+use Rattle.std.proofs.lemmas.List.FromFn.{map-range_with_len_more}
 use Rattle.std.proofs.lemmas.List.Concat.{flat_map-append}
-use Rattle.std.proofs.lemmas.List.Elements.{filter_map-append}
 use Rattle.fdr_lists.proofs.Ranges.{range_more}
 use Rattle.fdr_lists.proofs.Numbered.{enumerate_from_push}
 
@@ -25,28 +23,6 @@ pub map_step : {A : Type 0} (f : ℕ → A) (old new : List A) (a n m j : ℕ) �
     → new ≡ map f (range_with_len a m)
 map_step f old new a n m j so_far more e last =
     more ∙ ap (λ xs. xs ++ f j ∷ []) so_far ∙ sym (map-range_with_len_more f a n j e) ∙ ap (λ k. map f (range_with_len a k)) (sym last)
-
--- a loop's step: it put a value with the view f n to the end of its list
-pub views_step : {V X : Type 0} (view : V → X) (f : ℕ → X) (old new : List V) (v : V) (n : ℕ) → map view old ≡ map f (range_with_len 0 n) → new ≡ old ++ v ∷ []
-    → view v ≡ f n → map view new ≡ map f (range_with_len 0 (n + 1))
-views_step view f old new v n so_far more is =
-    let pushed : map view new ≡ map view old ++ view v ∷ [] = ap (map view) more ∙ map_push view old v in
-    map_step f (map view old) (map view new) 0 n (n + 1) n so_far (pushed ∙ ap (λ s. map view old ++ s ∷ []) is) (zero-add n) refl
-
-option_is : {Y : Type 0} (o : Option Y) → cons_option o [] ≡ option_to_list o
-option_is None = refl
-option_is (Some y) = refl
-
-pub filter_map_step : {X Y : Type 0} (h : X → Option Y) (xs : List X) (i : ℕ) (x : X) (old new : List Y) → i < length xs → x ≡ get_or xs i x
-    → old ≡ filter_map h (take i xs) → new ≡ old ++ option_to_list (h x) → new ≡ filter_map h (take (i + 1) xs)
-filter_map_step h xs i x old new l is so_far more =
-    more ∙ ap (λ ys. ys ++ option_to_list (h x)) so_far ∙ ap (λ ys. filter_map h (take i xs) ++ ys) (sym (option_is (h x)))
-    ∙ ap (λ z. filter_map h (take i xs) ++ cons_option (h z) []) is
-    ∙ sym (ap (filter_map h) (take_more xs i x l) ∙ filter_map-append h (take i xs) (get_or xs i x ∷ []))
-
-pub length-option_to_list : {Y : Type 0} (o : Option Y) → length (option_to_list o) ≤ 1
-length-option_to_list None = lit≤ tt
-length-option_to_list (Some y) = lit≤ tt
 
 pub enumerate_from_more : {X : Type 0} (xs : List X) (i : ℕ) (d : X) → i < length xs
     → enumerate_from 0 (take (i + 1) xs) ≡ enumerate_from 0 (take i xs) ++ (i, get_or xs i d) ∷ []
@@ -67,25 +43,6 @@ pub enumerate_from_step : {X A : Type 0} (f : ℕ × X → List A) (xs : List X)
 enumerate_from_step f xs i x old new l is so_far more =
     more ∙ ap (λ ys. ys ++ f (i, x)) so_far ∙ ap (λ z. flat_map f (enumerate_from 0 (take i xs)) ++ f (i, z)) is
     ∙ sym (flat_map-enumerate_from_more f xs i x l)
-
--- what holds of each list holds of the one at a place
-pub All_at : {V X : Type 0} (P : X → Type 0) (view : V → X) (xs : List V) (i : ℕ) (v : V) → All P (map view xs) → i < length xs → v ≡ get_or xs i v → P (view v)
-All_at P view xs i v all l is =
-    let within : i < length (map view xs) = rw length-map l in
-    let e : get_or (map view xs) i (view v) ≡ view v = get_or-map view xs i v (view v) l ∙ ap view (sym is) in
-    subst P e (all i (view v) within)
-
--- a list's element, where the lists' views are given by a function of the number
-pub view_at : {V X : Type 0} (view : V → X) (f : ℕ → X) (xs : List V) (n i : ℕ) (v : V) → map view xs ≡ map f (range_with_len 0 n) → i < n → v ≡ get_or xs i v
-    → view v ≡ f i
-view_at view f xs n i v made l is =
-    let long : length xs ≡ n = sym (length-map xs view) ∙ ap length made ∙ length-map-range_with_len f 0 n in
-    let within : i < length xs = omega arith in
-    ap view is ∙ sym (get_or-map view xs i v (view v) within) ∙ ap (λ ys. get_or ys i (view v)) made
-    ∙ get_or-map-range_with_len f 0 n i i (view v) l (zero-add i)
-
-pub view_length : {V X : Type 0} (view : V → X) (f : ℕ → X) (xs : List V) (n : ℕ) → map view xs ≡ map f (range_with_len 0 n) → length xs ≡ n
-view_length view f xs n made = sym (length-map xs view) ∙ ap length made ∙ length-map-range_with_len f 0 n
 
 -- ---- stretches of a range
 
@@ -110,15 +67,6 @@ pub stretch_more : {A : Type 0} (f : ℕ → List A) (before old new : List A) (
 stretch_more f before old new a n m j so_far more e last =
     more ∙ ap (λ xs. xs ++ f j) so_far ∙ append_assoc before (flat_map f (range_with_len a n)) (f j)
     ∙ ap (λ xs. before ++ xs) (sym (flat_map-range_more f a n j e)) ∙ ap (λ k. before ++ flat_map f (range_with_len a k)) (sym last)
-
--- and the step of one that puts a stretch of m to the end
-pub stretch_step : {A : Type 0} (f : ℕ → List A) (before old new : List A) (a n b m k : ℕ) → old ≡ before ++ flat_map f (range_with_len a n)
-    → new ≡ old ++ flat_map f (range_with_len b m) → a + n ≡ b → k ≡ n + m → new ≡ before ++ flat_map f (range_with_len a k)
-stretch_step f before old new a n b m k so_far more e last =
-    let seen = flat_map f (range_with_len a n) in
-    more ∙ ap (λ xs. xs ++ flat_map f (range_with_len b m)) so_far ∙ append_assoc before seen (flat_map f (range_with_len b m))
-    ∙ ap (λ j. before ++ (seen ++ flat_map f (range_with_len j m))) (sym e)
-    ∙ ap (λ xs. before ++ xs) (sym (flat_map-range_append f a n m)) ∙ ap (λ i. before ++ flat_map f (range_with_len a i)) (sym last)
 
 -- stretches of 12
 pub flat_map_twelves : {A : Type 0} (f : ℕ → List A) (a m : ℕ)

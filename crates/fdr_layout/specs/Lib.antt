@@ -2,7 +2,8 @@ pub mod Samples
 pub mod Ranges
 pub mod Cycles
 pub mod SlotParts
-pub mod LayoutView
-pub mod Narrowed
-pub mod Buckets
 pub mod Sorting
+pub mod Drafts
+pub mod Flat
+pub mod Listed
+pub mod LayoutView

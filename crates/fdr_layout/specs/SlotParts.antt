@@ -2,13 +2,21 @@
 use Rattle.std.specs.Prelude.{ℕ, ◌*◌, ◌<◌, ◌==◌, ◌^◌, List, filter, length, map}
 use Rattle.std.specs.List.{All, flat_map, range_with_len, enumerate_from}
 use Rattle.fdr_table.specs.Rows.{TableRows}
-use Rattle.fdr_layout.specs.declared.slots.SlotPart.{SlotPart}
 use Rattle.fdr_layout.specs.Samples.{Part, Sample, samples, ending_in}
 use Rattle.fdr_layout.specs.Cycles.{AreCycles}
+
+-- A part, and the number of its sample among all samples of a superframe.
+pub record SlotPart : Type 0 where
+  pub sample : ℕ
+  pub part : Part
 
 -- parts of the sample with this number
 abbrev pub parts_of_sample : ℕ → List Part → List SlotPart
 parts_of_sample n parts = map (λ (p : Part). record { sample = n; part = p }) parts
+
+-- parts without the numbers of their samples
+abbrev pub plain_parts : List SlotPart → List Part
+plain_parts parts = map (λ (a : SlotPart). a.part) parts
 
 -- the parts of all of these samples, which are numbered from 0 on
 unfoldable pub parts_among : List Sample → List SlotPart

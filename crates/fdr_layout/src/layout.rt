@@ -1,36 +1,40 @@
 //! The samples of a table, by the cycle in which they end, and their parts by word slot.
 
-ghost use Rattle.std.specs.Prelude.{◌≡◌, ◌<◌, ◌^◌, Some, length, slice_get, All, IfOk};
-ghost use Rattle.fdr_layout.specs.SlotParts.{laid_of};
+ghost use Rattle.std.specs.Prelude.{◌≡◌, ◌<◌, ◌≤◌, ◌+◌, ◌^◌, Some, length, map, slice_get, All, IfOk};
+ghost use Rattle.fdr_layout.specs.SlotParts.{laid_of, parts_of_sample};
+ghost use Rattle.fdr_layout.specs.Flat.{segment, AreStarts};
+ghost use Rattle.fdr_layout.specs.Listed.{numbered_parts, sample_in, IsListedSample};
 
-use crate::cycles::cycles_of;
-use crate::parts::Sample;
-use crate::samples::all_samples;
-use crate::slots::{SlotPart, slots_of};
-use fdr_check::Sound;
+use crate::drafts::{Draft, draft_of};
+use crate::order::{bits_of, by_bit, cycle_starts, picked_parts, picked_samples};
+use crate::parts::{Part, Sample};
+use fdr_check::{Sorted, Sound};
 use fdr_table::NoMemory;
 use std::alloc::Global;
 use std::marker::Model;
 
-/// Where the samples of a table stand in a superframe: by the cycle in which they end, and the parts by word slot.
+/// Where the samples of a table stand in a superframe: by the cycle in which they end, and the parts by word slot and by
+/// sample. Of each flat list it keeps where the items of each cycle, slot and sample begin.
 #[derive(Drop)]
 pub struct Layout {
-    cycles: Vec<Vec<Sample>>,
-    samples: Vec<Sample>,
-    slots: Vec<Vec<SlotPart>>,
+    ending: Vec<Sample>,
+    cycle_starts: Vec<u32>,
+    by_sample: Vec<Part>,
+    sample_starts: Vec<u32>,
+    by_slot: Vec<Part>,
+    slot_starts: Vec<u32>,
 }
 
 impl Model for Layout {
-    ghost use Rattle.std.specs.Prelude.{map};
-    ghost use Rattle.fdr_layout.specs.SlotParts.{Laid, IsLaid};
+    ghost use Rattle.fdr_layout.specs.SlotParts.{Laid};
 
     ghost Value = { Laid };
 
-    ghost use Rattle.fdr_layout.specs.LayoutView.{laid};
+    ghost use Rattle.fdr_layout.specs.LayoutView.{laid, IsKept};
 
     ghost view = { laid };
 
-    ghost invariant = { λ l. IsLaid (laid l) };
+    ghost invariant = { IsKept };
 }
 
 impl Layout {
@@ -39,51 +43,80 @@ impl Layout {
         ensures { IfOk result (λ l. l ≡ laid_of t.now) }
     {
         t.holds();
-        let table = t.table();
-        let words = table.frame().words;
-        let samples = all_samples(alloc, words, table.params(), table.places())?;
-        let cycles = cycles_of(alloc, words, &samples)?;
-        let slots = slots_of(alloc, words, &samples)?;
+        let words = t.table().frame().words;
+        let Draft {
+            list,
+            lasts,
+            parts,
+            starts,
+        } = draft_of(alloc, t)?;
+        let bits = bits_of(alloc, &parts)?;
+        let ending = by_bit(alloc, words, &lasts)?;
+        let slots = by_bit(alloc, words, &bits)?;
+        let Sorted {
+            starts: slot_starts,
+            numbers,
+        } = slots;
+        let by_slot = picked_parts(alloc, &parts, &numbers)?;
+        let cycles = cycle_starts(alloc, words, &ending.starts)?;
+        let listed = picked_samples(alloc, &list, &ending.numbers)?;
         Ok(Layout {
-            cycles,
-            samples,
-            slots,
+            ending: listed,
+            cycle_starts: cycles,
+            by_sample: parts,
+            sample_starts: starts,
+            by_slot,
+            slot_starts,
         })
+    }
+
+    /// The parts that stand in word slot `k` of the superframe, by lowest bit. Takes no memory.
+    pub fn at_slot(&self, k: u32) -> &[Part]
+        requires { k < length self.now.slots }
+        ensures parts { slice_get self.now.slots k ≡ Some result.now }
+        ensures numbers { All (λ a. a.sample < length self.now.samples) result.now }
+    {
+        segment(&self.slot_starts, &self.by_slot, k)
     }
 
     /// The samples whose last part lies in a cycle, in the order of last parts. Takes no memory.
     pub fn ending_in(&self, cycle: u8) -> &[Sample]
         requires { cycle < 16 }
-        ensures samples { slice_get self.now.cycles cycle ≡ Some result.now }
+        ensures samples { slice_get self.now.cycles cycle ≡ Some (map (sample_in self.now) result.now) }
+        ensures listed { All (IsListedSample self.now) result.now }
         ensures countable { length result.now < 2 ^ 32 }
         ensures cycles { length self.now.cycles ≡ 16 }
     {
-        self.cycles[cycle as usize].as_slice()
+        segment(&self.cycle_starts, &self.ending, u32::from(cycle))
     }
 
-    /// How many samples a superframe has. Takes no memory.
+    /// The parts of the sample with this number, by part number. Takes no memory.
+    pub fn parts(&self, sample: u32) -> &[Part]
+        requires { sample < length self.now.samples }
+        ensures parts { result.now ≡ parts_of_sample sample (numbered_parts self.now sample) }
+        ensures four_parts { length result.now ≤ 4 }
+    {
+        segment(&self.sample_starts, &self.by_sample, sample)
+    }
+
+    /// How many samples a superframe has. Samples are numbered by their parameter and then by their index. Takes no
+    /// memory.
     pub fn samples(&self) -> u32
         ensures { result ≡ length self.now.samples }
     {
-        self.samples.len() as u32
+        (self.sample_starts.len() - 1) as u32
     }
+}
 
-    /// The sample with this number. Samples are numbered by their parameter and then by their index. Takes no memory.
-    pub fn sample(&self, number: u32) -> &Sample
-        requires { number < length self.now.samples }
-        ensures { slice_get self.now.samples number ≡ Some result.now }
-    {
-        &self.samples[number as usize]
-    }
-
-    /// The parts that stand in word slot `k` of the superframe, by lowest bit. Takes no memory.
-    pub fn at_slot(&self, k: u32) -> &[SlotPart]
-        requires { k < length self.now.slots }
-        ensures parts { slice_get self.now.slots k ≡ Some result.now }
-        ensures numbers { All (λ a. a.sample < length self.now.samples) result.now }
-    {
-        self.slots[k as usize].as_slice()
-    }
+/// List `k` of several that stand one after another.
+fn segment<'a, T>(starts: &[u32], items: &'a [T], k: u32) -> &'a [T]
+    requires starts { AreStarts starts.now (length items.now) }
+    requires within { k + 1 < length starts.now }
+    ensures { result.now ≡ segment starts.now items.now k }
+{
+    let start = starts[k as usize] as usize;
+    let end = starts[k as usize + 1] as usize;
+    &items[start..end]
 }
 
 #[cfg(test)]

@@ -5,15 +5,11 @@
 //! from 0 at its start, so that bit `12 k` is the least significant bit of word slot `k`.
 #![tactic(auto)]
 
-mod buckets;
-mod cycles;
+mod carriers;
+mod drafts;
 mod layout;
-mod memory;
-mod occurrences;
+mod order;
 mod parts;
-mod samples;
-mod slots;
 
 pub use layout::Layout;
 pub use parts::{Part, Sample};
-pub use slots::SlotPart;

@@ -28,3 +28,14 @@ unfoldable pub row_text : Row → List ℕ → ℕ → List ℕ
 row_text r name decimals =
     codes "row," ++ decimal r.counter ++ codes "," ++ decimal r.subframe ++ codes "," ++ decimal r.word ++ codes "," ++ name ++ codes ","
     ++ value_text r.value decimals ++ codes "\n"
+
+-- the texts that a row's line is put together of: what the lines of a frame begin with, and a place in a frame
+unfoldable pub row_start_text : ℕ → List ℕ
+row_start_text counter = codes "row," ++ decimal counter
+
+unfoldable pub row_place_text : ℕ → ℕ → List ℕ
+row_place_text subframe word = codes "," ++ decimal subframe ++ codes "," ++ decimal word ++ codes ","
+
+-- a row's line out of these, a name and a value in units of 10^-d
+unfoldable pub row_line_text : List ℕ → List ℕ → List ℕ → ℤ → ℕ → List ℕ
+row_line_text start place name value d = start ++ place ++ name ++ codes "," ++ value_text value d ++ codes "\n"

@@ -1,8 +1,10 @@
 //! Worked lines.
 
-use crate::{Line, gap_line, row_line, value_text};
+use crate::{Line, ShortText, gap_line, put_row, row_line, value_text};
+use fdr_io::{MemSink, OutBuffer};
 use fdr_recon::Row;
 use fdr_table::Name;
+use std::alloc::Global;
 use std::test::Fail;
 
 #[test]
@@ -46,5 +48,51 @@ fn writes_lines(rt: HostRuntime) -> Result<(), Fail> {
     line.add(b"frames ");
     line.add_number(0);
     assert_eq!(rt; line.bytes(), b"frames 0".as_slice());
+    Ok(())
+}
+
+/// The line of a row out of texts that are ready.
+fn put_together(alloc: Global, row: &Row, name: &Name, decimals: u8) -> Result<Vec<u8>, Fail> {
+    if row.counter >= 4096 || row.subframe > 4 || row.word > 1024 || decimals > 9 {
+        return Err("a row")?;
+    }
+    let mut buffer = OutBuffer::new(alloc)?;
+    let start = ShortText::row_start(row.counter);
+    let place = ShortText::row_place(row.subframe, row.word);
+    put_row(&mut buffer, &start, &place, name, row, decimals);
+    let mut sink = MemSink::new(alloc, Vec::new(alloc));
+    buffer.finish(&mut sink).ok().ok_or("write")?;
+    Ok(Vec::from_slice(alloc, sink.bytes())?)
+}
+
+#[test]
+fn puts_together_the_line_of_a_row(rt: HostRuntime) -> Result<(), Fail> {
+    let names: [&[u8]; 2] = [b"A", b"SIXTEEN_LETTERS_"];
+    let cases = [
+        (0, 1, 1, 0, 0),
+        (7, 2, 10, -1, 0),
+        (89, 3, 999, -1, 1),
+        (4095, 4, 1024, i64::MIN, 9),
+        (512, 4, 64, i64::MAX, 2),
+    ];
+    for name in names {
+        let name = Name::new(name).ok_or("name")?;
+        for (counter, subframe, word, value, decimals) in cases {
+            let row = Row {
+                counter,
+                subframe,
+                word,
+                param: 0,
+                value,
+            };
+            let line = put_together(rt.alloc(), &row, &name, decimals)?;
+            assert!(rt; decimals <= 9 && counter < 4096 && subframe <= 4 && word <= 1024);
+            assert_eq!(rt;
+                line.as_slice(),
+                row_line(&row, &name, decimals).bytes(),
+                "{counter}, {value}"
+            );
+        }
+    }
     Ok(())
 }

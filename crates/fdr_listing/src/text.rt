@@ -20,7 +20,7 @@ pub fn gap_line(at: u64, bits: u64) -> Line
 }
 
 /// Ten to the power of the number of decimals.
-fn unit(decimals: u8) -> u64
+pub(crate) fn unit(decimals: u8) -> u64
     requires { decimals ≤ 9 }
     ensures power { result ≡ 10 ^ decimals }
     ensures low { 1 ≤ result }

@@ -3,6 +3,7 @@
 ghost use Rattle.std.specs.Prelude.{◌≡◌, ◌<◌, IfOk, OnOk, OnErr};
 ghost use Rattle.fdr_prog.specs.Apart.{IsApart};
 
+use crate::ahead::Window;
 use crate::system::{apart, lock, open};
 use std::fs::{File, OpenOptions};
 use std::io::ErrorKind;
@@ -30,6 +31,7 @@ pub struct ImageFile<'a, R: Files<File = File>> {
     file: Option<File>,
     extent: u64,
     provided: Provided,
+    window: Option<Window>,
 }
 
 // What `provide` did to the file.
@@ -63,6 +65,17 @@ impl<'a, R: Files<File = File>> ImageFile<'a, R> {
             file: None,
             extent: 0,
             provided: Provided::Nothing,
+            window: None,
+        }
+    }
+
+    /// The same file, read through this window: for a program that only reads it.
+    pub fn seen_through(self, window: Window) -> Self
+        ensures { result ≡ self.entry }
+    {
+        ImageFile {
+            window: Some(window),
+            ..self
         }
     }
 
@@ -201,7 +214,13 @@ impl<'a, R: Files<File = File>> ImageFile<'a, R> {
     pub fn read(&mut self, at: u64, buf: &mut [u8]) -> io::Result<()>
         ensures { self.new ≡ self.old }
     {
-        self.with_file(|file| file.read_exact_at(buf, at))
+        let file = self.take_file()?;
+        let outcome = match &mut self.window {
+            Some(window) => window.read(&file, at, buf),
+            None => file.read_exact_at(buf, at),
+        };
+        self.file = Some(file);
+        outcome
     }
 
     /// Writes the bytes over those from `at` on. A file that became shorter since its length was learned isn't made

@@ -1,6 +1,7 @@
 //! The program `fdr`: the recorder's commands over files and standard streams.
 #![tactic(auto)]
 
+mod ahead;
 mod file_deck;
 mod file_source;
 mod image_file;
@@ -9,15 +10,16 @@ mod system;
 #[cfg(test)]
 mod tests;
 
+use ahead::{AHEAD, LineReader, Window};
 use fdr_top::{Outcome, run};
-use fdr_words::{WordsFault, read_words};
+use fdr_words::{Request, WordsFault, read_words};
 use file_deck::FileDeck;
 use file_source::FileSource;
 use image_file::ImageFile;
 use out_sink::OutSink;
 use std::alloc::Global;
 use std::env::Env;
-use std::io::Write;
+use std::io::{BufReader, Stdin, Write};
 use std::process::ExitCode;
 use std::{env, io};
 
@@ -37,6 +39,23 @@ fn outcome_of_words(error: io::Error) -> Outcome {
     }
 }
 
+/// The image of a command. One that never writes it reads through a window, if there is memory for one.
+fn image_of<'a>(rt: &'a HostRuntime, request: &'a Request) -> ImageFile<'a, HostRuntime> {
+    let image = ImageFile::new(rt, request.image().unwrap_or(""), request.writes());
+    match Window::new(rt.alloc()) {
+        Ok(window) if !request.writes() => image.seen_through(window),
+        _ => image,
+    }
+}
+
+/// The line of a command: one that records reads no further than it pulls.
+fn line_of(rt: &HostRuntime, request: &Request) -> LineReader<Stdin> {
+    match BufReader::with_capacity(rt.alloc(), AHEAD, rt.stdin()) {
+        Ok(line) if !request.writes() => LineReader::Ahead(line),
+        _ => LineReader::Exact(rt.stdin()),
+    }
+}
+
 /// Runs the command over the files that its words name and the standard streams. Where not all was done, no image is left
 /// that it made.
 fn run_on_files(rt: &HostRuntime, words: &[String]) -> Outcome {
@@ -46,8 +65,7 @@ fn run_on_files(rt: &HostRuntime, words: &[String]) -> Outcome {
         Err(WordsFault::NoMemory) => return Outcome::NoMemory,
     };
     let mut table = FileSource::new(rt, request.table().unwrap_or(""));
-    let image = ImageFile::new(rt, request.image().unwrap_or(""), request.writes());
-    let mut deck = FileDeck::new(image, rt.stdin(), rt.stderr());
+    let mut deck = FileDeck::new(image_of(rt, &request), line_of(rt, &request), rt.stderr());
     let mut out = OutSink::new(rt.stdout());
     let outcome = run(rt.alloc(), words, &mut table, &mut deck, &mut out);
     if !matches!(&outcome, Outcome::Done) {

@@ -2,6 +2,7 @@
 
 mod fakes;
 
+use crate::ahead::{LineReader, Window};
 use crate::file_deck::FileDeck;
 use crate::file_source::FileSource;
 use crate::image_file::ImageFile;
@@ -12,7 +13,7 @@ use fdr_io::{Failed, Source};
 use fdr_top::{Outcome, run};
 use std::fs;
 use std::fs::File;
-use std::io::{Sink, sink};
+use std::io::{BufReader, Sink, sink};
 use std::os::unix::fs::{MetadataExt, symlink};
 use std::rt::Files;
 use std::test::Fail;
@@ -31,6 +32,16 @@ fn pull_some<D: Deck>(deck: &mut D) -> Result<(usize, [u8; 2]), Failed> {
     let mut buf = [0; 2];
     let n = deck.pull(&mut buf)?;
     Ok((n, buf))
+}
+
+fn read_eight<D: Deck>(deck: &mut D, at: u64) -> Result<[u8; 8], Failed> {
+    let size = deck.size()?;
+    if size < 8 || size - 8 < at {
+        return Err(Failed);
+    }
+    let mut bytes = [0; 8];
+    deck.read(at, &mut bytes)?;
+    Ok(bytes)
 }
 
 const SIZE: u64 = 4100;
@@ -108,6 +119,44 @@ fn a_writer_takes_bytes_or_faults(rt: HostRuntime) -> Result<(), Fail> {
     let mut sink = OutSink::new(room.as_mut_slice());
     assert_eq!(rt; write_some(&mut sink), Ok(4));
     assert_eq!(rt; write_some(&mut sink), Err(Failed));
+    Ok(())
+}
+
+// The reads in a window, over its end, before it, in the middle and at the end of the file.
+#[test]
+fn a_window_gives_the_bytes_of_the_file(rt: HostRuntime) -> Result<(), Fail> {
+    let path = "window.bin";
+    let mut bytes = Vec::new(rt.alloc());
+    for number in 0..140_000u32 {
+        bytes.push((number % 251) as u8)?;
+    }
+    fs::write(&rt, path, bytes.as_slice())?;
+    let image = ImageFile::new(&rt, path, false).seen_through(Window::new(rt.alloc())?);
+    let mut deck = FileDeck::new(image, b"".as_slice(), sink());
+    for at in [0, 65_528, 65_530, 8, 70_000, 139_992] {
+        let read = read_eight(&mut deck, at).ok().ok_or("read")?;
+        let held = bytes.get(at as usize..at as usize + 8).ok_or("held")?;
+        assert_eq!(rt; read.as_slice(), held, "from byte {at} on");
+    }
+    File::options().write(true).open(&rt, path)?.set_len(100)?;
+    assert_eq!(rt; read_eight(&mut deck, 70_000), Err(Failed));
+    assert_eq!(rt; read_eight(&mut deck, 92).is_ok(), true);
+    Ok(())
+}
+
+#[test]
+fn a_line_is_read_ahead(rt: HostRuntime) -> Result<(), Fail> {
+    let ahead = BufReader::with_capacity(rt.alloc(), 5, Interrupted::new(b"abc"))?;
+    let image = ImageFile::new(&rt, "", false);
+    let mut deck = FileDeck::new(image, LineReader::Ahead(ahead), sink());
+    assert_eq!(rt; pull_some(&mut deck), Ok((1, *b"a\0")));
+    assert_eq!(rt; pull_some(&mut deck), Ok((1, *b"b\0")));
+    let ahead = BufReader::with_capacity(rt.alloc(), 5, b"abc".as_slice())?;
+    let image = ImageFile::new(&rt, "", false);
+    let mut deck = FileDeck::new(image, LineReader::Ahead(ahead), sink());
+    assert_eq!(rt; pull_some(&mut deck), Ok((2, *b"ab")));
+    assert_eq!(rt; pull_some(&mut deck), Ok((1, *b"c\0")));
+    assert_eq!(rt; pull_some(&mut deck), Ok((0, [0; 2])));
     Ok(())
 }
 

@@ -26,3 +26,4 @@ pub mod RunFrames
 pub mod RunRows
 pub mod RunLines
 pub mod Surviving
+pub mod WrittenRows

@@ -6,7 +6,7 @@ use Rattle.std.proofs.lemmas.List.Elements.{All-head, All-tail}
 use Rattle.fdr_bits.specs.Fields.{field_of}
 use Rattle.fdr_bits.proofs.FieldLemmas.{field_of-with_field}
 use Rattle.fdr_bits.proofs.FieldsApart.{field_of-with_field_apart}
-use Rattle.fdr_layout.specs.declared.slots.SlotPart.{SlotPart}
+use Rattle.fdr_layout.specs.SlotParts.{SlotPart}
 use Rattle.fdr_sampler.specs.SlotWord.{piece_of, data_of}
 use Rattle.fdr_sampler.proofs.DataWords.{with_part, piece_fits, IsWithin, data_of-fold}
 use Rattle.fdr_readout.proofs.Recordable.{AreApart}

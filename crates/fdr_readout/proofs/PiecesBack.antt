@@ -9,10 +9,9 @@ use Rattle.std.proofs.lemmas.Option.{slice_get-get_or}
 use Rattle.std.proofs.lemmas.List.Elements.{All-contains, All-contains_itself, All-filter, All-weaker}
 use Rattle.fdr_bus.specs.declared.BusRecord.{BusRecord}
 use Rattle.fdr_table.specs.Rows.{ParamRow, TableRows}
-use Rattle.fdr_layout.specs.declared.slots.SlotPart.{SlotPart}
+use Rattle.fdr_layout.specs.SlotParts.{SlotPart, parts_of_sample, parts_among, all_parts, parts_at, parts_of_slot, parts_in}
 use Rattle.fdr_check.specs.Occurrences.{frame_bits}
 use Rattle.fdr_layout.specs.Samples.{Part, Sample, samples, ending_in}
-use Rattle.fdr_layout.specs.SlotParts.{parts_of_sample, parts_among, all_parts, parts_at, parts_of_slot, parts_in}
 use Rattle.fdr_layout.specs.Sorting.{ending_at}
 use Rattle.fdr_layout.proofs.Endings.{pieces_hold}
 use Rattle.fdr_layout.proofs.SlotLemmas.{parts_of_slot_hold}

@@ -4,9 +4,8 @@ use Rattle.fdr_frame.specs.declared.SlotKind.TheVariants.{Plain}
 use Rattle.fdr_frame.specs.Slots.{kind_of}
 use Rattle.fdr_frame.specs.WordCount.{IsWordCount}
 use Rattle.fdr_table.specs.Rows.{FrameRow, ParamRow, TableRows}
-use Rattle.fdr_layout.specs.declared.slots.SlotPart.{SlotPart}
+use Rattle.fdr_layout.specs.SlotParts.{SlotPart, all_parts}
 use Rattle.fdr_layout.specs.Samples.{Part, Sample, samples}
-use Rattle.fdr_layout.specs.SlotParts.{all_parts}
 use Rattle.fdr_sampler.specs.SlotWord.{piece_of}
 
 -- a part lies within one word of the superframe, which has neither a sync word nor the counter

@@ -6,9 +6,8 @@ use Rattle.fdr_bits.specs.Bits.{bits_in, word_at}
 use Rattle.fdr_bus.specs.declared.BusRecord.{BusRecord}
 use Rattle.fdr_bus.specs.Records.{time_of}
 use Rattle.fdr_table.specs.Rows.{TableRows}
-use Rattle.fdr_layout.specs.declared.slots.SlotPart.{SlotPart}
+use Rattle.fdr_layout.specs.SlotParts.{SlotPart, parts_among, parts_in}
 use Rattle.fdr_layout.specs.Samples.{samples}
-use Rattle.fdr_layout.specs.SlotParts.{parts_among, parts_in}
 use Rattle.fdr_layout.proofs.SlotLemmas.{parts_of_slot_hold}
 use Rattle.fdr_sampler.specs.SlotWord.{slot_word}
 use Rattle.fdr_sampler.specs.Stream.{slot_count, stream_words, stream_of}

@@ -10,7 +10,8 @@ use Rattle.fdr_table.specs.Rows.{FrameRow, TableRows}
 use Rattle.fdr_sampler.specs.SlotWord.{data_word, word_with, slot_within, start_of, slot_word}
 use Rattle.fdr_recon.specs.Rows.{counter_place}
 use Rattle.fdr_readout.proofs.Recordable.{IsRecordable}
-use Rattle.fdr_readout.proofs.SlotPlaces.{remainder, kind_of-sync, subframe_of-first, kind_of-counter, frame_of-slot, kind_of-superframe}
+use Rattle.fdr_sampler.proofs.Superframes.{kind_of-superframe, remainder}
+use Rattle.fdr_readout.proofs.SlotPlaces.{kind_of-sync, subframe_of-first, kind_of-counter, frame_of-slot}
 
 -- a word for each kind
 word_of_kind : FrameRow → ℕ → ℕ → SlotKind → ℕ

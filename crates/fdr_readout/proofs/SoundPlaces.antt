@@ -1,9 +1,9 @@
 -- The occurrences of a sound table's places share no bit, and stand in words of data.
 use Rattle.std.proofs.Common.{◌≡◌, ◌≢◌, ℕ, ◌+◌, ◌-◌, ◌*◌, ◌/◌, ◌%◌, ◌<◌, ◌≤◌, ◌⊎◌, inl, inr, ⊎_elim, true, false, eqb, List, get_or, eqb-true, sym, ap, ◌∙◌}
 use Rattle.std.proofs.Common.{subst, arith}
-use Rattle.std.specs.Prelude.{◌&&◌, ◌==◌, nat_le, All, AllPairs, Contains, filter}
+use Rattle.std.specs.Prelude.{◌&&◌, ◌==◌, nat_le, nat_lt, All, AllPairs, Contains, filter}
 use Rattle.std.specs.List.{range_with_len}
-use Rattle.std.proofs.lemmas.Bool.{and_parts, leb-true, ne_eqb, cases_lt, cases_Bool, cond-true, cond-false, false_from_ne_true}
+use Rattle.std.proofs.lemmas.Bool.{and_from, and_parts, le-leb, lt-ltb, leb-true, ne_eqb, cases_lt, cases_Bool, cond-true, cond-false, false_from_ne_true}
 use Rattle.std.proofs.lemmas.List.Elements.{All-map, All-contains, All-contains_itself, All-filter, filter_passes}
 use Rattle.std.proofs.lemmas.List.Kept.{AllPairs-filter}
 use Rattle.fdr_frame.specs.declared.SlotKind.TheVariants.{Plain}
@@ -15,7 +15,11 @@ use Rattle.fdr_check.specs.Soundness.{covers, ShareNoBit, IsOffCounter, IsSound}
 use Rattle.fdr_recon.proofs.SoundSamples.{IsPartOccurrence}
 use Rattle.fdr_readout.proofs.PairLists.{AllPairs-map, AllPairs-flat_map, AllPairs_range, same_or_related}
 use Rattle.fdr_lists.proofs.Ranges.{All-range}
-use Rattle.fdr_check.proofs.Marking.{covers_by_parts}
+
+covers_by_parts : (w : ℕ) (p : PlaceRow) (b : ℕ) → occurs w p (b / 12) ≡ true → p.lsb ≤ b % 12 + 1 → b % 12 + 1 < p.lsb + p.width → covers w p b ≡ true
+covers_by_parts w p b here low high =
+    and_from (occurs w p (b / 12) && nat_le p.lsb (b % 12 + 1)) (nat_lt (b % 12 + 1) (p.lsb + p.width))
+    (and_from (occurs w p (b / 12)) (nat_le p.lsb (b % 12 + 1)) here (le-leb _ _ low)) (lt-ltb _ _ high)
 
 -- where a place begins
 begins_parts : (w x : ℕ) (p : PlaceRow) → begins_at w x p ≡ true → (x % 12 + 1 ≡ p.lsb) × (occurs w p (x / 12) ≡ true)

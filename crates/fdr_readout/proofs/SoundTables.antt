@@ -8,11 +8,10 @@ use Rattle.std.proofs.lemmas.List.Elements.{All-map, All-weaker, All-contains}
 use Rattle.std.proofs.Math.Nat.{mod-eq_of_lt}
 use Rattle.fdr_table.specs.Ranges.{IsInRange}
 use Rattle.fdr_table.specs.Rows.{ParamRow, TableRows}
-use Rattle.fdr_layout.specs.declared.slots.SlotPart.{SlotPart}
+use Rattle.fdr_layout.specs.SlotParts.{SlotPart, parts_of_sample, parts_among, all_parts}
 use Rattle.fdr_check.specs.Occurrences.{Occurrence, part_occurrences, shift_of}
 use Rattle.fdr_check.specs.Soundness.{IsSound}
 use Rattle.fdr_layout.specs.Samples.{Part, part_at, carrier_of, parts_of, Sample, samples_of, samples}
-use Rattle.fdr_layout.specs.SlotParts.{parts_of_sample, parts_among, all_parts}
 use Rattle.fdr_layout.proofs.Endings.{all_pieces}
 use Rattle.fdr_recon.specs.Kept.{IsSampleOf}
 use Rattle.fdr_recon.proofs.FilledValues.{filled_pieces}

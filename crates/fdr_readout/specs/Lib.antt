@@ -7,3 +7,4 @@ pub mod Summary
 pub mod TakersSound
 pub mod SampledRows
 pub mod Survival
+pub mod Places

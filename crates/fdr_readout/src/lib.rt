@@ -6,11 +6,13 @@
 mod entries;
 mod events;
 mod law;
+mod line_writer;
 mod takers;
 mod tally;
 
 pub use entries::{take_piece, take_rest};
 pub use events::EventReader;
 pub use law::{damage_elsewhere, reads_back, survives};
+pub use line_writer::LineWriter;
 pub use takers::Taker;
 pub use tally::Summary;

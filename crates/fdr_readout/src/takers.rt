@@ -1,18 +1,13 @@
-//! What takes the gaps, the frames and the rows of bits, and the taker that writes their lines.
+//! What takes the gaps, the frames and the rows of bits.
 
 ghost use Rattle.std.specs.Prelude.{◌≡◌, ◌≤◌, List, [], ◌∷◌, length, OnOk, OnErr};
-ghost use Rattle.std.specs.List.{flat_map};
 ghost use Rattle.fdr_io.specs.Faults.{Rose};
-ghost use Rattle.fdr_io.specs.Output.{Emits, EmitsPart};
 ghost use Rattle.fdr_table.specs.Rows.{TableRows};
 ghost use Rattle.fdr_recon.specs.Kept.{IsRow};
-ghost use Rattle.fdr_readout.specs.Listing.{row_line_of};
-ghost use Rattle.fdr_readout.specs.Entries.{Entry, GapEntry, FrameEntry, RowEntry, entry_lines};
+ghost use Rattle.fdr_readout.specs.Entries.{Entry, GapEntry, FrameEntry, RowEntry};
 ghost use Rattle.fdr_readout.specs.Takers.{TakerLaws};
-ghost use Rattle.fdr_readout.specs.TakersSound.{text_laws};
 
-use fdr_io::{Failed, OutBuffer, Sink};
-use fdr_listing::{Line, gap_line, row_line};
+use fdr_io::{Failed, Sink};
 use fdr_recon::Row;
 use fdr_table::Table;
 
@@ -47,35 +42,4 @@ pub trait Taker<O: Sink> {
         ensures monotone { O.faults out.old ≤ O.faults out.new };
 
     ghost laws: { TakerLaws took failed_in };
-}
-
-/// The line of a row of one of the table's parameters.
-#[tactic(auto, unfolding(crate::specs::Listing::row_line_of, fdr_recon::specs::Rows::param_at))]
-fn line_of(table: &Table, row: &Row) -> Line
-    requires { IsRow (length table.now.params) row.now }
-    ensures { result ≡ row_line_of table.now row.now }
-{
-    let param = &table.params()[row.param as usize];
-    row_line(row, &param.name, param.decimals)
-}
-
-/// Writes the lines of what it takes.
-impl<O: Sink> Taker<O> for OutBuffer {
-    ghost took = { λ t before out_before now out_now entries.
-        Emits (O.written out_before) (O.written out_now) before now (flat_map (entry_lines t) entries) };
-
-    ghost failed_in = { λ t before out_before out_now entries.
-        EmitsPart (O.written out_before) (O.written out_now) before (flat_map (entry_lines t) entries) };
-
-    fn gap(&mut self, from: u64, bits: u64, out: &mut O) -> Result<(), Failed> {
-        self.add(out, gap_line(from, bits).bytes())
-    }
-
-    fn frame(&mut self) {}
-
-    fn row(&mut self, table: &Table, row: &Row, out: &mut O) -> Result<(), Failed> {
-        self.add(out, line_of(table, row).bytes())
-    }
-
-    ghost laws = { text_laws O.written };
 }

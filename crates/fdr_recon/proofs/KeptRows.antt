@@ -1,18 +1,26 @@
 -- What is made of what is kept.
-use Rattle.std.proofs.Common.{◌≡◌, ℕ, ◌+◌, ◌-◌, ◌*◌, ◌/◌, ◌%◌, ◌^◌, ◌<◌, ◌≤◌, Bool, true, false, List, [], length, ap, sym, ◌∙◌, ⊎_elim, ◌⊎◌, Some, None, arith}
+use Rattle.std.proofs.Common.{◌≡◌, ℕ, ◌+◌, ◌-◌, ◌*◌, ◌/◌, ◌%◌, ◌^◌, ◌<◌, ◌≤◌, Bool, true, false, List, [], length, map, subst, ap, sym, ◌∙◌, ⊎_elim, ◌⊎◌}
+use Rattle.std.proofs.Common.{Some, None, arith}
 use Rattle.std.proofs.Common.{lit≤}
 use Rattle.std.specs.Prelude.{◌&&◌, ◌==◌, not, nat_le, slice_index, slice_get, ℤ}
 use Rattle.std.proofs.lemmas.Bool.{and_left, and_right, and_from, le-leb, lt-leb, cond-true, cond-false}
 use Rattle.std.specs.List.{All, slice_index_or}
 use Rattle.std.proofs.lemmas.Nat.{mod_below, pow_pos}
 use Rattle.std.proofs.Math.Nat.{pow-le-pow_right}
+use Rattle.std.proofs.lemmas.List.{length-map, get_or-map}
 use Rattle.std.proofs.lemmas.Option.{get_or_from_slice_get}
 use Rattle.fdr_table.specs.Rows.{ParamRow}
+use Rattle.fdr_check.specs.Occurrences.{cycle_of}
+use Rattle.fdr_layout.specs.declared.parts.Sample.{Sample as ListedSample}
+use Rattle.fdr_layout.specs.Listed.{numbered_parts, sample_in}
 use Rattle.fdr_layout.specs.Samples.{Part, Sample, first_at, last_at}
+use Rattle.fdr_layout.specs.SlotParts.{Laid, SlotPart, parts_of_sample, plain_parts}
+use Rattle.fdr_layout.proofs.Drafting.{plain_again}
 use Rattle.fdr_recon.specs.declared.Row.{Row}
 use Rattle.fdr_recon.specs.Rows.{counter_place, reach, param_at, no_param}
 use Rattle.fdr_recon.specs.Kept.{RebuildKept, kept_counter, kept_cycle, kept_bits, kept_raw, kept_value, kept_row, kept_samples, is_next, IsSampleOf}
 use Rattle.fdr_recon.proofs.FilledValues.{filled_below}
+use Rattle.fdr_recon.proofs.KeptWords.{cycle_of_slot}
 
 pub is_next-not : (k : RebuildKept) (adjacent : Bool) (words : List ℕ) → (adjacent ≡ false) ⊎ ((length k.words == 0) ≡ true) → is_next k adjacent words ≡ false
 unfolding is_next
@@ -34,44 +42,45 @@ unfolding kept_samples
 kept_samples-empty k empty = cond-true _ _ _ empty
 
 pub kept_samples-cycle : (k : RebuildKept) (cycle : ℕ) (xs : List Sample) → (length k.words == 0) ≡ false → cycle ≡ kept_cycle k
-    → slice_get k.samples cycle ≡ Some xs →
+    → slice_get k.laid.cycles cycle ≡ Some xs →
     kept_samples k ≡ xs
 unfolding kept_samples
 kept_samples-cycle k cycle xs more cycle_is read =
-    cond-false _ _ _ more ∙ get_or_from_slice_get k.samples (kept_cycle k) xs [] (ap (slice_get k.samples) (sym cycle_is) ∙ read)
+    cond-false _ _ _ more ∙ get_or_from_slice_get k.laid.cycles (kept_cycle k) xs [] (ap (slice_get k.laid.cycles) (sym cycle_is) ∙ read)
 
 pub kept_row-none : (k : RebuildKept) (s : Sample) (d : ℕ) → d ≡ reach k.frame.words s.parts → k.joined < d → kept_row k s ≡ None
 unfolding kept_row
 kept_row-none k s d d_is far =
     cond-false _ _ _ (ap (λ n. nat_le n k.joined) (sym d_is) ∙ lt-leb d k.joined far)
 
-pub kept_row-some : (k : RebuildKept) (s : Sample) (w first d counter param : ℕ) (value : ℤ) → w ≡ k.frame.words → first ≡ first_at s.parts
+pub kept_row-some : (k : RebuildKept) (s : Sample) (w first d counter param : ℕ) (value : ℤ) → w ≡ k.frame.words → first ≡ first_at s.parts / 12
     → d ≡ reach k.frame.words s.parts →
     d ≤ k.joined → counter ≡ kept_counter k d → param ≡ s.param → value ≡ kept_value k s →
-    kept_row k s ≡ Some (record { counter = counter; subframe = first / 12 / w % 4 + 1; word = first / 12 % w + 1; param = param; value = value })
+    kept_row k s ≡ Some (record { counter = counter; subframe = first / w % 4 + 1; word = first % w + 1; param = param; value = value })
 unfolding kept_row
 kept_row-some k s w first d counter param value w_is first_is d_is near counter_is param_is value_is =
     let row : ℕ → ℕ → ℕ → ℕ → ℤ → Row = λ counter w first param value. record {
       counter = counter;
-      subframe = first / 12 / w % 4 + 1;
-      word =
-          first / 12 % w + 1;
+      subframe = first / w % 4 + 1;
+      word = first % w + 1;
       param = param;
       value = value;
     } in
     cond-true _ _ _ (ap (λ n. nat_le n k.joined) (sym d_is) ∙ le-leb d k.joined near)
-    ∙ ap (λ n. Some (row n k.frame.words (first_at s.parts) s.param (kept_value k s))) (sym (counter_is ∙ ap (kept_counter k) d_is))
-    ∙ ap (λ n. Some (row counter n (first_at s.parts) s.param (kept_value k s))) (sym w_is)
+    ∙ ap (λ n. Some (row n k.frame.words (first_at s.parts / 12) s.param (kept_value k s))) (sym (counter_is ∙ ap (kept_counter k) d_is))
+    ∙ ap (λ n. Some (row counter n (first_at s.parts / 12) s.param (kept_value k s))) (sym w_is)
     ∙ ap (λ n. Some (row counter w n s.param (kept_value k s))) (sym first_is)
     ∙ ap (λ n. Some (row counter w first n (kept_value k s))) (sym param_is)
     ∙ ap (λ z. Some (row counter w first param z)) (sym value_is)
 
--- how far a sample reaches back, by where its last part and its earliest part begin
-pub reach_is : (parts : List Part) (w v last first d : ℕ) → w ≡ v → last ≡ last_at parts → first ≡ first_at parts → d ≡ last / (48 * w) - first / (48 * w)
-    → d ≡ reach v parts
+-- how far a sample reaches back, by the slots of its last part and of its earliest part
+pub reach_is : (parts : List Part) (w v last first d : ℕ) → w ≡ v → last ≡ last_at parts / 12 → first ≡ first_at parts / 12
+    → d ≡ last / (4 * w) - first / (4 * w) → d ≡ reach v parts
 reach_is parts w v last first d w_is last_is first_is d_is =
-    d_is ∙ ap (λ n. last / (48 * n) - first / (48 * n)) w_is ∙ ap (λ n. n / (48 * v) - first / (48 * v)) last_is
-    ∙ ap (λ n. last_at parts / (48 * v) - n / (48 * v)) first_is
+    d_is ∙ ap (λ n. last / (4 * n) - first / (4 * n)) w_is ∙ ap (λ n. n / (4 * v) - first / (4 * v)) (last_is)
+    ∙ ap (λ n. last_at parts / 12 / (4 * v) - n / (4 * v)) first_is
+    ∙ ap (λ n. n - first_at parts / 12 / (4 * v)) (cycle_of_slot v (last_at parts))
+    ∙ ap (λ n. cycle_of v (last_at parts) - n) (cycle_of_slot v (first_at parts))
 
 kept_bits-fit : (k : RebuildKept) (cycle : ℕ) (p : Part) → kept_bits k cycle p < 2 ^ p.width
 unfolding kept_bits
@@ -95,3 +104,17 @@ kept_raw-small k cycle s h =
 pub param_at-sample : (params : List ParamRow) (s : Sample) (h : IsSampleOf params s) → param_at params s.param ≡ h.param
 unfolding param_at
 param_at-sample params s h = get_or_from_slice_get params s.param h.param no_param h.is
+
+-- what holds of listed samples
+pub listed_samples_of : (l : Laid) (params : List ParamRow) (es : List ListedSample) → All (IsSampleOf params) (map (sample_in l) es)
+    → All (λ (e : ListedSample). IsSampleOf params (sample_in l e)) es
+listed_samples_of l params es all = λ i d within.
+    let long : length (map (sample_in l) es) ≡ length es = length-map es (sample_in l) in
+    subst (IsSampleOf params) (get_or-map (sample_in l) es i d (sample_in l d) within) (all i (sample_in l d) (omega (arith, long, within)))
+
+-- the raw value of a listed sample, by the parts that are found under its number
+pub raw_of_listed : (k : RebuildKept) (l : Laid) (cycle : ℕ) (e : ListedSample) (parts : List SlotPart) (raw : ℕ) → l ≡ k.laid
+    → parts ≡ parts_of_sample e.number (numbered_parts l e.number) → raw ≡ kept_raw k cycle (plain_parts parts)
+    → raw ≡ kept_raw k cycle (sample_in k.laid e).parts
+raw_of_listed k l cycle e parts raw laid own is =
+    is ∙ ap (kept_raw k cycle) (ap plain_parts own ∙ plain_again e.number (numbered_parts l e.number) ∙ ap (λ (x : Laid). numbered_parts x e.number) laid)

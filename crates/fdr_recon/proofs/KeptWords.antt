@@ -6,7 +6,7 @@ use Rattle.std.proofs.lemmas.Bool.{cases_Bool, lt-ltb, le-ltb, ltb-true, cond_bo
 use Rattle.std.proofs.lemmas.Option.{unwrap_or-slice_get}
 use Rattle.std.proofs.lemmas.Nat.{and_mask, mod_below, pow_pos, shl_below}
 use Rattle.std.proofs.lemmas.Nat.{shl_whole, one_shl}
-use Rattle.std.proofs.Math.Nat.{pow-le-pow_right}
+use Rattle.std.proofs.Math.Nat.{pow-le-pow_right, div-div-eq-div-mul}
 use Rattle.fdr_check.specs.Occurrences.{cycle_of}
 use Rattle.fdr_layout.specs.Samples.{Part}
 use Rattle.fdr_recon.specs.Kept.{RebuildKept, kept_word, kept_bits, from_end}
@@ -41,20 +41,28 @@ kept_word-small k back place small =
     small (length k.words - from_end k.frame.words back place - 1) 0 (omega arith))
     (λ _. omega arith)
 
+-- the cycle of a bit by its slot
+pub cycle_of_slot : (w at : ℕ) → at / 12 / (4 * w) ≡ cycle_of w at
+cycle_of_slot w at = let bits : 12 * (4 * w) ≡ 48 * w = omega arith in div-div-eq-div-mul at 12 (4 * w) ∙ ap (λ n. at / n) bits
+
 -- the bits of a part, as they are cut out of its word
-pub kept_bits-cut : (k : RebuildKept) (cycle : ℕ) (p : Part) (word back len : ℕ) → p.width ≤ 12 → len ≡ 4 * k.frame.words →
-    back ≡ cycle - p.at / (12 * len) → word ≡ kept_word k back (p.at / 12 % len) →
-    bit_and (word / 2 ^ (p.at % 12)) (1 * 2 ^ p.width % 65536 - 1) ≡ kept_bits k cycle p
+pub kept_bits-cut : (k : RebuildKept) (cycle : ℕ) (p : Part) (slot low word back len : ℕ) → 12 * slot + low ≡ p.at → low < 12 → p.width ≤ 12
+    → len ≡ 4 * k.frame.words → back ≡ cycle - slot / len → word ≡ kept_word k back (slot % len)
+    → bit_and (word / 2 ^ low) (1 * 2 ^ p.width % 65536 - 1) ≡ kept_bits k cycle p
 unfolding kept_bits
-kept_bits-cut k cycle p word back len few len_is back_is word_is =
+kept_bits-cut k cycle p slot low word back len at fits few len_is back_is word_is =
     let w = k.frame.words in
+    let slot_is : slot ≡ p.at / 12 = omega (arith, at, fits) in
+    let low_is : low ≡ p.at % 12 = omega (arith, at, fits) in
     let mask : 1 * 2 ^ p.width % 65536 ≡ 2 ^ p.width = one_shl p.width 16 (omega arith) in
-    let cut = ap (λ m. bit_and (word / 2 ^ (p.at % 12)) (m - 1)) mask ∙ and_mask (word / 2 ^ (p.at % 12)) p.width in
-    let bits : 12 * len ≡ 48 * w = omega arith in
-    let frames : back ≡ cycle - cycle_of w p.at = back_is ∙ ap (λ n. cycle - p.at / n) bits in
+    let cut = ap (λ m. bit_and (word / 2 ^ low) (m - 1)) mask ∙ and_mask (word / 2 ^ low) p.width in
+    let frames : back ≡ cycle - cycle_of w p.at =
+    back_is ∙ ap (λ n. cycle - slot / n) len_is ∙ ap (λ n. cycle - n / (4 * w)) slot_is ∙ ap (λ n. cycle - n) (cycle_of_slot w p.at) in
     let read : word ≡ kept_word k (cycle - cycle_of w p.at) (p.at / 12 % (4 * w)) =
-    word_is ∙ ap (λ b. kept_word k b (p.at / 12 % len)) frames ∙ ap (λ n. kept_word k (cycle - cycle_of w p.at) (p.at / 12 % n)) len_is in
-    cut ∙ ap (λ n. n / 2 ^ (p.at % 12) % 2 ^ p.width) read
+    word_is ∙ ap (λ b. kept_word k b (slot % len)) frames ∙ ap (λ n. kept_word k (cycle - cycle_of w p.at) (slot % n)) len_is
+    ∙ ap (λ n. kept_word k (cycle - cycle_of w p.at) (n % (4 * w))) slot_is in
+    cut ∙ ap (λ n. n / 2 ^ low % 2 ^ p.width) read
+    ∙ ap (λ n. kept_word k (cycle - cycle_of w p.at) (p.at / 12 % (4 * w)) / 2 ^ n % 2 ^ p.width) low_is
 
 -- at most 12 bits
 pub kept_bits-small : (k : RebuildKept) (cycle : ℕ) (p : Part) → p.width ≤ 12 → kept_bits k cycle p < 2 ^ 12
@@ -73,12 +81,12 @@ shifted bits shift small few =
     (shl_whole bits 12 shift 64 small (omega arith), omega (arith, shl_below bits 12 shift small, power))
 
 -- the bits of a part, as they are cut out of its word and shifted to their place in the raw value
-pub kept_bits-shifted : (k : RebuildKept) (cycle : ℕ) (p : Part) (word back len bits : ℕ) → p.width ≤ 12 → p.shift ≤ 36 → len ≡ 4 * k.frame.words →
-    back ≡ cycle - p.at / (12 * len) → word ≡ kept_word k back (p.at / 12 % len) →
-    bits ≡ bit_and (word / 2 ^ (p.at % 12)) (1 * 2 ^ p.width % 65536 - 1) →
+pub kept_bits-shifted : (k : RebuildKept) (cycle : ℕ) (p : Part) (slot low word back len bits : ℕ) → 12 * slot + low ≡ p.at → low < 12 → p.width ≤ 12
+    → p.shift ≤ 36 → len ≡ 4 * k.frame.words → back ≡ cycle - slot / len → word ≡ kept_word k back (slot % len)
+    → bits ≡ bit_and (word / 2 ^ low) (1 * 2 ^ p.width % 65536 - 1) →
     (bits * 2 ^ p.shift % 2 ^ 64 ≡ kept_bits k cycle p * 2 ^ p.shift) × (bits * 2 ^ p.shift % 2 ^ 64 < 2 ^ 48)
-kept_bits-shifted k cycle p word back len bits few low len_is back_is word_is bits_is =
-    let e : bits ≡ kept_bits k cycle p = bits_is ∙ kept_bits-cut k cycle p word back len few len_is back_is word_is in
-    let s = shifted (kept_bits k cycle p) p.shift (kept_bits-small k cycle p few) low in
+kept_bits-shifted k cycle p slot low word back len bits at fits few shift len_is back_is word_is bits_is =
+    let e : bits ≡ kept_bits k cycle p = bits_is ∙ kept_bits-cut k cycle p slot low word back len at fits few len_is back_is word_is in
+    let s = shifted (kept_bits k cycle p) p.shift (kept_bits-small k cycle p few) shift in
     let same : bits * 2 ^ p.shift % 2 ^ 64 ≡ kept_bits k cycle p * 2 ^ p.shift = ap (λ n. n * 2 ^ p.shift % 2 ^ 64) e ∙ s.0 in
     (same, omega (arith, same, s.1))

@@ -15,6 +15,7 @@ use Rattle.fdr_table.specs.Value.{value_of}
 use Rattle.fdr_frame.specs.Slots.{subframe_of, word_of}
 use Rattle.fdr_check.specs.Occurrences.{cycle_of}
 use Rattle.fdr_layout.specs.Samples.{Part, Sample, ending_in, first_at, last_at}
+use Rattle.fdr_layout.specs.SlotParts.{Laid}
 use Rattle.fdr_recon.specs.declared.Row.{Row}
 use Rattle.fdr_recon.specs.Rows.{ReadFrame, frame_at, are_joined, counter_in, cycle_of_frame, reach, bits_of, raw_of_parts, param_at, row_with, row_of}
 use Rattle.fdr_recon.specs.Rows.{rows_looked_at}
@@ -124,7 +125,7 @@ kept_samples-stands k t past i s len some =
     let more : 0 < length k.words = omega arith in
     let few : cycle < 16 = mod_below _ 16 (omega arith) in
     cond-false _ _ _ (ne_eqb (length k.words) 0 (λ e. omega arith))
-    ∙ ap (λ samples. slice_index_or samples (kept_cycle k) []) s.samples
+    ∙ ap (λ (l : Laid). slice_index_or l.cycles (kept_cycle k) []) s.laid
     ∙ ap (λ c. slice_index_or (map (ending_in t) (range_with_len 0 16)) c []) (kept_cycle-stands k t past i s len)
     ∙ get_or-map-range_with_len (ending_in t) 0 16 cycle cycle [] few (omega arith)
 

@@ -12,6 +12,7 @@ use Rattle.fdr_table.specs.Ranges.{IsInRange}
 use Rattle.fdr_table.specs.Rows.{FrameRow, ParamRow, TableRows}
 use Rattle.fdr_check.specs.Soundness.{IsSound}
 use Rattle.fdr_layout.specs.Samples.{Sample, ending_in}
+use Rattle.fdr_layout.specs.SlotParts.{Laid, laid_of}
 use Rattle.fdr_recon.specs.Rows.{ReadFrame, frame_at, are_linked, counter_place, counter_in}
 use Rattle.fdr_recon.specs.Kept.{RebuildKept, kept_counter, is_next, IsSampleOf}
 use Rattle.fdr_recon.specs.Past.{IsWholeFrame, RepresentsRebuild, joined_count, read_frame}
@@ -33,14 +34,13 @@ layout-samples t range sound =
     (λ j d within. ending_in_sound t (slice_index_or (range_with_len 0 16) j d) range sound)
 
 -- before the first frame
-pub Stands-none : (t : TableRows) (frame : FrameRow) (params : List ParamRow) (samples : List (List Sample)) → frame ≡ t.frame → params ≡ t.params →
-    samples ≡ map (ending_in t) (range_with_len 0 16) →
-    RepresentsRebuild (record { frame = frame; params = params; samples = samples; words = []; joined = 0 }) t []
+pub Stands-none : (t : TableRows) (frame : FrameRow) (params : List ParamRow) (laid : Laid) → frame ≡ t.frame → params ≡ t.params → laid ≡ laid_of t →
+    RepresentsRebuild (record { frame = frame; params = params; laid = laid; words = []; joined = 0 }) t []
 unfolding joined_count
-Stands-none t frame params samples frame_is params_is layout = record {
+Stands-none t frame params laid frame_is params_is is = record {
   frame = frame_is;
   params = params_is;
-  samples = layout;
+  laid = is;
   frames = All-nil (IsWholeFrame t.frame.words);
   words = sym (drop-nil (length (words_of []) - 64 * t.frame.words));
   joined = refl;
@@ -93,10 +93,10 @@ joined_after-stands k t (first ∷ past) adjacent words s some =
 pub Stands-push : (k k' : RebuildKept) (t : TableRows) (past : List ReadFrame) (adjacent : Bool) (words : List ℕ) → RepresentsRebuild k t past
     → 0 < k.frame.words →
     length words ≡ 4 * k.frame.words → All (λ word. word < 4096) words →
-    k'.frame ≡ k.frame → k'.params ≡ k.params → k'.samples ≡ k.samples →
+    k'.frame ≡ k.frame → k'.params ≡ k.params → k'.laid ≡ k.laid →
     k'.words ≡ keep_last (64 * k.frame.words) (k.words ++ words) → k'.joined ≡ joined_after k adjacent words →
     RepresentsRebuild k' t (past ++ read_frame adjacent words ∷ [])
-Stands-push k k' t past adjacent words s some whole small frame params samples kept joined =
+Stands-push k k' t past adjacent words s some whole small frame params laid kept joined =
     let w = t.frame.words in
     let r = read_frame adjacent words in
     let w_is : k.frame.words ≡ w = ap (λ (f : FrameRow). f.words) s.frame in
@@ -107,7 +107,7 @@ Stands-push k k' t past adjacent words s some whole small frame params samples k
     record {
       frame = frame ∙ s.frame;
       params = params ∙ s.params;
-      samples = samples ∙ s.samples;
+      laid = laid ∙ s.laid;
       frames = All-push (IsWholeFrame w) past r s.frames (record { whole = whole ∙ ap (λ n. 4 * n) w_is; small = small });
       words = kept ∙ ap (λ n. keep_last (64 * n) (k.words ++ words)) w_is ∙ ap (λ ys. keep_last (64 * w) (ys ++ words)) s.words
           ∙ keep_last-append (64 * w) xs words ∙ sym (ap (keep_last (64 * w)) all_words);

@@ -7,15 +7,16 @@ use Rattle.fdr_table.specs.Rows.{FrameRow, ParamRow}
 use Rattle.fdr_table.specs.Value.{value_of}
 use Rattle.fdr_check.specs.Occurrences.{cycle_of}
 use Rattle.fdr_layout.specs.Samples.{Part, Sample, first_at}
+use Rattle.fdr_layout.specs.SlotParts.{Laid}
 use Rattle.fdr_recon.specs.declared.Row.{Row}
 use Rattle.fdr_recon.specs.Rows.{counter_place, reach, param_at}
 
--- The table's frame row and parameters, its samples by the cycle that they end in, the words of the last
--- sixteen frames, one frame after another, and how many frames before the last are joined with it, at most 15.
+-- The table's frame row and parameters, where its samples stand, the words of the last sixteen frames, one frame after
+-- another, and how many frames before the last are joined with it, at most 15.
 pub record RebuildKept : Type 0 where
   pub frame : FrameRow
   pub params : List ParamRow
-  pub samples : List (List Sample)
+  pub laid : Laid
   pub words : List ℕ
   pub joined : ℕ
 
@@ -37,7 +38,7 @@ pub record IsRebuildKept (k : RebuildKept) (capacity : ℕ) : Type 0 where
   pub room : capacity ≡ 64 * k.frame.words
   pub words : All (λ word. word < 4096) k.words
   pub joined : k.joined ≤ 15
-  pub params : All (λ (samples : List Sample). All (IsSampleOf k.params) samples) k.samples
+  pub params : All (λ (samples : List Sample). All (IsSampleOf k.params) samples) k.laid.cycles
 
 -- which word counts as the given one, from the last word back, of the frame that stands this many frames before the last
 abbrev pub from_end : ℕ → ℕ → ℕ → ℕ
@@ -84,7 +85,7 @@ kept_row k s =
 
 -- the samples that end in the last frame's cycle, none before the first frame
 unfoldable pub kept_samples : RebuildKept → List Sample
-kept_samples k = if length k.words == 0 then [] else slice_index_or k.samples (kept_cycle k) []
+kept_samples k = if length k.words == 0 then [] else slice_index_or k.laid.cycles (kept_cycle k) []
 
 -- whether a next frame is linked to the last
 unfoldable pub is_next : RebuildKept → Bool → List ℕ → Bool

@@ -1,9 +1,9 @@
 -- The frames that were read, for which a value stands.
-use Rattle.std.specs.Prelude.{ℕ, ◌-◌, ◌*◌, ◌<◌, ◌≡◌, min, Bool, if◌then◌else◌, List, length, map, zero, suc}
-use Rattle.std.specs.List.{All, flat_map, range_with_len}
+use Rattle.std.specs.Prelude.{ℕ, ◌-◌, ◌*◌, ◌<◌, ◌≡◌, min, Bool, if◌then◌else◌, List, length, zero, suc}
+use Rattle.std.specs.List.{All, flat_map}
 use Rattle.circular_buffer.specs.Buffer.{keep_last}
 use Rattle.fdr_table.specs.Rows.{FrameRow, TableRows}
-use Rattle.fdr_layout.specs.Samples.{ending_in}
+use Rattle.fdr_layout.specs.SlotParts.{laid_of}
 use Rattle.fdr_recon.specs.Rows.{ReadFrame, frame_at, are_linked}
 use Rattle.fdr_recon.specs.Kept.{RebuildKept}
 
@@ -24,7 +24,7 @@ pub record IsWholeFrame (w : ℕ) (r : ReadFrame) : Type 0 where
 pub record RepresentsRebuild (k : RebuildKept) (t : TableRows) (past : List ReadFrame) : Type 0 where
   pub frame : k.frame ≡ t.frame
   pub params : k.params ≡ t.params
-  pub samples : k.samples ≡ map (ending_in t) (range_with_len 0 16)
+  pub laid : k.laid ≡ laid_of t
   pub frames : All (IsWholeFrame t.frame.words) past
   pub words : k.words ≡ keep_last (64 * t.frame.words) (flat_map (λ (r : ReadFrame). r.words) past)
   pub joined : k.joined ≡ min 15 (joined_count t.frame past (length past - 1))

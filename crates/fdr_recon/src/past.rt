@@ -1,9 +1,11 @@
 //! The frames that were read, as far as rows still need them.
 
-ghost use Rattle.std.specs.Prelude.{◌≡◌, ◌+◌, ◌-◌, ◌*◌, ◌^◌, ◌<◌, ◌≤◌, List, [], ◌∷◌, ◌++◌, Some, length, map, IfOk, IfSome, All, slice_get, unwrap_or};
+ghost use Rattle.std.specs.Prelude.{◌≡◌, ◌+◌, ◌-◌, ◌*◌, ◌/◌, ◌^◌, ◌<◌, ◌≤◌, List, [], ◌∷◌, ◌++◌, Some, length, map, IfOk, IfSome, All, slice_get, unwrap_or};
 ghost use Rattle.std.specs.List.{range_with_len};
+ghost use Rattle.fdr_frame.specs.WordCount.{IsWordCount};
 ghost use Rattle.fdr_table.specs.Rows.{TableRows};
-ghost use Rattle.fdr_layout.specs.SlotParts.{laid_of};
+ghost use Rattle.fdr_layout.specs.Listed.{sample_in, IsListedSample};
+ghost use Rattle.fdr_layout.specs.SlotParts.{laid_of, plain_parts};
 ghost use Rattle.fdr_recon.specs.Rows.{ReadFrame, counter_place, rows_looked_at};
 ghost use Rattle.fdr_recon.specs.Kept.{kept_word, kept_counter, kept_cycle, kept_bits, kept_raw, kept_value, kept_row, kept_samples, is_next, IsRow, IsSampleOf};
 ghost use Rattle.fdr_recon.specs.Past.{RepresentsRebuild, read_frame};
@@ -11,6 +13,7 @@ ghost use Rattle.fdr_recon.specs.Past.{RepresentsRebuild, read_frame};
 use crate::Row;
 use circular_buffer::HeapCircularBuffer;
 use fdr_check::Sound;
+use fdr_frame::{frame_words_before, frames_before, subframe_of, word_of};
 use fdr_layout::{Layout, Part, Sample};
 use fdr_table::{Frame, NoMemory, Param};
 use std::alloc::Global;
@@ -106,9 +109,10 @@ impl Rebuild {
 
     /// The samples that end in the last frame's cycle, none before the first frame.
     fn samples(&self) -> &[Sample]
-        ensures samples { result.now ≡ kept_samples self.now }
+        ensures samples { map (sample_in self.now.laid) result.now ≡ kept_samples self.now }
+        ensures listed { All (IsListedSample self.now.laid) result.now }
         ensures countable { length result.now < 2 ^ 32 }
-        ensures params { All (IsSampleOf self.now.params) result.now }
+        ensures params { All (λ e. IsSampleOf self.now.params (sample_in self.now.laid e)) result.now }
         ensures frame { 0 < self.now.frame.words }
     {
         if self.words.is_empty() {
@@ -119,21 +123,22 @@ impl Rebuild {
     }
 
     fn row_of(&self, sample: &Sample) -> Option<Row>
-        requires { IsSampleOf self.now.params sample.now }
-        ensures row { result ≡ kept_row self.now sample.now }
+        requires of { IsSampleOf self.now.params (sample_in self.now.laid sample.now) }
+        requires listed { IsListedSample self.now.laid sample.now }
+        ensures row { result ≡ kept_row self.now (sample_in self.now.laid sample.now) }
         ensures range { IfSome result (IsRow (length self.now.params)) }
     {
         let words = frame_words(self.frame);
-        let reach = (sample.last() / (48 * words)).saturating_sub(sample.first() / (48 * words));
+        let reach = frame_of(sample.last, words).saturating_sub(frame_of(sample.first, words));
         if reach > u32::from(self.joined) {
             return None;
         }
-        let slot = sample.first() / 12;
+        let slot = u64::from(sample.first);
         Some(Row {
             counter: self.counter(reach),
-            subframe: (slot / words % 4 + 1) as u8,
-            word: slot % words + 1,
-            param: sample.param(),
+            subframe: subframe_of(slot, words),
+            word: word_of(slot, words),
+            param: sample.param,
             value: self.value(sample),
         })
     }
@@ -141,11 +146,12 @@ impl Rebuild {
     /// The value of a sample that ends in the last frame.
     #[tactic(auto, unfolding(crate::specs::Kept::kept_value, crate::specs::Rows::param_at))]
     fn value(&self, sample: &Sample) -> i64
-        requires { IsSampleOf self.now.params sample.now }
-        ensures { result ≡ kept_value self.now sample.now }
+        requires of { IsSampleOf self.now.params (sample_in self.now.laid sample.now) }
+        requires listed { IsListedSample self.now.laid sample.now }
+        ensures { result ≡ kept_value self.now (sample_in self.now.laid sample.now) }
     {
-        let param = &self.params[sample.param() as usize];
-        let raw = self.raw(self.cycle(), sample.parts()) as u32;
+        let param = &self.params[sample.param as usize];
+        let raw = self.raw(self.cycle(), self.layout.parts(sample.number)) as u32;
         param.value(raw)
     }
 
@@ -154,7 +160,7 @@ impl Rebuild {
     fn raw(&self, cycle: u8, parts: &[Part]) -> u64
         requires cycle { cycle < 16 }
         requires four_parts { length parts.now ≤ 4 }
-        ensures raw { result ≡ kept_raw self.now cycle parts.now }
+        ensures raw { result ≡ kept_raw self.now cycle (plain_parts parts.now) }
         ensures fifty_bits { result ≤ 2 ^ 50 }
     {
         let mut raw = 0;
@@ -167,13 +173,13 @@ impl Rebuild {
     /// The bits of a part of a sample that ends in the last frame, which has this cycle, at their place in the raw value.
     fn shifted_bits(&self, cycle: u8, part: &Part) -> u64
         requires { cycle < 16 }
-        ensures bits { result ≡ kept_bits self.now cycle part.now * 2 ^ part.now.shift }
+        ensures bits { result ≡ kept_bits self.now cycle part.now.part * 2 ^ part.now.part.shift }
         ensures four_words { result < 2 ^ 48 }
     {
-        let frame_len = 4 * frame_words(self.frame);
-        let back = u32::from(cycle).saturating_sub(part.at / (12 * frame_len));
-        let word = self.word(back, part.at / 12 % frame_len);
-        let bits = (word >> (part.at % 12)) & ((1 << part.width) - 1);
+        let words = frame_words(self.frame);
+        let back = u32::from(cycle).saturating_sub(frame_of(part.slot, words));
+        let word = self.word(back, frame_words_before(u64::from(part.slot), words) as u32);
+        let bits = (word >> (part.lsb - 1)) & ((1 << part.width) - 1);
         u64::from(bits) << part.shift
     }
 
@@ -184,13 +190,10 @@ impl Rebuild {
         layout: Layout,
     ) -> Result<Rebuild, NoMemory>
         requires { All (λ samples. All (IsSampleOf params.now) samples) layout.cycles }
-        ensures { IfOk result (λ r. r ≡ record { frame = frame; params = params.now; samples = layout.cycles; words = []; joined = 0 }) }
+        ensures { IfOk result (λ r. r ≡ record { frame = frame; params = params.now; laid = layout; words = []; joined = 0 }) }
     {
         let params = copies_of(alloc, params)?;
-        let words = HeapCircularBuffer::with_capacity(
-            alloc,
-            64 * frame_words(frame) as usize,
-        ).map_err(|_| NoMemory)?;
+        let words = room_for_words(alloc, frame)?;
         Ok(Rebuild {
             frame,
             params,
@@ -244,9 +247,27 @@ fn copies_of(alloc: Global, params: &[Param]) -> Result<Vec<Param>, NoMemory>
     Ok(copies)
 }
 
+/// Room for the words of sixteen frames.
+fn room_for_words(alloc: Global, frame: Frame) -> Result<HeapCircularBuffer<u16>, NoMemory>
+    ensures none { IfOk result (λ w. w.items ≡ []) }
+    ensures room { IfOk result (λ w. w.capacity ≡ 64 * frame.words) }
+    ensures some_words { 0 < frame.words }
+{
+    HeapCircularBuffer::with_capacity(alloc, 64 * frame_words(frame) as usize).map_err(|_| NoMemory)
+}
+
+/// The frame, counted from 0, that a word slot of the superframe is in.
+fn frame_of(slot: u32, words: u32) -> u32
+    requires { IsWordCount words }
+    ensures { result ≡ slot / (4 * words) }
+{
+    frames_before(u64::from(slot), words) as u32
+}
+
 /// How many words a subframe has.
 fn frame_words(frame: Frame) -> u32
     ensures words { result ≡ frame.words }
+    ensures count { IsWordCount result }
     ensures some_words { 0 < result }
     ensures word_limit { result ≤ 1024 }
 {

@@ -15,7 +15,7 @@ use Rattle.fdr_bits.specs.Fields.{with_field}
 use Rattle.fdr_bits.proofs.WordLemmas.{number_of-below, number_of-bit, number_of-same}
 use Rattle.fdr_bits.proofs.FieldLemmas.{with_field_fits}
 use Rattle.fdr_bits.proofs.FieldsApart.{with_field_bit, with_field_other_bit}
-use Rattle.fdr_layout.specs.declared.slots.SlotPart.{SlotPart}
+use Rattle.fdr_layout.specs.SlotParts.{SlotPart}
 use Rattle.fdr_sampler.specs.SlotWord.{piece_of, has_bit, bit_of_part, data_bit, data_of}
 use Rattle.fdr_sampler.proofs.Lists.{All-reverse}
 

@@ -3,6 +3,8 @@ pub mod Holding
 pub mod Indexing
 pub mod DataWords
 pub mod Drawing
+pub mod Superframes
+pub mod EmptyRuns
 pub mod SlotFacts
 pub mod HeldFacts
 pub mod Standing
@@ -11,3 +13,5 @@ pub mod Streaming
 pub mod Packing
 pub mod Exchange
 pub mod StreamWords
+pub mod Earliest
+pub mod Owners

@@ -5,9 +5,8 @@ use Rattle.std.specs.List.{All, Contains, range_with_len, enumerate_from, slice_
 use Rattle.std.proofs.lemmas.Bool.{cases_lt, eq-eqb}
 use Rattle.std.proofs.lemmas.List.Elements.{All-map, All-weaker, filter_passes, All-contains}
 use Rattle.fdr_table.specs.Rows.{TableRows}
-use Rattle.fdr_layout.specs.declared.slots.SlotPart.{SlotPart}
+use Rattle.fdr_layout.specs.SlotParts.{SlotPart, parts_of_sample, parts_among, parts_at, parts_of_slot, parts_in}
 use Rattle.fdr_layout.specs.Samples.{Part, Sample, samples, earliest_of, first_at}
-use Rattle.fdr_layout.specs.SlotParts.{parts_of_sample, parts_among, parts_at, parts_of_slot, parts_in}
 use Rattle.fdr_layout.proofs.Endings.{first_at_low, pieces_hold, all_pieces}
 use Rattle.fdr_layout.proofs.SlotLemmas.{parts_of_slot_hold}
 use Rattle.fdr_sampler.specs.Held.{first_part_slot}

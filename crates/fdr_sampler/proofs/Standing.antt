@@ -13,9 +13,8 @@ use Rattle.std.proofs.Math.Nat.{mod-le, mod-eq_of_lt, mod_self, suc-mod, zero-mo
 use Rattle.std.proofs.lemmas.Option.{slice_get-map, slice_get_within, get_or_from_slice_get}
 use Rattle.fdr_bus.specs.declared.BusRecord.{BusRecord}
 use Rattle.fdr_table.specs.Rows.{FrameRow, ParamRow, TableRows}
-use Rattle.fdr_layout.specs.declared.slots.SlotPart.{SlotPart}
+use Rattle.fdr_layout.specs.SlotParts.{SlotPart, Laid, laid_of, parts_among, parts_in}
 use Rattle.fdr_layout.specs.Samples.{Sample, samples, first_at}
-use Rattle.fdr_layout.specs.SlotParts.{Laid, laid_of, parts_among, parts_in}
 use Rattle.fdr_layout.proofs.Endings.{samples_params}
 use Rattle.fdr_sampler.specs.Held.{Source, source_of, is_from, counts_for, held_record, raw_of_record, raw_value, first_part_slot}
 use Rattle.fdr_sampler.specs.SlotWord.{numbered_value, slot_within, start_of, data_of, data_word, word_with, slot_word}

@@ -1,13 +1,12 @@
 -- What is kept of a table and of the records that were given.
 use Rattle.std.specs.Prelude.{ℕ, ◌≡◌, ◌<◌, ◌≤◌, ◌*◌, ◌==◌, if◌then◌else◌, List, [], length, map, replicate, slice_get, slice_index}
-use Rattle.std.specs.List.{All, slice_index_or}
+use Rattle.std.specs.List.{All, enumerate_from, flat_map, range_with_len, slice_index_or}
 use Rattle.std.specs.Option.{option_map_or}
 use Rattle.fdr_bus.specs.declared.BusRecord.{BusRecord}
 use Rattle.fdr_bus.specs.Words.{bits_at}
 use Rattle.fdr_table.specs.Rows.{FrameRow, ParamRow}
-use Rattle.fdr_layout.specs.declared.slots.SlotPart.{SlotPart}
 use Rattle.fdr_layout.specs.Samples.{Sample}
-use Rattle.fdr_layout.specs.SlotParts.{Laid}
+use Rattle.fdr_layout.specs.SlotParts.{SlotPart, Laid}
 use Rattle.fdr_sampler.specs.Held.{Source, source_of, is_from, first_part_slot}
 use Rattle.fdr_sampler.specs.SlotWord.{data_of}
 
@@ -15,12 +14,13 @@ use Rattle.fdr_sampler.specs.SlotWord.{data_of}
 abbrev pub most_word_slots : ℕ
 most_word_slots = 1474560000
 
--- The table's frame, where its parameters come from and where their samples stand; the raw number of each parameter that
+-- The table's frame, where its parameters come from and where their samples stand; the parameter of each sample; the raw number of each parameter that
 -- is held at the next slot; the raw value that each sample was begun with; and how many slots were drawn.
 pub record SamplerKept : Type 0 where
   pub frame : FrameRow
   pub sources : List Source
   pub laid : Laid
+  pub owners : List ℕ
   pub held : List ℕ
   pub raws : List ℕ
   pub drawn : ℕ
@@ -29,6 +29,7 @@ pub record SamplerKept : Type 0 where
 pub record IsSamplerKept (k : SamplerKept) : Type 0 where
   pub slots : length k.laid.slots ≡ 64 * k.frame.words
   pub params : All (λ (s : Sample). s.param < length k.sources) k.laid.samples
+  pub owners : k.owners ≡ map (λ (s : Sample). s.param) k.laid.samples
   pub held : length k.held ≡ length k.sources
   pub raws : length k.raws ≡ length k.laid.samples
   pub drawn : k.drawn ≤ most_word_slots
@@ -58,12 +59,17 @@ pub record IsDrawn (value : ℕ → ℕ) (parts : List SlotPart) (before after :
   pub kept : (n : ℕ) → slice_index before n ≡ value n → slice_index after n ≡ value n
   pub taken : All (λ (a : SlotPart). slice_index after a.sample ≡ value a.sample) parts
 
+-- the parameter of each sample of a superframe: as often as the parameter's rate says
+unfoldable pub owners_of : List ParamRow → List ℕ
+owners_of params = flat_map (λ (e : ℕ × ParamRow). map (λ _. e.0) (range_with_len 0 e.1.rate)) (enumerate_from 0 params)
+
 -- what is kept at the start of a recording
 abbrev pub sampler_at_start : FrameRow → List ParamRow → Laid → SamplerKept
 sampler_at_start frame params l = record {
   frame = frame;
   sources = map source_of params;
   laid = l;
+  owners = map (λ (s : Sample). s.param) l.samples;
   held = replicate (length params) 0;
   raws = replicate (length l.samples) 0;
   drawn = 0;

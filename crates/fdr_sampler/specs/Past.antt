@@ -26,6 +26,9 @@ sampler_with_record past r = record past { records = past.records ++ r ∷ [] }
 abbrev pub sampler_with_word : SamplerPast → SamplerPast
 sampler_with_word past = record past { drawn = past.drawn + 1 }
 
+abbrev pub sampler_with_words : SamplerPast → ℕ → SamplerPast
+sampler_with_words past n = record past { drawn = past.drawn + n }
+
 -- The record may come next: it is a bus word, its time is in order, no slot is due at it, and the record counts for none
 -- of the slots that were drawn.
 pub record MayTake (past : SamplerPast) (r : BusRecord) : Type 0 where

@@ -6,9 +6,8 @@ use Rattle.fdr_bus.specs.declared.BusRecord.{BusRecord}
 use Rattle.fdr_frame.specs.declared.SlotKind.TheVariants.{Sync, Counter, Plain}
 use Rattle.fdr_frame.specs.Slots.{frame_of, subframe_of, sync_word, kind_of}
 use Rattle.fdr_table.specs.Rows.{FrameRow, TableRows}
-use Rattle.fdr_layout.specs.declared.slots.SlotPart.{SlotPart}
+use Rattle.fdr_layout.specs.SlotParts.{SlotPart, parts_in}
 use Rattle.fdr_layout.specs.Samples.{Part, samples}
-use Rattle.fdr_layout.specs.SlotParts.{parts_in}
 use Rattle.fdr_sampler.specs.Held.{raw_value}
 
 -- the raw value of the sample with this number, in the superframe that begins at slot `start`

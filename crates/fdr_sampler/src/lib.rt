@@ -6,6 +6,7 @@
 //! counts only among words of one bus and label.
 #![tactic(auto)]
 
+mod empty;
 mod index;
 mod law;
 mod pieces;

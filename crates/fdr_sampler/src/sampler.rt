@@ -1,17 +1,24 @@
 //! The sampler.
 
-ghost use Rattle.std.specs.Prelude.{◌≡◌, ◌<◌, ◌≤◌, ◌*◌, ◌↔◌, All, IsTrue, IfOk, length, replicate};
+ghost use Rattle.std.specs.Prelude.{◌≡◌, ◌<◌, ◌≤◌, ◌+◌, ◌-◌, ◌*◌, ◌^◌, ◌++◌, ◌↔◌, ℕ, All, IsTrue, IfOk, OnOk, length, map, replicate};
+ghost use Rattle.std.specs.List.{range_with_len};
 ghost use Rattle.fdr_bus.specs.Records.{last_time};
 ghost use Rattle.fdr_sampler.specs.SlotWord.{slot_word, slot_within, word_with};
+ghost use Rattle.fdr_layout.specs.Samples.{Sample};
 ghost use Rattle.fdr_layout.specs.SlotParts.{laid_of};
-ghost use Rattle.fdr_sampler.specs.Kept.{sampler_at_start, most_word_slots};
-ghost use Rattle.fdr_sampler.specs.Past.{SamplerPast, sampler_made, sampler_with_record, sampler_with_word, MayTake, RepresentsSampler};
+ghost use Rattle.fdr_sampler.specs.Held.{first_part_slot};
+ghost use Rattle.fdr_sampler.specs.Kept.{sampler_at_start, most_word_slots, owners_of};
+ghost use Rattle.fdr_sampler.specs.Past.{SamplerPast, sampler_made, sampler_with_record, sampler_with_word, sampler_with_words, MayTake, RepresentsSampler};
+ghost use Rattle.fdr_sampler.specs.Stream.{slot_count};
 
+use crate::empty::empty_runs;
 use crate::index::Sources;
-use crate::pieces::data_word;
+use crate::pieces::{data_word, first_slots};
 use fdr_bus::BusRecord;
 use fdr_check::Sound;
-use fdr_frame::{SYNC, SlotKind, counter_of, slot_kind, subframe_of};
+use fdr_frame::{
+    SYNC, SlotKind, counter_of, frame_words_before, frames_before, slot_kind, subframe_of,
+};
 use fdr_layout::Layout;
 use fdr_table::{Frame, NoMemory, Param};
 use std::alloc::Global;
@@ -23,6 +30,11 @@ pub struct Sampler {
     frame: Frame,
     sources: Sources,
     layout: Layout,
+    // Of each sample the index of its parameter, and the slot of its earliest part.
+    owners: Vec<u32>,
+    firsts: Vec<u32>,
+    // How many empty slots follow one another from each slot on.
+    empty_runs: Vec<u32>,
     held: Vec<u32>,
     raws: Vec<u32>,
     drawn: u64,
@@ -33,11 +45,11 @@ impl Model for Sampler {
 
     ghost Value = { SamplerKept };
 
-    ghost use Rattle.fdr_sampler.specs.View.{sampler_kept};
+    ghost use Rattle.fdr_sampler.specs.View.{sampler_kept, IsScheduled};
 
     ghost view = { sampler_kept };
 
-    ghost invariant = { λ s. IsSamplerKept (sampler_kept s) };
+    ghost invariant = { λ s. IsSamplerKept (sampler_kept s) × IsScheduled s };
 }
 
 impl Sampler {
@@ -46,6 +58,7 @@ impl Sampler {
         requires { layout ≡ laid_of sound.now }
         ensures { IfOk result (λ s. RepresentsSampler s (sampler_made sound.now)) }
     {
+        sound.holds();
         let table = sound.table();
         Sampler::with_layout(alloc, table.frame(), table.params(), layout)
     }
@@ -57,6 +70,15 @@ impl Sampler {
             IsTrue result ↔ (past.drawn * 1000000 < time * past.table.frame.words) }
     {
         self.drawn * 1_000_000 < time * u64::from(self.frame.words)
+    }
+
+    /// How many slots come before this time, in microseconds from the start, and weren't drawn. Takes no memory.
+    pub fn count_due(&self, time: u64) -> u64
+        requires { time ≤ last_time }
+        ensures { (past : SamplerPast) → RepresentsSampler self.now past → result ≡ slot_count past.table.frame.words time - past.drawn }
+    {
+        let before = (time * u64::from(self.frame.words) + 999_999) / 1_000_000;
+        before.saturating_sub(self.drawn)
     }
 
     /// Takes the next bus word. All slots before its time must have been drawn, and no others. Takes no memory.
@@ -76,10 +98,32 @@ impl Sampler {
     {
         let frame = self.frame;
         let slot = slot_within(frame, self.drawn);
-        let plain = data_word(&self.layout, slot, &self.held, &mut self.raws);
+        let plain = data_word(
+            &self.layout,
+            &self.owners,
+            &self.firsts,
+            slot,
+            &self.held,
+            &mut self.raws,
+        );
         let word = word_with(frame, self.drawn, plain);
         self.drawn += 1;
         word
+    }
+
+    /// Draws slots that have no part, no sync word and no counter, as long as they come next, and at most so many. Their
+    /// words are 0. Answers how many it drew. Takes no memory.
+    pub fn draw_empty(&mut self, most: u32) -> u32
+        requires { (past : SamplerPast) × RepresentsSampler self.old past × (past.drawn + most ≤ most_word_slots) }
+        ensures most { result ≤ most }
+        ensures zeros { (past : SamplerPast) → RepresentsSampler self.old past
+            → (k : ℕ) → k < result → slot_word past.table past.records (past.drawn + k) ≡ 0 }
+        ensures stands { (past : SamplerPast) → RepresentsSampler self.old past → RepresentsSampler self.new (sampler_with_words past result) }
+    {
+        let slot = slot_within(self.frame, self.drawn);
+        let count = self.empty_runs[slot as usize].min(most);
+        self.drawn += u64::from(count);
+        count
     }
 
     fn with_layout(
@@ -89,16 +133,24 @@ impl Sampler {
         layout: Layout,
     ) -> Result<Sampler, NoMemory>
         requires slots { length layout.slots ≡ 64 * frame.words }
+        requires few { length params.now < 2 ^ 32 }
+        requires owners { owners_of params.now ≡ map (λ (s : Sample). s.param) layout.samples }
         requires params { All (λ s. s.param < length params.now) layout.samples }
         ensures { IfOk result (λ s. s ≡ sampler_at_start frame params.now layout) }
     {
         let sources = Sources::of(alloc, params)?;
+        let owners = owners_of(alloc, params)?;
+        let firsts = first_slots(alloc, &layout)?;
+        let empty_runs = empty_runs(alloc, frame, &layout)?;
         let held = zeros(alloc, params.len())?;
         let raws = zeros(alloc, layout.samples() as usize)?;
         Ok(Sampler {
             frame,
             sources,
             layout,
+            owners,
+            firsts,
+            empty_runs,
             held,
             raws,
             drawn: 0,
@@ -106,19 +158,44 @@ impl Sampler {
     }
 }
 
+/// Adds the parameter with this index once for each of its samples.
+fn add_owner(owners: &mut Vec<u32>, param: u32, rate: u32) -> Result<(), NoMemory>
+    ensures { OnOk result (owners.new.items ≡ owners.old.items ++ map (λ _. param) (range_with_len 0 rate)) }
+{
+    for _index in 0..rate {
+        if owners.push(param).is_err() {
+            return Err(NoMemory);
+        }
+    }
+    Ok(())
+}
+
+/// The index of the parameter of each sample of a superframe, by the sample's number.
+fn owners_of(alloc: Global, params: &[Param]) -> Result<Vec<u32>, NoMemory>
+    requires { length params.now < 2 ^ 32 }
+    ensures { IfOk result (λ v. v.items ≡ owners_of params.now) }
+{
+    let mut owners = Vec::new(alloc);
+    for (index, param) in params.iter().enumerate() {
+        add_owner(&mut owners, index as u32, param.rate)?;
+    }
+    Ok(owners)
+}
+
 /// So many zeros.
-fn zeros(alloc: Global, count: usize) -> Result<Vec<u32>, NoMemory>
+pub(crate) fn zeros(alloc: Global, count: usize) -> Result<Vec<u32>, NoMemory>
     ensures { IfOk result (λ v. v.items ≡ replicate count 0) }
 {
     vec![in alloc; 0; count].map_err(|_| NoMemory)
 }
 
-/// Which slot of its superframe slot `k` is.
+/// Which slot of its superframe slot `k` is. A frame has four subframes, and a superframe 16 frames.
 fn slot_within(frame: Frame, k: u64) -> u32
     ensures slot { result ≡ slot_within frame.words k }
     ensures below { result < 64 * frame.words }
 {
-    (k % (64 * u64::from(frame.words))) as u32
+    let cycle = (frames_before(k, frame.words) % 16) as u32;
+    4 * frame.words * cycle + frame_words_before(k, frame.words) as u32
 }
 
 /// The word of slot `k`, where this would be its word of data.

@@ -1,13 +1,12 @@
 //! Where the parameters come from.
 
-ghost use Rattle.std.specs.Prelude.{◌≡◌, IfOk, map, true};
+ghost use Rattle.std.specs.Prelude.{◌≡◌, ◌<◌, ◌+◌, ◌*◌, IfOk, map, true};
 ghost use Rattle.fdr_bus.specs.declared.RecordKind.TheVariants.{Word};
 ghost use Rattle.fdr_bus.specs.Words.{bits_at, is_odd, label_of};
 ghost use Rattle.fdr_sampler.specs.Held.{Source, source_of, is_from};
-ghost use Rattle.fdr_sampler.specs.Index.{entry_of};
+ghost use Rattle.fdr_sampler.specs.Index.{bus_labels, place_of};
 ghost use Rattle.fdr_sampler.specs.Kept.{number_held_after};
 
-use crate::index::Entry;
 use fdr_bus::{BusRecord, field, sdi};
 use fdr_table::{NoMemory, Param};
 use std::alloc::Global;
@@ -84,16 +83,21 @@ impl Source {
         }
     }
 
-    /// The entry of the source with this number.
-    pub(crate) fn entry(&self, number: usize) -> Entry
-        ensures { result ≡ entry_of (number, self.now) }
+    /// Where the source stands in the order of buses and labels.
+    pub(crate) fn place(&self) -> u32
+        ensures value { result ≡ place_of self.now }
+        ensures within { result < bus_labels }
     {
-        Entry {
-            bus: self.bus,
-            label: self.label,
-            source: number,
-        }
+        place(self.bus, self.label)
     }
+}
+
+/// Where the words of a bus with a label stand in the order of buses and labels.
+pub(crate) fn place(bus: u8, label: u8) -> u32
+    ensures value { result ≡ bus * 256 + label }
+    ensures within { result < bus_labels }
+{
+    u32::from(bus) * 256 + u32::from(label)
 }
 
 /// The sources of the parameters, in their order.

@@ -3,3 +3,4 @@ pub mod Drawn
 pub mod Standing
 pub mod Buffers
 pub mod Later
+pub mod Zeros

@@ -1,11 +1,11 @@
 //! The stream.
 
-ghost use Rattle.std.specs.Prelude.{◌≡◌, ◌<◌, ◌≤◌, ◌+◌, ◌-◌, ◌*◌, ◌^◌, ◌↔◌, false, [], ◌∷◌, ◌++◌, None, length, min, take, drop, IfOk, IsTrue};
+ghost use Rattle.std.specs.Prelude.{◌≡◌, ◌<◌, ◌≤◌, ◌+◌, ◌-◌, ◌*◌, ◌/◌, ◌^◌, ◌↔◌, false, [], ◌∷◌, ◌++◌, None, length, min, replicate, take, drop, IfOk, IsTrue};
 ghost use Rattle.fdr_bus.specs.Records.{has_end, last_time};
 ghost use Rattle.fdr_sampler.specs.Kept.{most_word_slots};
 ghost use Rattle.fdr_sampler.specs.Stream.{slot_count, stream_of};
 ghost use Rattle.fdr_stream.specs.Blocks.{cut_block, blocks_of, due_blocks};
-ghost use Rattle.fdr_stream.specs.Kept.{stream_at_start, padded, with_packed_word};
+ghost use Rattle.fdr_stream.specs.Kept.{stream_at_start, padded, with_packed_word, with_packed_zeros};
 ghost use Rattle.fdr_stream.specs.Past.{StreamPast, stream_made, with_block, stream_with_record, HasFinished, MayFeedStream, RepresentsStream, IsPacked, IsSampled, IsDrawing};
 
 use circular_buffer::HeapCircularBuffer;
@@ -17,6 +17,12 @@ use fdr_sampler::Sampler;
 use fdr_table::NoMemory;
 use std::alloc::Global;
 use std::marker::Model;
+
+/// How many pairs of words that are 0 are packed at a time, at most.
+const ZERO_PAIRS: usize = 128;
+
+/// The bytes of these pairs.
+const ZEROS: [u8; 3 * ZERO_PAIRS] = [0; 3 * ZERO_PAIRS];
 
 /// What a feed did.
 #[derive(Clone, Copy, Debug, PartialEq, Eq)]
@@ -117,7 +123,7 @@ impl Stream {
         requires high { payload ≤ 4096 }
         ensures { IfOk result (λ s. s ≡ stream_at_start sampler payload) }
     {
-        let bytes = HeapCircularBuffer::with_capacity(alloc, payload + 1).map_err(|_| NoMemory)?;
+        let bytes = room_for_bytes(alloc, payload + 1)?;
         Ok(Stream {
             sampler,
             payload,
@@ -139,7 +145,49 @@ impl Stream {
     {
         while !self.is_full() && self.sampler.due(time) {
             self.draw_word();
+            self.draw_empty(time);
         }
+    }
+
+    /// Draws those slots without any data that come next and before this time, up to the first that makes a block whole.
+    fn draw_empty(&mut self, time: u64)
+        requires past { (past : StreamPast) × IsDrawing self.old past time }
+        requires in_time { time ≤ last_time }
+        requires room { length self.old.bytes ≤ self.old.payload + 1 }
+        ensures draws { (past : StreamPast) → IsDrawing self.old past time → IsDrawing self.new past time }
+        ensures on { self.old.sampler.drawn ≤ self.new.sampler.drawn }
+        ensures payload { self.new.payload ≡ self.old.payload }
+        ensures filled { length self.old.bytes ≤ length self.new.bytes }
+        ensures within_room { length self.new.bytes ≤ self.new.payload + 1 }
+    {
+        if self.odd.is_none() {
+            let pairs = (self.payload.saturating_sub(self.bytes.len()) / 3).min(ZERO_PAIRS);
+            let most = self.sampler.count_due(time).min(2 * pairs as u64);
+            let count = self.sampler.draw_empty(most as u32);
+            self.pack_zeros(count);
+        }
+    }
+
+    /// Packs so many words that are 0.
+    fn pack_zeros(&mut self, count: u32)
+        requires paired { self.old.odd ≡ None }
+        requires few { count ≤ 2 * 128 }
+        requires room { length self.old.bytes + 3 * count / 2 ≤ self.old.payload + 1 }
+        ensures { self.new ≡ with_packed_zeros self.old count }
+    {
+        self.fill_zeros(3 * count / 2);
+        if count % 2 == 1 {
+            self.odd = Some(0);
+        }
+    }
+
+    /// Puts so many bytes that are 0 behind those that wait.
+    fn fill_zeros(&mut self, count: u32)
+        requires few { count ≤ 3 * 128 }
+        requires room { length self.old.bytes + count ≤ self.old.payload + 1 }
+        ensures { self.new ≡ record self.old { bytes = self.old.bytes ++ replicate count 0 } }
+    {
+        self.bytes.fill_from_slice(&ZEROS[..count as usize]);
     }
 
     /// Draws the word of the next slot.
@@ -221,6 +269,15 @@ impl Stream {
             RecordKind::End => {}
         }
     }
+}
+
+/// Room for so many bytes.
+fn room_for_bytes(alloc: Global, count: usize) -> Result<HeapCircularBuffer<u8>, NoMemory>
+    requires { 0 < count }
+    ensures none { IfOk result (λ b. b.items ≡ []) }
+    ensures room { IfOk result (λ b. b.capacity ≡ count) }
+{
+    HeapCircularBuffer::with_capacity(alloc, count).map_err(|_| NoMemory)
 }
 
 #[cfg(test)]

@@ -1,4 +1,4 @@
-ghost use Rattle.std.specs.Prelude.{◌≡◌, ◌↔◌, IsTrue, IsSome, IfSome, ◌≤◌, length};
+ghost use Rattle.std.specs.Prelude.{◌≡◌, ◌↔◌, IsTrue, IsSome, IfSome, ◌≤◌, length, take};
 ghost use Rattle.std.specs.List.{list_all};
 ghost use Rattle.fdr_table.specs.Bounds.{most_name_bytes};
 ghost use Rattle.fdr_table.specs.Fields.{is_name, is_name_byte};
@@ -47,6 +47,16 @@ impl Name {
         ensures name_limit { length result.now ≤ most_name_bytes }
     {
         &self.bytes[..self.len]
+    }
+
+    /// The name's bytes with others behind them, and how many are its own. A copy of all sixteen, whose number the compiler
+    /// knows, is faster than one of as many as the name has.
+    pub fn padded(&self) -> (&[u8; 16], usize)
+        ensures bytes { take result.1 result.0.now ≡ self.now }
+        ensures length { length self.now ≡ result.1 }
+        ensures name_limit { result.1 ≤ most_name_bytes }
+    {
+        (&self.bytes, self.len)
     }
 
     /// A copy of the name.

@@ -1,5 +1,5 @@
 -- What a drill leaves and answers.
-use Rattle.std.proofs.Common.{◌≡◌, ◌≢◌, ◌⊎◌, ⊎_elim, inl, inr, ℕ, ◌+◌, ◌≤◌, List, [], length, Option, ap, sym, refl, ◌∙◌, subst, take, arith}
+use Rattle.std.proofs.Common.{◌≡◌, ◌≢◌, ◌⊎◌, ⊎_elim, inl, inr, ℕ, ◌+◌, ◌<◌, ◌≤◌, List, [], length, Option, ap, sym, refl, ◌∙◌, subst, take, arith}
 use Rattle.std.specs.Prelude.{IsTrue}
 use Rattle.fdr_io.specs.Told.{followed_by}
 use Rattle.fdr_io.specs.declared.Input.TheVariants as input
@@ -246,3 +246,20 @@ pub begun_generator : (t : TableRows) (seed frames : ℕ) (g : GeneratorKept) (s
 begun_generator t seed frames g s same stands few =
     subst (λ (x : RecordSource). RepresentsSupply (drawn_trace t seed frames) x [] []) (sym same)
     (record { stands = stands; first = refl; unended = refl; within = few; unpulled = refl })
+
+-- ---- one stretch of calls after another
+
+pub lines_then : (a b c : State) → KeepsLineAndFaults a b → KeepsLineAndFaults b c → KeepsLineAndFaults a c
+lines_then a b c first next = record {
+  line = next.line ∙ first.line;
+  taken = next.taken ∙ first.taken;
+  before = next.before ∙ first.before;
+  faults = next.faults ∙ first.faults;
+}
+
+pub learns_then : (tells : Tells) (a b c d : State) → LearnsExtent tells a b → LearnsExtent tells b c → d.extent ≡ c.extent → LearnsExtent tells a d
+learns_then tells a b c d first next same = record {
+  bytes = λ told. same ∙ next.bytes told ∙ first.bytes told;
+  stops = λ told. same ∙ next.stops told ∙ first.stops told;
+  known = λ some. same ∙ next.known (subst (λ n. 0 < n) (sym (first.known some)) some) ∙ first.known some;
+}

@@ -19,7 +19,7 @@ use Rattle.fdr_recover.specs.declared.error.RingFault.TheVariants as ring
 use Rattle.fdr_table.specs.Rows.{TableRows}
 use Rattle.fdr_readout.specs.Listing.{listing_of}
 use Rattle.fdr_recorder.specs.Starting.{IsFor}
-use Rattle.fdr_words.specs.Forms.{list_image}
+use Rattle.fdr_words.specs.Forms.{drill_image, list_image}
 use Rattle.fdr_top.specs.Answers.{EndsBeforeDeck, IsOfTable, IsOwn, IsPastTable, MayAnswer, WritesNothing}
 use Rattle.fdr_top.specs.Leaves.{Causes, LeavesUnused}
 use Rattle.fdr_top.specs.List.{KeepsShut, ListsImage}
@@ -133,6 +133,25 @@ of_blocks_begun answer of nothing = ⊎_elim
     (λ (rest : (answer ≡ outcome.WriteFault) ⊎ (answer ≡ outcome.DiskFault)). ⊎_elim
     (λ (x : answer ≡ outcome.WriteFault). absurd (rw x at nothing))
     (λ (x : answer ≡ outcome.DiskFault). absurd (rw x at nothing))
+    rest)
+    of
+
+-- they are answers of the commands that read the blocks
+pub of_blocks_list : (path image : List ℕ) (answer : Outcome) → IsOfBlocks answer → IsOwn (list_image path image) answer
+of_blocks_list path image answer of = ⊎_elim
+    (λ (x : answer ≡ outcome.Done). rw x tt)
+    (λ (rest : (answer ≡ outcome.WriteFault) ⊎ (answer ≡ outcome.DiskFault)). ⊎_elim
+    (λ (x : answer ≡ outcome.WriteFault). rw x tt)
+    (λ (x : answer ≡ outcome.DiskFault). rw x tt)
+    rest)
+    of
+
+pub of_blocks_drill : (path image : List ℕ) (seed frames : ℕ) (answer : Outcome) → IsOfBlocks answer → IsOwn (drill_image path image seed frames) answer
+of_blocks_drill path image seed frames answer of = ⊎_elim
+    (λ (x : answer ≡ outcome.Done). rw x tt)
+    (λ (rest : (answer ≡ outcome.WriteFault) ⊎ (answer ≡ outcome.DiskFault)). ⊎_elim
+    (λ (x : answer ≡ outcome.WriteFault). rw x tt)
+    (λ (x : answer ≡ outcome.DiskFault). rw x tt)
     rest)
     of
 

@@ -7,6 +7,7 @@ use Rattle.std.specs.List.{flat_map}
 use Rattle.std.proofs.lemmas.Bool.{cases_lt}
 use Rattle.std.proofs.lemmas.List.{take_all, take-take, take-append-drop, length-take}
 use Rattle.std.proofs.Math.Seq.{take-append-add, take-append_seam}
+use Rattle.fdr_io.specs.declared.Input.TheVariants as input
 use Rattle.fdr_io.specs.Output.{Emits, EmitsPart}
 use Rattle.fdr_io.specs.Told.{followed_by}
 use Rattle.fdr_io.proofs.Telling.{followed_by-followed_by, followed_by-nil}
@@ -23,6 +24,8 @@ use Rattle.fdr_readout.specs.Taken.{HasTaken, WritesLines}
 use Rattle.fdr_readout.proofs.EntryLemmas.{lines_of_entries}
 use Rattle.fdr_readout.proofs.Taking.{decided_first, lines_of_taken, nothing_decided}
 use Rattle.fdr_top.specs.Limits.{most_line_bytes, piece_bytes}
+use Rattle.fdr_words.specs.Forms.{list_bits}
+use Rattle.fdr_top.specs.Answers.{IsOwn}
 use Rattle.fdr_top.specs.Listbits.{EndsLine, HasWrittenDecided, Lists, PullsPieces, WritesPart, answer_of}
 use Rattle.fdr_top.specs.declared.pulling.LineEnd.{LineEnd}
 use Rattle.fdr_top.specs.declared.pulling.LineEnd.TheVariants as line_end
@@ -274,6 +277,22 @@ lists_part t tells old new start now pulled pieces part in_time = record {
   bounded = pieces.bounded;
   end = λ e. absurd (cc);
 }
+
+-- each end of the line is an answer of the command
+pub end_own : (path : List ℕ) (end : LineEnd) → IsOwn (list_bits path) (answer_of end)
+end_own path line_end.End = tt
+end_own path line_end.Fault = tt
+end_own path line_end.TooLong = tt
+
+pub end_fault : (end : LineEnd) → answer_of end ≡ outcome.ReadFault input.Line → end ≡ line_end.Fault
+end_fault line_end.End e = absurd (cc)
+end_fault line_end.Fault e = refl
+end_fault line_end.TooLong e = absurd (cc)
+
+pub end_not_write : (end : LineEnd) → answer_of end ≡ outcome.WriteFault → ⊥
+end_not_write line_end.End e = cc
+end_not_write line_end.Fault e = cc
+end_not_write line_end.TooLong e = cc
 
 -- no end of the line is want of memory
 pub end_not_memory : (end : LineEnd) → answer_of end ≡ outcome.NoMemory → ⊥

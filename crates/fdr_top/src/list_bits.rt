@@ -19,8 +19,8 @@ use crate::outcome::Outcome;
 use crate::pulling::{LineEnd, list_pieces};
 use fdr_check::Sound;
 use fdr_deck::Deck;
-use fdr_io::{Failed, Input, OutBuffer, Sink, Source};
-use fdr_readout::{EventReader, take_rest};
+use fdr_io::{Failed, Input, Sink, Source};
+use fdr_readout::{EventReader, LineWriter, take_rest};
 use fdr_table::Table;
 use std::alloc::Global;
 
@@ -39,12 +39,12 @@ fn answer_of(end: LineEnd) -> Outcome
 fn write_line<D: Deck, O: Sink>(
     reader: &mut EventReader,
     table: &Table,
-    buffer: &mut OutBuffer,
+    lines: &mut LineWriter,
     deck: &mut D,
     out: &mut O,
 ) -> Result<LineEnd, Failed>
     requires fresh { ReadsEvents table.now reader.old (decided_past table.now.frame.words []) }
-    requires empty { buffer.old ≡ [] }
+    requires empty { lines.old ≡ [] }
     ensures all { IfOk result (λ end. Lists table.now D.tells (D.state deck.old) (D.state deck.new)
         (O.written out.old) (O.written out.new) (answer_of end)) }
     ensures part { OnErr result (Lists table.now D.tells (D.state deck.old) (D.state deck.new)
@@ -55,9 +55,9 @@ fn write_line<D: Deck, O: Sink>(
     ensures told { (D.state deck.new).told ≡ (D.state deck.old).told }
     ensures bounded { (D.state deck.new).taken ≤ (D.state deck.old).taken + most_line_bytes + piece_bytes }
 {
-    let end = list_pieces(reader, table, buffer, deck, out)?;
-    take_rest(reader, table, buffer, out)?;
-    buffer.finish(out)?;
+    let end = list_pieces(reader, table, lines, deck, out)?;
+    take_rest(reader, table, lines, out)?;
+    lines.finish(out)?;
     Ok(end)
 }
 
@@ -83,10 +83,10 @@ pub fn list_line<D: Deck, O: Sink>(
     let Ok(mut reader) = EventReader::new(alloc, sound) else {
         return Outcome::NoMemory;
     };
-    let Ok(mut buffer) = OutBuffer::new(alloc) else {
+    let Ok(mut lines) = LineWriter::new(alloc) else {
         return Outcome::NoMemory;
     };
-    match write_line(&mut reader, sound.table(), &mut buffer, deck, out) {
+    match write_line(&mut reader, sound.table(), &mut lines, deck, out) {
         Ok(end) => answer_of(end),
         Err(Failed) => Outcome::WriteFault,
     }

@@ -29,8 +29,8 @@ use crate::outcome::Outcome;
 use crate::recovering::{MAX_PAYLOAD, refusal};
 use fdr_check::Sound;
 use fdr_deck::Deck;
-use fdr_io::{Failed, OutBuffer, Sink, Source};
-use fdr_readout::{EventReader, Taker, take_piece, take_rest};
+use fdr_io::{Failed, Sink, Source};
+use fdr_readout::{EventReader, LineWriter, Taker, take_piece, take_rest};
 use fdr_recover::{block, scan};
 use fdr_ring::read_image_header;
 use fdr_slot::Header;
@@ -176,13 +176,13 @@ pub fn open_image<D: Deck>(
 /// go out.
 fn list_blocks<D: Deck, O: Sink>(
     reader: &mut ImageReader,
-    buffer: &mut OutBuffer,
+    lines: &mut LineWriter,
     table: &Table,
     deck: &mut D,
     out: &mut O,
 ) -> Outcome
     requires fresh { ReadsEvents table.now reader.old.events (decided_past table.now.frame.words []) }
-    requires empty { buffer.old ≡ [] }
+    requires empty { lines.old ≡ [] }
     requires limits { IsInLimits reader.old.header }
     requires whole { image_size reader.old.header ≤ (D.state deck.old).extent }
     ensures answer { (result ≡ Outcome.Done) ⊎ ((result ≡ Outcome.WriteFault) ⊎ (result ≡ Outcome.DiskFault)) }
@@ -195,13 +195,13 @@ fn list_blocks<D: Deck, O: Sink>(
         → Rose (D.state deck.old).disk_faults (D.state deck.new).disk_faults }
     ensures write_fault { result ≡ Outcome.WriteFault → Rose (O.faults out.old) (O.faults out.new) }
 {
-    match take_blocks(reader, table, deck, buffer, out) {
-        Ok(()) => match buffer.finish(out) {
+    match take_blocks(reader, table, deck, lines, out) {
+        Ok(()) => match lines.finish(out) {
             Ok(()) => Outcome::Done,
             Err(Failed) => Outcome::WriteFault,
         },
         Err(BlocksFault::Disk) => {
-            let _ = buffer.finish(out);
+            let _ = lines.finish(out);
             Outcome::DiskFault
         }
         Err(BlocksFault::Taker) => Outcome::WriteFault,
@@ -223,10 +223,10 @@ fn list_image<D: Deck, O: Sink>(alloc: Global, sound: &Sound, deck: &mut D, out:
         Ok(reader) => reader,
         Err(answer) => return answer,
     };
-    let Ok(mut buffer) = OutBuffer::new(alloc) else {
+    let Ok(mut lines) = LineWriter::new(alloc) else {
         return Outcome::NoMemory;
     };
-    list_blocks(&mut reader, &mut buffer, sound.table(), deck, out)
+    list_blocks(&mut reader, &mut lines, sound.table(), deck, out)
 }
 
 /// `list`: reads a table, and lists the bits of the blocks that the deck's image holds.

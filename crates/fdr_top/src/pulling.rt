@@ -9,8 +9,8 @@ ghost use Rattle.fdr_top.specs.Limits.{most_line_bytes, piece_bytes};
 ghost use Rattle.fdr_top.specs.Listbits.{EndsLine, HasWrittenDecided, PullsPieces, WritesPart};
 
 use fdr_deck::Deck;
-use fdr_io::{Failed, OutBuffer, Sink};
-use fdr_readout::{EventReader, take_piece};
+use fdr_io::{Failed, Sink};
+use fdr_readout::{EventReader, LineWriter, take_piece};
 use fdr_table::Table;
 
 /// The most bytes of a line that are listed.
@@ -35,17 +35,17 @@ pub enum LineEnd {
 pub fn list_pieces<D: Deck, O: Sink>(
     reader: &mut EventReader,
     table: &Table,
-    buffer: &mut OutBuffer,
+    lines: &mut LineWriter,
     deck: &mut D,
     out: &mut O,
 ) -> Result<LineEnd, Failed>
     requires fresh { ReadsEvents table.now reader.old (decided_past table.now.frame.words []) }
-    requires empty { buffer.old ≡ [] }
+    requires empty { lines.old ≡ [] }
     ensures listed { IfOk result (λ end. (pulled : List ℕ) × PullsPieces D.tells (D.state deck.old) (D.state deck.new) pulled
         × EndsLine D.tells (D.state deck.new) pulled end
-        × HasTaken (WritesLines O.written) table.now reader.new (take most_line_bytes pulled) [] out.old buffer.new out.new
+        × HasTaken (WritesLines O.written) table.now reader.new (take most_line_bytes pulled) [] out.old lines.new out.new
         × HasWrittenDecided table.now (D.state deck.old) (D.state deck.new) pulled (O.written out.old) (O.written out.new)) }
-    ensures empty { OnOk result (buffer.new ≡ []) }
+    ensures empty { OnOk result (lines.new ≡ []) }
     ensures part { OnErr result ((pulled : List ℕ) × PullsPieces D.tells (D.state deck.old) (D.state deck.new) pulled
         × WritesPart table.now pulled (O.written out.old) (O.written out.new)
         × HasWrittenDecided table.now (D.state deck.old) (D.state deck.new) pulled (O.written out.old) (O.written out.new)) }
@@ -65,8 +65,8 @@ pub fn list_pieces<D: Deck, O: Sink>(
             Err(Failed) => return Ok(LineEnd::Fault),
         };
         let listed = count.min(left);
-        take_piece(reader, table, &piece[..listed], buffer, out)?;
-        buffer.finish(out)?;
+        take_piece(reader, table, &piece[..listed], lines, out)?;
+        lines.finish(out)?;
         if listed < count {
             return Ok(LineEnd::TooLong);
         }

@@ -46,7 +46,7 @@ impl Recording {
     fn new(alloc: Global, sound: &Sound) -> Result<Recording, NoMemory>
         ensures { IfOk result (λ r. IsUnbegun r sound.now) }
     {
-        let trace = TraceLine::new(alloc).map_err(|_| NoMemory)?;
+        let trace = TraceLine::new(alloc)?;
         let stream = Stream::new(alloc, sound, PAYLOAD as u32)?;
         Ok(Recording { trace, stream })
     }

@@ -3,8 +3,6 @@
 ghost use Rattle.std.specs.Prelude.{◌≤◌, IfOk, length};
 
 use super::*;
-use crate::parts::Part;
-use crate::slots::SlotPart;
 use fdr_check::check;
 use fdr_table::Table;
 use std::test::Fail;
@@ -15,6 +13,10 @@ const TWO_FRAMES: &[u8] =
 
 /// One altitude in every frame, in word 10 of the first subframe.
 const EACH_FRAME: &[u8] = b"F,64,2,1\nP,ALT,0,203,,11,12,U,1,1,0,0,16\nL,ALT,1,1,10,0,1,12,0,1\n";
+
+/// Two parameters of one sample each in one word, the second of them in the lower bits.
+const SHARED_SLOT: &[u8] =
+    b"F,64,2,1\nP,A,0,1,,11,8,U,1,1,0,0,1\nL,A,1,1,10,0,5,8,0,16\nP,B,0,2,,11,4,U,1,1,0,0,1\nL,B,1,1,10,0,1,4,0,16\n";
 
 /// The layout of a table. The shortest superframe has 4,096 word slots.
 fn layout_of(alloc: Global, text: &[u8]) -> Result<Layout, Fail>
@@ -33,41 +35,44 @@ fn layout_of(alloc: Global, text: &[u8]) -> Result<Layout, Fail>
 fn a_sample_ends_in_the_cycle_of_its_last_part(rt: HostRuntime) -> Result<(), Fail> {
     let layout = layout_of(rt.alloc(), TWO_FRAMES)?;
 
-    let samples = layout.ending_in(1);
-    assert_eq!(rt; samples.len(), 2);
-    let altitude = &samples[0];
-    assert_eq!(rt; (altitude.param(), altitude.index()), (1, 1));
-    let part = Part {
-        at: 3180,
-        width: 12,
-        shift: 0,
+    let altitude = Sample {
+        number: 2,
+        param: 1,
+        index: 1,
+        first: 265,
+        last: 265,
     };
-    assert_eq!(rt; altitude.parts(), [part].as_slice());
-    assert_eq!(rt; (altitude.first(), altitude.last()), (3180, 3180));
-    let position = &samples[1];
-    assert_eq!(rt; (position.param(), position.index()), (0, 0));
-    let low = Part {
-        at: 228,
-        width: 12,
-        shift: 0,
+    let position = Sample {
+        number: 0,
+        param: 0,
+        index: 0,
+        first: 19,
+        last: 275,
     };
-    let high = Part {
-        at: 3300,
-        width: 8,
-        shift: 12,
-    };
-    assert_eq!(rt; position.parts(), [low, high].as_slice());
-    assert_eq!(rt; (position.first(), position.last()), (228, 3300));
-
+    assert_eq!(rt; layout.ending_in(1), [altitude, position].as_slice());
     assert_eq!(rt; layout.ending_in(0).len(), 1);
     assert_eq!(rt; layout.ending_in(15).len(), 1);
+    assert_eq!(rt; layout.samples(), 17);
 
-    let begun = SlotPart {
+    let low = Part {
+        slot: 19,
+        lsb: 1,
+        width: 12,
+        shift: 0,
         sample: 0,
-        part: low,
     };
-    assert_eq!(rt; layout.at_slot(19), [begun].as_slice());
-    assert_eq!(rt; layout.at_slot(275).len(), 1);
+    let high = Part {
+        slot: 275,
+        lsb: 1,
+        width: 8,
+        shift: 12,
+        sample: 0,
+    };
+    if 0 < layout.samples() {
+        assert_eq!(rt; layout.parts(0), [low, high].as_slice());
+    }
+    assert_eq!(rt; layout.at_slot(19), [low].as_slice());
+    assert_eq!(rt; layout.at_slot(275), [high].as_slice());
     assert_eq!(rt; layout.at_slot(20).len(), 0);
     Ok(())
 }
@@ -76,16 +81,45 @@ fn a_sample_ends_in_the_cycle_of_its_last_part(rt: HostRuntime) -> Result<(), Fa
 fn a_sample_of_one_part_ends_in_each_cycle(rt: HostRuntime) -> Result<(), Fail> {
     let layout = layout_of(rt.alloc(), EACH_FRAME)?;
     for cycle in 0..16u8 {
-        let samples = layout.ending_in(cycle);
-        assert_eq!(rt; samples.len(), 1);
-        let sample = &samples[0];
-        assert_eq!(rt; (sample.param(), sample.index()), (0, u32::from(cycle)));
+        let slot = 9 + 256 * u32::from(cycle);
+        let sample = Sample {
+            number: u32::from(cycle),
+            param: 0,
+            index: u32::from(cycle),
+            first: slot,
+            last: slot,
+        };
+        assert_eq!(rt; layout.ending_in(cycle), [sample].as_slice());
         let part = Part {
-            at: 108 + 3072 * u32::from(cycle),
+            slot,
+            lsb: 1,
             width: 12,
             shift: 0,
+            sample: u32::from(cycle),
         };
-        assert_eq!(rt; sample.parts(), [part].as_slice());
+        assert_eq!(rt; layout.at_slot(slot), [part].as_slice());
     }
+    Ok(())
+}
+
+/// The parts of a slot come by their lowest bits, whatever the order of their parameters.
+#[test]
+fn parts_of_a_slot_come_by_lowest_bit(rt: HostRuntime) -> Result<(), Fail> {
+    let layout = layout_of(rt.alloc(), SHARED_SLOT)?;
+    let low = Part {
+        slot: 9,
+        lsb: 1,
+        width: 4,
+        shift: 0,
+        sample: 1,
+    };
+    let high = Part {
+        slot: 9,
+        lsb: 5,
+        width: 8,
+        shift: 0,
+        sample: 0,
+    };
+    assert_eq!(rt; layout.at_slot(9), [low, high].as_slice());
     Ok(())
 }

@@ -4,11 +4,11 @@ ghost use Rattle.std.specs.Prelude.{◌≡◌, ◌<◌, ◌≤◌, [], length, A
 ghost use Rattle.fdr_readout.specs.Reading.{ReadsEvents, decided_past};
 
 use super::*;
-use crate::Summary;
+use crate::{LineWriter, Summary};
 use fdr_bits::pack_pair;
 use fdr_check::check;
 use fdr_frame::SYNC;
-use fdr_io::{MemSink, NullSink, OutBuffer};
+use fdr_io::{MemSink, NullSink};
 use std::alloc::Global;
 use std::test::Fail;
 
@@ -80,10 +80,12 @@ fn listing(alloc: Global, bytes: &[u8]) -> Result<Vec<u8>, Fail> {
     let Ok(mut reader) = EventReader::new(alloc, &sound) else {
         return Err("memory")?;
     };
-    let mut buffer = OutBuffer::new(alloc)?;
+    let Ok(mut lines) = LineWriter::new(alloc) else {
+        return Err("memory")?;
+    };
     let mut out = MemSink::new(alloc, Vec::new(alloc));
-    take_all(&mut reader, sound.table(), bytes, &mut buffer, &mut out)?;
-    buffer.finish(&mut out).ok().ok_or("write")?;
+    take_all(&mut reader, sound.table(), bytes, &mut lines, &mut out)?;
+    lines.finish(&mut out).ok().ok_or("write")?;
     Ok(Vec::from_slice(alloc, out.bytes())?)
 }
 

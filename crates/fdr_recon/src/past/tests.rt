@@ -91,8 +91,9 @@ fn lists_an_altitude_of_each_frame(rt: HostRuntime) -> Result<(), Fail> {
 #[test]
 fn scales_a_signed_altitude(rt: HostRuntime) -> Result<(), Fail> {
     for (raw, value) in [(0, 0), (0xfff, -1), (0x800, -1024), (0x7ff, 1023)] {
+        let words = frame_of(0, raw, 0);
         let mut rebuild = rebuild_by(rt.alloc(), HALVES)?;
-        rebuild.frame(false, &frame_of(0, raw, 0));
+        rebuild.frame(false, &words);
         assert_eq!(rt; rebuild.rows(), 1);
         assert_eq!(rt; rebuild.row(0), altitude(0, 0, value), "raw {raw}");
     }
@@ -117,9 +118,11 @@ fn joins_the_parts_of_a_position(rt: HostRuntime) -> Result<(), Fail> {
 #[test]
 fn joins_no_parts_over_a_gap(rt: HostRuntime) -> Result<(), Fail> {
     for (before, adjacent, counter) in [(0, false, 1), (0, true, 17), (2, true, 1)] {
+        let first = frame_of(before, 5, 0xcde);
+        let second = frame_of(counter, 5, 0xab);
         let mut rebuild = rebuild_by(rt.alloc(), POSITION)?;
-        rebuild.frame(false, &frame_of(before, 5, 0xcde));
-        rebuild.frame(adjacent, &frame_of(counter, 5, 0xab));
+        rebuild.frame(false, &first);
+        rebuild.frame(adjacent, &second);
         assert_eq!(rt; rebuild.rows(), 2);
         assert_eq!(rt; rebuild.row(0), altitude(1, counter, 5));
         assert_eq!(rt; rebuild.row(1), None);

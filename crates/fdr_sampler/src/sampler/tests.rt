@@ -69,6 +69,22 @@ fn words_of(alloc: Global, sampler: Sampler, r: &BusRecord, count: usize) -> Res
     Ok(words)
 }
 
+/// The words that aren't empty slots' of a recording of no bus words, with their slots.
+fn drawn_words(alloc: Global, sampler: Sampler, count: u32) -> Result<Vec<(u32, u16)>, Fail>
+    requires stands { (t : TableRows) × RepresentsSampler sampler (sampler_made t) }
+    requires few { count ≤ 4096 }
+{
+    let mut sampler = sampler;
+    let mut words = Vec::new(alloc);
+    let mut slot = 0;
+    while slot < count {
+        words.push((slot, sampler.next_word()))?;
+        slot += 1;
+        slot += sampler.draw_empty(count - slot);
+    }
+    Ok(words)
+}
+
 // The word is of even parity, so it isn't held.
 #[test]
 fn begins_each_subframe_by_its_sync_word(rt: HostRuntime) -> Result<(), Fail> {
@@ -119,5 +135,24 @@ fn takes_a_value_at_its_first_part(rt: HostRuntime) -> Result<(), Fail> {
         assert_eq!(rt; words.get(19).copied(), Some(low), "at {time}");
         assert_eq!(rt; words.get(275).copied(), Some(high), "at {time}");
     }
+    Ok(())
+}
+
+// The parameter's word stands in word 10 of subframe 1, and the counter in word 2.
+#[test]
+fn draws_empty_slots_at_once(rt: HostRuntime) -> Result<(), Fail> {
+    let words = drawn_words(rt.alloc(), sampler_of(rt.alloc(), COUNTER_SECOND)?, 300)?;
+    let wanted = [
+        (0, 0x247),
+        (1, 0),
+        (9, 0),
+        (64, 0x5b8),
+        (128, 0xa47),
+        (192, 0xdb8),
+        (256, 0x247),
+        (257, 1),
+        (265, 0),
+    ];
+    assert_eq!(rt; words.as_slice(), wanted.as_slice());
     Ok(())
 }

@@ -1,38 +1,29 @@
-use Rattle.std.proofs.Common.{◌+◌, subst, sym, ap, arith}
-use Rattle.fdr_table.specs.Rows.{PlaceRow}
-use Rattle.fdr_check.specs.Walks.{IsFirstMarked}
-use Rattle.fdr_check.proofs.Marking.{IsInWord, in_word, ends_within, first_marked_here, first_marked_none, none_marked_next}
+use Rattle.std.proofs.Common.{get_or, sym, arith, refl}
+use Rattle.std.proofs.lemmas.List.{get_or_default}
+use Rattle.fdr_check.proofs.Marking.{slot_inside, lowest_shared, marked_here, no_marked}
 use Rattle.fdr_check.proofs.marks.first_marked.Goals as goal
 
-pub first_marked_bit-requires-clause-within : goal.first_marked_bit-requires-clause-within
-first_marked_bit-requires-clause-within c =
-    let fits : IsInWord c.args.place.now = subst IsInWord c.place.view_is (in_word _ c.place.invariant) in
-    let end = ends_within c.args.words c.args.place.now c.loop-at.from c.in-Some.at fits c.in-Some.ensures.found in
-    let width = ap (λ (p : PlaceRow). p.width) c.place.view_is in
-    omega (arith, end, width, c.requires.length)
+pub bounds-marks-slot : goal.bounds-marks-slot
+bounds-marks-slot c =
+    let inside = slot_inside c.args.words c.args.place.now c.args.slots.now c.loop-slot.slot-index c.requires.slots c.loop-slot-test.true in
+    omega (arith, inside, c.requires.length)
+
+pub overflow_add-result : goal.overflow_add-result
+overflow_add-result c =
+    let slot = get_or c.args.slots.now c.loop-slot.slot-index 0 in
+    let inside = slot_inside c.args.words c.args.place.now c.args.slots.now c.loop-slot.slot-index c.requires.slots c.loop-slot-test.true in
+    let lowest = lowest_shared (get_or c.args.marks.now slot 0) c.bits_of-bits.result c.args.place.now c.bits_of-bits.ensures c.if-shared-ne0.true in
+    omega (arith, inside, c.requires.word_limit, lowest.0)
+
+pub returns-then-shared-ne0 : goal.returns-then-shared-ne0
+returns-then-shared-ne0 c =
+    let slots = c.args.slots.now in
+    let i = c.loop-slot.slot-index in
+    let slot = get_or slots i 0 in
+    sym (marked_here c.args.words c.args.place.now slots c.args.marks.now c.bits_of-bits.result i slot (get_or c.args.marks.now slot 0) _ c.requires.slots
+    c.bits_of-bits.ensures c.loop-slot-test.true (get_or_default slots i 0 slot c.loop-slot-test.true) refl c.loop-slot.invariant c.if-shared-ne0.true refl)
 
 pub returns : goal.returns
 returns c =
-    let fits : IsInWord c.args.place.now = subst IsInWord c.place.view_is (in_word _ c.place.invariant) in
-    sym (first_marked_none c.args.words c.args.place.now c.loop-at.from c.args.marks.now fits c.in_default.ensures.none c.loop-at.invariant.none)
-
-pub returns-in-Some-first_marked_bit : goal.returns-in-Some-first_marked_bit
-returns-in-Some-first_marked_bit c =
-    let fits : IsInWord c.args.place.now = subst IsInWord c.place.view_is (in_word _ c.place.invariant) in
-    let width = ap (λ (p : PlaceRow). p.width) c.place.view_is in
-    let bit = c.in-Some-first_marked_bit.bit in
-    let first : IsFirstMarked c.args.marks.now c.in-Some.at (c.in-Some.at + c.args.place.now.width) bit =
-    subst (λ n. IsFirstMarked c.args.marks.now c.in-Some.at (c.in-Some.at + n) bit) width c.in-Some-first_marked_bit.ensures.found in
-    sym (first_marked_here c.args.words c.args.place.now c.loop-at.from c.in-Some.at bit c.args.marks.now fits c.in-Some.ensures.found c.loop-at.invariant.none
-    first)
-
-pub loop-at-preserved : goal.loop-at-preserved
-loop-at-preserved c =
-    let fits : IsInWord c.args.place.now = subst IsInWord c.place.view_is (in_word _ c.place.invariant) in
-    let width = ap (λ (p : PlaceRow). p.width) c.place.view_is in
-    let next = c.in-Some.ensures.found in
-    record {
-      within = omega (arith, next.within);
-      none = none_marked_next c.args.words c.args.place.now c.loop-at.from c.in-Some.at c.args.marks.now fits next c.loop-at.invariant.none
-          (λ b low high. c.in_default-first_marked_bit.ensures.none b low (omega (arith, width, high)));
-    }
+    sym (no_marked c.args.words c.args.place.now c.args.slots.now c.args.marks.now c.bits_of-bits.result c.loop-slot.slot-index c.requires.slots
+    c.bits_of-bits.ensures c.loop-slot-test.false c.loop-slot.invariant)

@@ -1,14 +1,6 @@
-use Rattle.std.proofs.Common.{◌≡◌, ℕ, ◌-◌, ◌*◌, ◌≤◌, ◌<◌, ◌&&◌, false}
-use Rattle.fdr_check.specs.Soundness.{covers}
-use Rattle.fdr_check.specs.Walks.{is_marked}
-use Rattle.fdr_check.proofs.Marking.{start_of}
+use Rattle.std.proofs.Common.{ℕ, ◌<◌, length, get_or}
+use Rattle.fdr_check.proofs.Marking.{NoneShared}
 use Rattle.fdr_check.proofs.marks.first_marked.Given as goal
 
-abbrev pub invariant-loop-at : goal.invariant-loop-at
-invariant-loop-at l = record {
-  within : l.from ≤ 768 * l.words;
-  none : (b : ℕ) → b < 768 * l.words → start_of l.place b < l.from → (covers l.words l.place b && is_marked l.marks b) ≡ false;
-}
-
-abbrev pub decreases-loop-at : goal.decreases-loop-at
-decreases-loop-at l = 768 * l.words - l.from
+abbrev pub invariant-loop-slot : goal.invariant-loop-slot
+invariant-loop-slot l = (j : ℕ) → j < l.slot-index → j < length l.slots → NoneShared l.marks l.bits (get_or l.slots j 0)

@@ -1,30 +1,34 @@
-use Rattle.std.proofs.Common.{◌≡◌, ◌+◌, ◌&&◌, ◌||◌, nat_le, nat_lt, subst, ap, arith}
-use Rattle.fdr_check.specs.Walks.{is_marked}
-use Rattle.fdr_table.specs.Rows.{PlaceRow}
-use Rattle.fdr_check.proofs.Marking.{IsInWord, in_word, ends_within, marked_next, marked_all}
+use Rattle.std.proofs.Common.{◌<◌, length, get_or, arith, refl, ◌∙◌}
+use Rattle.std.proofs.lemmas.List.{length-set, get_or_default}
+use Rattle.fdr_check.proofs.Marking.{slot_inside, marked_next, marked_all}
 use Rattle.fdr_check.proofs.marks.mark.Goals as goal
 
-pub mark_bits-requires-clause-within : goal.mark_bits-requires-clause-within
-mark_bits-requires-clause-within c =
-    let fits : IsInWord c.args.place.now = subst IsInWord c.place.view_is (in_word _ c.place.invariant) in
-    let end = ends_within c.args.words c.args.place.now c.loop-at.from c.in-Some.at fits c.in-Some.ensures.found in
-    let width = ap (λ (p : PlaceRow). p.width) c.place.view_is in
-    omega (arith, end, width, c.loop-at.invariant.length, c.requires.length)
+pub bounds-marks-slot : goal.bounds-marks-slot
+bounds-marks-slot c =
+    let inside = slot_inside c.args.words c.args.place.now c.args.slots.now c.loop-slot.slot-index c.requires.slots c.loop-slot-test.true in
+    omega (arith, inside, c.loop-slot.invariant.length, c.requires.length)
 
-pub loop-at-preserved : goal.loop-at-preserved
-loop-at-preserved c =
-    let fits : IsInWord c.args.place.now = subst IsInWord c.place.view_is (in_word _ c.place.invariant) in
-    let next = c.in-Some.ensures.found in
-    let width = ap (λ (p : PlaceRow). p.width) c.place.view_is in
+pub bounds-marks-slot-in-loop-slot : goal.bounds-marks-slot-in-loop-slot
+bounds-marks-slot-in-loop-slot c =
+    let inside = slot_inside c.args.words c.args.place.now c.args.slots.now c.loop-slot.slot-index c.requires.slots c.loop-slot-test.true in
+    omega (arith, inside, c.loop-slot.invariant.length, c.requires.length)
+
+pub loop-slot-preserved : goal.loop-slot-preserved
+loop-slot-preserved c =
+    let slots = c.args.slots.now in
+    let i = c.loop-slot.slot-index in
+    let slot = get_or slots i 0 in
+    let old = c.loop-slot.marks in
+    let inside = slot_inside c.args.words c.args.place.now slots i c.requires.slots c.loop-slot-test.true in
+    let within : slot < length old = omega (arith, inside, c.loop-slot.invariant.length, c.requires.length) in
     record {
-      length = omega (arith, c.mark_bits.ensures.length, c.loop-at.invariant.length);
-      within = omega (arith, next.within);
-      marked = λ b below. marked_next c.args.words c.args.place.now c.loop-at.from c.in-Some.at b _ _ _ fits next (c.loop-at.invariant.marked b below)
-          (subst (λ n. is_marked c.mark_bits.new.marks b ≡ (is_marked c.loop-at.marks b || (nat_le c.in-Some.at b && nat_lt b (c.in-Some.at + n)))) width
-          (c.mark_bits.ensures.marked b));
+      length = length-set old slot _ ∙ c.loop-slot.invariant.length;
+      marked = λ b. marked_next c.args.place.now slots i slot c.bits_of-bits.result (get_or old slot 0) old _ b _ c.bits_of-bits.ensures c.loop-slot-test.true
+          (get_or_default slots i 0 slot c.loop-slot-test.true) within (get_or_default old slot 0 (get_or old slot 0) within) refl
+          (c.loop-slot.invariant.marked b);
     }
 
 pub returns-clause-marked : goal.returns-clause-marked
 returns-clause-marked c =
-    let fits : IsInWord c.args.place.now = subst IsInWord c.place.view_is (in_word _ c.place.invariant) in
-    λ b below. marked_all c.args.words c.args.place.now c.loop-at.from b _ _ fits c.in_default.ensures.none below (c.loop-at.invariant.marked b below)
+    λ b below. marked_all c.args.words c.args.place.now c.args.slots.now c.loop-slot.slot-index b _ _ c.requires.slots c.loop-slot-test.false below
+    (c.loop-slot.invariant.marked b)

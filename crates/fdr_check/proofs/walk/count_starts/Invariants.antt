@@ -1,14 +1,14 @@
-use Rattle.std.proofs.Common.{◌≡◌, ◌-◌, ◌*◌, ◌≤◌, count_by}
-use Rattle.std.specs.List.{range_with_len}
-use Rattle.fdr_check.specs.Occurrences.{begins_at}
+use Rattle.std.proofs.Common.{◌≡◌, ◌-◌, ◌*◌, ◌%◌, ◌≤◌, length}
+use Rattle.fdr_check.proofs.Walking.{frames_before}
 use Rattle.fdr_check.proofs.walk.count_starts.Given as goal
 
-abbrev pub invariant-loop-at : goal.invariant-loop-at
-invariant-loop-at l = record {
-  so_far : l.count ≡ count_by (λ x. begins_at l.words x l.place) (range_with_len 0 l.from);
-  within : l.from ≤ 768 * l.words;
-  few : l.count ≤ l.from;
+abbrev pub invariant-loop-frame : goal.invariant-loop-frame
+invariant-loop-frame l = record {
+  mine : l.frame % l.place.period ≡ l.place.cycle;
+  near : l.frame ≤ 32;
+  few : l.count ≤ 4096 * l.frame;
+  so_far : l.count ≡ length (frames_before l.words l.place l.frame);
 }
 
-abbrev pub decreases-loop-at : goal.decreases-loop-at
-decreases-loop-at l = 768 * l.words - l.from
+abbrev pub decreases-loop-frame : goal.decreases-loop-frame
+decreases-loop-frame l = 16 - l.frame

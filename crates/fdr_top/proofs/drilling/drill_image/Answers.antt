@@ -1,9 +1,10 @@
-use Rattle.std.proofs.Common.{ap, refl, arith}
+use Rattle.std.proofs.Common.{ap, refl, inr, ⊎_elim, arith}
 use Rattle.fdr_top.specs.Supply.{drawn_trace}
 use Rattle.fdr_top.specs.declared.outcome.Outcome.TheVariants as outcome
-use Rattle.fdr_top.proofs.Drilled.{begun_generator, drill_cut, drill_shut, drill_told}
-use Rattle.fdr_top.proofs.ListedImages.{of_blocks_begun}
+use Rattle.fdr_top.proofs.Drilled.{begun_generator, drill_cut, drill_shut, drill_told, learns_then, lines_then}
+use Rattle.fdr_top.proofs.ListedImages.{of_blocks_begun, of_blocks_drill}
 use Rattle.fdr_top.proofs.RecordLines.{refuses_nothing}
+use Rattle.fdr_top.proofs.SessionEnds.{keeps_line, keeps_line_then}
 use Rattle.fdr_top.proofs.drilling.drill_image.Goals as goal
 
 pub returns-in-Err-clause-drills : goal.returns-in-Err-clause-drills
@@ -50,3 +51,30 @@ returns-in-Err-record_source-clause-drills g c =
 
 pub returns-clause-untouched : goal.returns-clause-untouched
 returns-clause-untouched g c = λ nothing. absurd (of_blocks_begun c.write_summary.result c.write_summary.ensures.answer nothing)
+
+pub returns-clause-answer : goal.returns-clause-answer
+returns-clause-answer g c = λ path image.
+    inr (of_blocks_drill path image c.args.seed c.args.frames c.write_summary.result c.write_summary.ensures.answer)
+
+pub returns-clause-told : goal.returns-clause-told
+returns-clause-told g c = λ nothing. absurd (of_blocks_begun c.write_summary.result c.write_summary.ensures.answer nothing)
+
+pub returns-clause-line : goal.returns-clause-line
+returns-clause-line g c =
+    let opened = c.open_image.ensures.looks.quiet.passes in
+    let read = c.write_summary.ensures.looks.quiet.passes in
+    keeps_line_then _ _ _ _
+    (lines_then _ _ _ (keeps_line_then _ _ _ _ (keeps_line _ _ refl refl refl refl) refl opened.line opened.line_faults)
+    (c.in-Ok-record_source.ensures.unpulled tt))
+    refl read.line read.line_faults
+
+pub returns-clause-learns : goal.returns-clause-learns
+returns-clause-learns g c =
+    learns_then _ _ _ _ _ c.open_image.ensures.looks.learns c.in-Ok-record_source.ensures.learns c.write_summary.ensures.looks.extent
+
+pub returns-clause-unwritten : goal.returns-clause-unwritten
+returns-clause-unwritten g c = λ not_done not_failed.
+    ⊎_elim
+    (λ done. absurd (not_done done))
+    (λ rest. ⊎_elim (λ failed. absurd (not_failed failed)) (λ unread. c.write_summary.ensures.unread unread) rest)
+    c.write_summary.ensures.answer

@@ -1,7 +1,27 @@
-use Rattle.std.proofs.Common.{sym, ◌∙◌}
-use Rattle.fdr_top.proofs.ListedLines.{end_not_memory}
+use Rattle.std.proofs.Common.{sym, ◌∙◌, inr, subst}
+use Rattle.fdr_top.proofs.ListedLines.{end_fault, end_not_memory, end_not_write, end_own}
+use Rattle.fdr_words.specs.Forms.{list_bits}
+use Rattle.fdr_top.specs.Answers.{IsOwn}
 use Rattle.fdr_top.proofs.list_bits.list_line.Goals as goal
 
 pub returns-in-Ok-write_line-clause-no_memory_line : goal.returns-in-Ok-write_line-clause-no_memory_line
 returns-in-Ok-write_line-clause-no_memory_line g c = λ memory.
+    absurd (end_not_memory c.in-Ok-write_line.end (sym c.answer_of.ensures ∙ memory))
+
+pub returns-in-Ok-write_line-clause-answer : goal.returns-in-Ok-write_line-clause-answer
+returns-in-Ok-write_line-clause-answer g c = λ path.
+    inr (subst (IsOwn (list_bits path)) (sym c.answer_of.ensures) (end_own path c.in-Ok-write_line.end))
+
+pub returns-in-Ok-write_line-clause-line_fault : goal.returns-in-Ok-write_line-clause-line_fault
+returns-in-Ok-write_line-clause-line_fault g c = λ fails.
+    c.in-Ok-write_line.ensures.line_fault (end_fault c.in-Ok-write_line.end (sym c.answer_of.ensures ∙ fails))
+
+pub returns-in-Ok-write_line-clause-write_fault : goal.returns-in-Ok-write_line-clause-write_fault
+returns-in-Ok-write_line-clause-write_fault g c = λ fails. absurd (end_not_write c.in-Ok-write_line.end (sym c.answer_of.ensures ∙ fails))
+
+pub returns-in-Ok-write_line-clause-no_memory : goal.returns-in-Ok-write_line-clause-no_memory
+returns-in-Ok-write_line-clause-no_memory g c = λ memory. absurd (end_not_memory c.in-Ok-write_line.end (sym c.answer_of.ensures ∙ memory))
+
+pub returns-in-Ok-write_line-clause-no_memory_faults : goal.returns-in-Ok-write_line-clause-no_memory_faults
+returns-in-Ok-write_line-clause-no_memory_faults g c = λ memory.
     absurd (end_not_memory c.in-Ok-write_line.end (sym c.answer_of.ensures ∙ memory))

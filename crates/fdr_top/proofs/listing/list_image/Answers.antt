@@ -1,6 +1,7 @@
 use Rattle.fdr_top.specs.declared.outcome.Outcome.TheVariants as outcome
-use Rattle.fdr_top.proofs.ListedImages.{blocks_listed, unlisted}
+use Rattle.fdr_top.proofs.ListedImages.{blocks_listed, of_blocks_begun, of_blocks_list, unlisted}
 use Rattle.fdr_top.proofs.RecordLines.{refuses_nothing}
+use Rattle.std.proofs.Common.{inr, arith}
 use Rattle.fdr_top.proofs.listing.list_image.Goals as goal
 
 pub returns-in-Err-clause-lists : goal.returns-in-Err-clause-lists
@@ -18,3 +19,15 @@ returns-clause-lists g c =
     blocks_listed c.args.sound.now _ _ _ _ c.in-Ok.reader.header _ _ _ (g.met.D.Deck.sound c.args.deck.now) c.open_image.ensures.looks
     c.list_blocks.ensures.looks opened.header opened.image c.list_blocks.ensures.answer
     (rw c.table.ensures at c.list_blocks.ensures.text) (rw c.table.ensures at c.list_blocks.ensures.part)
+
+pub returns-clause-answer : goal.returns-clause-answer
+returns-clause-answer g c = λ path image. inr (of_blocks_list path image c.list_blocks.result c.list_blocks.ensures.answer)
+
+pub returns-clause-disk_fault : goal.returns-clause-disk_fault
+returns-clause-disk_fault g c = λ fails.
+    let looked = c.open_image.ensures.looks.quiet.passes.disk_faults in
+    let rose = c.list_blocks.ensures.disk_fault fails in
+    omega (arith, looked, rose)
+
+pub returns-clause-unwritten : goal.returns-clause-unwritten
+returns-clause-unwritten g c = λ nothing. absurd (of_blocks_begun c.list_blocks.result c.list_blocks.ensures.answer nothing)

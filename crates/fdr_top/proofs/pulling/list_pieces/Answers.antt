@@ -50,7 +50,7 @@ returns-in-Ok-eq0-clause-listed g c =
         empty = λ e told. line told ∙ (pulls.given told).end.0 zero;
       },
       subst
-          (λ b. HasTaken (WritesLines g.O.Sink.written) t c.loop-count.reader b [] c.args.out.now c.loop-count.buffer c.loop-count.out)
+          (λ b. HasTaken (WritesLines g.O.Sink.written) t c.loop-count.reader b [] c.args.out.now c.loop-count.lines c.loop-count.out)
           (sym (take_all most_line_bytes inv.0 few)) inv.2,
       in_time_stay t old head new inv.0 (g.O.Sink.written c.args.out.now) (g.O.Sink.written c.loop-count.out) inv.3 (pulls.ended zero),
     )
@@ -68,7 +68,7 @@ returns-in-Err-clause-listed g c =
       pieces_stay g.D.Deck.tells old head new inv.0 inv.1 kept.taken kept.before (λ told. kept.line),
       record { few = λ e. few; fault_few = λ e. few; many = λ e. absurd (cc); empty = λ e told. absurd (cc) },
       subst
-          (λ b. HasTaken (WritesLines g.O.Sink.written) t c.loop-count.reader b [] c.args.out.now c.loop-count.buffer c.loop-count.out)
+          (λ b. HasTaken (WritesLines g.O.Sink.written) t c.loop-count.reader b [] c.args.out.now c.loop-count.lines c.loop-count.out)
           (sym (take_all most_line_bytes inv.0 few)) inv.2,
       in_time_stay t old head new inv.0 (g.O.Sink.written c.args.out.now) (g.O.Sink.written c.loop-count.out) inv.3 kept.before,
     )

@@ -8,10 +8,10 @@ use Rattle.fdr_top.proofs.pulling.list_pieces.Given as goal
 abbrev pub invariant-loop-count : goal.invariant-loop-count
 invariant-loop-count g l = record {
   listed : (bytes : List ℕ) × PullsPieces g.D.Deck.tells (g.D.Deck.state l.fn.deck) (g.D.Deck.state l.deck) bytes
-      × HasTaken (WritesLines g.O.Sink.written) l.table l.reader bytes [] l.fn.out l.buffer l.out
+      × HasTaken (WritesLines g.O.Sink.written) l.table l.reader bytes [] l.fn.out l.lines l.out
       × HasWrittenDecided l.table (g.D.Deck.state l.fn.deck) (g.D.Deck.state l.deck) bytes (g.O.Sink.written l.fn.out) (g.O.Sink.written l.out)
       × (length bytes + l.left ≡ most_line_bytes);
-  flushed : l.buffer ≡ [];
+  flushed : l.lines ≡ [];
   disk : LeavesDisk (g.D.Deck.state l.fn.deck) (g.D.Deck.state l.deck);
   told : (g.D.Deck.state l.deck).told ≡ (g.D.Deck.state l.fn.deck).told;
   quiet : g.O.Sink.faults l.out ≡ g.O.Sink.faults l.fn.out;

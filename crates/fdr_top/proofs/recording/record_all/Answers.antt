@@ -1,7 +1,8 @@
-use Rattle.std.proofs.Common.{◌∙◌, ap, refl, Err, arith}
-use Rattle.fdr_top.specs.Recording.{fed}
+use Rattle.std.proofs.Common.{◌∙◌, ap, refl, sym, Err, subst, arith}
+use Rattle.std.proofs.lemmas.Result.{err_from_is_err_and}
+use Rattle.fdr_top.specs.Recording.{Continues, fed}
 use Rattle.fdr_top.specs.Supply.{supplied}
-use Rattle.fdr_top.proofs.SessionEnds.{Continues-closed, Continues-unclosed, keeps_line_then, only_close, ring_of, told_closed}
+use Rattle.fdr_top.proofs.SessionEnds.{Continues-closed, Continues-unclosed, is_disk_fault, keeps_line_then, only_close, ring_of, told_closed, two_cut}
 use Rattle.fdr_top.proofs.recording.record_all.Goals as goal
 
 pub close-requires-clause-stands : goal.close-requires-clause-stands
@@ -88,3 +89,19 @@ returns-in-Ok-clause-disk_quiet g c =
     let r = c.requires in
     let whole = c.in_ok-fed.ensures.fed r.0 r.1 r.2 in
     (c.in-Ok.ensures.recorded (fed r.1 (supplied r.0 whole.pulled)) whole.stands).disk_faults ∙ c.in_ok-fed.ensures.disk_quiet
+
+pub returns-in_err-fed-clause-ended : goal.returns-in_err-fed-clause-ended
+returns-in_err-fed-clause-ended g c = λ from past is.
+    let s = g.D.Deck.state in
+    let ended = c.in_err-fed.ensures.ended from past is in
+    let p = err_from_is_err_and c.from_residual.result c.from_residual.ensures.1 in
+    rw p.1 (subst (Continues from g.D.Deck.tells past (s c.args.deck.now) (s c.record_records.new.deck)) (sym p.2) ended)
+
+pub returns-in-Err-clause-only : goal.returns-in-Err-clause-only
+returns-in-Err-clause-only g c = rw c.refusal.ensures (two_cut c.in-Err.fault (only_close _ c.in-Err.ensures.only))
+
+pub returns-in-Err-clause-disk_fault : goal.returns-in-Err-clause-disk_fault
+returns-in-Err-clause-disk_fault g c = λ fails.
+    let is = is_disk_fault c.in-Err.fault (sym c.refusal.ensures ∙ fails) in
+    let rose = c.in-Err.ensures.cause (ap Err is) in
+    omega (arith, rose, c.in_ok-fed.ensures.disk_quiet)

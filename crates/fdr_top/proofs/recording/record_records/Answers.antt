@@ -1,11 +1,11 @@
-use Rattle.std.proofs.Common.{◌≡◌, ◌∙◌, Result, Err, refl, sym, ap, subst, [], ◌∷◌, ◌++◌}
+use Rattle.std.proofs.Common.{◌≡◌, ◌∙◌, Result, Err, refl, sym, ap, subst, arith, [], ◌∷◌, ◌++◌}
 use Rattle.fdr_bus.specs.declared.BusRecord.{BusRecord}
 use Rattle.fdr_top.specs.Answers.{KeepsLineAndFaults}
 use Rattle.fdr_top.specs.Recording.{fed}
 use Rattle.fdr_top.specs.declared.outcome.Outcome.{Outcome}
 use Rattle.fdr_top.proofs.Records.{is_end-no, is_end-yes}
 use Rattle.fdr_top.proofs.Sessions.{HasFed-pull, HasFed-feed}
-use Rattle.fdr_top.proofs.SessionEnds.{Continues-fault, HasEnded-at, HasFedAll-end, HasFedAll-stop, HasRecorded-at, Records-at, begun, bound_of}
+use Rattle.fdr_top.proofs.SessionEnds.{Continues-fault, HasEnded-at, HasFedAll-end, HasFedAll-stop, HasRecorded-at, Records-at, begun, bound_of, is_disk_fault}
 use Rattle.fdr_top.proofs.SessionEnds.{keeps_line, keeps_line_then, limits_of, line_failed, only_two, ring_at, sure_at, two_cut}
 use Rattle.fdr_top.proofs.Supplies.{may_feed, supplied_with_next}
 use Rattle.fdr_top.proofs.recording.record_records.Goals as goal
@@ -198,3 +198,10 @@ returns-in-End-clause-unpulled g c = λ is.
     let before = c.loop-next.invariant.unpulled is in
     let still = e.still before.0 in
     keeps_line_then _ _ _ _ before.1 (ap g.D.Deck.state still.1) records.line records.line_faults
+
+pub returns-in-Err-feed-clause-disk_fault : goal.returns-in-Err-feed-clause-disk_fault
+returns-in-Err-feed-clause-disk_fault g c = λ fails.
+    let is = is_disk_fault c.in-Err-feed.fault (sym c.refusal.ensures ∙ fails) in
+    let rose = c.in-Err-feed.ensures.cause (ap Err is) in
+    let same = c.in-Ok.ensures.disk.disk_faults ∙ c.loop-next.invariant.disk_quiet in
+    omega (arith, rose, same)

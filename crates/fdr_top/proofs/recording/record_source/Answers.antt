@@ -1,7 +1,9 @@
-use Rattle.std.proofs.Common.{◌∙◌, ap, rules, Err}
+use Rattle.std.proofs.Common.{◌≡◌, ◌∙◌, ap, rules, Err, arith}
 use Rattle.fdr_recorder.specs.Past.{started}
 use Rattle.fdr_top.proofs.RecordLines.{RecordsSupply-refused, RecordsSupply-started}
 use Rattle.fdr_top.proofs.SessionEnds.{begun_at, cut_begun, cut_reads, reading_begun}
+use Rattle.fdr_io.specs.Faults.{Rose}
+use Rattle.fdr_top.specs.declared.outcome.Outcome.TheVariants as outcome
 use Rattle.fdr_top.proofs.recording.record_source.Goals as goal
 
 pub returns-in-Err-clause-ended : goal.returns-in-Err-clause-ended
@@ -30,3 +32,11 @@ returns-clause-recorded g c = λ from gives.
 
 pub returns-clause-disk_quiet : goal.returns-clause-disk_quiet
 returns-clause-disk_quiet g c = c.in_ok-closed.ensures.disk_quiet ∙ c.in-Ok.ensures.quiet (λ x. absurd (cc))
+
+pub returns-in_err-closed-clause-disk_fault : goal.returns-in_err-closed-clause-disk_fault
+returns-in_err-closed-clause-disk_fault g c =
+    let quiet = c.in-Ok.ensures.quiet (λ x. absurd (cc)) in
+    let rose : c.in_err-closed.field-0.0 ≡ outcome.DiskFault
+    → Rose (g.D.Deck.state c.args.deck.now).disk_faults (g.D.Deck.state c.record_all.new.deck).disk_faults =
+    (λ fails. let later = c.in_err-closed.ensures.disk_fault fails in omega (arith, quiet, later)) in
+    search rules

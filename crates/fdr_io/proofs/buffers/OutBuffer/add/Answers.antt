@@ -3,6 +3,7 @@ use Rattle.std.proofs.lemmas.List.{append-nil}
 use Rattle.std.proofs.lemmas.Result.{on_err_weaker, on_ok_weaker}
 use Rattle.fdr_io.specs.Told.{followed_by}
 use Rattle.fdr_io.proofs.Telling.{followed_by-append-take, followed_by-followed_by}
+use Rattle.fdr_io.proofs.OutputSteps.{EmitsPart-waiting, failed_or_not}
 use Rattle.fdr_io.proofs.buffers.OutBuffer.add.Goals as goal
 
 pub returns-then-bytes-gt-CAPACITY-clause-part : goal.returns-then-bytes-gt-CAPACITY-clause-part
@@ -24,3 +25,7 @@ returns-then-bytes-gt-CAPACITY-clause-all g c =
       waits = rw c.finish.ensures.empty (append-nil _);
     })
     c.write_whole.ensures.whole
+
+pub returns-in_err-finish-clause-part : goal.returns-in_err-finish-clause-part
+returns-in_err-finish-clause-part g c =
+    failed_or_not c.from_residual.result (EmitsPart-waiting _ _ c.args.self.now c.args.bytes.now c.in_err-finish.ensures.part)

@@ -25,5 +25,5 @@ returns c =
     let params : c.params.result.now ≡ t.params = c.params.ensures ∙ ap (λ (t : TableRows). t.params) c.table-table.ensures in
     IfOk-weaker c.with_layout.result _ _ (λ (k : RebuildKept) is.
     let P : RebuildKept → Type 0 = λ k. RepresentsRebuild k t [] in
-    subst P (sym is) (Stands-none t c.frame.result c.params.result.now c.args.layout.cycles frame params (ap (λ (l : Laid). l.cycles) c.requires)))
+    subst P (sym is) (Stands-none t c.frame.result c.params.result.now c.args.layout frame params c.requires))
     c.with_layout.ensures

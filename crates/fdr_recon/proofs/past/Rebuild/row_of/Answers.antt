@@ -1,29 +1,45 @@
-use Rattle.std.proofs.Common.{◌≡◌, ◌<◌, ◌≤◌, sym, ◌∙◌, ap, arith}
+use Rattle.std.proofs.Common.{◌≡◌, ◌<◌, ◌≤◌, ◌+◌, ◌-◌, ◌*◌, ◌/◌, ◌%◌, sym, ◌∙◌, ap, refl, arith, to_z, of_z, ℕ, Option, Some}
 use Rattle.std.specs.Int.{w64}
 use Rattle.std.proofs.lemmas.Int.{to_z-of_z}
+use Rattle.fdr_layout.specs.Listed.{sample_in}
+use Rattle.fdr_recon.specs.declared.Row.{Row}
 use Rattle.fdr_recon.specs.Kept.{RebuildKept}
 use Rattle.fdr_recon.proofs.KeptRows.{kept_row-none, kept_row-some, reach_is}
 use Rattle.fdr_recon.proofs.past.Rebuild.row_of.Goals as goal
 
 pub returns-then-reach-from-clause-row : goal.returns-then-reach-from-clause-row
 returns-then-reach-from-clause-row c =
+    let s = sample_in c.args.self.now.laid c.args.sample.now in
     let words : c.frame_words-words.result ≡ c.args.self.now.frame.words =
     c.frame_words-words.ensures.words ∙ ap (λ (k : RebuildKept). k.frame.words) c.self.view_is in
     let joined : c.self.inside.joined ≡ c.args.self.now.joined = ap (λ (k : RebuildKept). k.joined) c.self.view_is in
     let far : c.args.self.now.joined < c.saturating_sub-reach.result = omega arith in
-    let d = reach_is c.args.sample.now.parts c.frame_words-words.result c.args.self.now.frame.words c.last.result c.first.result c.saturating_sub-reach.result
-    words c.last.ensures c.first.ensures c.saturating_sub-reach.ensures in
-    sym (kept_row-none c.args.self.now c.args.sample.now c.saturating_sub-reach.result d far)
+    let d = reach_is s.parts c.frame_words-words.result c.args.self.now.frame.words c.args.sample.now.last c.args.sample.now.first c.saturating_sub-reach.result
+    words c.requires.listed.last c.requires.listed.first (c.saturating_sub-reach.ensures ∙ ap (λ n. n - c.frame_of-2.result) c.frame_of.ensures
+    ∙ ap (λ n. c.args.sample.now.last / (4 * c.frame_words-words.result) - n) c.frame_of-2.ensures) in
+    sym (kept_row-none c.args.self.now s c.saturating_sub-reach.result d far)
 
 pub returns-clause-row : goal.returns-clause-row
 returns-clause-row c =
+    let s = sample_in c.args.self.now.laid c.args.sample.now in
     let words : c.frame_words-words.result ≡ c.args.self.now.frame.words =
     c.frame_words-words.ensures.words ∙ ap (λ (k : RebuildKept). k.frame.words) c.self.view_is in
     let joined : c.self.inside.joined ≡ c.args.self.now.joined = ap (λ (k : RebuildKept). k.joined) c.self.view_is in
     let near : c.saturating_sub-reach.result ≤ c.args.self.now.joined = omega arith in
-    let d = reach_is c.args.sample.now.parts c.frame_words-words.result c.args.self.now.frame.words c.last.result c.first.result c.saturating_sub-reach.result
-    words c.last.ensures c.first.ensures c.saturating_sub-reach.ensures in
-    sym (kept_row-some c.args.self.now c.args.sample.now c.frame_words-words.result c.first-slot.result c.saturating_sub-reach.result c.counter.result
-    c.param.result _
-    words c.first-slot.ensures d near c.counter.ensures.counter c.param.ensures
+    let d = reach_is s.parts c.frame_words-words.result c.args.self.now.frame.words c.args.sample.now.last c.args.sample.now.first c.saturating_sub-reach.result
+    words c.requires.listed.last c.requires.listed.first (c.saturating_sub-reach.ensures ∙ ap (λ n. n - c.frame_of-2.result) c.frame_of.ensures
+    ∙ ap (λ n. c.args.sample.now.last / (4 * c.frame_words-words.result) - n) c.frame_of-2.ensures) in
+    let row : ℕ → ℕ → Option Row = λ subframe word. Some (record {
+      counter = c.counter.result;
+      subframe = subframe;
+      word = word;
+      param = c.args.sample.now.param;
+      value = to_z w64 (of_z w64 c.value.result);
+    }) in
+    ap (λ n. row n c.word_of.result) (c.subframe_of.ensures ∙ ap (λ k. k / c.frame_words-words.result % 4 + 1) c.from-slot.ensures)
+    ∙ ap (λ n. row (c.args.sample.now.first / c.frame_words-words.result % 4 + 1) n)
+    (c.word_of.ensures ∙ ap (λ k. k % c.frame_words-words.result + 1) c.from-slot.ensures)
+    ∙ sym (kept_row-some c.args.self.now s c.frame_words-words.result c.args.sample.now.first c.saturating_sub-reach.result c.counter.result
+    c.args.sample.now.param _
+    words c.requires.listed.first d near c.counter.ensures.counter refl
     (to_z-of_z w64 c.value.result (record { sfits = c.value.type_inv }) ∙ c.value.ensures))

@@ -1,48 +1,61 @@
-use Rattle.std.proofs.Common.{◌≡◌, ◌<◌, ◌^◌, List, sym, ap, ◌∙◌, subst, arith}
+use Rattle.std.proofs.Common.{◌≡◌, ◌<◌, ◌^◌, List, length, sym, ap, ◌∙◌, subst, arith}
 use Rattle.std.specs.Int.{w64}
 use Rattle.std.specs.List.{slice_index_or}
 use Rattle.std.proofs.lemmas.Int.{to_z-of_z}
-use Rattle.std.proofs.lemmas.Option.{get_or_from_slice_get}
+use Rattle.std.proofs.lemmas.Option.{get_or_from_slice_get, slice_get_within}
 use Rattle.fdr_table.specs.Rows.{ParamRow}
 use Rattle.fdr_table.specs.Value.{value_of}
+use Rattle.fdr_layout.specs.Listed.{sample_in}
+use Rattle.fdr_layout.specs.SlotParts.{Laid}
 use Rattle.fdr_recon.specs.Kept.{RebuildKept, kept_raw, kept_cycle, kept_value}
 use Rattle.fdr_recon.specs.Rows.{param_at}
-use Rattle.fdr_recon.proofs.KeptRows.{kept_raw-below, kept_raw-small, param_at-sample}
+use Rattle.fdr_recon.proofs.KeptRows.{kept_raw-below, kept_raw-small, param_at-sample, raw_of_listed}
 use Rattle.fdr_recon.proofs.past.Rebuild.value.Goals as goal
+
+pub parts-requires : goal.parts-requires
+parts-requires c =
+    let k = c.args.self.now in
+    let e = c.args.sample.now in
+    let laid : c.self.inside.layout ≡ k.laid = ap (λ (k : RebuildKept). k.laid) c.self.view_is in
+    omega (arith, ap (λ (l : Laid). length l.samples) laid, slice_get_within k.laid.samples e.number (sample_in k.laid e) c.requires.listed.sample)
 
 pub overflow_cast-raw : goal.overflow_cast-raw
 overflow_cast-raw c =
     let k = c.args.self.now in
-    let raw : c.raw-raw.result ≡ kept_raw k c.cycle.result c.args.sample.now.parts =
-    c.raw-raw.ensures.raw ∙ ap (kept_raw k c.cycle.result) c.parts.ensures.parts in
-    let small = kept_raw-small k c.cycle.result c.args.sample.now c.requires in
+    let s = sample_in k.laid c.args.sample.now in
+    let laid : c.self.inside.layout ≡ k.laid = ap (λ (k : RebuildKept). k.laid) c.self.view_is in
+    let raw = raw_of_listed k c.self.inside.layout c.cycle.result c.args.sample.now c.parts.result.now c.raw-raw.result laid c.parts.ensures.parts
+    c.raw-raw.ensures.raw in
+    let small = kept_raw-small k c.cycle.result s c.requires.of in
     omega (arith, raw, small)
 
 pub value-requires : goal.value-requires
 value-requires c =
     let k = c.args.self.now in
-    let raw : c.raw-raw.result ≡ kept_raw k c.cycle.result c.args.sample.now.parts =
-    c.raw-raw.ensures.raw ∙ ap (kept_raw k c.cycle.result) c.parts.ensures.parts in
-    let below = kept_raw-below k c.cycle.result c.args.sample.now c.requires in
+    let s = sample_in k.laid c.args.sample.now in
+    let laid : c.self.inside.layout ≡ k.laid = ap (λ (k : RebuildKept). k.laid) c.self.view_is in
+    let raw = raw_of_listed k c.self.inside.layout c.cycle.result c.args.sample.now c.parts.result.now c.raw-raw.result laid c.parts.ensures.parts
+    c.raw-raw.ensures.raw in
+    let below = kept_raw-below k c.cycle.result s c.requires.of in
     let params : c.self.inside.params.items ≡ k.params = ap (λ (k : RebuildKept). k.params) c.self.view_is in
-    let param : c.index-param.result.now ≡ c.requires.param =
-    c.index-param.ensures ∙ ap (λ (ps : List ParamRow). slice_index_or ps c.param.result c.index-param.result.now) params
-    ∙ ap (λ n. slice_index_or k.params n c.index-param.result.now) c.param.ensures
-    ∙ get_or_from_slice_get k.params c.args.sample.now.param c.requires.param c.index-param.result.now c.requires.is in
-    subst (λ n. c.raw-raw.result < 2 ^ n) (sym (ap (λ (p : ParamRow). p.width) param)) (subst (λ n. n < 2 ^ c.requires.param.width) (sym raw) below)
+    let param : c.index-param.result.now ≡ c.requires.of.param =
+    c.index-param.ensures ∙ ap (λ (ps : List ParamRow). slice_index_or ps s.param c.index-param.result.now) params
+    ∙ get_or_from_slice_get k.params s.param c.requires.of.param c.index-param.result.now c.requires.of.is in
+    subst (λ n. c.raw-raw.result < 2 ^ n) (sym (ap (λ (p : ParamRow). p.width) param)) (subst (λ n. n < 2 ^ c.requires.of.param.width) (sym raw) below)
 
 pub returns : goal.returns
 unfolding kept_value
 returns c =
     let k = c.args.self.now in
-    let s = c.args.sample.now in
+    let s = sample_in k.laid c.args.sample.now in
+    let laid : c.self.inside.layout ≡ k.laid = ap (λ (k : RebuildKept). k.laid) c.self.view_is in
     let raw : c.raw-raw.result ≡ kept_raw k (kept_cycle k) s.parts =
-    c.raw-raw.ensures.raw ∙ ap (kept_raw k c.cycle.result) c.parts.ensures.parts ∙ ap (λ n. kept_raw k n s.parts) c.cycle.ensures.cycle in
+    raw_of_listed k c.self.inside.layout c.cycle.result c.args.sample.now c.parts.result.now c.raw-raw.result laid c.parts.ensures.parts c.raw-raw.ensures.raw
+    ∙ ap (λ n. kept_raw k n s.parts) c.cycle.ensures.cycle in
     let params : c.self.inside.params.items ≡ k.params = ap (λ (k : RebuildKept). k.params) c.self.view_is in
-    let param : c.index-param.result.now ≡ c.requires.param =
-    c.index-param.ensures ∙ ap (λ (ps : List ParamRow). slice_index_or ps c.param.result c.index-param.result.now) params
-    ∙ ap (λ n. slice_index_or k.params n c.index-param.result.now) c.param.ensures
-    ∙ get_or_from_slice_get k.params s.param c.requires.param c.index-param.result.now c.requires.is in
+    let param : c.index-param.result.now ≡ c.requires.of.param =
+    c.index-param.ensures ∙ ap (λ (ps : List ParamRow). slice_index_or ps s.param c.index-param.result.now) params
+    ∙ get_or_from_slice_get k.params s.param c.requires.of.param c.index-param.result.now c.requires.of.is in
     to_z-of_z w64 c.value.result (record { sfits = c.value.type_inv }) ∙ c.value.ensures
-    ∙ ap (λ p. value_of p c.raw-raw.result) (param ∙ sym (param_at-sample k.params s c.requires))
+    ∙ ap (λ p. value_of p c.raw-raw.result) (param ∙ sym (param_at-sample k.params s c.requires.of))
     ∙ ap (value_of (param_at k.params s.param)) raw

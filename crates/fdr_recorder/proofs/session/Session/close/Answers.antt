@@ -93,3 +93,6 @@ returns-in_err-ring-clause-all g c past stands = all_blocks-rest past c.finish-c
 
 pub returns-clause-all : goal.returns-clause-all
 returns-clause-all g c past stands = all_blocks-rest past c.finish-count.result (c.finish-count.ensures.blocks (stream_past past) stands.stream refl)
+
+pub returns-then-count-eq0-clause-rest : goal.returns-then-count-eq0-clause-rest
+returns-then-count-eq0-clause-rest g c = g.met.D.Deck.rest_here c.args.deck.now

@@ -109,3 +109,13 @@ returns-clause-started g c =
       least = least-started t h (s d0) (s d1) (is d0) read.quiet read.disk fresh (s d2) c.attach.ensures.quiet.passes
           (λ stops. c.attach.ensures.quiet) ok.succeeds.fresh r.next (s d3) announces;
     }
+
+pub returns-clause-learns : goal.returns-clause-learns
+returns-clause-learns g c =
+    let same = c.announce.ensures.disk.extent ∙ c.attach.ensures.extent in
+    let learns = c.read_image_header.ensures.learns in
+    record {
+      bytes = λ told. same ∙ learns.bytes told;
+      stops = λ told. same ∙ learns.stops told;
+      known = λ some. same ∙ learns.known some;
+    }

@@ -18,7 +18,7 @@ draws c =
       slot_is = c.slot_within-slot.ensures.slot;
       below = c.slot_within-slot.ensures.below;
       drawn = subst (Draws inside.held.items) c.deref_mut.ensures.value
-          (subst (λ held. Draws held c.deref_mut.result.now) c.deref.ensures.value c.data_word-plain.ensures.drawn);
+          (subst (λ held. Draws held c.deref_mut.result.now) c.deref-3.ensures.value c.data_word-plain.ensures.drawn);
     }
 
 pub returns-clause-word : goal.returns-clause-word

@@ -1,10 +1,10 @@
-use Rattle.std.proofs.Common.{◌≡◌, ℕ, ◌*◌, ◌<◌, ◌≤◌, Bool, false, [], vec_len, refl, sym, subst, below_more, arith}
+use Rattle.std.proofs.Common.{◌≡◌, ℕ, ◌+◌, ◌*◌, ◌<◌, ◌≤◌, Bool, false, [], vec_len, refl, sym, ap, ◌∙◌, subst, below_more, arith}
 use Rattle.std.specs.Prelude.{◌↔◌, IsTrue}
 use Rattle.fdr_bus.specs.declared.BusRecord.{BusRecord}
 use Rattle.fdr_bus.specs.declared.RecordKind.TheVariants.{Word}
 use Rattle.fdr_bus.specs.Records.{last_time}
 use Rattle.fdr_table.specs.Rows.{TableRows}
-use Rattle.fdr_sampler.specs.Past.{SamplerPast, MayTake, RepresentsSampler, sampler_with_record}
+use Rattle.fdr_sampler.specs.Past.{SamplerPast, MayTake, RepresentsSampler, sampler_with_record, sampler_with_word}
 use Rattle.fdr_lists.proofs.Options.{not_below}
 use Rattle.fdr_sampler.proofs.sampler.tests.words_of.Goals as goal
 
@@ -57,3 +57,11 @@ loop-words-2-init c =
     let may = first_record inv.0 (vec_len c.loop-words.words) r c.due.result c.requires.kind c.requires.in_time (c.due.ensures past inv.1)
     c.loop-words-test.false inv.2 in
     (sampler_with_record past r, c.bus.ensures past inv.1 may, refl)
+
+pub loop-words-2-preserved : goal.loop-words-2-preserved
+loop-words-2-preserved c =
+    let inv = c.loop-words-2.invariant in (
+      sampler_with_word inv.0,
+      c.next_word-in-loop-words-2.ensures.stands inv.0 inv.1,
+      ap (λ n. n + 1) inv.2 ∙ sym c.in_ok-push-2.ensures.len,
+    )

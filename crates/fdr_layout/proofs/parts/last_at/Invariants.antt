@@ -1,7 +1,0 @@
-use Rattle.std.proofs.Common.{◌≡◌, take, max}
-use Rattle.std.specs.List.{fold}
-use Rattle.fdr_layout.specs.Samples.{Part}
-use Rattle.fdr_layout.proofs.parts.last_at.Given as goal
-
-abbrev pub invariant-loop-part : goal.invariant-loop-part
-invariant-loop-part l = l.last ≡ fold (λ at (q : Part). max at q.at) 0 (take l.part-index l.parts)

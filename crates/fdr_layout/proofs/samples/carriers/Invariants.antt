@@ -1,7 +1,0 @@
-use Rattle.std.proofs.Common.{◌≡◌, ◌-◌, map}
-use Rattle.std.specs.List.{range_with_len}
-use Rattle.fdr_layout.specs.Samples.{carrier_of}
-use Rattle.fdr_layout.proofs.samples.carriers.Given as goal
-
-abbrev pub invariant-loop-part : goal.invariant-loop-part
-invariant-loop-part l = l.carriers.items ≡ map (carrier_of l.words l.places l.param) (range_with_len 1 (l.part - 1))

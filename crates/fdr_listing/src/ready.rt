@@ -1,0 +1,166 @@
+//! A row's line put together of texts that are ready.
+
+ghost use Rattle.std.specs.Prelude.{◌≡◌, ◌+◌, ◌≤◌, ◌<◌, ◌^◌, ◌++◌, ℕ, length, decimal, replicate};
+ghost use Rattle.fdr_listing.specs.Text.{row_start_text, row_place_text, row_line_text, fraction_text, size_text, value_text};
+
+use crate::line::Line;
+use crate::text::unit;
+use fdr_io::OutBuffer;
+use fdr_recon::Row;
+use fdr_table::Name;
+use itoa::Buffer;
+use std::marker::Model;
+
+/// How many bytes a row's line takes at most, with what is copied beyond it.
+pub const ROW_ROOM: usize = 96;
+
+/// A text of at most eight bytes, which is made once and copied whole.
+#[derive(Debug, Drop)]
+pub struct ShortText {
+    bytes: [u8; 8],
+    len: usize,
+}
+
+impl Model for ShortText {
+    ghost use Rattle.std.specs.Prelude.{ℕ, List, ◌≤◌, take};
+
+    ghost Value = { List ℕ };
+
+    ghost view = { λ s. take s.len s.bytes };
+
+    ghost invariant = { λ s. s.len ≤ 8 };
+}
+
+impl ShortText {
+    /// `row,COUNTER`, with which the lines of a frame's rows begin.
+    #[tactic(auto, using(crate::proofs::Lengths::numbers), unfolding(crate::specs::Text::row_start_text))]
+    pub fn row_start(counter: u16) -> ShortText
+        requires { counter < 4096 }
+        ensures { result ≡ row_start_text counter }
+    {
+        let mut line = Line::new();
+        line.add(b"row,");
+        line.add_number(u64::from(counter));
+        ShortText::of(&line)
+    }
+
+    /// `,SUBFRAME,WORD,`, which follows it.
+    #[tactic(auto, using(crate::proofs::Lengths::numbers), unfolding(crate::specs::Text::row_place_text))]
+    pub fn row_place(subframe: u8, word: u32) -> ShortText
+        requires subframe { subframe ≤ 4 }
+        requires word { word ≤ 1024 }
+        ensures { result ≡ row_place_text subframe word }
+    {
+        let mut line = Line::new();
+        line.add(b",");
+        line.add_number(u64::from(subframe));
+        line.add(b",");
+        line.add_number(u64::from(word));
+        line.add(b",");
+        ShortText::of(&line)
+    }
+
+    fn of(line: &Line) -> ShortText
+        requires { length line.now ≤ 8 }
+        ensures { result ≡ line.now }
+    {
+        let text = line.bytes();
+        let mut bytes = [0; 8];
+        bytes[..text.len()].copy_from_slice(text);
+        ShortText {
+            bytes,
+            len: text.len(),
+        }
+    }
+}
+
+/// Puts a whole number.
+fn put_number(buffer: &mut OutBuffer, n: u64)
+    requires { length buffer.old + 20 ≤ 65536 }
+    ensures appended { buffer.new ≡ buffer.old ++ decimal n }
+    ensures length { length buffer.new ≤ length buffer.old + 20 }
+{
+    let mut digits = Buffer::new();
+    buffer.put_all(digits.format(n).as_bytes());
+}
+
+/// Puts so many zeros.
+fn put_zeros(buffer: &mut OutBuffer, zeros: usize)
+    requires room { length buffer.old + 9 ≤ 65536 }
+    requires nine_zeros { zeros ≤ 9 }
+    ensures appended { buffer.new ≡ buffer.old ++ replicate zeros 48 }
+    ensures length { length buffer.new ≡ length buffer.old + zeros }
+{
+    buffer.put(b"000000000", zeros);
+}
+
+/// Puts a point and exactly `decimals` digits, or nothing where there are no decimals.
+#[tactic(auto, unfolding(crate::specs::Text::fraction_text))]
+fn put_fraction(buffer: &mut OutBuffer, n: u64, decimals: u8)
+    requires room { length buffer.old + 40 ≤ 65536 }
+    requires nine_decimals { decimals ≤ 9 }
+    requires below { n < 10 ^ decimals }
+    ensures appended { buffer.new ≡ buffer.old ++ fraction_text n decimals }
+    ensures length { length buffer.new ≤ length buffer.old + 10 }
+{
+    if decimals == 0 {
+        return;
+    }
+    let mut digits = Buffer::new();
+    let digits = digits.format(n).as_bytes();
+    let zeros = usize::from(decimals) - digits.len();
+    buffer.put(b".", 1);
+    put_zeros(buffer, zeros);
+    buffer.put_all(digits);
+}
+
+/// Puts the size of a value in units of `10^-decimals`.
+#[tactic(auto, using(crate::proofs::Lengths::numbers), unfolding(crate::specs::Text::size_text))]
+fn put_size(buffer: &mut OutBuffer, size: u64, decimals: u8)
+    requires room { length buffer.old + 60 ≤ 65536 }
+    requires nine_decimals { decimals ≤ 9 }
+    ensures appended { buffer.new ≡ buffer.old ++ size_text size decimals }
+    ensures length { length buffer.new ≤ length buffer.old + 30 }
+{
+    let unit = unit(decimals);
+    put_number(buffer, size / unit);
+    put_fraction(buffer, size % unit, decimals);
+}
+
+/// Puts a value in units of `10^-decimals`.
+#[tactic(auto, unfolding(crate::specs::Text::value_text))]
+fn put_value(buffer: &mut OutBuffer, v: i64, decimals: u8)
+    requires room { length buffer.old + 61 ≤ 65536 }
+    requires nine_decimals { decimals ≤ 9 }
+    ensures appended { buffer.new ≡ buffer.old ++ value_text v decimals }
+    ensures length { length buffer.new ≤ length buffer.old + 31 }
+{
+    if v < 0 {
+        buffer.put(b"-", 1);
+    }
+    put_size(buffer, v.unsigned_abs(), decimals);
+}
+
+/// Puts the line of a row: what it begins with, its place, the parameter's name and its value. There must be room for
+/// `ROW_ROOM` bytes.
+#[tactic(auto, unfolding(crate::specs::Text::row_line_text))]
+pub fn put_row(
+    buffer: &mut OutBuffer,
+    start: &ShortText,
+    place: &ShortText,
+    name: &Name,
+    row: &Row,
+    decimals: u8,
+)
+    requires room { length buffer.old + 96 ≤ 65536 }
+    requires nine_decimals { decimals ≤ 9 }
+    ensures { buffer.new ≡ buffer.old ++ row_line_text start.now place.now name.now row.now.value decimals }
+{
+    buffer.put(&start.bytes, start.len);
+    buffer.put(&place.bytes, place.len);
+    let (bytes, len) = name.padded();
+    buffer.put(bytes, len);
+    buffer.put(b",", 1);
+    put_value(buffer, row.value, decimals);
+    buffer.put(b"\n", 1);
+}

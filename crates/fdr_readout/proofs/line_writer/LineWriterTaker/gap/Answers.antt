@@ -1,0 +1,10 @@
+use Rattle.fdr_readout.proofs.TakerLemmas.{gap_entry_lines}
+use Rattle.fdr_readout.proofs.line_writer.LineWriterTaker.gap.Goals as goal
+
+pub returns-clause-all : goal.returns-clause-all
+returns-clause-all g c = λ t.
+    rw (gap_entry_lines t c.args.from c.args.bits, ← c.gap_line.ensures, ← c.bytes.ensures.content, ← c.self.view_is) c.add.ensures.all
+
+pub returns-clause-part : goal.returns-clause-part
+returns-clause-part g c = λ t.
+    rw (gap_entry_lines t c.args.from c.args.bits, ← c.gap_line.ensures, ← c.bytes.ensures.content, ← c.self.view_is) c.add.ensures.part

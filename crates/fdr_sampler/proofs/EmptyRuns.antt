@@ -1,0 +1,111 @@
+-- Slots that have nothing are drawn at once.
+use Rattle.std.proofs.Common.{◌≡◌, ℕ, zero, suc, ◌+◌, ◌*◌, ◌%◌, ◌<◌, ⊎_elim, List, [], length, set, get_or, replicate, get_or-set_same, get_or-set_other}
+use Rattle.std.proofs.Common.{refl, sym, ap, ◌∙◌, subst, arith}
+use Rattle.std.specs.Prelude.{slice_index}
+use Rattle.std.proofs.lemmas.Bool.{cases_eq}
+use Rattle.fdr_frame.specs.declared.SlotKind.{SlotKind}
+use Rattle.fdr_frame.specs.declared.SlotKind.TheVariants.{Sync, Counter, Plain}
+use Rattle.fdr_frame.specs.Slots.{frame_of, kind_of, subframe_of, sync_word}
+use Rattle.fdr_table.specs.Rows.{FrameRow}
+use Rattle.fdr_layout.specs.SlotParts.{SlotPart, Laid}
+use Rattle.fdr_sampler.specs.Empty.{IsEmptySlot, HasEmptyRun}
+use Rattle.fdr_sampler.specs.Kept.{SamplerKept, slot_parts, IsDrawn}
+use Rattle.fdr_sampler.specs.SlotWord.{slot_within, slot_word, word_with}
+use Rattle.fdr_sampler.specs.Past.{SamplerPast, sampler_with_words, RepresentsSampler}
+use Rattle.fdr_sampler.proofs.Drawing.{IsDrawn-none}
+use Rattle.fdr_sampler.proofs.Standing.{DrawsData, slot_word-stands, Stands-next}
+use Rattle.fdr_sampler.proofs.Superframes.{kind_within, within_more}
+
+-- ---- the runs
+
+-- one more slot, before the others
+pub run_more : (f : FrameRow) (l : Laid) (slot next run : ℕ) → next ≡ slot + 1 → slot < 64 * f.words → IsEmptySlot f l slot → HasEmptyRun f l next run
+    → HasEmptyRun f l slot (run + 1)
+run_more f l slot next run after within empty rest zero less =
+    let here : slot ≡ slot + zero = omega arith in
+    (omega arith, subst (IsEmptySlot f l) here empty)
+run_more f l slot next run after within empty rest (suc j) less =
+    let there : next + j ≡ slot + suc j = omega arith in
+    let is = rest j (omega arith) in
+    (omega (arith, is.0), subst (IsEmptySlot f l) there is.1)
+
+pub run_none : (f : FrameRow) (l : Laid) (slot run : ℕ) → run ≡ 0 → HasEmptyRun f l slot run
+run_none f l slot run none = λ j less. absurd (omega arith)
+
+-- where the run of one slot is put
+pub run_put : (f : FrameRow) (l : Laid) (runs : List ℕ) (slot run : ℕ) → slot < length runs → HasEmptyRun f l slot run
+    → ((k : ℕ) → HasEmptyRun f l k (slice_index runs k)) → (k : ℕ) → HasEmptyRun f l k (slice_index (set runs slot run) k)
+run_put f l runs slot run room here each k =
+    ⊎_elim
+    (λ (same : k ≡ slot). subst (λ m. HasEmptyRun f l m (get_or (set runs slot run) m 0)) (sym same)
+    (subst (HasEmptyRun f l slot) (sym (get_or-set_same runs slot run 0 room)) here))
+    (λ (other : k ≡ slot → ⊥). subst (HasEmptyRun f l k) (sym (get_or-set_other runs slot k run 0 other)) (each k))
+    (cases_eq k slot)
+
+zeros_read : (n k : ℕ) → ◌≡◌ {A = ℕ} (get_or (replicate n 0) k 0) 0
+zeros_read zero k = refl
+zeros_read (suc n) zero = refl
+zeros_read (suc n) (suc k) = zeros_read n k
+
+pub runs_begun : (f : FrameRow) (l : Laid) (n : ℕ) (runs : List ℕ) → runs ≡ replicate n 0 → (k : ℕ) → HasEmptyRun f l k (slice_index runs k)
+runs_begun f l n runs are k = run_none f l k (get_or runs k 0) (ap (λ xs. get_or xs k 0) are ∙ zeros_read n k)
+
+-- ---- drawing them
+
+-- nothing is drawn for an empty slot
+draws_none : (k : SamplerKept) (slot : ℕ) → slot ≡ slot_within k.frame.words k.drawn → slot < 64 * k.frame.words → slot_parts k.laid slot ≡ []
+    → DrawsData k slot k.raws 0
+draws_none k slot is below none = record {
+  slot_is = is;
+  below = below;
+  drawn = λ value have. subst (λ (ps : List SlotPart). IsDrawn value ps k.raws k.raws 0) (sym none) (IsDrawn-none value k.raws);
+}
+
+word_none : (f : FrameRow) (k : ℕ) → kind_of f.words f.cword f.csub k ≡ Plain → 0 ≡ word_with f k 0
+word_none f k plain =
+    sym (ap (λ (kind : SlotKind). elim kind [
+      | Sync ↦ sync_word (subframe_of f.words k)
+      | Counter ↦ frame_of f.words k % 4096
+      | Plain ↦ 0
+    ]) plain)
+
+-- so many slots on
+abbrev pub drawn_on : SamplerKept → ℕ → SamplerKept
+drawn_on k n = record k { drawn = k.drawn + n }
+
+draws_next : (k : SamplerKept) (n : ℕ) → (slot_within k.frame.words k.drawn + n < 64 * k.frame.words)
+    × IsEmptySlot k.frame k.laid (slot_within k.frame.words k.drawn + n) → DrawsData (drawn_on k n) (slot_within k.frame.words k.drawn + n) k.raws 0
+draws_next k n at = draws_none (drawn_on k n) (slot_within k.frame.words k.drawn + n) (sym (within_more k.frame.words k.drawn n at.0)) at.0 at.1.parts
+
+next_word_none : (k : SamplerKept) (n : ℕ) → (slot_within k.frame.words k.drawn + n < 64 * k.frame.words)
+    × IsEmptySlot k.frame k.laid (slot_within k.frame.words k.drawn + n) → 0 ≡ word_with k.frame (k.drawn + n) 0
+next_word_none k n at =
+    let f = k.frame in
+    word_none f (k.drawn + n)
+    (sym (kind_within f.words f.cword f.csub (k.drawn + n) (omega (arith, at.0)))
+    ∙ ap (kind_of f.words f.cword f.csub) (within_more f.words k.drawn n at.0) ∙ at.1.plain)
+
+-- the value after so many empty slots
+pub Stands-empty : (k : SamplerKept) (past : SamplerPast) (n : ℕ) → RepresentsSampler k past
+    → HasEmptyRun k.frame k.laid (slot_within k.frame.words k.drawn) n → RepresentsSampler (drawn_on k n) (sampler_with_words past n)
+Stands-empty k past zero st run =
+    let same : k.drawn ≡ k.drawn + zero = omega arith in
+    let same_past : past.drawn ≡ past.drawn + zero = omega arith in
+    subst (λ m. RepresentsSampler (record k { drawn = m }) (sampler_with_words past zero)) same
+    (subst (λ m. RepresentsSampler k (record past { drawn = m })) same_past st)
+Stands-empty k past (suc n) st run =
+    let at = run n (omega arith) in
+    let before = Stands-empty k past n st (λ j l. run j (omega arith)) in
+    let count : past.drawn + n + 1 ≡ past.drawn + suc n = omega arith in
+    subst (λ m. RepresentsSampler (drawn_on k (suc n)) (record past { drawn = m })) count
+    (Stands-next (drawn_on k n) (drawn_on k (suc n)) (sampler_with_words past n) (slot_within k.frame.words k.drawn + n) k.raws 0 before
+    (draws_next k n at) refl refl refl refl refl (omega arith))
+
+-- whose words are 0
+pub words_empty : (k : SamplerKept) (past : SamplerPast) (n j : ℕ) → RepresentsSampler k past
+    → HasEmptyRun k.frame k.laid (slot_within k.frame.words k.drawn) n → j < n → slot_word past.table past.records (past.drawn + j) ≡ 0
+words_empty k past n j st run less =
+    let at = run j less in
+    let before = Stands-empty k past j st (λ i l. run i (omega arith)) in
+    sym (slot_word-stands (drawn_on k j) (sampler_with_words past j) (slot_within k.frame.words k.drawn + j) k.raws 0 0 before (draws_next k j at)
+    (next_word_none k j at))

@@ -1,0 +1,33 @@
+use Rattle.std.proofs.Common.{◌≡◌, ◌+◌, ◌<◌, ◌∙◌, sym, subst, get_or, length, arith}
+use Rattle.std.proofs.lemmas.List.{get_or_default}
+use Rattle.fdr_sampler.specs.Empty.{HasEmptyRun}
+use Rattle.fdr_sampler.specs.Kept.{SamplerKept}
+use Rattle.fdr_sampler.specs.SlotWord.{slot_within}
+use Rattle.fdr_sampler.specs.View.{sampler_kept}
+use Rattle.fdr_sampler.specs.Past.{RepresentsSampler, sampler_with_words}
+use Rattle.fdr_sampler.proofs.EmptyRuns.{Stands-empty, words_empty}
+use Rattle.fdr_sampler.proofs.sampler.Sampler.draw_empty.Goals as goal
+
+-- so many slots are empty
+run : (c : goal.After-self-1)
+    → HasEmptyRun c.self.inside.frame c.self.inside.layout (slot_within c.self.inside.frame.words c.self.inside.drawn) c.min-count.result
+run c = λ j less.
+    let f = c.self.inside.frame in
+    let l = c.self.inside.layout in
+    let slot = c.slot_within-slot.result in
+    let runs = c.self.inside.empty_runs.items in
+    let room : slot < length runs = omega (arith, c.slot_within-slot.ensures.below, c.self.invariant.1.empty.long) in
+    let read : c.index.result.now ≡ get_or runs slot 0 = c.index.ensures ∙ get_or_default runs slot c.index.result.now 0 room in
+    let few : j < get_or runs slot 0 = omega (arith, less, c.min-count.ensures, read) in
+    subst (λ m. HasEmptyRun f l m (get_or runs slot 0)) c.slot_within-slot.ensures.slot (c.self.invariant.1.empty.each slot) j few
+
+pub returns-clause-zeros : goal.returns-clause-zeros
+returns-clause-zeros c = λ past st k less.
+    let inside = sampler_kept c.self.inside in
+    words_empty inside past c.min-count.result k (subst (λ (x : SamplerKept). RepresentsSampler x past) (sym c.self.view_is) st) (run c) less
+
+pub returns-clause-stands : goal.returns-clause-stands
+returns-clause-stands c = λ past st.
+    let inside = sampler_kept c.self.inside in
+    subst (λ n. RepresentsSampler (record inside { drawn = c.self.inside.drawn + n }) (sampler_with_words past c.min-count.result)) (sym c.from.ensures)
+    (Stands-empty inside past c.min-count.result (subst (λ (x : SamplerKept). RepresentsSampler x past) (sym c.self.view_is) st) (run c))

@@ -1,0 +1,23 @@
+use Rattle.std.proofs.Common.{◌+◌, ◌≤◌, ap, ◌∙◌, arith}
+use Rattle.fdr_sampler.specs.Past.{sampler_with_word, sampler_with_words}
+use Rattle.fdr_sampler.proofs.sampler.tests.drawn_words.Goals as goal
+
+pub draw_empty-slot-requires : goal.draw_empty-slot-requires
+draw_empty-slot-requires c =
+    let inv = c.loop-slot.invariant.0 in (
+      sampler_with_word inv.0,
+      c.next_word.ensures.stands inv.0 inv.1,
+      omega (arith, inv.2, c.requires.few, c.loop-slot-test.true),
+    )
+
+pub loop-slot-preserved : goal.loop-slot-preserved
+loop-slot-preserved c =
+    let inv = c.loop-slot.invariant.0 in
+    let past = sampler_with_word inv.0 in (
+      (
+        sampler_with_words past c.draw_empty-slot.result,
+        c.draw_empty-slot.ensures.stands past (c.next_word.ensures.stands inv.0 inv.1),
+        ap (λ n. n + 1 + c.draw_empty-slot.result) inv.2,
+      ),
+      omega (arith, c.draw_empty-slot.ensures.most, c.loop-slot-test.true),
+    )

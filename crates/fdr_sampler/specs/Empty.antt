@@ -1,0 +1,21 @@
+-- The slots of a superframe that have nothing: their words are 0.
+use Rattle.std.specs.Prelude.{ℕ, ◌≡◌, ◌<◌, ◌+◌, ◌*◌, List, [], length, slice_index}
+use Rattle.fdr_frame.specs.declared.SlotKind.TheVariants.{Plain}
+use Rattle.fdr_frame.specs.Slots.{kind_of}
+use Rattle.fdr_table.specs.Rows.{FrameRow}
+use Rattle.fdr_layout.specs.SlotParts.{Laid}
+use Rattle.fdr_sampler.specs.Kept.{slot_parts}
+
+-- the slot has no part, no sync word and no counter
+pub record IsEmptySlot (f : FrameRow) (l : Laid) (slot : ℕ) : Type 0 where
+  pub parts : slot_parts l slot ≡ []
+  pub plain : kind_of f.words f.cword f.csub slot ≡ Plain
+
+-- so many slots from this one on are in the superframe and empty
+abbrev pub HasEmptyRun : FrameRow → Laid → ℕ → ℕ → Type 0
+HasEmptyRun f l slot run = (j : ℕ) → j < run → (slot + j < 64 * f.words) × IsEmptySlot f l (slot + j)
+
+-- from each slot on, so many slots are empty
+pub record AreEmptyRuns (f : FrameRow) (l : Laid) (runs : List ℕ) : Type 0 where
+  pub long : length runs ≡ 64 * f.words
+  pub each : (slot : ℕ) → HasEmptyRun f l slot (slice_index runs slot)
