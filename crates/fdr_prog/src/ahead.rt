@@ -11,6 +11,10 @@ use std::os::unix::fs::FileExt;
 /// How many bytes are read ahead at most.
 pub const AHEAD: usize = 65536;
 
+/// How far from the end of a read the next one may begin for what follows it to be read ahead. The heads of an image's
+/// slots alone stand farther apart, and what is between them isn't asked for.
+const NEAR: u64 = 512;
+
 /// A line of input that is read as it is pulled, or ahead of that. It never waits for more than one read gives.
 #[derive(Drop)]
 pub enum LineReader<L: Read + Drop> {
@@ -35,6 +39,8 @@ pub struct Window {
     room: Vec<u8>,
     at: u64,
     len: usize,
+    // Where the last read ended.
+    last: u64,
 }
 
 impl Window {
@@ -45,21 +51,29 @@ impl Window {
             room,
             at: 0,
             len: 0,
+            last: 0,
         })
     }
 
     /// Fills the buffer with the file's bytes from `at` on.
     pub fn read(&mut self, file: &File, at: u64, buf: &mut [u8]) -> io::Result<()> {
+        let goes_on = self.goes_on(at);
+        self.last = at.saturating_add(buf.len() as u64);
         if self.give(at, buf) {
             return Ok(());
         }
-        if buf.len() < self.room.len() {
+        if goes_on && buf.len() < self.room.len() {
             self.fill(file, at);
             if self.give(at, buf) {
                 return Ok(());
             }
         }
         file.read_exact_at(buf, at)
+    }
+
+    /// Whether a read from here on goes on near where the last one ended.
+    fn goes_on(&self, at: u64) -> bool {
+        matches!(at.checked_sub(self.last), Some(gap) if gap <= NEAR)
     }
 
     /// Reads the stretch that begins here. Where that fails the window is over nothing.

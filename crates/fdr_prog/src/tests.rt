@@ -122,7 +122,7 @@ fn a_writer_takes_bytes_or_faults(rt: HostRuntime) -> Result<(), Fail> {
     Ok(())
 }
 
-// The reads in a window, over its end, before it, in the middle and at the end of the file.
+// The reads in a window, over its end, before it, far from it and near the read before, and at the end of the file.
 #[test]
 fn a_window_gives_the_bytes_of_the_file(rt: HostRuntime) -> Result<(), Fail> {
     let path = "window.bin";
@@ -133,7 +133,7 @@ fn a_window_gives_the_bytes_of_the_file(rt: HostRuntime) -> Result<(), Fail> {
     fs::write(&rt, path, bytes.as_slice())?;
     let image = ImageFile::new(&rt, path, false).seen_through(Window::new(rt.alloc())?);
     let mut deck = FileDeck::new(image, b"".as_slice(), sink());
-    for at in [0, 65_528, 65_530, 8, 70_000, 139_992] {
+    for at in [0, 65_528, 65_530, 8, 70_000, 70_008, 70_400, 139_992] {
         let read = read_eight(&mut deck, at).ok().ok_or("read")?;
         let held = bytes.get(at as usize..at as usize + 8).ok_or("held")?;
         assert_eq!(rt; read.as_slice(), held, "from byte {at} on");
