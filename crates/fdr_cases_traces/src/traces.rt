@@ -1,12 +1,11 @@
-use crate::lines::{frame, put_words};
-use crate::sure_command;
-use crate::tests::LISTBITS;
 use fdr_bus::TraceFault;
 use fdr_cases::{
-    ALTITUDE, END_AT_4000000, END_AT_4000001, WORD_AT_0, WORD_AT_4000000, answer, words_of,
+    ALTITUDE, END_AT_4000000, END_AT_4000001, WORD_AT_0, WORD_AT_4000000, answer, frame_with,
+    words_of,
 };
 use fdr_deck::{MemDeck, SureDeck};
 use fdr_io::{Input, MemSink, MemSource, NullSink, SureSource};
+use fdr_sure::sure_command;
 use fdr_top::Outcome;
 use std::alloc::{AllocError, Global};
 use std::test::Fail;
@@ -15,6 +14,11 @@ use std::test::Fail;
 const COUNTER_LAST: &[u8] = b"F,64,64,4\nP,ALT,0,203,,11,12,U,1,1,0,0,16\nL,ALT,1,1,2,0,1,12,0,1\n";
 
 const STREAM: &[&str] = &["stream", "t1.csv"];
+
+// Where the altitude 5 stands in a frame by the first table, and where it does in one by the second.
+const FIVE: &[(usize, u8)] = &[(13, 0x50)];
+
+const FIVE_SECOND: &[(usize, u8)] = &[(1, 0x52)];
 
 // Words of label 203 with the value 5, of odd parity but for the one before the last, and ends.
 const WORD_AT_15625: [u8; 16] = [1, 0, 0, 0, 0, 0, 0x14, 0xc1, 0, 0, 0, 0, 0, 0, 0x3d, 0x09];
@@ -37,20 +41,6 @@ fn bytes_of(alloc: Global, records: &[[u8; 16]], cut: usize) -> Result<Vec<u8>, 
     }
     bytes.truncate(bytes.len().saturating_sub(cut));
     Ok(bytes)
-}
-
-/// The bytes of a frame whose altitude stands in its second word.
-fn frame_with_altitude_second(altitude: u16) -> [u8; 384] {
-    let mut bytes = [0; 384];
-    let words = [
-        (0, 0x247),
-        (12, altitude),
-        (768, 0x5b8),
-        (1536, 0xa47),
-        (2304, 0xdb8),
-    ];
-    put_words(&mut bytes, &words);
-    bytes
 }
 
 /// A trace, how many bytes at its end are left out, the calls of the deck and of the sink that fail, and what is answered
@@ -121,10 +111,9 @@ fn run_case(
 fn streams_worked_traces(rt: HostRuntime) -> Result<(), Fail> {
     let alloc = rt.alloc();
     let words = words_of(alloc, STREAM)?;
-    let zero = frame(0, 0);
-    let five = frame(0, 5);
-    let second = frame_with_altitude_second(5);
-    let none = frame_with_altitude_second(0);
+    let zero = frame_with(alloc, &[])?;
+    let five = frame_with(alloc, FIVE)?;
+    let second = frame_with(alloc, FIVE_SECOND)?;
     let mut a_word_more = zero.to_vec(alloc)?;
     a_word_more.extend_from_slice(&[0x47, 0x02])?;
     let cases = [
@@ -145,13 +134,13 @@ fn streams_worked_traces(rt: HostRuntime) -> Result<(), Fail> {
             "a word after it",
             COUNTER_LAST,
             &[WORD_AT_15626, END_AT_4000000],
-            &none,
+            &zero,
         ),
         whole(
             "even parity",
             COUNTER_LAST,
             &[EVEN_AT_15625, END_AT_4000000],
-            &none,
+            &zero,
         ),
         whole(
             "nothing counts behind an end",
@@ -182,7 +171,7 @@ fn streams_worked_traces(rt: HostRuntime) -> Result<(), Fail> {
 fn streams_what_was_pulled_before_a_fault(rt: HostRuntime) -> Result<(), Fail> {
     let alloc = rt.alloc();
     let words = words_of(alloc, STREAM)?;
-    let five = frame(0, 5);
+    let five = frame_with(alloc, FIVE)?;
     let mut cut = refused(
         "a word and 15 bytes",
         &[WORD_AT_0, END_AT_4000000],
@@ -241,7 +230,7 @@ fn lists_what_was_streamed(rt: HostRuntime) -> Result<(), Fail> {
     let mut out = MemSink::new(alloc, Vec::new(alloc));
     let given = answer(
         alloc,
-        &words_of(alloc, LISTBITS)?,
+        &words_of(alloc, &["listbits", "t1.csv"])?,
         &mut table,
         &mut deck,
         &mut out,

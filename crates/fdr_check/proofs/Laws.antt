@@ -98,7 +98,7 @@ parts_hold places n p h =
     let one = and_parts some all two.0 in
     record {
       count = last;
-      some = leb-true _ _ one.0;
+      not_empty = leb-true _ _ one.0;
       numbers = parts_up_to places n;
       none_missing = λ part low high. pass_each (has_part places n) 1 last part one.1 low (omega arith);
       widths = λ k d l e. eqb-true _ _ (kept_pass same own places two.1 k d l (eq-eqb _ _ e));
@@ -108,7 +108,7 @@ parts_hold places n p h =
 last_is : (places : List PlaceRow) (n : ℕ) (p : ParamRow) (h : HasParts places n p) → last_part places n ≡ h.count
 last_is places n p h =
     let low : last_part places n ≤ h.count = last_low places n h.count h.numbers in
-    let there = Any-from_list_any (is_part n h.count) places (h.none_missing h.count h.some (omega arith)) in
+    let there = Any-from_list_any (is_part n h.count) places (h.none_missing h.count h.not_empty (omega arith)) in
     let parts = and_parts (there.1.param == n) (there.1.part == h.count) there.4 in
     let bound : get_or places there.0 there.1 ≡ there.1 → there.1.part ≤ last_part places n = λ e.
     subst (λ (l : PlaceRow). l.param ≡ n → l.part ≤ last_part places n) e (parts_up_to places n there.0 there.1 there.2) (eqb-true _ _ parts.0) in
@@ -127,7 +127,7 @@ holds_parts places n p h =
     let widths = list_all same (filter own places) in
     and_from ((some && all) && widths) (p.width == sum_by (part_width places n) (range_with_len 1 last))
     (and_from (some && all) widths
-    (and_from some all (le-leb _ _ (omega (arith, e, h.some)))
+    (and_from some all (le-leb _ _ (omega (arith, e, h.not_empty)))
     (list_all-range (has_part places n) 1 last (λ part low high. h.none_missing part low (omega (arith, e, high)))))
     (pass_kept same own places (λ k d l mine. eq-eqb _ _ (h.widths k d l (eqb-true _ _ mine)))))
     (eq-eqb _ _ (h.whole ∙ ap (λ k. sum_by (part_width places n) (range_with_len 1 k)) (sym e)))
@@ -225,7 +225,7 @@ sound_from t in_range none =
       apart = overlap_from t h4.0;
       parts = parts_from t h5.0;
       rates = rates_from t in_range.places h6.0;
-      few = few_from t h7.0;
+      within_superframe = few_from t h7.0;
     }
 
 -- and a sound table has none
@@ -239,4 +239,4 @@ no_fault_from t sound =
     ∙ first_some_none (overlap_fault t) o4 (overlap_none t sound.apart)
     ∙ first_some_none (parts_fault t) (rate_fault t ∷ many_fault t ∷ []) (parts_no_fault t sound.parts)
     ∙ first_some_none (rate_fault t) (many_fault t ∷ []) (rates_no_fault t sound.rates)
-    ∙ first_some_none (many_fault t) [] (few_none t sound.few)
+    ∙ first_some_none (many_fault t) [] (few_none t sound.within_superframe)

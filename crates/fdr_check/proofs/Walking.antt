@@ -48,7 +48,7 @@ at_word p = elim (cases_eq p.step 0) [
 
 pub step_single : (w : ℕ) (p : PlaceRow) → 0 < w → 1 ≤ p.word → p.step ≡ 0 → IsStep w p w
 step_single w p some low e = record {
-  some = some;
+  positive = some;
   next = λ v on within. let same = eqb-true v p.word (sym (single p v e) ∙ on) in absurd (omega arith);
   between = λ v d on above below within.
       let same = eqb-true v p.word (sym (single p v e) ∙ on) in single p (v + d) e ∙ ne_eqb (v + d) p.word (omega arith);
@@ -56,7 +56,7 @@ step_single w p some low e = record {
 
 pub step_many : (w : ℕ) (p : PlaceRow) → p.step ≢ 0 → IsStep w p p.step
 step_many w p n = record {
-  some = omega arith;
+  positive = omega arith;
   next = λ v on within.
       let two = and_parts (nat_le p.word v) ((v - p.word) % p.step == 0) (sym (stepped p v n) ∙ on) in
       let low = leb-true p.word v two.0 in
@@ -83,7 +83,7 @@ no_words_before w p = none_passes (is_on_word p) 1 (min (p.word - 1) w) (λ v lo
 pub words_next : (w : ℕ) (p : PlaceRow) (n word : ℕ) → IsStep w p n → 1 ≤ word → word ≤ w → is_on_word p word ≡ true
     → words_before w p (word + n) ≡ words_before w p word ++ word ∷ []
 words_next w p n word step low within on =
-    let some = step.some in
+    let some = step.positive in
     let here : 1 + min (word - 1) w ≡ word = omega arith in
     next_kept (is_on_word p) 1 (min (word - 1) w) (min (word + n - 1) w) (omega arith) (ap (is_on_word p) here ∙ on)
     (λ v above below.

@@ -26,7 +26,7 @@ has_part places param part = list_any (is_part param part) places
 -- and the widths of all parts add to the parameter's.
 pub record HasParts (places : List PlaceRow) (param : ℕ) (p : ParamRow) : Type 0 where
   pub count : ℕ
-  pub some : 1 ≤ count
+  pub not_empty : 1 ≤ count
   pub numbers : All (λ (l : PlaceRow). l.param ≡ param → l.part ≤ count) places
   pub none_missing : (part : ℕ) → 1 ≤ part → part ≤ count → IsTrue (has_part places param part)
   pub widths : All (λ (l : PlaceRow). l.param ≡ param → l.width ≡ part_width places param l.part) places
@@ -48,4 +48,4 @@ pub record IsSound (t : TableRows) : Type 0 where
   pub apart : AllPairs (ShareNoBit t.frame.words) t.places
   pub parts : (n : ℕ) (p : ParamRow) → slice_get t.params n ≡ Some p → HasParts t.places n p
   pub rates : (n : ℕ) (p : ParamRow) → slice_get t.params n ≡ Some p → HasRate t.frame.words t.places n p
-  pub few : length (occurrences t.frame.words t.places) ≤ most_superframe_parts
+  pub within_superframe : length (occurrences t.frame.words t.places) ≤ most_superframe_parts

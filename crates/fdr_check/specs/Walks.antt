@@ -16,7 +16,7 @@ words_on w p = filter (is_on_word p) (range_with_len 1 w)
 
 -- from one word of the place in a subframe of w words it is n words to the next, if there is one
 pub record IsStep (w : ℕ) (p : PlaceRow) (n : ℕ) : Type 0 where
-  pub some : 0 < n
+  pub positive : 0 < n
   pub next : (v : ℕ) → is_on_word p v ≡ true → v + n ≤ w → is_on_word p (v + n) ≡ true
   pub between : (v d : ℕ) → is_on_word p v ≡ true → 0 < d → d < n → v + d ≤ w → is_on_word p (v + d) ≡ false
 

@@ -141,7 +141,7 @@ fn count_in_frame(words: u32, place: &Place) -> u32
     requires some_words { 0 < words }
     requires word_limit { words ≤ 1024 }
     ensures count { (frame : ℕ) → frame % place.now.period ≡ place.now.cycle → length (frame_slots words place.now frame) ≡ result }
-    ensures few { result ≤ 4096 }
+    ensures within_frame { result ≤ 4096 }
 {
     let in_subframe = count_words(words, place);
     let mut count = 0;

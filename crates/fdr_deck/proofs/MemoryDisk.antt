@@ -104,7 +104,7 @@ module _ (size : ℕ) (old new : Memory) where
   pub zeros : (image : List ℕ) → image ≡ replicate size 0 → IsZeros size image
   zeros image is =
       let n : length image ≡ size = ap (λ (l : List ℕ). length l) is ∙ length-replicate size 0 in
-      record { few = omega (arith, n); zeros = is ∙ ap (λ (k : ℕ). replicate k 0) (sym n) }
+      record { within = omega (arith, n); zeros = is ∙ ap (λ (k : ℕ). replicate k 0) (sym n) }
 
   pub within_provide : IsEntered (Provide size) old new → KeepsPulled old new → length (held_in old) ≡ 0
       → EachMoment memory_tells (memory_state old) (memory_state new) (WithinProvide size (memory_state old) (memory_state new))

@@ -14,7 +14,7 @@ pub record Torn (at n : ℕ) (old new : List ℕ) : Type 0 where
 
 -- zeros, at most this many
 pub record IsZeros (most : ℕ) (image : List ℕ) : Type 0 where
-  pub few : length image ≤ most
+  pub within : length image ≤ most
   pub zeros : image ≡ replicate (length image) 0
 
 -- a stop leaves what the disk holds and nothing else

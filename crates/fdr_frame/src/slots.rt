@@ -6,66 +6,42 @@ ghost use Rattle.fdr_frame.specs.Slots.{frame_of, subframe_of, word_of, kind_of}
 
 use crate::SlotKind;
 
-/// How many whole subframes stand before word slot `k`: `k / words`. Each branch knows its divisor, so that none of them
-/// divides.
-#[tactic(auto, using(crate::proofs::WordCounts::word_count_cases))]
+/// How many whole subframes stand before word slot `k`: `k / words`. A number of words is a power of two, so that neither
+/// this nor the calls below divide.
+#[tactic(auto, using(crate::proofs::WordCounts::word_count_bounds))]
 pub fn subframes_before(k: u64, words: u32) -> u64
     requires { IsWordCount words }
     ensures { result ≡ k / words }
 {
-    match words {
-        64 => k / 64,
-        128 => k / 128,
-        256 => k / 256,
-        512 => k / 512,
-        _ => k / 1024,
-    }
+    k >> words.trailing_zeros()
 }
 
 /// How many words of its subframe stand before word slot `k`: `k % words`.
-#[tactic(auto, using(crate::proofs::WordCounts::word_count_cases))]
+#[tactic(auto, using(crate::proofs::WordCounts::word_count_bounds))]
 pub fn words_before(k: u64, words: u32) -> u64
     requires { IsWordCount words }
     ensures { result ≡ k % words }
 {
-    match words {
-        64 => k % 64,
-        128 => k % 128,
-        256 => k % 256,
-        512 => k % 512,
-        _ => k % 1024,
-    }
+    k & u64::from(words - 1)
 }
 
 /// How many whole frames stand before word slot `k`: `k / (4 * words)`.
-#[tactic(auto, using(crate::proofs::WordCounts::word_count_cases))]
+#[tactic(auto, using(crate::proofs::WordCounts::word_count_bounds))]
 pub fn frames_before(k: u64, words: u32) -> u64
     requires { IsWordCount words }
     ensures { result ≡ frame_of words k }
 {
-    match words {
-        64 => k / 256,
-        128 => k / 512,
-        256 => k / 1024,
-        512 => k / 2048,
-        _ => k / 4096,
-    }
+    k >> (words.trailing_zeros() + 2)
 }
 
 /// How many words of its frame stand before word slot `k`: `k % (4 * words)`.
-#[tactic(auto, using(crate::proofs::WordCounts::word_count_cases))]
+#[tactic(auto, using(crate::proofs::WordCounts::word_count_bounds))]
 pub fn frame_words_before(k: u64, words: u32) -> u64
     requires { IsWordCount words }
     ensures place { result ≡ k % (4 * words) }
     ensures within { result < 4 * words }
 {
-    match words {
-        64 => k % 256,
-        128 => k % 512,
-        256 => k % 1024,
-        512 => k % 2048,
-        _ => k % 4096,
-    }
+    k & u64::from(4 * words - 1)
 }
 
 /// What stands in word slot `k`, where the frame counter has word `cword` of subframe `csub`.

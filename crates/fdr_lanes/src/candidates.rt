@@ -78,7 +78,7 @@ fn places(first: u8x32, second: u8x32, third: u8x32) -> u8x32
 #[inline(always)]
 pub(crate) fn candidates(bytes: &[u8], at: usize) -> u64
     requires { at + 34 ≤ length bytes.now }
-    ensures few { result < 2 ^ 32 }
+    ensures within_lanes { result < 2 ^ 32 }
     ensures each { (q : ℕ) → 8 * at ≤ q → q < 8 * (at + 32) → IsSyncPosition bytes.now q → bit_at result (q / 8 - at) ≡ 1 }
 {
     let first = u8x32::from_slice(&bytes[at..]);

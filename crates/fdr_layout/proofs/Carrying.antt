@@ -59,7 +59,7 @@ part_lie w places n part few in_range =
     let bit = begins_low w x p (filter_passes (begins_at w x) ps k d l) in
     record {
       within = omega (arith, high, few);
-      some = range.width_low;
+      not_empty = range.width_low;
       bits = omega (arith, bit, range.bits);
     }))
 

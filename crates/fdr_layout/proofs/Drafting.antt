@@ -1,12 +1,13 @@
 -- Samples added to a draft one by one.
-use Rattle.std.proofs.Common.{◌≡◌, ℕ, ◌+◌, ◌-◌, ◌<◌, ◌≤◌, ◌==◌, List, [], ◌∷◌, ◌++◌, Option, Some, None, map, length, get_or, take, drop, refl, sym, ap}
+use Rattle.std.proofs.Common.{◌≡◌, ℕ, ◌+◌, ◌-◌, ◌<◌, ◌≤◌, ◌==◌, List, [], ◌∷◌, ◌++◌, Option, Some, map, length, get_or, take, drop, refl, sym, ap}
 use Rattle.std.proofs.Common.{◌∙◌, zero-add}
 use Rattle.std.proofs.Common.{zero, suc, arith}
-use Rattle.std.specs.List.{enumerate_from, flat_map, filter_map, cons_option, range_with_len, slice_get}
+use Rattle.std.specs.List.{enumerate_from, flat_map, filter_map, range_with_len, slice_get}
 use Rattle.std.proofs.lemmas.List.{append-nil, append_assoc, length-append, length-map, map_push, take-append-le, take_all, drop_at}
 use Rattle.std.proofs.lemmas.List.Concat.{flat_map-append}
-use Rattle.std.proofs.lemmas.List.FromFn.{map-range_with_len_more, length-map-range_with_len}
+use Rattle.std.proofs.lemmas.List.FromFn.{map-range_with_len_more}
 use Rattle.std.proofs.lemmas.List.Elements.{All-filter}
+use Rattle.fdr_lists.proofs.Filters.{filter_map_fewer}
 use Rattle.fdr_lists.proofs.Ranges.{map-range-agree}
 use Rattle.fdr_lists.proofs.Numbered.{enumerate_from_push}
 use Rattle.fdr_lists.proofs.Sums.{sum_by_same}
@@ -20,7 +21,7 @@ use Rattle.fdr_layout.specs.Samples.{Carrier, carrier_of, Part, part_at, parts_o
 use Rattle.fdr_layout.specs.SlotParts.{SlotPart, parts_of_sample, parts_among, plain_parts}
 use Rattle.fdr_layout.specs.Drafts.{listed, part_starts, AreDrafted}
 use Rattle.fdr_layout.proofs.Carrying.{HaveOneWidth}
-use Rattle.fdr_layout.proofs.Few.{samples_few}
+use Rattle.fdr_layout.proofs.Few.{length_samples_of, samples_few}
 use Rattle.fdr_layout.proofs.Lists.{enumerate_from_step}
 use Rattle.fdr_layout.proofs.Steps.{parts_of_carriers}
 
@@ -86,14 +87,6 @@ draft_more ss s number list list2 lasts lasts2 parts parts2 starts starts2 is nu
       begins = start_is ∙ ap (λ xs. xs ++ length parts2 ∷ []) is.begins ∙ ap (λ xs. part_starts ss ++ length xs ∷ []) all ∙ sym (starts_push ss s);
     }
 
-kept_few : {Y : Type 0} (o : Option Y) (ys : List Y) (n : ℕ) → length ys ≤ n → length (cons_option o ys) ≤ n + 1
-kept_few None ys n few = omega arith
-kept_few (Some y) ys n few = omega arith
-
-pub filter_map_few : {X Y : Type 0} (h : X → Option Y) (xs : List X) → length (filter_map h xs) ≤ length xs
-filter_map_few h [] = omega arith
-filter_map_few h (x ∷ xs) = let one = kept_few (h x) (filter_map h xs) (length xs) (filter_map_few h xs) in omega (arith, one)
-
 -- the parts that were added
 pub added_parts : (n : ℕ) (own : List Part) (old new now : List SlotPart) (start : ℕ) → new ≡ old ++ parts_of_sample n own → start ≡ length old
     → now ≡ drop start new → plain_parts now ≡ own
@@ -106,7 +99,7 @@ added_few n h carriers old new more =
     let own = filter_map h carriers in
     let made : Part → SlotPart = λ p. record { sample = n; part = p } in
     let long : length (map made own) ≡ length own = length-map own made in
-    omega (arith, ap length more, length-append old (parts_of_sample n own), long, filter_map_few h carriers)
+    omega (arith, ap length more, length-append old (parts_of_sample n own), long, filter_map_fewer h carriers)
 
 pub push_long : {X : Type 0} (old new : List X) (x : X) → new ≡ old ++ x ∷ [] → length new ≡ length old + 1
 push_long old new x more = ap length more ∙ length-append old (x ∷ [])
@@ -179,10 +172,6 @@ pub samples_next : (t : TableRows) (i : ℕ) (p : ParamRow) → i < length t.par
     → samples_before t (i + 1) ≡ samples_before t i ++ samples_of t.frame.words t.places i p.rate
 samples_next t i p l is =
     sym (enumerate_from_step (samples_at t) t.params i p (samples_before t i) (samples_before t i ++ samples_at t (i, p)) l is refl refl)
-
-length_samples_of : (w : ℕ) (places : List PlaceRow) (n rate : ℕ) → length (samples_of w places n rate) ≡ rate
-unfolding samples_of
-length_samples_of w places n rate = length-map-range_with_len (λ i. record { param = n; index = i; parts = parts_of w places n i }) 0 rate
 
 front_few : {X A : Type 0} (f : ℕ × X → List A) (a k : ℕ) (xs : List X)
     → length (flat_map f (enumerate_from a (take k xs))) ≤ length (flat_map f (enumerate_from a xs))

@@ -111,7 +111,7 @@ first_parts_few w places params =
       sum_by-le-sum_by (λ (p : PlaceRow). sum_by (first_part w p) es) (starts_of w) places (λ p. (one_owner w 0 p params).0),
     )
 
-length_samples_of : (w : ℕ) (places : List PlaceRow) (n rate : ℕ) → length (samples_of w places n rate) ≡ rate
+pub length_samples_of : (w : ℕ) (places : List PlaceRow) (n rate : ℕ) → length (samples_of w places n rate) ≡ rate
 unfolding samples_of
 length_samples_of w places n rate = length-map-range_with_len (λ i. record { param = n; index = i; parts = parts_of w places n i }) 0 rate
 
@@ -130,14 +130,14 @@ samples_few t sound =
     let P : ℕ × ParamRow → Type 0 = λ e. e.1.rate ≤ length (part_occurrences w t.places e.0 1) in
     let each : (n : ℕ) (p : ParamRow) → slice_get t.params n ≡ Some p → P (0 + n, p) = λ n p at.
     let parts = sound.parts n p at in
-    let first = sound.rates n p at 1 (parts.none_missing 1 (omega arith) parts.some) in
+    let first = sound.rates n p at 1 (parts.none_missing 1 (omega arith) parts.not_empty) in
     let k : n ≡ 0 + n = omega arith in
     let here : P (n, p) = omega (arith, first) in
     subst (λ j. P (j, p)) k here in
     omega (
       arith,
       length_samples t,
-      sound.few,
+      sound.within_superframe,
       first_parts_few w t.places t.params,
       sum_le (λ (e : ℕ × ParamRow). e.1.rate) (λ (e : ℕ × ParamRow). length (part_occurrences w t.places e.0 1)) (enumerate_from 0 t.params)
           (from_index P 0 t.params each),

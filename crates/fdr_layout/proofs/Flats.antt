@@ -10,7 +10,7 @@ use Rattle.std.proofs.lemmas.List.Folds.{list_any-append}
 use Rattle.std.proofs.lemmas.List.FromFn.{length-map-range_with_len, get_or-map-range_with_len}
 use Rattle.fdr_lists.proofs.Ranges.{map-range-agree}
 use Rattle.fdr_layout.specs.Flat.{segment, segments, AreStarts}
-use Rattle.fdr_layout.proofs.Lists.{flat_map-range_more, flat_map-range_append}
+use Rattle.fdr_check.proofs.Stretches.{flat_map-range_more, flat_map-range_append}
 
 -- where the first k of them end
 abbrev pub ends : {X : Type 0} → (ℕ → List X) → ℕ → ℕ
@@ -61,7 +61,7 @@ starts_are f n starts flat are is =
     let long : length starts ≡ n + 1 = ap length are ∙ length-map-range_with_len (ends f) 0 (n + 1) in
     let all : length flat ≡ ends f n = ap length is in
     record {
-      some = omega (arith, long);
+      not_empty = omega (arith, long);
       rise = λ k l. omega (arith, long, end_at f n k starts are (omega (arith, long)), end_at f n (k + 1) starts are (omega (arith, long)), end_next f k);
       within = λ k l.
           let whole : n ≡ k + (n - k) = omega (arith, long) in

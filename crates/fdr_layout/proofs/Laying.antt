@@ -14,8 +14,8 @@ use Rattle.fdr_table.specs.Rows.{ParamRow, PlaceRow, TableRows}
 use Rattle.fdr_check.specs.Occurrences.{frame_bits, Occurrence, part_occurrences}
 use Rattle.fdr_check.specs.Soundness.{IsSound}
 use Rattle.fdr_lists.proofs.Ranges.{All-range, map-range-agree}
-use Rattle.fdr_lists.proofs.Filters.{map-agree}
-use Rattle.fdr_lists.proofs.Numbered.{numbered_stand}
+use Rattle.fdr_lists.proofs.Filters.{filter_map_fewer, map-agree}
+use Rattle.fdr_lists.proofs.Numbered.{numbered_stand, slice_get_some}
 use Rattle.fdr_layout.specs.declared.parts.Sample.{Sample as ListedSample}
 use Rattle.fdr_layout.specs.Flat.{segment, segments, AreStarts}
 use Rattle.fdr_layout.specs.Listed.{numbered_parts, IsListedSample}
@@ -24,10 +24,11 @@ use Rattle.fdr_layout.specs.Samples.{carrier_of, Part, part_at, parts_of, Sample
 use Rattle.fdr_layout.specs.SlotParts.{SlotPart, parts_of_sample, parts_among, parts_at, parts_of_slot, parts_in, Laid, laid_of, IsLaid, plain_parts}
 use Rattle.fdr_layout.specs.Sorting.{ending_at, ending_among}
 use Rattle.fdr_layout.specs.Drafts.{listed, part_starts, AreDrafted, numbers_by_bit, starts_by_slot, picked}
-use Rattle.fdr_layout.proofs.Lists.{flat_map_agree, flat_map_twelves, flat_map-range_more}
+use Rattle.fdr_check.proofs.Stretches.{flat_map_agree, flat_map-range_more}
+use Rattle.fdr_layout.proofs.Lists.{flat_map_twelves}
 use Rattle.fdr_layout.proofs.Bits.{picked_by_bit}
 use Rattle.fdr_layout.proofs.Carrying.{part_within}
-use Rattle.fdr_layout.proofs.Drafting.{plain_again, length-enumerate, parts_among_push, filter_map_few}
+use Rattle.fdr_layout.proofs.Drafting.{plain_again, length-enumerate, parts_among_push}
 use Rattle.fdr_layout.proofs.Endings.{pieces_hold, all_pieces}
 use Rattle.fdr_layout.proofs.Few.{ending_few, samples_few}
 use Rattle.fdr_layout.proofs.Flats.{ends, ends_of, ends_agree, segment_is, segments_are, starts_are, map-flat_map, flat_map_chunks}
@@ -72,7 +73,7 @@ parts_within w places n i =
 
 parts_four : (w : ℕ) (places : List PlaceRow) (n i : ℕ) → length (parts_of w places n i) ≤ 4
 unfolding parts_of
-parts_four w places n i = filter_map_few (λ part. part_at i (carrier_of w places n part)) (range_with_len 1 4)
+parts_four w places n i = filter_map_fewer (λ part. part_at i (carrier_of w places n part)) (range_with_len 1 4)
 
 samples_within : (t : TableRows) → All (λ (s : Sample). All (λ (p : Part). p.at < 768 * t.frame.words) s.parts) (samples t)
 samples_within t =
@@ -176,15 +177,10 @@ own_parts_owned ss n =
 
 -- ---- what is picked by bit
 
-item_at : {X : Type 0} (items : List X) (n : ℕ) → n < length items → (x : X) × (slice_get items n ≡ Some x)
-item_at [] n within = absurd (omega arith)
-item_at (x ∷ xs) zero within = (x, refl)
-item_at (x ∷ xs) (suc n) within = item_at xs n (omega arith)
-
 length_picked : {X : Type 0} (items : List X) (ns : List ℕ) → All (λ n. n < length items) ns → length (picked items ns) ≡ length ns
 length_picked items [] all = refl
 length_picked items (n ∷ ns) all =
-    let at = item_at items n (All-head (λ m. m < length items) n ns all) in
+    let at = slice_get_some items n (All-head (λ m. m < length items) n ns all) in
     ap (λ o. length (cons_option o (picked items ns))) at.1 ∙ ap suc (length_picked items ns (All-tail (λ m. m < length items) n ns all))
 
 numbers_valid : (bits : List ℕ) (m : ℕ) → All (λ n. n < length bits) (numbers_by_bit bits m)
@@ -417,10 +413,10 @@ laid_holds t sound =
     record {
       cycles = record {
         count = length-map-range_with_len (ending_in t) 0 16;
-        few = All-map (λ (ss : List Sample). length ss < 2 ^ 32) (ending_in t) (range_with_len 0 16)
+        sample_counts = All-map (λ (ss : List Sample). length ss < 2 ^ 32) (ending_in t) (range_with_len 0 16)
             (λ k d l. let c = get_or (range_with_len 0 16) k d in omega (arith, few, ending_few t.frame.words (samples t) c));
       };
-      few = omega (arith, few);
+      sample_count = omega (arith, few);
       numbers = slots_numbers (samples t) (map (parts_in t) (range_with_len 0 (64 * t.frame.words))) (64 * t.frame.words) refl;
     }
 

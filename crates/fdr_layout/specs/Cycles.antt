@@ -6,4 +6,4 @@ use Rattle.fdr_layout.specs.Samples.{Sample}
 -- there are 16 lists, and each has fewer than 2 ^ 32 samples
 pub record AreCycles (cycles : List (List Sample)) : Type 0 where
   pub count : length cycles ≡ 16
-  pub few : All (λ (samples : List Sample). length samples < 2 ^ 32) cycles
+  pub sample_counts : All (λ (samples : List Sample). length samples < 2 ^ 32) cycles

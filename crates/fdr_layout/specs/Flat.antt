@@ -12,6 +12,6 @@ segments starts flat = map (segment starts flat) (range_with_len 0 (length start
 
 -- there is a place where the last ends, each begins where the one before ends, and none past the end
 pub record AreStarts (starts : List ℕ) (end : ℕ) : Type 0 where
-  pub some : 1 ≤ length starts
+  pub not_empty : 1 ≤ length starts
   pub rise : (k : ℕ) → k + 1 < length starts → slice_index starts k ≤ slice_index starts (k + 1)
   pub within : (k : ℕ) → k < length starts → slice_index starts k ≤ end

@@ -5,13 +5,13 @@ use Rattle.std.specs.Prelude.{ℕ, ◌+◌, ◌%◌, ◌<◌, ◌≤◌}
 -- words of 12 bits.
 pub record LieInWord (at width : ℕ) : Type 0 where
   pub within : at < 786432
-  pub some : 1 ≤ width
+  pub not_empty : 1 ≤ width
   pub bits : at % 12 + width ≤ 12
 
 -- a part's bits lie in one word slot, counted from 1 there, and at most three parts of 12 bits are below it
 pub record IsPart (slot lsb width shift : ℕ) : Type 0 where
   pub within : slot < 65536
   pub low : 1 ≤ lsb
-  pub some : 1 ≤ width
+  pub not_empty : 1 ≤ width
   pub high : lsb + width ≤ 13
-  pub few : shift ≤ 36
+  pub shift_limit : shift ≤ 36

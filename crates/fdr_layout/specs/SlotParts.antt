@@ -55,5 +55,5 @@ laid_of t = record {
 -- There are 16 cycles, fewer than 2 ^ 32 samples, and each part's sample is among them.
 pub record IsLaid (l : Laid) : Type 0 where
   pub cycles : AreCycles l.cycles
-  pub few : length l.samples < 2 ^ 32
+  pub sample_count : length l.samples < 2 ^ 32
   pub numbers : All (λ (parts : List SlotPart). All (λ (a : SlotPart). a.sample < length l.samples) parts) l.slots

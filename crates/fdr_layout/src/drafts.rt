@@ -46,7 +46,7 @@ fn add_sample(
     param: u32,
     index: u32,
 ) -> Result<(), NoMemory>
-    requires few { length draft.old.list.items < 262144 }
+    requires within_superframe { length draft.old.list.items < 262144 }
     requires four { length carriers.now ≡ 4 }
     requires parts { length draft.old.parts.items ≤ 4 * length draft.old.list.items }
     ensures sample { OnOk result ((ss : List SampleOf) → AreDrafted ss draft.old.list.items draft.old.lasts.items draft.old.parts.items draft.old.starts.items
@@ -81,7 +81,7 @@ fn add_samples(
     requires word_limit { words ≤ 1024 }
     requires in_range { All IsPlaceInRange places.now }
     requires widths { All (λ (l : PlaceRow). l.param ≡ param → l.width ≡ part_width places.now param l.part) places.now }
-    requires few { length draft.old.list.items + rate ≤ 262144 }
+    requires within_superframe { length draft.old.list.items + rate ≤ 262144 }
     requires parts { length draft.old.parts.items ≤ 4 * length draft.old.list.items }
     ensures samples { OnOk result ((ss : List SampleOf) → AreDrafted ss draft.old.list.items draft.old.lasts.items draft.old.parts.items draft.old.starts.items
         → AreDrafted (ss ++ samples_of words places.now param rate)

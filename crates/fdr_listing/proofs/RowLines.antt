@@ -1,5 +1,5 @@
 -- A row's line out of texts that are ready is its line.
-use Rattle.std.proofs.Common.{◌≡◌, ℕ, ℤ, List, ◌++◌, codes, decimal, ap, ◌∙◌, append_assoc}
+use Rattle.std.proofs.Common.{◌≡◌, ℕ, ℤ, List, ◌++◌, codes, decimal, append_assoc}
 use Rattle.fdr_listing.specs.Text.{row_start_text, row_place_text, row_line_text, row_text, value_text}
 
 joined : (r c m s w n v e : List ℕ) → (r ++ c) ++ (m ++ s ++ m ++ w ++ m) ++ n ++ m ++ v ++ e ≡ r ++ c ++ m ++ s ++ m ++ w ++ m ++ n ++ m ++ v ++ e

@@ -4,7 +4,8 @@ ghost use Rattle.std.specs.Prelude.{◌≡◌, ◌+◌, ◌≤◌, ◌<◌, ◌^
 ghost use Rattle.fdr_listing.specs.Text.{row_start_text, row_place_text, row_line_text, fraction_text, size_text, value_text};
 
 use crate::line::Line;
-use crate::text::unit;
+use crate::numbers::NumberTexts;
+use crate::text::{add_fraction, unit};
 use fdr_io::OutBuffer;
 use fdr_recon::Row;
 use fdr_table::Name;
@@ -60,6 +61,37 @@ impl ShortText {
         ShortText::of(&line)
     }
 
+    /// The digits of a number.
+    #[tactic(auto, using(crate::proofs::Lengths::numbers))]
+    pub(crate) fn number(n: u32) -> ShortText
+        requires { n < 4096 }
+        ensures { result ≡ decimal n }
+    {
+        let mut line = Line::new();
+        line.add_number(u64::from(n));
+        ShortText::of(&line)
+    }
+
+    /// A point and exactly so many digits; nothing where they are none.
+    pub(crate) fn fraction(n: u32, decimals: u8) -> ShortText
+        requires three_decimals { decimals ≤ 3 }
+        requires below { n < 10 ^ decimals }
+        ensures { result ≡ fraction_text n decimals }
+    {
+        let mut line = Line::new();
+        add_fraction(&mut line, u64::from(n), decimals);
+        ShortText::of(&line)
+    }
+
+    /// Puts the text, where there is room for eight bytes.
+    pub(crate) fn put(&self, buffer: &mut OutBuffer)
+        requires { length buffer.old + 8 ≤ 65536 }
+        ensures appended { buffer.new ≡ buffer.old ++ self.now }
+        ensures length { length buffer.new ≤ length buffer.old + 8 }
+    {
+        buffer.put(&self.bytes, self.len);
+    }
+
     fn of(line: &Line) -> ShortText
         requires { length line.now ≤ 8 }
         ensures { result ≡ line.now }
@@ -75,7 +107,7 @@ impl ShortText {
 }
 
 /// Puts a whole number.
-fn put_number(buffer: &mut OutBuffer, n: u64)
+pub(crate) fn put_number(buffer: &mut OutBuffer, n: u64)
     requires { length buffer.old + 20 ≤ 65536 }
     ensures appended { buffer.new ≡ buffer.old ++ decimal n }
     ensures length { length buffer.new ≤ length buffer.old + 20 }
@@ -116,7 +148,7 @@ fn put_fraction(buffer: &mut OutBuffer, n: u64, decimals: u8)
 
 /// Puts the size of a value in units of `10^-decimals`.
 #[tactic(auto, using(crate::proofs::Lengths::numbers), unfolding(crate::specs::Text::size_text))]
-fn put_size(buffer: &mut OutBuffer, size: u64, decimals: u8)
+pub(crate) fn put_long_size(buffer: &mut OutBuffer, size: u64, decimals: u8)
     requires room { length buffer.old + 60 ≤ 65536 }
     requires nine_decimals { decimals ≤ 9 }
     ensures appended { buffer.new ≡ buffer.old ++ size_text size decimals }
@@ -129,7 +161,7 @@ fn put_size(buffer: &mut OutBuffer, size: u64, decimals: u8)
 
 /// Puts a value in units of `10^-decimals`.
 #[tactic(auto, unfolding(crate::specs::Text::value_text))]
-fn put_value(buffer: &mut OutBuffer, v: i64, decimals: u8)
+fn put_value(buffer: &mut OutBuffer, numbers: &NumberTexts, v: i64, decimals: u8)
     requires room { length buffer.old + 61 ≤ 65536 }
     requires nine_decimals { decimals ≤ 9 }
     ensures appended { buffer.new ≡ buffer.old ++ value_text v decimals }
@@ -138,7 +170,7 @@ fn put_value(buffer: &mut OutBuffer, v: i64, decimals: u8)
     if v < 0 {
         buffer.put(b"-", 1);
     }
-    put_size(buffer, v.unsigned_abs(), decimals);
+    numbers.put_size(buffer, v.unsigned_abs(), decimals);
 }
 
 /// Puts the line of a row: what it begins with, its place, the parameter's name and its value. There must be room for
@@ -146,6 +178,7 @@ fn put_value(buffer: &mut OutBuffer, v: i64, decimals: u8)
 #[tactic(auto, unfolding(crate::specs::Text::row_line_text))]
 pub fn put_row(
     buffer: &mut OutBuffer,
+    numbers: &NumberTexts,
     start: &ShortText,
     place: &ShortText,
     name: &Name,
@@ -156,11 +189,11 @@ pub fn put_row(
     requires nine_decimals { decimals ≤ 9 }
     ensures { buffer.new ≡ buffer.old ++ row_line_text start.now place.now name.now row.now.value decimals }
 {
-    buffer.put(&start.bytes, start.len);
-    buffer.put(&place.bytes, place.len);
+    start.put(buffer);
+    place.put(buffer);
     let (bytes, len) = name.padded();
     buffer.put(bytes, len);
     buffer.put(b",", 1);
-    put_value(buffer, row.value, decimals);
+    put_value(buffer, numbers, row.value, decimals);
     buffer.put(b"\n", 1);
 }

@@ -1,6 +1,6 @@
 //! Worked lines.
 
-use crate::{Line, ShortText, gap_line, put_row, row_line, value_text};
+use crate::{Line, NumberTexts, ShortText, gap_line, put_row, row_line, value_text};
 use fdr_io::{MemSink, OutBuffer};
 use fdr_recon::Row;
 use fdr_table::Name;
@@ -57,9 +57,10 @@ fn put_together(alloc: Global, row: &Row, name: &Name, decimals: u8) -> Result<V
         return Err("a row")?;
     }
     let mut buffer = OutBuffer::new(alloc)?;
+    let numbers = NumberTexts::new(alloc).ok().ok_or("numbers")?;
     let start = ShortText::row_start(row.counter);
     let place = ShortText::row_place(row.subframe, row.word);
-    put_row(&mut buffer, &start, &place, name, row, decimals);
+    put_row(&mut buffer, &numbers, &start, &place, name, row, decimals);
     let mut sink = MemSink::new(alloc, Vec::new(alloc));
     buffer.finish(&mut sink).ok().ok_or("write")?;
     Ok(Vec::from_slice(alloc, sink.bytes())?)
@@ -74,6 +75,13 @@ fn puts_together_the_line_of_a_row(rt: HostRuntime) -> Result<(), Fail> {
         (89, 3, 999, -1, 1),
         (4095, 4, 1024, i64::MIN, 9),
         (512, 4, 64, i64::MAX, 2),
+        (1, 1, 2, 4095, 0),
+        (1, 1, 2, 4096, 0),
+        (1, 1, 2, -40959, 1),
+        (1, 1, 2, 409605, 2),
+        (1, 1, 2, 5, 3),
+        (1, 1, 2, -4096099, 3),
+        (1, 1, 2, 10001, 4),
     ];
     for name in names {
         let name = Name::new(name).ok_or("name")?;

@@ -41,12 +41,12 @@ fn add_zeros(line: &mut Line, zeros: usize)
 
 /// Adds a point and exactly `decimals` digits, or nothing where there are no decimals.
 #[tactic(auto, unfolding(crate::specs::Text::fraction_text))]
-fn add_fraction(line: &mut Line, n: u64, decimals: u8)
+pub(crate) fn add_fraction(line: &mut Line, n: u64, decimals: u8)
     requires room { length line.old ≤ 80 }
     requires nine_decimals { decimals ≤ 9 }
     requires below { n < 10 ^ decimals }
     ensures appended { line.new ≡ line.old ++ fraction_text n decimals }
-    ensures length { length line.new ≤ length line.old + 10 }
+    ensures length { length line.new ≤ length line.old + 1 + decimals }
 {
     if decimals == 0 {
         return;

@@ -1,6 +1,6 @@
 -- What is kept of a list, and equal lists of what is made of its elements.
-use Rattle.std.proofs.Common.{◌≡◌, Bool, true, false, List, [], ◌∷◌, map, refl, ap, ◌∙◌, ⊎_elim}
-use Rattle.std.specs.List.{filter, list_all, All}
+use Rattle.std.proofs.Common.{◌≡◌, ℕ, ◌+◌, ◌≤◌, Bool, true, false, List, [], ◌∷◌, Option, Some, None, length, map, refl, ap, ◌∙◌, ⊎_elim, arith}
+use Rattle.std.specs.List.{filter, filter_map, cons_option, list_all, All}
 use Rattle.std.specs.Prelude.{◌&&◌}
 use Rattle.std.proofs.lemmas.Bool.{cases_Bool, both_ways, false_from_ne_true}
 use Rattle.std.proofs.lemmas.List.Elements.{All-head, All-tail}
@@ -28,3 +28,12 @@ map-agree f g (x ∷ xs) same =
 pub list_all_same : {X : Type 0} (t u : X → Bool) (xs : List X) → ((x : X) → t x ≡ u x) → list_all t xs ≡ list_all u xs
 list_all_same t u [] same = refl
 list_all_same t u (x ∷ xs) same = ap (λ b. b && list_all t xs) (same x) ∙ ap (λ b. u x && b) (list_all_same t u xs same)
+
+added_fewer : {Y : Type 0} (o : Option Y) (ys : List Y) (n : ℕ) → length ys ≤ n → length (cons_option o ys) ≤ n + 1
+added_fewer None ys n few = omega arith
+added_fewer (Some y) ys n few = omega arith
+
+-- no more are made of a list than it has
+pub filter_map_fewer : {X Y : Type 0} (h : X → Option Y) (xs : List X) → length (filter_map h xs) ≤ length xs
+filter_map_fewer h [] = omega arith
+filter_map_fewer h (x ∷ xs) = let one = added_fewer (h x) (filter_map h xs) (length xs) (filter_map_fewer h xs) in omega (arith, one)

@@ -128,7 +128,7 @@ module _ (t : TableRows) (records : List BusRecord) (b : List ℕ) (q j m : ℕ)
   run_reached =
       let w = t.frame.words in
       let first : q + 48 * w * 0 ≡ q = omega arith in
-      reaches b w q (some_words t records h) (subst (IsFramePosition b w) first (run_position 0 (omega (arith, survives.some)))) survives.clear
+      reaches b w q (some_words t records h) (subst (IsFramePosition b w) first (run_position 0 (omega (arith, survives.not_empty)))) survives.clear
 
   -- one more frame of the run
   frames_to : (i : ℕ) →
@@ -181,7 +181,7 @@ module _ (t : TableRows) (records : List BusRecord) (b : List ℕ) (q j m : ℕ)
       ≡ run_reached.frames ++ frames_from t.frame.words q m ++ accepted_from b t.frame.words (q + 48 * t.frame.words * (m - 1) + 48 * t.frame.words)
   run_accepted =
       let w = t.frame.words in
-      let some = survives.some in
+      let some = survives.not_empty in
       let last = comes_to (m - 1) (omega arith) in
       let p = q + 48 * w * (m - 1) in
       let all : m - 1 + 1 ≡ m = omega arith in

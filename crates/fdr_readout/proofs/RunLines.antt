@@ -61,7 +61,7 @@ module _ (t : TableRows) (records : List BusRecord) (b : List ℕ) (q j m : ℕ)
       let gap = gap_lines r.free q in
       let run = flat_map (lines_at t b) (frames_from w q m) in
       let first : q ≡ q + 48 * w * 0 = omega arith in
-      let here : IsFirstFrameFrom b w q q = subst (λ p. IsFirstFrameFrom b w p p) (sym first) (run_here 0 (omega (arith, survives.some))) in
+      let here : IsFirstFrameFrom b w q q = subst (λ p. IsFirstFrameFrom b w p p) (sym first) (run_here 0 (omega (arith, survives.not_empty))) in
       let come : lines_from r.free ≡ gap ++ lines_from q = lines_from_first t b r.free q (some_words t records h) r.next
       ∙ append_assoc gap (lines_of t b (Frame q)) (lines_from (q + 48 * w))
       ∙ ap (λ (xs : List ℕ). gap ++ (xs ++ lines_from (q + 48 * w))) (lines_of-frame t b q)

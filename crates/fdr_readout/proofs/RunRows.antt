@@ -84,7 +84,7 @@ module _ (t : TableRows) (records : List BusRecord) (b : List ℕ) (q j m : ℕ)
   pub run_in_a_row : AreAcceptedInARow t b q m
   run_in_a_row =
       let w = t.frame.words in
-      let some = survives.some in
+      let some = survives.not_empty in
       let behind = accepted_from b w (q + 48 * w * (m - 1) + 48 * w) in
       let accepted : accepted_frames b w ≡ before_run ++ frames_from w q m ++ behind = unfold before_run in run_accepted t records b q j m h survives in
       let recorded = run_recorded (m - 1) m behind (omega arith) (omega arith) in

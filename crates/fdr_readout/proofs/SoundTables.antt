@@ -219,7 +219,7 @@ samples_whole : (t : TableRows) (n : ℕ) (s : Sample) → IsInRange t → IsSou
 samples_whole t n s range sound stands =
     let within = slice_get_within (samples t) n s stands in
     let h : IsSampleOf t.params s = subst (IsSampleOf t.params) (get_or_from_slice_get (samples t) n s s stands) (samples_sound t range sound n s within) in
-    (h.param, h.is, sample_whole t s h)
+    (h.param, h.found, sample_whole t s h)
 
 -- the samples of a sound table can be read back from their frames
 pub sound_recordable : (t : TableRows) → IsInRange t → IsSound t → IsRecordable t

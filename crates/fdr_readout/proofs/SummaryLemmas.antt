@@ -3,10 +3,11 @@ use Rattle.std.proofs.Common.{◌≡◌, ℕ, ◌+◌, ◌-◌, ◌*◌, ◌%◌
 use Rattle.std.proofs.Common.{arith, leb, length-append, suc}
 use Rattle.std.proofs.lemmas.List.{length-map}
 use Rattle.std.proofs.lemmas.List.FromFn.{length-range_with_len}
-use Rattle.std.specs.Prelude.{Option, Some, None, sum_by, filter}
-use Rattle.std.specs.List.{flat_map, filter_map, cons_option, range_with_len}
+use Rattle.std.specs.Prelude.{Option, sum_by, filter}
+use Rattle.std.specs.List.{flat_map, filter_map, range_with_len}
 use Rattle.std.proofs.lemmas.List.Elements.{filter_map-append, filter-append}
 use Rattle.std.proofs.lemmas.List.Sums.{length-filter, count_by-le-length}
+use Rattle.fdr_lists.proofs.Filters.{filter_map_fewer}
 use Rattle.fdr_bits.specs.Bits.{bits_in}
 use Rattle.fdr_sync.specs.Frames.{is_frame_position}
 use Rattle.fdr_sync.specs.Accepted.{accepted_frames, accepted_from, chosen_from, frame_positions}
@@ -87,20 +88,13 @@ few_frames b w =
       length-range_with_len 0 (bits_in b),
     )
 
-few_given : {X Y : Type 0} (h : X → Option Y) (xs : List X) → length (filter_map h xs) ≤ length xs
-few_given h [] = omega arith
-few_given h (x ∷ xs) = elim (h x) as (λ v. length (cons_option v (filter_map h xs)) ≤ length (x ∷ xs)) [
-  | None ↦ omega (arith, few_given h xs)
-  | Some y ↦ omega (arith, few_given h xs)
-]
-
 few_rows_of_frame : (t : TableRows) (frames : List ReadFrame) (i : ℕ) → IsSound t → length (rows_of_frame t frames i) ≤ 262144
 unfolding rows_of_frame rows_looked_at ending_in ending_among
 few_rows_of_frame t frames i sound =
     let cycle = cycle_of_frame t.frame (frame_at frames i).words in
     omega (
       arith,
-      few_given (λ (r : Option Row). r) (rows_looked_at t frames i),
+      filter_map_fewer (λ (r : Option Row). r) (rows_looked_at t frames i),
       length-map (ending_in t cycle) (row_of t frames i),
       ending_few t.frame.words (samples t) cycle,
       samples_few t sound,

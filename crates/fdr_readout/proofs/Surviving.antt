@@ -39,7 +39,7 @@ survives_itself t records m range sound some few =
     let before : m ≡ m - 1 + 1 = omega arith in
     let end : 48 * w * m ≡ 48 * w * (m - 1) + 48 * w = ap (λ k. 48 * w * k) before ∙ omega arith in
     record {
-      some = some;
+      not_empty = some;
       whole = omega arith;
       stand = record {
         within = omega (arith, last, end);
@@ -52,7 +52,7 @@ survives_itself t records m range sound some few =
 pub survives_elsewhere : (t : TableRows) (records : List BusRecord) (b c : List ℕ) (q r j m : ℕ) → Survives t records b q j m →
     StandIn b q (48 * t.frame.words * m) c r → IsClearBefore c t.frame.words r → Survives t records c r j m
 survives_elsewhere t records b c q r j m survives stand clear = record {
-  some = survives.some;
+  not_empty = survives.not_empty;
   whole = survives.whole;
   stand = record { within = stand.within; same = λ x low. stand.same x low ∙ survives.stand.same x low };
   clear = clear;

@@ -30,7 +30,7 @@ IsClearBefore b w q = (p : ℕ) → p < q → q < p + 48 * w → ¬ IsFramePosit
 -- Frames j to j + m - 1 of the recording, all of them whole, survive in b from bit q on: their exact bits stand there, and
 -- no frame position of b reaches into them from before.
 pub record Survives (t : TableRows) (records : List BusRecord) (b : List ℕ) (q j m : ℕ) : Type 0 where
-  pub some : 1 ≤ m
+  pub not_empty : 1 ≤ m
   pub whole : j + m ≤ whole_frames t records
   pub stand : StandIn (stream_of t records) (48 * t.frame.words * j) (48 * t.frame.words * m) b q
   pub clear : IsClearBefore b t.frame.words q

@@ -14,7 +14,7 @@ ghost use Rattle.fdr_readout.specs.TakersSound.{text_laws};
 
 use crate::takers::Taker;
 use fdr_io::{Failed, OutBuffer, Sink};
-use fdr_listing::{ROW_ROOM, ShortText, gap_line, put_row};
+use fdr_listing::{NumberTexts, ROW_ROOM, ShortText, gap_line, put_row};
 use fdr_recon::Row;
 use fdr_table::{NoMemory, Table};
 use std::alloc::Global;
@@ -66,11 +66,12 @@ impl RowStart {
     }
 }
 
-/// Writes the lines of what it takes. The texts of places are ready, and what a line begins with is made once for the
-/// rows of a frame. A clause sees it as the bytes that wait to be written.
+/// Writes the lines of what it takes. The texts of places and of small numbers are ready, and what a line begins with is
+/// made once for the rows of a frame. A clause sees it as the bytes that wait to be written.
 #[derive(Drop)]
 pub struct LineWriter {
     buffer: OutBuffer,
+    numbers: NumberTexts,
     places: Vec<ShortText>,
     start: RowStart,
 }
@@ -92,10 +93,12 @@ impl LineWriter {
     pub fn new(alloc: Global) -> Result<LineWriter, NoMemory>
         ensures { IfOk result (λ w. w ≡ []) }
     {
-        let buffer = OutBuffer::new(alloc).map_err(|_| NoMemory)?;
+        let buffer = empty_buffer(alloc)?;
+        let numbers = NumberTexts::new(alloc)?;
         let places = all_places(alloc)?;
         Ok(LineWriter {
             buffer,
+            numbers,
             places,
             start: RowStart::new(0),
         })
@@ -112,6 +115,12 @@ impl LineWriter {
     {
         self.buffer.finish(out)
     }
+}
+
+fn empty_buffer(alloc: Global) -> Result<OutBuffer, NoMemory>
+    ensures { IfOk result (λ b. b ≡ []) }
+{
+    OutBuffer::new(alloc).map_err(|_| NoMemory)
 }
 
 /// The texts of all places that a frame may have.
@@ -132,6 +141,7 @@ fn all_places(alloc: Global) -> Result<Vec<ShortText>, NoMemory>
 /// Puts the line of a row of one of the table's parameters.
 fn put_row_line(
     buffer: &mut OutBuffer,
+    numbers: &NumberTexts,
     start: &RowStart,
     places: &[ShortText],
     table: &Table,
@@ -147,6 +157,7 @@ fn put_row_line(
     let place = MAX_WORDS * (u32::from(row.subframe) - 1) + (row.word - 1);
     put_row(
         buffer,
+        numbers,
         &start.text,
         &places[place as usize],
         &param.name,
@@ -171,7 +182,14 @@ impl<O: Sink> Taker<O> for LineWriter {
     fn row(&mut self, table: &Table, row: &Row, out: &mut O) -> Result<(), Failed> {
         self.buffer.make_room(out, ROW_ROOM)?;
         self.start.set(row.counter);
-        put_row_line(&mut self.buffer, &self.start, &self.places, table, row);
+        put_row_line(
+            &mut self.buffer,
+            &self.numbers,
+            &self.start,
+            &self.places,
+            table,
+            row,
+        );
         Ok(())
     }
 

@@ -58,3 +58,17 @@ keep_last-from_end w m back place xs len few low =
     let within = from_end-within w m back place xs len few low in
     let index : a + j ≡ 4 * w * m + place = omega (arith, length-drop a xs, within) in
     get_or-drop a xs j 0 ∙ ap (λ n. get_or xs n 0) index
+
+-- the last frame's words are kept
+pub kept_last : (w place : ℕ) (before words : List ℕ) → length words ≡ 4 * w → place < 4 * w →
+    let ks = keep_last (64 * w) (before ++ words) in
+    (4 * w - 1 - place < length ks) × (get_or ks (length ks - (4 * w - 1 - place) - 1) 0 ≡ get_or words place 0)
+kept_last w place before words whole low =
+    let xs = before ++ words in
+    let a = length xs - 64 * w in
+    let ks = keep_last (64 * w) xs in
+    let j = length ks - (4 * w - 1 - place) - 1 in
+    let all : length xs ≡ length before + 4 * w = length-append before words ∙ ap (λ n. length before + n) whole in
+    let within : 4 * w - 1 - place < length ks = omega (arith, length-drop a xs, all) in
+    let index : a + j ≡ length before + place = omega (arith, length-drop a xs, all, within) in
+    (within, get_or-drop a xs j 0 ∙ ap (λ n. get_or xs n 0) index ∙ get_or-append-add before words place 0)

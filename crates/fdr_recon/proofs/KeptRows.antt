@@ -13,12 +13,13 @@ use Rattle.fdr_table.specs.Rows.{ParamRow}
 use Rattle.fdr_check.specs.Occurrences.{cycle_of}
 use Rattle.fdr_layout.specs.declared.parts.Sample.{Sample as ListedSample}
 use Rattle.fdr_layout.specs.Listed.{numbered_parts, sample_in}
-use Rattle.fdr_layout.specs.Samples.{Part, Sample, first_at, last_at}
+use Rattle.fdr_layout.specs.Samples.{Part, Sample, first_at}
 use Rattle.fdr_layout.specs.SlotParts.{Laid, SlotPart, parts_of_sample, plain_parts}
 use Rattle.fdr_layout.proofs.Drafting.{plain_again}
 use Rattle.fdr_recon.specs.declared.Row.{Row}
 use Rattle.fdr_recon.specs.Rows.{counter_place, reach, param_at, no_param}
-use Rattle.fdr_recon.specs.Kept.{RebuildKept, kept_counter, kept_cycle, kept_bits, kept_raw, kept_value, kept_row, kept_samples, is_next, IsSampleOf}
+use Rattle.fdr_recon.specs.Kept.{RebuildKept, kept_counter, kept_cycle, kept_bits, kept_raw, kept_value, kept_row, kept_samples, is_next}
+use Rattle.fdr_recon.specs.Kept.{EndsInCycle, IsSampleOf}
 use Rattle.fdr_recon.proofs.FilledValues.{filled_below}
 use Rattle.fdr_recon.proofs.KeptWords.{cycle_of_slot}
 
@@ -73,14 +74,13 @@ kept_row-some k s w first d counter param value w_is first_is d_is near counter_
     ∙ ap (λ n. Some (row counter w first n (kept_value k s))) (sym param_is)
     ∙ ap (λ z. Some (row counter w first param z)) (sym value_is)
 
--- how far a sample reaches back, by the slots of its last part and of its earliest part
-pub reach_is : (parts : List Part) (w v last first d : ℕ) → w ≡ v → last ≡ last_at parts / 12 → first ≡ first_at parts / 12
-    → d ≡ last / (4 * w) - first / (4 * w) → d ≡ reach v parts
-reach_is parts w v last first d w_is last_is first_is d_is =
-    d_is ∙ ap (λ n. last / (4 * n) - first / (4 * n)) w_is ∙ ap (λ n. n / (4 * v) - first / (4 * v)) (last_is)
-    ∙ ap (λ n. last_at parts / 12 / (4 * v) - n / (4 * v)) first_is
-    ∙ ap (λ n. n - first_at parts / 12 / (4 * v)) (cycle_of_slot v (last_at parts))
-    ∙ ap (λ n. cycle_of v (last_at parts) - n) (cycle_of_slot v (first_at parts))
+-- how far a sample reaches back, by the cycle that it ends in and the slot of its earliest part
+pub reach_is : (s : Sample) (w v cycle first d : ℕ) → w ≡ v → EndsInCycle v cycle s → first ≡ first_at s.parts / 12
+    → d ≡ cycle - first / (4 * w) → d ≡ reach v s.parts
+reach_is s w v cycle first d w_is ends first_is d_is =
+    d_is ∙ ap (λ n. cycle - first / (4 * n)) w_is ∙ ap (λ n. cycle - n / (4 * v)) first_is
+    ∙ ap (λ n. cycle - n) (cycle_of_slot v (first_at s.parts))
+    ∙ ap (λ n. n - cycle_of v (first_at s.parts)) (sym ends.last)
 
 kept_bits-fit : (k : RebuildKept) (cycle : ℕ) (p : Part) → kept_bits k cycle p < 2 ^ p.width
 unfolding kept_bits
@@ -103,18 +103,23 @@ kept_raw-small k cycle s h =
 -- the parameter of a sample
 pub param_at-sample : (params : List ParamRow) (s : Sample) (h : IsSampleOf params s) → param_at params s.param ≡ h.param
 unfolding param_at
-param_at-sample params s h = get_or_from_slice_get params s.param h.param no_param h.is
+param_at-sample params s h = get_or_from_slice_get params s.param h.param no_param h.found
 
 -- what holds of listed samples
-pub listed_samples_of : (l : Laid) (params : List ParamRow) (es : List ListedSample) → All (IsSampleOf params) (map (sample_in l) es)
-    → All (λ (e : ListedSample). IsSampleOf params (sample_in l e)) es
-listed_samples_of l params es all = λ i d within.
+pub listed_samples_hold : (P : Sample → Type 0) (l : Laid) (es : List ListedSample) → All P (map (sample_in l) es)
+    → All (λ (e : ListedSample). P (sample_in l e)) es
+listed_samples_hold P l es all = λ i d within.
     let long : length (map (sample_in l) es) ≡ length es = length-map es (sample_in l) in
-    subst (IsSampleOf params) (get_or-map (sample_in l) es i d (sample_in l d) within) (all i (sample_in l d) (omega (arith, long, within)))
+    subst P (get_or-map (sample_in l) es i d (sample_in l d) within) (all i (sample_in l d) (omega (arith, long, within)))
+
+-- the parts that are found under the number of a listed sample
+pub parts_of_listed : (l k : Laid) (e : ListedSample) (parts : List SlotPart) → l ≡ k
+    → parts ≡ parts_of_sample e.number (numbered_parts l e.number) → plain_parts parts ≡ (sample_in k e).parts
+parts_of_listed l k e parts laid own =
+    ap plain_parts own ∙ plain_again e.number (numbered_parts l e.number) ∙ ap (λ (x : Laid). numbered_parts x e.number) laid
 
 -- the raw value of a listed sample, by the parts that are found under its number
 pub raw_of_listed : (k : RebuildKept) (l : Laid) (cycle : ℕ) (e : ListedSample) (parts : List SlotPart) (raw : ℕ) → l ≡ k.laid
     → parts ≡ parts_of_sample e.number (numbered_parts l e.number) → raw ≡ kept_raw k cycle (plain_parts parts)
     → raw ≡ kept_raw k cycle (sample_in k.laid e).parts
-raw_of_listed k l cycle e parts raw laid own is =
-    is ∙ ap (kept_raw k cycle) (ap plain_parts own ∙ plain_again e.number (numbered_parts l e.number) ∙ ap (λ (x : Laid). numbered_parts x e.number) laid)
+raw_of_listed k l cycle e parts raw laid own is = is ∙ ap (kept_raw k cycle) (parts_of_listed l k.laid e parts laid own)

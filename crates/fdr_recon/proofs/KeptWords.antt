@@ -1,15 +1,15 @@
 -- The words that a value keeps.
-use Rattle.std.proofs.Common.{◌≡◌, ℕ, ◌+◌, ◌-◌, ◌*◌, ◌/◌, ◌%◌, ◌^◌, ◌<◌, ◌≤◌, true, false, length, None, ap, sym, ◌∙◌, subst, arith, ⊎_elim, lit≤}
+use Rattle.std.proofs.Common.{◌≡◌, ℕ, ◌+◌, ◌-◌, ◌*◌, ◌/◌, ◌%◌, ◌^◌, ◌<◌, ◌≤◌, true, false, [], length, None, ap, refl, sym, ◌∙◌, subst, arith, ⊎_elim, lit≤}
 use Rattle.std.specs.Prelude.{◌&&◌, nat_lt, if◌then◌else◌, slice_get, unwrap_or, slice_index, bit_and}
 use Rattle.std.specs.List.{All}
-use Rattle.std.proofs.lemmas.Bool.{cases_Bool, lt-ltb, le-ltb, ltb-true, cond_both, cond-true, cond-false, and_parts, and_from, and_left, and_right}
+use Rattle.std.proofs.lemmas.Bool.{cases_Bool, lt-ltb, le-ltb, ltb-true, cond_both, cond-true, cond-false, and_parts, and_left, and_right}
 use Rattle.std.proofs.lemmas.Option.{unwrap_or-slice_get}
 use Rattle.std.proofs.lemmas.Nat.{and_mask, mod_below, pow_pos, shl_below}
 use Rattle.std.proofs.lemmas.Nat.{shl_whole, one_shl}
-use Rattle.std.proofs.Math.Nat.{pow-le-pow_right, div-div-eq-div-mul}
+use Rattle.std.proofs.Math.Nat.{pow-le-pow_right, div-add-mod, div-div-eq-div-mul}
 use Rattle.fdr_check.specs.Occurrences.{cycle_of}
 use Rattle.fdr_layout.specs.Samples.{Part}
-use Rattle.fdr_recon.specs.Kept.{RebuildKept, kept_word, kept_bits, from_end}
+use Rattle.fdr_recon.specs.Kept.{RebuildKept, kept_word, kept_bits, from_end, word_back}
 
 pub kept_word-past : (k : RebuildKept) (back place : ℕ) → 4 * k.frame.words ≤ place → kept_word k back place ≡ 0
 unfolding kept_word
@@ -17,20 +17,35 @@ kept_word-past k back place past =
     cond-false _ _ _ (and_left _ _ (le-ltb place (4 * k.frame.words) past))
 
 -- the word as it is counted from the end
-pub kept_word-from_end : (k : RebuildKept) (back place n : ℕ) → place < 4 * k.frame.words → n ≡ from_end k.frame.words back place →
-    unwrap_or (if nat_lt n (length k.words) then slice_get k.words (length k.words - n - 1) else None) 0 ≡ kept_word k back place
+pub word_back-read : (k : RebuildKept) (n : ℕ)
+    → unwrap_or (if nat_lt n (length k.words) then slice_get k.words (length k.words - n - 1) else None) 0 ≡ word_back k n
+word_back-read k n =
+    ⊎_elim
+    (λ (t : nat_lt n (length k.words) ≡ true).
+    ap (λ o. unwrap_or o 0) (cond-true _ _ _ t) ∙ unwrap_or-slice_get k.words (length k.words - n - 1) 0 ∙ sym (cond-true _ _ _ t))
+    (λ (f : nat_lt n (length k.words) ≡ false). ap (λ o. unwrap_or o 0) (cond-false _ _ _ f) ∙ sym (cond-false _ _ _ f))
+    (cases_Bool (nat_lt n (length k.words)))
+
+pub kept_word-back : (k : RebuildKept) (back place n : ℕ) → place < 4 * k.frame.words → n ≡ from_end k.frame.words back place
+    → word_back k n ≡ kept_word k back place
 unfolding kept_word
-kept_word-from_end k back place n within e =
-    let P : ℕ → Type 0 = λ m. unwrap_or (if nat_lt m (length k.words) then slice_get k.words (length k.words - m - 1) else None) 0 ≡ kept_word k back place in
+kept_word-back k back place n within e =
     let j = from_end k.frame.words back place in
-    let inside = lt-ltb place (4 * k.frame.words) within in
-    subst P (sym e)
-    (⊎_elim
-    (λ (t : nat_lt j (length k.words) ≡ true).
-    ap (λ o. unwrap_or o 0) (cond-true _ _ _ t) ∙ unwrap_or-slice_get k.words (length k.words - j - 1) 0 ∙ sym (cond-true _ _ _ (and_from _ _ inside t)))
-    (λ (f : nat_lt j (length k.words) ≡ false).
-    ap (λ o. unwrap_or o 0) (cond-false _ _ _ f) ∙ sym (cond-false _ _ _ (and_right _ _ f)))
-    (cases_Bool (nat_lt j (length k.words))))
+    let word = slice_index k.words (length k.words - j - 1) in
+    ap (word_back k) e
+    ∙ ap (λ b. if b && nat_lt j (length k.words) then word else 0) (sym (lt-ltb place (4 * k.frame.words) within))
+
+pub word_back-small : (k : RebuildKept) (n : ℕ) → All (λ word. word < 4096) k.words → word_back k n < 4096
+word_back-small k n small =
+    cond_both (nat_lt n (length k.words)) (slice_index k.words (length k.words - n - 1)) 0 (λ (word : ℕ). word < 4096)
+    (λ t. let below : n < length k.words = ltb-true _ _ t in small (length k.words - n - 1) 0 (omega arith))
+    (λ _. omega arith)
+
+pub kept_word-none : (k : RebuildKept) (back place : ℕ) → k.words ≡ [] → kept_word k back place ≡ 0
+unfolding kept_word
+kept_word-none k back place none =
+    let few : length k.words ≤ from_end k.frame.words back place = omega (arith, ap length none) in
+    cond-false _ _ _ (and_right _ _ (le-ltb (from_end k.frame.words back place) (length k.words) few))
 
 pub kept_word-small : (k : RebuildKept) (back place : ℕ) → All (λ word. word < 4096) k.words → kept_word k back place < 4096
 unfolding kept_word
@@ -90,3 +105,30 @@ kept_bits-shifted k cycle p slot low word back len bits at fits few shift len_is
     let s = shifted (kept_bits k cycle p) p.shift (kept_bits-small k cycle p few) shift in
     let same : bits * 2 ^ p.shift % 2 ^ 64 ≡ kept_bits k cycle p * 2 ^ p.shift = ap (λ n. n * 2 ^ p.shift % 2 ^ 64) e ∙ s.0 in
     (same, omega (arith, same, s.1))
+
+-- ---- slots up to the end of a frame
+
+-- a slot by how many slots follow it up to the end of the frame that has this cycle
+pub slot_from_end : (w cycle slot : ℕ) → 0 < w → slot / (4 * w) ≤ cycle
+    → 4 * w * (cycle + 1) - 1 - slot ≡ from_end w (cycle - slot / (4 * w)) (slot % (4 * w))
+slot_from_end w cycle slot some le =
+    let q = slot / (4 * w) in
+    let whole : cycle - q + q ≡ cycle = omega (arith, le) in
+    omega (arith, div-add-mod slot (4 * w), mod_below slot (4 * w) (omega arith), ap (λ n. 4 * w * n) whole)
+
+-- the bits of a part that lies in this cycle or an earlier one, by the slots that follow it up to the end of the frame
+pub kept_bits-from_end : (k : RebuildKept) (cycle : ℕ) (p : Part) (slot low word end bits : ℕ) → 0 < k.frame.words → 12 * slot + low ≡ p.at → low < 12
+    → p.width ≤ 12 → p.shift ≤ 36 → cycle_of k.frame.words p.at ≤ cycle → end ≡ 4 * k.frame.words * (cycle + 1) → word ≡ word_back k (end - 1 - slot)
+    → bits ≡ bit_and (word / 2 ^ low) (1 * 2 ^ p.width % 65536 - 1) →
+    (bits * 2 ^ p.shift % 2 ^ 64 ≡ kept_bits k cycle p * 2 ^ p.shift) × (bits * 2 ^ p.shift % 2 ^ 64 < 2 ^ 48)
+kept_bits-from_end k cycle p slot low word end bits some at fits few shift ends end_is word_is bits_is =
+    let w = k.frame.words in
+    let back = cycle - slot / (4 * w) in
+    let slot_is : p.at / 12 ≡ slot = omega (arith, at, fits) in
+    let le : slot / (4 * w) ≤ cycle =
+    subst (λ n. n / (4 * w) ≤ cycle) slot_is (subst (λ n. n ≤ cycle) (sym (cycle_of_slot w p.at)) ends) in
+    let place : slot % (4 * w) < 4 * w = mod_below slot (4 * w) (omega arith) in
+    let read : word ≡ kept_word k back (slot % (4 * w)) =
+    word_is ∙ ap (λ n. word_back k (n - 1 - slot)) end_is
+    ∙ kept_word-back k back (slot % (4 * w)) (4 * w * (cycle + 1) - 1 - slot) place (slot_from_end w cycle slot some le) in
+    kept_bits-shifted k cycle p slot low word back (4 * w) bits at fits few shift refl refl read bits_is

@@ -119,7 +119,7 @@ module _ (t : TableRows) (n : ℕ) (p : ParamRow) (range : IsInRange t) (has : H
   -- at most four parts
   few_parts : has.count ≤ 4
   few_parts =
-      let place = part_has_place t.places n has.count (has.none_missing has.count has.some (omega arith)) in
+      let place = part_has_place t.places n has.count (has.none_missing has.count has.not_empty (omega arith)) in
       let fits = All-contains IsPlaceInRange t.places place.0 range.places place.1 in
       omega (arith, fits.part_high, place.2)
 
@@ -218,7 +218,7 @@ made_is_sample t s range sound made =
     (range.params s.param p (slice_get_within t.params s.param p made.is)) in
     record {
       param = p;
-      is = made.is;
+      found = made.is;
       narrow = omega (arith, fits.lsb_low, fits.bits);
       parts = subst (FillUp 0 p.width) (sym made.parts) (sample_fills t s.param p range (sound.parts s.param p made.is) (sound.rates s.param p made.is)
           s.index made.early);

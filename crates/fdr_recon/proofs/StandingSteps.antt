@@ -1,12 +1,15 @@
 -- For which past a value stands.
 use Rattle.std.proofs.Common.{◌≡◌, ℕ, zero, suc, ◌+◌, ◌-◌, ◌*◌, ◌%◌, ◌<◌, Bool, true, false, List, [], ◌∷◌, ◌++◌, length, drop, map, min, refl, ap, sym, ◌∙◌}
-use Rattle.std.proofs.Common.{subst, arith, length-append, length-drop}
+use Rattle.std.proofs.Common.{subst, ⊎_elim, ◌≤◌, zero-add, arith, length-append, length-drop}
 use Rattle.std.specs.Prelude.{◌&&◌, ◌==◌, not, if◌then◌else◌, slice_index}
 use Rattle.std.specs.List.{All, range_with_len, slice_index_or}
-use Rattle.std.proofs.lemmas.Bool.{ne_eqb, eq-eqb, and_left, and_right, cond-false}
-use Rattle.std.proofs.lemmas.List.{append-nil}
+use Rattle.std.proofs.lemmas.Bool.{ne_eqb, eq-eqb, and_left, and_right, cases_lt, cond-false}
+use Rattle.std.proofs.lemmas.List.{append-nil, get_or_past}
 use Rattle.std.proofs.lemmas.List.Concat.{flat_map-append}
-use Rattle.std.proofs.lemmas.List.Elements.{All-nil, All-push, All-map}
+use Rattle.std.proofs.lemmas.List.Elements.{All-nil, All-push, All-map, All-weaker}
+use Rattle.std.proofs.lemmas.List.FromFn.{get_or-map-range_with_len, length-map-range_with_len}
+use Rattle.fdr_layout.proofs.Ending.{EndsIn}
+use Rattle.fdr_layout.proofs.Endings.{ending_in_ends}
 use Rattle.circular_buffer.specs.Buffer.{keep_last}
 use Rattle.fdr_table.specs.Ranges.{IsInRange}
 use Rattle.fdr_table.specs.Rows.{FrameRow, ParamRow, TableRows}
@@ -14,7 +17,7 @@ use Rattle.fdr_check.specs.Soundness.{IsSound}
 use Rattle.fdr_layout.specs.Samples.{Sample, ending_in}
 use Rattle.fdr_layout.specs.SlotParts.{Laid, laid_of}
 use Rattle.fdr_recon.specs.Rows.{ReadFrame, frame_at, are_linked, counter_place, counter_in}
-use Rattle.fdr_recon.specs.Kept.{RebuildKept, kept_counter, is_next, IsSampleOf}
+use Rattle.fdr_recon.specs.Kept.{RebuildKept, kept_counter, is_next, EndsInCycle, IsSampleOf}
 use Rattle.fdr_recon.specs.Past.{IsWholeFrame, RepresentsRebuild, joined_count, read_frame}
 use Rattle.fdr_recon.proofs.JoinedFrames.{joined_count-push}
 use Rattle.fdr_recon.proofs.FrameWords.{words_of, length-words_of, keep_last-append}
@@ -32,6 +35,22 @@ pub layout-samples : (t : TableRows) → IsInRange t → IsSound t
 layout-samples t range sound =
     All-map (λ (samples : List Sample). All (IsSampleOf t.params) samples) (ending_in t) (range_with_len 0 16)
     (λ j d within. ending_in_sound t (slice_index_or (range_with_len 0 16) j d) range sound)
+
+-- and they end in their cycles
+pub layout-ends : (t : TableRows) (cycle : ℕ) → 0 < t.frame.words
+    → All (EndsInCycle t.frame.words cycle) (slice_index_or (map (ending_in t) (range_with_len 0 16)) cycle [])
+layout-ends t cycle some =
+    let w = t.frame.words in
+    let samples = map (ending_in t) (range_with_len 0 16) in
+    ⊎_elim
+    (λ (low : cycle < 16).
+    subst (All (EndsInCycle w cycle)) (sym (get_or-map-range_with_len (ending_in t) 0 16 cycle cycle [] low (zero-add cycle)))
+    (All-weaker (EndsIn w cycle) (EndsInCycle w cycle) (λ s ends. record { last = ends.last; parts = ends.high }) (ending_in t cycle)
+    (ending_in_ends t cycle some)))
+    (λ (high : 16 ≤ cycle).
+    let long : length samples ≡ 16 = length-map-range_with_len (ending_in t) 0 16 in
+    subst (All (EndsInCycle w cycle)) (sym (get_or_past samples cycle [] (omega (arith, long, high)))) (All-nil (EndsInCycle w cycle)))
+    (cases_lt cycle 16)
 
 -- before the first frame
 pub Stands-none : (t : TableRows) (frame : FrameRow) (params : List ParamRow) (laid : Laid) → frame ≡ t.frame → params ≡ t.params → laid ≡ laid_of t →

@@ -6,7 +6,7 @@ use Rattle.fdr_frame.specs.Slots.{subframe_of, word_of}
 use Rattle.fdr_table.specs.Rows.{FrameRow, ParamRow}
 use Rattle.fdr_table.specs.Value.{value_of}
 use Rattle.fdr_check.specs.Occurrences.{cycle_of}
-use Rattle.fdr_layout.specs.Samples.{Part, Sample, first_at}
+use Rattle.fdr_layout.specs.Samples.{Part, Sample, first_at, last_at}
 use Rattle.fdr_layout.specs.SlotParts.{Laid}
 use Rattle.fdr_recon.specs.declared.Row.{Row}
 use Rattle.fdr_recon.specs.Rows.{counter_place, reach, param_at}
@@ -28,17 +28,18 @@ FillUp low high (p ∷ parts) = (p.shift ≡ low) × FillUp (low + p.width) high
 -- the sample is one of these parameters, and its parts are all bits of the raw value
 pub record IsSampleOf (params : List ParamRow) (s : Sample) : Type 0 where
   pub param : ParamRow
-  pub is : slice_get params s.param ≡ Some param
+  pub found : slice_get params s.param ≡ Some param
   pub narrow : param.width ≤ 32
   pub parts : FillUp 0 param.width s.parts
 
--- what holds of every value, whose words have room for this many
-pub record IsRebuildKept (k : RebuildKept) (capacity : ℕ) : Type 0 where
-  pub some : 0 < k.frame.words
-  pub room : capacity ≡ 64 * k.frame.words
-  pub words : All (λ word. word < 4096) k.words
-  pub joined : k.joined ≤ 15
-  pub params : All (λ (samples : List Sample). All (IsSampleOf k.params) samples) k.laid.cycles
+-- the last part of the sample lies in this cycle of the superframe, and no part in a later one
+pub record EndsInCycle (w cycle : ℕ) (s : Sample) : Type 0 where
+  pub last : cycle_of w (last_at s.parts) ≡ cycle
+  pub parts : All (λ (p : Part). cycle_of w p.at ≤ cycle) s.parts
+
+-- the word before which n were kept last, or 0 where there is none
+abbrev pub word_back : RebuildKept → ℕ → ℕ
+word_back k n = if nat_lt n (length k.words) then slice_index k.words (length k.words - n - 1) else 0
 
 -- which word counts as the given one, from the last word back, of the frame that stands this many frames before the last
 abbrev pub from_end : ℕ → ℕ → ℕ → ℕ
@@ -53,6 +54,16 @@ kept_word k back place =
 
 abbrev pub kept_counter : RebuildKept → ℕ → ℕ
 kept_counter k back = kept_word k back (counter_place k.frame)
+
+-- what holds of every value, whose words have room for this many, and which has this counter of the last frame
+pub record IsRebuildKept (k : RebuildKept) (capacity counter : ℕ) : Type 0 where
+  pub some_words : 0 < k.frame.words
+  pub room : capacity ≡ 64 * k.frame.words
+  pub words : All (λ word. word < 4096) k.words
+  pub last_counter : counter ≡ kept_counter k 0
+  pub joined : k.joined ≤ 15
+  pub params : All (λ (samples : List Sample). All (IsSampleOf k.params) samples) k.laid.cycles
+  pub ends : (cycle : ℕ) → All (EndsInCycle k.frame.words cycle) (slice_index_or k.laid.cycles cycle [])
 
 -- the last frame's cycle
 abbrev pub kept_cycle : RebuildKept → ℕ

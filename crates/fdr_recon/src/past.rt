@@ -1,19 +1,20 @@
 //! The frames that were read, as far as rows still need them.
 
-ghost use Rattle.std.specs.Prelude.{◌≡◌, ◌+◌, ◌-◌, ◌*◌, ◌/◌, ◌^◌, ◌<◌, ◌≤◌, List, [], ◌∷◌, ◌++◌, Some, length, map, IfOk, IfSome, All, slice_get, unwrap_or};
-ghost use Rattle.std.specs.List.{range_with_len};
+ghost use Rattle.std.specs.Prelude.{◌≡◌, ℕ, ◌+◌, ◌-◌, ◌*◌, ◌/◌, ◌^◌, ◌<◌, ◌≤◌, List, [], ◌∷◌, ◌++◌, Some, length, map, IfOk, IfSome, All, slice_get, unwrap_or};
+ghost use Rattle.std.specs.List.{range_with_len, slice_index_or};
+ghost use Rattle.fdr_check.specs.Occurrences.{cycle_of};
 ghost use Rattle.fdr_frame.specs.WordCount.{IsWordCount};
 ghost use Rattle.fdr_table.specs.Rows.{TableRows};
 ghost use Rattle.fdr_layout.specs.Listed.{sample_in, IsListedSample};
 ghost use Rattle.fdr_layout.specs.SlotParts.{laid_of, plain_parts};
-ghost use Rattle.fdr_recon.specs.Rows.{ReadFrame, counter_place, rows_looked_at};
-ghost use Rattle.fdr_recon.specs.Kept.{kept_word, kept_counter, kept_cycle, kept_bits, kept_raw, kept_value, kept_row, kept_samples, is_next, IsRow, IsSampleOf};
+ghost use Rattle.fdr_recon.specs.Rows.{ReadFrame, counter_in, counter_place, rows_looked_at};
+ghost use Rattle.fdr_recon.specs.Kept.{kept_word, kept_counter, kept_cycle, kept_bits, kept_raw, kept_value, kept_row, kept_samples, is_next, word_back, EndsInCycle, IsRow, IsSampleOf};
 ghost use Rattle.fdr_recon.specs.Past.{RepresentsRebuild, read_frame};
 
 use crate::Row;
 use circular_buffer::HeapCircularBuffer;
 use fdr_check::Sound;
-use fdr_frame::{frame_words_before, frames_before, subframe_of, word_of};
+use fdr_frame::{frames_before, subframe_of, word_of};
 use fdr_layout::{Layout, Part, Sample};
 use fdr_table::{Frame, NoMemory, Param};
 use std::alloc::Global;
@@ -29,6 +30,8 @@ pub struct Rebuild {
     params: Vec<Param>,
     layout: Layout,
     words: HeapCircularBuffer<u16>,
+    // The last frame's counter; 0 before the first frame.
+    counter: u16,
     joined: u8,
 }
 
@@ -41,7 +44,7 @@ impl Model for Rebuild {
 
     ghost view = { rebuild_kept };
 
-    ghost invariant = { λ r. IsRebuildKept (rebuild_kept r) r.words.capacity };
+    ghost invariant = { λ r. IsRebuildKept (rebuild_kept r) r.words.capacity r.counter };
 }
 
 impl Rebuild {
@@ -72,6 +75,7 @@ impl Rebuild {
             0
         };
         self.words.extend_from_slice(words);
+        self.counter = counter_of(self.frame, words);
     }
 
     /// How many samples end in the last frame's cycle; 0 before the first frame. Takes no memory.
@@ -102,9 +106,7 @@ impl Rebuild {
         if !adjacent || self.words.is_empty() {
             return false;
         }
-        let place = counter_place(self.frame);
-        let counter = words.get(place as usize).copied().unwrap_or(0);
-        counter == (self.counter(0) + 1) % 4096
+        counter_of(self.frame, words) == (self.counter + 1) % 4096
     }
 
     /// The samples that end in the last frame's cycle, none before the first frame.
@@ -113,6 +115,7 @@ impl Rebuild {
         ensures listed { All (IsListedSample self.now.laid) result.now }
         ensures countable { length result.now < 2 ^ 32 }
         ensures params { All (λ e. IsSampleOf self.now.params (sample_in self.now.laid e)) result.now }
+        ensures ends { All (λ e. EndsInCycle self.now.frame.words (kept_cycle self.now) (sample_in self.now.laid e)) result.now }
         ensures frame { 0 < self.now.frame.words }
     {
         if self.words.is_empty() {
@@ -125,11 +128,12 @@ impl Rebuild {
     fn row_of(&self, sample: &Sample) -> Option<Row>
         requires of { IsSampleOf self.now.params (sample_in self.now.laid sample.now) }
         requires listed { IsListedSample self.now.laid sample.now }
+        requires ends { EndsInCycle self.now.frame.words (kept_cycle self.now) (sample_in self.now.laid sample.now) }
         ensures row { result ≡ kept_row self.now (sample_in self.now.laid sample.now) }
         ensures range { IfSome result (IsRow (length self.now.params)) }
     {
         let words = frame_words(self.frame);
-        let reach = frame_of(sample.last, words).saturating_sub(frame_of(sample.first, words));
+        let reach = u32::from(self.cycle()).saturating_sub(frame_of(sample.first, words));
         if reach > u32::from(self.joined) {
             return None;
         }
@@ -148,6 +152,7 @@ impl Rebuild {
     fn value(&self, sample: &Sample) -> i64
         requires of { IsSampleOf self.now.params (sample_in self.now.laid sample.now) }
         requires listed { IsListedSample self.now.laid sample.now }
+        requires ends { EndsInCycle self.now.frame.words (kept_cycle self.now) (sample_in self.now.laid sample.now) }
         ensures { result ≡ kept_value self.now (sample_in self.now.laid sample.now) }
     {
         let param = &self.params[sample.param as usize];
@@ -160,25 +165,29 @@ impl Rebuild {
     fn raw(&self, cycle: u8, parts: &[Part]) -> u64
         requires cycle { cycle < 16 }
         requires four_parts { length parts.now ≤ 4 }
+        requires ends { All (λ p. cycle_of self.now.frame.words p.at ≤ cycle) (plain_parts parts.now) }
         ensures raw { result ≡ kept_raw self.now cycle (plain_parts parts.now) }
         ensures fifty_bits { result ≤ 2 ^ 50 }
     {
+        let end = 4 * frame_words(self.frame) * (u32::from(cycle) + 1);
         let mut raw = 0;
         for part in parts {
-            raw += self.shifted_bits(cycle, part);
+            raw += self.shifted_bits(cycle, end, part);
         }
         raw
     }
 
-    /// The bits of a part of a sample that ends in the last frame, which has this cycle, at their place in the raw value.
-    fn shifted_bits(&self, cycle: u8, part: &Part) -> u64
-        requires { cycle < 16 }
+    /// The bits of a part of a sample that ends in the last frame, which has this cycle and ends before slot `end` of its
+    /// superframe, at their place in the raw value.
+    fn shifted_bits(&self, cycle: u8, end: u32, part: &Part) -> u64
+        requires cycle { cycle < 16 }
+        requires some_words { 0 < self.now.frame.words }
+        requires end { end ≡ 4 * self.now.frame.words * (cycle + 1) }
+        requires ends { cycle_of self.now.frame.words part.now.part.at ≤ cycle }
         ensures bits { result ≡ kept_bits self.now cycle part.now.part * 2 ^ part.now.part.shift }
         ensures four_words { result < 2 ^ 48 }
     {
-        let words = frame_words(self.frame);
-        let back = u32::from(cycle).saturating_sub(frame_of(part.slot, words));
-        let word = self.word(back, frame_words_before(u64::from(part.slot), words) as u32);
+        let word = self.word_back(end - 1 - part.slot);
         let bits = (word >> (part.lsb - 1)) & ((1 << part.width) - 1);
         u64::from(bits) << part.shift
     }
@@ -189,7 +198,8 @@ impl Rebuild {
         params: &[Param],
         layout: Layout,
     ) -> Result<Rebuild, NoMemory>
-        requires { All (λ samples. All (IsSampleOf params.now) samples) layout.cycles }
+        requires params { All (λ samples. All (IsSampleOf params.now) samples) layout.cycles }
+        requires ends { (cycle : ℕ) → All (EndsInCycle frame.words cycle) (slice_index_or layout.cycles cycle []) }
         ensures { IfOk result (λ r. r ≡ record { frame = frame; params = params.now; laid = layout; words = []; joined = 0 }) }
     {
         let params = copies_of(alloc, params)?;
@@ -199,6 +209,7 @@ impl Rebuild {
             params,
             layout,
             words,
+            counter: 0,
             joined: 0,
         })
     }
@@ -213,8 +224,15 @@ impl Rebuild {
         if place >= len {
             return 0;
         }
-        let from_end = len * back + (len - 1 - place);
-        self.words.nth_back(from_end as usize).copied().unwrap_or(0)
+        self.word_back(len * back + (len - 1 - place))
+    }
+
+    /// The word before which this many were kept last, or 0 where there is none.
+    fn word_back(&self, count: u32) -> u16
+        ensures word { result ≡ word_back self.now count }
+        ensures twelve_bits { result < 4096 }
+    {
+        self.words.nth_back(count as usize).copied().unwrap_or(0)
     }
 
     fn counter(&self, back: u32) -> u16
@@ -222,7 +240,11 @@ impl Rebuild {
         ensures counter { result ≡ kept_counter self.now back }
         ensures twelve_bits { result < 4096 }
     {
-        self.word(back, counter_place(self.frame))
+        if back == 0 {
+            self.counter
+        } else {
+            self.word(back, counter_place(self.frame))
+        }
     }
 
     /// The last frame's cycle.
@@ -230,7 +252,7 @@ impl Rebuild {
         ensures cycle { result ≡ kept_cycle self.now }
         ensures within_superframe { result < 16 }
     {
-        (self.counter(0) % 16) as u8
+        (self.counter % 16) as u8
     }
 }
 
@@ -254,6 +276,17 @@ fn room_for_words(alloc: Global, frame: Frame) -> Result<HeapCircularBuffer<u16>
     ensures some_words { 0 < frame.words }
 {
     HeapCircularBuffer::with_capacity(alloc, 64 * frame_words(frame) as usize).map_err(|_| NoMemory)
+}
+
+/// The counter among the words of a frame; 0 where there is none.
+fn counter_of(frame: Frame, words: &[u16]) -> u16
+    ensures counter { result ≡ counter_in frame words.now }
+    ensures twelve_bits { All (λ word. word < 4096) words.now → result < 4096 }
+{
+    words
+        .get(counter_place(frame) as usize)
+        .copied()
+        .unwrap_or(0)
 }
 
 /// The frame, counted from 0, that a word slot of the superframe is in.

@@ -6,6 +6,7 @@ use Rattle.std.proofs.lemmas.List.FromFn.{length-map-range_with_len, map-range_w
 use Rattle.std.proofs.lemmas.Nat.{mul-le}
 use Rattle.std.proofs.Math.Nat.{mul_comm}
 use Rattle.std.proofs.lemmas.Nat.{le-div}
+use Rattle.fdr_lists.proofs.Ranges.{map-range-agree}
 use Rattle.fdr_bus.specs.declared.BusRecord.{BusRecord}
 use Rattle.fdr_bus.specs.Records.{time_of}
 use Rattle.fdr_slot.specs.Limits.{IsInLimits}
@@ -31,16 +32,6 @@ map_join f a n (suc k) =
     ∙ append_assoc (map f (range_with_len a n)) (map f (range_with_len (a + n) k)) b
     ∙ ap (λ (l : List Block). map f (range_with_len a n) ++ l) (sym (map-range_with_len_more f (a + n) k (a + n + k) refl)
     ∙ ap (λ m. map f (range_with_len (a + n) m)) one)
-
-map_same : (f f' : ℕ → Block) (most n : ℕ) → n ≤ most → ((i : ℕ) → i + 1 ≤ most → f i ≡ f' i) → map f (range_with_len 0 n) ≡ map f' (range_with_len 0 n)
-map_same f f' most zero le same = refl
-map_same f f' most (suc n) le same =
-    let one : suc n ≡ n + 1 = omega arith in
-    let at : 0 + n ≡ n = omega arith in
-    ap (λ m. map f (range_with_len 0 m)) one ∙ map-range_with_len_more f 0 n n at
-    ∙ ap (λ (l : List Block). l ++ f n ∷ []) (map_same f f' most n (omega (arith, le)) same)
-    ∙ ap (λ (x : Block). map f' (range_with_len 0 n) ++ x ∷ []) (same n (omega (arith, le)))
-    ∙ sym (map-range_with_len_more f' 0 n n at) ∙ sym (ap (λ m. map f' (range_with_len 0 m)) one)
 
 -- a block that was due is the same with a further record
 same_block : (past : SessionPast) (r : BusRecord) → MayFeedSession past r → (i : ℕ) → i + 1 ≤ due past
@@ -85,7 +76,8 @@ recorded_of-fed past r limits may =
     ∙ map_join (numbered_block (session_with_record past r)) 0 (due past) (due (session_with_record past r) - due past)
     ∙ ap (λ (l : List Block). l ++ map (numbered_block (session_with_record past r))
     (range_with_len (0 + due past) (due (session_with_record past r) - due past)))
-    (map_same (numbered_block (session_with_record past r)) (numbered_block past) (due past) (due past) (omega arith) (same_block past r may))
+    (map-range-agree (numbered_block (session_with_record past r)) (numbered_block past) 0 (due past)
+    (λ i low high. same_block past r may i (omega (arith, high))))
     ∙ ap (λ m. recorded_of past ++ map (numbered_block (session_with_record past r)) (range_with_len m (due (session_with_record past r) - due past))) zero_on
 
 -- and with the rest they are all blocks of the stream

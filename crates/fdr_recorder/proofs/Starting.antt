@@ -22,7 +22,7 @@ use Rattle.fdr_recorder.proofs.Steps.{keeps_run, tail_same}
 weaker : (h : Header) (old new : List ℕ) → KeepsRun h (h.slots - 1) old new → KeepsRun h (h.slots - 2) old new
 weaker h old new keeps = record {
   kept = keeps.kept;
-  run = record { lost = keeps.run.lost; within = keeps.run.within; is = keeps.run.is; enough = omega (arith, keeps.run.enough) };
+  run = record { lost = keeps.run.lost; within = keeps.run.within; tail = keeps.run.tail; enough = omega (arith, keeps.run.enough) };
   next = keeps.next;
 }
 

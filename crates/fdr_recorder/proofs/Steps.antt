@@ -11,18 +11,18 @@ use Rattle.fdr_ring.proofs.Turning.{KeepsHeader-then}
 
 pub tail_on : (m : ℕ) (whole part more rest : List Block) → IsTail m whole part → IsTail m (part ++ more) rest → IsTail m (whole ++ more) rest
 tail_on m whole part more rest was is =
-    let long : length part ≡ length whole - was.lost = ap (λ (l : List Block). length l) was.is ∙ length-drop was.lost whole in
-    let joined : part ++ more ≡ drop was.lost (whole ++ more) = ap (λ (l : List Block). l ++ more) was.is
+    let long : length part ≡ length whole - was.lost = ap (λ (l : List Block). length l) was.tail ∙ length-drop was.lost whole in
+    let joined : part ++ more ≡ drop was.lost (whole ++ more) = ap (λ (l : List Block). l ++ more) was.tail
     ∙ sym (drop-append-le was.lost whole more was.within) in
     record {
       lost = was.lost + is.lost;
       within = omega (arith, is.within, was.within, long, length-append part more, length-append whole more);
-      is = is.is ∙ ap (λ (l : List Block). drop is.lost l) joined ∙ drop-drop is.lost was.lost (whole ++ more);
+      tail = is.tail ∙ ap (λ (l : List Block). drop is.lost l) joined ∙ drop-drop is.lost was.lost (whole ++ more);
       enough = omega (arith, is.enough, was.enough, length-append part more, length-append whole more);
     }
 
 pub tail_same : (m : ℕ) (whole : List Block) → IsTail m whole whole
-tail_same m whole = record { lost = 0; within = omega arith; is = refl; enough = omega arith }
+tail_same m whole = record { lost = 0; within = omega arith; tail = refl; enough = omega arith }
 
 -- nothing was added
 pub keeps_run : (h : Header) (entry image : List ℕ) (new : List Block) (told : ℕ) → KeepsRun h (h.slots - 2) entry image → told ≤ next_of h entry

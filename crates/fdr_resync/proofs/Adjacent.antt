@@ -83,7 +83,7 @@ frame_is_adjacent b w a before after some is =
     let P : Event → Type 0 = λ e. 0 < event_bits w e in
     let events = are_events b w some in
     let cover = cover_before w (bits_in b) a before after 0 (subst (Cover w 0 (bits_in b)) is events.cover) in
-    let bits = front P before (Frame a ∷ after) (subst (All P) is events.some) in
+    let bits = front P before (Frame a ∷ after) (subst (All P) is events.not_empty) in
     let here : (a + 48 * w == a) ≡ false = ne_eqb (a + 48 * w) a (λ same. omega arith) in
     let none : ends_at w a after ≡ false =
     list_any_none (λ x. x + 48 * w == a) (filter_map frame_of_event after)

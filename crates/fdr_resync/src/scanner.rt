@@ -241,7 +241,7 @@ impl Scanner {
     /// Goes on with the search and drops the bytes that it has passed.
     fn drop_searched(&mut self)
         ensures stands { (past : ScannerPast) → RepresentsScanner self.old past → RepresentsScanner self.new past }
-        ensures few { (past : ScannerPast) → RepresentsScanner self.old past → past.taken ≡ known_events past
+        ensures all_taken { (past : ScannerPast) → RepresentsScanner self.old past → past.taken ≡ known_events past
             → length self.new.window ≤ 6 * self.new.words }
         ensures words { self.new.words ≡ self.old.words }
         ensures pushed { bytes_pushed self.new ≡ bytes_pushed self.old }

@@ -58,7 +58,7 @@ fn scanned(
 ) -> Result<Vec<Event>, AllocError>
     requires empty { bytes_pushed scanner.old ≡ 0 }
     requires open { scanner.old.ended ≡ false }
-    requires some { 1 ≤ size }
+    requires not_empty { 1 ≤ size }
     requires small { size ≤ 4096 }
     requires limit { length bytes.now ≤ 2 ^ 20 }
 {

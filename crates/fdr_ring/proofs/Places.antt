@@ -130,7 +130,7 @@ pub same_image : (h : Header) (least : ℕ) (old new : List ℕ) → KeepsHeader
     → next_of h new ≡ next_of h old → KeepsRun h least old new
 same_image h least old new kept run next = record {
   kept = kept;
-  run = record { lost = 0; within = omega arith; is = run; enough = omega (arith, ap length run) };
+  run = record { lost = 0; within = omega arith; tail = run; enough = omega (arith, ap length run) };
   next = next;
 }
 

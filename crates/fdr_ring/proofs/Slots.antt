@@ -53,7 +53,7 @@ standing-here n k old new m emptied same = ap (λ j. if_numbered m (new j)) same
 record IsCut (limit number : ℕ) (whole part : List Block) : Type 0 where
   lost : ℕ
   within : lost ≤ length whole
-  is : part ≡ drop lost whole
+  tail : part ≡ drop lost whole
   enough : min (number - limit) (length whole) ≤ length part
 
 drop-more : (lost : ℕ) (xs : List Block) (b : Block) → lost ≤ length xs → drop lost xs ++ b ∷ [] ≡ drop lost (xs ++ b ∷ [])
@@ -65,7 +65,7 @@ drop-whole (x ∷ xs) = drop-whole xs
 
 cut_below : (n k limit : ℕ) (old new : Slots) (number : ℕ) → 0 < n → IsEmptied n k old new → ((m : ℕ) → m < number → m % n ≡ k → m < limit)
     → IsCut limit number (run_below n old number) (run_below n new number)
-cut_below n k limit old new zero some emptied late = record { lost = 0; within = omega arith; is = refl; enough = omega arith }
+cut_below n k limit old new zero some emptied late = record { lost = 0; within = omega arith; tail = refl; enough = omega arith }
 cut_below n k limit old new (suc number) some emptied late =
     let before = cut_below n k limit old new number some emptied (λ m less same. late m (omega arith) same) in
     ⊎_elim
@@ -74,7 +74,7 @@ cut_below n k limit old new (suc number) some emptied late =
     record {
       lost = length (run_below n old (suc number));
       within = omega arith;
-      is = empty
+      tail = empty
           ∙ sym (drop-whole (run_below n old (suc number)));
       enough = omega (arith, far);
     })
@@ -82,7 +82,7 @@ cut_below n k limit old new (suc number) some emptied late =
     ⊎_elim
     (λ none. let whole = run_below-none n old number none in
     let part = run_below-none n new number (same ∙ none) in
-    record { lost = 0; within = omega arith; is = part ∙ sym whole; enough = omega (arith, ap length whole, ap length part) })
+    record { lost = 0; within = omega arith; tail = part ∙ sym whole; enough = omega (arith, ap length whole, ap length part) })
     (λ held. let whole = run_below-some n old number held.0 held.1 in
     let part = run_below-some n new number held.0 (same ∙ held.1) in
     let long = length-run_below n old number held.0 held.1 in
@@ -90,7 +90,7 @@ cut_below n k limit old new (suc number) some emptied late =
     record {
       lost = before.lost;
       within = omega (arith, before.within, long);
-      is = part ∙ ap (λ r. r ++ held.0 ∷ []) before.is ∙ drop-more before.lost (run_below n old number) held.0 before.within
+      tail = part ∙ ap (λ r. r ++ held.0 ∷ []) before.tail ∙ drop-more before.lost (run_below n old number) held.0 before.within
           ∙ ap (drop before.lost) (sym whole);
       enough = omega (arith, before.enough, long, left);
     })
@@ -104,7 +104,7 @@ emptied_run n ahead old new next some less emptied =
     let cut = cut_below n ((next + ahead) % n) (next + ahead + 1 - n) old new next some emptied
     (λ m below same. let far = turn_apart n m (next + ahead) same (omega arith) in omega (arith, far)) in
     let short = run_below-short n old next in
-    record { lost = cut.lost; within = cut.within; is = cut.is; enough = omega (arith, cut.enough, short) }
+    record { lost = cut.lost; within = cut.within; tail = cut.tail; enough = omega (arith, cut.enough, short) }
 
 -- and the next number stays
 pub emptied_next : (n ahead : ℕ) (old new : Slots) (next : ℕ) → 0 < n → ahead + 1 < n → IsEmptied n ((next + ahead) % n) old new
@@ -156,9 +156,9 @@ run_below-bound n ahead slots next less none turn = ⊎_elim
 -- a tail that isn't longer than it must be
 pub IsTail-exact : (most : ℕ) (whole part : List Block) → IsTail most whole part → length part ≤ most → part ≡ last_blocks most whole
 IsTail-exact most whole part tail short =
-    let long : length part ≡ length whole - tail.lost = ap length tail.is ∙ length-drop tail.lost whole in
+    let long : length part ≡ length whole - tail.lost = ap length tail.tail ∙ length-drop tail.lost whole in
     let few : tail.lost ≡ length whole - most = omega (arith, tail.enough, tail.within, long, short) in
-    tail.is ∙ ap (λ k. drop k whole) few
+    tail.tail ∙ ap (λ k. drop k whole) few
 
 -- the slot of the next number, which was empty, gets its block
 pub record IsAdded (n : ℕ) (b : Block) (old new : Slots) : Type 0 where

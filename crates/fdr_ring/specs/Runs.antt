@@ -9,7 +9,7 @@ use Rattle.fdr_ring.specs.Gates.{KeepsHeader}
 pub record IsTail (least : ℕ) (whole part : List Block) : Type 0 where
   pub lost : ℕ
   pub within : lost ≤ length whole
-  pub is : part ≡ drop lost whole
+  pub tail : part ≡ drop lost whole
   pub enough : min least (length whole) ≤ length part
 
 -- the last blocks, at most this many

@@ -18,7 +18,7 @@ use Rattle.fdr_layout.proofs.Drafting.{plain_again}
 use Rattle.fdr_sampler.specs.Held.{first_part_slot}
 use Rattle.fdr_sampler.specs.SlotWord.{piece_of, data_of}
 use Rattle.fdr_sampler.specs.Kept.{value_at, IsDrawn}
-use Rattle.fdr_sampler.proofs.Lists.{slice_get_some}
+use Rattle.fdr_lists.proofs.Numbered.{slice_get_some}
 use Rattle.fdr_sampler.proofs.DataWords.{with_part, data_of-none, data_of-more}
 
 pub IsDrawn-none : (value : ℕ → ℕ) (raws : List ℕ) → IsDrawn value [] raws raws 0

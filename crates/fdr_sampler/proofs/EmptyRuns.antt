@@ -1,14 +1,14 @@
 -- Slots that have nothing are drawn at once.
-use Rattle.std.proofs.Common.{◌≡◌, ℕ, zero, suc, ◌+◌, ◌*◌, ◌%◌, ◌<◌, ⊎_elim, List, [], length, set, get_or, replicate, get_or-set_same, get_or-set_other}
+use Rattle.std.proofs.Common.{◌≡◌, ℕ, zero, suc, ◌+◌, ◌*◌, ◌%◌, ◌<◌, ◌≤◌, ⊎_elim, List, [], length, set, get_or, replicate, get_or-set_same, get_or-set_other}
 use Rattle.std.proofs.Common.{refl, sym, ap, ◌∙◌, subst, arith}
 use Rattle.std.specs.Prelude.{slice_index}
-use Rattle.std.proofs.lemmas.Bool.{cases_eq}
+use Rattle.std.proofs.lemmas.Bool.{cases_eq, cases_lt}
 use Rattle.fdr_frame.specs.declared.SlotKind.{SlotKind}
 use Rattle.fdr_frame.specs.declared.SlotKind.TheVariants.{Sync, Counter, Plain}
 use Rattle.fdr_frame.specs.Slots.{frame_of, kind_of, subframe_of, sync_word}
 use Rattle.fdr_table.specs.Rows.{FrameRow}
 use Rattle.fdr_layout.specs.SlotParts.{SlotPart, Laid}
-use Rattle.fdr_sampler.specs.Empty.{IsEmptySlot, HasEmptyRun}
+use Rattle.fdr_sampler.specs.Empty.{IsEmptySlot, HasEmptyRun, IsEmptyRun}
 use Rattle.fdr_sampler.specs.Kept.{SamplerKept, slot_parts, IsDrawn}
 use Rattle.fdr_sampler.specs.SlotWord.{slot_within, slot_word, word_with}
 use Rattle.fdr_sampler.specs.Past.{SamplerPast, sampler_with_words, RepresentsSampler}
@@ -19,27 +19,51 @@ use Rattle.fdr_sampler.proofs.Superframes.{kind_within, within_more}
 -- ---- the runs
 
 -- one more slot, before the others
-pub run_more : (f : FrameRow) (l : Laid) (slot next run : ℕ) → next ≡ slot + 1 → slot < 64 * f.words → IsEmptySlot f l slot → HasEmptyRun f l next run
+slots_more : (f : FrameRow) (l : Laid) (slot next run : ℕ) → next ≡ slot + 1 → slot < 64 * f.words → IsEmptySlot f l slot → HasEmptyRun f l next run
     → HasEmptyRun f l slot (run + 1)
-run_more f l slot next run after within empty rest zero less =
+slots_more f l slot next run after within empty rest zero less =
     let here : slot ≡ slot + zero = omega arith in
     (omega arith, subst (IsEmptySlot f l) here empty)
-run_more f l slot next run after within empty rest (suc j) less =
+slots_more f l slot next run after within empty rest (suc j) less =
     let there : next + j ≡ slot + suc j = omega arith in
     let is = rest j (omega arith) in
     (omega (arith, is.0), subst (IsEmptySlot f l) there is.1)
 
-pub run_none : (f : FrameRow) (l : Laid) (slot run : ℕ) → run ≡ 0 → HasEmptyRun f l slot run
-run_none f l slot run none = λ j less. absurd (omega arith)
+pub run_more : (f : FrameRow) (l : Laid) (slot next run : ℕ) → next ≡ slot + 1 → slot < 64 * f.words → IsEmptySlot f l slot → IsEmptyRun f l next run
+    → IsEmptyRun f l slot (run + 1)
+run_more f l slot next run after within empty rest =
+    let there : slot + (run + 1) ≡ next + run = omega arith in
+    record {
+      slots = slots_more f l slot next run after within empty rest.slots;
+      ends = λ inside more. rest.ends (omega (arith, inside)) (subst (IsEmptySlot f l) there more);
+    }
 
--- where the run of one slot is put
-pub run_put : (f : FrameRow) (l : Laid) (runs : List ℕ) (slot run : ℕ) → slot < length runs → HasEmptyRun f l slot run
-    → ((k : ℕ) → HasEmptyRun f l k (slice_index runs k)) → (k : ℕ) → HasEmptyRun f l k (slice_index (set runs slot run) k)
-run_put f l runs slot run room here each k =
+pub run_none : (f : FrameRow) (l : Laid) (slot : ℕ) → (IsEmptySlot f l slot → ⊥) → IsEmptyRun f l slot 0
+run_none f l slot taken =
+    let here : slot + 0 ≡ slot = omega arith in
+    record {
+      slots = λ j less. absurd (omega arith);
+      ends = λ inside empty. taken (subst (IsEmptySlot f l) here empty);
+    }
+
+-- past the superframe's last slot
+pub run_past : (f : FrameRow) (l : Laid) (slot run : ℕ) → run ≡ 0 → 64 * f.words ≤ slot → IsEmptyRun f l slot run
+run_past f l slot run none past = record {
+  slots = λ j less. absurd (omega arith);
+  ends = λ inside empty. absurd (omega (arith, past, inside));
+}
+
+after : (k slot : ℕ) → slot ≤ k → (k ≡ slot → ⊥) → slot + 1 ≤ k
+after k slot from other = ⊎_elim (λ (less : slot < k). omega (arith, less)) (λ (le : k ≤ slot). absurd (other (omega (arith, le, from)))) (cases_lt slot k)
+
+-- where the run of one slot is put before those behind it
+pub run_put : (f : FrameRow) (l : Laid) (runs : List ℕ) (slot run : ℕ) → slot < length runs → IsEmptyRun f l slot run
+    → ((k : ℕ) → slot + 1 ≤ k → IsEmptyRun f l k (slice_index runs k)) → (k : ℕ) → slot ≤ k → IsEmptyRun f l k (slice_index (set runs slot run) k)
+run_put f l runs slot run room here each k from =
     ⊎_elim
-    (λ (same : k ≡ slot). subst (λ m. HasEmptyRun f l m (get_or (set runs slot run) m 0)) (sym same)
-    (subst (HasEmptyRun f l slot) (sym (get_or-set_same runs slot run 0 room)) here))
-    (λ (other : k ≡ slot → ⊥). subst (HasEmptyRun f l k) (sym (get_or-set_other runs slot k run 0 other)) (each k))
+    (λ (same : k ≡ slot). subst (λ m. IsEmptyRun f l m (get_or (set runs slot run) m 0)) (sym same)
+    (subst (IsEmptyRun f l slot) (sym (get_or-set_same runs slot run 0 room)) here))
+    (λ (other : k ≡ slot → ⊥). subst (IsEmptyRun f l k) (sym (get_or-set_other runs slot k run 0 other)) (each k (after k slot from other)))
     (cases_eq k slot)
 
 zeros_read : (n k : ℕ) → ◌≡◌ {A = ℕ} (get_or (replicate n 0) k 0) 0
@@ -47,8 +71,9 @@ zeros_read zero k = refl
 zeros_read (suc n) zero = refl
 zeros_read (suc n) (suc k) = zeros_read n k
 
-pub runs_begun : (f : FrameRow) (l : Laid) (n : ℕ) (runs : List ℕ) → runs ≡ replicate n 0 → (k : ℕ) → HasEmptyRun f l k (slice_index runs k)
-runs_begun f l n runs are k = run_none f l k (get_or runs k 0) (ap (λ xs. get_or xs k 0) are ∙ zeros_read n k)
+pub runs_begun : (f : FrameRow) (l : Laid) (runs : List ℕ) → runs ≡ replicate (64 * f.words) 0 → (k : ℕ) → 64 * f.words ≤ k
+    → IsEmptyRun f l k (slice_index runs k)
+runs_begun f l runs are k past = run_past f l k (get_or runs k 0) (ap (λ xs. get_or xs k 0) are ∙ zeros_read (64 * f.words) k) past
 
 -- ---- drawing them
 

@@ -69,9 +69,3 @@ pub All-reverse : {X : Type 0} (P : X → Type 0) (xs : List X) → All P xs →
 All-reverse P xs all = λ k d l.
     let within : k < length xs = omega (arith, length-reverse xs) in
     subst P (sym (get_or-reverse xs k d within)) (all (length xs - 1 - k) d (omega arith))
-
--- an element within a list
-pub slice_get_some : {X : Type 0} (xs : List X) (k : ℕ) → k < length xs → (x : X) × (slice_get xs k ≡ Some x)
-slice_get_some [] k l = absurd (omega arith)
-slice_get_some (x ∷ xs) zero l = (x, refl)
-slice_get_some (x ∷ xs) (suc k) l = slice_get_some xs k (omega arith)

@@ -20,7 +20,7 @@ use Rattle.fdr_sampler.specs.Held.{Source, source_of, is_from, counts_for, held_
 use Rattle.fdr_sampler.specs.SlotWord.{numbered_value, slot_within, start_of, data_of, data_word, word_with, slot_word}
 use Rattle.fdr_sampler.specs.Kept.{SamplerKept, sampler_at_start, number_held_after, value_at, slot_parts, HaveValues, IsDrawn}
 use Rattle.fdr_sampler.specs.Past.{SamplerPast, sampler_made, sampler_with_record, sampler_with_word, MayTake, RepresentsSampler}
-use Rattle.fdr_sampler.proofs.Lists.{slice_get_some}
+use Rattle.fdr_lists.proofs.Numbered.{slice_get_some}
 use Rattle.fdr_sampler.proofs.SlotFacts.{IsOfSample, parts_in_of, parts_of_slot_in, beginning_holds}
 use Rattle.fdr_sampler.proofs.HeldFacts.{counts_later, held_record-next, held_record-counted, held_record-late, held_record-none}
 

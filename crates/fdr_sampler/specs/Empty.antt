@@ -15,7 +15,12 @@ pub record IsEmptySlot (f : FrameRow) (l : Laid) (slot : ℕ) : Type 0 where
 abbrev pub HasEmptyRun : FrameRow → Laid → ℕ → ℕ → Type 0
 HasEmptyRun f l slot run = (j : ℕ) → j < run → (slot + j < 64 * f.words) × IsEmptySlot f l (slot + j)
 
--- from each slot on, so many slots are empty
+-- so many slots from this one on are empty, and the slot behind them isn't, where the superframe has one there
+pub record IsEmptyRun (f : FrameRow) (l : Laid) (slot run : ℕ) : Type 0 where
+  pub slots : HasEmptyRun f l slot run
+  pub ends : slot + run < 64 * f.words → IsEmptySlot f l (slot + run) → ⊥
+
+-- from each slot on, exactly so many slots are empty
 pub record AreEmptyRuns (f : FrameRow) (l : Laid) (runs : List ℕ) : Type 0 where
   pub long : length runs ≡ 64 * f.words
-  pub each : (slot : ℕ) → HasEmptyRun f l slot (slice_index runs slot)
+  pub each : (slot : ℕ) → IsEmptyRun f l slot (slice_index runs slot)

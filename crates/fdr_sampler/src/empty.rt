@@ -1,7 +1,7 @@
 //! The slots of a superframe that have nothing.
 
-ghost use Rattle.std.specs.Prelude.{◌≡◌, ◌<◌, ◌≤◌, ◌+◌, ◌*◌, IfOk, IsTrue, length};
-ghost use Rattle.fdr_sampler.specs.Empty.{AreEmptyRuns, HasEmptyRun, IsEmptySlot};
+ghost use Rattle.std.specs.Prelude.{◌≡◌, ◌<◌, ◌≤◌, ◌+◌, ◌*◌, ◌↔◌, IfOk, IsTrue, length};
+ghost use Rattle.fdr_sampler.specs.Empty.{AreEmptyRuns, IsEmptyRun, IsEmptySlot};
 
 use crate::sampler::zeros;
 use fdr_frame::{SlotKind, slot_kind};
@@ -12,7 +12,7 @@ use std::alloc::Global;
 /// Whether a slot of the superframe has no part, no sync word and no counter.
 fn is_empty(frame: Frame, layout: &Layout, slot: u32) -> bool
     requires { slot < length layout.now.slots }
-    ensures { IsTrue result → IsEmptySlot frame layout.now slot }
+    ensures { IsTrue result ↔ IsEmptySlot frame layout.now slot }
 {
     layout.at_slot(slot).is_empty()
         && match slot_kind(u64::from(slot), frame.words, frame.cword, frame.csub) {
@@ -25,9 +25,9 @@ fn is_empty(frame: Frame, layout: &Layout, slot: u32) -> bool
 fn run_from(frame: Frame, layout: &Layout, slot: u32, next: u32) -> u32
     requires slots { length layout.now.slots ≡ 64 * frame.words }
     requires slot { slot < 64 * frame.words }
-    requires next { HasEmptyRun frame layout.now (slot + 1) next }
+    requires next { IsEmptyRun frame layout.now (slot + 1) next }
     requires within { next < 65536 }
-    ensures run { HasEmptyRun frame layout.now slot result }
+    ensures run { IsEmptyRun frame layout.now slot result }
     ensures more { result ≤ next + 1 }
 {
     if is_empty(frame, layout, slot) {

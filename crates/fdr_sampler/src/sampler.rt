@@ -6,6 +6,7 @@ ghost use Rattle.fdr_bus.specs.Records.{last_time};
 ghost use Rattle.fdr_sampler.specs.SlotWord.{slot_word, slot_within, word_with};
 ghost use Rattle.fdr_layout.specs.Samples.{Sample};
 ghost use Rattle.fdr_layout.specs.SlotParts.{laid_of};
+ghost use Rattle.fdr_sampler.specs.Empty.{IsEmptySlot};
 ghost use Rattle.fdr_sampler.specs.Held.{first_part_slot};
 ghost use Rattle.fdr_sampler.specs.Kept.{sampler_at_start, most_word_slots, owners_of};
 ghost use Rattle.fdr_sampler.specs.Past.{SamplerPast, sampler_made, sampler_with_record, sampler_with_word, sampler_with_words, MayTake, RepresentsSampler};
@@ -111,13 +112,16 @@ impl Sampler {
         word
     }
 
-    /// Draws slots that have no part, no sync word and no counter, as long as they come next, and at most so many. Their
-    /// words are 0. Answers how many it drew. Takes no memory.
+    /// Draws slots that have no part, no sync word and no counter, as long as they come next in the superframe, and at
+    /// most so many. Their words are 0. Answers how many it drew. Takes no memory.
     pub fn draw_empty(&mut self, most: u32) -> u32
         requires { (past : SamplerPast) × RepresentsSampler self.old past × (past.drawn + most ≤ most_word_slots) }
         ensures most { result ≤ most }
         ensures zeros { (past : SamplerPast) → RepresentsSampler self.old past
             → (k : ℕ) → k < result → slot_word past.table past.records (past.drawn + k) ≡ 0 }
+        ensures all { (past : SamplerPast) → RepresentsSampler self.old past → result < most
+            → slot_within past.table.frame.words past.drawn + result < 64 * past.table.frame.words
+            → IsEmptySlot past.table.frame (laid_of past.table) (slot_within past.table.frame.words past.drawn + result) → ⊥ }
         ensures stands { (past : SamplerPast) → RepresentsSampler self.old past → RepresentsSampler self.new (sampler_with_words past result) }
     {
         let slot = slot_within(self.frame, self.drawn);
@@ -133,7 +137,7 @@ impl Sampler {
         layout: Layout,
     ) -> Result<Sampler, NoMemory>
         requires slots { length layout.slots ≡ 64 * frame.words }
-        requires few { length params.now < 2 ^ 32 }
+        requires within_u32 { length params.now < 2 ^ 32 }
         requires owners { owners_of params.now ≡ map (λ (s : Sample). s.param) layout.samples }
         requires params { All (λ s. s.param < length params.now) layout.samples }
         ensures { IfOk result (λ s. s ≡ sampler_at_start frame params.now layout) }

@@ -31,5 +31,5 @@ pub record IsValid (h : Header) (slot : ℕ) (head : SlotHead) : Type 0 where
   pub gate : IsTrue head.gate
   pub number : head.seq < 2 ^ 48
   pub place : head.seq % h.slots ≡ slot
-  pub some : 1 ≤ head.len
+  pub not_empty : 1 ≤ head.len
   pub fits : head.len ≤ h.payload

@@ -171,7 +171,7 @@ impl Stream {
     /// Packs so many words that are 0.
     fn pack_zeros(&mut self, count: u32)
         requires paired { self.old.odd ≡ None }
-        requires few { count ≤ 2 * 128 }
+        requires within_slots { count ≤ 2 * 128 }
         requires room { length self.old.bytes + 3 * count / 2 ≤ self.old.payload + 1 }
         ensures { self.new ≡ with_packed_zeros self.old count }
     {
@@ -183,7 +183,7 @@ impl Stream {
 
     /// Puts so many bytes that are 0 behind those that wait.
     fn fill_zeros(&mut self, count: u32)
-        requires few { count ≤ 3 * 128 }
+        requires within_slots { count ≤ 3 * 128 }
         requires room { length self.old.bytes + count ≤ self.old.payload + 1 }
         ensures { self.new ≡ record self.old { bytes = self.old.bytes ++ replicate count 0 } }
     {

@@ -191,7 +191,7 @@ are_events b w some =
     let fit = accepted_fit b w in
     record {
       cover = subst (Cover w 0 n) (sym is) (over_covers w n xs 0 fit);
-      some = subst (All (λ e. 0 < event_bits w e)) (sym is) (over_some w n some xs 0 fit);
+      not_empty = subst (All (λ e. 0 < event_bits w e)) (sym is) (over_some w n some xs 0 fit);
       apart = subst NoGapsMeet (sym is) (over_apart w n xs 0 fit);
       frames = subst (AreAcceptedFrames b w) (sym (frames_of_events b w)) (are_accepted b w some);
     }
@@ -199,7 +199,7 @@ are_events b w some =
 -- no other list is one of events
 pub only_events : (b : List ℕ) (w : ℕ) → 0 < w → (es : List Event) → AreEvents b w es → es ≡ events_of b w
 only_events b w some es h =
-    cover_is_over w (bits_in b) es 0 h.cover h.some h.apart
+    cover_is_over w (bits_in b) es 0 h.cover h.not_empty h.apart
     ∙ ap (over w 0 (bits_in b)) (only_accepted b w some (filter_map frame_of_event es) h.frames)
     ∙ sym (events_are_over b w 0)
 

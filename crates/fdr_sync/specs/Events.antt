@@ -87,6 +87,6 @@ NoGapsMeet (Gap a n ∷ es) = (¬ BeginsWithGap es) × NoGapsMeet es
 -- another, and the frames among them are the accepted ones.
 pub record AreEvents (b : List ℕ) (w : ℕ) (es : List Event) : Type 0 where
   pub cover : Cover w 0 (bits_in b) es
-  pub some : All (λ e. 0 < event_bits w e) es
+  pub not_empty : All (λ e. 0 < event_bits w e) es
   pub apart : NoGapsMeet es
   pub frames : AreAcceptedFrames b w (filter_map frame_of_event es)

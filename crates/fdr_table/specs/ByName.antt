@@ -8,6 +8,6 @@ use Rattle.fdr_table.specs.declared.params.Params.TheInside.{Inside}
 
 -- a look-up of any name gives the parameter's index
 pub record AreByName (p : Inside) : Type 0 where
-  pub few : length p.list.items ≤ most_params
+  pub count : length p.list.items ≤ most_params
   pub ranges : All IsParamInRange p.list.items
   pub names : (name : List ℕ) → get_by (λ key. bytes_eq name key.items) p.by_name ≡ index_named p.list.items name

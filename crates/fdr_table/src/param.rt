@@ -110,5 +110,10 @@ fn scaled(raw: i64, num: i64, den: i64) -> i64
     ensures low { neg_ℤ (pos 4294967296000000000) ≤ℤ result }
     ensures high { result ≤ℤ pos 4294967296000000000 }
 {
-    (raw * num).div_euclid(den)
+    let product = raw * num;
+    // Most scales have no divisor, and a division costs more than the rest of a value.
+    if den == 1 {
+        return product;
+    }
+    product.div_euclid(den)
 }

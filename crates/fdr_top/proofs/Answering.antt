@@ -43,11 +43,11 @@ report_done path answer of quiet = ⊎_elim (λ memory. inr memory) (λ own. abs
 too_long_answered : (path : List ℕ) (answer : Outcome) (n : ℕ) → IsOwn (list_bits path) answer → (answer ≡ outcome.Done → n ≤ most_line_bytes)
     → (answer ≡ outcome.ReadFault input.Line → n ≤ most_line_bytes) → most_line_bytes < n
     → (answer ≡ outcome.TooLong) ⊎ (answer ≡ outcome.WriteFault)
-too_long_answered path outcome.Done n of few fault_few many = absurd (omega (arith, few refl, many))
-too_long_answered path (outcome.ReadFault input.Line) n of few fault_few many = absurd (omega (arith, fault_few refl, many))
-too_long_answered path outcome.WriteFault n of few fault_few many = inr refl
-too_long_answered path outcome.TooLong n of few fault_few many = inl refl
-too_long_answered path answer n own few fault_few many = absurd own
+too_long_answered path outcome.Done n of few fault_within_limit many = absurd (omega (arith, few refl, many))
+too_long_answered path (outcome.ReadFault input.Line) n of few fault_within_limit many = absurd (omega (arith, fault_within_limit refl, many))
+too_long_answered path outcome.WriteFault n of few fault_within_limit many = inr refl
+too_long_answered path outcome.TooLong n of few fault_within_limit many = inl refl
+too_long_answered path answer n own few fault_within_limit many = absurd own
 
 -- a line of at most the most that is listed, and no fault: it is listed
 pub list_done : (path : List ℕ) (t : TableRows) (tells : Tells) (old new : State) (before now : Option (List ℕ)) (answer : Outcome)
@@ -67,7 +67,7 @@ lists_line path t tells old new before now answer lists of = record {
   lists = lists;
   whole = λ done told. whole_line t tells old new before now answer lists done told;
   too_long = λ e. omega (arith, lists.takes.taken, lists.many e);
-  too_long_always = λ many. too_long_answered path answer (length lists.pulled) of lists.few lists.fault_few
+  too_long_always = λ many. too_long_answered path answer (length lists.pulled) of lists.done_within_limit lists.fault_within_limit
       (omega (arith, lists.takes.taken, many));
 }
 

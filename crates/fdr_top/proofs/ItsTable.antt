@@ -44,7 +44,7 @@ read_accepted old new taken t answer accepted table whole end sound either = rec
   accepted = λ past. told_all IsAccepted old new taken whole end accepted;
   accepted_at_end = λ past. end;
   sound = λ bytes past told. subst IsSound (table ∙ ap table_in (sym (taken_is_all old new taken bytes whole end told))) sound;
-  fault_few = λ e. absurd (past_not_fault answer either e);
+  fault_within_limit = λ e. absurd (past_not_fault answer either e);
 }
 
 -- the table wasn't read, or was refused
@@ -64,7 +64,7 @@ read_refused old new answer of_table refused fault = record {
   accepted = λ past. absurd (table_not_past answer of_table past);
   accepted_at_end = λ past. absurd (table_not_past answer of_table past);
   sound = λ bytes past told. absurd (table_not_past answer of_table past);
-  fault_few = fault;
+  fault_within_limit = fault;
 }
 
 -- what holds of the table that was read

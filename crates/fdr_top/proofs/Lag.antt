@@ -17,13 +17,13 @@ pub IsInTime-more : (owed : List BusRecord → ℕ) (start : ℕ) (bytes more : 
     → told ≤ told' → IsInTime owed start bytes told before taken
     → IsInTime owed start (bytes ++ more) told' before taken
 IsInTime-more owed start bytes more told told' before taken le is =
-    let inside : before - start ≤ length bytes = omega (arith, is.begins, is.some, is.within) in
+    let inside : before - start ≤ length bytes = omega (arith, is.begins, is.gave_bytes, is.within) in
     let front : take (before - start) (bytes ++ more) ≡ take (before - start) bytes = take-append-le (before - start)
     bytes more inside in
     let same = ap (λ (x : List ℕ). owed (good_prefix x)) front in
     record {
       begins = is.begins;
-      some = is.some;
+      gave_bytes = is.gave_bytes;
       within_piece = is.within_piece;
       within = omega (arith, is.within, length-append bytes more);
       announced = omega (arith, le, is.announced, same);
@@ -42,8 +42,8 @@ IsInTime-pull owed start at bytes more records told before taken is enough last 
     (λ (x : List ℕ). owed (good_prefix x)) front ∙ ap owed last.read in
     record {
       begins = omega (arith, last.begins, is);
-      some = last.some;
-      within_piece = last.few;
+      gave_bytes = last.gave_bytes;
+      within_piece = last.within_piece;
       within = omega (arith, last.within, is, length-append bytes more);
       announced = omega (arith, same, enough);
     }

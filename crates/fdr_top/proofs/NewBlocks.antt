@@ -1,11 +1,11 @@
 -- The blocks of a recording as further records come.
-use Rattle.std.proofs.Common.{◌≡◌, ℕ, zero, suc, ◌+◌, ◌-◌, ◌*◌, ◌/◌, ◌≤◌, List, [], ◌∷◌, ◌++◌, length, map, take, drop, ap, sym, refl, ◌∙◌, length-take}
+use Rattle.std.proofs.Common.{◌≡◌, ℕ, ◌+◌, ◌-◌, ◌*◌, ◌/◌, ◌≤◌, List, ◌++◌, length, take, drop, ap, sym, ◌∙◌, length-take}
 use Rattle.std.proofs.Common.{arith}
-use Rattle.std.specs.List.{range_with_len}
 use Rattle.std.proofs.lemmas.List.{drop-take, take-append-drop}
-use Rattle.std.proofs.lemmas.List.FromFn.{length-map-range_with_len, map-range_with_len_more, take-map-range_with_len}
+use Rattle.std.proofs.lemmas.List.FromFn.{length-map-range_with_len, take-map-range_with_len}
 use Rattle.std.proofs.lemmas.Nat.{le-div, mul-le}
 use Rattle.std.proofs.Math.Nat.{div-mul-le_self, mul_comm}
+use Rattle.fdr_lists.proofs.Ranges.{map-range-agree}
 use Rattle.fdr_bus.specs.declared.BusRecord.{BusRecord}
 use Rattle.fdr_bus.specs.Records.{good_prefix, time_of}
 use Rattle.fdr_bus.proofs.TraceLemmas.{Rises}
@@ -24,17 +24,6 @@ use Rattle.fdr_sampler.proofs.StreamWords.{length-stream_words}
 -- as many as are due are recorded
 pub recorded-long : (past : SessionPast) → length (recorded_of past) ≡ due past
 recorded-long past = length-map-range_with_len (numbered_block past) 0 (due past)
-
-map_same : (f g : ℕ → Block) (most n : ℕ) → n ≤ most → ((i : ℕ) → i + 1 ≤ most → f i ≡ g i)
-    → map f (range_with_len 0 n) ≡ map g (range_with_len 0 n)
-map_same f g most zero le same = refl
-map_same f g most (suc n) le same =
-    let one : suc n ≡ n + 1 = omega arith in
-    let at : 0 + n ≡ n = omega arith in
-    ap (λ m. map f (range_with_len 0 m)) one ∙ map-range_with_len_more f 0 n n at
-    ∙ ap (λ (l : List Block). l ++ f n ∷ []) (map_same f g most n (omega (arith, le)) same)
-    ∙ ap (λ (x : Block). map g (range_with_len 0 n) ++ x ∷ []) (same n (omega (arith, le)))
-    ∙ sym (map-range_with_len_more g 0 n n at) ∙ sym (ap (λ m. map g (range_with_len 0 m)) one)
 
 module _ (past : SessionPast) (all records later : List BusRecord) (order : Rises 0 all) (good : all ≡ records ++ later)
     (limits : IsInLimits past.header)
@@ -84,7 +73,7 @@ module _ (past : SessionPast) (all records later : List BusRecord) (order : Rise
         let blocks = all_blocks (fed past all) in
         let front : take n blocks ≡ recorded_of (fed past records) =
         take-map-range_with_len f 0 (length (blocks_of p (stream_of past.table all))) n enough
-        ∙ map_same f (numbered_block (fed past records)) n n (omega arith) same_block in
+        ∙ map-range-agree f (numbered_block (fed past records)) 0 n (λ i low high. same_block i (omega (arith, high))) in
         (drop n blocks, sym (take-append-drop n blocks) ∙ ap (λ (l : List Block). l ++ drop n blocks) front)
 
 -- fewer good records give no more blocks

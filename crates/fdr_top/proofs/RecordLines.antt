@@ -24,6 +24,7 @@ use Rattle.fdr_slot.specs.declared.image.ImageFault.{ImageFault}
 use Rattle.fdr_slot.specs.declared.image.ImageFault.TheVariants as fault
 use Rattle.fdr_recover.specs.Blocks.{Block}
 use Rattle.fdr_recover.specs.Images.{next_of, recovered_run}
+use Rattle.fdr_top.proofs.Images.{same_fault}
 use Rattle.fdr_recover.specs.ImageHeader.{image_fault_of, header_in}
 use Rattle.fdr_ring.specs.Closing.{shut}
 use Rattle.fdr_ring.specs.Gates.{gate_at}
@@ -285,9 +286,6 @@ words_are i w j v a b = ap (λ n. outcome.WordsDiffer n w) a ∙ ap (λ n. outco
 some_same : (a b : ImageFault) → ◌≡◌ {A = Option ImageFault} (Some a) (Some b) → a ≡ b
 some_same a b e = cc
 
-image_same : (a b : ImageFault) → outcome.ImageRefused a ≡ outcome.ImageRefused b → a ≡ b
-image_same a b e = cc
-
 both : (a : Option ImageFault) (why : ImageFault) → a ≡ None → a ≡ Some why → ⊥
 both a why none some = let c : ◌≡◌ {A = Option ImageFault} None (Some why) = sym none ∙ some in cc
 
@@ -299,8 +297,8 @@ session_image : (t : TableRows) (tells : Tells) (d0 d1 : State) (f : SessionFaul
     → (table ≡ t.frame.words) × (image ≢ table) × (IsTrue tells.bytes → IsFor image d0.held))
     → RefusesImage t tells d0 d1 (session_refusal f)
 session_image t tells d0 d1 (session.Image w) not_end image small words = record {
-  refused = λ why e bytes. image bytes why (ap session.Image (image_same w why e));
-  small = λ why e. small why (ap session.Image (image_same w why e));
+  refused = λ why e bytes. image bytes why (ap session.Image (same_fault w why e));
+  small = λ why e. small why (ap session.Image (same_fault w why e));
   refused_always = λ why past bytes first. inl (ap outcome.ImageRefused (some_same w why (sym (image bytes w refl) ∙ first)));
   words = λ i table e. absurd (cc);
   words_always = λ i past bytes other differ. absurd (both (image_fault_of d0.held) w other.no_fault (image bytes w refl));

@@ -218,9 +218,9 @@ EndsSupply-stop : (from : RecordSupply) (tells : Tells) (d0 d d' : State) (bytes
     → (answer ≢ outcome.ReadFault input.Line → d'.line_faults ≡ d.line_faults) → EndsSupply from tells d0 d' bytes answer
 EndsSupply-stop from tells d0 d d' bytes records answer out before quiet =
     subst (λ (x : RecordSupply). EndsSupply x tells d0 d' bytes answer) (sym out.line)
-    (subst (λ (x : Outcome). EndsTrace tells d0 d' bytes x) (sym out.is)
+    (subst (λ (x : Outcome). EndsTrace tells d0 d' bytes x) (sym out.answered)
     (EndsTrace-stop tells d0 d d' bytes records out.stop out.stopped before
-    (λ not. quiet (λ e. not (failed_stop out.stop (sym out.is ∙ e))))))
+    (λ not. quiet (λ e. not (failed_stop out.stop (sym out.answered ∙ e))))))
 
 stop_reading : (s : TraceStop) → EndsReading (answer_of_stop s)
 stop_reading (stop.Refused index why) = tt
@@ -247,7 +247,7 @@ pub line_failed : (from : RecordSupply) (tells : Tells) (d0 d d' : State) (bytes
     → answer ≡ outcome.ReadFault input.Line → HasRunOut from tells d d' bytes records answer → d.line_faults ≡ d0.line_faults
     → Rose d0.line_faults d'.line_faults
 line_failed from tells d0 d d' bytes records answer is out quiet =
-    stop_failed tells d0 d d' bytes records out.stop (sym out.is ∙ is) out.stopped quiet
+    stop_failed tells d0 d d' bytes records out.stop (sym out.answered ∙ is) out.stopped quiet
 
 -- all records of the supply were fed
 fed_all : (from : RecordSupply) (tells : Tells) (past : SessionPast) (s : Session) (d0 d' : State) (bytes : List ℕ) (records : List BusRecord)
@@ -269,7 +269,7 @@ pub HasFedAll-stop : (from : RecordSupply) (tells : Tells) (past : SessionPast) 
     → (answer ≢ outcome.ReadFault input.Line → d'.line_faults ≡ d.line_faults) → HasFedAll from tells past s d0 d' answer
 HasFedAll-stop from tells past s d0 d d' bytes records answer ring stands has out before quiet =
     fed_all from tells past s d0 d' bytes records answer ring stands has (out_good from tells d d' bytes records answer out)
-    (EndsSupply-stop from tells d0 d d' bytes records answer out before quiet) (subst EndsReading (sym out.is) (stop_reading out.stop))
+    (EndsSupply-stop from tells d0 d d' bytes records answer out before quiet) (subst EndsReading (sym out.answered) (stop_reading out.stop))
 
 pub HasFedAll-end : (from : RecordSupply) (tells : Tells) (past : SessionPast) (s : Session) (d0 d' : State) (bytes : List ℕ)
     (records : List BusRecord) (r : BusRecord) → IsSureRing tells past.header past.first d0 → RepresentsSession s (fed past (records ++ r ∷ []))

@@ -53,7 +53,7 @@ lag_still owed tells first now bytes records m up here least = record {
       let same = ap (λ n. owed (good_prefix (take (n - first.taken) bytes))) here.before in
       inr (record {
         begins = omega (arith, here.before, was.begins);
-        some = omega (arith, here.before, here.taken, was.some);
+        gave_bytes = omega (arith, here.before, here.taken, was.gave_bytes);
         within_piece = omega (arith, here.before, here.taken, was.within_piece);
         within = omega (arith, here.taken, was.within);
         announced = omega (arith, same, was.announced, least);
@@ -259,7 +259,7 @@ module _ (tells : Tells) (past : SessionPast) (d0 d d' : State) (bytes : List �
                 let same = ap (λ n. owed_by past (good_prefix (take (n - d0.taken) bytes))) line.before in
                 record {
                   begins = omega (arith, line.before, was.begins);
-                  some = omega (arith, line.before, line.taken, was.some);
+                  gave_bytes = omega (arith, line.before, line.taken, was.gave_bytes);
                   within_piece = omega (arith, line.before, line.taken, was.within_piece);
                   within = omega (arith, line.taken, was.within);
                   announced = omega (arith, same, was.announced, low);

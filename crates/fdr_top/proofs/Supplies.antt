@@ -1,5 +1,5 @@
 -- What a supply gives, record by record, and how it ends.
-use Rattle.std.proofs.Common.{◌≡◌, ⊎_elim, inl, ℕ, ◌+◌, ◌*◌, ◌<◌, ◌≤◌, true, false, List, [], ◌∷◌, ◌++◌, length, take, drop, map}
+use Rattle.std.proofs.Common.{◌≡◌, ⊎_elim, ℕ, ◌+◌, ◌*◌, ◌<◌, ◌≤◌, true, false, List, [], ◌∷◌, ◌++◌, length, take, drop, map}
 use Rattle.std.proofs.Common.{Some, ap, sym, ◌∙◌, subst, get_or, arith}
 use Rattle.std.specs.Prelude.{◌||◌}
 use Rattle.std.specs.List.{slice_get}
@@ -23,6 +23,7 @@ use Rattle.fdr_trace.specs.Pulls.{PullsMore}
 use Rattle.fdr_trace.specs.Reading.{IsNextRecord, RepresentsTrace}
 use Rattle.fdr_trace.proofs.Pulling.{PullsMore-none}
 use Rattle.fdr_recorder.specs.Past.{SessionPast, MayFeedSession}
+use Rattle.fdr_trace.proofs.PullMoments.{PullsFor-none}
 use Rattle.fdr_top.specs.Recording.{fed}
 use Rattle.fdr_top.specs.Supply.{RecordSupply, GivesNext, HasGenerated, RepresentsSupply, drawn_trace, line_trace, records_left, supplied}
 use Rattle.fdr_top.specs.declared.supply.RecordSource.{RecordSource}
@@ -73,14 +74,6 @@ next_of_line k k' bytes more records r s is reads next = record {
 }
 
 -- ---- the next record of a generator
-
-pulls_nothing : (tells : Tells) (d : State) (bytes : List ℕ) (records : List BusRecord) → IsSoundDeck tells d → PullsFor tells d d bytes [] records
-pulls_nothing tells d bytes records sound = record {
-  last = λ some. absurd (omega (arith, some));
-  moments = λ stops m since.
-      let now = sound.only_now stops m since in
-      record { image = now.image; least = now.least; greatest = now.greatest; pulled = inl now.pulled };
-}
 
 has_no_end : (records : List BusRecord) (r : BusRecord) → has_end records ≡ false → is_end r ≡ false → has_end (records ++ r ∷ []) ≡ false
 has_no_end records r before goes_on =
@@ -186,7 +179,7 @@ generator_gives (drawn_trace t seed frames) g g' bytes records r s tells d sound
       [],
       PullsMore-none tells d bytes,
       next_of_generator g g' t seed frames bytes records r is (sym at.0) at.1 s same,
-      pulls_nothing tells d bytes records sound,
+      PullsFor-none tells d bytes records sound,
     )
 
 pub generator_fewer : (from : RecordSupply) (g g' : GeneratorKept) (bytes : List ℕ) (records : List BusRecord) (r : BusRecord)

@@ -99,4 +99,4 @@ pub whole_line : (t : TableRows) (tells : Tells) (old new : State) (before now :
 whole_line t tells old new before now answer lists done told =
     let line : old.line ≡ lists.pulled = lists.takes.line told ∙ ap (λ (x : List ℕ). lists.pulled ++ x) (lists.end done told) ∙ append-nil lists.pulled in
     lists.text (λ e. let c : outcome.Done ≡ outcome.WriteFault = sym done ∙ e in cc)
-    ∙ ap (λ (x : List ℕ). followed_by before (listing_of t x)) (take_all most_line_bytes lists.pulled (lists.few done) ∙ sym line)
+    ∙ ap (λ (x : List ℕ). followed_by before (listing_of t x)) (take_all most_line_bytes lists.pulled (lists.done_within_limit done) ∙ sym line)

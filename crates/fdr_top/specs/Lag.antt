@@ -11,7 +11,7 @@ use Rattle.fdr_top.specs.Limits.{piece_bytes}
 -- announced.
 pub record IsInTime (owed : List BusRecord → ℕ) (start : ℕ) (bytes : List ℕ) (told before taken : ℕ) : Type 0 where
   pub begins : start ≤ before
-  pub some : before < taken
+  pub gave_bytes : before < taken
   pub within_piece : taken ≤ before + piece_bytes
   pub within : taken ≤ start + length bytes
   pub announced : owed (good_prefix (take (before - start) bytes)) ≤ told

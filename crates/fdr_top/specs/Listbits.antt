@@ -21,7 +21,7 @@ answer_of line_end.TooLong = outcome.TooLong
 -- The last pull that gave bytes gave at most 4,096.
 pub record LastPull (old new : State) : Type 0 where
   pub begins : old.taken ≤ new.before
-  pub some : new.before < new.taken
+  pub gave_bytes : new.before < new.taken
   pub within_piece : new.taken ≤ new.before + piece_bytes
 
 -- Of the line these bytes were pulled, piece by piece, and at most a piece more than are listed.
@@ -32,8 +32,8 @@ pub record PullsPieces (tells : Tells) (old new : State) (pulled : List ℕ) : T
 
 -- what an end says of the bytes that were pulled
 pub record EndsLine (tells : Tells) (new : State) (pulled : List ℕ) (end : LineEnd) : Type 0 where
-  pub few : end ≡ line_end.End → length pulled ≤ most_line_bytes
-  pub fault_few : end ≡ line_end.Fault → length pulled ≤ most_line_bytes
+  pub end_within_limit : end ≡ line_end.End → length pulled ≤ most_line_bytes
+  pub fault_within_limit : end ≡ line_end.Fault → length pulled ≤ most_line_bytes
   pub many : end ≡ line_end.TooLong → most_line_bytes < length pulled
   pub empty : end ≡ line_end.End → IsTrue tells.line → new.line ≡ []
 
@@ -57,8 +57,8 @@ pub record Lists (t : TableRows) (tells : Tells) (old new : State) (written_befo
   pub part : WritesPart t pulled written_before written_now
   pub last : 0 < length pulled → LastPull old new
   pub in_time : answer ≡ outcome.WriteFault → HasWrittenDecided t old new pulled written_before written_now
-  pub few : answer ≡ outcome.Done → length pulled ≤ most_line_bytes
-  pub fault_few : answer ≡ outcome.ReadFault input.Line → length pulled ≤ most_line_bytes
+  pub done_within_limit : answer ≡ outcome.Done → length pulled ≤ most_line_bytes
+  pub fault_within_limit : answer ≡ outcome.ReadFault input.Line → length pulled ≤ most_line_bytes
   pub many : answer ≡ outcome.TooLong → most_line_bytes < length pulled
   pub bounded : length pulled ≤ most_line_bytes + piece_bytes
   pub end : answer ≡ outcome.Done → IsTrue tells.line → new.line ≡ []

@@ -70,7 +70,7 @@ pub record HasRunOut (from : RecordSupply) (tells : Tells) (old new : State) (by
     : Type 0 where
   pub line : from ≡ line_trace
   pub stop : TraceStop
-  pub is : answer ≡ answer_of_stop stop
+  pub answered : answer ≡ answer_of_stop stop
   pub stopped : IsTraceStopped tells old new bytes records stop
 
 -- how a supply ended, by the answer

@@ -48,5 +48,5 @@ pub record ReadsItsTable (old new : Option (List ℕ)) (answer : Outcome) : Type
   pub accepted : IsPastTable answer → IfSome old IsAccepted
   pub accepted_at_end : IsPastTable answer → IfSome new (λ left. left ≡ [])
   pub sound : (bytes : List ℕ) → IsPastTable answer → old ≡ Some bytes → IsSound (table_in bytes)
-  pub fault_few : answer ≡ outcome.ReadFault input.Table
+  pub fault_within_limit : answer ≡ outcome.ReadFault input.Table
       → (taken : List ℕ) × (length taken ≤ most_table_bytes) × (old ≡ preceded_by taken new)

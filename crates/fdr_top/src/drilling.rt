@@ -43,7 +43,7 @@ use std::alloc::Global;
 fn add_field(line: &mut Line, number: u64)
     requires { length line.old ≤ 75 }
     ensures text { line.new ≡ line.old ++ field_text number }
-    ensures few { length line.new ≤ length line.old + 21 }
+    ensures bounded { length line.new ≤ length line.old + 21 }
 {
     line.add(b",");
     line.add_number(number);

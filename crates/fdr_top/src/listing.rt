@@ -108,7 +108,7 @@ pub fn take_blocks<D: Deck, O: Sink, T: Taker<O>>(
     ensures front { IsTrue D.tells.bytes → IsErrOf result BlocksFault.Disk → (entries rest : List Entry)
         × T.took table.now taker.old out.old taker.new out.new entries
         × (entries_of table.now (payloads_of (recovered_run reader.old.header (D.state deck.old).held)) ≡ entries ++ rest) }
-    ensures few { IsTrue D.tells.bytes
+    ensures bounded { IsTrue D.tells.bytes
         → OnOk result (length (payloads_of (recovered_run reader.old.header (D.state deck.old).held)) ≤ 2 ^ 28) }
     ensures disk_fault { IsErrOf result BlocksFault.Disk → Rose (D.state deck.old).disk_faults (D.state deck.new).disk_faults }
     ensures write_fault { IsErrOf result BlocksFault.Taker → Rose (O.faults out.old) (O.faults out.new) }

@@ -37,7 +37,7 @@ fn refusal(error: TableError) -> Outcome
 fn table_of(alloc: Global, bytes: &[u8]) -> Result<Sound, Outcome>
     ensures table { IfOk result (λ s. s ≡ table_in bytes.now) }
     ensures accepted { IfOk result (λ s. IsAccepted bytes.now) }
-    ensures few { IfOk result (λ s. length bytes.now ≤ most_table_bytes) }
+    ensures within_limit { IfOk result (λ s. length bytes.now ≤ most_table_bytes) }
     ensures in_range { IfOk result IsInRange }
     ensures sound { IfOk result IsSound }
     ensures word_count { IfOk result (λ s. IsWordCount s.frame.words) }
@@ -69,7 +69,7 @@ pub fn load_table<T: Source>(alloc: Global, source: &mut T) -> Result<Sound, Out
         × (length bytes ≤ most_table_bytes + piece_bytes) }
     ensures answers { IfErr result IsOfTable }
     ensures fault { result ≡ Err (Outcome.ReadFault Input.Table) → Rose (T.faults source.old) (T.faults source.new) }
-    ensures fault_few { result ≡ Err (Outcome.ReadFault Input.Table)
+    ensures fault_within_limit { result ≡ Err (Outcome.ReadFault Input.Table)
         → (bytes : List ℕ) × (length bytes ≤ most_table_bytes) × (T.rest source.old ≡ preceded_by bytes (T.rest source.new)) }
     ensures bounded { TakesAtMost (most_table_bytes + piece_bytes) (T.rest source.old) (T.rest source.new) }
     ensures monotone { T.faults source.old ≤ T.faults source.new }

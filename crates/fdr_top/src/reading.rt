@@ -32,7 +32,7 @@ fn read_piece<T: Source>(source: &mut T, bytes: &mut Vec<u8>) -> Result<usize, R
     ensures failed { IsErrOf result ReadError.Failed → Rose (T.faults source.old) (T.faults source.new) }
     ensures kept { IsErrOf result ReadError.Failed → T.rest source.new ≡ T.rest source.old }
     ensures same { IsErrOf result ReadError.Failed → bytes.new.items ≡ bytes.old.items }
-    ensures few { IfOk result (λ n. n ≤ piece_bytes) }
+    ensures within_piece { IfOk result (λ n. n ≤ piece_bytes) }
     ensures bounded { TakesAtMost piece_bytes (T.rest source.old) (T.rest source.new) }
     ensures monotone { T.faults source.old ≤ T.faults source.new }
 {
@@ -51,7 +51,7 @@ pub fn read_table_bytes<T: Source>(alloc: Global, source: &mut T) -> Result<Vec<
     ensures taken { IfOk result (λ bytes. T.rest source.old ≡ preceded_by bytes.items (T.rest source.new)) }
     ensures whole { IfOk result (λ bytes. vec_len bytes ≤ most_table_bytes → IfSome (T.rest source.new) (λ left. left ≡ [])) }
     ensures failed { IsErrOf result ReadError.Failed → Rose (T.faults source.old) (T.faults source.new) }
-    ensures few { IsErrOf result ReadError.Failed → ((bytes : List ℕ) × (length bytes ≤ most_table_bytes) × (T.rest source.old ≡ preceded_by bytes (T.rest source.new))) }
+    ensures within_limit { IsErrOf result ReadError.Failed → ((bytes : List ℕ) × (length bytes ≤ most_table_bytes) × (T.rest source.old ≡ preceded_by bytes (T.rest source.new))) }
     ensures bounded { TakesAtMost (most_table_bytes + piece_bytes) (T.rest source.old) (T.rest source.new) }
     ensures within { IfOk result (λ bytes. vec_len bytes ≤ most_table_bytes + piece_bytes) }
     ensures monotone { T.faults source.old ≤ T.faults source.new }

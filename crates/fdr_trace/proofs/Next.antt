@@ -39,6 +39,6 @@ pub next_of : (tells : Tells) (old now : State) (k k' : TraceKept) (bytes : List
     → RepresentsTrace k bytes records → length records < most_records → IfOk r (TakesRecord k k') → IfErr r (RefusesRecord k k') →
     MatchResult r (IsNextRecord k' bytes records) (IsTraceStopped tells old now bytes records)
 next_of tells old now k k' bytes records (Ok r) reads few takes refuses =
-    Reads-next k k' bytes takes.next records r reads few takes.sixteen takes.waited takes.good takes.is takes.time takes.count
+    Reads-next k k' bytes takes.next records r reads few takes.sixteen takes.waited takes.good takes.read takes.time takes.count
 next_of tells old now k k' bytes records (Err why) reads few takes refuses =
-    rw refuses.is (refused_after tells now k k' bytes records why reads few refuses)
+    rw refuses.refusal (refused_after tells now k k' bytes records why reads few refuses)

@@ -58,12 +58,12 @@ KeepsDeck-kept tells a b c first disk told line time = KeepsDeck-then tells a b 
 pub IsLastPull-more : (start : ℕ) (bytes more later : List ℕ) (records : List BusRecord) (before taken : ℕ)
     → IsLastPull start bytes more records before taken → IsLastPull start bytes (more ++ later) records before taken
 IsLastPull-more start bytes more later records before taken last =
-    let inside : before - start ≤ length more = omega (arith, last.begins, last.some, last.within) in
+    let inside : before - start ≤ length more = omega (arith, last.begins, last.gave_bytes, last.within) in
     let front = ap (λ (x : List ℕ). bytes ++ x) (take-append-le (before - start) more later inside) in
     record {
       begins = last.begins;
-      some = last.some;
-      few = last.few;
+      gave_bytes = last.gave_bytes;
+      within_piece = last.within_piece;
       within = omega (arith, last.within, length-append more later);
       read = ap good_prefix front ∙ last.read;
       undecided = λ decided. last.undecided (subst IsDecided front decided);
@@ -97,8 +97,8 @@ IsLastPull-pull tells a b c k bytes more piece records taken reads waits few pul
     let before = ap (λ (x : List ℕ). bytes ++ x) front in
     record {
       begins = omega (arith, began, taken);
-      some = omega (arith, began, pull.takes.taken, some);
-      few = omega (arith, began, pull.takes.taken, pull.few);
+      gave_bytes = omega (arith, began, pull.takes.taken, some);
+      within_piece = omega (arith, began, pull.takes.taken, pull.within_piece);
       within = omega (arith, taken, pull.takes.taken, length-append more piece);
       read = ap good_prefix before ∙ Reads-good k (bytes ++ more) records reads waits;
       undecided = λ decided. Reads-undecided k (bytes ++ more) records reads waits few (subst IsDecided before decided);

@@ -34,8 +34,8 @@ PullsMore-none tells s bytes = record {
   takes = TakesLine-from_keeps tells s s (record { line = refl; taken = refl; before = refl });
   none = λ e. refl;
   begins = λ some. absurd (omega (arith, some));
-  some = λ some. absurd (omega (arith, some));
-  few = λ some. absurd (omega (arith, some));
+  gave_bytes = λ some. absurd (omega (arith, some));
+  within_piece = λ some. absurd (omega (arith, some));
   undecided = λ some. absurd (omega (arith, some));
   faults = omega arith;
 }
@@ -65,16 +65,16 @@ PullsMore-then tells a b c bytes more later first second = record {
       (λ none. let same = second.none (omega (arith, none)) in
       let earlier = first.begins (omega (arith, length-append more later, none)) in omega (arith, same, earlier))
       (cases_lt 0 (length later));
-  some = λ some. ⊎_elim
-      (λ here. second.some here)
+  gave_bytes = λ some. ⊎_elim
+      (λ here. second.gave_bytes here)
       (λ none. let same = second.none (omega (arith, none)) in
-      let earlier = first.some (omega (arith, length-append more later, none)) in omega
+      let earlier = first.gave_bytes (omega (arith, length-append more later, none)) in omega
       (arith, same, earlier, second.takes.taken, none))
       (cases_lt 0 (length later));
-  few = λ some. ⊎_elim
-      (λ here. second.few here)
+  within_piece = λ some. ⊎_elim
+      (λ here. second.within_piece here)
       (λ none. let same = second.none (omega (arith, none)) in
-      let earlier = first.few (omega (arith, length-append more later, none)) in omega (arith, same, earlier, second.takes.taken, none))
+      let earlier = first.within_piece (omega (arith, length-append more later, none)) in omega (arith, same, earlier, second.takes.taken, none))
       (cases_lt 0 (length later));
   undecided = λ some decided. ⊎_elim
       (λ here.
@@ -87,7 +87,7 @@ PullsMore-then tells a b c bytes more later first second = record {
       let same = second.none (omega (arith, none)) in
       let some_first : 0 < length more = omega (arith, length-append more later, none) in
       let begins = first.begins some_first in
-      let few = first.few some_first in
+      let few = first.within_piece some_first in
       first.undecided some_first (subst IsDecided (ap (λ (x : List ℕ). bytes ++ x)
       (ap (λ n. take n (more ++ later)) (ap (λ n. n - a.taken) same) ∙ nothing_more more later (b.before - a.taken) (omega (arith, none)))) decided))
       (cases_lt 0 (length later));
@@ -103,8 +103,8 @@ PullsMore-pull tells a b c bytes more piece first undecided pull faults =
       takes = pull.takes;
       none = pull.none;
       begins = λ some. omega (arith, pull.began some);
-      some = λ some. omega (arith, pull.began some, pull.takes.taken, some);
-      few = λ some. omega (arith, pull.began some, pull.takes.taken, pull.few);
+      gave_bytes = λ some. omega (arith, pull.began some, pull.takes.taken, some);
+      within_piece = λ some. omega (arith, pull.began some, pull.takes.taken, pull.within_piece);
       undecided = λ some decided. undecided (subst IsDecided
           (ap (λ (x : List ℕ). (bytes ++ more) ++ x) (ap (λ n. take n piece) (front_none b.taken c.before (pull.began some))) ∙ append-nil (bytes ++ more))
           decided);
@@ -120,8 +120,8 @@ PullsMore-kept tells a b c bytes more first kept faults =
       takes = TakesLine-from_keeps tells b c kept;
       none = λ e. kept.before;
       begins = λ some. absurd (omega (arith, some));
-      some = λ some. absurd (omega (arith, some));
-      few = λ some. absurd (omega (arith, some));
+      gave_bytes = λ some. absurd (omega (arith, some));
+      within_piece = λ some. absurd (omega (arith, some));
       undecided = λ some. absurd (omega (arith, some));
       faults = faults;
     }))

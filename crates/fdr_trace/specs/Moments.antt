@@ -10,8 +10,8 @@ use Rattle.fdr_deck.specs.Moments.{HasPulled, EachMoment}
 -- been read, and these bytes don't decide the trace.
 pub record IsLastPull (start : ℕ) (bytes more : List ℕ) (records : List BusRecord) (before taken : ℕ) : Type 0 where
   pub begins : start ≤ before
-  pub some : before < taken
-  pub few : taken ≤ before + 4096
+  pub gave_bytes : before < taken
+  pub within_piece : taken ≤ before + 4096
   pub within : taken ≤ start + length more
   pub read : good_prefix (bytes ++ take (before - start) more) ≡ records
   pub undecided : IsDecided (bytes ++ take (before - start) more) → ⊥

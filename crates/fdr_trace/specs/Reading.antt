@@ -54,7 +54,7 @@ pub record TakesRecord (old new : TraceKept) (r : BusRecord) : Type 0 where
   pub sixteen : length next ≡ 16
   pub waited : old.waiting ≡ next ++ new.waiting
   pub good : is_good old.time next ≡ true
-  pub is : r ≡ record_of next
+  pub read : r ≡ record_of next
   pub time : new.time ≡ r.time
   pub count : new.count ≡ old.count + 1
 
@@ -66,4 +66,4 @@ pub record RefusesRecord (old new : TraceKept) (why : TraceStop) : Type 0 where
   pub waited : old.waiting ≡ next ++ new.waiting
   pub bad : is_good old.time next ≡ false
   pub first : record_fault old.time next ≡ Some cause
-  pub is : why ≡ stop.Refused old.count cause
+  pub refusal : why ≡ stop.Refused old.count cause

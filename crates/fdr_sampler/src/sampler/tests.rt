@@ -52,7 +52,7 @@ fn words_of(alloc: Global, sampler: Sampler, r: &BusRecord, count: usize) -> Res
     requires stands { (t : TableRows) × RepresentsSampler sampler (sampler_made t) }
     requires kind { r.now.kind ≡ Word }
     requires in_time { r.now.time ≤ last_time }
-    requires few { count ≤ 4096 }
+    requires within_frame { count ≤ 4096 }
 {
     let mut sampler = sampler;
     let mut words = Vec::new(alloc);
@@ -72,7 +72,7 @@ fn words_of(alloc: Global, sampler: Sampler, r: &BusRecord, count: usize) -> Res
 /// The words that aren't empty slots' of a recording of no bus words, with their slots.
 fn drawn_words(alloc: Global, sampler: Sampler, count: u32) -> Result<Vec<(u32, u16)>, Fail>
     requires stands { (t : TableRows) × RepresentsSampler sampler (sampler_made t) }
-    requires few { count ≤ 4096 }
+    requires within_frame { count ≤ 4096 }
 {
     let mut sampler = sampler;
     let mut words = Vec::new(alloc);

@@ -17,7 +17,7 @@ count_parts-parts-requires-clause-fits c =
     let places : c.places-2.result.now ≡ t.places = c.places-2.ensures ∙ ap (λ (x : TableRows). x.places) same in
     let e : length (occurrences c.words_of-words.result c.places-2.result.now) ≡ length (occurrences t.frame.words t.places) =
     ap (λ k. length (occurrences k c.places-2.result.now)) words ∙ ap (λ ps. length (occurrences t.frame.words ps)) places in
-    omega (arith, e, c.checked-table.ensures.sound.few)
+    omega (arith, e, c.checked-table.ensures.sound.within_superframe)
 
 pub index-requires : goal.index-requires
 index-requires c =

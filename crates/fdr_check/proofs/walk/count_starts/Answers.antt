@@ -29,7 +29,7 @@ loop-frame-preserved c =
     record {
       mine = ap (λ n. (f + n) % p.period) (sym period) ∙ next_frame p.period f p.cycle c.loop-frame.invariant.mine;
       near = omega (arith, c.from-frame-in-loop-frame.ensures, c.loop-frame-test.true, few);
-      few = omega (arith, period, below, c.loop-frame.invariant.few, c.count_in_frame-in_frame.ensures.few);
+      few = omega (arith, period, below, c.loop-frame.invariant.few, c.count_in_frame-in_frame.ensures.within_frame);
       so_far = frame_counted c.args.words p f c.loop-frame.count c.count_in_frame-in_frame.result below c.loop-frame-test.true c.loop-frame.invariant.mine
           c.loop-frame.invariant.so_far (c.count_in_frame-in_frame.ensures.count f c.loop-frame.invariant.mine)
           ∙ ap (λ n. length (frames_before c.args.words p (f + n))) period;

@@ -3,8 +3,8 @@ use Rattle.std.proofs.lemmas.Simd.{get_or-chunk}
 use Rattle.fdr_lanes.proofs.Masks.{mask_few, marks_each}
 use Rattle.fdr_lanes.proofs.candidates.candidates.Goals as goal
 
-pub returns-clause-few : goal.returns-clause-few
-returns-clause-few c = mask_few c.places.result c.places.ensures.len
+pub returns-clause-within_lanes : goal.returns-clause-within_lanes
+returns-clause-within_lanes c = mask_few c.places.result c.places.ensures.len
 
 pub returns-clause-each : goal.returns-clause-each
 returns-clause-each c =

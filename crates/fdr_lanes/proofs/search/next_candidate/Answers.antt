@@ -11,7 +11,7 @@ returns-then-found-ne0-clause-within c =
     let m = c.candidates.result in
     let d = c.loop-next.next - c.min-block.result in
     let low : d + trailing_zeros w64 (m / 2 ^ d) < 32 =
-    lowest_within m d c.candidates.ensures.few (omega arith) (omega (arith, div-le_self m (2 ^ d), c.candidates.ensures.few)) in
+    lowest_within m d c.candidates.ensures.within_lanes (omega arith) (omega (arith, div-le_self m (2 ^ d), c.candidates.ensures.within_lanes)) in
     omega arith
 
 pub returns-then-found-ne0-clause-none : goal.returns-then-found-ne0-clause-none
@@ -19,8 +19,8 @@ returns-then-found-ne0-clause-none c =
     let m = c.candidates.result in
     let d = c.loop-next.next - c.min-block.result in
     let some : 0 < m / 2 ^ d = omega arith in
-    let fits : m / 2 ^ d < 2 ^ 64 = omega (arith, div-le_self m (2 ^ d), c.candidates.ensures.few) in
-    let low : d + trailing_zeros w64 (m / 2 ^ d) < 32 = lowest_within m d c.candidates.ensures.few some fits in
+    let fits : m / 2 ^ d < 2 ^ 64 = omega (arith, div-le_self m (2 ^ d), c.candidates.ensures.within_lanes) in
+    let low : d + trailing_zeros w64 (m / 2 ^ d) < 32 = lowest_within m d c.candidates.ensures.within_lanes some fits in
     none_marked c.args.bytes.now c.args.at c.loop-next.next c.min-block.result m (trailing_zeros w64 (m / 2 ^ d)) c.loop-next.invariant.2
     c.candidates.ensures.each (omega arith) (omega arith) (bit_at-trailing_zeros w64 (m / 2 ^ d) some fits).2
 

@@ -10,7 +10,7 @@ use Rattle.fdr_layout.proofs.drafts.add_sample.Goals as goal
 pub overflow_cast-len : goal.overflow_cast-len
 overflow_cast-len c =
     let more = added_few c.len-number.result (part_at c.args.index) c.args.carriers.now _ _ c.in_ok-add_parts.ensures in
-    omega (arith, c.len.ensures, c.add_parts.new.parts.ok.0, more, c.requires.few, c.requires.four, c.requires.parts)
+    omega (arith, c.len.ensures, c.add_parts.new.parts.ok.0, more, c.requires.within_superframe, c.requires.four, c.requires.parts)
 
 pub returns-clause-sample : goal.returns-clause-sample
 returns-clause-sample c =

@@ -57,8 +57,8 @@ add_samples-requires-clause-widths c =
     let at : slice_get t.params i ≡ Some (get_or t.params i p) = slice_get-get_or t.params i p (omega (arith, ap length params, c.loop-index-test.true)) in
     subst (λ ps. HaveOneWidth ps i) (sym own) (own_width t i (get_or t.params i p) c.holds.ensures.sound at)
 
-pub add_samples-requires-clause-few : goal.add_samples-requires-clause-few
-add_samples-requires-clause-few c =
+pub add_samples-requires-clause-within_superframe : goal.add_samples-requires-clause-within_superframe
+add_samples-requires-clause-within_superframe c =
     let t = c.args.t.now in
     let i = c.loop-index.index in
     let d = c.loop-index.draft in

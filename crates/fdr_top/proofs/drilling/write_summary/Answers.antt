@@ -13,7 +13,7 @@ returns-in-Ok-write_whole-clause-text g c = λ done told.
     let tallied : Tallies no_summary c.take_blocks.new.taker (entries_of t run) =
     rw (c.table.ensures, c.new-summary.ensures) at c.in-Ok.ensures.all told in
     let summary : c.take_blocks.new.taker ≡ summary_of t run =
-    summary_is t run c.take_blocks.new.taker c.holds.ensures.sound (omega (arith, c.in-Ok.ensures.few told)) tallied in
+    summary_is t run c.take_blocks.new.taker c.holds.ensures.sound (omega (arith, c.in-Ok.ensures.bounded told)) tallied in
     rw (c.bytes.ensures.content, c.drill_line.ensures, summary) at c.in-Ok-write_whole.ensures.whole
 
 pub returns-in-Err-clause-part : goal.returns-in-Err-clause-part
@@ -23,5 +23,5 @@ returns-in-Err-clause-part g c = λ failed told.
     let tallied : Tallies no_summary c.take_blocks.new.taker (entries_of t run) =
     rw (c.table.ensures, c.new-summary.ensures) at c.in-Ok.ensures.all told in
     let summary : c.take_blocks.new.taker ≡ summary_of t run =
-    summary_is t run c.take_blocks.new.taker c.holds.ensures.sound (omega (arith, c.in-Ok.ensures.few told)) tallied in
+    summary_is t run c.take_blocks.new.taker c.holds.ensures.sound (omega (arith, c.in-Ok.ensures.bounded told)) tallied in
     rw (c.bytes.ensures.content, c.drill_line.ensures, summary) at c.in-Err.ensures.part

@@ -8,7 +8,7 @@ use Rattle.fdr_top.proofs.formatting.format.Goals as goal
 
 pub returns-in-Err-clause-table : goal.returns-in-Err-clause-table
 returns-in-Err-clause-table g c = read_refused _ _ _ c.in-Err.ensures.answers
-    (λ row f e. c.in-Err.ensures.refused row f (ap Err e)) (λ e. c.in-Err.ensures.fault_few (ap Err e))
+    (λ row f e. c.in-Err.ensures.refused row f (ap Err e)) (λ e. c.in-Err.ensures.fault_within_limit (ap Err e))
 
 pub returns-in-Err-clause-format : goal.returns-in-Err-clause-format
 returns-in-Err-clause-format g c =
@@ -17,7 +17,7 @@ returns-in-Err-clause-format g c =
 pub returns-in-Err-clause-complete : goal.returns-in-Err-clause-complete
 returns-in-Err-clause-complete g c = λ path image faults whole faultless.
     let reads = read_refused _ _ _ c.in-Err.ensures.answers
-    (λ row f e. c.in-Err.ensures.refused row f (ap Err e)) (λ e. c.in-Err.ensures.fault_few (ap Err e)) in
+    (λ row f e. c.in-Err.ensures.refused row f (ap Err e)) (λ e. c.in-Err.ensures.fault_within_limit (ap Err e)) in
     accepted_left _ _ _ c.in-Err.ensures.answers reads whole.0 (λ e. faultless.0 (c.in-Err.ensures.fault (ap Err e)))
 
 pub returns-in-Ok-clause-table : goal.returns-in-Ok-clause-table

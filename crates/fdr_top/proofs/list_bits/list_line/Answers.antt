@@ -25,3 +25,9 @@ returns-in-Ok-write_line-clause-no_memory g c = λ memory. absurd (end_not_memor
 pub returns-in-Ok-write_line-clause-no_memory_faults : goal.returns-in-Ok-write_line-clause-no_memory_faults
 returns-in-Ok-write_line-clause-no_memory_faults g c = λ memory.
     absurd (end_not_memory c.in-Ok-write_line.end (sym c.answer_of.ensures ∙ memory))
+
+pub returns-in-Ok-write_line-clause-lists : goal.returns-in-Ok-write_line-clause-lists
+returns-in-Ok-write_line-clause-lists g c = λ not. rw (← c.table.ensures, c.answer_of.ensures) c.in-Ok-write_line.ensures.all
+
+pub returns-clause-lists : goal.returns-clause-lists
+returns-clause-lists g c = λ not. rw (← c.table.ensures) c.in-Err.ensures.part

@@ -142,8 +142,8 @@ returns-in-Ok-take_rest-clause-all g c = λ told.
     rw (run_read h held c.in-Ok.found.first c.in-Ok.found.next c.loop-number.number found inv.0 (omega (arith, c.loop-number-test.false)) (inv.3 told))
     at (c.in-Ok-take_rest.ensures.all inv.0 c.args.taker.now c.args.out.now inv.1)
 
-pub returns-in-Ok-take_rest-clause-few : goal.returns-in-Ok-take_rest-clause-few
-returns-in-Ok-take_rest-clause-few g c = λ told.
+pub returns-in-Ok-take_rest-clause-bounded : goal.returns-in-Ok-take_rest-clause-bounded
+returns-in-Ok-take_rest-clause-bounded g c = λ told.
     let h = c.args.reader.now.header in
     let held = (g.D.Deck.state c.args.deck.now).held in
     let inv = c.loop-number.invariant.taken in

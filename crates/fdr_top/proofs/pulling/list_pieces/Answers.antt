@@ -44,8 +44,8 @@ returns-in-Ok-eq0-clause-listed g c =
       inv.0,
       pieces_stay g.D.Deck.tells old head new inv.0 inv.1 (omega (arith, pulls.taken, zero)) (pulls.ended zero) line,
       record {
-        few = λ e. few;
-        fault_few = λ e. few;
+        end_within_limit = λ e. few;
+        fault_within_limit = λ e. few;
         many = λ e. absurd (cc);
         empty = λ e told. line told ∙ (pulls.given told).end.0 zero;
       },
@@ -66,7 +66,7 @@ returns-in-Err-clause-listed g c =
     let few : length inv.0 ≤ most_line_bytes = omega (arith, inv.4) in (
       inv.0,
       pieces_stay g.D.Deck.tells old head new inv.0 inv.1 kept.taken kept.before (λ told. kept.line),
-      record { few = λ e. few; fault_few = λ e. few; many = λ e. absurd (cc); empty = λ e told. absurd (cc) },
+      record { end_within_limit = λ e. few; fault_within_limit = λ e. few; many = λ e. absurd (cc); empty = λ e told. absurd (cc) },
       subst
           (λ b. HasTaken (WritesLines g.O.Sink.written) t c.loop-count.reader b [] c.args.out.now c.loop-count.lines c.loop-count.out)
           (sym (take_all most_line_bytes inv.0 few)) inv.2,
@@ -161,7 +161,7 @@ returns-then-listed-count-clause-listed g c =
       bytes ++ take count buf,
       pieces_then g.D.Deck.tells old head new bytes buf count inv.1 (omega (arith, inv.4)) c.in-Ok.ensures.bound
           (omega (arith, c.in-Ok.ensures.bound, c.pull.auto.buf)) some pulls,
-      record { few = λ e. absurd (cc); fault_few = λ e. absurd (cc); many = λ e. more; empty = λ e told. absurd (cc) },
+      record { end_within_limit = λ e. absurd (cc); fault_within_limit = λ e. absurd (cc); many = λ e. more; empty = λ e told. absurd (cc) },
       subst (λ b. HasTaken (WritesLines g.O.Sink.written) t c.take_piece.new.reader b [] c.args.out.now c.finish.new.self c.finish.new.out)
           (sym front) (rw c.in_ok-finish.ensures.empty flushed),
       in_time_then t old head new bytes (take count buf) grown.0 start (g.O.Sink.written c.loop-count.out) (g.O.Sink.written c.finish.new.out)

@@ -9,12 +9,12 @@ use Rattle.fdr_top.proofs.streaming.stream.Goals as goal
 
 pub returns-in-Err-clause-table : goal.returns-in-Err-clause-table
 returns-in-Err-clause-table g c = read_refused _ _ _ c.in-Err.ensures.answers
-    (λ row f e. c.in-Err.ensures.refused row f (ap Err e)) (λ e. c.in-Err.ensures.fault_few (ap Err e))
+    (λ row f e. c.in-Err.ensures.refused row f (ap Err e)) (λ e. c.in-Err.ensures.fault_within_limit (ap Err e))
 
 pub returns-in-Err-clause-complete : goal.returns-in-Err-clause-complete
 returns-in-Err-clause-complete g c = λ path whole faultless.
     let reads = read_refused _ _ _ c.in-Err.ensures.answers
-    (λ row f e. c.in-Err.ensures.refused row f (ap Err e)) (λ e. c.in-Err.ensures.fault_few (ap Err e)) in
+    (λ row f e. c.in-Err.ensures.refused row f (ap Err e)) (λ e. c.in-Err.ensures.fault_within_limit (ap Err e)) in
     accepted_left _ _ _ c.in-Err.ensures.answers reads whole.0 (λ e. faultless.0 (c.in-Err.ensures.fault (ap Err e)))
 
 pub returns-in-Ok-clause-table : goal.returns-in-Ok-clause-table

@@ -41,5 +41,5 @@ returns-clause-countable c =
     c.segment.ensures ∙ ap (λ xs. segment xs c.deref-2.result.now k) c.deref.ensures.value
     ∙ ap (λ xs. segment l.cycle_starts.items xs k) c.deref-2.ensures.value in
     let few = segment_holds (λ es. length es < 2 ^ 32) l.cycle_starts.items l.ending.items k
-    (all_few (listed_sample l.sample_starts.items l.by_sample.items) (2 ^ 32) _ c.self.invariant.stands.cycles.few) within in
+    (all_few (listed_sample l.sample_starts.items l.by_sample.items) (2 ^ 32) _ c.self.invariant.stands.cycles.sample_counts) within in
     omega (arith, few, ap length read)

@@ -22,8 +22,8 @@ by_bit-requires-clause-within c =
     subst (λ v. All (λ x. x < 768 * v) c.deref-2.result.now) (sym words)
     (lasts_within t c.deref-2.result.now (omega (arith, some)) (c.deref-2.ensures.value ∙ c.in_ok-list.ensures.draft.ends))
 
-pub by_bit-requires-clause-few : goal.by_bit-requires-clause-few
-by_bit-requires-clause-few c =
+pub by_bit-requires-clause-within_u32 : goal.by_bit-requires-clause-within_u32
+by_bit-requires-clause-within_u32 c =
     let t = c.args.t.now in
     let long : length c.deref-2.result.now ≡ length (samples t) =
     ap length (c.deref-2.ensures.value ∙ c.in_ok-list.ensures.draft.ends) ∙ length-map (samples t) (λ (s : Sample). last_at s.parts) in
@@ -38,8 +38,8 @@ by_bit-requires-2-clause-within c =
     (bits_within t c.deref-3.result.now c.deref.result.now (c.deref.ensures.value ∙ c.in_ok-list.ensures.draft.pieces)
     (c.deref-3.ensures.value ∙ c.in_ok-bits.ensures))
 
-pub by_bit-requires-2-clause-few : goal.by_bit-requires-2-clause-few
-by_bit-requires-2-clause-few c =
+pub by_bit-requires-2-clause-within_u32 : goal.by_bit-requires-2-clause-within_u32
+by_bit-requires-2-clause-within_u32 c =
     let t = c.args.t.now in
     let d = c.in_ok-list.field-0 in
     let long : length c.deref-3.result.now ≡ length c.deref.result.now =

@@ -8,7 +8,7 @@ pub overflow_cast-result : goal.overflow_cast-result
 overflow_cast-result c =
     let l = c.self.inside in
     let long = length-map-range_with_len (sample_numbered l.sample_starts.items l.by_sample.items l.ending.items) 0 (length l.sample_starts.items - 1) in
-    omega (arith, long, c.len.ensures, l.sample_starts.ok.0, c.self.invariant.stands.few)
+    omega (arith, long, c.len.ensures, l.sample_starts.ok.0, c.self.invariant.stands.sample_count)
 
 pub returns : goal.returns
 returns c =

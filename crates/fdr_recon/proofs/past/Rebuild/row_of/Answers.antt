@@ -1,9 +1,9 @@
-use Rattle.std.proofs.Common.{◌≡◌, ◌<◌, ◌≤◌, ◌+◌, ◌-◌, ◌*◌, ◌/◌, ◌%◌, sym, ◌∙◌, ap, refl, arith, to_z, of_z, ℕ, Option, Some}
+use Rattle.std.proofs.Common.{◌≡◌, ◌<◌, ◌≤◌, ◌+◌, ◌-◌, ◌/◌, ◌%◌, sym, ◌∙◌, ap, refl, arith, to_z, of_z, ℕ, Option, Some}
 use Rattle.std.specs.Int.{w64}
 use Rattle.std.proofs.lemmas.Int.{to_z-of_z}
 use Rattle.fdr_layout.specs.Listed.{sample_in}
 use Rattle.fdr_recon.specs.declared.Row.{Row}
-use Rattle.fdr_recon.specs.Kept.{RebuildKept}
+use Rattle.fdr_recon.specs.Kept.{RebuildKept, kept_cycle}
 use Rattle.fdr_recon.proofs.KeptRows.{kept_row-none, kept_row-some, reach_is}
 use Rattle.fdr_recon.proofs.past.Rebuild.row_of.Goals as goal
 
@@ -14,9 +14,10 @@ returns-then-reach-from-clause-row c =
     c.frame_words-words.ensures.words ∙ ap (λ (k : RebuildKept). k.frame.words) c.self.view_is in
     let joined : c.self.inside.joined ≡ c.args.self.now.joined = ap (λ (k : RebuildKept). k.joined) c.self.view_is in
     let far : c.args.self.now.joined < c.saturating_sub-reach.result = omega arith in
-    let d = reach_is s.parts c.frame_words-words.result c.args.self.now.frame.words c.args.sample.now.last c.args.sample.now.first c.saturating_sub-reach.result
-    words c.requires.listed.last c.requires.listed.first (c.saturating_sub-reach.ensures ∙ ap (λ n. n - c.frame_of-2.result) c.frame_of.ensures
-    ∙ ap (λ n. c.args.sample.now.last / (4 * c.frame_words-words.result) - n) c.frame_of-2.ensures) in
+    let d = reach_is s c.frame_words-words.result c.args.self.now.frame.words (kept_cycle c.args.self.now) c.args.sample.now.first
+    c.saturating_sub-reach.result words c.requires.ends c.requires.listed.first
+    (c.saturating_sub-reach.ensures ∙ ap (λ n. n - c.frame_of.result) (c.from.ensures ∙ c.cycle.ensures.cycle)
+    ∙ ap (λ n. kept_cycle c.args.self.now - n) c.frame_of.ensures) in
     sym (kept_row-none c.args.self.now s c.saturating_sub-reach.result d far)
 
 pub returns-clause-row : goal.returns-clause-row
@@ -26,9 +27,10 @@ returns-clause-row c =
     c.frame_words-words.ensures.words ∙ ap (λ (k : RebuildKept). k.frame.words) c.self.view_is in
     let joined : c.self.inside.joined ≡ c.args.self.now.joined = ap (λ (k : RebuildKept). k.joined) c.self.view_is in
     let near : c.saturating_sub-reach.result ≤ c.args.self.now.joined = omega arith in
-    let d = reach_is s.parts c.frame_words-words.result c.args.self.now.frame.words c.args.sample.now.last c.args.sample.now.first c.saturating_sub-reach.result
-    words c.requires.listed.last c.requires.listed.first (c.saturating_sub-reach.ensures ∙ ap (λ n. n - c.frame_of-2.result) c.frame_of.ensures
-    ∙ ap (λ n. c.args.sample.now.last / (4 * c.frame_words-words.result) - n) c.frame_of-2.ensures) in
+    let d = reach_is s c.frame_words-words.result c.args.self.now.frame.words (kept_cycle c.args.self.now) c.args.sample.now.first
+    c.saturating_sub-reach.result words c.requires.ends c.requires.listed.first
+    (c.saturating_sub-reach.ensures ∙ ap (λ n. n - c.frame_of.result) (c.from.ensures ∙ c.cycle.ensures.cycle)
+    ∙ ap (λ n. kept_cycle c.args.self.now - n) c.frame_of.ensures) in
     let row : ℕ → ℕ → Option Row = λ subframe word. Some (record {
       counter = c.counter.result;
       subframe = subframe;

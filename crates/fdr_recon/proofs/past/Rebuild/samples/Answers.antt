@@ -1,12 +1,12 @@
 use Rattle.std.proofs.Common.{◌≡◌, List, [], map, sym, ◌∙◌, ap, subst}
-use Rattle.std.specs.List.{All}
+use Rattle.std.specs.List.{All, slice_index_or}
 use Rattle.std.proofs.lemmas.Option.{get_or_from_slice_get, slice_get_within}
 use Rattle.fdr_layout.specs.declared.parts.Sample.{Sample as ListedSample}
 use Rattle.fdr_layout.specs.Listed.{sample_in, IsListedSample}
 use Rattle.fdr_layout.specs.Samples.{Sample}
-use Rattle.fdr_recon.specs.Kept.{RebuildKept, kept_samples, kept_cycle, IsSampleOf}
+use Rattle.fdr_recon.specs.Kept.{RebuildKept, kept_samples, kept_cycle, EndsInCycle, IsSampleOf}
 use Rattle.fdr_recon.specs.View.{rebuild_kept}
-use Rattle.fdr_recon.proofs.KeptRows.{kept_samples-empty, kept_samples-cycle, listed_samples_of}
+use Rattle.fdr_recon.proofs.KeptRows.{kept_samples-empty, kept_samples-cycle, listed_samples_hold}
 use Rattle.fdr_recon.proofs.past.Rebuild.samples.Goals as goal
 
 pub returns-then-is_empty-clause-samples : goal.returns-then-is_empty-clause-samples
@@ -34,6 +34,20 @@ returns-else-is_empty-clause-params c =
     let P : RebuildKept → Type 0 = λ k. All (λ (e : ListedSample). IsSampleOf k.params (sample_in k.laid e)) c.ending_in.result.now in
     let Q : List Sample → Type 0 = λ samples. All (IsSampleOf c.self.inside.params.items) samples in
     subst P c.self.view_is
-    (listed_samples_of laid c.self.inside.params.items c.ending_in.result.now
+    (listed_samples_hold (IsSampleOf c.self.inside.params.items) laid c.ending_in.result.now
     (subst Q (get_or_from_slice_get laid.cycles c.cycle.result listed [] c.ending_in.ensures.samples)
     (c.self.invariant.params c.cycle.result [] (slice_get_within laid.cycles c.cycle.result listed c.ending_in.ensures.samples))))
+
+pub returns-else-is_empty-clause-ends : goal.returns-else-is_empty-clause-ends
+returns-else-is_empty-clause-ends c =
+    let laid = c.self.inside.layout in
+    let k = rebuild_kept c.self.inside in
+    let w = k.frame.words in
+    let listed = map (sample_in laid) c.ending_in.result.now in
+    let cycle : c.cycle.result ≡ kept_cycle k = c.cycle.ensures.cycle ∙ ap kept_cycle (sym c.self.view_is) in
+    let P : RebuildKept → Type 0 = λ k. All (λ (e : ListedSample). EndsInCycle k.frame.words (kept_cycle k) (sample_in k.laid e)) c.ending_in.result.now in
+    let Q : List Sample → Type 0 = All (EndsInCycle w (kept_cycle k)) in
+    subst P c.self.view_is
+    (listed_samples_hold (EndsInCycle w (kept_cycle k)) laid c.ending_in.result.now
+    (subst Q (get_or_from_slice_get laid.cycles c.cycle.result listed [] c.ending_in.ensures.samples)
+    (subst (λ n. All (EndsInCycle w n) (slice_index_or laid.cycles c.cycle.result [])) cycle (c.self.invariant.ends c.cycle.result))))

@@ -1,15 +1,17 @@
-use Rattle.std.proofs.Common.{◌≡◌, ◌<◌, ◌^◌, List, length, sym, ap, ◌∙◌, subst, arith}
+use Rattle.std.proofs.Common.{◌≡◌, ℕ, ◌<◌, ◌≤◌, ◌^◌, List, length, sym, ap, ◌∙◌, subst, arith}
 use Rattle.std.specs.Int.{w64}
-use Rattle.std.specs.List.{slice_index_or}
+use Rattle.std.specs.List.{All, slice_index_or}
 use Rattle.std.proofs.lemmas.Int.{to_z-of_z}
 use Rattle.std.proofs.lemmas.Option.{get_or_from_slice_get, slice_get_within}
 use Rattle.fdr_table.specs.Rows.{ParamRow}
 use Rattle.fdr_table.specs.Value.{value_of}
+use Rattle.fdr_check.specs.Occurrences.{cycle_of}
 use Rattle.fdr_layout.specs.Listed.{sample_in}
+use Rattle.fdr_layout.specs.Samples.{Part}
 use Rattle.fdr_layout.specs.SlotParts.{Laid}
 use Rattle.fdr_recon.specs.Kept.{RebuildKept, kept_raw, kept_cycle, kept_value}
 use Rattle.fdr_recon.specs.Rows.{param_at}
-use Rattle.fdr_recon.proofs.KeptRows.{kept_raw-below, kept_raw-small, param_at-sample, raw_of_listed}
+use Rattle.fdr_recon.proofs.KeptRows.{kept_raw-below, kept_raw-small, param_at-sample, parts_of_listed, raw_of_listed}
 use Rattle.fdr_recon.proofs.past.Rebuild.value.Goals as goal
 
 pub parts-requires : goal.parts-requires
@@ -18,6 +20,15 @@ parts-requires c =
     let e = c.args.sample.now in
     let laid : c.self.inside.layout ≡ k.laid = ap (λ (k : RebuildKept). k.laid) c.self.view_is in
     omega (arith, ap (λ (l : Laid). length l.samples) laid, slice_get_within k.laid.samples e.number (sample_in k.laid e) c.requires.listed.sample)
+
+pub raw-raw-requires-clause-ends : goal.raw-raw-requires-clause-ends
+raw-raw-requires-clause-ends c =
+    let k = c.args.self.now in
+    let e = c.args.sample.now in
+    let laid : c.self.inside.layout ≡ k.laid = ap (λ (k : RebuildKept). k.laid) c.self.view_is in
+    let parts = parts_of_listed c.self.inside.layout k.laid e c.parts.result.now laid c.parts.ensures.parts in
+    let Up : ℕ → List Part → Type 0 = λ n ps. All (λ (p : Part). cycle_of k.frame.words p.at ≤ n) ps in
+    subst (Up c.cycle.result) (sym parts) (subst (λ n. Up n (sample_in k.laid e).parts) (sym c.cycle.ensures.cycle) c.requires.ends.parts)
 
 pub overflow_cast-raw : goal.overflow_cast-raw
 overflow_cast-raw c =
@@ -40,7 +51,7 @@ value-requires c =
     let params : c.self.inside.params.items ≡ k.params = ap (λ (k : RebuildKept). k.params) c.self.view_is in
     let param : c.index-param.result.now ≡ c.requires.of.param =
     c.index-param.ensures ∙ ap (λ (ps : List ParamRow). slice_index_or ps s.param c.index-param.result.now) params
-    ∙ get_or_from_slice_get k.params s.param c.requires.of.param c.index-param.result.now c.requires.of.is in
+    ∙ get_or_from_slice_get k.params s.param c.requires.of.param c.index-param.result.now c.requires.of.found in
     subst (λ n. c.raw-raw.result < 2 ^ n) (sym (ap (λ (p : ParamRow). p.width) param)) (subst (λ n. n < 2 ^ c.requires.of.param.width) (sym raw) below)
 
 pub returns : goal.returns
@@ -55,7 +66,7 @@ returns c =
     let params : c.self.inside.params.items ≡ k.params = ap (λ (k : RebuildKept). k.params) c.self.view_is in
     let param : c.index-param.result.now ≡ c.requires.of.param =
     c.index-param.ensures ∙ ap (λ (ps : List ParamRow). slice_index_or ps s.param c.index-param.result.now) params
-    ∙ get_or_from_slice_get k.params s.param c.requires.of.param c.index-param.result.now c.requires.of.is in
+    ∙ get_or_from_slice_get k.params s.param c.requires.of.param c.index-param.result.now c.requires.of.found in
     to_z-of_z w64 c.value.result (record { sfits = c.value.type_inv }) ∙ c.value.ensures
     ∙ ap (λ p. value_of p c.raw-raw.result) (param ∙ sym (param_at-sample k.params s c.requires.of))
     ∙ ap (value_of (param_at k.params s.param)) raw

@@ -8,8 +8,8 @@ use Rattle.fdr_resync.proofs.Standing.{stands_seen}
 use Rattle.fdr_resync.proofs.Taking.{not_all_taken}
 use Rattle.fdr_resync.proofs.scanner.Scanner.drop_searched.Goals as goal
 
-pub returns-clause-few : goal.returns-clause-few
-returns-clause-few c = λ past st all.
+pub returns-clause-all_taken : goal.returns-clause-all_taken
+returns-clause-all_taken c = λ past st all.
     let k = scanner_kept c.self.inside in
     let P : Bool → ScannerKept → Type 0 = λ b k.
     MatchBool b (IsFramePosition k.window k.words (k.from - 8 * k.before)) (8 * bytes_pushed k < k.from + 48 * k.words) in

@@ -7,7 +7,7 @@ draw_empty-slot-requires c =
     let inv = c.loop-slot.invariant.0 in (
       sampler_with_word inv.0,
       c.next_word.ensures.stands inv.0 inv.1,
-      omega (arith, inv.2, c.requires.few, c.loop-slot-test.true),
+      omega (arith, inv.2, c.requires.within_frame, c.loop-slot-test.true),
     )
 
 pub loop-slot-preserved : goal.loop-slot-preserved

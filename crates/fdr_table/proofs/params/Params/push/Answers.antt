@@ -19,7 +19,7 @@ invariant_of-self-2 c =
     omega (arith, length-append params (c.args.param ∷ []), ap (length {A = ParamRow}) c.self.view_is) in
     let updates : Updates same_key c.self.inside.by_name c.insert.new.self c.in_ok-name.name (Some (length params)) = search rules in
     record {
-      few = rw items few;
+      count = rw items few;
       ranges = All-same IsParamInRange c.push.new.self.items (params ++ c.args.param ∷ []) items
           (All-push IsParamInRange params c.args.param c.self.invariant.ranges range);
       names = λ q. still-by-name c.self.inside.by_name c.insert.new.self params c.args.param c.in_ok-name.name c.self.invariant.names fresh name updates q
