@@ -5,8 +5,8 @@ use Rattle.std.specs.List.{range_with_len, count_by, sum_by, filter, list_all, f
 use Rattle.std.proofs.lemmas.List.{length-map}
 use Rattle.std.proofs.lemmas.List.Concat.{length-flat_map}
 use Rattle.std.proofs.lemmas.List.Elements.{filter_more}
+use Rattle.std.proofs.lemmas.List.Folds.{list_all_at}
 use Rattle.std.proofs.lemmas.List.Sums.{sum_by-cons, sum_by-append, length-filter, fold-append, sum_by-take-le, sum_by_more}
-use Rattle.std.proofs.lemmas.Bool.{and_left, and_right}
 use Rattle.fdr_table.specs.Rows.{PlaceRow}
 use Rattle.fdr_check.specs.Occurrences.{frame_bits, begins_at, occurrences_at, occurrences, is_part, part_occurrences}
 use Rattle.fdr_check.specs.Faults.{count_of, last_part}
@@ -45,11 +45,12 @@ length_occurrences w places =
     ∙ sum_turned (λ x p. cond (begins_at w x p) 1 0) (range_with_len 0 (16 * frame_bits w)) places
     ∙ ap (λ n. sum_by (λ (p : PlaceRow). count_by (λ x. begins_at w x p) (range_with_len 0 n)) places) e
 
-pub occurrences_more : (w : ℕ) (places : List PlaceRow) (i : ℕ) (d : PlaceRow) → i < length places
-    → length (occurrences w (take (i + 1) places)) ≡ length (occurrences w (take i places)) + starts_of w (get_or places i d)
-occurrences_more w places i d l =
-    length_occurrences w (take (i + 1) places) ∙ sum_by_more (starts_of w) places i d l
-    ∙ ap (λ n. n + starts_of w (get_or places i d)) (sym (length_occurrences w (take i places)))
+pub occurrences_more : (w : ℕ) (places : List PlaceRow) (i : ℕ) (p : PlaceRow) → i < length places → p ≡ get_or places i p
+    → length (occurrences w (take (i + 1) places)) ≡ length (occurrences w (take i places)) + starts_of w p
+occurrences_more w places i p l is =
+    length_occurrences w (take (i + 1) places) ∙ sum_by_more (starts_of w) places i p l
+    ∙ ap (λ n. n + starts_of w (get_or places i p)) (sym (length_occurrences w (take i places)))
+    ∙ ap (λ q. length (occurrences w (take i places)) + starts_of w q) (sym is)
 
 pub occurrences_take : (w : ℕ) (places : List PlaceRow) (i : ℕ) → length (occurrences w (take i places)) ≤ length (occurrences w places)
 occurrences_take w places i =
@@ -62,11 +63,10 @@ sum_of_one : {X : Type 0} (f : X → ℕ) (b : Bool) (x : X) → sum_by f (cond 
 sum_of_one f true x = omega (arith, sum_by-cons f x [])
 sum_of_one f false x = refl
 
-pub count_more_place : (w : ℕ) (places : List PlaceRow) (n part i : ℕ) (d : PlaceRow) → i < length places
-    → count_of w (take (i + 1) places) n part ≡ count_of w (take i places) n part + cond (is_part n part (get_or places i d)) (starts_of w (get_or places i d))
-    0
+pub count_more_place : (w : ℕ) (places : List PlaceRow) (n part i : ℕ) (d : PlaceRow) (more : ℕ) → i < length places → d ≡ get_or places i d
+    → more ≡ cond (is_part n part d) (starts_of w d) 0 → count_of w (take (i + 1) places) n part ≡ count_of w (take i places) n part + more
 unfolding part_occurrences
-count_more_place w places n part i d l =
+count_more_place w places n part i d more l is more_is =
     let t = is_part n part in
     let p = get_or places i d in
     let before = filter t (take i places) in
@@ -75,6 +75,7 @@ count_more_place w places n part i d l =
     ∙ sum_by-append (starts_of w) before (cond (t p) (p ∷ []) [])
     ∙ ap (λ k. sum_by (starts_of w) before + k) (sum_of_one (starts_of w) (t p) p)
     ∙ ap (λ k. k + cond (t p) (starts_of w p) 0) (sym (length_occurrences w before))
+    ∙ ap (λ k. length (occurrences w before) + k) (sym (more_is ∙ ap (λ (x : PlaceRow). cond (t x) (starts_of w x) 0) is))
 
 pub count_of_none : (w n part : ℕ) → count_of w [] n part ≡ 0
 unfolding part_occurrences
@@ -99,15 +100,28 @@ last_part_more places n i d l =
     ∙ fold-append f 0 (filter t (take i places)) (cond (t p) (p ∷ []) [])
     ∙ max_of_one (t p) (fold f 0 (filter t (take i places))) p
 
-keeps_false : {X : Type 0} (t : X → Bool) (b : Bool) (x : X) (rest : List X) → list_all t rest ≡ false → list_all t (cond b (x ∷ rest) rest) ≡ false
-keeps_false t true x rest fails = and_right (t x) (list_all t rest) fails
-keeps_false t false x rest fails = fails
+-- v stands somewhere in a list
+abbrev pub StandsIn : {X : Type 0} → List X → X → X → Type 0
+StandsIn xs d v = (j : ℕ) × (j < length xs) × (get_or xs j d ≡ v)
+
+stands_first : {X : Type 0} (b : Bool) (x d : X) (rest : List X) → b ≡ true → StandsIn (cond b (x ∷ rest) rest) d x
+stands_first true x d rest kept = (0, omega arith, refl)
+stands_first false x d rest kept = absurd (cc)
+
+stands_later : {X : Type 0} (b : Bool) (x d v : X) (rest : List X) → StandsIn rest d v → StandsIn (cond b (x ∷ rest) rest) d v
+stands_later true x d v rest stands = (suc stands.0, omega (arith, stands.1), stands.2)
+stands_later false x d v rest stands = stands
+
+-- an element that passes a filter stands in what it keeps
+pub stands_kept : {X : Type 0} (f : X → Bool) (xs : List X) (i : ℕ) (d : X) → i < length xs → f (get_or xs i d) ≡ true
+    → StandsIn (filter f xs) d (get_or xs i d)
+stands_kept f [] i d l kept = absurd (omega arith)
+stands_kept f (x ∷ xs) zero d l kept = stands_first (f x) x d (filter f xs) kept
+stands_kept f (x ∷ xs) (suc i) d l kept = stands_later (f x) x d (get_or xs i d) (filter f xs) (stands_kept f xs i d (omega arith) kept)
 
 -- one element that passes the filter and fails the test
 pub not_all_filtered : {X : Type 0} (f t : X → Bool) (xs : List X) (i : ℕ) (d : X) → i < length xs → f (get_or xs i d) ≡ true → t (get_or xs i d) ≡ false
     → list_all t (filter f xs) ≡ false
-not_all_filtered f t [] i d l kept fails = absurd (omega arith)
-not_all_filtered f t (x ∷ xs) zero d l kept fails =
-    ap (λ b. list_all t (cond b (x ∷ filter f xs) (filter f xs))) kept ∙ and_left (t x) (list_all t (filter f xs)) fails
-not_all_filtered f t (x ∷ xs) (suc i) d l kept fails =
-    keeps_false t (f x) x (filter f xs) (not_all_filtered f t xs i d (omega arith) kept fails)
+not_all_filtered f t xs i d l kept fails =
+    let stands = stands_kept f xs i d l kept in
+    list_all_at t (filter f xs) stands.0 d stands.1 (ap t stands.2 ∙ fails)

@@ -82,32 +82,33 @@ parts_none t params i same all none =
 abbrev pub rate_row_of : TableRows → ℕ × ParamRow → Option (ℕ × TableFault)
 rate_row_of t e = rate_of t.frame.words t.places e.0 e.1
 
-rate_here : (t : TableRows) (params : List ParamRow) (groups : List (List PlaceRow)) (i : ℕ) (p : ParamRow) (g : List PlaceRow) (w : ℕ)
+rate_here : (t : TableRows) (params : List ParamRow) (groups : List (List PlaceRow)) (i : ℕ) (p : ParamRow) (g ps : List PlaceRow) (w : ℕ)
     (o : Option (ℕ × TableFault)) → w ≡ t.frame.words → params ≡ t.params → groups ≡ grouped t.places (length t.params) → i < length params
-    → p ≡ get_or params i p → g ≡ get_or groups i g → o ≡ rate_of w g i p → rate_row_of t (0 + i, get_or params i p) ≡ o
-rate_here t params groups i p g w o words same are l is read fault_is =
-    let own : g ≡ places_of t.places i = group_at t.places (length t.params) i groups g are (omega (arith, ap length same)) read in
+    → p ≡ get_or params i p → g ≡ get_or groups i g → ps ≡ g → o ≡ rate_of w ps i p → rate_row_of t (0 + i, get_or params i p) ≡ o
+rate_here t params groups i p g ps w o words same are l is read same_places fault_is =
+    let own : ps ≡ places_of t.places i = same_places ∙ group_at t.places (length t.params) i groups g are (omega (arith, ap length same)) read in
     ap (λ k. rate_row_of t (k, get_or params i p)) (zero-add i) ∙ ap (λ (x : ParamRow). rate_row_of t (i, x)) (sym is)
-    ∙ sym (fault_is ∙ ap (λ k. rate_of k g i p) words ∙ ap (λ ps. rate_of t.frame.words ps i p) own ∙ rate_of_own t.frame.words t.places i p)
+    ∙ sym (fault_is ∙ ap (λ k. rate_of k ps i p) words ∙ ap (λ xs. rate_of t.frame.words xs i p) own ∙ rate_of_own t.frame.words t.places i p)
 
-pub rate_is_found : (t : TableRows) (params : List ParamRow) (groups : List (List PlaceRow)) (i : ℕ) (p : ParamRow) (g : List PlaceRow) (w : ℕ)
+pub rate_is_found : (t : TableRows) (params : List ParamRow) (groups : List (List PlaceRow)) (i : ℕ) (p : ParamRow) (g ps : List PlaceRow) (w : ℕ)
     (o : Option (ℕ × TableFault)) → w ≡ t.frame.words → params ≡ t.params → groups ≡ grouped t.places (length t.params) → i < length params
-    → p ≡ get_or params i p → g ≡ get_or groups i g → o ≡ rate_of w g i p → first_some (map (rate_row_of t) (enumerate_from 0 (take i params))) ≡ None
-    → is_some o ≡ true → o ≡ rate_fault t
+    → p ≡ get_or params i p → g ≡ get_or groups i g → ps ≡ g → o ≡ rate_of w ps i p
+    → first_some (map (rate_row_of t) (enumerate_from 0 (take i params))) ≡ None → is_some o ≡ true → o ≡ rate_fault t
 unfolding rate_fault
-rate_is_found t params groups i p g w None words same are l is read fault_is none some = absurd (cc)
-rate_is_found t params groups i p g w (Some r) words same are l is read fault_is none some =
+rate_is_found t params groups i p g ps w None words same are l is read own fault_is none some = absurd (cc)
+rate_is_found t params groups i p g ps w (Some r) words same are l is read own fault_is none some =
     sym (ap (λ ps. first_some (map (rate_row_of t) (enumerate_from 0 ps))) (sym same)
-    ∙ first_at_last (rate_row_of t) 0 params i p r l none (rate_here t params groups i p g w (Some r) words same are l is read fault_is))
+    ∙ first_at_last (rate_row_of t) 0 params i p r l none (rate_here t params groups i p g ps w (Some r) words same are l is read own fault_is))
 
-pub rate_not_yet : (t : TableRows) (params : List ParamRow) (groups : List (List PlaceRow)) (i : ℕ) (p : ParamRow) (g : List PlaceRow) (w : ℕ)
+pub rate_not_yet : (t : TableRows) (params : List ParamRow) (groups : List (List PlaceRow)) (i : ℕ) (p : ParamRow) (g ps : List PlaceRow) (w : ℕ)
     (o : Option (ℕ × TableFault)) → w ≡ t.frame.words → params ≡ t.params → groups ≡ grouped t.places (length t.params) → i < length params
-    → p ≡ get_or params i p → g ≡ get_or groups i g → o ≡ rate_of w g i p → first_some (map (rate_row_of t) (enumerate_from 0 (take i params))) ≡ None
-    → is_some o ≡ false → first_some (map (rate_row_of t) (enumerate_from 0 (take (i + 1) params))) ≡ None
-rate_not_yet t params groups i p g w o words same are l is read fault_is none some =
+    → p ≡ get_or params i p → g ≡ get_or groups i g → ps ≡ g → o ≡ rate_of w ps i p
+    → first_some (map (rate_row_of t) (enumerate_from 0 (take i params))) ≡ None → is_some o ≡ false
+    → first_some (map (rate_row_of t) (enumerate_from 0 (take (i + 1) params))) ≡ None
+rate_not_yet t params groups i p g ps w o words same are l is read own fault_is none some =
     let e : suc i ≡ i + 1 = omega arith in
     ap (λ k. first_some (map (rate_row_of t) (enumerate_from 0 (take k params)))) (sym e)
-    ∙ first_later (rate_row_of t) 0 params i p l none (rate_here t params groups i p g w o words same are l is read fault_is ∙ none_of o some)
+    ∙ first_later (rate_row_of t) 0 params i p l none (rate_here t params groups i p g ps w o words same are l is read own fault_is ∙ none_of o some)
 
 pub rate_none : (t : TableRows) (params : List ParamRow) (i : ℕ) → params ≡ t.params → length params ≤ i
     → first_some (map (rate_row_of t) (enumerate_from 0 (take i params))) ≡ None → None ≡ rate_fault t

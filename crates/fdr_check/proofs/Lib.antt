@@ -13,6 +13,7 @@ pub mod Grouping
 pub mod Enumerating
 pub mod Sounding
 pub mod Laws
+pub mod Least
 pub mod Slotting
 pub mod Lines
 pub mod Sharing

@@ -114,13 +114,18 @@ all_slots_on w p word start past = ap (map (λ v. start + (v - 1))) (all_words w
 -- ---- the subframes
 
 -- the place occurs in a subframe of its frames where it is in the subframe
-pub of_its_frame : (p : PlaceRow) (f s : ℕ) → s < 4 → f % p.period ≡ p.cycle → occurs_in_subframe (4 * f + s) p ≡ has_subframe p.subs (s + 1)
+of_its_frame : (p : PlaceRow) (f s : ℕ) → s < 4 → f % p.period ≡ p.cycle → occurs_in_subframe (4 * f + s) p ≡ has_subframe p.subs (s + 1)
 of_its_frame p f s few mine =
     let q : (4 * f + s) / 4 ≡ f = omega arith in
     let r : (4 * f + s) % 4 ≡ s = omega arith in
     ap (λ x. (x % p.period == p.cycle) && has_subframe p.subs ((4 * f + s) % 4 + 1)) q
     ∙ ap (λ b. b && has_subframe p.subs ((4 * f + s) % 4 + 1)) (eq-eqb _ _ mine)
     ∙ ap (λ x. has_subframe p.subs (x + 1)) r
+
+-- whether a place occurs in a subframe of its frame, as a test of its subframes tells it
+pub occurs_as_tested : (x p : PlaceRow) (f s : ℕ) (b : Bool) → x ≡ p → s < 4 → f % p.period ≡ p.cycle → has_subframe x.subs (s + 1) ≡ b
+    → occurs_in_subframe (4 * f + s) p ≡ b
+occurs_as_tested x p f s b same few mine test = of_its_frame p f s few mine ∙ ap (λ (y : PlaceRow). has_subframe y.subs (s + 1)) (sym same) ∙ test
 
 pub in_subframe : (w : ℕ) (p : PlaceRow) (j : ℕ) → occurs_in_subframe j p ≡ true → subframe_slots w p j ≡ slots_on w p (j * w)
 unfolding subframe_slots
@@ -220,9 +225,6 @@ frame_added w p f before old new within few mine so_far more =
 
 pub no_frame_yet : (w : ℕ) (p : PlaceRow) (before : List ℕ) → p.cycle < p.period → before ≡ before ++ frames_before w p p.cycle
 no_frame_yet w p before within = sym (append-nil before) ∙ ap (λ xs. before ++ xs) (sym (no_frames_before w p within))
-
-pub next_frame : (n f c : ℕ) → f % n ≡ c → (f + n) % n ≡ c
-next_frame n f c mine = add-mod_right f n ∙ mine
 
 -- ---- the bits at which occurrences begin
 

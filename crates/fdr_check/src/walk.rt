@@ -2,6 +2,7 @@
 //! the words of these, so that no slot is looked at in vain.
 
 ghost use Rattle.std.specs.Prelude.{◌≡◌, ◌<◌, ◌≤◌, ◌+◌, ◌*◌, ◌%◌, ◌++◌, ℕ, OnOk, length};
+ghost use Rattle.fdr_table.specs.Ranges.{IsPlaceInRange};
 ghost use Rattle.fdr_check.specs.Occurrences.{has_subframe, is_on_word, slots_of};
 ghost use Rattle.fdr_check.specs.Walks.{words_on, IsStep, slots_on, subframe_slots, frame_slots, starts_of};
 
@@ -96,16 +97,36 @@ fn add_in_frame(slots: &mut Vec<u32>, words: u32, place: &Place, frame: u32) -> 
     Ok(())
 }
 
+/// The first frame of a superframe that a place occurs in.
+fn first_frame(place: &Place) -> u32
+    ensures first { result ≡ place.now.cycle }
+    ensures own { result % place.now.period ≡ place.now.cycle }
+    ensures in_range { IsPlaceInRange place.now }
+{
+    u32::from(place.cycle)
+}
+
+/// The next frame that it occurs in, or at least one past the end of the superframe.
+fn next_frame(place: &Place, frame: u32) -> u32
+    requires within { frame < 16 }
+    requires own { frame % place.now.period ≡ place.now.cycle }
+    ensures next { result ≡ frame + place.now.period }
+    ensures own { result % place.now.period ≡ place.now.cycle }
+    ensures later { frame < result }
+{
+    frame + u32::from(place.period)
+}
+
 /// Adds the word slots of a superframe in which a place occurs, in their order.
 pub fn add_slots(slots: &mut Vec<u32>, words: u32, place: &Place) -> Result<(), NoMemory>
     requires some_words { 0 < words }
     requires word_limit { words ≤ 1024 }
     ensures { OnOk result (slots.new.items ≡ slots.old.items ++ slots_of words place.now) }
 {
-    let mut frame = u32::from(place.cycle);
+    let mut frame = first_frame(place);
     while frame < 16 {
         add_in_frame(slots, words, place, frame)?;
-        frame += u32::from(place.period);
+        frame = next_frame(place, frame);
     }
     Ok(())
 }
@@ -161,10 +182,10 @@ pub(crate) fn count_starts(words: u32, place: &Place) -> u32
 {
     let in_frame = count_in_frame(words, place);
     let mut count = 0;
-    let mut frame = u32::from(place.cycle);
+    let mut frame = first_frame(place);
     while frame < 16 {
         count += in_frame;
-        frame += u32::from(place.period);
+        frame = next_frame(place, frame);
     }
     count
 }

@@ -7,7 +7,7 @@ use Rattle.std.proofs.Math.Nat.{div-lt_iff_lt-mul, div-mul-le_self}
 use Rattle.fdr_table.specs.Rows.{ParamRow, PlaceRow, TableRows}
 use Rattle.fdr_check.specs.Occurrences.{frame_bits, cycle_of}
 use Rattle.fdr_layout.specs.Samples.{Part, earliest_of, first_at, last_at, Sample, parts_of, samples_of, samples, ending_in}
-use Rattle.fdr_layout.specs.Sorting.{ending_at, ending_among}
+use Rattle.fdr_layout.proofs.ByLastPart.{ending_at, ending_among}
 use Rattle.fdr_layout.proofs.Ending.{EndsIn}
 
 -- ---- the earliest and the last part

@@ -14,7 +14,7 @@ use Rattle.fdr_check.specs.Walks.{starts_of}
 use Rattle.fdr_check.proofs.Counting.{sum_turned, length_occurrences}
 use Rattle.fdr_check.proofs.Sounding.{from_index}
 use Rattle.fdr_layout.specs.Samples.{Sample, last_at, parts_of, samples_of, samples}
-use Rattle.fdr_layout.specs.Sorting.{ending_at, ending_among}
+use Rattle.fdr_layout.proofs.ByLastPart.{ending_at, ending_among}
 use Rattle.fdr_lists.proofs.Sums.{sum_by_same, sum_by-filter}
 
 -- ---- of a cycle

@@ -6,10 +6,11 @@ use Rattle.std.specs.List.{All, filter, flat_map, find, list_any, range_with_len
 use Rattle.std.proofs.lemmas.Bool.{cases_eq, or_left, or_right}
 use Rattle.std.proofs.lemmas.List.{length-append, map-append, take_at, drop_at}
 use Rattle.std.proofs.lemmas.List.Elements.{All-head, All-tail}
-use Rattle.std.proofs.lemmas.List.Folds.{list_any-append}
+use Rattle.std.proofs.lemmas.List.Folds.{list_any-append, list_any_at}
 use Rattle.std.proofs.lemmas.List.FromFn.{length-map-range_with_len, get_or-map-range_with_len}
 use Rattle.fdr_lists.proofs.Ranges.{map-range-agree}
 use Rattle.fdr_layout.specs.Flat.{segment, segments, AreStarts}
+use Rattle.fdr_check.proofs.Counting.{stands_kept}
 use Rattle.fdr_check.proofs.Stretches.{flat_map-range_more, flat_map-range_append}
 
 -- where the first k of them end
@@ -102,17 +103,12 @@ any_in_piece t f a (suc n) x low high any =
           (any_in_piece t f (a + 1) n x (omega arith) (omega arith) any)
     ]
 
-kept_any : {X : Type 0} (t : X → Bool) (b : Bool) (x : X) (kept : List X) → list_any t kept ≡ true → list_any t (cond b (x ∷ kept) kept) ≡ true
-kept_any t true x kept any = or_right (t x) (list_any t kept) any
-kept_any t false x kept any = any
-
 -- an element that passes both
 pub any_kept : {X : Type 0} (t u : X → Bool) (xs : List X) (j : ℕ) (d : X) → j < length xs → u (get_or xs j d) ≡ true → t (get_or xs j d) ≡ true
     → list_any t (filter u xs) ≡ true
-any_kept t u [] j d l kept passes = absurd (omega arith)
-any_kept t u (x ∷ xs) zero d l kept passes =
-    ap (λ b. list_any t (cond b (x ∷ filter u xs) (filter u xs))) kept ∙ or_left (t x) (list_any t (filter u xs)) passes
-any_kept t u (x ∷ xs) (suc j) d l kept passes = kept_any t (u x) x (filter u xs) (any_kept t u xs j d (omega arith) kept passes)
+any_kept t u xs j d l kept passes =
+    let stands = stands_kept u xs j d l kept in
+    list_any_at t (filter u xs) stands.0 d stands.1 (ap t stands.2 ∙ passes)
 
 found_at : {X : Type 0} (b : Bool) (x v : X) (o : Option X) (later : Bool) → (b || later) ≡ true → (b ≡ true → x ≡ v) → (later ≡ true → o ≡ Some v)
     → cond b (Some x) o ≡ Some v

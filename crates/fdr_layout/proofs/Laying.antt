@@ -16,14 +16,15 @@ use Rattle.fdr_check.specs.Soundness.{IsSound}
 use Rattle.fdr_lists.proofs.Ranges.{All-range, map-range-agree}
 use Rattle.fdr_lists.proofs.Filters.{filter_map_fewer, map-agree}
 use Rattle.fdr_lists.proofs.Numbered.{numbered_stand, slice_get_some}
+use Rattle.fdr_layout.specs.declared.flat.FlatLists.{FlatLists}
 use Rattle.fdr_layout.specs.declared.parts.Sample.{Sample as ListedSample}
-use Rattle.fdr_layout.specs.Flat.{segment, segments, AreStarts}
+use Rattle.fdr_layout.specs.Flat.{segment, segments}
 use Rattle.fdr_layout.specs.Listed.{numbered_parts, IsListedSample}
-use Rattle.fdr_layout.specs.LayoutView.{parts_numbered, listed_sample, sample_numbered}
+use Rattle.fdr_layout.specs.LayoutView.{parts_numbered, listed_sample, sample_numbered, laid, IsKept}
 use Rattle.fdr_layout.specs.Samples.{carrier_of, Part, part_at, parts_of, Sample, samples_of, samples, first_at, last_at, ending_in}
 use Rattle.fdr_layout.specs.SlotParts.{SlotPart, parts_of_sample, parts_among, parts_at, parts_of_slot, parts_in, Laid, laid_of, IsLaid, plain_parts}
-use Rattle.fdr_layout.specs.Sorting.{ending_at, ending_among}
-use Rattle.fdr_layout.specs.Drafts.{listed, part_starts, AreDrafted, numbers_by_bit, starts_by_slot, picked}
+use Rattle.fdr_layout.proofs.ByLastPart.{ending_at, ending_among}
+use Rattle.fdr_layout.specs.Drafts.{listed, part_starts, numbers_by_bit, starts_by_slot, picked, last_bits, lowest_bits, AreFlatLists}
 use Rattle.fdr_check.proofs.Stretches.{flat_map_agree, flat_map-range_more}
 use Rattle.fdr_layout.proofs.Lists.{flat_map_twelves}
 use Rattle.fdr_layout.proofs.Bits.{picked_by_bit}
@@ -212,23 +213,22 @@ picked_map g items (n ∷ ns) =
 
 -- ---- by slot
 
-pub by_slot_is : (w : ℕ) (parts by_slot : List SlotPart) (bits : List ℕ) → bits ≡ map (λ (a : SlotPart). a.part.at) parts
-    → by_slot ≡ picked parts (numbers_by_bit bits (768 * w)) → by_slot ≡ flat_map (parts_of_slot parts) (range_with_len 0 (64 * w))
+pub by_slot_is : (w : ℕ) (parts by_slot : List SlotPart) → by_slot ≡ picked parts (numbers_by_bit (lowest_bits parts) (768 * w))
+    → by_slot ≡ flat_map (parts_of_slot parts) (range_with_len 0 (64 * w))
 unfolding parts_of_slot
-by_slot_is w parts by_slot bits are is =
+by_slot_is w parts by_slot is =
     let key : SlotPart → ℕ = λ a. a.part.at in
     let count : 768 * w ≡ 12 * (64 * w) = omega arith in
-    is ∙ ap (λ xs. picked parts (numbers_by_bit xs (768 * w))) are ∙ picked_by_bit key parts (768 * w)
+    is ∙ picked_by_bit key parts (768 * w)
     ∙ ap (λ n. flat_map (parts_at parts) (range_with_len 0 n)) count ∙ sym (flat_map_twelves (parts_at parts) 0 (64 * w))
 
-pub slot_starts_are : (w : ℕ) (parts : List SlotPart) (bits starts : List ℕ) → bits ≡ map (λ (a : SlotPart). a.part.at) parts
-    → starts ≡ starts_by_slot bits (64 * w) → starts ≡ ends_of (parts_of_slot parts) (64 * w)
+pub slot_starts_are : (w : ℕ) (parts : List SlotPart) (starts : List ℕ) → starts ≡ starts_by_slot (lowest_bits parts) (64 * w)
+    → starts ≡ ends_of (parts_of_slot parts) (64 * w)
 unfolding parts_of_slot starts_by_slot
-slot_starts_are w parts bits starts are is =
+slot_starts_are w parts starts is =
     let key : SlotPart → ℕ = λ a. a.part.at in
-    is ∙ ends_agree (parts_of_slot parts) (64 * w) (λ k. length (numbers_by_bit bits (12 * k)))
-    (λ k within. ap (λ xs. length (numbers_by_bit xs (12 * k))) are ∙ counted_by_bit key parts (12 * k)
-    ∙ ap length (sym (flat_map_twelves (parts_at parts) 0 k)))
+    is ∙ ends_agree (parts_of_slot parts) (64 * w) (λ k. length (numbers_by_bit (lowest_bits parts) (12 * k)))
+    (λ k within. counted_by_bit key parts (12 * k) ∙ ap length (sym (flat_map_twelves (parts_at parts) 0 k)))
 
 pub slot_starts_long : (bits : List ℕ) (slots : ℕ) → length (starts_by_slot bits slots) ≡ slots + 1
 unfolding starts_by_slot
@@ -255,14 +255,14 @@ all_listed w ss n =
     ap (map listed) (ap (λ a. flat_map (numbered_at ss) (range_with_len a (n * m))) (sym none) ∙ sym (flat_map_chunks (numbered_at ss) m 0 n))
     ∙ map-flat_map listed (λ j. flat_map (numbered_at ss) (range_with_len (m * j) m)) (range_with_len 0 n)
 
-pub ending_is : (w : ℕ) (ss : List Sample) (list ending : List ListedSample) (lasts : List ℕ) → list ≡ map listed (enumerate_from 0 ss)
-    → lasts ≡ map (λ (s : Sample). last_at s.parts) ss → ending ≡ picked list (numbers_by_bit lasts (768 * w))
+pub ending_is : (w : ℕ) (ss : List Sample) (ending : List ListedSample)
+    → ending ≡ picked (map listed (enumerate_from 0 ss)) (numbers_by_bit (last_bits ss) (768 * w))
     → ending ≡ map listed (flat_map (numbered_at ss) (range_with_len 0 (768 * w)))
-ending_is w ss list ending lasts listed_are lasts_are is =
+ending_is w ss ending is =
     let items = enumerate_from 0 ss in
     let key : ℕ × Sample → ℕ = λ e. last_at e.1.parts in
-    is ∙ ap (λ xs. picked xs (numbers_by_bit lasts (768 * w))) listed_are ∙ picked_map listed items (numbers_by_bit lasts (768 * w))
-    ∙ ap (λ xs. map listed (picked items (numbers_by_bit xs (768 * w)))) (lasts_are ∙ keys_numbered (λ (s : Sample). last_at s.parts) 0 ss)
+    is ∙ picked_map listed items (numbers_by_bit (last_bits ss) (768 * w))
+    ∙ ap (λ xs. map listed (picked items (numbers_by_bit xs (768 * w)))) (keys_numbered (λ (s : Sample). last_at s.parts) 0 ss)
     ∙ ap (map listed) (picked_by_bit key items (768 * w))
 
 pub ending_by_cycle : (w : ℕ) (ss : List Sample) (ending : List ListedSample) → ending ≡ map listed (flat_map (numbered_at ss) (range_with_len 0 (768 * w)))
@@ -271,21 +271,20 @@ ending_by_cycle w ss ending is =
     let count : 768 * w ≡ 16 * frame_bits w = omega arith in
     is ∙ ap (λ n. map listed (flat_map (numbered_at ss) (range_with_len 0 n))) count ∙ all_listed w ss 16
 
-pub cycle_starts_are : (w : ℕ) (ss : List Sample) (lasts starts cycles : List ℕ) → lasts ≡ map (λ (s : Sample). last_at s.parts) ss
-    → starts ≡ starts_by_slot lasts (64 * w) → cycles ≡ map (λ c. get_or starts (4 * w * c) 0) (range_with_len 0 17)
-    → cycles ≡ ends_of (listed_in w ss) 16
+pub cycle_starts_are : (w : ℕ) (ss : List Sample) (cycles : List ℕ)
+    → cycles ≡ map (λ c. get_or (starts_by_slot (last_bits ss) (64 * w)) (4 * w * c) 0) (range_with_len 0 17) → cycles ≡ ends_of (listed_in w ss) 16
 unfolding starts_by_slot
-cycle_starts_are w ss lasts starts cycles lasts_are are is =
+cycle_starts_are w ss cycles is =
     let items = enumerate_from 0 ss in
     let key : ℕ × Sample → ℕ = λ e. last_at e.1.parts in
-    is ∙ ends_agree (listed_in w ss) 16 (λ c. get_or starts (4 * w * c) 0)
+    let lasts = last_bits ss in
+    is ∙ ends_agree (listed_in w ss) 16 (λ c. get_or (starts_by_slot lasts (64 * w)) (4 * w * c) 0)
     (λ c within.
     let low : w * c ≤ w * 16 = mul-le-mul_left w within in
     let count : 12 * (4 * w * c) ≡ c * frame_bits w = omega arith in
-    ap (λ xs. get_or xs (4 * w * c) 0) are
-    ∙ get_or-map-range_with_len (λ k. length (numbers_by_bit lasts (12 * k))) 0 (64 * w + 1) (4 * w * c) (4 * w * c) 0 (omega arith) (zero-add (4 * w * c))
+    get_or-map-range_with_len (λ k. length (numbers_by_bit lasts (12 * k))) 0 (64 * w + 1) (4 * w * c) (4 * w * c) 0 (omega arith) (zero-add (4 * w * c))
     ∙ ap (λ n. length (numbers_by_bit lasts n)) count
-    ∙ ap (λ xs. length (numbers_by_bit xs (c * frame_bits w))) (lasts_are ∙ keys_numbered (λ (s : Sample). last_at s.parts) 0 ss)
+    ∙ ap (λ xs. length (numbers_by_bit xs (c * frame_bits w))) (keys_numbered (λ (s : Sample). last_at s.parts) 0 ss)
     ∙ counted_by_bit key items (c * frame_bits w)
     ∙ sym (length-map (flat_map (numbered_at ss) (range_with_len 0 (c * frame_bits w))) listed)
     ∙ ap length (all_listed w ss c))
@@ -420,97 +419,73 @@ laid_holds t sound =
       numbers = slots_numbers (samples t) (map (parts_in t) (range_with_len 0 (64 * t.frame.words))) (64 * t.frame.words) refl;
     }
 
--- the flat lists of a layout, as they are made of a table
-pub record IsMade (t : TableRows) (w : ℕ) (list ending : List ListedSample) (lasts starts bits ending_starts cycles slots : List ℕ)
-    (parts by_slot : List SlotPart)
-    : Type 0 where
-  pub some : 0 < w
-  pub words : w ≡ t.frame.words
-  pub draft : AreDrafted (samples t) list lasts parts starts
-  pub bits_are : bits ≡ map (λ (a : SlotPart). a.part.at) parts
-  pub endings : ending ≡ picked list (numbers_by_bit lasts (768 * w))
-  pub ends_are : ending_starts ≡ starts_by_slot lasts (64 * w)
-  pub cycles_are : cycles ≡ map (λ c. get_or ending_starts (4 * w * c) 0) (range_with_len 0 17)
-  pub standing : by_slot ≡ picked parts (numbers_by_bit bits (768 * w))
-  pub slots_are : slots ≡ starts_by_slot bits (64 * w)
-
 lasts_below : (t : TableRows) → 0 < t.frame.words → All (λ (s : Sample). last_at s.parts < 768 * t.frame.words) (samples t)
 lasts_below t some = λ k d l. last_below (768 * t.frame.words) (get_or (samples t) k d).parts (omega arith) (samples_within t k d l)
 
-pub laid_made : (t : TableRows) (w : ℕ) (list ending : List ListedSample) (lasts starts bits ending_starts cycles slots : List ℕ)
-    (parts by_slot : List SlotPart)
-    → IsMade t w list ending lasts starts bits ending_starts cycles slots parts by_slot →
-    record {
-      cycles = map (λ (es : List ListedSample). map (listed_sample starts parts) es) (segments cycles ending);
-      samples = map (sample_numbered starts parts ending) (range_with_len 0 (length starts - 1));
-      slots = segments slots by_slot;
-    } ≡ laid_of t
-unfolding ending_in ending_among
-laid_made t w list ending lasts starts bits ending_starts cycles slots parts by_slot made =
-    let ss = samples t in
-    let d = made.draft in
-    let all = ending_is w ss list ending lasts d.each d.ends made.endings in
-    let of : List (List Sample) → List Sample → List (List SlotPart) → Laid = λ cs xs ps. record { cycles = cs; samples = xs; slots = ps } in
-    let g : List ListedSample → List Sample = λ es. map (listed_sample starts parts) es in
-    let by_cycle : map g (segments cycles ending) ≡ map (ending_in t) (range_with_len 0 16) =
-    ap (map g) (segments_are (listed_in w ss) 16 cycles ending
-    (cycle_starts_are w ss lasts ending_starts cycles d.ends made.ends_are made.cycles_are) (ending_by_cycle w ss ending all))
-    ∙ map-map g (listed_in w ss) (range_with_len 0 16)
-    ∙ map-range-agree (λ c. g (listed_in w ss c)) (ending_in t) 0 16
-    (λ c low high. cycle_is w ss starts parts c d.begins d.pieces ∙ ap (λ v. ending_among v ss c) made.words) in
-    let below : All (λ (s : Sample). last_at s.parts < 768 * w) ss =
-    subst (λ v. All (λ (s : Sample). last_at s.parts < 768 * v) ss) (sym made.words) (lasts_below t (subst (λ v. 0 < v) made.words made.some)) in
-    let numbered = samples_are w ss starts parts ending d.begins d.pieces all below in
-    let stand : segments slots by_slot ≡ map (parts_in t) (range_with_len 0 (64 * t.frame.words)) =
-    segments_are (parts_of_slot parts) (64 * w) slots by_slot (slot_starts_are w parts bits slots made.bits_are made.slots_are)
-    (by_slot_is w parts by_slot bits made.bits_are made.standing)
-    ∙ ap (λ ps. map (parts_of_slot ps) (range_with_len 0 (64 * w))) d.pieces
-    ∙ ap (λ v. map (parts_in t) (range_with_len 0 (64 * v))) made.words in
-    ap (λ cs. of cs (map (sample_numbered starts parts ending) (range_with_len 0 (length starts - 1))) (segments slots by_slot)) by_cycle
-    ∙ ap (λ xs. of (map (ending_in t) (range_with_len 0 16)) xs (segments slots by_slot)) numbered
-    ∙ ap (of (map (ending_in t) (range_with_len 0 16)) ss) stand
-
-pub cycles_start : (t : TableRows) (w : ℕ) (list ending : List ListedSample) (lasts starts bits ending_starts cycles slots : List ℕ)
-    (parts by_slot : List SlotPart)
-    → IsMade t w list ending lasts starts bits ending_starts cycles slots parts by_slot → AreStarts cycles (length ending) × (length cycles ≡ 17)
-cycles_start t w list ending lasts starts bits ending_starts cycles slots parts by_slot made =
-    let ss = samples t in
-    let d = made.draft in
-    let are = cycle_starts_are w ss lasts ending_starts cycles d.ends made.ends_are made.cycles_are in (
-      starts_are (listed_in w ss) 16 cycles ending are (ending_by_cycle w ss ending (ending_is w ss list ending lasts d.each d.ends made.endings)),
-      ap length are ∙ length-map-range_with_len (ends (listed_in w ss)) 0 17,
-    )
-
-pub samples_start : (t : TableRows) (list : List ListedSample) (lasts starts : List ℕ) (parts : List SlotPart) → AreDrafted (samples t) list lasts parts starts
-    → AreStarts starts (length parts)
-samples_start t list lasts starts parts d =
-    starts_are (own_parts (samples t)) (length (samples t)) starts parts (sample_starts_are (samples t) starts d.begins) (by_sample_is
-    (samples t) parts d.pieces)
-
-pub slots_start : (t : TableRows) (w : ℕ) (list ending : List ListedSample) (lasts starts bits ending_starts cycles slots : List ℕ)
-    (parts by_slot : List SlotPart)
-    → IsMade t w list ending lasts starts bits ending_starts cycles slots parts by_slot → AreStarts slots (length by_slot)
-slots_start t w list ending lasts starts bits ending_starts cycles slots parts by_slot made =
-    starts_are (parts_of_slot parts) (64 * w) slots by_slot (slot_starts_are w parts bits slots made.bits_are made.slots_are)
-    (by_slot_is w parts by_slot bits made.bits_are made.standing)
-
 -- the parts of each sample
-pub own_segment : (t : TableRows) (list : List ListedSample) (lasts starts : List ℕ) (parts : List SlotPart) (n : ℕ)
-    → AreDrafted (samples t) list lasts parts starts
-    → n + 1 < length starts → All (λ (a : SlotPart). a.sample ≡ n) (segment starts parts n) × (length (segment starts parts n) ≤ 4)
-own_segment t list lasts starts parts n d within =
-    let ss = samples t in
-    let begin = sample_starts_are ss starts d.begins in
+own_segment : (ss : List Sample) (starts : List ℕ) (parts : List SlotPart) (n : ℕ) → All (λ (s : Sample). length s.parts ≤ 4) ss → starts ≡ part_starts ss
+    → parts ≡ parts_among ss → n + 1 < length starts
+    → All (λ (a : SlotPart). a.sample ≡ n) (segment starts parts n) × (length (segment starts parts n) ≤ 4)
+own_segment ss starts parts n four begins pieces within =
+    let begin = sample_starts_are ss starts begins in
     let long : length starts ≡ length ss + 1 = ap length begin ∙ length-map-range_with_len (ends (own_parts ss)) 0 (length ss + 1) in
-    let is : segment starts parts n ≡ own_parts ss n = segment_is (own_parts ss) (length ss) n starts parts begin (by_sample_is ss parts d.pieces) (omega
+    let is : segment starts parts n ≡ own_parts ss n = segment_is (own_parts ss) (length ss) n starts parts begin (by_sample_is ss parts pieces) (omega
     (arith, long)) in
-    let four = own_parts_four ss n (samples_four t) (omega (arith, long)) in (
+    let few = own_parts_four ss n four (omega (arith, long)) in (
       subst (All (λ (a : SlotPart). a.sample ≡ n)) (sym is) (own_parts_owned ss n),
-      omega (arith, four, ap length is),
+      omega (arith, few, ap length is),
     )
 
-pub ending_stands : (t : TableRows) (w : ℕ) (list ending : List ListedSample) (lasts starts bits ending_starts cycles slots : List ℕ)
-    (parts by_slot : List SlotPart)
-    → IsMade t w list ending lasts starts bits ending_starts cycles slots parts by_slot → All (IsListedSample (laid_of t)) ending
-ending_stands t w list ending lasts starts bits ending_starts cycles slots parts by_slot made =
-    listed_stand (laid_of t) w ending (ending_is w (samples t) list ending lasts made.draft.each made.draft.ends made.endings)
+-- the flat lists of a table's samples
+module _ (t : TableRows) (l : FlatLists) (made : AreFlatLists (samples t) t.frame.words l) where
+  all_ending : l.ending.items ≡ map listed (flat_map (numbered_at (samples t)) (range_with_len 0 (768 * t.frame.words)))
+  all_ending = ending_is t.frame.words (samples t) l.ending.items made.endings
+
+  ending_in_order : l.ending.items ≡ flat_map (listed_in t.frame.words (samples t)) (range_with_len 0 16)
+  ending_in_order = ending_by_cycle t.frame.words (samples t) l.ending.items all_ending
+
+  cycles_begin : l.cycle_starts.items ≡ ends_of (listed_in t.frame.words (samples t)) 16
+  cycles_begin = cycle_starts_are t.frame.words (samples t) l.cycle_starts.items made.cycles
+
+  parts_in_order : l.by_slot.items ≡ flat_map (parts_of_slot l.by_sample.items) (range_with_len 0 (64 * t.frame.words))
+  parts_in_order = by_slot_is t.frame.words l.by_sample.items l.by_slot.items made.standing
+
+  slots_begin : l.slot_starts.items ≡ ends_of (parts_of_slot l.by_sample.items) (64 * t.frame.words)
+  slots_begin = slot_starts_are t.frame.words l.by_sample.items l.slot_starts.items made.slots
+
+  pub laid_made : laid l ≡ laid_of t
+  unfolding ending_in ending_among
+  laid_made =
+      let ss = samples t in
+      let w = t.frame.words in
+      let starts = l.sample_starts.items in
+      let parts = l.by_sample.items in
+      let of : List (List Sample) → List Sample → List (List SlotPart) → Laid = λ cs xs ps. record { cycles = cs; samples = xs; slots = ps } in
+      let g : List ListedSample → List Sample = λ es. map (listed_sample starts parts) es in
+      let by_cycle : map g (segments l.cycle_starts.items l.ending.items) ≡ map (ending_in t) (range_with_len 0 16) =
+      ap (map g) (segments_are (listed_in w ss) 16 l.cycle_starts.items l.ending.items cycles_begin ending_in_order)
+      ∙ map-map g (listed_in w ss) (range_with_len 0 16)
+      ∙ map-range-agree (λ c. g (listed_in w ss c)) (ending_in t) 0 16 (λ c low high. cycle_is w ss starts parts c made.begins made.pieces) in
+      let numbered = samples_are w ss starts parts l.ending.items made.begins made.pieces all_ending (lasts_below t made.some_words) in
+      let stand : segments l.slot_starts.items l.by_slot.items ≡ map (parts_in t) (range_with_len 0 (64 * w)) =
+      segments_are (parts_of_slot parts) (64 * w) l.slot_starts.items l.by_slot.items slots_begin parts_in_order
+      ∙ ap (λ ps. map (parts_of_slot ps) (range_with_len 0 (64 * w))) made.pieces in
+      ap (λ cs. of cs (laid l).samples (laid l).slots) by_cycle ∙ ap (λ xs. of (laid_of t).cycles xs (laid l).slots) numbered
+      ∙ ap (of (laid_of t).cycles ss) stand
+
+  pub kept_made : IsSound t → IsKept l
+  kept_made sound =
+      let ss = samples t in
+      let starts = l.sample_starts.items in
+      let parts = l.by_sample.items in
+      record {
+        stands = subst IsLaid (sym laid_made) (laid_holds t sound);
+        cycles = starts_are (listed_in t.frame.words ss) 16 l.cycle_starts.items l.ending.items cycles_begin ending_in_order;
+        sixteen = ap length cycles_begin ∙ length-map-range_with_len (ends (listed_in t.frame.words ss)) 0 17;
+        samples = starts_are (own_parts ss) (length ss) starts parts (sample_starts_are ss starts made.begins) (by_sample_is ss parts made.pieces);
+        slots = starts_are (parts_of_slot parts) (64 * t.frame.words) l.slot_starts.items l.by_slot.items slots_begin parts_in_order;
+        listed = subst (λ (x : Laid). All (IsListedSample x) l.ending.items) (sym laid_made)
+            (listed_stand (laid_of t) t.frame.words l.ending.items all_ending);
+        owners = λ n within. (own_segment ss starts parts n (samples_four t) made.begins made.pieces within).0;
+        four = λ n within. (own_segment ss starts parts n (samples_four t) made.begins made.pieces within).1;
+      }

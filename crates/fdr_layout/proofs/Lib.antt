@@ -1,4 +1,5 @@
 pub mod Lists
+pub mod ByLastPart
 pub mod Ending
 pub mod Endings
 pub mod SlotLemmas

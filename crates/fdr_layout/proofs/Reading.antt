@@ -8,10 +8,11 @@ use Rattle.std.proofs.lemmas.List.FromFn.{length-map-range_with_len, get_or-map-
 use Rattle.std.proofs.lemmas.Option.{slice_get-map, slice_get-get_or, slice_get_within}
 use Rattle.std.proofs.lemmas.List.Elements.{All-cons, All-head, All-tail}
 use Rattle.fdr_lists.proofs.Filters.{map-agree}
+use Rattle.fdr_layout.specs.declared.flat.FlatLists.{FlatLists}
 use Rattle.fdr_layout.specs.declared.parts.Sample.{Sample as ListedSample}
 use Rattle.fdr_layout.specs.Flat.{segment, segments}
 use Rattle.fdr_layout.specs.Listed.{numbered_parts, sample_in, IsListedSample}
-use Rattle.fdr_layout.specs.LayoutView.{parts_numbered, listed_sample, sample_numbered}
+use Rattle.fdr_layout.specs.LayoutView.{parts_numbered, listed_sample, sample_numbered, laid}
 use Rattle.fdr_layout.specs.Samples.{Part, Sample}
 use Rattle.fdr_layout.specs.SlotParts.{SlotPart, Laid, parts_of_sample}
 
@@ -27,6 +28,12 @@ pub segment_got : {X : Type 0} (starts : List ℕ) (flat : List X) (k : ℕ) →
 segment_got starts flat k within =
     slice_get-get_or (segments starts flat) k (segment starts flat k) (omega (arith, segments_long starts flat))
     ∙ ap Some (segment_at starts flat k (segment starts flat k) within)
+
+-- list k, as it was read
+pub read_segment : {X : Type 0} (starts starts2 : List ℕ) (flat flat2 : List X) (k : ℕ) (read : List X) → read ≡ segment starts2 flat2 k
+    → starts2 ≡ starts → flat2 ≡ flat → read ≡ segment starts flat k
+read_segment starts starts2 flat flat2 k read is same_starts same_flat =
+    is ∙ ap (λ xs. segment xs flat2 k) same_starts ∙ ap (λ xs. segment starts xs k) same_flat
 
 -- what holds of each list holds of this one
 pub segment_holds : {X : Type 0} (P : List X → Type 0) (starts : List ℕ) (flat : List X) (k : ℕ) → All P (segments starts flat) → k + 1 < length starts
@@ -46,6 +53,16 @@ All-segment P starts flat k all = λ j d l.
     let at : get_or (take n (drop a flat)) j d ≡ get_or flat (a + j) d =
     get_or-take n (drop a flat) j d (omega (arith, within, long)) ∙ get_or-drop a flat j d in
     subst P (sym at) (all (a + j) d (omega (arith, within, long, rest)))
+
+-- how many slots a layout has, and how many samples
+pub slots_counted : (l : FlatLists) (s : Laid) → laid l ≡ s → length s.slots ≡ length l.slot_starts.items - 1
+slots_counted l s is = ap (λ (x : Laid). length x.slots) (sym is) ∙ segments_long l.slot_starts.items l.by_slot.items
+
+pub samples_counted : (l : FlatLists) (s : Laid) → laid l ≡ s → length s.samples ≡ length l.sample_starts.items - 1
+samples_counted l s is =
+    ap (λ (x : Laid). length x.samples) (sym is)
+    ∙ length-map-range_with_len (sample_numbered l.sample_starts.items l.by_sample.items l.ending.items) 0
+    (length l.sample_starts.items - 1)
 
 -- the parts of a sample, by its number
 pub numbered_parts_are : (l : Laid) (starts : List ℕ) (parts : List SlotPart) (ending : List ListedSample) (n : ℕ)

@@ -1,8 +1,8 @@
--- What a layout's fields say.
+-- What a layout's flat lists say.
 use Rattle.std.specs.Prelude.{ℕ, ◌≡◌, ◌+◌, ◌-◌, ◌<◌, ◌≤◌, ◌==◌, List, length, map, find}
 use Rattle.std.specs.Option.{option_map_or}
 use Rattle.std.specs.List.{All, range_with_len}
-use Rattle.fdr_layout.specs.declared.layout.Layout.TheInside.{Inside}
+use Rattle.fdr_layout.specs.declared.flat.FlatLists.{FlatLists}
 use Rattle.fdr_layout.specs.declared.parts.Sample.{Sample as ListedSample}
 use Rattle.fdr_layout.specs.Flat.{segment, segments, AreStarts}
 use Rattle.fdr_layout.specs.Samples.{Part, Sample}
@@ -25,15 +25,16 @@ sample_numbered starts parts ending n = record {
   parts = parts_numbered starts parts n;
 }
 
-abbrev pub laid : Inside → Laid
+-- how the samples stand in these flat lists
+abbrev pub laid : FlatLists → Laid
 laid l = record {
   cycles = map (λ (es : List ListedSample). map (listed_sample l.sample_starts.items l.by_sample.items) es) (segments l.cycle_starts.items l.ending.items);
   samples = map (sample_numbered l.sample_starts.items l.by_sample.items l.ending.items) (range_with_len 0 (length l.sample_starts.items - 1));
   slots = segments l.slot_starts.items l.by_slot.items;
 }
 
--- what holds of each layout
-pub record IsKept (l : Inside) : Type 0 where
+-- what holds of those of each layout
+pub record IsKept (l : FlatLists) : Type 0 where
   pub stands : IsLaid (laid l)
   pub cycles : AreStarts l.cycle_starts.items (length l.ending.items)
   pub sixteen : length l.cycle_starts.items ≡ 17

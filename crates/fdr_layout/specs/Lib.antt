@@ -2,7 +2,6 @@ pub mod Samples
 pub mod Ranges
 pub mod Cycles
 pub mod SlotParts
-pub mod Sorting
 pub mod Drafts
 pub mod Flat
 pub mod Listed

@@ -5,24 +5,18 @@ ghost use Rattle.fdr_layout.specs.SlotParts.{laid_of, parts_of_sample};
 ghost use Rattle.fdr_layout.specs.Flat.{segment, AreStarts};
 ghost use Rattle.fdr_layout.specs.Listed.{numbered_parts, sample_in, IsListedSample};
 
-use crate::drafts::{Draft, draft_of};
-use crate::order::{bits_of, by_bit, cycle_starts, picked_parts, picked_samples};
+use crate::flat::{FlatLists, flat_lists};
 use crate::parts::{Part, Sample};
-use fdr_check::{Sorted, Sound};
+use fdr_check::Sound;
 use fdr_table::NoMemory;
 use std::alloc::Global;
 use std::marker::Model;
 
 /// Where the samples of a table stand in a superframe: by the cycle in which they end, and the parts by word slot and by
-/// sample. Of each flat list it keeps where the items of each cycle, slot and sample begin.
+/// sample.
 #[derive(Drop)]
 pub struct Layout {
-    ending: Vec<Sample>,
-    cycle_starts: Vec<u32>,
-    by_sample: Vec<Part>,
-    sample_starts: Vec<u32>,
-    by_slot: Vec<Part>,
-    slot_starts: Vec<u32>,
+    lists: FlatLists,
 }
 
 impl Model for Layout {
@@ -32,9 +26,9 @@ impl Model for Layout {
 
     ghost use Rattle.fdr_layout.specs.LayoutView.{laid, IsKept};
 
-    ghost view = { laid };
+    ghost view = { λ l. laid l.lists };
 
-    ghost invariant = { IsKept };
+    ghost invariant = { λ l. IsKept l.lists };
 }
 
 impl Layout {
@@ -43,30 +37,8 @@ impl Layout {
         ensures { IfOk result (λ l. l ≡ laid_of t.now) }
     {
         t.holds();
-        let words = t.table().frame().words;
-        let Draft {
-            list,
-            lasts,
-            parts,
-            starts,
-        } = draft_of(alloc, t)?;
-        let bits = bits_of(alloc, &parts)?;
-        let ending = by_bit(alloc, words, &lasts)?;
-        let slots = by_bit(alloc, words, &bits)?;
-        let Sorted {
-            starts: slot_starts,
-            numbers,
-        } = slots;
-        let by_slot = picked_parts(alloc, &parts, &numbers)?;
-        let cycles = cycle_starts(alloc, words, &ending.starts)?;
-        let listed = picked_samples(alloc, &list, &ending.numbers)?;
         Ok(Layout {
-            ending: listed,
-            cycle_starts: cycles,
-            by_sample: parts,
-            sample_starts: starts,
-            by_slot,
-            slot_starts,
+            lists: flat_lists(alloc, t)?,
         })
     }
 
@@ -76,7 +48,7 @@ impl Layout {
         ensures parts { slice_get self.now.slots k ≡ Some result.now }
         ensures numbers { All (λ a. a.sample < length self.now.samples) result.now }
     {
-        segment(&self.slot_starts, &self.by_slot, k)
+        segment(&self.lists.slot_starts, &self.lists.by_slot, k)
     }
 
     /// The samples whose last part lies in a cycle, in the order of last parts. Takes no memory.
@@ -87,7 +59,11 @@ impl Layout {
         ensures countable { length result.now < 2 ^ 32 }
         ensures cycles { length self.now.cycles ≡ 16 }
     {
-        segment(&self.cycle_starts, &self.ending, u32::from(cycle))
+        segment(
+            &self.lists.cycle_starts,
+            &self.lists.ending,
+            u32::from(cycle),
+        )
     }
 
     /// The parts of the sample with this number, by part number. Takes no memory.
@@ -96,7 +72,7 @@ impl Layout {
         ensures parts { result.now ≡ parts_of_sample sample (numbered_parts self.now sample) }
         ensures four_parts { length result.now ≤ 4 }
     {
-        segment(&self.sample_starts, &self.by_sample, sample)
+        segment(&self.lists.sample_starts, &self.lists.by_sample, sample)
     }
 
     /// How many samples a superframe has. Samples are numbered by their parameter and then by their index. Takes no
@@ -104,7 +80,7 @@ impl Layout {
     pub fn samples(&self) -> u32
         ensures { result ≡ length self.now.samples }
     {
-        (self.sample_starts.len() - 1) as u32
+        (self.lists.sample_starts.len() - 1) as u32
     }
 }
 

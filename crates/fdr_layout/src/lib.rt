@@ -7,6 +7,7 @@
 
 mod carriers;
 mod drafts;
+mod flat;
 mod layout;
 mod order;
 mod parts;

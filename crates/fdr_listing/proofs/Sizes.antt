@@ -1,26 +1,36 @@
 -- Sizes of values out of texts that are ready.
-use Rattle.std.proofs.Common.{◌≡◌, ℕ, ◌/◌, ◌%◌, ◌^◌, ◌<◌, ◌++◌, List, get_or, map, append-nil, append_assoc, ap, sym, ◌∙◌, zero-add}
+use Rattle.std.proofs.Common.{◌≡◌, ℕ, ◌/◌, ◌%◌, ◌^◌, ◌<◌, ◌++◌, List, Some, codes, length, get_or, map, append_assoc, ap, sym, ◌∙◌, zero-add, arith}
 use Rattle.std.specs.Fmt.{decimal}
-use Rattle.std.specs.List.{range_with_len}
+use Rattle.std.specs.List.{range_with_len, slice_get}
 use Rattle.std.proofs.lemmas.List.FromFn.{get_or-map-range_with_len}
-use Rattle.std.proofs.Math.Nat.{div-one}
+use Rattle.std.proofs.lemmas.Option.{get_or_from_slice_get, slice_get_within}
 use Rattle.fdr_listing.specs.Text.{fraction_text, size_text}
+use Rattle.fdr_listing.specs.Numbers.{ReadyFractions, ready_fractions, fraction_end}
 
--- a size without decimals
-pub size_text-whole : (n : ℕ) → size_text n 0 ≡ decimal n
-unfolding size_text fraction_text
-size_text-whole n = append-nil (decimal (n / 1)) ∙ ap decimal (div-one n)
+joined : (before whole fraction end : List ℕ) → (before ++ whole) ++ (fraction ++ end) ≡ (before ++ (whole ++ fraction)) ++ end
+joined before whole fraction end = simp append_assoc
 
--- a whole part and a fraction behind it
-pub size_put : (before between after text : List ℕ) (n d decimals : ℕ) → decimals ≡ d → between ≡ before ++ decimal (n / 10 ^ d) → after ≡ between ++ text
-    → text ≡ fraction_text (n % 10 ^ d) d → after ≡ before ++ size_text n decimals
-unfolding size_text
-size_put before between after text n d decimals are whole both fraction =
-    both ∙ ap (λ xs. xs ++ text) whole ∙ append_assoc before (decimal (n / 10 ^ d)) text
-    ∙ ap (λ xs. before ++ (decimal (n / 10 ^ d) ++ xs)) fraction ∙ ap (λ m. before ++ size_text n m) (sym are)
+-- a whole part, and behind it a fraction with the line's end
+pub size_put : (before between after whole end : List ℕ) (n d : ℕ) → between ≡ before ++ whole → after ≡ between ++ end
+    → whole ≡ decimal (n / 10 ^ d) → end ≡ fraction_end d (n % 10 ^ d) → after ≡ before ++ size_text n d ++ codes "\n"
+unfolding size_text fraction_end
+size_put before between after whole end n d first second whole_is end_is =
+    let texts : after ≡ (before ++ decimal (n / 10 ^ d)) ++ (fraction_text (n % 10 ^ d) d ++ codes "\n") =
+    second ∙ ap (λ xs. xs ++ end) first ∙ ap (λ xs. (before ++ xs) ++ end) whole_is
+    ∙ ap (λ xs. (before ++ decimal (n / 10 ^ d)) ++ xs) end_is in
+    texts ∙ joined before (decimal (n / 10 ^ d)) (fraction_text (n % 10 ^ d) d) (codes "\n")
 
 -- the text of a number that is among ready ones
 pub ready_text : (f : ℕ → List ℕ) (texts : List (List ℕ)) (count n : ℕ) (text : List ℕ) → texts ≡ map f (range_with_len 0 count) → n < count
     → text ≡ get_or texts n text → text ≡ f n
 ready_text f texts count n text ready within at =
     at ∙ ap (λ (ys : List (List ℕ)). get_or ys n text) ready ∙ get_or-map-range_with_len f 0 count n n text within (zero-add n)
+
+-- the fractions that are found for a number of digits are those of so many
+pub ready_for : (all : List ReadyFractions) (d : ℕ) (found : ReadyFractions) → all ≡ map ready_fractions (range_with_len 0 4)
+    → slice_get all d ≡ Some found → found ≡ ready_fractions d
+ready_for all d found ready at =
+    let long : length all ≡ 4 = ap length ready in
+    let within : d < 4 = omega (arith, long, slice_get_within all d found at) in
+    sym (get_or_from_slice_get all d found found at) ∙ ap (λ (ys : List ReadyFractions). get_or ys d found) ready
+    ∙ get_or-map-range_with_len ready_fractions 0 4 d d found within (zero-add d)

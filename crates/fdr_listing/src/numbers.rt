@@ -1,26 +1,44 @@
 //! Texts of numbers that are ready.
 
-ghost use Rattle.std.specs.Prelude.{◌≡◌, ◌+◌, ◌≤◌, ◌<◌, ◌^◌, ◌++◌, IfOk, length, map, decimal};
+ghost use Rattle.std.specs.Prelude.{◌≡◌, ◌+◌, ◌≤◌, ◌*◌, ◌<◌, ◌^◌, ◌++◌, IfOk, IfSome, codes, length, map, decimal};
 ghost use Rattle.std.specs.List.{range_with_len};
 ghost use Rattle.fdr_listing.specs.Text.{size_text};
-ghost use Rattle.fdr_listing.specs.Numbers.{fraction_of};
+ghost use Rattle.fdr_listing.specs.Numbers.{ready_fractions, fraction_end};
 
-use crate::ready::{ShortText, put_long_size, put_number};
+use crate::ready::{ShortText, put_long_size};
 use fdr_io::OutBuffer;
 use fdr_table::NoMemory;
 use std::alloc::Global;
 use std::marker::Model;
 
-/// How many numbers have their text ready.
+/// How many whole numbers have their text ready.
 const WHOLE: u32 = 4096;
+
+/// The most digits of a fraction whose text is ready.
+const MAX_DIGITS: u8 = 3;
+
+/// What ends a line behind the whole part of a value, for each fraction of so many digits.
+#[derive(Drop)]
+struct Fractions {
+    // Ten to the power of the number of digits.
+    unit: u32,
+    ends: Vec<ShortText>,
+}
+
+impl Model for Fractions {
+    ghost use Rattle.fdr_listing.specs.Numbers.{ReadyFractions};
+
+    ghost Value = { ReadyFractions };
+
+    ghost view = { λ f. record { unit = f.unit; ends = f.ends.items } };
+}
 
 /// The texts of small numbers and of fractions of at most three digits, each made once.
 #[derive(Drop)]
 pub struct NumberTexts {
     whole: Vec<ShortText>,
-    tenths: Vec<ShortText>,
-    hundredths: Vec<ShortText>,
-    thousandths: Vec<ShortText>,
+    // By the number of digits.
+    fractions: Vec<Fractions>,
 }
 
 // A clause sees nothing of it: what it puts doesn't depend on it.
@@ -31,7 +49,7 @@ impl Model for NumberTexts {
 
     ghost view = { λ _. tt };
 
-    ghost invariant = { λ t. AreNumberTexts t.whole.items t.tenths.items t.hundredths.items t.thousandths.items };
+    ghost invariant = { λ t. AreNumberTexts t.whole.items t.fractions.items };
 }
 
 impl NumberTexts {
@@ -39,48 +57,39 @@ impl NumberTexts {
     pub fn new(alloc: Global) -> Result<NumberTexts, NoMemory> {
         Ok(NumberTexts {
             whole: whole_texts(alloc)?,
-            tenths: fraction_texts(alloc, 1)?,
-            hundredths: fraction_texts(alloc, 2)?,
-            thousandths: fraction_texts(alloc, 3)?,
+            fractions: all_fractions(alloc)?,
         })
     }
 
-    /// Puts a whole number.
-    fn put_whole(&self, buffer: &mut OutBuffer, n: u64)
-        requires { length buffer.old + 20 ≤ 65536 }
-        ensures appended { buffer.new ≡ buffer.old ++ decimal n }
-        ensures length { length buffer.new ≤ length buffer.old + 20 }
+    /// Puts the size of a value in units of `10^-decimals`, and ends the line.
+    pub(crate) fn put_size_end(&self, buffer: &mut OutBuffer, size: u64, decimals: u8)
+        requires room { length buffer.old + 61 ≤ 65536 }
+        requires nine_decimals { decimals ≤ 9 }
+        ensures appended { buffer.new ≡ buffer.old ++ size_text size decimals ++ codes "\n" }
+        ensures length { length buffer.new ≤ length buffer.old + 31 }
     {
-        if n < u64::from(WHOLE) {
-            self.whole[n as usize].put(buffer);
-        } else {
-            put_number(buffer, n);
+        match self.fractions_for(size, decimals) {
+            Some(fractions) => {
+                let size = size as u32;
+                self.whole[(size / fractions.unit) as usize].put(buffer);
+                fractions.ends[(size % fractions.unit) as usize].put(buffer);
+            }
+            None => {
+                put_long_size(buffer, size, decimals);
+                buffer.put(b"\n", 1);
+            }
         }
     }
 
-    /// Puts the size of a value in units of `10^-decimals`.
-    pub(crate) fn put_size(&self, buffer: &mut OutBuffer, size: u64, decimals: u8)
-        requires room { length buffer.old + 60 ≤ 65536 }
-        requires nine_decimals { decimals ≤ 9 }
-        ensures appended { buffer.new ≡ buffer.old ++ size_text size decimals }
-        ensures length { length buffer.new ≤ length buffer.old + 30 }
+    /// The fractions of this number of digits, where they and the whole part of the size have ready texts.
+    fn fractions_for(&self, size: u64, decimals: u8) -> Option<&Fractions>
+        ensures fractions { IfSome result (λ f. f.now ≡ ready_fractions decimals) }
+        ensures within { IfSome result (λ f. size < 4096 * 10 ^ decimals) }
+        ensures fits { IfSome result (λ _. size < 2 ^ 32) }
     {
-        match decimals {
-            0 => self.put_whole(buffer, size),
-            1 => {
-                self.put_whole(buffer, size / 10);
-                self.tenths[(size % 10) as usize].put(buffer);
-            }
-            2 => {
-                self.put_whole(buffer, size / 100);
-                self.hundredths[(size % 100) as usize].put(buffer);
-            }
-            3 => {
-                self.put_whole(buffer, size / 1000);
-                self.thousandths[(size % 1000) as usize].put(buffer);
-            }
-            _ => put_long_size(buffer, size, decimals),
-        }
+        let fractions = self.fractions.get(usize::from(decimals))?;
+        let limit = u64::from(WHOLE * fractions.unit);
+        if size < limit { Some(fractions) } else { None }
     }
 }
 
@@ -97,16 +106,32 @@ fn whole_texts(alloc: Global) -> Result<Vec<ShortText>, NoMemory>
     Ok(texts)
 }
 
-/// The texts of all fractions of so many digits, each with its point.
-fn fraction_texts(alloc: Global, decimals: u8) -> Result<Vec<ShortText>, NoMemory>
-    requires { decimals ≤ 3 }
-    ensures { IfOk result (λ v. v.items ≡ map (fraction_of decimals) (range_with_len 0 (10 ^ decimals))) }
+/// The fractions of each number of digits whose texts are ready.
+fn all_fractions(alloc: Global) -> Result<Vec<Fractions>, NoMemory>
+    ensures { IfOk result (λ v. v.items ≡ map ready_fractions (range_with_len 0 4)) }
 {
-    let mut texts = Vec::new(alloc);
-    for n in 0..10_u32.pow(u32::from(decimals)) {
-        if texts.push(ShortText::fraction(n, decimals)).is_err() {
+    let mut all = Vec::new(alloc);
+    for digits in 0..=MAX_DIGITS {
+        let unit = 10_u32.pow(u32::from(digits));
+        let ends = fraction_ends(alloc, digits, unit)?;
+        if all.push(Fractions { unit, ends }).is_err() {
             return Err(NoMemory);
         }
     }
-    Ok(texts)
+    Ok(all)
+}
+
+/// What ends a line behind the whole part of a value, for each fraction of so many digits.
+fn fraction_ends(alloc: Global, digits: u8, unit: u32) -> Result<Vec<ShortText>, NoMemory>
+    requires digits { digits ≤ 3 }
+    requires unit { unit ≡ 10 ^ digits }
+    ensures { IfOk result (λ v. v.items ≡ map (fraction_end digits) (range_with_len 0 (10 ^ digits))) }
+{
+    let mut ends = Vec::new(alloc);
+    for n in 0..unit {
+        if ends.push(ShortText::fraction_end(n, digits)).is_err() {
+            return Err(NoMemory);
+        }
+    }
+    Ok(ends)
 }

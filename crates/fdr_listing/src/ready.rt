@@ -1,7 +1,8 @@
 //! A row's line put together of texts that are ready.
 
-ghost use Rattle.std.specs.Prelude.{◌≡◌, ◌+◌, ◌≤◌, ◌<◌, ◌^◌, ◌++◌, ℕ, length, decimal, replicate};
+ghost use Rattle.std.specs.Prelude.{◌≡◌, ◌+◌, ◌≤◌, ◌<◌, ◌^◌, ◌++◌, ℕ, codes, length, decimal, replicate};
 ghost use Rattle.fdr_listing.specs.Text.{row_start_text, row_place_text, row_line_text, fraction_text, size_text, value_text};
+ghost use Rattle.fdr_listing.specs.Numbers.{fraction_end};
 
 use crate::line::Line;
 use crate::numbers::NumberTexts;
@@ -72,14 +73,16 @@ impl ShortText {
         ShortText::of(&line)
     }
 
-    /// A point and exactly so many digits; nothing where they are none.
-    pub(crate) fn fraction(n: u32, decimals: u8) -> ShortText
-        requires three_decimals { decimals ≤ 3 }
-        requires below { n < 10 ^ decimals }
-        ensures { result ≡ fraction_text n decimals }
+    /// A point and exactly so many digits, or nothing where they are none, and the end of the line.
+    #[tactic(auto, unfolding(crate::specs::Numbers::fraction_end))]
+    pub(crate) fn fraction_end(n: u32, digits: u8) -> ShortText
+        requires three_digits { digits ≤ 3 }
+        requires below { n < 10 ^ digits }
+        ensures { result ≡ fraction_end digits n }
     {
         let mut line = Line::new();
-        add_fraction(&mut line, u64::from(n), decimals);
+        add_fraction(&mut line, u64::from(n), digits);
+        line.add(b"\n");
         ShortText::of(&line)
     }
 
@@ -159,18 +162,16 @@ pub(crate) fn put_long_size(buffer: &mut OutBuffer, size: u64, decimals: u8)
     put_fraction(buffer, size % unit, decimals);
 }
 
-/// Puts a value in units of `10^-decimals`.
+/// Puts a comma and a value in units of `10^-decimals`, and ends the line.
 #[tactic(auto, unfolding(crate::specs::Text::value_text))]
-fn put_value(buffer: &mut OutBuffer, numbers: &NumberTexts, v: i64, decimals: u8)
-    requires room { length buffer.old + 61 ≤ 65536 }
+fn put_value_end(buffer: &mut OutBuffer, numbers: &NumberTexts, v: i64, decimals: u8)
+    requires room { length buffer.old + 63 ≤ 65536 }
     requires nine_decimals { decimals ≤ 9 }
-    ensures appended { buffer.new ≡ buffer.old ++ value_text v decimals }
-    ensures length { length buffer.new ≤ length buffer.old + 31 }
+    ensures { buffer.new ≡ buffer.old ++ codes "," ++ value_text v decimals ++ codes "\n" }
 {
-    if v < 0 {
-        buffer.put(b"-", 1);
-    }
-    numbers.put_size(buffer, v.unsigned_abs(), decimals);
+    let marks = if v < 0 { 2 } else { 1 };
+    buffer.put(b",-", marks);
+    numbers.put_size_end(buffer, v.unsigned_abs(), decimals);
 }
 
 /// Puts the line of a row: what it begins with, its place, the parameter's name and its value. There must be room for
@@ -193,7 +194,5 @@ pub fn put_row(
     place.put(buffer);
     let (bytes, len) = name.padded();
     buffer.put(bytes, len);
-    buffer.put(b",", 1);
-    put_value(buffer, numbers, row.value, decimals);
-    buffer.put(b"\n", 1);
+    put_value_end(buffer, numbers, row.value, decimals);
 }

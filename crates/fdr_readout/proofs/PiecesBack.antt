@@ -12,7 +12,7 @@ use Rattle.fdr_table.specs.Rows.{ParamRow, TableRows}
 use Rattle.fdr_layout.specs.SlotParts.{SlotPart, parts_of_sample, parts_among, all_parts, parts_at, parts_of_slot, parts_in}
 use Rattle.fdr_check.specs.Occurrences.{frame_bits}
 use Rattle.fdr_layout.specs.Samples.{Part, Sample, samples, ending_in}
-use Rattle.fdr_layout.specs.Sorting.{ending_at}
+use Rattle.fdr_layout.proofs.ByLastPart.{ending_at}
 use Rattle.fdr_layout.proofs.Endings.{pieces_hold}
 use Rattle.fdr_layout.proofs.SlotLemmas.{parts_of_slot_hold}
 use Rattle.fdr_sampler.specs.Held.{Source, source_of, held_record, raw_of_record, raw_value, first_part_slot}

@@ -16,7 +16,7 @@ use Rattle.fdr_sync.proofs.EventLemmas.{frames_of_events}
 use Rattle.fdr_table.specs.Rows.{TableRows}
 use Rattle.fdr_check.specs.Soundness.{IsSound}
 use Rattle.fdr_layout.specs.Samples.{samples, ending_in}
-use Rattle.fdr_layout.specs.Sorting.{ending_among}
+use Rattle.fdr_layout.proofs.ByLastPart.{ending_among}
 use Rattle.fdr_layout.proofs.Few.{ending_few, samples_few}
 use Rattle.fdr_recon.specs.declared.Row.{Row}
 use Rattle.fdr_recon.specs.Rows.{ReadFrame, rows_of_frame, rows_looked_at, row_of, frame_at, cycle_of_frame}

@@ -1,4 +1,5 @@
 pub mod KeptWords
+pub mod SmallValues
 pub mod JoinedFrames
 pub mod FrameWords
 pub mod Standing

@@ -12,7 +12,7 @@ use Rattle.fdr_table.specs.Rows.{ParamRow, PlaceRow, TableRows}
 use Rattle.fdr_check.specs.Occurrences.{frame_bits, begins_at, Occurrence, occurrences_at, occurrences, is_part, part_occurrences, part_width, shift_of}
 use Rattle.fdr_check.specs.Soundness.{has_part, HasParts, HasRate, IsSound}
 use Rattle.fdr_layout.specs.Samples.{Part, carrier_of, part_at, parts_of, Sample, samples_of, samples, ending_in}
-use Rattle.fdr_layout.specs.Sorting.{ending_at}
+use Rattle.fdr_layout.proofs.ByLastPart.{ending_at}
 use Rattle.fdr_layout.proofs.Endings.{pieces_hold, all_pieces}
 use Rattle.fdr_recon.specs.Kept.{FillUp, IsSampleOf}
 use Rattle.fdr_lists.proofs.Ranges.{range_more, All-range}

@@ -1,4 +1,5 @@
 pub mod Rows
+pub mod Scales
 pub mod Kept
 pub mod View
 pub mod Past

@@ -6,6 +6,7 @@
 #![tactic(auto)]
 
 mod past;
+mod scale;
 
 pub use past::Rebuild;
 

@@ -12,8 +12,9 @@ ghost use Rattle.fdr_recon.specs.Kept.{kept_word, kept_counter, kept_cycle, kept
 ghost use Rattle.fdr_recon.specs.Past.{RepresentsRebuild, read_frame};
 
 use crate::Row;
+use crate::scale::Scale;
 use circular_buffer::HeapCircularBuffer;
-use fdr_check::Sound;
+use fdr_check::{Sound, push};
 use fdr_frame::{frames_before, subframe_of, word_of};
 use fdr_layout::{Layout, Part, Sample};
 use fdr_table::{Frame, NoMemory, Param};
@@ -27,7 +28,7 @@ const MAX_JOINED: u8 = 15;
 #[derive(Drop)]
 pub struct Rebuild {
     frame: Frame,
-    params: Vec<Param>,
+    scales: Vec<Scale>,
     layout: Layout,
     words: HeapCircularBuffer<u16>,
     // The last frame's counter; 0 before the first frame.
@@ -155,9 +156,9 @@ impl Rebuild {
         requires ends { EndsInCycle self.now.frame.words (kept_cycle self.now) (sample_in self.now.laid sample.now) }
         ensures { result ≡ kept_value self.now (sample_in self.now.laid sample.now) }
     {
-        let param = &self.params[sample.param as usize];
+        let scale = &self.scales[sample.param as usize];
         let raw = self.raw(self.cycle(), self.layout.parts(sample.number)) as u32;
-        param.value(raw)
+        scale.value(raw)
     }
 
     /// The raw value of the parts of a sample that ends in the last frame, which has this cycle.
@@ -202,11 +203,11 @@ impl Rebuild {
         requires ends { (cycle : ℕ) → All (EndsInCycle frame.words cycle) (slice_index_or layout.cycles cycle []) }
         ensures { IfOk result (λ r. r ≡ record { frame = frame; params = params.now; laid = layout; words = []; joined = 0 }) }
     {
-        let params = copies_of(alloc, params)?;
+        let scales = scales_of(alloc, params)?;
         let words = room_for_words(alloc, frame)?;
         Ok(Rebuild {
             frame,
-            params,
+            scales,
             layout,
             words,
             counter: 0,
@@ -256,17 +257,15 @@ impl Rebuild {
     }
 }
 
-/// The same parameters once more.
-fn copies_of(alloc: Global, params: &[Param]) -> Result<Vec<Param>, NoMemory>
+/// The same parameters once more, each with what makes its values.
+fn scales_of(alloc: Global, params: &[Param]) -> Result<Vec<Scale>, NoMemory>
     ensures { IfOk result (λ v. v.items ≡ params.now) }
 {
-    let mut copies = Vec::new(alloc);
+    let mut scales = Vec::new(alloc);
     for param in params {
-        if copies.push(param.copied()).is_err() {
-            return Err(NoMemory);
-        }
+        push(&mut scales, Scale::of(param.copied()))?;
     }
-    Ok(copies)
+    Ok(scales)
 }
 
 /// Room for the words of sixteen frames.

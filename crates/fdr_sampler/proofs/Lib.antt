@@ -14,4 +14,5 @@ pub mod Packing
 pub mod Exchange
 pub mod StreamWords
 pub mod Earliest
-pub mod Owners
+pub mod Owning
+pub mod Scheduling

@@ -14,13 +14,12 @@ use Rattle.fdr_sampler.specs.SlotWord.{data_of}
 abbrev pub most_word_slots : ℕ
 most_word_slots = 1474560000
 
--- The table's frame, where its parameters come from and where their samples stand; the parameter of each sample; the raw number of each parameter that
--- is held at the next slot; the raw value that each sample was begun with; and how many slots were drawn.
+-- The table's frame, where its parameters come from and where their samples stand; the raw number of each parameter that is
+-- held at the next slot; the raw value that each sample was begun with; and how many slots were drawn.
 pub record SamplerKept : Type 0 where
   pub frame : FrameRow
   pub sources : List Source
   pub laid : Laid
-  pub owners : List ℕ
   pub held : List ℕ
   pub raws : List ℕ
   pub drawn : ℕ
@@ -29,7 +28,6 @@ pub record SamplerKept : Type 0 where
 pub record IsSamplerKept (k : SamplerKept) : Type 0 where
   pub slots : length k.laid.slots ≡ 64 * k.frame.words
   pub params : All (λ (s : Sample). s.param < length k.sources) k.laid.samples
-  pub owners : k.owners ≡ map (λ (s : Sample). s.param) k.laid.samples
   pub held : length k.held ≡ length k.sources
   pub raws : length k.raws ≡ length k.laid.samples
   pub drawn : k.drawn ≤ most_word_slots
@@ -69,7 +67,6 @@ sampler_at_start frame params l = record {
   frame = frame;
   sources = map source_of params;
   laid = l;
-  owners = map (λ (s : Sample). s.param) l.samples;
   held = replicate (length params) 0;
   raws = replicate (length l.samples) 0;
   drawn = 0;

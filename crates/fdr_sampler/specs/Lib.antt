@@ -3,6 +3,7 @@ pub mod Index
 pub mod SlotWord
 pub mod Stream
 pub mod Kept
+pub mod Schedule
 pub mod Empty
 pub mod View
 pub mod Past

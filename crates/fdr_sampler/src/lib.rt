@@ -9,8 +9,10 @@
 mod empty;
 mod index;
 mod law;
+mod owners;
 mod pieces;
 mod sampler;
+mod schedule;
 mod source;
 
 pub use law::either_order;

@@ -1,20 +1,19 @@
 //! The sampler.
 
-ghost use Rattle.std.specs.Prelude.{◌≡◌, ◌<◌, ◌≤◌, ◌+◌, ◌-◌, ◌*◌, ◌^◌, ◌++◌, ◌↔◌, ℕ, All, IsTrue, IfOk, OnOk, length, map, replicate};
-ghost use Rattle.std.specs.List.{range_with_len};
+ghost use Rattle.std.specs.Prelude.{◌≡◌, ◌<◌, ◌≤◌, ◌+◌, ◌-◌, ◌*◌, ◌^◌, ◌↔◌, ℕ, All, IsTrue, IfOk, length, map, replicate};
 ghost use Rattle.fdr_bus.specs.Records.{last_time};
 ghost use Rattle.fdr_sampler.specs.SlotWord.{slot_word, slot_within, word_with};
 ghost use Rattle.fdr_layout.specs.Samples.{Sample};
 ghost use Rattle.fdr_layout.specs.SlotParts.{laid_of};
 ghost use Rattle.fdr_sampler.specs.Empty.{IsEmptySlot};
-ghost use Rattle.fdr_sampler.specs.Held.{first_part_slot};
 ghost use Rattle.fdr_sampler.specs.Kept.{sampler_at_start, most_word_slots, owners_of};
 ghost use Rattle.fdr_sampler.specs.Past.{SamplerPast, sampler_made, sampler_with_record, sampler_with_word, sampler_with_words, MayTake, RepresentsSampler};
 ghost use Rattle.fdr_sampler.specs.Stream.{slot_count};
 
 use crate::empty::empty_runs;
 use crate::index::Sources;
-use crate::pieces::{data_word, first_slots};
+use crate::pieces::data_word;
+use crate::schedule::Schedule;
 use fdr_bus::BusRecord;
 use fdr_check::Sound;
 use fdr_frame::{
@@ -30,10 +29,7 @@ use std::marker::Model;
 pub struct Sampler {
     frame: Frame,
     sources: Sources,
-    layout: Layout,
-    // Of each sample the index of its parameter, and the slot of its earliest part.
-    owners: Vec<u32>,
-    firsts: Vec<u32>,
+    schedule: Schedule,
     // How many empty slots follow one another from each slot on.
     empty_runs: Vec<u32>,
     held: Vec<u32>,
@@ -46,11 +42,12 @@ impl Model for Sampler {
 
     ghost Value = { SamplerKept };
 
-    ghost use Rattle.fdr_sampler.specs.View.{sampler_kept, IsScheduled};
+    ghost use Rattle.fdr_sampler.specs.Empty.{AreEmptyRuns};
+    ghost use Rattle.fdr_sampler.specs.View.{sampler_kept};
 
     ghost view = { sampler_kept };
 
-    ghost invariant = { λ s. IsSamplerKept (sampler_kept s) × IsScheduled s };
+    ghost invariant = { λ s. IsSamplerKept (sampler_kept s) × AreEmptyRuns s.frame s.schedule s.empty_runs.items };
 }
 
 impl Sampler {
@@ -99,14 +96,7 @@ impl Sampler {
     {
         let frame = self.frame;
         let slot = slot_within(frame, self.drawn);
-        let plain = data_word(
-            &self.layout,
-            &self.owners,
-            &self.firsts,
-            slot,
-            &self.held,
-            &mut self.raws,
-        );
+        let plain = data_word(&self.schedule, slot, &self.held, &mut self.raws);
         let word = word_with(frame, self.drawn, plain);
         self.drawn += 1;
         word
@@ -143,47 +133,20 @@ impl Sampler {
         ensures { IfOk result (λ s. s ≡ sampler_at_start frame params.now layout) }
     {
         let sources = Sources::of(alloc, params)?;
-        let owners = owners_of(alloc, params)?;
-        let firsts = first_slots(alloc, &layout)?;
         let empty_runs = empty_runs(alloc, frame, &layout)?;
         let held = zeros(alloc, params.len())?;
         let raws = zeros(alloc, layout.samples() as usize)?;
+        let schedule = Schedule::of(alloc, layout, params, 64 * frame.words)?;
         Ok(Sampler {
             frame,
             sources,
-            layout,
-            owners,
-            firsts,
+            schedule,
             empty_runs,
             held,
             raws,
             drawn: 0,
         })
     }
-}
-
-/// Adds the parameter with this index once for each of its samples.
-fn add_owner(owners: &mut Vec<u32>, param: u32, rate: u32) -> Result<(), NoMemory>
-    ensures { OnOk result (owners.new.items ≡ owners.old.items ++ map (λ _. param) (range_with_len 0 rate)) }
-{
-    for _index in 0..rate {
-        if owners.push(param).is_err() {
-            return Err(NoMemory);
-        }
-    }
-    Ok(())
-}
-
-/// The index of the parameter of each sample of a superframe, by the sample's number.
-fn owners_of(alloc: Global, params: &[Param]) -> Result<Vec<u32>, NoMemory>
-    requires { length params.now < 2 ^ 32 }
-    ensures { IfOk result (λ v. v.items ≡ owners_of params.now) }
-{
-    let mut owners = Vec::new(alloc);
-    for (index, param) in params.iter().enumerate() {
-        add_owner(&mut owners, index as u32, param.rate)?;
-    }
-    Ok(owners)
 }
 
 /// So many zeros.

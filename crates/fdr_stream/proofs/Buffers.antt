@@ -1,13 +1,21 @@
 -- What a word adds to what is kept.
-use Rattle.std.proofs.Common.{◌≡◌, ℕ, ◌+◌, ◌-◌, ◌*◌, ◌/◌, ◌%◌, ◌≤◌, List, [], ◌∷◌, ◌++◌, Option, Some, None, length, drop, sym, ap, ◌∙◌, arith}
+use Rattle.std.proofs.Common.{◌≡◌, ℕ, ◌+◌, ◌-◌, ◌*◌, ◌/◌, ◌%◌, ◌<◌, ◌≤◌, List, [], ◌∷◌, ◌++◌, length, drop, Option, Some, None, sym, ap, ◌∙◌, arith}
+use Rattle.std.proofs.Common.{append_assoc, length-append}
 use Rattle.std.proofs.lemmas.List.{append-nil}
-use Rattle.circular_buffer.specs.Buffer.{keep_last}
+use Rattle.circular_buffer.specs.Buffer.{Buffer, buffer, keep_last}
 use Rattle.fdr_stream.specs.Packing.{filled_by, unpaired_after, last_byte}
 use Rattle.fdr_stream.specs.Kept.{StreamKept, with_packed_word, padded}
 
 -- what fits is kept
 pub keep_last-fits : (n : ℕ) (xs : List ℕ) → length xs ≤ n → keep_last n xs ≡ xs
 keep_last-fits n xs fits = let none : length xs - n ≡ 0 = omega arith in ap (λ m. drop m xs) none
+
+-- a byte that has room behind those of a buffer
+pub pushed : (b new : Buffer ℕ) (x : ℕ) → new ≡ buffer (keep_last b.capacity (b.items ++ x ∷ [])) b.capacity → length b.items < b.capacity
+    → (new.items ≡ b.items ++ x ∷ []) × (new.capacity ≡ b.capacity)
+pushed b new x is room =
+    let len = length-append b.items (x ∷ []) in
+    (ap (λ (b : Buffer ℕ). b.items) is ∙ keep_last-fits b.capacity (b.items ++ x ∷ []) (omega (arith, len, room)), ap (λ (b : Buffer ℕ). b.capacity) is)
 
 -- the first word of a pair
 pub with_word-first : (k : StreamKept) (word : ℕ) (bytes : List ℕ) → k.odd ≡ None → bytes ≡ k.bytes ++ word % 256 ∷ [] →
@@ -26,6 +34,13 @@ with_word-second k a word bytes some is =
     let At : List ℕ → StreamKept = λ b. record k { odd = None; bytes = b } in
     let Of : Option ℕ → StreamKept = λ o. record k { odd = unpaired_after o word; bytes = k.bytes ++ filled_by o word } in
     ap At is ∙ ap Of (sym some)
+
+-- byte by byte
+pub with_word-pair : (k : StreamKept) (a word low high : ℕ) (bytes : List ℕ) → k.odd ≡ Some a → low ≡ a / 256 + 16 * (word % 16) → high ≡ word / 16
+    → bytes ≡ (k.bytes ++ low ∷ []) ++ high ∷ [] → record k { odd = None; bytes = bytes } ≡ with_packed_word k word
+with_word-pair k a word low high bytes some low_is high_is is =
+    with_word-second k a word bytes some (is ∙ append_assoc k.bytes (low ∷ []) (high ∷ [])
+    ∙ ap (λ n. k.bytes ++ n ∷ high ∷ []) low_is ∙ ap (λ n. k.bytes ++ (a / 256 + 16 * (word % 16)) ∷ n ∷ []) high_is)
 
 pub padded-some : (k : StreamKept) (a : ℕ) (bytes : List ℕ) → k.odd ≡ Some a → bytes ≡ k.bytes ++ a / 256 ∷ []
     → record k { odd = None; bytes = bytes } ≡ padded k

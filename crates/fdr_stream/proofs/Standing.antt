@@ -4,15 +4,15 @@ use Rattle.std.proofs.Common.{◌∙◌, subst, arith, length-append}
 use Rattle.std.proofs.lemmas.List.{length-drop, drop-drop, drop-append-le}
 use Rattle.std.proofs.lemmas.List.FromFn.{length-map-range_with_len}
 use Rattle.std.proofs.lemmas.Nat.{div-mul-add}
-use Rattle.std.proofs.Math.Nat.{mul-le-mul_left, mul-le-mul_right}
+use Rattle.std.proofs.Math.Nat.{mul-le-mul_right}
 use Rattle.fdr_bus.specs.declared.BusRecord.{BusRecord}
 use Rattle.fdr_bus.specs.declared.RecordKind.TheVariants.{Word}
-use Rattle.fdr_bus.specs.Records.{time_of, last_time, has_end}
+use Rattle.fdr_bus.specs.Records.{time_of, has_end}
 use Rattle.fdr_table.specs.Rows.{TableRows}
 use Rattle.fdr_sampler.specs.SlotWord.{slot_word}
 use Rattle.fdr_sampler.specs.Stream.{packed, slot_count, stream_of}
 use Rattle.fdr_sampler.specs.Past.{MayTake, RepresentsSampler, sampler_made}
-use Rattle.fdr_sampler.specs.Kept.{SamplerKept, most_word_slots}
+use Rattle.fdr_sampler.specs.Kept.{SamplerKept}
 use Rattle.fdr_sampler.proofs.Packing.{length-packed}
 use Rattle.fdr_sampler.proofs.Counting.{slot_count-below, slot_count-above}
 use Rattle.fdr_sampler.proofs.Streaming.{words-late, stream_words-none}
@@ -172,20 +172,6 @@ pub IsPacked-drawn : (k k1 : StreamKept) (s : SamplerKept) (word : ℕ) (past : 
 IsPacked-drawn k k1 s word past is st drawn at =
     subst (λ (x : StreamKept). IsPacked x past) (sym is)
     (IsPacked-word k (with_packed_word (record k { sampler = s }) word) past word at drawn st.drawn refl refl refl)
-
--- ---- the slots before a time
-
--- a slot that is due is one of a recording
-pub below_most : (w time k : ℕ) → w ≤ 1024 → time ≤ last_time → k * 1000000 < time * w → k < most_word_slots
-below_most w time k few in_time due = let more : time * w ≤ time * 1024 = mul-le-mul_left time few in omega (arith, more, due, in_time)
-
--- and is among those before the time
-pub due_below : (w time k : ℕ) → k * 1000000 < time * w → k + 1 ≤ slot_count w time
-due_below w time k due = omega arith
-
--- where the slots before a time were drawn up to one that isn't due, all were
-pub all_drawn : (w time k : ℕ) → k ≤ slot_count w time → time * w ≤ k * 1000000 → k ≡ slot_count w time
-all_drawn w time k undrawn late = omega arith
 
 -- ---- at the end
 

@@ -1,21 +1,18 @@
 -- Words that are 0, and are packed at once.
-use Rattle.std.proofs.Common.{◌≡◌, ℕ, zero, suc, ◌+◌, ◌-◌, ◌*◌, ◌/◌, ◌%◌, ◌<◌, ◌≤◌, List, [], ◌∷◌, ◌++◌, Option, Some, None, length, map, drop}
+use Rattle.std.proofs.Common.{◌≡◌, ℕ, zero, suc, ◌+◌, ◌*◌, ◌/◌, ◌%◌, ◌<◌, ◌≤◌, List, [], ◌∷◌, ◌++◌, Option, Some, None, length, map, drop}
 use Rattle.std.proofs.Common.{replicate, refl, sym, ap, ◌∙◌, subst, arith}
 use Rattle.std.specs.List.{range_with_len}
 use Rattle.std.proofs.lemmas.List.{drop-append-le, map-append, length-replicate}
-use Rattle.std.proofs.Math.Nat.{mul-le-mul_left}
-use Rattle.fdr_bus.specs.Records.{last_time}
 use Rattle.fdr_check.proofs.Stretches.{range_append}
 use Rattle.fdr_sampler.specs.SlotWord.{slot_word}
-use Rattle.fdr_sampler.specs.Stream.{slot_count}
-use Rattle.fdr_sampler.specs.Kept.{SamplerKept, most_word_slots}
+use Rattle.fdr_sampler.specs.Kept.{SamplerKept}
 use Rattle.fdr_sampler.specs.Past.{RepresentsSampler}
 use Rattle.fdr_stream.specs.Packing.{unpaired, whole_bytes}
 use Rattle.fdr_stream.specs.Kept.{StreamKept, with_packed_zeros}
-use Rattle.fdr_stream.specs.Past.{StreamPast, words_to, IsPacked, IsSampled, IsDrawing}
+use Rattle.fdr_stream.specs.Past.{StreamPast, words_to, IsPacked, IsSampled}
 use Rattle.fdr_stream.proofs.PackingLemmas.{length-whole_bytes}
 use Rattle.fdr_stream.proofs.Drawn.{length-whole_to}
-use Rattle.fdr_stream.proofs.Standing.{sampled_here, due_below}
+use Rattle.fdr_stream.proofs.Standing.{sampled_here}
 
 -- ---- words after an even number of them
 
@@ -101,33 +98,17 @@ IsPacked-zeros k k' past n at even each drawn payload odd bytes =
           ∙ ap (drop given) (sym (whole_bytes-even words zeros none)) ∙ ap (λ ws. drop given (whole_bytes ws)) (sym more);
     }
 
--- after empty slots were drawn, of those before a time
-pub IsDrawing-zeros : (k k1 : StreamKept) (s : SamplerKept) (past : StreamPast) (time n : ℕ) → IsDrawing k past time → k.odd ≡ None
-    → k1 ≡ with_packed_zeros (record k { sampler = s }) n
+-- after empty slots were drawn
+pub IsSampled-zeros : (k k1 : StreamKept) (s : SamplerKept) (past : StreamPast) (n : ℕ) → k1 ≡ with_packed_zeros (record k { sampler = s }) n
+    → RepresentsSampler s (record { table = past.table; records = past.records; drawn = k.sampler.drawn + n }) → IsSampled k1 past
+IsSampled-zeros k k1 s past n is st = subst (λ (x : StreamKept). IsSampled x past) (sym is) (sampled_here s past (k.sampler.drawn + n) st)
+
+pub IsPacked-empty : (k k1 : StreamKept) (s : SamplerKept) (past : StreamPast) (n : ℕ) → k1 ≡ with_packed_zeros (record k { sampler = s }) n
     → RepresentsSampler s (record { table = past.table; records = past.records; drawn = k.sampler.drawn + n })
-    → ((j : ℕ) → j < n → slot_word past.table past.records (k.sampler.drawn + j) ≡ 0)
-    → n ≤ slot_count past.table.frame.words time - k.sampler.drawn → IsDrawing k1 past time
-IsDrawing-zeros k k1 s past time n d even is st each few =
-    subst (λ (x : StreamKept). IsDrawing x past time) (sym is)
-    (record {
-      sampler = sampled_here s past (k.sampler.drawn + n) st;
-      packed = IsPacked-zeros k (with_packed_zeros (record k { sampler = s }) n) past n d.packed even each st.drawn refl refl refl;
-      undrawn = omega (arith, st.drawn, d.undrawn, few);
-    })
-
--- after the word of the next slot, which comes before the time
-pub IsDrawing-word : (k0 k1 : StreamKept) (past : StreamPast) (time : ℕ) → IsDrawing k0 past time → (IsSampled k0 past → IsSampled k1 past)
-    → (IsSampled k0 past → IsPacked k0 past → IsPacked k1 past) → k1.sampler.drawn ≡ k0.sampler.drawn + 1
-    → k0.sampler.drawn * 1000000 < time * past.table.frame.words → IsDrawing k1 past time
-IsDrawing-word k0 k1 past time d sampled packed count due = record {
-  sampler = sampled d.sampler;
-  packed = packed d.sampler d.packed;
-  undrawn = omega (arith, due_below past.table.frame.words time k0.sampler.drawn due, count);
-}
-
--- the slots before a time are slots of a recording
-pub count_most : (w time : ℕ) → w ≤ 1024 → time ≤ last_time → slot_count w time ≤ most_word_slots
-count_most w time few in_time = let more : time * w ≤ time * 1024 = mul-le-mul_left time few in omega (arith, more, in_time)
+    → ((j : ℕ) → j < n → slot_word past.table past.records (k.sampler.drawn + j) ≡ 0) → k.odd ≡ None → IsPacked k past → IsPacked k1 past
+IsPacked-empty k k1 s past n is st each even packed =
+    subst (λ (x : StreamKept). IsPacked x past) (sym is)
+    (IsPacked-zeros k (with_packed_zeros (record k { sampler = s }) n) past n packed even each st.drawn refl refl refl)
 
 -- how many bytes these words fill
 pub zero_length : (n : ℕ) → length (whole_bytes (replicate n 0)) ≡ 3 * n / 2

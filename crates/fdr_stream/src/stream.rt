@@ -18,11 +18,11 @@ use fdr_table::NoMemory;
 use std::alloc::Global;
 use std::marker::Model;
 
-/// How many pairs of words that are 0 are packed at a time, at most.
-const ZERO_PAIRS: usize = 128;
+/// How many words that are 0 are packed at a time, at most.
+const ZERO_WORDS: usize = 256;
 
-/// The bytes of these pairs.
-const ZEROS: [u8; 3 * ZERO_PAIRS] = [0; 3 * ZERO_PAIRS];
+/// The bytes of these words.
+const ZEROS: [u8; 3 * ZERO_WORDS / 2] = [0; 3 * ZERO_WORDS / 2];
 
 /// What a feed did.
 #[derive(Clone, Copy, Debug, PartialEq, Eq)]
@@ -143,35 +143,61 @@ impl Stream {
         ensures on { self.old.sampler.drawn ≤ self.new.sampler.drawn }
         ensures within_room { length self.new.bytes ≤ self.new.payload + 1 }
     {
-        while !self.is_full() && self.sampler.due(time) {
-            self.draw_word();
-            self.draw_empty(time);
+        let mut left = self.sampler.count_due(time);
+        while 0 < left && !self.is_full() {
+            left -= self.draw_next(left);
         }
     }
 
-    /// Draws those slots without any data that come next and before this time, up to the first that makes a block whole.
-    fn draw_empty(&mut self, time: u64)
-        requires past { (past : StreamPast) × IsDrawing self.old past time }
-        requires in_time { time ≤ last_time }
-        requires room { length self.old.bytes ≤ self.old.payload + 1 }
-        ensures draws { (past : StreamPast) → IsDrawing self.old past time → IsDrawing self.new past time }
-        ensures on { self.old.sampler.drawn ≤ self.new.sampler.drawn }
+    /// Draws of so many slots those without any data that come first, or else the first one, and answers how many it drew.
+    fn draw_next(&mut self, left: u64) -> u64
+        requires past { (past : StreamPast) × IsSampled self.old past × IsPacked self.old past }
+        requires more { self.old.sampler.drawn + left ≤ most_word_slots }
+        requires at_least_one { 0 < left }
+        requires room { length self.old.bytes < self.old.payload }
+        ensures sampled { (past : StreamPast) → IsSampled self.old past → IsSampled self.new past }
+        ensures packed { (past : StreamPast) → IsSampled self.old past → IsPacked self.old past → IsPacked self.new past }
+        ensures drawn { self.new.sampler.drawn ≡ self.old.sampler.drawn + result }
+        ensures at_least_one { 0 < result }
+        ensures at_most { result ≤ left }
         ensures payload { self.new.payload ≡ self.old.payload }
-        ensures filled { length self.old.bytes ≤ length self.new.bytes }
         ensures within_room { length self.new.bytes ≤ self.new.payload + 1 }
     {
-        if self.odd.is_none() {
-            let pairs = (self.payload.saturating_sub(self.bytes.len()) / 3).min(ZERO_PAIRS);
-            let most = self.sampler.count_due(time).min(2 * pairs as u64);
-            let count = self.sampler.draw_empty(most as u32);
-            self.pack_zeros(count);
+        let count = self.draw_empty(left);
+        if 0 < count {
+            return u64::from(count);
         }
+        self.draw_word();
+        1
+    }
+
+    /// Draws of so many slots those without any data that come first, as far as the block has room for them, and answers
+    /// how many it drew. A word that waits for its pair comes before them.
+    fn draw_empty(&mut self, left: u64) -> u32
+        requires past { (past : StreamPast) × IsSampled self.old past }
+        requires more { self.old.sampler.drawn + left ≤ most_word_slots }
+        requires room { length self.old.bytes < self.old.payload }
+        ensures sampled { (past : StreamPast) → IsSampled self.old past → IsSampled self.new past }
+        ensures packed { (past : StreamPast) → IsSampled self.old past → IsPacked self.old past → IsPacked self.new past }
+        ensures drawn { self.new.sampler.drawn ≡ self.old.sampler.drawn + result }
+        ensures at_most { result ≤ left }
+        ensures payload { self.new.payload ≡ self.old.payload }
+        ensures within_room { length self.new.bytes ≤ self.new.payload }
+    {
+        if self.odd.is_some() {
+            return 0;
+        }
+        // Two words fill three bytes, so that half as many words as bytes have room.
+        let room = ((self.payload - self.bytes.len()) / 2).min(ZERO_WORDS);
+        let count = self.sampler.draw_empty(left.min(room as u64) as u32);
+        self.pack_zeros(count);
+        count
     }
 
     /// Packs so many words that are 0.
     fn pack_zeros(&mut self, count: u32)
         requires paired { self.old.odd ≡ None }
-        requires within_slots { count ≤ 2 * 128 }
+        requires within_slots { count ≤ 256 }
         requires room { length self.old.bytes + 3 * count / 2 ≤ self.old.payload + 1 }
         ensures { self.new ≡ with_packed_zeros self.old count }
     {
@@ -183,7 +209,7 @@ impl Stream {
 
     /// Puts so many bytes that are 0 behind those that wait.
     fn fill_zeros(&mut self, count: u32)
-        requires within_slots { count ≤ 3 * 128 }
+        requires within_slots { count ≤ 384 }
         requires room { length self.old.bytes + count ≤ self.old.payload + 1 }
         ensures { self.new ≡ record self.old { bytes = self.old.bytes ++ replicate count 0 } }
     {
@@ -219,7 +245,8 @@ impl Stream {
             }
             Some(first) => {
                 let pair = pack_pair(first, word);
-                self.bytes.fill_from_slice(&pair[1..]);
+                self.bytes.push_back(pair[1]);
+                self.bytes.push_back(pair[2]);
                 self.odd = None;
             }
         }

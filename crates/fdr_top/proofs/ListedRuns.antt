@@ -5,8 +5,8 @@ use Rattle.std.proofs.lemmas.Grind.{flat_map-append}
 use Rattle.fdr_slot.specs.declared.image.Header.{Header}
 use Rattle.fdr_recover.specs.Blocks.{Block}
 use Rattle.fdr_recover.specs.Images.{payload_at, recovered_run}
-use Rattle.fdr_top.specs.Recover.{payloads_of}
-use Rattle.fdr_top.proofs.Recovery.{IsFoundRun, one_more}
+use Rattle.fdr_top.specs.Recover.{IsFoundRun, payloads_of}
+use Rattle.fdr_top.proofs.Recovery.{one_more}
 
 module _ (h : Header) (image : List ℕ) (first next number : ℕ) (found : IsFoundRun h image first next) where
   -- one more payload was read

@@ -4,16 +4,15 @@ use Rattle.std.specs.Prelude.{All}
 use Rattle.std.proofs.Math.Seq.{take-suc}
 use Rattle.std.proofs.lemmas.List.{append-nil, take-append-drop, take_all}
 use Rattle.std.proofs.lemmas.Grind.{flat_map-append}
-use Rattle.fdr_io.specs.Told.{followed_by}
 use Rattle.fdr_io.specs.Output.{Emits, EmitsPart}
 use Rattle.fdr_io.proofs.Telling.{followed_by-nil}
 use Rattle.fdr_io.proofs.OutputSteps.{Emits-then, EmitsPart-then, EmitsPart-longer}
 use Rattle.fdr_slot.specs.declared.image.Header.{Header}
 use Rattle.fdr_recover.specs.Blocks.{Block, StandsInSlot, AreNumberedFrom}
-use Rattle.fdr_recover.specs.Images.{block_numbered, block_in, payload_at, payload_of, recovered_run, next_of, IsRecovered, IsNextNumber}
+use Rattle.fdr_recover.specs.Images.{block_numbered, block_in, payload_at, payload_of, recovered_run, next_of}
 use Rattle.fdr_recover.proofs.Standing.{stands-standing}
 use Rattle.fdr_recover.proofs.Nexts.{IsNext-one}
-use Rattle.fdr_top.specs.Recover.{payloads_of}
+use Rattle.fdr_top.specs.Recover.{IsFoundRun, payloads_of}
 
 -- nothing was written
 pub nothing_emitted : (written : Option (List ℕ)) (waiting text : List ℕ) → EmitsPart written written waiting text
@@ -36,13 +35,6 @@ payload_of_nth h image first zero number (b ∷ bs) numbered stand less is =
     payload_standing h image number b (stand 0 b (omega arith)) (omega (arith, numbered.0, is))
 payload_of_nth h image first (suc k) number (b ∷ bs) numbered stand less is =
     payload_of_nth h image (first + 1) k number bs numbered.1 (λ j d below. stand (suc j) d (omega (arith, below))) (omega (arith, less)) (omega (arith, is))
-
--- The blocks from the first number to the next one are the recovered run.
-pub record IsFoundRun (h : Header) (image : List ℕ) (first next : ℕ) : Type 0 where
-  pub count : first + length (recovered_run h image) ≡ next
-  pub is_next : next ≡ next_of h image
-  pub greatest : IsNextNumber h image (next_of h image)
-  pub recovered : IsRecovered h image (recovered_run h image)
 
 payload_in_run : (h : Header) (image : List ℕ) (first next number : ℕ) → IsFoundRun h image first next → first ≤ number → number < next
     → payload_at h image number ≡ (get_or (recovered_run h image) (number - first) no_block).payload
@@ -68,33 +60,33 @@ one_more h image first next number found low high =
     ∙ ap (λ (x : List ℕ). payloads_of front ++ x) tail
 
 -- one more block went out
-pub Emits-more : (h : Header) (image : List ℕ) (first next number : ℕ) (a b c : Option (List ℕ)) (v w : List ℕ) → IsFoundRun h image first next → first ≤ number
-    → number < next
-    → Emits a b [] v (payloads_of (take (number - first) (recovered_run h image))) → Emits b c v w (payload_at h image number)
-    → Emits a c [] w (payloads_of (take (number + 1 - first) (recovered_run h image)))
-Emits-more h image first next number a b c v w found low high before now =
-    rw (one_more h image first next number found low high) (Emits-then a b c [] v w _ _ before now)
+pub Emits-more : (h : Header) (image : List ℕ) (first next number : ℕ) (a b c : Option (List ℕ)) (u v w : List ℕ) → IsFoundRun h image first next
+    → first ≤ number → number < next
+    → Emits a b u v (payloads_of (take (number - first) (recovered_run h image))) → Emits b c v w (payload_at h image number)
+    → Emits a c u w (payloads_of (take (number + 1 - first) (recovered_run h image)))
+Emits-more h image first next number a b c u v w found low high before now =
+    rw (one_more h image first next number found low high) (Emits-then a b c u v w _ _ before now)
 
 -- a front part of all payloads went out
-pub part_of_run : (h : Header) (image : List ℕ) (first next number : ℕ) (a b c : Option (List ℕ)) (v : List ℕ) → IsFoundRun h image first next → first ≤ number
-    → number < next
-    → Emits a b [] v (payloads_of (take (number - first) (recovered_run h image))) → EmitsPart b c v (payload_at h image number)
-    → (k : ℕ) × (c ≡ followed_by a (take k (payloads_of (recovered_run h image))))
-part_of_run h image first next number a b c v found low high before part =
+pub EmitsPart-run : (h : Header) (image : List ℕ) (first next number : ℕ) (a b c : Option (List ℕ)) (u v : List ℕ) → IsFoundRun h image first next
+    → first ≤ number → number < next
+    → Emits a b u v (payloads_of (take (number - first) (recovered_run h image))) → EmitsPart b c v (payload_at h image number)
+    → EmitsPart a c u (payloads_of (recovered_run h image))
+EmitsPart-run h image first next number a b c u v found low high before part =
     let run = recovered_run h image in
-    let more : EmitsPart a c [] (payloads_of (take (number + 1 - first) run)) =
-    rw (one_more h image first next number found low high) (EmitsPart-then a b c [] v _ _ before part) in
-    let all : EmitsPart a c [] (payloads_of (take (number + 1 - first) run) ++ payloads_of (drop (number + 1 - first) run)) =
-    EmitsPart-longer a c [] _ _ more in
+    let more : EmitsPart a c u (payloads_of (take (number + 1 - first) run)) =
+    rw (one_more h image first next number found low high) (EmitsPart-then a b c u v _ _ before part) in
+    let all : EmitsPart a c u (payloads_of (take (number + 1 - first) run) ++ payloads_of (drop (number + 1 - first) run)) =
+    EmitsPart-longer a c u _ _ more in
     let whole : payloads_of (take (number + 1 - first) run) ++ payloads_of (drop (number + 1 - first) run) ≡ payloads_of run =
     sym (flat_map-append (λ (b : Block). b.payload) (take (number + 1 - first) run) (drop (number + 1 - first) run))
     ∙ ap payloads_of (take-append-drop (number + 1 - first) run) in
-    (all.count, all.written ∙ ap (λ (x : List ℕ). followed_by a (take all.count x)) whole)
+    rw whole at all
 
 -- all payloads were handed on
-pub Emits-all : (h : Header) (image : List ℕ) (first next number : ℕ) (a b : Option (List ℕ)) (v : List ℕ) → IsFoundRun h image first next → next ≤ number
-    → Emits a b [] v (payloads_of (take (number - first) (recovered_run h image))) → Emits a b [] v (payloads_of (recovered_run h image))
-Emits-all h image first next number a b v found last emits =
+pub Emits-all : (h : Header) (image : List ℕ) (first next number : ℕ) (a b : Option (List ℕ)) (u v : List ℕ) → IsFoundRun h image first next → next ≤ number
+    → Emits a b u v (payloads_of (take (number - first) (recovered_run h image))) → Emits a b u v (payloads_of (recovered_run h image))
+Emits-all h image first next number a b u v found last emits =
     let run = recovered_run h image in
     let whole : take (number - first) run ≡ run = take_all (number - first) run (omega (arith, found.count)) in
     rw whole at emits

@@ -1,15 +1,16 @@
 -- What `recover` promises: the payloads of the recovered run of what the disk holds.
-use Rattle.std.specs.Prelude.{◌≡◌, ℕ, ◌<◌, ◌↔◌, ◌≢◌, ◌⊎◌, List, Option, Some, None, IsTrue, take}
+use Rattle.std.specs.Prelude.{◌≡◌, ℕ, ◌+◌, ◌<◌, ◌↔◌, ◌≢◌, ◌⊎◌, List, Option, Some, None, IsTrue, length, take}
 use Rattle.std.specs.List.{flat_map}
 use Rattle.fdr_io.specs.Faults.{Rose}
 use Rattle.fdr_io.specs.Told.{followed_by}
 use Rattle.fdr_deck.specs.State.{State, Tells}
 use Rattle.fdr_deck.specs.Calls.{IsQuiet}
 use Rattle.fdr_deck.specs.Disk.{KeepsDisk, LearnsExtent}
+use Rattle.fdr_slot.specs.declared.image.Header.{Header}
 use Rattle.fdr_slot.specs.declared.image.ImageFault.{ImageFault}
 use Rattle.fdr_slot.specs.declared.image.ImageFault.TheVariants as fault
 use Rattle.fdr_recover.specs.Blocks.{Block}
-use Rattle.fdr_recover.specs.Images.{recovered_run}
+use Rattle.fdr_recover.specs.Images.{recovered_run, next_of, IsNextNumber, IsRecovered}
 use Rattle.fdr_recover.specs.declared.error.RingFault.{RingFault}
 use Rattle.fdr_recover.specs.declared.error.RingFault.TheVariants as ring
 use Rattle.fdr_recover.specs.ImageHeader.{image_fault_of, header_in}
@@ -23,6 +24,13 @@ payloads_of blocks = flat_map (λ (b : Block). b.payload) blocks
 -- the recovered run of an image, by its own header
 abbrev pub run_in : List ℕ → List Block
 run_in image = recovered_run (header_in image) image
+
+-- The blocks from the first number to the next one are the recovered run.
+pub record IsFoundRun (h : Header) (image : List ℕ) (first next : ℕ) : Type 0 where
+  pub count : first + length (recovered_run h image) ≡ next
+  pub is_next : next ≡ next_of h image
+  pub greatest : IsNextNumber h image (next_of h image)
+  pub recovered : IsRecovered h image (recovered_run h image)
 
 -- the answer where the header of an image isn't read; only a fault of the image or of the disk comes then
 abbrev pub header_refusal : RingFault → Outcome

@@ -9,7 +9,7 @@ ghost use Rattle.fdr_slot.specs.Places.{image_size};
 ghost use Rattle.fdr_recover.specs.Images.{payload_at, recovered_run};
 ghost use Rattle.fdr_recover.specs.Looks.{Looks};
 ghost use Rattle.fdr_top.specs.Answers.{EndsBeforeDeck, IsOwn, MayAnswer, WritesNothing};
-ghost use Rattle.fdr_top.specs.Recover.{Recovers, RecoversImage, header_refusal, payloads_of};
+ghost use Rattle.fdr_top.specs.Recover.{IsFoundRun, Recovers, RecoversImage, header_refusal, payloads_of};
 ghost use Rattle.fdr_words.specs.Forms.{recover_image};
 ghost use Rattle.fdr_top.specs.Complete.{IsFaultless, IsWholeInput};
 ghost use Rattle.fdr_top.specs.Leaves.{Causes, LeavesAll, LeavesUnused};
@@ -17,7 +17,7 @@ ghost use Rattle.fdr_top.specs.Leaves.{Causes, LeavesAll, LeavesUnused};
 use crate::outcome::Outcome;
 use fdr_deck::Deck;
 use fdr_io::{Failed, OutBuffer, Sink};
-use fdr_recover::{RingFault, block, read_image_header, scan};
+use fdr_recover::{Found, RingFault, block, read_image_header, scan};
 use fdr_slot::Header;
 use std::alloc::Global;
 
@@ -68,6 +68,36 @@ fn add_block<D: Deck, O: Sink>(
     }
 }
 
+/// Adds the payloads of the found run to what goes out, one behind another.
+fn add_blocks<D: Deck, O: Sink>(
+    deck: &mut D,
+    h: &Header,
+    found: Found,
+    buffer: &mut OutBuffer,
+    out: &mut O,
+) -> Result<(), Outcome>
+    requires limits { IsInLimits h.now }
+    requires whole { image_size h.now ≤ (D.state deck.old).extent }
+    requires bound { found.next ≤ 2 ^ 48 }
+    requires run { IsTrue D.tells.bytes → IsFoundRun h.now (D.state deck.old).held found.first found.next }
+    ensures all { OnOk result (IsTrue D.tells.bytes
+        → Emits (O.written out.old) (O.written out.new) buffer.old buffer.new
+        (payloads_of (recovered_run h.now (D.state deck.old).held))) }
+    ensures part { OnErr result (IsTrue D.tells.bytes
+        → EmitsPart (O.written out.old) (O.written out.new) buffer.old
+        (payloads_of (recovered_run h.now (D.state deck.old).held))) }
+    ensures answer { IfErr result (λ answer. (answer ≡ Outcome.DiskFault) ⊎ (answer ≡ Outcome.WriteFault)) }
+    ensures disk_fault { result ≡ Err Outcome.DiskFault → Rose (D.state deck.old).disk_faults (D.state deck.new).disk_faults }
+    ensures write_fault { result ≡ Err Outcome.WriteFault → Rose (O.faults out.old) (O.faults out.new) }
+    ensures sink_quiet { OnOk result (O.faults out.new ≡ O.faults out.old) }
+    ensures looks { Looks D.tells (D.state deck.old) (D.state deck.new) }
+{
+    for number in found.first..found.next {
+        add_block(deck, h, number, buffer, out)?;
+    }
+    Ok(())
+}
+
 /// Writes the payloads of the recovered run, one behind another.
 fn write_run<D: Deck, O: Sink>(
     deck: &mut D,
@@ -91,9 +121,7 @@ fn write_run<D: Deck, O: Sink>(
         Ok(found) => found,
         Err(Failed) => return Err(Outcome::DiskFault),
     };
-    for number in found.first..found.next {
-        add_block(deck, h, number, buffer, out)?;
-    }
+    add_blocks(deck, h, found, buffer, out)?;
     match buffer.finish(out) {
         Ok(()) => Ok(()),
         Err(Failed) => Err(Outcome::WriteFault),

@@ -207,8 +207,15 @@ impl TraceLine {
         ensures time { self.new.time ≡ self.old.time }
         ensures count { self.new.count ≡ self.old.count }
     {
+        let (front, _behind) = self.waiting.as_slices();
         let mut bytes = [0; RECORD];
-        self.waiting.read_into(&mut bytes);
+        if RECORD <= front.len() {
+            // A copy whose length is known costs no call.
+            bytes.copy_from_slice(&front[..RECORD]);
+            self.waiting.truncate_front(self.waiting.len() - RECORD);
+        } else {
+            self.waiting.read_into(&mut bytes);
+        }
         bytes
     }
 }

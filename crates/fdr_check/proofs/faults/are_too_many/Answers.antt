@@ -1,7 +1,6 @@
-use Rattle.std.proofs.Common.{◌≡◌, ◌+◌, ◌*◌, get_or, sym, ap, arith}
+use Rattle.std.proofs.Common.{◌+◌, ◌*◌, sym, arith}
 use Rattle.std.proofs.lemmas.Bool.{lt-ltb}
 use Rattle.fdr_check.specs.Occurrences.{begins_at}
-use Rattle.fdr_check.specs.Walks.{starts_of}
 use Rattle.fdr_check.proofs.Ranges.{count_few}
 use Rattle.fdr_check.proofs.Counting.{no_occurrences, occurrences_more, occurrences_take}
 use Rattle.fdr_check.proofs.faults.are_too_many.Goals as goal
@@ -16,29 +15,22 @@ overflow_add-total c =
 
 pub returns-then-total-gt-MAX_PARTS : goal.returns-then-total-gt-MAX_PARTS
 returns-then-total-gt-MAX_PARTS c =
-    let w = c.args.words in
     let i = c.loop-place.place-index in
-    let p = c.place-item.result in
-    let more = occurrences_more w c.args.places.now i p c.loop-place-test.true in
-    let same : starts_of w p ≡ starts_of w (get_or c.args.places.now i p) = ap (starts_of w) c.place-item.is in
+    let more = occurrences_more c.args.words c.args.places.now i c.place-item.result c.loop-place-test.true c.place-item.is in
     sym (lt-ltb _ _ (omega (
       arith,
       more,
-      same,
       c.count_starts-total.ensures,
       c.loop-place.invariant.so_far,
       c.if-total-gt-MAX_PARTS.true,
-      occurrences_take w c.args.places.now (i + 1),
+      occurrences_take c.args.words c.args.places.now (i + 1),
     )))
 
 pub loop-place-preserved : goal.loop-place-preserved
 loop-place-preserved c =
-    let w = c.args.words in
     let i = c.loop-place.place-index in
-    let p = c.place-item.result in
-    let more = occurrences_more w c.args.places.now i p c.loop-place-test.true in
-    let same : starts_of w p ≡ starts_of w (get_or c.args.places.now i p) = ap (starts_of w) c.place-item.is in
+    let more = occurrences_more c.args.words c.args.places.now i c.place-item.result c.loop-place-test.true c.place-item.is in
     record {
-      so_far = omega (arith, more, same, c.count_starts-total.ensures, c.loop-place.invariant.so_far);
+      so_far = omega (arith, more, c.count_starts-total.ensures, c.loop-place.invariant.so_far);
       few = omega (arith, c.if-total-gt-MAX_PARTS.false);
     }

@@ -2,7 +2,6 @@ use Rattle.std.proofs.Common.{◌≡◌, ◌==◌, length, ap, sym, ◌∙◌, a
 use Rattle.fdr_table.specs.Rows.{PlaceRow}
 use Rattle.fdr_check.specs.Occurrences.{occurrences}
 use Rattle.fdr_check.specs.Groups.{places_of}
-use Rattle.fdr_check.specs.Faults.{rate_of}
 use Rattle.fdr_check.proofs.Sharing.{occurrences_kept}
 use Rattle.fdr_check.proofs.Grouping.{length_grouped, group_at}
 use Rattle.fdr_check.proofs.Enumerating.{rate_is_found, rate_not_yet, rate_none}
@@ -17,24 +16,15 @@ bounds-groups-index c =
 
 pub returns-then-is_some : goal.returns-then-is_some
 returns-then-is_some c =
-    let i = c.loop-index.index in
-    let p = c.index-params-index.result in
-    let g = c.index-groups-index.result in
-    let w = c.words_of-words.result in
-    let fault : c.rate_of-fault.result ≡ rate_of w g i p = c.rate_of-fault.ensures ∙ ap (λ ps. rate_of w ps i p) c.places.ensures in
-    rate_is_found c.args.t.now c.params-params.result.now c.args.groups.now i p g w c.rate_of-fault.result c.words_of-words.ensures.words
-    c.params-params.ensures c.requires.groups c.loop-index-test.true c.index-params-index.is c.index-groups-index.is fault c.loop-index.invariant
-    (sym c.if-is_some.ensures)
+    rate_is_found c.args.t.now c.params-params.result.now c.args.groups.now c.loop-index.index c.index-params-index.result c.index-groups-index.result _ _ _
+    c.words_of-words.ensures.words c.params-params.ensures c.requires.groups c.loop-index-test.true c.index-params-index.is c.index-groups-index.is
+    c.places.ensures c.rate_of-fault.ensures c.loop-index.invariant (sym c.if-is_some.ensures)
 
 pub loop-index-preserved : goal.loop-index-preserved
 loop-index-preserved c =
-    let i = c.loop-index.index in
-    let p = c.index-params-index.result in
-    let g = c.index-groups-index.result in
-    let w = c.words_of-words.result in
-    let fault : c.rate_of-fault.result ≡ rate_of w g i p = c.rate_of-fault.ensures ∙ ap (λ ps. rate_of w ps i p) c.places.ensures in
-    rate_not_yet c.args.t.now c.params-params.result.now c.args.groups.now i p g w c.rate_of-fault.result c.words_of-words.ensures.words c.params-params.ensures
-    c.requires.groups c.loop-index-test.true c.index-params-index.is c.index-groups-index.is fault c.loop-index.invariant (sym c.if-is_some.ensures)
+    rate_not_yet c.args.t.now c.params-params.result.now c.args.groups.now c.loop-index.index c.index-params-index.result c.index-groups-index.result _ _ _
+    c.words_of-words.ensures.words c.params-params.ensures c.requires.groups c.loop-index-test.true c.index-params-index.is c.index-groups-index.is
+    c.places.ensures c.rate_of-fault.ensures c.loop-index.invariant (sym c.if-is_some.ensures)
 
 pub returns : goal.returns
 returns c = rate_none c.args.t.now c.params-params.result.now c.loop-index.index c.params-params.ensures c.loop-index-test.false c.loop-index.invariant

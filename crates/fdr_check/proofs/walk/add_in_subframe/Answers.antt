@@ -1,9 +1,7 @@
-use Rattle.std.proofs.Common.{◌≡◌, ℕ, ◌+◌, ◌*◌, ◌++◌, true, false, List, ap, sym, subst, ◌∙◌, append-nil}
+use Rattle.std.proofs.Common.{◌≡◌, ℕ, ◌+◌, ◌*◌, ◌++◌, List, ap, sym, subst, ◌∙◌, append-nil}
 use Rattle.std.specs.Result.{OnOk}
-use Rattle.fdr_table.specs.Rows.{PlaceRow}
-use Rattle.fdr_check.specs.Occurrences.{has_subframe}
-use Rattle.fdr_check.specs.Walks.{slots_on, subframe_slots, occurs_in_subframe}
-use Rattle.fdr_check.proofs.Walking.{of_its_frame, in_subframe, not_in_subframe}
+use Rattle.fdr_check.specs.Walks.{slots_on, subframe_slots}
+use Rattle.fdr_check.proofs.Walking.{occurs_as_tested, in_subframe, not_in_subframe}
 use Rattle.fdr_check.proofs.walk.add_in_subframe.Goals as goal
 
 pub returns-then-has_subframe : goal.returns-then-has_subframe
@@ -12,9 +10,7 @@ returns-then-has_subframe c =
     let w = c.args.words in
     let f = c.args.frame in
     let s = c.args.subframe in
-    let subs : c.place.inside.subs ≡ p.subs = ap (λ (x : PlaceRow). x.subs) c.place.view_is in
-    let here : occurs_in_subframe (4 * f + s) p ≡ true =
-    of_its_frame p f s c.requires.subframe c.requires.frame ∙ ap (λ x. has_subframe x (s + 1)) (sym subs) ∙ sym c.if-has_subframe.ensures in
+    let here = occurs_as_tested _ p f s _ c.place.view_is c.requires.subframe c.requires.frame (sym c.if-has_subframe.ensures) in
     let same : slots_on w p ((4 * f + c.from.result) * w) ≡ subframe_slots w p (4 * f + s) =
     ap (λ x. slots_on w p ((4 * f + x) * w)) c.from.ensures ∙ sym (in_subframe w p (4 * f + s) here) in
     subst (λ (xs : List ℕ). OnOk c.add_words.result (c.add_words.new.slots.items ≡ c.args.slots.now.items ++ xs)) same c.add_words.ensures
@@ -22,10 +18,7 @@ returns-then-has_subframe c =
 pub returns-else-has_subframe : goal.returns-else-has_subframe
 returns-else-has_subframe c =
     let p = c.args.place.now in
-    let w = c.args.words in
     let f = c.args.frame in
     let s = c.args.subframe in
-    let subs : c.place.inside.subs ≡ p.subs = ap (λ (x : PlaceRow). x.subs) c.place.view_is in
-    let off : occurs_in_subframe (4 * f + s) p ≡ false =
-    of_its_frame p f s c.requires.subframe c.requires.frame ∙ ap (λ x. has_subframe x (s + 1)) (sym subs) ∙ sym c.if-has_subframe.ensures in
-    sym (append-nil c.args.slots.now.items) ∙ ap (λ xs. c.args.slots.now.items ++ xs) (sym (not_in_subframe w p (4 * f + s) off))
+    let off = occurs_as_tested _ p f s _ c.place.view_is c.requires.subframe c.requires.frame (sym c.if-has_subframe.ensures) in
+    sym (append-nil c.args.slots.now.items) ∙ ap (λ xs. c.args.slots.now.items ++ xs) (sym (not_in_subframe c.args.words p (4 * f + s) off))

@@ -4,8 +4,7 @@ use Rattle.fdr_check.proofs.walk.count_starts.Given as goal
 
 abbrev pub invariant-loop-frame : goal.invariant-loop-frame
 invariant-loop-frame l = record {
-  mine : l.frame % l.place.period ≡ l.place.cycle;
-  near : l.frame ≤ 32;
+  own : l.frame % l.place.period ≡ l.place.cycle;
   few : l.count ≤ 4096 * l.frame;
   so_far : l.count ≡ length (frames_before l.words l.place l.frame);
 }

@@ -1,74 +1,103 @@
-use Rattle.std.proofs.Common.{◌≡◌, ◌<◌, ◌≤◌, ◌==◌, List, [], length, get_or, sym, ap, ◌∙◌, subst, arith}
+use Rattle.std.proofs.Common.{◌≡◌, ◌<◌, ◌≤◌, ◌/◌, ◌%◌, ◌^◌, ℕ, List, length, map, get_or, refl, sym, ap, ◌∙◌, subst, arith}
 use Rattle.std.specs.Prelude.{if◌then◌else◌, slice_index, slice_set}
-use Rattle.std.proofs.lemmas.List.{take_all}
+use Rattle.std.proofs.lemmas.List.{take_all, length-map, get_or-map}
 use Rattle.std.proofs.lemmas.Option.{get_or_from_slice_get}
-use Rattle.fdr_layout.specs.SlotParts.{SlotPart}
+use Rattle.fdr_bits.specs.Fields.{with_field}
+use Rattle.fdr_layout.specs.Samples.{Sample}
+use Rattle.fdr_layout.specs.SlotParts.{SlotPart, Laid}
+use Rattle.fdr_lists.proofs.Numbered.{slice_get_some}
+use Rattle.fdr_sampler.specs.Held.{first_part_slot}
 use Rattle.fdr_sampler.specs.Kept.{slot_parts, value_at, IsDrawn}
+use Rattle.fdr_sampler.specs.Schedule.{SlotStep, slot_steps, step_of}
 use Rattle.fdr_sampler.proofs.Drawing.{IsDrawn-none, IsDrawn-more, param_within, value_read}
 use Rattle.fdr_sampler.proofs.pieces.data_word.Goals as goal
 
-pub loop-part-init : goal.loop-part-init
-loop-part-init c = record { small = omega arith; drawn = λ value have. IsDrawn-none value c.args.raws.now }
+-- the part of a step
+record IsPartOf (l : Laid) (slot i : ℕ) (x : SlotStep) : Type 0 where
+  part : SlotPart
+  within : i < length (slot_parts l slot)
+  at : part ≡ get_or (slot_parts l slot) i part
+  step : x ≡ step_of (map (λ (s : Sample). s.param) l.samples) (map first_part_slot l.samples) slot part
 
-pub loop-part-preserved : goal.loop-part-preserved
-loop-part-preserved c =
-    let laid = c.args.layout.now in
-    let slot = c.args.slot in
-    let before = c.args.raws.now in
-    let items = c.at_slot-part-items.result.now in
-    let parts = slot_parts laid slot in
-    let same : items ≡ parts = sym (get_or_from_slice_get laid.slots slot items [] c.at_slot-part-items.ensures.parts) in
-    let i = c.loop-part.part-index in
-    let a = c.part-item.result in
-    let l : i < length parts = subst (λ (xs : List SlotPart). i < length xs) same c.loop-part-test.true in
-    let is : a ≡ get_or parts i a = c.part-item.is ∙ ap (λ xs. get_or xs i a) same in
-    let n = c.part.inside.sample in
-    let same_sample : n ≡ a.sample = ap (λ (x : SlotPart). x.sample) c.part.view_is in
-    let below : a.sample < length laid.samples =
-    omega (arith, ap (λ (x : SlotPart). x.sample) c.part-item.is, c.at_slot-part-items.ensures.numbers i a c.loop-part-test.true) in
-    let room : a.sample < length c.loop-part.raws =
-    omega (
-      arith,
-      ap (λ (x : SlotPart). x.sample) c.part-item.is,
-      c.at_slot-part-items.ensures.numbers i a c.loop-part-test.true,
-      c.requires.raws,
-      c.loop-part.auto.raws,
-    ) in
+part_of : (l : Laid) (slot i : ℕ) (items : List SlotStep) (x : SlotStep) → items ≡ slot_steps l slot → i < length items → x ≡ get_or items i x
+    → IsPartOf l slot i x
+part_of l slot i items x all low is =
+    let parts = slot_parts l slot in
+    let f = step_of (map (λ (s : Sample). s.param) l.samples) (map first_part_slot l.samples) slot in
+    let within : i < length parts = omega (arith, low, ap length all, length-map parts f) in
+    let a = slice_get_some parts i within in
+    let at : get_or parts i a.0 ≡ a.0 = get_or_from_slice_get parts i a.0 a.0 a.1 in
     record {
-      small = c.with_piece-word.ensures.twelve_bits;
-      drawn = λ value have.
-          let so_far = c.loop-part.invariant.drawn value have in
-          let At : SlotPart → Type 0 = λ x. value_at laid slot c.args.held.now before x.sample ≡ value x.sample in
-          let raw_is = value_read value laid slot c.args.held.now before c.loop-part.raws a.sample c.args.firsts.now c.args.owners.now
-          (get_or c.args.firsts.now n 0) (get_or c.args.owners.now n 0) c.value_at-raw.result (subst At (sym is) (have i a l)) below
-          c.requires.firsts (ap (λ m. get_or c.args.firsts.now m 0) same_sample) c.requires.owners
-          (ap (λ m. get_or c.args.owners.now m 0) same_sample) so_far.kept
-          (subst (λ m. c.value_at-raw.result ≡ (if get_or c.args.firsts.now n 0 == slot then slice_index c.args.held.now
-          (get_or c.args.owners.now n 0) else slice_index c.loop-part.raws m)) same_sample c.value_at-raw.ensures.value) in
-          IsDrawn-more value parts i a before c.loop-part.raws c.value_at-raw.new.raws c.loop-part.word c.with_piece-word.result c.value_at-raw.result l is
-          so_far raw_is room
-          (subst (λ m. c.value_at-raw.new.raws ≡ slice_set c.loop-part.raws m c.value_at-raw.result) same_sample c.value_at-raw.ensures.kept)
-          c.with_piece-word.ensures.twelve_bits c.with_piece-word.ensures.value;
+      part = a.0;
+      within = within;
+      at = sym at;
+      step = is ∙ ap (λ xs. get_or xs i x) all ∙ get_or-map f parts i a.0 x within ∙ ap f at;
     }
+
+pub loop-step-init : goal.loop-step-init
+loop-step-init c = record { small = omega arith; drawn = λ value have. IsDrawn-none value c.args.raws.now }
 
 pub value_at-raw-requires-clause-param : goal.value_at-raw-requires-clause-param
 value_at-raw-requires-clause-param c =
-    let laid = c.args.layout.now in
-    let a = c.part-item.result in
-    let i = c.loop-part.part-index in
-    let same : c.part.inside.sample ≡ a.sample = ap (λ (x : SlotPart). x.sample) c.part.view_is in
-    let below = c.at_slot-part-items.ensures.numbers i a c.loop-part-test.true in
-    param_within laid c.part.inside.sample (length c.args.held.now) c.args.owners.now
-    (omega (arith, same, below, ap (λ (x : SlotPart). x.sample) c.part-item.is)) c.requires.owners c.requires.params
+    let laid = c.args.schedule.now in
+    let x = c.step-item.result in
+    let p = part_of laid c.args.slot c.loop-step.step-index c.at_slot-step-items.result.now x c.at_slot-step-items.ensures.steps c.loop-step-test.true
+    c.step-item.is in
+    let a = p.part in
+    let below = subst (λ (y : SlotPart). y.sample < length laid.samples) (sym p.at) (c.at_slot-step-items.ensures.numbers c.loop-step.step-index a p.within) in
+    subst (λ (y : SlotStep). y.param < length c.args.held.now) (sym p.step)
+    (param_within laid a.sample (length c.args.held.now) (map (λ (s : Sample). s.param) laid.samples) below refl c.requires.params)
+
+pub value_at-raw-requires-clause-number : goal.value_at-raw-requires-clause-number
+value_at-raw-requires-clause-number c =
+    let laid = c.args.schedule.now in
+    let x = c.step-item.result in
+    let p = part_of laid c.args.slot c.loop-step.step-index c.at_slot-step-items.result.now x c.at_slot-step-items.ensures.steps c.loop-step-test.true
+    c.step-item.is in
+    let a = p.part in
+    let below = subst (λ (y : SlotPart). y.sample < length laid.samples) (sym p.at) (c.at_slot-step-items.ensures.numbers c.loop-step.step-index a p.within) in
+    omega (arith, below, ap (λ (y : SlotStep). y.sample) p.step, c.requires.raws, c.loop-step.auto.raws)
+
+pub loop-step-preserved : goal.loop-step-preserved
+loop-step-preserved c =
+    let laid = c.args.schedule.now in
+    let slot = c.args.slot in
+    let held = c.args.held.now in
+    let before = c.args.raws.now in
+    let parts = slot_parts laid slot in
+    let owners = map (λ (s : Sample). s.param) laid.samples in
+    let firsts = map first_part_slot laid.samples in
+    let i = c.loop-step.step-index in
+    let x = c.step-item.result in
+    let p = part_of laid slot i c.at_slot-step-items.result.now x c.at_slot-step-items.ensures.steps c.loop-step-test.true c.step-item.is in
+    let a = p.part in
+    let raws = c.loop-step.raws in
+    let raw = c.value_at-raw.result in
+    let below = subst (λ (y : SlotPart). y.sample < length laid.samples) (sym p.at) (c.at_slot-step-items.ensures.numbers i a p.within) in
+    let room : a.sample < length raws = omega (arith, below, c.requires.raws, c.loop-step.auto.raws) in
+    record {
+      small = c.with_piece-word.ensures.twelve_bits;
+      drawn = λ value have.
+          let so_far = c.loop-step.invariant.drawn value have in
+          let At : SlotPart → Type 0 = λ y. value_at laid slot held before y.sample ≡ value y.sample in
+          let Taken : SlotStep → Type 0 = λ y. raw ≡ (if y.begins then slice_index held y.param else slice_index raws y.sample) in
+          let raw_is = value_read value laid slot held before raws a.sample firsts owners (slice_index firsts a.sample) (slice_index owners a.sample) raw
+          (subst At (sym p.at) (have i a p.within)) below refl refl refl refl so_far.kept (subst Taken p.step c.value_at-raw.ensures.value) in
+          IsDrawn-more value parts i a before raws c.value_at-raw.new.raws c.loop-step.word c.with_piece-word.result raw p.within p.at so_far raw_is room
+          (subst (λ (y : SlotStep). c.value_at-raw.new.raws ≡ slice_set raws y.sample raw) p.step c.value_at-raw.ensures.kept)
+          c.with_piece-word.ensures.twelve_bits
+          (subst (λ (y : SlotStep). c.with_piece-word.result ≡ with_field c.loop-step.word y.low y.width (raw / 2 ^ y.shift % 2 ^ y.width)) p.step
+          c.with_piece-word.ensures.value);
+    }
 
 pub returns-clause-drawn : goal.returns-clause-drawn
 returns-clause-drawn c = λ value have.
-    let laid = c.args.layout.now in
+    let laid = c.args.schedule.now in
     let slot = c.args.slot in
-    let items = c.at_slot-part-items.result.now in
     let parts = slot_parts laid slot in
-    let same : items ≡ parts = sym (get_or_from_slice_get laid.slots slot items [] c.at_slot-part-items.ensures.parts) in
-    let i = c.loop-part.part-index in
-    let all : length parts ≤ i = subst (λ (xs : List SlotPart). length xs ≤ i) same c.loop-part-test.false in
-    let P : List SlotPart → Type 0 = λ xs. IsDrawn value xs c.args.raws.now c.loop-part.raws c.loop-part.word in
-    subst P (take_all i parts all) (c.loop-part.invariant.drawn value have)
+    let i = c.loop-step.step-index in
+    let count = ap length c.at_slot-step-items.ensures.steps
+    ∙ length-map parts (step_of (map (λ (s : Sample). s.param) laid.samples) (map first_part_slot laid.samples) slot) in
+    let all : length parts ≤ i = omega (arith, count, c.loop-step-test.false) in
+    subst (λ (xs : List SlotPart). IsDrawn value xs c.args.raws.now c.loop-step.raws c.loop-step.word) (take_all i parts all)
+    (c.loop-step.invariant.drawn value have)

@@ -4,10 +4,9 @@ use Rattle.fdr_recover.specs.Images.{recovered_run}
 use Rattle.fdr_recover.proofs.Looking.{Looks-then}
 use Rattle.fdr_readout.specs.Entries.{entries_of}
 use Rattle.fdr_readout.proofs.Taking.{taken_first, taken_nothing}
-use Rattle.fdr_top.specs.Recover.{payloads_of}
+use Rattle.fdr_top.specs.Recover.{IsFoundRun, payloads_of}
 use Rattle.fdr_top.specs.declared.listing.BlocksFault.{BlocksFault}
 use Rattle.fdr_top.proofs.ListedRuns.{run_ahead, run_read, run_so_far}
-use Rattle.fdr_top.proofs.Recovery.{IsFoundRun}
 use Rattle.fdr_top.proofs.listing.take_blocks.Goals as goal
 
 -- the fault that is handed on

@@ -32,9 +32,9 @@ returns-else-is_empty-clause-params c =
     let laid = c.self.inside.layout in
     let listed = map (sample_in laid) c.ending_in.result.now in
     let P : RebuildKept → Type 0 = λ k. All (λ (e : ListedSample). IsSampleOf k.params (sample_in k.laid e)) c.ending_in.result.now in
-    let Q : List Sample → Type 0 = λ samples. All (IsSampleOf c.self.inside.params.items) samples in
+    let Q : List Sample → Type 0 = λ samples. All (IsSampleOf c.self.inside.scales.items) samples in
     subst P c.self.view_is
-    (listed_samples_hold (IsSampleOf c.self.inside.params.items) laid c.ending_in.result.now
+    (listed_samples_hold (IsSampleOf c.self.inside.scales.items) laid c.ending_in.result.now
     (subst Q (get_or_from_slice_get laid.cycles c.cycle.result listed [] c.ending_in.ensures.samples)
     (c.self.invariant.params c.cycle.result [] (slice_get_within laid.cycles c.cycle.result listed c.ending_in.ensures.samples))))
 

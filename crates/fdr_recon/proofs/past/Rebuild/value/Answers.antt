@@ -48,10 +48,10 @@ value-requires c =
     let raw = raw_of_listed k c.self.inside.layout c.cycle.result c.args.sample.now c.parts.result.now c.raw-raw.result laid c.parts.ensures.parts
     c.raw-raw.ensures.raw in
     let below = kept_raw-below k c.cycle.result s c.requires.of in
-    let params : c.self.inside.params.items ≡ k.params = ap (λ (k : RebuildKept). k.params) c.self.view_is in
-    let param : c.index-param.result.now ≡ c.requires.of.param =
-    c.index-param.ensures ∙ ap (λ (ps : List ParamRow). slice_index_or ps s.param c.index-param.result.now) params
-    ∙ get_or_from_slice_get k.params s.param c.requires.of.param c.index-param.result.now c.requires.of.found in
+    let params : c.self.inside.scales.items ≡ k.params = ap (λ (k : RebuildKept). k.params) c.self.view_is in
+    let param : c.index-scale.result.now ≡ c.requires.of.param =
+    c.index-scale.ensures ∙ ap (λ (ps : List ParamRow). slice_index_or ps s.param c.index-scale.result.now) params
+    ∙ get_or_from_slice_get k.params s.param c.requires.of.param c.index-scale.result.now c.requires.of.found in
     subst (λ n. c.raw-raw.result < 2 ^ n) (sym (ap (λ (p : ParamRow). p.width) param)) (subst (λ n. n < 2 ^ c.requires.of.param.width) (sym raw) below)
 
 pub returns : goal.returns
@@ -63,10 +63,10 @@ returns c =
     let raw : c.raw-raw.result ≡ kept_raw k (kept_cycle k) s.parts =
     raw_of_listed k c.self.inside.layout c.cycle.result c.args.sample.now c.parts.result.now c.raw-raw.result laid c.parts.ensures.parts c.raw-raw.ensures.raw
     ∙ ap (λ n. kept_raw k n s.parts) c.cycle.ensures.cycle in
-    let params : c.self.inside.params.items ≡ k.params = ap (λ (k : RebuildKept). k.params) c.self.view_is in
-    let param : c.index-param.result.now ≡ c.requires.of.param =
-    c.index-param.ensures ∙ ap (λ (ps : List ParamRow). slice_index_or ps s.param c.index-param.result.now) params
-    ∙ get_or_from_slice_get k.params s.param c.requires.of.param c.index-param.result.now c.requires.of.found in
+    let params : c.self.inside.scales.items ≡ k.params = ap (λ (k : RebuildKept). k.params) c.self.view_is in
+    let param : c.index-scale.result.now ≡ c.requires.of.param =
+    c.index-scale.ensures ∙ ap (λ (ps : List ParamRow). slice_index_or ps s.param c.index-scale.result.now) params
+    ∙ get_or_from_slice_get k.params s.param c.requires.of.param c.index-scale.result.now c.requires.of.found in
     to_z-of_z w64 c.value.result (record { sfits = c.value.type_inv }) ∙ c.value.ensures
     ∙ ap (λ p. value_of p c.raw-raw.result) (param ∙ sym (param_at-sample k.params s c.requires.of))
     ∙ ap (value_of (param_at k.params s.param)) raw

@@ -17,5 +17,5 @@ invariant_of-result c =
       last_counter = sym (kept_word-none _ 0 _ c.in_ok-words.ensures.none);
       joined = omega arith;
       ends = c.requires.ends;
-      params = subst P (sym c.in_ok-params.ensures) c.requires.params;
+      params = subst P (sym c.in_ok-scales.ensures) c.requires.params;
     }

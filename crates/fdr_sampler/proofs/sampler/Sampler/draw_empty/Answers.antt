@@ -12,16 +12,16 @@ use Rattle.fdr_sampler.proofs.sampler.Sampler.draw_empty.Goals as goal
 
 -- so many slots are empty
 run : (c : goal.After-self-1)
-    → HasEmptyRun c.self.inside.frame c.self.inside.layout (slot_within c.self.inside.frame.words c.self.inside.drawn) c.min-count.result
+    → HasEmptyRun c.self.inside.frame c.self.inside.schedule (slot_within c.self.inside.frame.words c.self.inside.drawn) c.min-count.result
 run c = λ j less.
     let f = c.self.inside.frame in
-    let l = c.self.inside.layout in
+    let l = c.self.inside.schedule in
     let slot = c.slot_within-slot.result in
     let runs = c.self.inside.empty_runs.items in
-    let room : slot < length runs = omega (arith, c.slot_within-slot.ensures.below, c.self.invariant.1.empty.long) in
+    let room : slot < length runs = omega (arith, c.slot_within-slot.ensures.below, c.self.invariant.1.long) in
     let read : c.index.result.now ≡ get_or runs slot 0 = c.index.ensures ∙ get_or_default runs slot c.index.result.now 0 room in
     let few : j < get_or runs slot 0 = omega (arith, less, c.min-count.ensures, read) in
-    subst (λ m. HasEmptyRun f l m (get_or runs slot 0)) c.slot_within-slot.ensures.slot (c.self.invariant.1.empty.each slot).slots j few
+    subst (λ m. HasEmptyRun f l m (get_or runs slot 0)) c.slot_within-slot.ensures.slot (c.self.invariant.1.each slot).slots j few
 
 pub returns-clause-zeros : goal.returns-clause-zeros
 returns-clause-zeros c = λ past st k less.
@@ -32,10 +32,10 @@ returns-clause-zeros c = λ past st k less.
 pub returns-clause-all : goal.returns-clause-all
 returns-clause-all c = λ past st fewer inside empty.
     let f = c.self.inside.frame in
-    let l = c.self.inside.layout in
+    let l = c.self.inside.schedule in
     let slot = c.slot_within-slot.result in
     let runs = c.self.inside.empty_runs.items in
-    let room : slot < length runs = omega (arith, c.slot_within-slot.ensures.below, c.self.invariant.1.empty.long) in
+    let room : slot < length runs = omega (arith, c.slot_within-slot.ensures.below, c.self.invariant.1.long) in
     let read : c.index.result.now ≡ get_or runs slot 0 = c.index.ensures ∙ get_or_default runs slot c.index.result.now 0 room in
     let all : c.min-count.result ≡ get_or runs slot 0 = omega (arith, fewer, c.min-count.ensures, read) in
     let stood : RepresentsSampler (sampler_kept c.self.inside) past = subst (λ (x : SamplerKept). RepresentsSampler x past) (sym c.self.view_is) st in
@@ -43,7 +43,7 @@ returns-clause-all c = λ past st fewer inside empty.
     let at : slot + get_or runs slot 0 ≡ slot_within past.table.frame.words past.drawn + c.min-count.result =
     ap (λ n. n + get_or runs slot 0) (c.slot_within-slot.ensures.slot ∙ ap (slot_within f.words) stood.drawn ∙ ap (λ w. slot_within w past.drawn) words)
     ∙ ap (λ n. slot_within past.table.frame.words past.drawn + n) (sym all) in
-    (c.self.invariant.1.empty.each slot).ends (omega (arith, at, words, inside))
+    (c.self.invariant.1.each slot).ends (omega (arith, at, words, inside))
     (subst (λ n. IsEmptySlot f l n) (sym at) (subst (λ (x : Laid). IsEmptySlot f x (slot_within past.table.frame.words past.drawn + c.min-count.result))
     (sym stood.laid) (subst (λ (x : FrameRow). IsEmptySlot x (laid_of past.table) (slot_within past.table.frame.words past.drawn + c.min-count.result))
     (sym stood.frame) empty)))

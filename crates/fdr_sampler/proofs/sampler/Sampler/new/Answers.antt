@@ -9,7 +9,7 @@ use Rattle.fdr_layout.specs.SlotParts.{Laid, laid_of, parts_in}
 use Rattle.fdr_layout.proofs.Endings.{samples_params}
 use Rattle.fdr_layout.proofs.Few.{params_few, samples_few}
 use Rattle.fdr_sampler.specs.Kept.{SamplerKept, owners_of}
-use Rattle.fdr_sampler.proofs.Owners.{owners_are}
+use Rattle.fdr_sampler.proofs.Owning.{owners_are}
 use Rattle.fdr_sampler.specs.Past.{RepresentsSampler, sampler_made}
 use Rattle.fdr_sampler.proofs.Standing.{Stands-made_of}
 use Rattle.fdr_sampler.proofs.sampler.Sampler.new.Goals as goal

@@ -12,13 +12,13 @@ draws c =
     let slot = c.slot_within-slot.result in
     let plain = c.data_word-plain.result in
     let after = c.data_word-plain.new.raws in
-    let Draws : List ℕ → List ℕ → Type 0 = λ held raws. (value : ℕ → ℕ) → HaveValues value inside.layout slot held raws
-    → IsDrawn value (slot_parts inside.layout slot) raws after plain in
+    let Draws : List ℕ → List ℕ → Type 0 = λ held raws. (value : ℕ → ℕ) → HaveValues value inside.schedule slot held raws
+    → IsDrawn value (slot_parts inside.schedule slot) raws after plain in
     record {
       slot_is = c.slot_within-slot.ensures.slot;
       below = c.slot_within-slot.ensures.below;
       drawn = subst (Draws inside.held.items) c.deref_mut.ensures.value
-          (subst (λ held. Draws held c.deref_mut.result.now) c.deref-3.ensures.value c.data_word-plain.ensures.drawn);
+          (subst (λ held. Draws held c.deref_mut.result.now) c.deref.ensures.value c.data_word-plain.ensures.drawn);
     }
 
 pub returns-clause-word : goal.returns-clause-word
