@@ -1,6 +1,6 @@
 -- What the bytes of a record say, and whether it may follow.
-use Rattle.std.proofs.Common.{◌≡◌, ◌≤◌, ◌<◌, ℕ, Bool, true, false, List, Some, None, drop, slice_index, sym, ap, ◌∙◌, refl, arith}
-use Rattle.std.specs.Prelude.{nat_le, nat_lt, ◌&&◌, ◌==◌, if◌then◌else◌}
+use Rattle.std.proofs.Common.{◌≡◌, ◌≤◌, ◌<◌, ℕ, Bool, true, false, List, Some, None, drop, slice_index, refl, arith}
+use Rattle.std.specs.Prelude.{nat_le, nat_lt, ◌&&◌}
 use Rattle.std.proofs.lemmas.Bool.Decides.{nat_tests}
 use Rattle.byteorder.specs.Endian.{big_number}
 use Rattle.fdr_bus.specs.Records.{has_kind, record_of, is_good, record_fault, last_time}
@@ -87,19 +87,9 @@ record_with kind bus word time = record { kind = kind; bus = bus; word = word; t
 pub record_of_word : (bytes : List ℕ) (word time : ℕ) → slice_index bytes 0 ≡ 1 → word ≡ big_number 4 (drop 4 bytes) → time ≡ big_number 8 (drop 8 bytes)
     → (record_with Word (slice_index bytes 1) word time ≡ record_of bytes) × (has_kind bytes ≡ true)
 unfolding record_of
-record_of_word bytes word time one word_is time_is = (
-  ap (λ x. record_with Word (slice_index bytes 1) x time) word_is
-      ∙ ap (λ x. record_with Word (slice_index bytes 1) (big_number 4 (drop 4 bytes)) x) time_is
-      ∙ sym (ap (λ k. record_with (if k == 2 then End else Word) (slice_index bytes 1) (big_number 4 (drop 4 bytes)) (big_number 8 (drop 8 bytes))) one),
-  rw one refl,
-)
+record_of_word bytes word time one word_is time_is = (rw (word_is, time_is, one) refl, rw one refl)
 
 pub record_of_end : (bytes : List ℕ) (word time : ℕ) → slice_index bytes 0 ≡ 2 → word ≡ big_number 4 (drop 4 bytes) → time ≡ big_number 8 (drop 8 bytes)
     → (record_with End (slice_index bytes 1) word time ≡ record_of bytes) × (has_kind bytes ≡ true)
 unfolding record_of
-record_of_end bytes word time two word_is time_is = (
-  ap (λ x. record_with End (slice_index bytes 1) x time) word_is
-      ∙ ap (λ x. record_with End (slice_index bytes 1) (big_number 4 (drop 4 bytes)) x) time_is
-      ∙ sym (ap (λ k. record_with (if k == 2 then End else Word) (slice_index bytes 1) (big_number 4 (drop 4 bytes)) (big_number 8 (drop 8 bytes))) two),
-  rw two refl,
-)
+record_of_end bytes word time two word_is time_is = (rw (word_is, time_is, two) refl, rw two refl)

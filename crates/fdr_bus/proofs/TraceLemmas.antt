@@ -52,10 +52,10 @@ open_append bytes later so_far =
     let full : length (good_from 0 (whole_records bytes)) ≡ length (whole_records bytes) = ap length (sym same) ∙ sym (count_whole bytes so_far) in
     good_from-append 0 (whole_records bytes) later unended full ∙ ap (λ good. good ++ good_from (time_of good) later) (sym same)
 
--- one more good record, the end record or another
-pub good_prefix-next : (bytes next : List ℕ) → IsOpen bytes → length (good_prefix bytes) < most_records → length next ≡ 16
-    → is_good (time_of (good_prefix bytes)) next ≡ true → good_prefix (bytes ++ next) ≡ good_prefix bytes ++ record_of next ∷ []
-good_prefix-next bytes next so_far few sixteen good =
+-- one more record
+good_prefix_one : (bytes next : List ℕ) → IsOpen bytes → length (good_prefix bytes) < most_records → length next ≡ 16
+    → good_prefix (bytes ++ next) ≡ good_prefix bytes ++ good_from (time_of (good_prefix bytes)) (next ∷ [])
+good_prefix_one bytes next so_far few sixteen =
     let records : whole_records (bytes ++ next) ≡ whole_records bytes ++ next ∷ [] =
     whole_records-next bytes next (length (good_prefix bytes)) so_far.whole sixteen in
     let fits : length (whole_records bytes ++ next ∷ []) ≤ most_records =
@@ -64,7 +64,12 @@ good_prefix-next bytes next so_far few sixteen good =
     ∙ ap (λ xs. good_from 0 (take most_records xs)) records
     ∙ ap (good_from 0) (take_all most_records (whole_records bytes ++ next ∷ []) fits)
     ∙ open_append bytes (next ∷ []) so_far
-    ∙ ap (λ good. good_prefix bytes ++ good) (good_from_one (time_of (good_prefix bytes)) next good)
+
+-- one more good record, the end record or another
+pub good_prefix-next : (bytes next : List ℕ) → IsOpen bytes → length (good_prefix bytes) < most_records → length next ≡ 16
+    → is_good (time_of (good_prefix bytes)) next ≡ true → good_prefix (bytes ++ next) ≡ good_prefix bytes ++ record_of next ∷ []
+good_prefix-next bytes next so_far few sixteen good =
+    good_prefix_one bytes next so_far few sixteen ∙ ap (λ rs. good_prefix bytes ++ rs) (good_from_one (time_of (good_prefix bytes)) next good)
 
 -- and the trace may go on after one that isn't the end
 pub IsOpen-next : (bytes next : List ℕ) → IsOpen bytes → length (good_prefix bytes) < most_records → length next ≡ 16
@@ -127,20 +132,12 @@ IsEnded-next bytes next here ends = ap has_end here ∙ has_end-push (good_prefi
 -- one record more that isn't good
 good_prefix_stays : (bytes next : List ℕ) → IsOpen bytes → length next ≡ 16 → is_good (time_of (good_prefix bytes)) next ≡ false
     → good_prefix (bytes ++ next) ≡ good_prefix bytes
-good_prefix_stays bytes next so_far sixteen bad =
-    let n = length (good_prefix bytes) in
-    let records : whole_records (bytes ++ next) ≡ whole_records bytes ++ next ∷ [] = whole_records-next bytes next n so_far.whole sixteen in
-    ⊎_elim
-    (λ few. let fits : length (whole_records bytes ++ next ∷ []) ≤ most_records =
-    omega (arith, length-append (whole_records bytes) (next ∷ []), count_whole bytes so_far) in
-    good_prefix_is (bytes ++ next)
-    ∙ ap (λ xs. good_from 0 (take most_records xs)) records
-    ∙ ap (good_from 0) (take_all most_records (whole_records bytes ++ next ∷ []) fits)
-    ∙ open_append bytes (next ∷ []) so_far
-    ∙ ap (λ good. good_prefix bytes ++ good) (good_from_bad (time_of (good_prefix bytes)) next [] bad)
+good_prefix_stays bytes next so_far sixteen bad = ⊎_elim
+    (λ few. good_prefix_one bytes next so_far few sixteen
+    ∙ ap (λ rs. good_prefix bytes ++ rs) (good_from_bad (time_of (good_prefix bytes)) next [] bad)
     ∙ append-nil (good_prefix bytes))
     (λ full. good_prefix-decided bytes next (inr (inl (omega (arith, length-good_prefix-most bytes)))))
-    (cases_lt n most_records)
+    (cases_lt (length (good_prefix bytes)) most_records)
 
 -- what follows the end record changes nothing
 pub good_prefix-end : (bytes next more : List ℕ) → IsOpen bytes → length (good_prefix bytes) < most_records → length next ≡ 16

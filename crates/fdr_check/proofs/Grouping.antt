@@ -1,12 +1,13 @@
 -- The places of a parameter, apart from the others.
-use Rattle.std.proofs.Common.{◌≡◌, ℕ, ◌+◌, ◌<◌, ◌==◌, ◌&&◌, ◌||◌, not, nat_le, Bool, true, false, cond, List, [], ◌∷◌, ◌++◌, Option, Some, None, option_map}
-use Rattle.std.proofs.Common.{length, get_or, set, take, max, inl, inr, refl, ap, sym, ◌∙◌, zero-add, arith}
-use Rattle.std.specs.List.{range_with_len, filter, find, list_any, list_all, sum_by, fold}
+use Rattle.std.proofs.Common.{◌≡◌, ℕ, ◌+◌, ◌<◌, ◌==◌, ◌&&◌, not, nat_le, Bool, true, false, cond, List, [], ◌∷◌, ◌++◌, Option, Some, None, option_map}
+use Rattle.std.proofs.Common.{⊎_elim, length, get_or, set, take, max, inl, inr, refl, ap, sym, ◌∙◌, zero-add, arith}
+use Rattle.std.specs.List.{range_with_len, filter, find, list_all, sum_by, fold}
 use Rattle.std.specs.Option.{option_map_or}
 use Rattle.std.proofs.lemmas.List.{length-set, get_or-set_same, get_or-set_other, append-nil}
 use Rattle.std.proofs.lemmas.List.Elements.{filter_more}
 use Rattle.std.proofs.lemmas.List.FromFn.{fill_by_all, get_or-map-range_with_len, length-map-range_with_len, map-range_with_len_more}
-use Rattle.std.proofs.lemmas.Bool.{cases_eq, and_parts, eq-eqb, ne_eqb, cond-false}
+use Rattle.std.proofs.lemmas.Map.Views.{any-filter_same}
+use Rattle.std.proofs.lemmas.Bool.{cases_Bool, false_from_ne_true, both_ways, cases_eq, and_parts, eq-eqb, ne_eqb}
 use Rattle.fdr_table.specs.Rows.{ParamRow, PlaceRow}
 use Rattle.fdr_table.specs.declared.fault.TableFault.{TableFault}
 use Rattle.fdr_table.specs.declared.fault.TableFault.TheVariants as fault
@@ -14,6 +15,7 @@ use Rattle.fdr_check.specs.Occurrences.{is_part, part_width, part_occurrences, o
 use Rattle.fdr_check.specs.Soundness.{has_part}
 use Rattle.fdr_check.specs.Faults.{last_part, has_parts, count_of, off_rate, rate_of}
 use Rattle.fdr_check.specs.Groups.{places_of, grouped}
+use Rattle.fdr_check.proofs.Searches.{find_agree}
 use Rattle.fdr_lists.proofs.Sums.{sum_by_same}
 use Rattle.fdr_lists.proofs.Filters.{list_all_same, filter_of_filter}
 
@@ -53,31 +55,12 @@ pub group_at : (places : List PlaceRow) (count n : ℕ) (groups : List (List Pla
 group_at places count n groups g are within read =
     read ∙ ap (λ gs. get_or gs n g) are ∙ get_or-map-range_with_len (places_of places) 0 count n n g within (omega arith)
 
-fails_too : (t : Bool) → (t ≡ true → false ≡ true) → t ≡ false
-fails_too true h = sym (h refl)
-fails_too false h = refl
-
-find_kept_one : {X : Type 0} (t : X → Bool) (b : Bool) (x : X) (kept : List X) (rest : Option X) → (t x ≡ true → b ≡ true) → find t kept ≡ rest
-    → find t (cond b (x ∷ kept) kept) ≡ cond (t x) (Some x) rest
-find_kept_one t true x kept rest h e = ap (λ o. cond (t x) (Some x) o) e
-find_kept_one t false x kept rest h e = e ∙ sym (cond-false (t x) (Some x) rest (fails_too (t x) h))
-
 find_kept : {X : Type 0} (t f : X → Bool) (xs : List X) → ((x : X) → t x ≡ true → f x ≡ true) → find t (filter f xs) ≡ find t xs
 find_kept t f [] h = refl
-find_kept t f (x ∷ xs) h = find_kept_one t (f x) x (filter f xs) (find t xs) (h x) (find_kept t f xs h)
-
-any_kept_one : {X : Type 0} (t : X → Bool) (b : Bool) (x : X) (kept : List X) (rest : Bool) → (t x ≡ true → b ≡ true) → list_any t kept ≡ rest
-    → list_any t (cond b (x ∷ kept) kept) ≡ (t x || rest)
-any_kept_one t true x kept rest h e = ap (λ o. t x || o) e
-any_kept_one t false x kept rest h e = e ∙ ap (λ b. b || rest) (sym (fails_too (t x) h))
-
-any_kept : {X : Type 0} (t f : X → Bool) (xs : List X) → ((x : X) → t x ≡ true → f x ≡ true) → list_any t (filter f xs) ≡ list_any t xs
-any_kept t f [] h = refl
-any_kept t f (x ∷ xs) h = any_kept_one t (f x) x (filter f xs) (list_any t xs) (h x) (any_kept t f xs h)
-
-find_same : {X : Type 0} (t u : X → Bool) (xs : List X) → ((x : X) → t x ≡ u x) → find t xs ≡ find u xs
-find_same t u [] h = refl
-find_same t u (x ∷ xs) h = ap (λ b. cond b (Some x) (find t xs)) (h x) ∙ ap (cond (u x) (Some x)) (find_same t u xs h)
+find_kept t f (x ∷ xs) h = ⊎_elim
+    (λ (kept : f x ≡ true). rw (kept, find_kept t f xs h) refl)
+    (λ (out : f x ≡ false). rw (out, find_kept t f xs h, false_from_ne_true (t x) (λ yes. both_ways (f x) out (h x yes))) refl)
+    (cases_Bool (f x))
 
 is_of : (n part : ℕ) (p : PlaceRow) → is_part n part p ≡ true → (p.param == n) ≡ true
 is_of n part p h = (and_parts (p.param == n) (p.part == part) h).0
@@ -86,7 +69,7 @@ itself : (n : ℕ) (p : PlaceRow) → (p.param == n) ≡ true → (p.param == n)
 itself n p h = h
 
 has_part_of : (places : List PlaceRow) (n part : ℕ) → has_part (places_of places n) n part ≡ has_part places n part
-has_part_of places n part = any_kept (is_part n part) (λ (p : PlaceRow). p.param == n) places (is_of n part)
+has_part_of places n part = any-filter_same (is_part n part) (λ (p : PlaceRow). p.param == n) true (is_of n part) places
 
 pub part_width_of : (places : List PlaceRow) (n part : ℕ) → part_width (places_of places n) n part ≡ part_width places n part
 unfolding part_width
@@ -139,10 +122,12 @@ pub rate_of_own : (w : ℕ) (places : List PlaceRow) (n : ℕ) (p : ParamRow) �
 unfolding rate_of off_rate
 rate_of_own w places n p =
     let own = places_of places n in
-    let same = find_same (λ part. has_part own n part && not (count_of w own n part == p.rate))
-    (λ part. has_part places n part && not (count_of w places n part == p.rate)) (range_with_len 1 4)
-    (λ part. ap (λ b. b && not (count_of w own n part == p.rate)) (has_part_of places n part)
-    ∙ ap (λ k. has_part places n part && not (k == p.rate)) (count_of_own w places n part)) in
+    let each : (part : ℕ) → (has_part own n part && not (count_of w own n part == p.rate))
+    ≡ (has_part places n part && not (count_of w places n part == p.rate)) =
+    λ part. ap (λ b. b && not (count_of w own n part == p.rate)) (has_part_of places n part)
+    ∙ ap (λ k. has_part places n part && not (k == p.rate)) (count_of_own w places n part) in
+    let same = find_agree (λ part. has_part own n part && not (count_of w own n part == p.rate))
+    (λ part. has_part places n part && not (count_of w places n part == p.rate)) (range_with_len 1 4) (λ k d l. each (get_or (range_with_len 1 4) k d)) in
     ap (option_map (λ part. (p.row, fault.Rate p.rate (count_of w own n part)))) same
     ∙ counted_same (find (λ part. has_part places n part && not (count_of w places n part == p.rate)) (range_with_len 1 4)) (λ part. count_of w own n part)
     (λ part. count_of w places n part) p (count_of_own w places n)

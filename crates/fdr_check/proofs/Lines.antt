@@ -1,5 +1,5 @@
 -- The lines of the report.
-use Rattle.std.proofs.Common.{◌≡◌, ℕ, ◌+◌, ◌<◌, ◌≤◌, ◌++◌, List, length, get_or, take, ap, sym, ◌∙◌, suc, zero-add, arith}
+use Rattle.std.proofs.Common.{◌≡◌, ℕ, ◌+◌, ◌<◌, ◌≤◌, ◌++◌, List, length, get_or, take, ap, sym, ◌∙◌}
 use Rattle.std.specs.List.{flat_map, enumerate_from}
 use Rattle.std.proofs.lemmas.List.{append_assoc, take_all}
 use Rattle.fdr_table.specs.Rows.{ParamRow, PlaceRow, TableRows}
@@ -7,7 +7,8 @@ use Rattle.fdr_check.specs.Occurrences.{occurrences}
 use Rattle.fdr_check.specs.Report.{is_even, frame_line, param_line, report_of}
 use Rattle.fdr_check.specs.Groups.{grouped}
 use Rattle.fdr_check.proofs.Grouping.{group_at}
-use Rattle.fdr_check.proofs.Slotting.{is_even_of, lines_more}
+use Rattle.fdr_check.proofs.Slotting.{is_even_of}
+use Rattle.fdr_check.proofs.Stretches.{flat_map-enumerate_from_more}
 
 abbrev pub line_at : TableRows → ℕ × ParamRow → List ℕ
 line_at t e = param_line (is_even t.frame.words t.places e.0 e.1.rate) e.1
@@ -24,11 +25,9 @@ line_step t params groups i p g w front old new line words are l is read so_far 
     let even : is_even w g i p.rate ≡ is_even t.frame.words t.places i p.rate =
     ap (λ k. is_even k g i p.rate) words ∙ ap (λ ps. is_even t.frame.words ps i p.rate) (group_at t.places (length params) i groups g are l read)
     ∙ is_even_of t.frame.words t.places i p.rate in
-    let here : line ≡ line_at t (0 + i, get_or params i p) =
-    line_is ∙ ap (λ b. param_line b p) even ∙ ap (λ (x : ParamRow). line_at t (i, x)) is ∙ ap (λ k. line_at t (k, get_or params i p)) (sym (zero-add i)) in
-    let e : suc i ≡ i + 1 = omega arith in
+    let here : line ≡ line_at t (i, get_or params i p) = line_is ∙ ap (λ b. param_line b p) even ∙ ap (λ (x : ParamRow). line_at t (i, x)) is in
     more ∙ ap (λ xs. xs ++ line) so_far ∙ append_assoc front before line ∙ ap (λ xs. front ++ (before ++ xs)) here
-    ∙ ap (λ xs. front ++ xs) (sym (lines_more (line_at t) 0 params i p l) ∙ ap (λ k. flat_map (line_at t) (enumerate_from 0 (take k params))) e)
+    ∙ ap (λ xs. front ++ xs) (sym (flat_map-enumerate_from_more (line_at t) params i p l))
 
 pub all_lines : (t : TableRows) (params : List ParamRow) (i : ℕ) (text : List ℕ) → params ≡ t.params → length params ≤ i
     → text ≡ first_line t ++ flat_map (line_at t) (enumerate_from 0 (take i params)) → text ≡ report_of t

@@ -13,6 +13,7 @@ use Rattle.std.proofs.lemmas.Nat.{pow_pos}
 use Rattle.std.proofs.lemmas.Nat.Bits.{bit_at_or, bit_at_and, bit_at-lt, bit_at-zero, bit_at_above, bit_at-trailing_zeros, bit_at_mask_inside}
 use Rattle.std.proofs.lemmas.Nat.Bits.{bit_at_mask_below}
 use Rattle.std.proofs.lemmas.Nat.Bits.{bit_at_mask_above}
+use Rattle.std.proofs.lemmas.Bool.Decides.{nat_tests}
 use Rattle.std.proofs.lemmas.Bool.{and_from, and_left, and_right, and_parts, cases_eq, cases_lt, false_from_ne_true, eq-eqb, eqb-true}
 use Rattle.std.proofs.lemmas.Bool.{ne_eqb}
 use Rattle.std.proofs.lemmas.Bool.{le-leb, lt-leb, lt-ltb, le-ltb}
@@ -89,22 +90,10 @@ slots_rise w p = AllPairs-from_increasing (slots_of w p) (IsStrictlyIncreasing-f
 -- ---- bits of marks
 
 or_test : (x y : ℕ) → x < 2 → y < 2 → (max x y == 1) ≡ ((x == 1) || (y == 1))
-or_test zero zero l m = refl
-or_test zero (suc zero) l m = refl
-or_test zero (suc (suc y)) l m = absurd (omega arith)
-or_test (suc zero) zero l m = refl
-or_test (suc zero) (suc zero) l m = refl
-or_test (suc zero) (suc (suc y)) l m = absurd (omega arith)
-or_test (suc (suc x)) y l m = absurd (omega arith)
+or_test x y l m = grind (arith, nat_tests)
 
 and_test : (x y : ℕ) → x < 2 → y < 2 → (min x y == 1) ≡ ((x == 1) && (y == 1))
-and_test zero zero l m = refl
-and_test zero (suc zero) l m = refl
-and_test zero (suc (suc y)) l m = absurd (omega arith)
-and_test (suc zero) zero l m = refl
-and_test (suc zero) (suc zero) l m = refl
-and_test (suc zero) (suc (suc y)) l m = absurd (omega arith)
-and_test (suc (suc x)) y l m = absurd (omega arith)
+and_test x y l m = grind (arith, nat_tests)
 
 or_bit : (m bits c : ℕ) → (bit_at (bit_or m bits) c == 1) ≡ ((bit_at m c == 1) || (bit_at bits c == 1))
 or_bit m bits c = ap (λ x. x == 1) (bit_at_or m bits c) ∙ or_test (bit_at m c) (bit_at bits c) (bit_at-lt m c) (bit_at-lt bits c)
@@ -209,6 +198,13 @@ shared_parts w p marks bits b its shared =
       eqb-true _ _ (and_bit m bits (b % 12) ∙ and_from (bit_at m (b % 12) == 1) (bit_at bits (b % 12) == 1) two.1 bit),
     )
 
+none_there : (w : ℕ) (p : PlaceRow) (marks : List ℕ) (bits b k : ℕ) → AreItsBits p bits → is_shared w p marks b ≡ true → k ≡ b / 12
+    → NoneShared marks bits k → ⊥
+none_there w p marks bits b k its shared here none =
+    let zero_is : bit_and (get_or marks (b / 12) 0) bits ≡ 0 = ap (λ j. bit_and (get_or marks j 0) bits) (sym here) ∙ none in
+    let bit : bit_at (bit_and (get_or marks (b / 12) 0) bits) (b % 12) ≡ 0 = ap (λ x. bit_at x (b % 12)) zero_is ∙ bit_at-zero (b % 12) in
+    omega (arith, bit, (shared_parts w p marks bits b its shared).1)
+
 pub no_marked : (w : ℕ) (p : PlaceRow) (slots marks : List ℕ) (bits i : ℕ) → slots ≡ slots_of w p → AreItsBits p bits → length slots ≤ i
     → ((j : ℕ) → j < i → j < length slots → NoneShared marks bits (get_or slots j 0)) → find (is_shared w p marks) (range_with_len 0 (768 * w)) ≡ None
 no_marked w p slots marks bits i are its past none =
@@ -217,10 +213,7 @@ no_marked w p slots marks bits i are its past none =
     let at = slot_index w p (b / 12) (omega arith) parts.0 in
     let long = ap length are in
     let here : get_or slots at.0 0 ≡ b / 12 = ap (λ xs. get_or xs at.0 0) are ∙ at.2 in
-    let zero_is : bit_and (get_or marks (b / 12) 0) bits ≡ 0 =
-    ap (λ k. bit_and (get_or marks k 0) bits) (sym here) ∙ none at.0 (omega (arith, long, at.1)) (omega (arith, long, at.1)) in
-    let bit : bit_at (bit_and (get_or marks (b / 12) 0) bits) (b % 12) ≡ 0 = ap (λ x. bit_at x (b % 12)) zero_is ∙ bit_at-zero (b % 12) in
-    omega (arith, bit, parts.1)))
+    none_there w p marks bits b _ its shared here (none at.0 (omega (arith, long, at.1)) (omega (arith, long, at.1)))))
 
 -- the lowest bit that a mark shares with the place
 pub lowest_shared : (m bits : ℕ) (p : PlaceRow) → AreItsBits p bits → bit_and m bits ≢ 0 →
@@ -265,11 +258,7 @@ marked_here w p slots marks bits i slot m bit are its l is read none some bit_is
     let index = slot_index w p (b / 12) (omega (arith, bit_is, few, inside)) parts.0 in
     let there : get_or slots index.0 0 ≡ b / 12 = ap (λ xs. get_or xs index.0 0) are ∙ index.2 in
     elim (cases_lt index.0 i) [
-      | inl before ↦
-          let zero_is : bit_and (get_or marks (b / 12) 0) bits ≡ 0 =
-          ap (λ k. bit_and (get_or marks k 0) bits) (sym there) ∙ none index.0 before (omega (arith, long, index.1)) in
-          let gone : bit_at (bit_and (get_or marks (b / 12) 0) bits) (b % 12) ≡ 0 = ap (λ x. bit_at x (b % 12)) zero_is ∙ bit_at-zero (b % 12) in
-          omega (arith, gone, parts.1)
+      | inl before ↦ none_there w p marks bits b _ its shared there (none index.0 before (omega (arith, long, index.1)))
       | inr late ↦ elim (cases_eq index.0 i) [
         | inl e ↦
             let same : b / 12 ≡ slot =

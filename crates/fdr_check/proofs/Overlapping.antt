@@ -1,11 +1,11 @@
 -- Overlaps, place by place.
 use Rattle.std.proofs.Common.{◌≡◌, ℕ, ◌+◌, ◌*◌, ◌<◌, ◌≤◌, Bool, true, false, ◌||◌, ◌&&◌, List, [], ◌∷◌, ◌++◌, Option, Some, None, option_map, length, get_or}
-use Rattle.std.proofs.Common.{take, map, cond, is_some, refl, subst, ap, sym, ◌∙◌, zero, suc, zero-add, arith}
+use Rattle.std.proofs.Common.{take, map, is_some, refl, subst, ap, sym, ◌∙◌, arith}
 use Rattle.std.specs.List.{find, list_any, range_with_len, enumerate_from, All}
 use Rattle.std.proofs.lemmas.List.{take_more, take_all}
 use Rattle.std.proofs.lemmas.List.Folds.{list_any-append}
 use Rattle.std.proofs.lemmas.List.Elements.{All-head, All-tail}
-use Rattle.std.proofs.lemmas.Bool.{false_from_ne_true, and_parts, and_from, or_left, or_right, both_ways}
+use Rattle.std.proofs.lemmas.Bool.{false_from_ne_true, both_ways}
 use Rattle.fdr_table.specs.Rows.{PlaceRow}
 use Rattle.fdr_table.specs.Reading.{first_some}
 use Rattle.fdr_table.specs.declared.fault.TableFault.{TableFault}
@@ -13,15 +13,10 @@ use Rattle.fdr_check.specs.Occurrences.{frame_bits}
 use Rattle.fdr_check.specs.Soundness.{covers}
 use Rattle.fdr_check.specs.Faults.{overlap_at, first_shared, overlap_with, overlap_among}
 use Rattle.fdr_check.specs.Walks.{is_marked, AreMarks}
-use Rattle.fdr_check.proofs.Searches.{first_some_none, first_some_more, first_some_here, first_later, first_at_last}
+use Rattle.fdr_check.proofs.Searches.{find_agree, first_some_none, first_some_more, first_some_here, first_at_last}
+use Rattle.fdr_lists.proofs.Ranges.{All-range}
 use Rattle.fdr_check.proofs.Ranges.{fails_from_find, find_no}
 use Rattle.std.proofs.Math.Bool.{or-false}
-
-find_same : (t u : ℕ → Bool) (a n : ℕ) → ((x : ℕ) → a ≤ x → x < a + n → t x ≡ u x) → find t (range_with_len a n) ≡ find u (range_with_len a n)
-find_same t u a zero same = refl
-find_same t u a (suc n) same =
-    ap (λ b. cond b (Some a) (find t (range_with_len (a + 1) n))) (same a (omega arith) (omega arith))
-    ∙ ap (cond (u a) (Some a)) (find_same t u (a + 1) n (λ x low high. same x (omega arith) (omega arith)))
 
 whole_superframe : (w : ℕ) → 16 * frame_bits w ≡ 768 * w
 whole_superframe w = omega arith
@@ -31,8 +26,10 @@ pub shared_by_marks : (w : ℕ) (p q : PlaceRow) (marks : List ℕ) → AreMarks
     → find (λ b. covers w p b && is_marked marks b) (range_with_len 0 (768 * w)) ≡ first_shared w p q
 unfolding first_shared
 shared_by_marks w p q marks are =
-    find_same (λ b. covers w p b && is_marked marks b) (λ b. covers w p b && covers w q b) 0 (768 * w)
-    (λ b low high. ap (λ m. covers w p b && m) (are.each b (omega arith) ∙ or-false (covers w q b)))
+    let mine : ℕ → Bool = λ b. covers w p b && is_marked marks b in
+    let both : ℕ → Bool = λ b. covers w p b && covers w q b in
+    find_agree mine both (range_with_len 0 (768 * w)) (All-range (λ b. mine b ≡ both b) 0 (768 * w)
+    (λ b low high. ap (λ m. covers w p b && m) (are.each b (omega arith) ∙ or-false (covers w q b))))
     ∙ ap (λ n. find (λ b. covers w p b && covers w q b) (range_with_len 0 n)) (sym (whole_superframe w))
 
 pub marks_push : (w : ℕ) (places : List PlaceRow) (p : PlaceRow) (old new : List ℕ) → AreMarks w places old → length new ≡ length old
@@ -78,25 +75,25 @@ no_overlap_with w (p ∷ above) q all =
     let P : PlaceRow → Type 0 = λ p. first_shared w p q ≡ None in
     overlap_with_cons w p above q (All-head P p above all) (no_overlap_with w above q (All-tail P p above all))
 
+-- a bit of the one that neither of the others has
+neither : (q p rest : Bool) → (q && (p || rest)) ≡ false → ((p && q) ≡ false) × ((q && rest) ≡ false)
+neither false false rest none = (refl, refl)
+neither false true rest none = (refl, refl)
+neither true false rest none = (refl, none)
+neither true true rest none = absurd (cc)
+
 first_unshared : (w : ℕ) (p : PlaceRow) (above : List PlaceRow) (q : PlaceRow)
     → ((b : ℕ) → b < 768 * w → (covers w q b && (covers w p b || list_any (λ (x : PlaceRow). covers w x b) above)) ≡ false) → first_shared w p q ≡ None
 unfolding first_shared
 first_unshared w p above q h =
-    find_no (λ b. covers w p b && covers w q b) 0 (16 * frame_bits w) (λ b low high. false_from_ne_true (covers w p b && covers w q b) (λ both.
-    let parts = and_parts (covers w p b) (covers w q b) both in
-    both_ways (covers w q b && (covers w p b || list_any (λ (x : PlaceRow). covers w x b) above)) (h b (omega (arith, whole_superframe w)))
-    (and_from (covers w q b) (covers w p b || list_any (λ (x : PlaceRow). covers w x b) above) parts.1
-    (or_left (covers w p b) (list_any (λ (x : PlaceRow). covers w x b) above) parts.0))))
+    find_no (λ b. covers w p b && covers w q b) 0 (16 * frame_bits w) (λ b low high.
+    (neither (covers w q b) (covers w p b) (list_any (λ (x : PlaceRow). covers w x b) above) (h b (omega (arith, whole_superframe w)))).0)
 
 unshared : (w : ℕ) (above : List PlaceRow) (q : PlaceRow) → ((b : ℕ) → b < 768 * w → (covers w q b && list_any (λ (p : PlaceRow). covers w p b) above) ≡ false)
     → overlap_with w above q ≡ None
 unshared w [] q h = overlap_with_no_place w q
 unshared w (p ∷ above) q h = overlap_with_cons w p above q (first_unshared w p above q h)
-    (unshared w above q (λ b l. false_from_ne_true (covers w q b && list_any (λ (p : PlaceRow). covers w p b) above) (λ yes.
-    let parts = and_parts (covers w q b) (list_any (λ (p : PlaceRow). covers w p b) above) yes in
-    both_ways (covers w q b && (covers w p b || list_any (λ (p : PlaceRow). covers w p b) above)) (h b l)
-    (and_from (covers w q b) (covers w p b || list_any (λ (p : PlaceRow). covers w p b) above) parts.0
-    (or_right (covers w p b) (list_any (λ (p : PlaceRow). covers w p b) above) parts.1)))))
+    (unshared w above q (λ b l. (neither (covers w q b) (covers w p b) (list_any (λ (p : PlaceRow). covers w p b) above) (h b l)).1))
 
 -- unmarked bits are shared with no place above
 pub none_by_marks : (w : ℕ) (above : List PlaceRow) (q : PlaceRow) (marks : List ℕ)
@@ -127,26 +124,12 @@ none_of (Some x) h = absurd (cc)
 abbrev pub overlap_by_index : ℕ → List PlaceRow → ℕ × PlaceRow → Option (ℕ × TableFault)
 overlap_by_index w places e = overlap_with w (take e.0 places) e.1
 
-overlap_here : (w : ℕ) (places : List PlaceRow) (i : ℕ) (q : PlaceRow) (o : Option (ℕ × TableFault)) → q ≡ get_or places i q
-    → o ≡ overlap_with w (take i places) q → overlap_by_index w places (0 + i, get_or places i q) ≡ o
-overlap_here w places i q o is e =
-    ap (λ k. overlap_by_index w places (k, get_or places i q)) (zero-add i) ∙ ap (overlap_with w (take i places)) (sym is) ∙ sym e
-
 pub overlap_among_found : (w : ℕ) (places : List PlaceRow) (i : ℕ) (q : PlaceRow) (o : Option (ℕ × TableFault)) → i < length places → q ≡ get_or places i q
     → first_some (map (overlap_by_index w places) (enumerate_from 0 (take i places))) ≡ None → o ≡ overlap_with w (take i places) q → is_some o ≡ true
     → o ≡ overlap_among w places
 unfolding overlap_among
 overlap_among_found w places i q None l is none e some = absurd (cc)
-overlap_among_found w places i q (Some f) l is none e some =
-    sym (first_at_last (overlap_by_index w places) 0 places i q f l none (overlap_here w places i q (Some f) is e))
-
-pub overlap_among_not_yet : (w : ℕ) (places : List PlaceRow) (i : ℕ) (q : PlaceRow) (o : Option (ℕ × TableFault)) → i < length places → q ≡ get_or places i q
-    → first_some (map (overlap_by_index w places) (enumerate_from 0 (take i places))) ≡ None → o ≡ overlap_with w (take i places) q → is_some o ≡ false
-    → first_some (map (overlap_by_index w places) (enumerate_from 0 (take (i + 1) places))) ≡ None
-overlap_among_not_yet w places i q o l is none e some =
-    let next : suc i ≡ i + 1 = omega arith in
-    ap (λ k. first_some (map (overlap_by_index w places) (enumerate_from 0 (take k places)))) (sym next)
-    ∙ first_later (overlap_by_index w places) 0 places i q l none (overlap_here w places i q o is e ∙ none_of o some)
+overlap_among_found w places i q (Some f) l is none e some = sym (first_at_last (overlap_by_index w places) places i q f l is none (sym e))
 
 pub no_overlap_among : (w : ℕ) (places : List PlaceRow) (i : ℕ) → length places ≤ i
     → first_some (map (overlap_by_index w places) (enumerate_from 0 (take i places))) ≡ None → None ≡ overlap_among w places

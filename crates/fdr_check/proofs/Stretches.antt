@@ -1,12 +1,13 @@
--- Stretches of a range: what passes a test in them, and what is made of them.
+-- Stretches of a range: what passes a test in them, and what is made of them; numbered elements.
 use Rattle.std.proofs.Common.{◌≡◌, ℕ, ◌+◌, ◌*◌, ◌-◌, ◌<◌, ◌≤◌, Bool, true, false, cond, List, [], ◌∷◌, ◌++◌, map, refl, ap, sym, ◌∙◌, zero, suc, add-zero}
 use Rattle.std.proofs.Common.{zero-add}
-use Rattle.std.proofs.Common.{arith}
-use Rattle.std.specs.List.{range_with_len, flat_map, filter}
-use Rattle.std.proofs.lemmas.List.{append-nil, append_assoc}
+use Rattle.std.proofs.Common.{length, get_or, take, arith}
+use Rattle.std.specs.List.{range_with_len, flat_map, filter, enumerate_from}
+use Rattle.std.proofs.lemmas.List.{append-nil, append_assoc, take_more, length-take-le}
 use Rattle.std.proofs.lemmas.List.Concat.{flat_map-append}
 use Rattle.std.proofs.lemmas.List.Elements.{filter-append}
 use Rattle.fdr_lists.proofs.Ranges.{range_more}
+use Rattle.fdr_lists.proofs.Numbered.{enumerate_from_push}
 
 pub range_append : (a n m : ℕ) → range_with_len a (n + m) ≡ range_with_len a n ++ range_with_len (a + n) m
 range_append a zero m = ap (range_with_len a) (zero-add m) ∙ ap (λ b. range_with_len b m) (sym (add-zero a))
@@ -67,19 +68,24 @@ moved_one : (g : ℕ → ℕ) (c : Bool) (a b : ℕ) (xs : List ℕ) → g b ≡
 moved_one g true a b xs head = ap (λ k. k ∷ map g xs) (sym head)
 moved_one g false a b xs head = refl
 
+-- what holds of two stretches number by number holds of the first two, and of the rest
+pub first_and_rest : (P : ℕ → ℕ → Type 0) (a b n : ℕ) → ((i : ℕ) → i < suc n → P (a + i) (b + i))
+    → P a b × ((i : ℕ) → i < n → P (a + 1 + i) (b + 1 + i))
+first_and_rest P a b n each = (
+  rw (add-zero a, add-zero b) at (each 0 (omega arith)),
+  λ i l. let one : a + 1 + i ≡ a + (i + 1) = omega arith in let two : b + 1 + i ≡ b + (i + 1) = omega arith in rw (one, two) (each (i + 1) (omega arith)),
+)
+
 -- the same test, elsewhere in the range
 pub filter_moved : (t u : ℕ → Bool) (g : ℕ → ℕ) (a b n : ℕ) → ((i : ℕ) → i < n → t (a + i) ≡ u (b + i)) → ((i : ℕ) → i < n → g (b + i) ≡ a + i)
     → filter t (range_with_len a n) ≡ map g (filter u (range_with_len b n))
 filter_moved t u g a b zero same moved = refl
 filter_moved t u g a b (suc n) same moved =
-    let first : t a ≡ u b = ap t (sym (add-zero a)) ∙ same 0 (omega arith) ∙ ap u (add-zero b) in
-    let head : g b ≡ a = ap g (sym (add-zero b)) ∙ moved 0 (omega arith) ∙ add-zero a in
-    kept_or_not t (u b) a (range_with_len (a + 1) n) first
-    ∙ ap (λ xs. cond (u b) (a ∷ xs) xs) (filter_moved t u g (a + 1) (b + 1) n
-    (λ i l. let one : a + 1 + i ≡ a + (i + 1) = omega arith in let two : b + (i + 1) ≡ b + 1 + i = omega arith in ap t one ∙ same (i + 1) (omega arith)
-    ∙ ap u two)
-    (λ i l. let one : b + 1 + i ≡ b + (i + 1) = omega arith in let two : a + (i + 1) ≡ a + 1 + i = omega arith in ap g one ∙ moved (i + 1) (omega arith) ∙ two))
-    ∙ moved_one g (u b) a b (filter u (range_with_len (b + 1) n)) head
+    let tests = first_and_rest (λ x y. t x ≡ u y) a b n same in
+    let moves = first_and_rest (λ x y. g y ≡ x) a b n moved in
+    kept_or_not t (u b) a (range_with_len (a + 1) n) tests.0
+    ∙ ap (λ xs. cond (u b) (a ∷ xs) xs) (filter_moved t u g (a + 1) (b + 1) n tests.1 moves.1)
+    ∙ moved_one g (u b) a b (filter u (range_with_len (b + 1) n)) moves.0
 
 -- ---- what is made of the numbers
 
@@ -121,3 +127,19 @@ pub stretch_more : {A : Type 0} (f : ℕ → List A) (before old new : List A) (
 stretch_more f before old new a n m j so_far more e last =
     more ∙ ap (λ xs. xs ++ f j) so_far ∙ append_assoc before (flat_map f (range_with_len a n)) (f j)
     ∙ ap (λ xs. before ++ xs) (sym (flat_map-range_more f a n j e)) ∙ ap (λ k. before ++ flat_map f (range_with_len a k)) (sym last)
+
+-- ---- numbered elements
+
+pub enumerate_from_more : {X : Type 0} (xs : List X) (i : ℕ) (d : X) → i < length xs
+    → enumerate_from 0 (take (i + 1) xs) ≡ enumerate_from 0 (take i xs) ++ (i, get_or xs i d) ∷ []
+enumerate_from_more xs i d l =
+    let e : 0 + length (take i xs) ≡ i = omega (arith, length-take-le i xs) in
+    ap (enumerate_from 0) (take_more xs i d l) ∙ enumerate_from_push 0 (take i xs) (get_or xs i d)
+    ∙ ap (λ k. enumerate_from 0 (take i xs) ++ (k, get_or xs i d) ∷ []) e
+
+pub flat_map-enumerate_from_more : {X A : Type 0} (f : ℕ × X → List A) (xs : List X) (i : ℕ) (d : X) → i < length xs
+    → flat_map f (enumerate_from 0 (take (i + 1) xs)) ≡ flat_map f (enumerate_from 0 (take i xs)) ++ f (i, get_or xs i d)
+flat_map-enumerate_from_more {X} f xs i d l =
+    let e : ℕ × X = (i, get_or xs i d) in
+    ap (flat_map f) (enumerate_from_more xs i d l) ∙ flat_map-append f (enumerate_from 0 (take i xs)) (e ∷ [])
+    ∙ ap (λ t. flat_map f (enumerate_from 0 (take i xs)) ++ t) (append-nil (f e))

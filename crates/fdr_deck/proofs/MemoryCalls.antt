@@ -36,18 +36,19 @@ earlier [] e now held leaves t m le is = inl (omega arith, inl is)
 earlier (x ∷ es) e now held leaves t m le (inl here) = inl here
 earlier (x ∷ es) e now held leaves t m le (inr since) = inr (earlier es e now (held_by x.call held) (left_by x.call held leaves) (t - 1) m (omega arith) since)
 
-no_more : (es : List Entry) (e : Entry) (now : Numbers) (held : List ℕ) (leaves : List ℕ → Type 0) (t : ℕ) (m : Moment) → t ≤ length es
-    → moments_after (es ++ e ∷ []) now held leaves t m
-    → moments_after es e.numbers held leaves t m ⊎ moments_after (es ++ e ∷ []) now held leaves (length es) m
+-- a moment since a call of a front part is one of that part, whatever its numbers are now, or of what is behind it
+pub no_more : (es rest : List Entry) (any now : Numbers) (held : List ℕ) (leaves : List ℕ → Type 0) (t : ℕ) (m : Moment) → t ≤ length es
+    → moments_after (es ++ rest) now held leaves t m
+    → moments_after es any held leaves t m ⊎ moments_after (es ++ rest) now held leaves (length es) m
 unfolding moments_after
-no_more [] e now held leaves t m le (inl here) = inr (inl (refl, here.1))
-no_more [] e now held leaves t m le (inr since) = inr (inr since)
-no_more (x ∷ es) e now held leaves t m le (inl here) = inl (inl here)
-no_more (x ∷ es) e now held leaves t m le (inr since) =
+no_more [] rest any now held leaves t m le since =
+    let first : t ≡ 0 = omega (arith, le) in inr (subst (λ (k : ℕ). moments_after rest now held leaves k m) first since)
+no_more (x ∷ es) rest any now held leaves t m le (inl here) = inl (inl here)
+no_more (x ∷ es) rest any now held leaves t m le (inr since) =
     let n : suc (length es) - 1 ≡ length es = omega arith in
-    ⊎_elim (λ was. inl (inr was)) (λ is. inr (inr (subst (λ (k : ℕ). moments_after (es ++ e ∷ []) now (held_by x.call held) (left_by x.call held leaves) k m)
+    ⊎_elim (λ was. inl (inr was)) (λ is. inr (inr (subst (λ (k : ℕ). moments_after (es ++ rest) now (held_by x.call held) (left_by x.call held leaves) k m)
     (sym n) is)))
-    (no_more es e now (held_by x.call held) (left_by x.call held leaves) (t - 1) m (omega arith) since)
+    (no_more es rest any now (held_by x.call held) (left_by x.call held leaves) (t - 1) m (omega arith) since)
 
 -- the moments of the last call
 last_call : (es : List Entry) (e : Entry) (now : Numbers) (held : List ℕ) (leaves : List ℕ → Type 0) (t : ℕ) (m : Moment) → length es ≤ t
@@ -87,8 +88,8 @@ module _ (call : Call) (old new : Memory) (entered : IsEntered call old new) whe
     earlier = λ told t m le since. earlier old.entries (record { call = call; numbers = old.numbers }) new.numbers old.first (λ image. image ≡ old.first)
         t m le since;
     added = λ told t m le since. falls old.entries (record { call = call; numbers = old.numbers }) new.numbers old.first t m le since;
-    no_more = λ told t m le since. no_more old.entries (record { call = call; numbers = old.numbers }) new.numbers old.first (λ image. image ≡ old.first)
-        t m le since;
+    no_more = λ told t m le since. no_more old.entries (record { call = call; numbers = old.numbers } ∷ []) old.numbers new.numbers old.first
+        (λ image. image ≡ old.first) t m le since;
   })
 
   pub last_entered : (m : Moment) → moments_after new.entries new.numbers new.first (λ image. image ≡ new.first) (length old.entries) m

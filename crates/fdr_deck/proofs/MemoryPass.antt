@@ -1,5 +1,6 @@
 -- Calls of the deck in memory that leave its disk: one that was entered as such, or found no memory.
-use Rattle.std.proofs.Common.{◌≡◌, ◌⊎◌, inl, inr, ⊎_elim, ℕ, suc, ◌-◌, ◌≤◌, List, [], ◌∷◌, length, subst, refl, sym, ap, ◌∙◌, arith}
+use Rattle.std.proofs.Common.{◌≡◌, ◌⊎◌, inl, inr, ⊎_elim, ℕ, ◌-◌, ◌≤◌, List, [], ◌∷◌, length, subst, refl, sym, ap, ◌∙◌, arith}
+use Rattle.std.proofs.lemmas.List.{append-nil}
 use Rattle.std.specs.Prelude.{min, max}
 use Rattle.fdr_deck.specs.State.{Moment}
 use Rattle.fdr_deck.specs.Disk.{KeepsDisk, LearnsExtent}
@@ -12,7 +13,7 @@ use Rattle.fdr_deck.specs.declared.calls.Call.TheVariants.{Pass}
 use Rattle.fdr_deck.specs.declared.announced.Announced.{Announced}
 use Rattle.fdr_deck.specs.declared.calls.Numbers.{Numbers}
 use Rattle.fdr_deck.specs.declared.calls.Entry.{Entry}
-use Rattle.fdr_deck.proofs.MemoryCalls.{passes_entered, time_entered}
+use Rattle.fdr_deck.proofs.MemoryCalls.{no_more, passes_entered, time_entered}
 use Rattle.fdr_deck.proofs.MemoryDisk.{keeps_disk_pass, within_pass, within_provide_pass, keeps_disk_unentered, passes_unentered, within_unentered}
 use Rattle.fdr_deck.proofs.MemoryDisk.{within_provide_unentered, time_unentered}
 
@@ -66,14 +67,9 @@ wider (e ∷ es) now later held leaves t m more (inr since) = inr (wider es now 
 
 no_other : (es : List Entry) (now later : Numbers) (held : List ℕ) (leaves : List ℕ → Type 0) (t : ℕ) (m : Moment) → t ≤ length es
     → moments_after es later held leaves t m → moments_after es now held leaves t m ⊎ moments_after es later held leaves (length es) m
-unfolding moments_after
-no_other [] now later held leaves t m le since = inr since
-no_other (e ∷ es) now later held leaves t m le (inl here) = inl (inl here)
-no_other (e ∷ es) now later held leaves t m le (inr since) =
-    let n : suc (length es) - 1 ≡ length es = omega arith in
-    ⊎_elim (λ was. inl (inr was)) (λ is. inr (inr (subst (λ (k : ℕ). moments_after es later (held_by e.call held) (left_by e.call held leaves) k m) (sym n)
-    is)))
-    (no_other es now later (held_by e.call held) (left_by e.call held leaves) (t - 1) m (omega arith) since)
+no_other es now later held leaves t m le =
+    subst (λ (l : List Entry). moments_after l later held leaves t m → moments_after es now held leaves t m ⊎ moments_after l later held leaves (length es) m)
+    (append-nil es) (no_more es [] now later held leaves t m le)
 
 module _ (count : ℕ) (old new : Memory) (entries : new.entries ≡ old.entries) (first : new.first ≡ old.first) (pulled : KeepsPulled old new)
     (least : least_announced new.numbers.announced ≡ min (least_announced old.numbers.announced) count)

@@ -58,6 +58,15 @@ KeepsTold-then old mid new first second = record {
       second.numbers;
 }
 
+-- while the announced number stays, the least since the last call falls no further, and the greatest rises no further
+pub KeepsTold-least : (tells : Tells) (old new : State) → IsSoundDeck tells old → KeepsTold old new → old.least ≤ new.least
+KeepsTold-least tells old new sound keeps =
+    ⊎_elim (λ fresh. omega (arith, fresh.0, keeps.told, sound.least)) (λ kept. omega (arith, kept.0)) keeps.numbers
+
+pub KeepsTold-greatest : (tells : Tells) (old new : State) → IsSoundDeck tells old → KeepsTold old new → new.greatest ≤ old.greatest
+KeepsTold-greatest tells old new sound keeps =
+    ⊎_elim (λ fresh. omega (arith, fresh.1, keeps.told, sound.greatest)) (λ kept. omega (arith, kept.1)) keeps.numbers
+
 KeepsLine-then : (old mid new : State) → KeepsLine old mid → KeepsLine mid new → KeepsLine old new
 KeepsLine-then old mid new first second = record { line = second.line ∙ first.line; taken = second.taken ∙ first.taken; before = second.before ∙ first.before }
 
@@ -112,10 +121,10 @@ IsQuiet-call tells P old mid new sound sound_mid quiet call moments after = reco
 }
   where
     least : old.least ≤ mid.least
-    least = ⊎_elim (λ fresh. omega (arith, fresh.0, quiet.passes.told.told, sound.least)) (λ kept. omega (arith, kept.0)) quiet.passes.told.numbers
+    least = KeepsTold-least tells old mid sound quiet.passes.told
 
     greatest : mid.greatest ≤ old.greatest
-    greatest = ⊎_elim (λ fresh. omega (arith, fresh.1, quiet.passes.told.told, sound.greatest)) (λ kept. omega (arith, kept.1)) quiet.passes.told.numbers
+    greatest = KeepsTold-greatest tells old mid sound quiet.passes.told
 
     before : IsTrue tells.stops → (image : List ℕ) → mid.may_leave image → P image
     before = IsQuiet-now tells P old mid sound_mid quiet

@@ -5,7 +5,7 @@ use Rattle.fdr_deck.specs.State.{State, Tells, Moment}
 use Rattle.fdr_deck.specs.Disk.{KeepsDisk, IsZeros}
 use Rattle.fdr_deck.specs.Moments.{IsSoundDeck, EachMoment, Within, WithinProvide}
 use Rattle.fdr_deck.specs.Calls.{Passes, IsQuiet, IsQuietMoment}
-use Rattle.fdr_deck.proofs.Moments.{Passes-then, EachMoment-then, IsQuiet-here, IsQuiet-keep}
+use Rattle.fdr_deck.proofs.Moments.{KeepsTold-least, KeepsTold-greatest, Passes-then, EachMoment-then, IsQuiet-here, IsQuiet-keep}
 
 -- the property is weakened
 pub IsQuiet-weaken : (tells : Tells) (P Q : List ℕ → Type 0) (old new : State) → IsQuiet tells P old new
@@ -26,10 +26,10 @@ IsQuiet-then tells P Q R old mid new sound first second one two = record {
 }
   where
     least : old.least ≤ mid.least
-    least = ⊎_elim (λ fresh. omega (arith, fresh.0, first.passes.told.told, sound.least)) (λ kept. omega (arith, kept.0)) first.passes.told.numbers
+    least = KeepsTold-least tells old mid sound first.passes.told
 
     greatest : mid.greatest ≤ old.greatest
-    greatest = ⊎_elim (λ fresh. omega (arith, fresh.1, first.passes.told.told, sound.greatest)) (λ kept. omega (arith, kept.1)) first.passes.told.numbers
+    greatest = KeepsTold-greatest tells old mid sound first.passes.told
 
     widen : IsTrue tells.stops → (m : Moment) → IsQuietMoment Q mid m → IsQuietMoment R old m
     widen told m quiet = record {

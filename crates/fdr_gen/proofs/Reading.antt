@@ -56,25 +56,13 @@ low_bit low high k n below =
     ∙ ap (λ x. x % 2) (add-mul-div_right low (high * 2 ^ m * 2) (pow_pos n))
     ∙ add-mul-mod_self_right (low / 2 ^ n) (high * 2 ^ m) 2
 
-reversed-low : (low high k n : ℕ) → n ≤ k → reversed_to (low + high * 2 ^ k) n ≡ reversed_to low n
-reversed-low low high k zero below = reversed_to_none (low + high * 2 ^ k) ∙ sym (reversed_to_none low)
-reversed-low low high k (suc n) below = omega (
-  arith,
-  reversed_to_more (low + high * 2 ^ k) n,
-  reversed_to_more low n,
-  reversed-low low high k n (omega arith),
-  low_bit low high k n (omega arith),
-)
-
-ones-low : (low high k n : ℕ) → n ≤ k → ones_to (low + high * 2 ^ k) n ≡ ones_to low n
-ones-low low high k zero below = ones_to_none (low + high * 2 ^ k) ∙ sym (ones_to_none low)
-ones-low low high k (suc n) below = omega (
-  arith,
-  ones_to_more (low + high * 2 ^ k) n,
-  ones_to_more low n,
-  ones-low low high k n (omega arith),
-  low_bit low high k n (omega arith),
-)
+-- what is made of the n lowest bits, one bit at a time, is made of the lower part
+low_bits : (f : ℕ → ℕ → ℕ) (more : ℕ → ℕ → ℕ) → ((m : ℕ) → f m 0 ≡ 0) → ((m n : ℕ) → f m (suc n) ≡ more (f m n) (m / 2 ^ n % 2))
+    → (low high k n : ℕ) → n ≤ k → f (low + high * 2 ^ k) n ≡ f low n
+low_bits f more none next low high k zero below = none (low + high * 2 ^ k) ∙ sym (none low)
+low_bits f more none next low high k (suc n) below =
+    next (low + high * 2 ^ k) n ∙ ap (λ x. more x ((low + high * 2 ^ k) / 2 ^ n % 2)) (low_bits f more none next low high k n (omega arith))
+    ∙ ap (more (f low n)) (low_bit low high k n (omega arith)) ∙ sym (next low n)
 
 -- a byte that is turned twice is what it was
 turns_back : list_all (λ x. reversed_to (reversed_to x 8) 8 == x) (range_with_len 0 256) ≡ true
@@ -111,7 +99,7 @@ one_more f fits =
     let with_bit : (f + 2 ^ 31) / 2 ^ 31 % 2 ≡ 1 = omega arith in
     let without : f / 2 ^ 31 % 2 ≡ 0 = omega arith in
     let low : ones_to (f + 2 ^ 31) 31 ≡ ones_to f 31 =
-    ap (λ x. ones_to x 31) (sym as_product) ∙ ones-low f 1 31 31 (omega arith) in
+    ap (λ x. ones_to x 31) (sym as_product) ∙ low_bits ones_to (λ x bit. x + bit) ones_to_none ones_to_more f 1 31 31 (omega arith) in
     omega (arith, ones_to_more (f + 2 ^ 31) 31, ones_to_more f 31, low, with_bit, without)
 
 made_odd : (f : ℕ) → f < 2 ^ 31 → is_odd (if is_odd f then f else f + 2 ^ 31) ≡ true
@@ -143,7 +131,9 @@ reads_label s number low =
     let top = w.0 in
     let high = s.sdi + 4 * bits_at number 11 21 + top * 2 ^ 23 in
     let parts : bus_word_of s number ≡ reversed_to s.label 8 + high * 2 ^ 8 = omega (arith, w.2) in
-    ap (λ x. reversed_to x 8) parts ∙ reversed-low (reversed_to s.label 8) high 8 8 (omega arith) ∙ label_turns s.label low
+    ap (λ x. reversed_to x 8) parts
+    ∙ low_bits reversed_to (λ x bit. x * 2 + bit) reversed_to_none reversed_to_more (reversed_to s.label 8) high 8 8 (omega arith)
+    ∙ label_turns s.label low
 
 pub reads_sdi : (s : Sender) (number : ℕ) → s.label < 256 → s.sdi < 4 → sdi_of (bus_word_of s number) ≡ s.sdi
 reads_sdi s number low two =

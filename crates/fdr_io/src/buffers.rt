@@ -105,9 +105,28 @@ impl OutBuffer {
         ensures appended { self.new ≡ self.old ++ take count bytes.now }
         ensures length { length self.new ≡ length self.old + count }
     {
-        let kept = self.used + count;
-        self.put_all(bytes);
-        self.keep(kept);
+        self.used = lay(&mut self.room, self.used, bytes, count);
+    }
+
+    /// Puts three texts at the end, of each the first so many of its bytes, where room was made for all of them. What waits
+    /// is counted once for the three.
+    #[inline(always)]
+    pub fn put_three<const A: usize, const B: usize, const C: usize>(
+        &mut self,
+        first: (&[u8; A], usize),
+        second: (&[u8; B], usize),
+        third: (&[u8; C], usize),
+    )
+        requires room { length self.old + A + B + C ≤ 65536 }
+        requires first { first.1 ≤ A }
+        requires second { second.1 ≤ B }
+        requires third { third.1 ≤ C }
+        ensures appended { self.new ≡ self.old ++ take first.entry.1 first.entry.0.now ++ take second.entry.1 second.entry.0.now ++ take third.entry.1 third.entry.0.now }
+        ensures length { length self.new ≡ length self.old + first.entry.1 + second.entry.1 + third.entry.1 }
+    {
+        let end = lay(&mut self.room, self.used, first.0, first.1);
+        let end = lay(&mut self.room, end, second.0, second.1);
+        self.used = lay(&mut self.room, end, third.0, third.1);
     }
 
     /// Puts these bytes at the end, where room was made for them.
@@ -120,12 +139,19 @@ impl OutBuffer {
         self.room[self.used..end].copy_from_slice(bytes);
         self.used = end;
     }
+}
 
-    /// Keeps the first so many of the bytes that wait.
-    fn keep(&mut self, count: usize)
-        requires { count ≤ length self.old }
-        ensures { self.new ≡ take count self.old }
-    {
-        self.used = count;
-    }
+/// Lays a text at a place of the room, and answers where the first so many of its bytes end there.
+#[inline(always)]
+fn lay<const N: usize>(room: &mut [u8], at: usize, text: &[u8; N], count: usize) -> usize
+    requires room { at + N ≤ length room.old }
+    requires front { count ≤ N }
+    ensures end { result ≡ at + count }
+    ensures laid { take result room.new ≡ take at room.old ++ take count text.now }
+    ensures length { length room.new ≡ length room.old }
+{
+    // The copy of the text can't overlap the room, which spares a test.
+    let text = *text;
+    room[at..at + N].copy_from_slice(&text);
+    at + count
 }

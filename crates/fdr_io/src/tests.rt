@@ -46,6 +46,18 @@ fn buffered_output_goes_out_in_large_pieces(rt: HostRuntime) -> Result<(), Fail>
 }
 
 #[test]
+fn three_texts_come_one_after_another(rt: HostRuntime) -> Result<(), Fail> {
+    let mut sink = MemSink::new(rt.alloc(), Vec::new(rt.alloc()));
+    let mut output = OutBuffer::new(rt.alloc())?;
+    assert_eq!(rt; output.make_room(&mut sink, 32), Ok(()));
+    output.put_three((b"one more", 3), (b", ", 2), (b"two and no more", 3));
+    output.put_three((b"!", 0), (b"none", 0), (b"?", 1));
+    assert_eq!(rt; output.finish(&mut sink), Ok(()));
+    assert_eq!(rt; sink.bytes(), b"one, two?".as_slice());
+    Ok(())
+}
+
+#[test]
 fn a_front_part_of_a_whole_copy_counts(rt: HostRuntime) -> Result<(), Fail> {
     let mut sink = MemSink::new(rt.alloc(), Vec::new(rt.alloc()));
     let mut output = OutBuffer::new(rt.alloc())?;

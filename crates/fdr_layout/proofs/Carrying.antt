@@ -6,7 +6,6 @@ use Rattle.std.specs.Option.{option_to_list, option_map}
 use Rattle.std.specs.List.{All, filter, filter_map, cons_option, range_with_len, sum_by}
 use Rattle.std.proofs.lemmas.Bool.{and_parts}
 use Rattle.std.proofs.lemmas.List.{map-append, append_assoc, take_more, length-map}
-use Rattle.std.proofs.lemmas.List.FromFn.{map-range_with_len_more}
 use Rattle.std.proofs.lemmas.List.Elements.{All-head, All-tail, All-filter, All-map, filter_passes, filter_map-append}
 use Rattle.fdr_table.specs.Rows.{PlaceRow}
 use Rattle.fdr_table.specs.Ranges.{IsPlaceInRange}
@@ -119,15 +118,6 @@ next_shift places n part shift width low shift_is width_is =
     let at : 1 + (part - 1) ≡ part = omega arith in
     ap (λ s. s + width) shift_is ∙ ap (λ x. sum_by f (range_with_len 1 (part - 1)) + x) (width_is ∙ ap f (sym at))
     ∙ sym (ap (λ k. sum_by f (range_with_len 1 k)) more ∙ sum_more f 1 (part - 1))
-
-pub carrier_more : (w : ℕ) (places : List PlaceRow) (n part : ℕ) (old new : List Carrier) (c : Carrier) → 1 ≤ part
-    → old ≡ map (carrier_of w places n) (range_with_len 1 (part - 1)) → new ≡ old ++ c ∷ [] → c ≡ carrier_of w places n part
-    → new ≡ map (carrier_of w places n) (range_with_len 1 (part + 1 - 1))
-carrier_more w places n part old new c low so_far more is =
-    let f = carrier_of w places n in
-    let next : part - 1 + 1 ≡ part + 1 - 1 = omega arith in
-    more ∙ ap (λ xs. xs ++ c ∷ []) so_far ∙ ap (λ x. map f (range_with_len 1 (part - 1)) ++ x ∷ []) is
-    ∙ sym (map-range_with_len_more f 1 (part - 1) part (omega arith)) ∙ ap (λ k. map f (range_with_len 1 k)) next
 
 -- ---- the parts of a sample
 

@@ -78,9 +78,14 @@ ends_agree f n g same = map-range-agree g (ends f) 0 (n + 1) (λ k low high. sam
 
 -- ---- lists of lists
 
-pub map-flat_map : {X Y : Type 0} (g : X → Y) (f : ℕ → List X) (ks : List ℕ) → map g (flat_map f ks) ≡ flat_map (λ k. map g (f k)) ks
-map-flat_map g f [] = refl
-map-flat_map g f (k ∷ ks) = map-append g (f k) (flat_map f ks) ∙ ap (λ xs. map g (f k) ++ xs) (map-flat_map g f ks)
+-- what can be made of a list part by part
+pub through-flat_map : {X A B : Type 0} (h : List A → List B) (f : X → List A) → h [] ≡ [] → ((xs ys : List A) → h (xs ++ ys) ≡ h xs ++ h ys) → (ks : List X)
+    → h (flat_map f ks) ≡ flat_map (λ k. h (f k)) ks
+through-flat_map h f none parts [] = none
+through-flat_map h f none parts (k ∷ ks) = parts (f k) (flat_map f ks) ∙ ap (λ xs. h (f k) ++ xs) (through-flat_map h f none parts ks)
+
+pub map-flat_map : {X A B : Type 0} (g : A → B) (f : X → List A) (ks : List X) → map g (flat_map f ks) ≡ flat_map (λ k. map g (f k)) ks
+map-flat_map g f ks = through-flat_map (map g) f refl (map-append g) ks
 
 pub flat_map_chunks : {A : Type 0} (f : ℕ → List A) (m a n : ℕ)
     → flat_map (λ j. flat_map f (range_with_len (m * j) m)) (range_with_len a n) ≡ flat_map f (range_with_len (m * a) (n * m))

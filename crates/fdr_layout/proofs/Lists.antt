@@ -2,30 +2,13 @@
 use Rattle.std.proofs.Common.{◌≡◌, ℕ, ◌+◌, ◌<◌, List, [], ◌∷◌, ◌++◌, length, get_or, take, map, refl}
 use Rattle.std.proofs.Common.{sym, ap, ◌∙◌, zero, suc, ◌*◌, arith}
 use Rattle.std.specs.List.{range_with_len, flat_map, enumerate_from}
-use Rattle.std.proofs.lemmas.List.{take_more, append-nil, length-take-le}
 use Rattle.std.proofs.lemmas.List.FromFn.{map-range_with_len_more}
-use Rattle.std.proofs.lemmas.List.Concat.{flat_map-append}
-use Rattle.fdr_lists.proofs.Numbered.{enumerate_from_push}
-use Rattle.fdr_check.proofs.Stretches.{flat_map-range_append}
+use Rattle.fdr_check.proofs.Stretches.{flat_map-range_append, flat_map-enumerate_from_more}
 
 pub map_step : {A : Type 0} (f : ℕ → A) (old new : List A) (a n m j : ℕ) → old ≡ map f (range_with_len a n) → new ≡ old ++ f j ∷ [] → a + n ≡ j → m ≡ n + 1
     → new ≡ map f (range_with_len a m)
 map_step f old new a n m j so_far more e last =
     more ∙ ap (λ xs. xs ++ f j ∷ []) so_far ∙ sym (map-range_with_len_more f a n j e) ∙ ap (λ k. map f (range_with_len a k)) (sym last)
-
-pub enumerate_from_more : {X : Type 0} (xs : List X) (i : ℕ) (d : X) → i < length xs
-    → enumerate_from 0 (take (i + 1) xs) ≡ enumerate_from 0 (take i xs) ++ (i, get_or xs i d) ∷ []
-enumerate_from_more xs i d l =
-    let e : 0 + length (take i xs) ≡ i = omega (arith, length-take-le i xs) in
-    ap (enumerate_from 0) (take_more xs i d l) ∙ enumerate_from_push 0 (take i xs) (get_or xs i d)
-    ∙ ap (λ k. enumerate_from 0 (take i xs) ++ (k, get_or xs i d) ∷ []) e
-
-flat_map-enumerate_from_more : {X A : Type 0} (f : ℕ × X → List A) (xs : List X) (i : ℕ) (d : X) → i < length xs
-    → flat_map f (enumerate_from 0 (take (i + 1) xs)) ≡ flat_map f (enumerate_from 0 (take i xs)) ++ f (i, get_or xs i d)
-flat_map-enumerate_from_more {X} f xs i d l =
-    let e : ℕ × X = (i, get_or xs i d) in
-    ap (flat_map f) (enumerate_from_more xs i d l) ∙ flat_map-append f (enumerate_from 0 (take i xs)) (e ∷ [])
-    ∙ ap (λ t. flat_map f (enumerate_from 0 (take i xs)) ++ t) (append-nil (f e))
 
 pub enumerate_from_step : {X A : Type 0} (f : ℕ × X → List A) (xs : List X) (i : ℕ) (x : X) (old new : List A) → i < length xs → x ≡ get_or xs i x
     → old ≡ flat_map f (enumerate_from 0 (take i xs)) → new ≡ old ++ f (i, x) → new ≡ flat_map f (enumerate_from 0 (take (i + 1) xs))

@@ -7,18 +7,13 @@ use Rattle.std.proofs.lemmas.Option.{get_or_from_slice_get, slice_get_within}
 use Rattle.fdr_listing.specs.Text.{fraction_text, size_text}
 use Rattle.fdr_listing.specs.Numbers.{ReadyFractions, ready_fractions, fraction_end}
 
-joined : (before whole fraction end : List ℕ) → (before ++ whole) ++ (fraction ++ end) ≡ (before ++ (whole ++ fraction)) ++ end
-joined before whole fraction end = simp append_assoc
-
 -- a whole part, and behind it a fraction with the line's end
-pub size_put : (before between after whole end : List ℕ) (n d : ℕ) → between ≡ before ++ whole → after ≡ between ++ end
-    → whole ≡ decimal (n / 10 ^ d) → end ≡ fraction_end d (n % 10 ^ d) → after ≡ before ++ size_text n d ++ codes "\n"
+pub size_made : (whole end : List ℕ) (n d : ℕ) → whole ≡ decimal (n / 10 ^ d) → end ≡ fraction_end d (n % 10 ^ d)
+    → whole ++ end ≡ size_text n d ++ codes "\n"
 unfolding size_text fraction_end
-size_put before between after whole end n d first second whole_is end_is =
-    let texts : after ≡ (before ++ decimal (n / 10 ^ d)) ++ (fraction_text (n % 10 ^ d) d ++ codes "\n") =
-    second ∙ ap (λ xs. xs ++ end) first ∙ ap (λ xs. (before ++ xs) ++ end) whole_is
-    ∙ ap (λ xs. (before ++ decimal (n / 10 ^ d)) ++ xs) end_is in
-    texts ∙ joined before (decimal (n / 10 ^ d)) (fraction_text (n % 10 ^ d) d) (codes "\n")
+size_made whole end n d whole_is end_is =
+    ap (λ xs. xs ++ end) whole_is ∙ ap (λ xs. decimal (n / 10 ^ d) ++ xs) end_is
+    ∙ sym (append_assoc (decimal (n / 10 ^ d)) (fraction_text (n % 10 ^ d) d) (codes "\n"))
 
 -- the text of a number that is among ready ones
 pub ready_text : (f : ℕ → List ℕ) (texts : List (List ℕ)) (count n : ℕ) (text : List ℕ) → texts ≡ map f (range_with_len 0 count) → n < count

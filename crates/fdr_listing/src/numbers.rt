@@ -2,11 +2,12 @@
 
 ghost use Rattle.std.specs.Prelude.{◌≡◌, ◌+◌, ◌≤◌, ◌*◌, ◌<◌, ◌^◌, ◌++◌, IfOk, IfSome, codes, length, map, decimal};
 ghost use Rattle.std.specs.List.{range_with_len};
+ghost use Rattle.fdr_divisor.specs.Reach.{IsInReach};
 ghost use Rattle.fdr_listing.specs.Text.{size_text};
 ghost use Rattle.fdr_listing.specs.Numbers.{ready_fractions, fraction_end};
 
-use crate::ready::{ShortText, put_long_size};
-use fdr_io::OutBuffer;
+use crate::ready::ShortText;
+use fdr_divisor::Divisor;
 use fdr_table::NoMemory;
 use std::alloc::Global;
 use std::marker::Model;
@@ -21,7 +22,7 @@ const MAX_DIGITS: u8 = 3;
 #[derive(Drop)]
 struct Fractions {
     // Ten to the power of the number of digits.
-    unit: u32,
+    unit: Divisor,
     ends: Vec<ShortText>,
 }
 
@@ -61,34 +62,28 @@ impl NumberTexts {
         })
     }
 
-    /// Puts the size of a value in units of `10^-decimals`, and ends the line.
-    pub(crate) fn put_size_end(&self, buffer: &mut OutBuffer, size: u64, decimals: u8)
-        requires room { length buffer.old + 61 ≤ 65536 }
-        requires nine_decimals { decimals ≤ 9 }
-        ensures appended { buffer.new ≡ buffer.old ++ size_text size decimals ++ codes "\n" }
-        ensures length { length buffer.new ≤ length buffer.old + 31 }
+    /// The texts that make the size of a value in units of `10^-decimals`, the second with the line's end, where they are
+    /// ready.
+    #[inline(always)]
+    pub(crate) fn size_texts(&self, size: u64, decimals: u8) -> Option<(&ShortText, &ShortText)>
+        ensures { IfSome result (λ texts. texts.0.now ++ texts.1.now ≡ size_text size decimals ++ codes "\n") }
     {
-        match self.fractions_for(size, decimals) {
-            Some(fractions) => {
-                let size = size as u32;
-                self.whole[(size / fractions.unit) as usize].put(buffer);
-                fractions.ends[(size % fractions.unit) as usize].put(buffer);
-            }
-            None => {
-                put_long_size(buffer, size, decimals);
-                buffer.put(b"\n", 1);
-            }
-        }
+        let fractions = self.fractions_for(size, decimals)?;
+        let (whole, fraction) = fractions.unit.split(size);
+        Some((
+            &self.whole[whole as usize],
+            &fractions.ends[fraction as usize],
+        ))
     }
 
     /// The fractions of this number of digits, where they and the whole part of the size have ready texts.
     fn fractions_for(&self, size: u64, decimals: u8) -> Option<&Fractions>
         ensures fractions { IfSome result (λ f. f.now ≡ ready_fractions decimals) }
         ensures within { IfSome result (λ f. size < 4096 * 10 ^ decimals) }
-        ensures fits { IfSome result (λ _. size < 2 ^ 32) }
+        ensures reach { IfSome result (λ f. IsInReach f.now.unit size) }
     {
         let fractions = self.fractions.get(usize::from(decimals))?;
-        let limit = u64::from(WHOLE * fractions.unit);
+        let limit = u64::from(WHOLE * fractions.unit.number());
         if size < limit { Some(fractions) } else { None }
     }
 }
@@ -114,6 +109,7 @@ fn all_fractions(alloc: Global) -> Result<Vec<Fractions>, NoMemory>
     for digits in 0..=MAX_DIGITS {
         let unit = 10_u32.pow(u32::from(digits));
         let ends = fraction_ends(alloc, digits, unit)?;
+        let unit = Divisor::new(unit);
         if all.push(Fractions { unit, ends }).is_err() {
             return Err(NoMemory);
         }

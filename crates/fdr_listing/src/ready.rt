@@ -1,6 +1,6 @@
 //! A row's line put together of texts that are ready.
 
-ghost use Rattle.std.specs.Prelude.{◌≡◌, ◌+◌, ◌≤◌, ◌<◌, ◌^◌, ◌++◌, ℕ, codes, length, decimal, replicate};
+ghost use Rattle.std.specs.Prelude.{◌≡◌, ◌+◌, ◌≤◌, ◌<◌, ◌^◌, ◌++◌, ℕ, codes, length, decimal, replicate, take};
 ghost use Rattle.fdr_listing.specs.Text.{row_start_text, row_place_text, row_line_text, fraction_text, size_text, value_text};
 ghost use Rattle.fdr_listing.specs.Numbers.{fraction_end};
 
@@ -86,13 +86,12 @@ impl ShortText {
         ShortText::of(&line)
     }
 
-    /// Puts the text, where there is room for eight bytes.
-    pub(crate) fn put(&self, buffer: &mut OutBuffer)
-        requires { length buffer.old + 8 ≤ 65536 }
-        ensures appended { buffer.new ≡ buffer.old ++ self.now }
-        ensures length { length buffer.new ≤ length buffer.old + 8 }
+    /// The text with bytes behind it, and how many are its own.
+    pub(crate) fn padded(&self) -> (&[u8; 8], usize)
+        ensures text { take result.1 result.0.now ≡ self.now }
+        ensures length { result.1 ≤ 8 }
     {
-        buffer.put(&self.bytes, self.len);
+        (&self.bytes, self.len)
     }
 
     fn of(line: &Line) -> ShortText
@@ -170,8 +169,15 @@ fn put_value_end(buffer: &mut OutBuffer, numbers: &NumberTexts, v: i64, decimals
     ensures { buffer.new ≡ buffer.old ++ codes "," ++ value_text v decimals ++ codes "\n" }
 {
     let marks = if v < 0 { 2 } else { 1 };
-    buffer.put(b",-", marks);
-    numbers.put_size_end(buffer, v.unsigned_abs(), decimals);
+    let size = v.unsigned_abs();
+    match numbers.size_texts(size, decimals) {
+        Some((whole, end)) => buffer.put_three((b",-", marks), whole.padded(), end.padded()),
+        None => {
+            buffer.put(b",-", marks);
+            put_long_size(buffer, size, decimals);
+            buffer.put(b"\n", 1);
+        }
+    }
 }
 
 /// Puts the line of a row: what it begins with, its place, the parameter's name and its value. There must be room for
@@ -190,9 +196,6 @@ pub fn put_row(
     requires nine_decimals { decimals ≤ 9 }
     ensures { buffer.new ≡ buffer.old ++ row_line_text start.now place.now name.now row.now.value decimals }
 {
-    start.put(buffer);
-    place.put(buffer);
-    let (bytes, len) = name.padded();
-    buffer.put(bytes, len);
+    buffer.put_three(start.padded(), place.padded(), name.padded());
     put_value_end(buffer, numbers, row.value, decimals);
 }

@@ -5,14 +5,12 @@ use Rattle.std.specs.Int.{int_div_euclid}
 use Rattle.std.proofs.Math.Nat.{mod-eq_of_lt}
 use Rattle.std.proofs.lemmas.Bool.{lt-leb, cases_lt}
 use Rattle.std.proofs.lemmas.Int.{ints}
-use Rattle.std.proofs.lemmas.Nat.{div-mul-add, div_below, mod_below, mod-mul-add}
+use Rattle.std.proofs.lemmas.Nat.{div_below, mod_below, mod-mul-add}
+use Rattle.fdr_divisor.proofs.Quotients.{quotient_is}
 use Rattle.fdr_table.specs.Rows.{ParamRow}
 use Rattle.fdr_table.specs.Value.{signed_of, value_of}
 use Rattle.fdr_recon.specs.declared.scale.SmallScale.{SmallScale}
 use Rattle.fdr_recon.specs.Scales.{IsSmallScale, half_range}
-
-quotient_is : (m n q r : ℕ) → r < n → m ≡ q * n + r → m / n ≡ q
-quotient_is m n q r h e = ap (λ x. x / n) e ∙ div-mul-add q n r h
 
 -- with the divisor added k times the quotient is k more
 quotient_above : (z : ℤ) (n k m : ℕ) → 0 < n → z +ℤ pos (k * n) ≡ pos m → int_div_euclid z (pos n) +ℤ pos k ≡ pos (m / n)

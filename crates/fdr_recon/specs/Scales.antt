@@ -1,5 +1,6 @@
 -- What makes the values of a parameter without numbers below 0.
 use Rattle.std.specs.Prelude.{ℕ, ◌+◌, ◌-◌, ◌*◌, ◌^◌, ◌<◌, ◌≤◌, ◌≡◌, pos, neg_ℤ, ◌+ℤ◌, ◌≤ℤ◌, if◌then◌else◌}
+use Rattle.fdr_divisor.specs.Reach.{IsInReach}
 use Rattle.fdr_table.specs.Rows.{ParamRow}
 use Rattle.fdr_recon.specs.declared.scale.SmallScale.{SmallScale}
 
@@ -8,7 +9,7 @@ abbrev pub half_range : ParamRow → ℕ
 half_range p = if p.signed then 2 ^ (p.width - 1) else 0
 
 -- With `half` added, and cut to the parameter's width, the raw numbers come in the order of what they stand for, from 0 on.
--- With `rise` added, that times `num` counts from a multiple of `den` on, which `offset` makes up for. All is below 2^32.
+-- With `rise` added, that times `num` counts from a multiple of `den` on, which `offset` makes up for.
 pub record IsSmallScale (p : ParamRow) (s : SmallScale) : Type 0 where
   pub some_bits : 1 ≤ p.width
   pub half : s.half ≡ half_range p
@@ -21,4 +22,4 @@ pub record IsSmallScale (p : ParamRow) (s : SmallScale) : Type 0 where
   pub offset : s.offset +ℤ pos steps ≡ p.offset
   pub offset_low : neg_ℤ (pos (2 ^ 62 + 2 ^ 50)) ≤ℤ s.offset
   pub offset_high : s.offset ≤ℤ pos (2 ^ 50)
-  pub within_32_bits : s.mask * s.num + s.rise < 2 ^ 32
+  pub within_reach : IsInReach s.den (s.mask * s.num + s.rise)

@@ -91,6 +91,7 @@ impl Rebuild {
 
     /// The row of a sample that ends in the last frame's cycle, in the order of last parts. There is none where the
     /// frames back to the sample's earliest part are not joined. Takes no memory.
+    #[inline(always)]
     pub fn row(&self, i: u32) -> Option<Row>
         requires { i < length (kept_samples self.now) }
         ensures row { (t : TableRows) (past : List ReadFrame) → RepresentsRebuild self.now t past
@@ -126,6 +127,7 @@ impl Rebuild {
         }
     }
 
+    #[inline(always)]
     fn row_of(&self, sample: &Sample) -> Option<Row>
         requires of { IsSampleOf self.now.params (sample_in self.now.laid sample.now) }
         requires listed { IsListedSample self.now.laid sample.now }

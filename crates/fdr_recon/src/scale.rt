@@ -1,22 +1,24 @@
 //! The values of raw numbers.
 
 ghost use Rattle.std.specs.Prelude.{◌≡◌, ◌+◌, ◌-◌, ◌*◌, ◌/◌, ◌%◌, ◌^◌, ◌<◌, ◌≤◌, ℕ, pos, neg_ℤ, ◌+ℤ◌, ◌≤ℤ◌, IfSome};
+ghost use Rattle.fdr_divisor.specs.Reach.{IsInReach};
 ghost use Rattle.fdr_table.specs.Rows.{ParamRow};
 ghost use Rattle.fdr_table.specs.Value.{value_of};
 ghost use Rattle.fdr_recon.specs.Scales.{IsSmallScale, half_range};
 
+use fdr_divisor::Divisor;
 use fdr_table::Param;
 use std::marker::Model;
 
-/// What makes a parameter's values where they rise with the raw number and none takes more than 32 bits on the way: then
-/// a value costs a short division, and no branch that depends on it.
-#[derive(Clone, Copy, Debug)]
+/// What makes a parameter's values where they rise with the raw number and are small on the way: then a value costs two
+/// multiplications, and neither a division nor a branch that depends on it.
+#[derive(Debug, Drop)]
 struct SmallScale {
     half: u32,
     mask: u32,
     num: u32,
     rise: u32,
-    den: u32,
+    den: Divisor,
     offset: i64,
 }
 
@@ -32,7 +34,8 @@ impl SmallScale {
         let below = u64::from(half) * u64::from(num);
         let steps = steps_over(below, u64::from(den));
         let rise = steps * u64::from(den) - below;
-        if u64::from(mask) * u64::from(num) + rise > u64::from(u32::MAX) {
+        let divisor = Divisor::new(den);
+        if !divisor.reaches(u64::from(mask) * u64::from(num) + rise) {
             return None;
         }
         Some(SmallScale {
@@ -40,7 +43,7 @@ impl SmallScale {
             mask,
             num,
             rise: rise as u32,
-            den,
+            den: divisor,
             offset: offset_below(param, steps),
         })
     }
@@ -55,13 +58,13 @@ impl SmallScale {
 
     /// How many steps of the divisor are in the raw number's product.
     fn quotient(&self, raw: u32) -> u32
-        requires some_divisor { 0 < self.now.den }
-        requires within { self.now.mask * self.now.num + self.now.rise < 2 ^ 32 }
+        requires within { IsInReach self.now.den (self.now.mask * self.now.num + self.now.rise) }
         requires mask { (bits : ℕ) × (self.now.mask + 1 ≡ 2 ^ bits) }
         ensures { result ≡ ((raw + self.now.half) % (self.now.mask + 1) * self.now.num + self.now.rise) / self.now.den }
     {
         let turned = self.turned(raw);
-        (turned * u64::from(self.num) + u64::from(self.rise)) as u32 / self.den
+        self.den
+            .quotient(turned * u64::from(self.num) + u64::from(self.rise))
     }
 
     /// The raw number with half the range added, cut to its bits.

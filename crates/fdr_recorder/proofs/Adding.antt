@@ -158,7 +158,7 @@ module _ (tells : Tells) (h : Header) (next size : ℕ) (d0 d1 : State) (sound :
                   near.told,
                 )
 
-            pub Records-added : KeepsLine d2 d3 → d3.line_faults ≡ d2.line_faults → Elapses tells d2 d3 → EachMoment tells d2 d3 (IsNow d3)
+            Records-added : KeepsLine d2 d3 → d3.line_faults ≡ d2.line_faults → Elapses tells d2 d3 → EachMoment tells d2 d3 (IsNow d3)
                 → Records tells h next (b ∷ []) d0 d3
             Records-added line3 line_faults3 time3 moments = let was = Records-prepared in record {
               time = Elapses-then tells d0 d2 d3 was.time time3;
@@ -171,7 +171,7 @@ module _ (tells : Tells) (h : Header) (next size : ℕ) (d0 d1 : State) (sound :
               extent = leaves.extent ∙ was.extent;
             }
 
-            pub HasRecorded-added : HasRecorded tells h next (b ∷ []) d0 d3
+            HasRecorded-added : HasRecorded tells h next (b ∷ []) d0 d3
             HasRecorded-added = record {
               fact = λ is. IsRing-told tells h (next + 1) d2 d3 leaves sure2.ring;
               sure = λ is. IsSureRing-told tells h (next + 1) d2 d3 leaves sure2;
@@ -190,3 +190,8 @@ module _ (tells : Tells) (h : Header) (next size : ℕ) (d0 d1 : State) (sound :
               };
               disk_faults = leaves.disk_faults ∙ succeeds2.disk_faults ∙ succeeds.disk_faults;
             }
+
+            -- both at once
+            pub recorded-added : KeepsLine d2 d3 → d3.line_faults ≡ d2.line_faults → Elapses tells d2 d3 → EachMoment tells d2 d3 (IsNow d3)
+                → Records tells h next (b ∷ []) d0 d3 × HasRecorded tells h next (b ∷ []) d0 d3
+            recorded-added line3 line_faults3 time3 moments = (Records-added line3 line_faults3 time3 moments, HasRecorded-added)

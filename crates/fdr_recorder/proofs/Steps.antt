@@ -36,17 +36,26 @@ keeps_run h entry image new told keeps le = record {
   announced = omega (arith, keeps.next, le);
 }
 
--- the block was added, or it wasn't
-pub keeps_added : (h : Header) (b : Block) (entry middle image : List ℕ) (told : ℕ) → KeepsRun h (h.slots - 2) entry middle
-    → HasAdded h b middle image → told ≤ next_of h entry + 1 → Keeps h entry (recovered_run h entry) (b ∷ []) told image
-keeps_added h b entry middle image told keeps added le = record {
+-- with an added block
+pub all_added : (h : Header) (b : Block) (entry middle image : List ℕ) → KeepsRun h (h.slots - 2) entry middle → HasAdded h b middle image
+    → KeepsAll h entry (recovered_run h entry) (b ∷ []) image
+all_added h b entry middle image keeps added = record {
   kept = KeepsHeader-then entry middle image keeps.kept added.kept;
-  count = 1;
-  fits = omega arith;
   run = tail_on (h.slots - 2) (recovered_run h entry) (recovered_run h middle) (b ∷ []) (recovered_run h image) keeps.run
       (subst (λ (l : List Block). IsTail (h.slots - 2) l (recovered_run h image)) added.run (tail_same (h.slots - 2) (recovered_run h image)));
   next = omega (arith, keeps.next, added.next);
-  announced = omega (arith, keeps.next, added.next, le);
+}
+
+-- the block was added, or it wasn't
+pub keeps_added : (h : Header) (b : Block) (entry middle image : List ℕ) (told : ℕ) → KeepsRun h (h.slots - 2) entry middle
+    → HasAdded h b middle image → told ≤ next_of h entry + 1 → Keeps h entry (recovered_run h entry) (b ∷ []) told image
+keeps_added h b entry middle image told keeps added le = let all = all_added h b entry middle image keeps added in record {
+  kept = all.kept;
+  count = 1;
+  fits = omega arith;
+  run = all.run;
+  next = all.next;
+  announced = omega (arith, all.next, le);
 }
 
 pub keeps_same : (h : Header) (entry middle image : List ℕ) (new : List Block) (told : ℕ) → KeepsRun h (h.slots - 2) entry middle
@@ -63,15 +72,6 @@ keeps_may h b entry middle image told keeps may le = ⊎_elim
     (λ same. keeps_same h entry middle image (b ∷ []) told keeps same le)
     (λ added. keeps_added h b entry middle image told keeps added (omega (arith, le)))
     may
-
-pub all_added : (h : Header) (b : Block) (entry middle image : List ℕ) → KeepsRun h (h.slots - 2) entry middle → HasAdded h b middle image
-    → KeepsAll h entry (recovered_run h entry) (b ∷ []) image
-all_added h b entry middle image keeps added = record {
-  kept = KeepsHeader-then entry middle image keeps.kept added.kept;
-  run = tail_on (h.slots - 2) (recovered_run h entry) (recovered_run h middle) (b ∷ []) (recovered_run h image) keeps.run
-      (subst (λ (l : List Block). IsTail (h.slots - 2) l (recovered_run h image)) added.run (tail_same (h.slots - 2) (recovered_run h image)));
-  next = omega (arith, keeps.next, added.next);
-}
 
 take_all : (xs ys : List Block) (n : ℕ) → take (length xs + n) (xs ++ ys) ≡ xs ++ take n ys
 take_all [] ys n = let e : 0 + n ≡ n = omega arith in ap (λ (m : ℕ). take m ys) e

@@ -1,10 +1,11 @@
 -- Calls that only look at the disk, one behind another.
-use Rattle.std.proofs.Common.{◌≡◌, ⊎_elim, ◌≤◌, refl, ◌∙◌, arith}
-use Rattle.fdr_deck.specs.State.{State, Tells, Moment}
+use Rattle.std.proofs.Common.{◌≡◌, refl, ◌∙◌}
+use Rattle.fdr_deck.specs.State.{State, Tells}
 use Rattle.fdr_deck.specs.Disk.{KeepsDisk}
 use Rattle.fdr_deck.specs.Moments.{EachMoment, Within, IsSoundDeck}
-use Rattle.fdr_deck.specs.Calls.{Passes, IsQuietMoment}
-use Rattle.fdr_deck.proofs.Moments.{Passes-then, EachMoment-then, IsQuiet-here, IsQuiet-keep}
+use Rattle.fdr_deck.specs.Calls.{Passes}
+use Rattle.fdr_deck.proofs.Moments.{IsQuiet-here, IsQuiet-keep}
+use Rattle.fdr_deck.proofs.Quiet.{IsQuiet-then}
 use Rattle.fdr_recover.specs.Looks.{Looks}
 
 -- no call yet
@@ -33,27 +34,6 @@ Looks-then tells old mid new sound first second = record {
     no_more = λ image leaves. first.disk.no_more image (second.disk.no_more image leaves);
     no_less = λ image leaves. second.disk.no_less image (first.disk.no_less image leaves);
   };
-  quiet = record {
-    passes = Passes-then tells old mid new first.quiet.passes second.quiet.passes;
-    moments = EachMoment-then tells old mid new (IsQuietMoment old.may_leave old) first.quiet.passes.time second.quiet.passes.time first.quiet.moments
-        (λ told m since. widen m (second.quiet.moments told m since));
-  };
+  quiet = IsQuiet-then tells old.may_leave mid.may_leave old.may_leave old mid new sound first.quiet second.quiet (λ told image leaves. leaves)
+      (λ told image. first.disk.no_more image);
 }
-  where
-    least : old.least ≤ mid.least
-    least = ⊎_elim (λ fresh. omega (arith, fresh.0, first.quiet.passes.told.told, sound.least)) (λ kept. omega (arith, kept.0)) first.quiet.passes.told.numbers
-
-    greatest : mid.greatest ≤ old.greatest
-    greatest = ⊎_elim (λ fresh. omega (arith, fresh.1, first.quiet.passes.told.told, sound.greatest)) (λ kept. omega (arith, kept.1))
-        first.quiet.passes.told.numbers
-
-    widen : (m : Moment) → IsQuietMoment mid.may_leave mid m → IsQuietMoment old.may_leave old m
-    widen m quiet = record {
-      image = first.disk.no_more m.image quiet.image;
-      least = omega (arith, least, quiet.least);
-      greatest = omega (arith, greatest, quiet.greatest);
-      pulled = record {
-        taken = quiet.pulled.taken ∙ first.quiet.passes.line.taken;
-        before = quiet.pulled.before ∙ first.quiet.passes.line.before;
-      };
-    }

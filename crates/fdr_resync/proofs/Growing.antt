@@ -64,6 +64,11 @@ each_frame b w P some step last (suc n) from end =
     (λ none. last from none)
     (next_or_none b w from some)
 
+-- the rest from the next frame on
+rest_goes_on : (all : Bool) (b : List ℕ) (w from p : ℕ) (later : List Event) → 0 < w → IsFirstFrameFrom b w from p → rest_from all b w (p + 48 * w) ≡ later
+    → rest_from all b w from ≡ gap_between from p ++ Frame p ∷ later
+rest_goes_on all b w from p later some h is = rest_first all b w from p some h ∙ ap (λ es. gap_between from p ++ Frame p ∷ es) is
+
 -- the rest of longer bytes begins with what is decided of these
 Extends : Bool → List ℕ → List ℕ → ℕ → ℕ → Type 0
 Extends all b more w from = (next : List Event) × (rest_from all (b ++ more) w from ≡ decided_from b w from ++ next)
@@ -74,11 +79,10 @@ extends all b more w some =
     each_frame b w (λ from. (next : List Event) × (rest_from all (b ++ more) w from ≡ decided_from b w from ++ next)) some
     (λ from p h rest. (
       rest.0,
-      rest_first all (b ++ more) w from p some (first_stays b more w from p some h)
-          ∙ ap (λ es. gap_between from p ++ Frame p ∷ es) rest.1
+      rest_goes_on all (b ++ more) w from p _ some (first_stays b more w from p some h) rest.1
           ∙ sym (append_assoc (gap_between from p) (Frame p ∷ decided_from b w (p + 48 * w)) rest.0)
-          ∙ ap (λ es. es ++ rest.0) (sym (sym (rest_from-decided b w from) ∙ rest_first false b w from p some h
-          ∙ ap (λ es. gap_between from p ++ Frame p ∷ es) (rest_from-decided b w (p + 48 * w)))),
+          ∙ ap (λ es. es ++ rest.0) (sym (sym (rest_from-decided b w from)
+          ∙ rest_goes_on false b w from p _ some h (rest_from-decided b w (p + 48 * w)))),
     ))
     (λ from none. (
       rest_from all (b ++ more) w from,

@@ -18,7 +18,6 @@ use Rattle.fdr_slot.specs.Places.{slot_at, slot_size, image_size}
 use Rattle.fdr_slot.specs.Headers.{header_of, header_bytes, image_fault}
 use Rattle.fdr_slot.proofs.HeaderLemmas.{image_fault_closed}
 use Rattle.fdr_slot.proofs.HeaderLemmas.{header_of-header_bytes, image_fault-header_bytes}
-use Rattle.fdr_slot.specs.declared.image.ImageFault.TheVariants as fault
 use Rattle.fdr_recover.proofs.ImageFaults.{small_fault}
 use Rattle.fdr_recover.specs.Blocks.{Slots, number_after, next_among, run_below}
 use Rattle.fdr_recover.specs.Images.{block_in, next_of, blocks_below, recovered_run}

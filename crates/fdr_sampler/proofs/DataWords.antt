@@ -1,10 +1,10 @@
 -- A word of data by its bits, and as the word that parts are written into, one after another.
 use Rattle.std.proofs.Common.{◌≡◌, ℕ, zero, suc, ◌+◌, ◌-◌, ◌/◌, ◌%◌, ◌^◌, ◌<◌, ◌≤◌, ◌⊎◌, inl, inr, ⊎_elim, Bool, true, false, List, [], ◌∷◌, ◌++◌, Option, Some}
-use Rattle.std.proofs.Common.{None, fold, length, get_or, take, reverse, refl, sym, ap, ◌∙◌, subst, arith}
+use Rattle.std.proofs.Common.{None, cond, fold, length, get_or, take, reverse, refl, sym, ap, ◌∙◌, subst, arith}
 use Rattle.std.specs.Int.{bit_at as nat_bit}
 use Rattle.std.specs.List.{All, find}
 use Rattle.std.specs.Option.{option_map_or}
-use Rattle.std.proofs.lemmas.Bool.{cases_Bool, cases_lt, cond-true, cond-false, and_parts, and_from, leb-true, ltb-true, le-leb, lt-ltb, both_ways}
+use Rattle.std.proofs.lemmas.Bool.{cases_Bool, cases_lt, and_parts, and_from, leb-true, ltb-true, le-leb, lt-ltb, both_ways}
 use Rattle.std.proofs.lemmas.Nat.{mod_below, pow_pos}
 use Rattle.std.proofs.lemmas.Nat.Bits.{same_from_bits_below}
 use Rattle.std.proofs.lemmas.List.{reverse-append, take_more, take_all}
@@ -50,19 +50,11 @@ unfolding data_of data_bit number_of
 data_of-none value = refl
 
 -- a further part has its own bits, and leaves all others
-data_bit-has : (value : ℕ → ℕ) (parts : List SlotPart) (a : SlotPart) (b : ℕ) → has_bit b a ≡ true →
-    data_bit value (parts ++ a ∷ []) b ≡ bit_of_part value b a
+data_bit-last : (value : ℕ → ℕ) (parts : List SlotPart) (a : SlotPart) (b : ℕ) (has : Bool) → has_bit b a ≡ has →
+    data_bit value (parts ++ a ∷ []) b ≡ cond has (bit_of_part value b a) (data_bit value parts b)
 unfolding data_bit
-data_bit-has value parts a b has =
-    ap (λ xs. option_map_or (bit_of_part value b) (find (has_bit b) xs) 0) (reverse-append parts (a ∷ []))
-    ∙ ap (λ o. option_map_or (bit_of_part value b) o 0) (cond-true _ _ _ has)
-
-data_bit-not : (value : ℕ → ℕ) (parts : List SlotPart) (a : SlotPart) (b : ℕ) → has_bit b a ≡ false →
-    data_bit value (parts ++ a ∷ []) b ≡ data_bit value parts b
-unfolding data_bit
-data_bit-not value parts a b lacks =
-    ap (λ xs. option_map_or (bit_of_part value b) (find (has_bit b) xs) 0) (reverse-append parts (a ∷ []))
-    ∙ ap (λ o. option_map_or (bit_of_part value b) o 0) (cond-false _ _ _ lacks)
+data_bit-last value parts a b true is = rw (reverse-append parts (a ∷ []), is) refl
+data_bit-last value parts a b false is = rw (reverse-append parts (a ∷ []), is) refl
 
 -- a part that hasn't a bit lies below or above it
 beside : (a : SlotPart) (b : ℕ) → has_bit b a ≡ false → (b < a.part.at % 12) ⊎ (a.part.at % 12 + a.part.width ≤ b)
@@ -86,11 +78,11 @@ with_part-bit value parts a word b few is =
     (λ (has : has_bit b a ≡ true).
     let both = and_parts _ _ has in
     with_field_bit word low a.part.width piece b (piece_fits value a) (leb-true low b both.0) (ltb-true b (low + a.part.width) both.1)
-    ∙ sym (data_bit-has value parts a b has))
+    ∙ sym (data_bit-last value parts a b true has))
     (λ (lacks : has_bit b a ≡ false).
     with_field_other_bit word low a.part.width piece b (piece_fits value a) (beside a b lacks)
     ∙ ap (λ w. nat_bit w b) is ∙ data_of-bit value parts b few
-    ∙ sym (data_bit-not value parts a b lacks))
+    ∙ sym (data_bit-last value parts a b false lacks))
     (cases_Bool (has_bit b a))
 
 -- ---- the word that parts are written into

@@ -8,7 +8,8 @@ use Rattle.std.proofs.lemmas.List.Elements.{All-weaker}
 use Rattle.fdr_bus.specs.declared.BusRecord.{BusRecord}
 use Rattle.fdr_bus.specs.Words.{label_of}
 use Rattle.fdr_sampler.specs.Held.{Source, is_from, counts_for, held_record}
-use Rattle.fdr_sampler.proofs.Lists.{find_agree, All-reverse}
+use Rattle.fdr_sampler.proofs.Lists.{All-reverse}
+use Rattle.fdr_check.proofs.Searches.{find_agree}
 
 -- a word that is from a source has its bus and its label
 pub from_is : (s : Source) (r : BusRecord) → is_from s r ≡ true → (r.bus ≡ s.bus) × (label_of r.word ≡ s.label)

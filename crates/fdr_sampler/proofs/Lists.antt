@@ -1,10 +1,10 @@
 -- What lists contain, and what a search finds in them.
-use Rattle.std.proofs.Common.{◌≡◌, ℕ, zero, suc, ◌+◌, ◌-◌, ◌<◌, ◌≤◌, Bool, true, List, [], ◌∷◌, Some, map, length, get_or, reverse, refl, sym, ap, ◌∙◌, subst}
+use Rattle.std.proofs.Common.{◌≡◌, ℕ, zero, suc, ◌+◌, ◌-◌, ◌<◌, ◌≤◌, Bool, true, List, [], ◌∷◌, Some, map, length, get_or, reverse, sym, ap, ◌∙◌, subst}
 use Rattle.std.proofs.Common.{⊎_elim, arith, zero-add}
-use Rattle.std.specs.List.{All, Contains, filter, flat_map, find, range_with_len, enumerate_from, slice_get}
+use Rattle.std.specs.List.{All, Contains, filter, flat_map, range_with_len, enumerate_from, slice_get}
 use Rattle.std.proofs.lemmas.Bool.{cases_Bool, cond-true, cond-false}
 use Rattle.std.proofs.lemmas.List.{length-map, length-reverse, get_or-map, get_or-reverse}
-use Rattle.std.proofs.lemmas.List.Elements.{Contains-append_left, Contains-append_right, All-head, All-tail}
+use Rattle.std.proofs.lemmas.List.Elements.{Contains-append_left, Contains-append_right}
 use Rattle.std.proofs.lemmas.List.FromFn.{length-range_with_len, get_or-range_with_len, length-enumerate_from, get_or-enumerate_from}
 use Rattle.std.proofs.lemmas.Option.{slice_get_within, get_or_from_slice_get}
 use Rattle.fdr_lists.proofs.Pairs.{Contains-here}
@@ -57,13 +57,6 @@ Contains-enumerate xs n x got =
       get_or-enumerate_from 0 xs n (n, x) l ∙ ap (λ m. (m, get_or xs n x)) (zero-add n)
           ∙ ap (λ y. (n, y)) (get_or_from_slice_get xs n x x got),
     )
-
--- two tests that agree on a list find the same there
-pub find_agree : {X : Type 0} (p q : X → Bool) (xs : List X) → All (λ x. p x ≡ q x) xs → find p xs ≡ find q xs
-find_agree p q [] same = refl
-find_agree p q (x ∷ xs) same =
-    let here : p x ≡ q x = All-head (λ y. p y ≡ q y) x xs same in
-    rw (here, find_agree p q xs (All-tail (λ y. p y ≡ q y) x xs same)) refl
 
 pub All-reverse : {X : Type 0} (P : X → Type 0) (xs : List X) → All P xs → All P (reverse xs)
 All-reverse P xs all = λ k d l.

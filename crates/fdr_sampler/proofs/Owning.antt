@@ -1,12 +1,13 @@
 -- The parameter of each sample.
 use Rattle.std.proofs.Common.{◌≡◌, ℕ, ◌+◌, ◌<◌, List, [], ◌∷◌, ◌++◌, length, get_or, take, map, refl, sym, ap, ◌∙◌, append_assoc}
 use Rattle.std.specs.List.{enumerate_from, flat_map, range_with_len}
-use Rattle.std.proofs.lemmas.List.{append-nil, map-append}
+use Rattle.std.proofs.lemmas.List.{append-nil}
 use Rattle.std.proofs.lemmas.List.Concat.{flat_map-append}
 use Rattle.std.proofs.lemmas.List.FromFn.{map-range_with_len_more}
 use Rattle.fdr_table.specs.Rows.{ParamRow, PlaceRow, TableRows}
 use Rattle.fdr_layout.specs.Samples.{parts_of, Sample, samples_of, samples}
-use Rattle.fdr_layout.proofs.Lists.{enumerate_from_more}
+use Rattle.fdr_check.proofs.Stretches.{enumerate_from_more}
+use Rattle.fdr_layout.proofs.Flats.{map-flat_map}
 use Rattle.fdr_sampler.specs.Kept.{owners_of}
 
 -- ---- the list that the code makes
@@ -36,10 +37,6 @@ owners_more params i p rate l is same =
 
 -- ---- of the samples
 
-map_flat : {A B C : Type 0} (f : B → C) (g : A → List B) (xs : List A) → map f (flat_map g xs) ≡ flat_map (λ x. map f (g x)) xs
-map_flat f g [] = refl
-map_flat f g (x ∷ xs) = map-append f (g x) (flat_map g xs) ∙ ap (λ ys. map f (g x) ++ ys) (map_flat f g xs)
-
 flat_agree : {A B : Type 0} (f g : A → List B) (xs : List A) → ((x : A) → f x ≡ g x) → flat_map f xs ≡ flat_map g xs
 flat_agree f g [] same = refl
 flat_agree f g (x ∷ xs) same = ap (λ ys. ys ++ flat_map f xs) (same x) ∙ ap (λ ys. g x ++ ys) (flat_agree f g xs same)
@@ -60,6 +57,6 @@ unfolding owners_of samples
 owners_are t =
     let param : Sample → ℕ = λ s. s.param in
     let of : ℕ × ParamRow → List Sample = λ e. samples_of t.frame.words t.places e.0 e.1.rate in
-    sym (map_flat param of (enumerate_from 0 t.params)
+    sym (map-flat_map param of (enumerate_from 0 t.params)
     ∙ flat_agree (λ e. map param (of e)) (λ (e : ℕ × ParamRow). map (λ _. e.0) (range_with_len 0 e.1.rate)) (enumerate_from 0 t.params)
     (λ e. own_params t.frame.words t.places e.0 e.1.rate))

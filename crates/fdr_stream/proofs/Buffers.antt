@@ -1,21 +1,8 @@
 -- What a word adds to what is kept.
-use Rattle.std.proofs.Common.{◌≡◌, ℕ, ◌+◌, ◌-◌, ◌*◌, ◌/◌, ◌%◌, ◌<◌, ◌≤◌, List, [], ◌∷◌, ◌++◌, length, drop, Option, Some, None, sym, ap, ◌∙◌, arith}
-use Rattle.std.proofs.Common.{append_assoc, length-append}
+use Rattle.std.proofs.Common.{◌≡◌, ℕ, ◌+◌, ◌*◌, ◌/◌, ◌%◌, List, [], ◌∷◌, ◌++◌, Option, Some, None, sym, ap, ◌∙◌, append_assoc}
 use Rattle.std.proofs.lemmas.List.{append-nil}
-use Rattle.circular_buffer.specs.Buffer.{Buffer, buffer, keep_last}
 use Rattle.fdr_stream.specs.Packing.{filled_by, unpaired_after, last_byte}
 use Rattle.fdr_stream.specs.Kept.{StreamKept, with_packed_word, padded}
-
--- what fits is kept
-pub keep_last-fits : (n : ℕ) (xs : List ℕ) → length xs ≤ n → keep_last n xs ≡ xs
-keep_last-fits n xs fits = let none : length xs - n ≡ 0 = omega arith in ap (λ m. drop m xs) none
-
--- a byte that has room behind those of a buffer
-pub pushed : (b new : Buffer ℕ) (x : ℕ) → new ≡ buffer (keep_last b.capacity (b.items ++ x ∷ [])) b.capacity → length b.items < b.capacity
-    → (new.items ≡ b.items ++ x ∷ []) × (new.capacity ≡ b.capacity)
-pushed b new x is room =
-    let len = length-append b.items (x ∷ []) in
-    (ap (λ (b : Buffer ℕ). b.items) is ∙ keep_last-fits b.capacity (b.items ++ x ∷ []) (omega (arith, len, room)), ap (λ (b : Buffer ℕ). b.capacity) is)
 
 -- the first word of a pair
 pub with_word-first : (k : StreamKept) (word : ℕ) (bytes : List ℕ) → k.odd ≡ None → bytes ≡ k.bytes ++ word % 256 ∷ [] →

@@ -4,3 +4,4 @@ pub mod Standing
 pub mod Buffers
 pub mod Later
 pub mod Zeros
+pub mod Rooms

@@ -3,3 +3,4 @@ pub mod Packing
 pub mod Kept
 pub mod View
 pub mod Past
+pub mod Waiting

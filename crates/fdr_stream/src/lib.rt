@@ -5,5 +5,6 @@
 #![tactic(auto)]
 
 mod stream;
+mod waiting;
 
 pub use stream::{Fed, Stream};

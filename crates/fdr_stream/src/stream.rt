@@ -1,6 +1,6 @@
 //! The stream.
 
-ghost use Rattle.std.specs.Prelude.{◌≡◌, ◌<◌, ◌≤◌, ◌+◌, ◌-◌, ◌*◌, ◌/◌, ◌^◌, ◌↔◌, false, [], ◌∷◌, ◌++◌, None, length, min, replicate, take, drop, IfOk, IsTrue};
+ghost use Rattle.std.specs.Prelude.{◌≡◌, ◌<◌, ◌≤◌, ◌+◌, ◌-◌, ◌*◌, ◌/◌, ◌^◌, ◌↔◌, false, [], ◌∷◌, ◌++◌, None, length, min, take, drop, IfOk, IsTrue};
 ghost use Rattle.fdr_bus.specs.Records.{has_end, last_time};
 ghost use Rattle.fdr_sampler.specs.Kept.{most_word_slots};
 ghost use Rattle.fdr_sampler.specs.Stream.{slot_count, stream_of};
@@ -8,7 +8,7 @@ ghost use Rattle.fdr_stream.specs.Blocks.{cut_block, blocks_of, due_blocks};
 ghost use Rattle.fdr_stream.specs.Kept.{stream_at_start, padded, with_packed_word, with_packed_zeros};
 ghost use Rattle.fdr_stream.specs.Past.{StreamPast, stream_made, with_block, stream_with_record, HasFinished, MayFeedStream, RepresentsStream, IsPacked, IsSampled, IsDrawing};
 
-use circular_buffer::HeapCircularBuffer;
+use crate::waiting::Waiting;
 use fdr_bits::pack_pair;
 use fdr_bus::{BusRecord, RecordKind};
 use fdr_check::Sound;
@@ -17,12 +17,6 @@ use fdr_sampler::Sampler;
 use fdr_table::NoMemory;
 use std::alloc::Global;
 use std::marker::Model;
-
-/// How many words that are 0 are packed at a time, at most.
-const ZERO_WORDS: usize = 256;
-
-/// The bytes of these words.
-const ZEROS: [u8; 3 * ZERO_WORDS / 2] = [0; 3 * ZERO_WORDS / 2];
 
 /// What a feed did.
 #[derive(Clone, Copy, Debug, PartialEq, Eq)]
@@ -39,7 +33,7 @@ pub struct Stream {
     sampler: Sampler,
     payload: usize,
     odd: Option<u16>,
-    bytes: HeapCircularBuffer<u8>,
+    bytes: Waiting,
 }
 
 impl Model for Stream {
@@ -115,7 +109,9 @@ impl Stream {
         ensures finished { (past : StreamPast) → RepresentsStream self.old past → past.begun ≡ None → HasFinished self.new past }
     {
         self.pad();
-        self.bytes.read_into(out)
+        let count = self.bytes.len();
+        self.bytes.give(count, out);
+        count
     }
 
     fn with_sampler(alloc: Global, sampler: Sampler, payload: usize) -> Result<Stream, NoMemory>
@@ -123,7 +119,7 @@ impl Stream {
         requires high { payload ≤ 4096 }
         ensures { IfOk result (λ s. s ≡ stream_at_start sampler payload) }
     {
-        let bytes = room_for_bytes(alloc, payload + 1)?;
+        let bytes = Waiting::with_capacity(alloc, payload + 1)?;
         Ok(Stream {
             sampler,
             payload,
@@ -188,7 +184,7 @@ impl Stream {
             return 0;
         }
         // Two words fill three bytes, so that half as many words as bytes have room.
-        let room = ((self.payload - self.bytes.len()) / 2).min(ZERO_WORDS);
+        let room = (self.payload - self.bytes.len()) / 2;
         let count = self.sampler.draw_empty(left.min(room as u64) as u32);
         self.pack_zeros(count);
         count
@@ -197,23 +193,14 @@ impl Stream {
     /// Packs so many words that are 0.
     fn pack_zeros(&mut self, count: u32)
         requires paired { self.old.odd ≡ None }
-        requires within_slots { count ≤ 256 }
+        requires within_block { count ≤ 4096 }
         requires room { length self.old.bytes + 3 * count / 2 ≤ self.old.payload + 1 }
         ensures { self.new ≡ with_packed_zeros self.old count }
     {
-        self.fill_zeros(3 * count / 2);
+        self.bytes.push_zeros((3 * count / 2) as usize);
         if count % 2 == 1 {
             self.odd = Some(0);
         }
-    }
-
-    /// Puts so many bytes that are 0 behind those that wait.
-    fn fill_zeros(&mut self, count: u32)
-        requires within_slots { count ≤ 384 }
-        requires room { length self.old.bytes + count ≤ self.old.payload + 1 }
-        ensures { self.new ≡ record self.old { bytes = self.old.bytes ++ replicate count 0 } }
-    {
-        self.bytes.fill_from_slice(&ZEROS[..count as usize]);
     }
 
     /// Draws the word of the next slot.
@@ -240,13 +227,13 @@ impl Stream {
     {
         match self.odd {
             None => {
-                self.bytes.push_back((word & 0xff) as u8);
+                self.bytes.push((word & 0xff) as u8);
                 self.odd = Some(word);
             }
             Some(first) => {
                 let pair = pack_pair(first, word);
-                self.bytes.push_back(pair[1]);
-                self.bytes.push_back(pair[2]);
+                self.bytes.push(pair[1]);
+                self.bytes.push(pair[2]);
                 self.odd = None;
             }
         }
@@ -258,7 +245,7 @@ impl Stream {
         ensures { self.new ≡ padded self.old }
     {
         if let Some(word) = self.odd {
-            self.bytes.push_back((word >> 8) as u8);
+            self.bytes.push((word >> 8) as u8);
             self.odd = None;
         }
     }
@@ -273,12 +260,13 @@ impl Stream {
     /// Puts the block that waits at the front of `out`.
     fn give(&mut self, out: &mut [u8])
         requires whole { self.old.payload ≤ length self.old.bytes }
+        requires few_left { length self.old.bytes ≤ self.old.payload + 1 }
         requires room { self.old.payload ≤ length out.old }
         ensures block { take self.old.payload out.new ≡ take self.old.payload self.old.bytes }
         ensures rest { self.new ≡ record self.old { bytes = drop self.old.payload self.old.bytes } }
         ensures beyond { drop self.old.payload out.new ≡ drop self.old.payload out.old }
     {
-        self.bytes.read_into(&mut out[..self.payload]);
+        self.bytes.give(self.payload, out);
     }
 
     /// Takes a record before which all words were drawn.
@@ -296,15 +284,6 @@ impl Stream {
             RecordKind::End => {}
         }
     }
-}
-
-/// Room for so many bytes.
-fn room_for_bytes(alloc: Global, count: usize) -> Result<HeapCircularBuffer<u8>, NoMemory>
-    requires { 0 < count }
-    ensures none { IfOk result (λ b. b.items ≡ []) }
-    ensures room { IfOk result (λ b. b.capacity ≡ count) }
-{
-    HeapCircularBuffer::with_capacity(alloc, count).map_err(|_| NoMemory)
 }
 
 #[cfg(test)]

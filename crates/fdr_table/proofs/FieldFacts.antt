@@ -46,19 +46,10 @@ digit-value c h = grind (arith, nat_tests)
 pub octal-value : (c : ℕ) → is_octal_digit c ≡ true → (digit_value c < 8) × (is_digit c ≡ true)
 octal-value c h = grind (arith, nat_tests)
 
-all-decimal : (xs : List ℕ) → list_all is_digit xs ≡ true → AllDigits 10 xs
-all-decimal [] h = tt
-all-decimal (x ∷ xs) h =
-    let d = digit-value x (both-left (is_digit x) (list_all is_digit xs) h) in
-    let small : digit_value x < 10 = omega arith in
-    (small, all-decimal xs (both-right (is_digit x) (list_all is_digit xs) h))
-
-all-octal : (xs : List ℕ) → list_all is_octal_digit xs ≡ true → AllDigits 8 xs
-all-octal [] h = tt
-all-octal (x ∷ xs) h = (
-  (octal-value x (both-left (is_octal_digit x) (list_all is_octal_digit xs) h)).0,
-  all-octal xs (both-right (is_octal_digit x) (list_all is_octal_digit xs) h),
-)
+all-digits : (base : ℕ) (test : ℕ → Bool) → ((c : ℕ) → test c ≡ true → digit_value c < base) → (xs : List ℕ) → list_all test xs ≡ true → AllDigits base xs
+all-digits base test small [] h = tt
+all-digits base test small (x ∷ xs) h =
+    (small x (both-left (test x) (list_all test xs) h), all-digits base test small xs (both-right (test x) (list_all test xs) h))
 
 -- octal digits are decimal digits
 pub octal-digits : (xs : List ℕ) → list_all is_octal_digit xs ≡ true → list_all is_digit xs ≡ true
@@ -68,17 +59,18 @@ octal-digits (x ∷ xs) h =
     let r = octal-digits xs (both-right (is_octal_digit x) (list_all is_octal_digit xs) h) in
     rw (e, r) refl
 
+-- no number of so few digits is too large
+digits-fit : (base most : ℕ) (xs : List ℕ) → 1 ≤ base → AllDigits base xs → length xs ≤ most → base ^ most ≤ 2 ^ 64 → digits_value base xs < 2 ^ 64
+digits-fit base most xs some digits short room =
+    let below = digits_value-lt base xs digits in
+    let largest : base ^ length xs ≤ base ^ most = pow-le-pow_right {n = base} some short in
+    omega (arith, below, largest, room)
+
 pub decimal-fits : (xs : List ℕ) → list_all is_digit xs ≡ true → length xs ≤ 19 → digits_value 10 xs < 2 ^ 64
-decimal-fits xs h short =
-    let small = digits_value-lt 10 xs (all-decimal xs h) in
-    let most : 10 ^ length xs ≤ 10 ^ 19 = pow-le-pow_right {n = 10} (omega arith) short in
-    omega (arith, small, most)
+decimal-fits xs h short = digits-fit 10 19 xs (omega arith) (all-digits 10 is_digit (λ c d. omega (arith, digit-value c d)) xs h) short (omega arith)
 
 pub octal-fits : (xs : List ℕ) → list_all is_octal_digit xs ≡ true → length xs ≤ 3 → digits_value 8 xs < 2 ^ 64
-octal-fits xs h short =
-    let small = digits_value-lt 8 xs (all-octal xs h) in
-    let most : 8 ^ length xs ≤ 8 ^ 3 = pow-le-pow_right {n = 8} (omega arith) short in
-    omega (arith, small, most)
+octal-fits xs h short = digits-fit 8 3 xs (omega arith) (all-digits 8 is_octal_digit (λ c d. (octal-value c d).0) xs h) short (omega arith)
 
 -- one more digit of a number
 pub value-step : (base i : ℕ) (xs : List ℕ) → list_all is_digit xs ≡ true → i < length xs

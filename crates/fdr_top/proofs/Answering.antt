@@ -13,18 +13,19 @@ use Rattle.fdr_slot.specs.declared.image.Header.{Header}
 use Rattle.fdr_slot.specs.declared.image.ImageFault.{ImageFault}
 use Rattle.fdr_table.specs.Ranges.{IsInRange}
 use Rattle.fdr_table.specs.Rows.{TableRows}
-use Rattle.fdr_words.specs.Forms.{check_table, stream_line, list_bits, format_image, record_line, recover_image}
+use Rattle.fdr_words.specs.Forms.{Form, check_table, stream_line, list_bits, format_image, record_line, recover_image}
 use Rattle.fdr_sampler.proofs.Exchange.{stream_of-exchanged}
 use Rattle.fdr_readout.proofs.ReadsBack.{stream_lists_back}
 use Rattle.fdr_top.specs.declared.outcome.Outcome.{Outcome}
 use Rattle.fdr_top.specs.declared.outcome.Outcome.TheVariants as outcome
-use Rattle.fdr_top.specs.Answers.{IsOwn, KeepsLineAndFaults, WritesNothing}
+use Rattle.fdr_top.specs.Answers.{HasImage, IsOwn, KeepsLineAndFaults, MakesImage, PullsBits, PullsLine, ReadsBoth, ReadsImage, WritesNothing}
 use Rattle.fdr_top.specs.Format.{Makes}
 use Rattle.fdr_top.specs.Leaves.{LeavesAll, LeavesUnused}
 use Rattle.fdr_top.specs.Limits.{most_line_bytes, piece_bytes}
 use Rattle.fdr_top.specs.Listbits.{Lists, ListsLine}
 use Rattle.fdr_top.specs.Recover.{Recovers, RecoversImage}
 use Rattle.fdr_top.specs.Stream.{Streams, StreamsLine}
+use Rattle.fdr_top.proofs.Commands.{own_begun}
 use Rattle.fdr_top.proofs.Images.{refusal_answered}
 use Rattle.fdr_top.proofs.TableAnswers.{whole_line}
 use Rattle.fdr_top.proofs.TraceAnswers.{fault_answered, told_fault, told_stream}
@@ -98,69 +99,33 @@ recovers_image path tells old new before now answer recovers of = record {
       refusal_answered path tells old new before now answer why of recovers left told first;
 }
 
-pub report_writes : (path : List ℕ) (answer : Outcome) → IsOwn (check_table path) answer → WritesNothing answer → ⊥
-report_writes path (outcome.ImageRefused why) own nothing = own
-report_writes path outcome.NotEmpty own nothing = own
-report_writes path (outcome.WordsDiffer image table) own nothing = own
-report_writes path outcome.Usage own nothing = own
-report_writes path (outcome.TableRefused row f) own nothing = own
-report_writes path (outcome.ReadFault input.Table) own nothing = own
-report_writes path outcome.NoMemory own nothing = own
-report_writes path answer own nothing = nothing
+-- where a command that was begun writes nothing, memory ended before anything was written
+pub begun_leaves : (form : Form) (tells : Tells) (old new : State) (before now : Option (List ℕ)) (f g : ℕ) (answer : Outcome)
+    → (ReadsImage form → ⊥) → (MakesImage form → ⊥) → (ReadsBoth form → ⊥) → (answer ≡ outcome.NoMemory) ⊎ IsOwn form answer
+    → LeavesDisk old new → new.told ≡ old.told → (answer ≡ outcome.NoMemory → now ≡ before) → (answer ≡ outcome.NoMemory → g ≡ f)
+    → WritesNothing answer → LeavesAll tells old new before now f g answer
+begun_leaves form tells old new before now f g answer reads makes both of leaves told written faults nothing = ⊎_elim
+    (λ (memory : answer ≡ outcome.NoMemory). record {
+      told = told;
+      written = written memory;
+      faults = faults memory;
+      disk = leaves.disk;
+      extent = record { bytes = λ told. leaves.extent; stops = λ told. leaves.extent; known = λ some. leaves.extent };
+      line = λ first. absurd (rw memory at first);
+    })
+    (λ own. absurd (own_begun form answer reads makes both own nothing))
+    of
 
--- a listing or a stream that was begun is no refusal
-pub listing_writes : (path : List ℕ) (answer : Outcome) → IsOwn (list_bits path) answer → WritesNothing answer → ⊥
-listing_writes path (outcome.ImageRefused why) own nothing = own
-listing_writes path outcome.NotEmpty own nothing = own
-listing_writes path (outcome.WordsDiffer image table) own nothing = own
-listing_writes path outcome.Usage own nothing = own
-listing_writes path (outcome.TableRefused row f) own nothing = own
-listing_writes path (outcome.ReadFault input.Table) own nothing = own
-listing_writes path outcome.NoMemory own nothing = own
-listing_writes path answer own nothing = nothing
-
-pub stream_writes : (path : List ℕ) (answer : Outcome) → IsOwn (stream_line path) answer → WritesNothing answer → ⊥
-stream_writes path (outcome.ImageRefused why) own nothing = own
-stream_writes path outcome.NotEmpty own nothing = own
-stream_writes path (outcome.WordsDiffer image table) own nothing = own
-stream_writes path outcome.Usage own nothing = own
-stream_writes path (outcome.TableRefused row f) own nothing = own
-stream_writes path (outcome.ReadFault input.Table) own nothing = own
-stream_writes path outcome.NoMemory own nothing = own
-stream_writes path answer own nothing = nothing
-
--- where memory ended before anything was written
-pub memory_leaves : (tells : Tells) (old new : State) (before now : Option (List ℕ)) (f g : ℕ) (answer : Outcome)
-    → answer ≡ outcome.NoMemory → LeavesDisk old new → new.told ≡ old.told → now ≡ before → g ≡ f
-    → LeavesAll tells old new before now f g answer
-memory_leaves tells old new before now f g answer memory leaves told written faults = record {
-  told = told;
-  written = written;
-  faults = faults;
-  disk = leaves.disk;
-  extent = record { bytes = λ told. leaves.extent; stops = λ told. leaves.extent; known = λ some. leaves.extent };
-  line = λ first. absurd (rw memory at first);
-}
-
-pub listing_unused : (path : List ℕ) (old new : State) (answer : Outcome) → LeavesDisk old new → new.told ≡ old.told
-    → (answer ≡ outcome.NoMemory → KeepsLineAndFaults old new)
-    → new.taken ≤ old.taken + most_line_bytes + piece_bytes → LeavesUnused (list_bits path) old new answer
-listing_unused path old new answer leaves told memory bounded = record {
-  line = λ unused. absurd (unused tt);
+-- a command that pulls the line leaves the disk
+pub line_unused : (form : Form) (old new : State) (answer : Outcome) → PullsLine form → LeavesDisk old new → new.told ≡ old.told
+    → (answer ≡ outcome.NoMemory → KeepsLineAndFaults old new) → (PullsBits form → new.taken ≤ old.taken + most_line_bytes + piece_bytes)
+    → LeavesUnused form old new answer
+line_unused form old new answer pulls leaves told memory bounded = record {
+  line = λ unused. absurd (unused pulls);
   disk = λ unused. leaves;
   told = λ unused. told;
   memory = λ pulls none. memory none;
-  bits = λ pulls. bounded;
-}
-
-pub stream_unused : (path : List ℕ) (old new : State) (answer : Outcome) → LeavesDisk old new → new.told ≡ old.told
-    → (answer ≡ outcome.NoMemory → KeepsLineAndFaults old new) → LeavesUnused (stream_line path) old new answer
-stream_unused path old new answer leaves told memory = record {
-  line = λ unused. absurd (unused tt);
-  disk = λ unused. leaves;
-  told = λ unused. told;
-  memory = λ pulls none. memory none;
-  bits = λ other. absurd other;
+  bits = bounded;
 }
 
 -- the line is as it was where the calls pass it by
@@ -168,24 +133,15 @@ pub passes_keeps : (tells : Tells) (old new : State) → Passes tells old new �
 passes_keeps tells old new passes =
     record { line = passes.line.line; taken = passes.line.taken; before = passes.line.before; faults = passes.line_faults }
 
-pub format_unused : (path image : List ℕ) (slots payload : ℕ) (tells : Tells) (old new : State) (answer : Outcome)
-    → Passes tells old new → LeavesUnused (format_image path image slots payload) old new answer
-format_unused path image slots payload tells old new answer passes = record {
+-- and one that has an image leaves the line
+pub image_unused : (form : Form) (tells : Tells) (old new : State) (answer : Outcome) → HasImage form → (PullsLine form → ⊥) → (PullsBits form → ⊥)
+    → Passes tells old new → LeavesUnused form old new answer
+image_unused form tells old new answer image no_line no_bits passes = record {
   line = λ unused. passes_keeps tells old new passes;
-  disk = λ unused. absurd (unused tt);
+  disk = λ unused. absurd (unused image);
   told = λ unused. passes.told.told;
-  memory = λ other none. absurd other;
-  bits = λ other. absurd other;
-}
-
-pub recover_unused : (image : List ℕ) (tells : Tells) (old new : State) (answer : Outcome)
-    → Passes tells old new → LeavesUnused (recover_image image) old new answer
-recover_unused image tells old new answer passes = record {
-  line = λ unused. passes_keeps tells old new passes;
-  disk = λ unused. absurd (unused tt);
-  told = λ unused. passes.told.told;
-  memory = λ other none. absurd other;
-  bits = λ other. absurd other;
+  memory = λ pulls none. absurd (no_line pulls);
+  bits = λ pulls. absurd (no_bits pulls);
 }
 
 pub memory_writes : (answer : Outcome) → answer ≡ outcome.NoMemory → WritesNothing answer

@@ -1,10 +1,14 @@
 -- Which answers commands give.
-use Rattle.std.proofs.Common.{◌≡◌, ◌⊎◌, ⊎_elim, ℕ, List, Option, Some, sym, ◌∙◌, subst}
+use Rattle.std.proofs.Common.{◌≡◌, ◌⊎◌, inl, inr, ⊎_elim, ℕ, List, Option, Some, None, ap, sym, ◌∙◌, subst}
+use Rattle.std.specs.Prelude.{◌↔◌}
 use Rattle.fdr_io.specs.declared.Input.TheVariants as input
 use Rattle.fdr_words.specs.Forms.{Form}
+use Rattle.fdr_words.specs.Request.{form_of_request}
+use Rattle.fdr_words.specs.declared.Request.{Request}
 use Rattle.fdr_top.specs.declared.outcome.Outcome.{Outcome}
 use Rattle.fdr_top.specs.declared.outcome.Outcome.TheVariants as outcome
 use Rattle.fdr_top.specs.Answers.{EndsBeforeDeck, HasImage, IsOfTable, IsOwn, IsPastTable, MayAnswer, PullsLine, ReadsTable, WritesText}
+use Rattle.fdr_top.specs.Answers.{MakesImage, ReadsBoth, ReadsImage, WritesNothing}
 use Rattle.fdr_top.specs.Check.{Reports}
 use Rattle.fdr_io.proofs.Telling.{followed_by-nil}
 use Rattle.fdr_table.specs.Rows.{TableRows}
@@ -23,6 +27,9 @@ own_past form (outcome.TableRefused row f) own = own
 own_past form (outcome.ReadFault input.Table) own = own
 own_past form outcome.NoMemory own = own
 own_past form answer own = tt
+
+pub memory_past : (form : Form) (answer : Outcome) → (answer ≡ outcome.NoMemory) ⊎ IsOwn form answer → (answer ≡ outcome.NoMemory) ⊎ IsPastTable answer
+memory_past form answer either = ⊎_elim (λ memory. inl memory) (λ own. inr (own_past form answer own)) either
 
 pub own_may : (form : Form) (answer : Outcome) → IsOwn form answer → MayAnswer form answer
 own_may form (outcome.TableRefused row f) own = absurd own
@@ -50,34 +57,54 @@ own_not_table form answer of e = own_uses form answer of (subst EndsBeforeDeck (
 pub own_not_memory : (form : Form) (answer : Outcome) → IsOwn form answer → answer ≡ outcome.NoMemory → ⊥
 own_not_memory form answer own e = rw e at own
 
-pub own_not_line : (form : Form) (answer : Outcome) → (answer ≡ outcome.NoMemory) ⊎ IsOwn form answer → (PullsLine form → ⊥)
-    → answer ≡ outcome.ReadFault input.Line → ⊥
-own_not_line form answer of not e = ⊎_elim
-    (λ (memory : answer ≡ outcome.NoMemory). let c : outcome.ReadFault input.Line ≡ outcome.NoMemory = sym e ∙ memory in absurd (cc))
+-- nor is one that it doesn't give, other than want of memory
+own_not : (form : Form) (answer other : Outcome) → (answer ≡ outcome.NoMemory) ⊎ IsOwn form answer → (other ≡ outcome.NoMemory → ⊥)
+    → (IsOwn form other → ⊥) → answer ≡ other → ⊥
+own_not form answer other of left not e = ⊎_elim
+    (λ (memory : answer ≡ outcome.NoMemory). left (sym e ∙ memory))
     (λ (own : IsOwn form answer). not (rw e at own))
     of
+
+pub own_not_line : (form : Form) (answer : Outcome) → (answer ≡ outcome.NoMemory) ⊎ IsOwn form answer → (PullsLine form → ⊥)
+    → answer ≡ outcome.ReadFault input.Line → ⊥
+own_not_line form answer of = own_not form answer (outcome.ReadFault input.Line) of (λ e. absurd (cc))
 
 pub own_not_sink : (form : Form) (answer : Outcome) → (answer ≡ outcome.NoMemory) ⊎ IsOwn form answer → (WritesText form → ⊥)
     → answer ≡ outcome.WriteFault → ⊥
-own_not_sink form answer of not e = ⊎_elim
-    (λ (memory : answer ≡ outcome.NoMemory). let c : outcome.WriteFault ≡ outcome.NoMemory = sym e ∙ memory in absurd (cc))
-    (λ (own : IsOwn form answer). not (rw e at own))
-    of
+own_not_sink form answer of = own_not form answer outcome.WriteFault of (λ e. absurd (cc))
 
 pub own_not_disk : (form : Form) (answer : Outcome) → (answer ≡ outcome.NoMemory) ⊎ IsOwn form answer → (HasImage form → ⊥)
     → answer ≡ outcome.DiskFault → ⊥
-own_not_disk form answer of not e = ⊎_elim
-    (λ (memory : answer ≡ outcome.NoMemory). let c : outcome.DiskFault ≡ outcome.NoMemory = sym e ∙ memory in absurd (cc))
-    (λ (own : IsOwn form answer). not (rw e at own))
-    of
+own_not_disk form answer of = own_not form answer outcome.DiskFault of (λ e. absurd (cc))
 
--- words are of one form
-pub same_form : (form : Option Form) (a b : Form) → form ≡ Some a → form ≡ Some b → a ≡ b
-same_form form a b first second = let c : Some a ≡ Some b = sym first ∙ second in cc
+-- a command that reads no image and makes none has begun to write
+pub own_begun : (form : Form) (answer : Outcome) → (ReadsImage form → ⊥) → (MakesImage form → ⊥) → (ReadsBoth form → ⊥) → IsOwn form answer
+    → WritesNothing answer → ⊥
+own_begun form (outcome.ImageRefused why) reads makes both own nothing = reads own
+own_begun form outcome.NotEmpty reads makes both own nothing = makes own
+own_begun form (outcome.WordsDiffer image table) reads makes both own nothing = both own
+own_begun form outcome.Usage reads makes both own nothing = own
+own_begun form (outcome.TableRefused row f) reads makes both own nothing = own
+own_begun form (outcome.ReadFault input.Table) reads makes both own nothing = own
+own_begun form outcome.NoMemory reads makes both own nothing = own
+own_begun form answer reads makes both own nothing = nothing
 
--- the words' command may give what it gives for any path
-pub may_asks : (form other : Form) (answer : Outcome) → form ≡ other → MayAnswer form answer → MayAnswer other answer
-may_asks form other answer same may = subst (λ (x : Form). MayAnswer x answer) same may
+-- words ask for the form of the request that they are read as
+pub asked : (told : Option Form) (form : Form) (given request : Request) → told ≡ Some form → told ≡ Some (form_of_request given)
+    → given ≡ request → form ≡ form_of_request request
+asked told form given request asks read is =
+    let same : Some form ≡ Some (form_of_request given) = sym asks ∙ read in
+    let one : form ≡ form_of_request given = cc in
+    one ∙ ap form_of_request is
+
+-- a command's answers are the same for any path
+pub may_asks : (form other : Form) (answer : Outcome) → form ≡ other → MayAnswer other answer → MayAnswer form answer
+may_asks form other answer same may = subst (λ (x : Form). MayAnswer x answer) (sym same) may
+
+-- where words are read as a request, an answer of its command isn't that they are wrong
+pub not_usage : (told : Option Form) (read : Form) (answer : Outcome) → told ≡ Some read → (answer ≡ outcome.Usage → ⊥)
+    → (answer ≡ outcome.Usage) ↔ (told ≡ None)
+not_usage told read answer is other = (λ e. absurd (other e), λ none. absurd (let k = sym none ∙ is in cc))
 
 -- where memory ends, nothing of a report is written
 pub nothing_reported : (t : TableRows) (written : Option (List ℕ)) → Reports t written written outcome.NoMemory

@@ -34,10 +34,10 @@ use Rattle.fdr_top.specs.declared.outcome.Outcome.TheVariants as outcome
 use Rattle.fdr_top.specs.declared.supply.RecordSource.{RecordSource}
 use Rattle.fdr_top.specs.declared.supply.RecordSource.TheVariants as source
 use Rattle.fdr_top.proofs.Drills.{RecordsBlocks-after, RecordsBlocks-before}
-use Rattle.fdr_top.proofs.ListedImages.{IsOfBlocks, no_first}
+use Rattle.fdr_top.proofs.ListedImages.{IsOfBlocks}
 use Rattle.fdr_top.proofs.Making.{table_or, table_told}
 use Rattle.fdr_top.proofs.Readable.{lists_survivors, lists_undamaged}
-use Rattle.fdr_top.proofs.RecordLines.{RecordsBlocks-nothing, RecordsBlocks-unbegun, all_past}
+use Rattle.fdr_top.proofs.RecordLines.{no_differ, no_first, RecordsBlocks-nothing, RecordsBlocks-unbegun, all_past}
 
 -- what was recorded, and what was written of it
 drills : (t : TableRows) (seed frames : ℕ) (tells : Tells) (old new : State) (before now : Option (List ℕ)) (answer : Outcome) → IsInRange t → IsSound t
@@ -168,33 +168,6 @@ drills_nothing seed frames tells rest d written answer sound early =
 
 -- ---- its answers
 
-pub shut_drills : (path image : List ℕ) (seed frames : ℕ) (answer : Outcome) → KeepsShut answer
-    → (answer ≡ outcome.NoMemory) ⊎ IsOwn (drill_image path image seed frames) answer
-shut_drills path image seed frames (outcome.ImageRefused why) shut = inr tt
-shut_drills path image seed frames (outcome.WordsDiffer i w) shut = inr tt
-shut_drills path image seed frames outcome.DiskFault shut = inr tt
-shut_drills path image seed frames outcome.NoMemory shut = inl refl
-shut_drills path image seed frames answer shut = absurd shut
-
-pub session_drills : (path image : List ℕ) (seed frames : ℕ) (answer : Outcome) → RefusesSession answer
-    → (answer ≡ outcome.NoMemory) ⊎ IsOwn (drill_image path image seed frames) answer
-session_drills path image seed frames (outcome.ImageRefused why) refuses = inr tt
-session_drills path image seed frames (outcome.WordsDiffer i w) refuses = inr tt
-session_drills path image seed frames outcome.DiskFault refuses = inr tt
-session_drills path image seed frames outcome.SeqEnd refuses = inr tt
-session_drills path image seed frames outcome.NoMemory refuses = inl refl
-session_drills path image seed frames answer refuses = absurd refuses
-
-pub blocks_drill : (path image : List ℕ) (seed frames : ℕ) (answer : Outcome) → IsOfBlocks answer
-    → (answer ≡ outcome.NoMemory) ⊎ IsOwn (drill_image path image seed frames) answer
-blocks_drill path image seed frames answer of = ⊎_elim
-    (λ (x : answer ≡ outcome.Done). rw x (inr tt))
-    (λ (rest : (answer ≡ outcome.WriteFault) ⊎ (answer ≡ outcome.DiskFault)). ⊎_elim
-    (λ (x : answer ≡ outcome.WriteFault). rw x (inr tt))
-    (λ (x : answer ≡ outcome.DiskFault). rw x (inr tt))
-    rest)
-    of
-
 pub drill_unused : (path image : List ℕ) (seed frames : ℕ) (old new : State) (answer : Outcome) → KeepsLineAndFaults old new
     → LeavesUnused (drill_image path image seed frames) old new answer
 drill_unused path image seed frames old new answer line = record {
@@ -219,8 +192,7 @@ drill_done path image seed frames t tells old new before now outcome.SeqEnd own 
 drill_done path image seed frames t tells old new before now (outcome.ImageRefused why) own is bytes room disk sink =
     absurd (no_first old.held why room.image.no_fault (is.blocks.image.refused why refl bytes))
 drill_done path image seed frames t tells old new before now (outcome.WordsDiffer i w) own is bytes room disk sink =
-    let here = is.blocks.image.words i w refl in
-    absurd (here.1 (sym (here.2 bytes).words ∙ room.image.words ∙ sym here.0))
+    absurd (no_differ t tells old new (outcome.WordsDiffer i w) i w is.blocks.image bytes room.image refl)
 drill_done path image seed frames t tells old new before now (outcome.ReadFault input.Table) own is bytes room disk sink =
     ⊎_elim (λ memory. absurd (cc)) (λ it. absurd it) own
 drill_done path image seed frames t tells old new before now (outcome.ReadFault input.Line) own is bytes room disk sink =

@@ -23,6 +23,14 @@ use Rattle.fdr_words.specs.Forms.{recover_image}
 use Rattle.fdr_top.specs.Answers.{IsOwn}
 use Rattle.fdr_top.specs.Recover.{OnlyLooks, Recovers, RecoversImage, header_refusal, payloads_of, run_in}
 
+-- no look yet
+pub OnlyLooks-here : (tells : Tells) (d : State) → IsSoundDeck tells d → OnlyLooks tells d d
+OnlyLooks-here tells d sound = record {
+  learns = record { bytes = λ told. refl; stops = λ told. refl; known = λ some. refl };
+  disk = record { held = refl; no_more = λ image leaves. leaves; no_less = λ image leaves. leaves };
+  quiet = IsQuiet-here tells d.may_leave d sound (λ told image leaves. leaves);
+}
+
 -- one look behind another
 pub OnlyLooks-then : (tells : Tells) (old mid new : State) → IsSoundDeck tells old → OnlyLooks tells old mid → Looks tells mid new → OnlyLooks tells old new
 OnlyLooks-then tells old mid new sound first second = record {
@@ -76,6 +84,11 @@ header_unread tells old new written ring.DiskFault looks not_empty not_end first
     (λ why e told. absurd (cc)) (λ why e. absurd (cc)) (λ e. cause refl)
 header_unread tells old new written ring.SeqEnd looks not_empty not_end first small cause = absurd (not_end refl)
 
+-- the run that is read is that at entry
+pub run_same : (tells : Tells) (old mid : State) (h : Header) → OnlyLooks tells old mid → (IsTrue tells.bytes → h ≡ header_in old.held) → IsTrue tells.bytes
+    → recovered_run h mid.held ≡ run_in old.held
+run_same tells old mid h looks header told = ap (recovered_run h) looks.disk.held ∙ ap (λ (x : Header). recovered_run x old.held) (header told)
+
 -- where the run is written
 pub run_recovered : (tells : Tells) (old mid new : State) (h : Header) (before now : Option (List ℕ)) (answer : Outcome) → IsSoundDeck tells old
     → OnlyLooks tells old mid → Looks tells mid new
@@ -85,8 +98,7 @@ pub run_recovered : (tells : Tells) (old mid new : State) (h : Header) (before n
     → ((why : ImageFault) → answer ≡ outcome.ImageRefused why → ⊥) → mid.disk_faults ≡ old.disk_faults
     → (answer ≡ outcome.DiskFault → Rose mid.disk_faults new.disk_faults) → Recovers tells old new before now answer
 run_recovered tells old mid new h before now answer sound first second header good all part unrefused quiet cause =
-    let same : IsTrue tells.bytes → recovered_run h mid.held ≡ run_in old.held =
-    λ told. ap (recovered_run h) first.disk.held ∙ ap (λ (x : Header). recovered_run x old.held) (header told) in record {
+    let same : IsTrue tells.bytes → recovered_run h mid.held ≡ run_in old.held = run_same tells old mid h first header in record {
       looks = OnlyLooks-then tells old mid new sound first second;
       good = λ no_fault read told. good told;
       all = λ done told. all done told ∙ ap (λ run. followed_by before (payloads_of run)) (same told);
@@ -120,11 +132,7 @@ refusal_answered path tells old new before now answer why of recovers left told 
 pub recovers_nothing : (tells : Tells) (d : State) (written : Option (List ℕ)) → IsSoundDeck tells d
     → RecoversImage tells d d written written outcome.NoMemory
 recovers_nothing tells d written sound = record {
-  looks = record {
-    learns = record { bytes = λ told. refl; stops = λ told. refl; known = λ some. refl };
-    disk = record { held = refl; no_more = λ image leaves. leaves; no_less = λ image leaves. leaves };
-    quiet = IsQuiet-here tells d.may_leave d sound (λ told image leaves. leaves);
-  };
+  looks = OnlyLooks-here tells d sound;
   all = λ done told. absurd (cc);
   part = λ told. (0, sym (followed_by-nil written));
   good = λ done told. absurd (cc);

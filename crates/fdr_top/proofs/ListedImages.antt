@@ -1,5 +1,5 @@
 -- What listing an image leaves and answers.
-use Rattle.std.proofs.Common.{◌≡◌, ◌≢◌, ◌⊎◌, ⊎_elim, inl, inr, ℕ, ◌<◌, List, [], Option, Some, None, ap, sym, refl, ◌∙◌}
+use Rattle.std.proofs.Common.{◌≡◌, ◌≢◌, ◌⊎◌, ⊎_elim, inl, inr, ℕ, ◌<◌, List, [], Option, Some, None, ap, sym, refl, ◌∙◌, subst}
 use Rattle.std.specs.Prelude.{IsTrue, ◌↔◌, take}
 use Rattle.fdr_io.specs.Faults.{Rose}
 use Rattle.fdr_io.specs.Told.{followed_by}
@@ -7,7 +7,6 @@ use Rattle.fdr_io.specs.declared.Input.TheVariants as input
 use Rattle.fdr_io.proofs.Telling.{followed_by-nil}
 use Rattle.fdr_deck.specs.State.{State, Tells}
 use Rattle.fdr_deck.specs.Moments.{IsSoundDeck}
-use Rattle.fdr_deck.proofs.Moments.{IsQuiet-here}
 use Rattle.fdr_slot.specs.declared.image.Header.{Header}
 use Rattle.fdr_slot.specs.declared.image.ImageFault.{ImageFault}
 use Rattle.fdr_slot.specs.declared.image.ImageFault.TheVariants as fault
@@ -20,26 +19,18 @@ use Rattle.fdr_table.specs.Rows.{TableRows}
 use Rattle.fdr_readout.specs.Listing.{listing_of}
 use Rattle.fdr_recorder.specs.Starting.{IsFor}
 use Rattle.fdr_words.specs.Forms.{drill_image, list_image}
-use Rattle.fdr_top.specs.Answers.{EndsBeforeDeck, IsOfTable, IsOwn, IsPastTable, MayAnswer, WritesNothing}
-use Rattle.fdr_top.specs.Leaves.{Causes, LeavesUnused}
+use Rattle.fdr_top.specs.Answers.{IsOfTable, IsOwn, IsPastTable, WritesNothing}
+use Rattle.fdr_top.specs.Leaves.{Causes}
 use Rattle.fdr_top.specs.List.{KeepsShut, ListsImage}
 use Rattle.fdr_top.specs.Refusals.{RefusesImage}
 use Rattle.fdr_top.specs.Recover.{OnlyLooks, header_refusal, payloads_of, run_in}
 use Rattle.fdr_top.specs.Tables.{ByTable, table_in}
 use Rattle.fdr_top.specs.declared.outcome.Outcome.{Outcome}
 use Rattle.fdr_top.specs.declared.outcome.Outcome.TheVariants as outcome
-use Rattle.fdr_top.proofs.Answering.{passes_keeps}
-use Rattle.fdr_top.proofs.Commands.{own_may, own_past}
-use Rattle.fdr_top.proofs.Images.{OnlyLooks-then, same_fault}
-use Rattle.fdr_top.proofs.RecordLines.{refuses_nothing, takes_image}
+use Rattle.fdr_top.proofs.Commands.{own_not_line, own_not_table}
+use Rattle.fdr_top.proofs.Images.{OnlyLooks-here, OnlyLooks-then, run_same}
+use Rattle.fdr_top.proofs.RecordLines.{disk_failed, image_refused, no_differ, no_first, refuses_nothing, takes_image}
 use Rattle.fdr_top.proofs.TableAnswers.{past_not_memory, table_not_past}
-
--- an image has one first fault, or none
-same_first : (image : List ℕ) (a b : ImageFault) → image_fault_of image ≡ Some a → image_fault_of image ≡ Some b → a ≡ b
-same_first image a b first second = let c : ◌≡◌ {A = Option ImageFault} (Some a) (Some b) = sym first ∙ second in cc
-
-pub no_first : (image : List ℕ) (why : ImageFault) → image_fault_of image ≡ None → image_fault_of image ≡ Some why → ⊥
-no_first image why none some = let c : ◌≡◌ {A = Option ImageFault} None (Some why) = sym none ∙ some in cc
 
 -- where the header isn't read
 pub header_refused : (t : TableRows) (tells : Tells) (old new : State) (f : RingFault) → (f ≡ ring.NotEmpty → ⊥) → (f ≡ ring.SeqEnd → ⊥)
@@ -47,20 +38,9 @@ pub header_refused : (t : TableRows) (tells : Tells) (old new : State) (f : Ring
     → ((why : ImageFault) → f ≡ ring.Image why → (why ≡ fault.Small) ↔ (new.extent < 64))
     → RefusesImage t tells old new (header_refusal f)
 header_refused t tells old new ring.NotEmpty not_empty not_end first small = absurd (not_empty refl)
-header_refused t tells old new (ring.Image found) not_empty not_end first small = record {
-  refused = λ why e told. first told why (ap ring.Image (same_fault found why e));
-  small = λ why e. small why (ap ring.Image (same_fault found why e));
-  refused_always = λ why past told some. inl (ap outcome.ImageRefused (same_first old.held found why (first told found refl) some));
-  words = λ image table e. absurd (cc);
-  words_always = λ image past told for other. absurd (no_first old.held found for.no_fault (first told found refl));
-}
-header_refused t tells old new ring.DiskFault not_empty not_end first small = record {
-  refused = λ why e told. absurd (cc);
-  small = λ why e. absurd (cc);
-  refused_always = λ why past told some. inr refl;
-  words = λ image table e. absurd (cc);
-  words_always = λ image past told for other. inr refl;
-}
+header_refused t tells old new (ring.Image found) not_empty not_end first small =
+    image_refused t tells old new found (λ told. first told found refl) (small found refl)
+header_refused t tells old new ring.DiskFault not_empty not_end first small = disk_failed t tells old new
 header_refused t tells old new ring.SeqEnd not_empty not_end first small = absurd (not_end refl)
 
 pub header_shut : (f : RingFault) → KeepsShut (header_refusal f)
@@ -115,45 +95,29 @@ unlisted t tells old new written answer looks shut image = record {
   image = image;
 }
 
-pub shut_own : (path image : List ℕ) (answer : Outcome) → KeepsShut answer
-    → (answer ≡ outcome.NoMemory) ⊎ IsOwn (list_image path image) answer
-shut_own path image (outcome.ImageRefused why) shut = inr tt
-shut_own path image (outcome.WordsDiffer i w) shut = inr tt
-shut_own path image outcome.DiskFault shut = inr tt
-shut_own path image outcome.NoMemory shut = inl refl
-shut_own path image answer shut = absurd shut
-
 -- what the blocks' listing answers
 abbrev pub IsOfBlocks : Outcome → Type 0
 IsOfBlocks answer = (answer ≡ outcome.Done) ⊎ ((answer ≡ outcome.WriteFault) ⊎ (answer ≡ outcome.DiskFault))
 
-pub of_blocks_begun : (answer : Outcome) → IsOfBlocks answer → WritesNothing answer → ⊥
-of_blocks_begun answer of nothing = ⊎_elim
-    (λ (x : answer ≡ outcome.Done). absurd (rw x at nothing))
+-- what holds of each of these answers
+of_blocks : (P : Outcome → Type 0) (answer : Outcome) → P outcome.Done → P outcome.WriteFault → P outcome.DiskFault → IsOfBlocks answer → P answer
+of_blocks P answer done write disk of = ⊎_elim
+    (λ (x : answer ≡ outcome.Done). subst P (sym x) done)
     (λ (rest : (answer ≡ outcome.WriteFault) ⊎ (answer ≡ outcome.DiskFault)). ⊎_elim
-    (λ (x : answer ≡ outcome.WriteFault). absurd (rw x at nothing))
-    (λ (x : answer ≡ outcome.DiskFault). absurd (rw x at nothing))
+    (λ (x : answer ≡ outcome.WriteFault). subst P (sym x) write)
+    (λ (x : answer ≡ outcome.DiskFault). subst P (sym x) disk)
     rest)
     of
+
+pub of_blocks_begun : (answer : Outcome) → IsOfBlocks answer → WritesNothing answer → ⊥
+of_blocks_begun answer = of_blocks (λ (a : Outcome). WritesNothing a → ⊥) answer (λ none. none) (λ none. none) (λ none. none)
 
 -- they are answers of the commands that read the blocks
 pub of_blocks_list : (path image : List ℕ) (answer : Outcome) → IsOfBlocks answer → IsOwn (list_image path image) answer
-of_blocks_list path image answer of = ⊎_elim
-    (λ (x : answer ≡ outcome.Done). rw x tt)
-    (λ (rest : (answer ≡ outcome.WriteFault) ⊎ (answer ≡ outcome.DiskFault)). ⊎_elim
-    (λ (x : answer ≡ outcome.WriteFault). rw x tt)
-    (λ (x : answer ≡ outcome.DiskFault). rw x tt)
-    rest)
-    of
+of_blocks_list path image answer = of_blocks (λ (a : Outcome). IsOwn (list_image path image) a) answer tt tt tt
 
 pub of_blocks_drill : (path image : List ℕ) (seed frames : ℕ) (answer : Outcome) → IsOfBlocks answer → IsOwn (drill_image path image seed frames) answer
-of_blocks_drill path image seed frames answer of = ⊎_elim
-    (λ (x : answer ≡ outcome.Done). rw x tt)
-    (λ (rest : (answer ≡ outcome.WriteFault) ⊎ (answer ≡ outcome.DiskFault)). ⊎_elim
-    (λ (x : answer ≡ outcome.WriteFault). rw x tt)
-    (λ (x : answer ≡ outcome.DiskFault). rw x tt)
-    rest)
-    of
+of_blocks_drill path image seed frames answer = of_blocks (λ (a : Outcome). IsOwn (drill_image path image seed frames) a) answer tt tt tt
 
 -- where the blocks are read and their bits listed
 pub blocks_listed : (t : TableRows) (tells : Tells) (old mid new : State) (h : Header) (before now : Option (List ℕ)) (answer : Outcome) → IsSoundDeck tells old
@@ -163,8 +127,7 @@ pub blocks_listed : (t : TableRows) (tells : Tells) (old mid new : State) (h : H
     → (IsTrue tells.bytes → (k : ℕ) × (now ≡ followed_by before (take k (listing_of t (payloads_of (recovered_run h mid.held))))))
     → ListsImage t tells old new before now answer
 blocks_listed t tells old mid new h before now answer sound first second header for of text part =
-    let whole : IsTrue tells.bytes → recovered_run h mid.held ≡ run_in old.held = λ told.
-    ap (recovered_run h) first.disk.held ∙ ap (λ (x : Header). recovered_run x old.held) (header told) in
+    let whole : IsTrue tells.bytes → recovered_run h mid.held ≡ run_in old.held = run_same tells old mid h first header in
     record {
       looks = OnlyLooks-then tells old mid new sound first second;
       text = λ done told. text done told ∙ ap (λ run. followed_by before (listing_of t (payloads_of run))) (whole told);
@@ -191,28 +154,13 @@ lists_nothing tells rest d written answer sound either =
       found.0,
       found.1,
       record {
-        looks = record {
-          learns = record { bytes = λ told. refl; stops = λ told. refl; known = λ some. refl };
-          disk = record { held = refl; no_more = λ image leaves. leaves; no_less = λ image leaves. leaves };
-          quiet = IsQuiet-here tells d.may_leave d sound (λ told image leaves. leaves);
-        };
+        looks = OnlyLooks-here tells d sound;
         text = λ done told. absurd (not outcome.Done tt done);
         part = λ told. (0, sym (followed_by-nil written));
         good = λ either told. absurd (⊎_elim (not outcome.Done tt) (not outcome.WriteFault tt) either);
         image = refuses_nothing found.0 tells d d answer early;
       },
     )
-
--- what a listing leaves of what it doesn't use
-pub list_unused : (path image : List ℕ) (t : TableRows) (tells : Tells) (old new : State) (before now : Option (List ℕ)) (answer : Outcome)
-    → ListsImage t tells old new before now answer → LeavesUnused (list_image path image) old new answer
-list_unused path image t tells old new before now answer lists = record {
-  line = λ unused. passes_keeps tells old new lists.looks.quiet.passes;
-  disk = λ unused. absurd (unused tt);
-  told = λ unused. lists.looks.quiet.passes.told.told;
-  memory = λ other none. absurd other;
-  bits = λ other. absurd other;
-}
 
 -- the image is for the table's frames, and nothing fails: its bits are listed, or memory ended
 pub list_done : (path image : List ℕ) (t : TableRows) (tells : Tells) (old new : State) (before now : Option (List ℕ)) (answer : Outcome)
@@ -223,8 +171,7 @@ list_done path image t tells old new before now outcome.Done of lists told for d
 list_done path image t tells old new before now (outcome.ImageRefused why) of lists told for disk sink =
     absurd (no_first old.held why for.no_fault (lists.image.refused why refl told))
 list_done path image t tells old new before now (outcome.WordsDiffer words table) of lists told for disk sink =
-    let differ = lists.image.words words table refl in
-    absurd (differ.1 (sym (differ.2 told).words ∙ for.words ∙ sym differ.0))
+    absurd (no_differ t tells old new (outcome.WordsDiffer words table) words table lists.image told for refl)
 list_done path image t tells old new before now outcome.WriteFault of lists told for disk sink = absurd (sink refl)
 list_done path image t tells old new before now outcome.DiskFault of lists told for disk sink = absurd (disk refl)
 list_done path image t tells old new before now outcome.NoMemory of lists told for disk sink = inr refl
@@ -234,30 +181,12 @@ list_done path image t tells old new before now (outcome.ReadFault input.Line) o
     ⊎_elim (λ memory. absurd (cc)) (λ own. absurd own) of
 list_done path image t tells old new before now answer of lists told for disk sink = ⊎_elim (λ memory. inr memory) (λ own. absurd own) of
 
--- an answer past the table doesn't come before the deck is asked
-past_not_before : (answer : Outcome) → IsPastTable answer → EndsBeforeDeck answer → ⊥
-past_not_before outcome.Usage past before = past
-past_not_before (outcome.TableRefused row f) past before = past
-past_not_before (outcome.ReadFault input.Table) past before = past
-past_not_before answer past before = before
-
--- what a listing answers is an answer of the command, and comes after the deck was asked
-pub list_may : (path image : List ℕ) (answer : Outcome) → (answer ≡ outcome.NoMemory) ⊎ IsOwn (list_image path image) answer
-    → MayAnswer (list_image path image) answer
-list_may path image answer of = ⊎_elim (λ (m : answer ≡ outcome.NoMemory). rw m tt) (λ own. own_may (list_image path image) answer own) of
-
-pub list_not_before : (answer : Outcome) → (answer ≡ outcome.NoMemory) ⊎ IsOwn (list_image [] []) answer → EndsBeforeDeck answer → ⊥
-list_not_before answer of before = ⊎_elim
-    (λ (m : answer ≡ outcome.NoMemory). rw m at before)
-    (λ (own : IsOwn (list_image [] []) answer). past_not_before answer (own_past (list_image [] []) answer own) before)
-    of
-
 pub list_causes : (answer : Outcome) (t u : ℕ) (old new : State) (f g : ℕ) → (answer ≡ outcome.NoMemory) ⊎ IsOwn (list_image [] []) answer
     → (answer ≡ outcome.DiskFault → Rose old.disk_faults new.disk_faults) → (answer ≡ outcome.WriteFault → Rose f g)
     → Causes answer t u old new f g
 list_causes answer t u old new f g of disk sink = record {
-  table = λ e. absurd (list_not_before answer of (rw e tt));
-  line = λ (e : answer ≡ outcome.ReadFault input.Line). absurd (rw e at (list_may [] [] answer of));
+  table = λ e. absurd (own_not_table (list_image [] []) answer of e);
+  line = λ e. absurd (own_not_line (list_image [] []) answer of (λ none. none) e);
   write = sink;
   disk = disk;
 }

@@ -4,13 +4,12 @@ use Rattle.std.proofs.Common.{Option, Some, None, ap, sym, refl, ◌∙◌, subs
 use Rattle.std.specs.Prelude.{IfSome, IsTrue, if◌then◌else◌, nat_lt, not, slice_index, ◌↔◌}
 use Rattle.std.proofs.lemmas.Bool.{cases_Bool, cases_lt}
 use Rattle.fdr_io.specs.Told.{preceded_by}
-use Rattle.std.proofs.lemmas.List.{append-nil, get_or_past, take-take}
+use Rattle.std.proofs.lemmas.List.{get_or_past, take-take}
 use Rattle.fdr_io.specs.declared.Input.TheVariants as input
 use Rattle.fdr_bus.specs.declared.BusRecord.{BusRecord}
 use Rattle.fdr_bus.specs.declared.TraceFault.{TraceFault}
-use Rattle.fdr_bus.specs.declared.TraceFault.TheVariants as trace
-use Rattle.fdr_bus.specs.Records.{IsDecided, good_prefix, has_end, trace_fault}
-use Rattle.fdr_bus.proofs.TraceLemmas.{good_prefix-append, good_prefix-decided, trace_fault-ended}
+use Rattle.fdr_bus.specs.Records.{good_prefix, has_end, trace_fault}
+use Rattle.fdr_bus.proofs.TraceLemmas.{good_prefix-append, good_prefix-decided}
 use Rattle.fdr_deck.specs.State.{Moment, State, Tells}
 use Rattle.fdr_deck.specs.Pull.{KeepsLine}
 use Rattle.fdr_deck.specs.Moments.{EachMoment, HasPulled, IsSoundDeck}
@@ -59,7 +58,7 @@ use Rattle.fdr_top.specs.declared.outcome.Outcome.TheVariants as outcome
 use Rattle.fdr_top.proofs.NewBlocks.{blocks-fewer}
 use Rattle.fdr_top.proofs.Records.{PullsMore-next}
 use Rattle.fdr_top.proofs.SessionEnds.{fault_ends_supply, is_seq_end}
-use Rattle.fdr_top.proofs.TraceAnswers.{answer_to, refused_decides, trace_fault-decided}
+use Rattle.fdr_top.proofs.TraceAnswers.{answer_to, ended_unrefused, refused_line}
 
 -- ---- moments by the image at entry
 
@@ -136,14 +135,8 @@ told_refusal : (tells : Tells) (old new : State) (pulled : List ℕ) (answer : O
     → PullsMore tells old new [] pulled → EndsTrace tells old new pulled answer → answer ≡ outcome.TraceRefused index why
     → IsTrue tells.line → trace_fault old.line ≡ Some (index, why)
 told_refusal tells old new pulled answer index why pulls ends refused told =
-    let first = ends.refused index why refused in
-    let line : old.line ≡ pulled ++ new.line = pulls.takes.line told in
-    ap trace_fault line ∙ ⊎_elim
-    (λ (short : why ≡ trace.Truncated).
-    let end : new.line ≡ [] = ends.truncated index (refused ∙ ap (outcome.TraceRefused index) short) told in
-    ap trace_fault (ap (λ (x : List ℕ). pulled ++ x) end ∙ append-nil pulled) ∙ first)
-    (λ (decided : IsDecided pulled). trace_fault-decided pulled new.line decided ∙ first)
-    (refused_decides pulled index why first)
+    refused_line tells old new pulled index why pulls (ends.refused index why refused)
+    (λ short. ends.truncated index (refused ∙ ap (outcome.TraceRefused index) short) told) told
 
 pub told_end : (tells : Tells) (old new : State) (pulled : List ℕ) (answer : Outcome) → PullsMore tells old new [] pulled
     → EndsTrace tells old new pulled answer → answer ≡ outcome.Done → IsTrue tells.line → good_prefix pulled ≡ good_prefix old.line
@@ -158,8 +151,7 @@ pub refusal_told : (tells : Tells) (old new : State) (pulled : List ℕ) (answer
 unfolding answer_to
 refusal_told tells old new pulled outcome.Done index why pulls ends all told first =
     let same = told_end tells old new pulled outcome.Done pulls ends refl told in
-    let none = trace_fault-ended old.line (ap has_end (sym same) ∙ ends.ended refl) in
-    absurd (let c : ◌≡◌ {A = Option (ℕ × TraceFault)} None (Some (index, why)) = sym none ∙ first in cc)
+    absurd (ended_unrefused old.line index why (ap has_end (sym same) ∙ ends.ended refl) first)
 refusal_told tells old new pulled (outcome.TraceRefused i w) index why pulls ends all told first =
     let here = told_refusal tells old new pulled (outcome.TraceRefused i w) i w pulls ends refl told in
     let same : ◌≡◌ {A = Option (ℕ × TraceFault)} (Some (i, w)) (Some (index, why)) = sym here ∙ first in
@@ -172,9 +164,7 @@ pub told_whole : (tells : Tells) (old new : State) (pulled : List ℕ) (answer :
     → PullsMore tells old new [] pulled → EndsTrace tells old new pulled answer → answer ≡ outcome.TraceRefused index why
     → IsTrue tells.line → has_end (good_prefix old.line) ≡ true → ⊥
 told_whole tells old new pulled answer index why pulls ends refused told ended =
-    let here = told_refusal tells old new pulled answer index why pulls ends refused told in
-    let none = trace_fault-ended old.line ended in
-    let c : ◌≡◌ {A = Option (ℕ × TraceFault)} None (Some (index, why)) = sym none ∙ here in cc
+    ended_unrefused old.line index why ended (told_refusal tells old new pulled answer index why pulls ends refused told)
 
 -- ---- all promises
 
@@ -286,8 +276,36 @@ words_are i w j v a b = ap (λ n. outcome.WordsDiffer n w) a ∙ ap (λ n. outco
 some_same : (a b : ImageFault) → ◌≡◌ {A = Option ImageFault} (Some a) (Some b) → a ≡ b
 some_same a b e = cc
 
-both : (a : Option ImageFault) (why : ImageFault) → a ≡ None → a ≡ Some why → ⊥
-both a why none some = let c : ◌≡◌ {A = Option ImageFault} None (Some why) = sym none ∙ some in cc
+-- an image has one first fault, or none
+pub no_first : (image : List ℕ) (why : ImageFault) → image_fault_of image ≡ None → image_fault_of image ≡ Some why → ⊥
+no_first image why none some = let c : ◌≡◌ {A = Option ImageFault} None (Some why) = sym none ∙ some in cc
+
+-- an image for the table's frames isn't refused for its words
+pub no_differ : (t : TableRows) (tells : Tells) (old new : State) (answer : Outcome) (image table : ℕ) → RefusesImage t tells old new answer
+    → IsTrue tells.bytes → IsFor t.frame.words old.held → answer ≡ outcome.WordsDiffer image table → ⊥
+no_differ t tells old new answer image table refuses bytes for e =
+    let here = refuses.words image table e in here.1 (sym (here.2 bytes).words ∙ for.words ∙ sym here.0)
+
+-- the image's first fault is answered
+pub image_refused : (t : TableRows) (tells : Tells) (old new : State) (found : ImageFault) → (IsTrue tells.bytes → image_fault_of old.held ≡ Some found)
+    → ((found ≡ fault.Small) ↔ (new.extent < 64)) → RefusesImage t tells old new (outcome.ImageRefused found)
+image_refused t tells old new found first small = record {
+  refused = λ why e bytes. first bytes ∙ ap Some (same_fault found why e);
+  small = λ why e. subst (λ (x : ImageFault). (x ≡ fault.Small) ↔ (new.extent < 64)) (same_fault found why e) small;
+  refused_always = λ why past bytes some. inl (ap outcome.ImageRefused (some_same found why (sym (first bytes) ∙ some)));
+  words = λ image table e. absurd (cc);
+  words_always = λ image past bytes other differ. absurd (no_first old.held found other.no_fault (first bytes));
+}
+
+-- the disk failed before the image was known
+pub disk_failed : (t : TableRows) (tells : Tells) (old new : State) → RefusesImage t tells old new outcome.DiskFault
+disk_failed t tells old new = record {
+  refused = λ why e. absurd (cc);
+  small = λ why e. absurd (cc);
+  refused_always = λ why past bytes first. inr refl;
+  words = λ image table e. absurd (cc);
+  words_always = λ image past bytes other differ. inr refl;
+}
 
 -- where the session was refused
 session_image : (t : TableRows) (tells : Tells) (d0 d1 : State) (f : SessionFault) → (f ≡ session.SeqEnd → ⊥)
@@ -296,29 +314,17 @@ session_image : (t : TableRows) (tells : Tells) (d0 d1 : State) (f : SessionFaul
     → ((image table : ℕ) → f ≡ session.WordsDiffer image table
     → (table ≡ t.frame.words) × (image ≢ table) × (IsTrue tells.bytes → IsFor image d0.held))
     → RefusesImage t tells d0 d1 (session_refusal f)
-session_image t tells d0 d1 (session.Image w) not_end image small words = record {
-  refused = λ why e bytes. image bytes why (ap session.Image (same_fault w why e));
-  small = λ why e. small why (ap session.Image (same_fault w why e));
-  refused_always = λ why past bytes first. inl (ap outcome.ImageRefused (some_same w why (sym (image bytes w refl) ∙ first)));
-  words = λ i table e. absurd (cc);
-  words_always = λ i past bytes other differ. absurd (both (image_fault_of d0.held) w other.no_fault (image bytes w refl));
-}
+session_image t tells d0 d1 (session.Image w) not_end image small words = image_refused t tells d0 d1 w (λ bytes. image bytes w refl) (small w refl)
 session_image t tells d0 d1 (session.WordsDiffer i w) not_end image small words =
     let here = words i w refl in
     record {
       refused = λ why e. absurd (cc);
       small = λ why e. absurd (cc);
-      refused_always = λ why past bytes first. absurd (both (image_fault_of d0.held) why (here.2 bytes).no_fault first);
+      refused_always = λ why past bytes first. absurd (no_first d0.held why (here.2 bytes).no_fault first);
       words = λ j table e. words j table (words_same i w j table e);
       words_always = λ j past bytes other differ. inl (words_are i w j t.frame.words (sym (here.2 bytes).words ∙ other.words) here.0);
     }
-session_image t tells d0 d1 session.DiskFault not_end image small words = record {
-  refused = λ why e. absurd (cc);
-  small = λ why e. absurd (cc);
-  refused_always = λ why past bytes first. inr refl;
-  words = λ j table e. absurd (cc);
-  words_always = λ j past bytes other differ. inr refl;
-}
+session_image t tells d0 d1 session.DiskFault not_end image small words = disk_failed t tells d0 d1
 session_image t tells d0 d1 session.SeqEnd not_end image small words = absurd (not_end refl)
 session_image t tells d0 d1 session.NoMemory not_end image small words = refuses_nothing t tells d0 d1 outcome.NoMemory (λ past. past)
 
@@ -381,7 +387,7 @@ pub takes_image : (t : TableRows) (tells : Tells) (old new : State) (answer : Ou
 takes_image t tells old new answer begun good = record {
   refused = λ why e. absurd (begun (subst WritesNothing (sym e) tt));
   small = λ why e. absurd (begun (subst WritesNothing (sym e) tt));
-  refused_always = λ why past bytes first. absurd (both (image_fault_of old.held) why (good bytes).no_fault first);
+  refused_always = λ why past bytes first. absurd (no_first old.held why (good bytes).no_fault first);
   words = λ image table e. absurd (begun (subst WritesNothing (sym e) tt));
   words_always = λ image past bytes other differ. absurd (differ (sym other.words ∙ (good bytes).words));
 }
@@ -570,8 +576,7 @@ record_done path image t tells d0 d2 outcome.SeqEnd own is told ended bytes room
 record_done path image t tells d0 d2 (outcome.TraceRefused index why) own is told ended bytes room line disk =
     absurd (told_whole tells d0 d2 is.pulled (outcome.TraceRefused index why) index why is.pulls is.ends refl told ended)
 record_done path image t tells d0 d2 (outcome.ImageRefused why) own is told ended bytes room line disk =
-    absurd (both (image_fault_of d0.held) why room.image.no_fault (is.blocks.image.refused why refl bytes))
+    absurd (no_first d0.held why room.image.no_fault (is.blocks.image.refused why refl bytes))
 record_done path image t tells d0 d2 (outcome.WordsDiffer i w) own is told ended bytes room line disk =
-    let here = is.blocks.image.words i w refl in
-    absurd (here.1 (sym (here.2 bytes).words ∙ room.image.words ∙ sym here.0))
+    absurd (no_differ t tells d0 d2 (outcome.WordsDiffer i w) i w is.blocks.image bytes room.image refl)
 record_done path image t tells d0 d2 answer own is told ended bytes room line disk = ⊎_elim (λ memory. inr memory) (λ it. absurd it) own

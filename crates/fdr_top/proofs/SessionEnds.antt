@@ -120,27 +120,23 @@ limits_of past s stands = subst IsInLimits stands.header (in_limits-is s.ring.he
 pub bound_of : (past : SessionPast) (s : Session) → RepresentsSession s past → past.first + length (recorded_of past) ≤ 2 ^ 48
 bound_of past s stands = omega (arith, next_at past s stands, s.ring.bound)
 
+-- what holds by the numbers of a session's ring holds by those of its past
+at_past : (P : Header → ℕ → Type 0) (past : SessionPast) (s : Session) → RepresentsSession s past → P s.ring.header s.ring.next
+    → P past.header (past.first + length (recorded_of past))
+at_past P past s stands is =
+    subst (λ (n : ℕ). P past.header n) (sym (next_at past s stands)) (subst (λ (h : Header). P h s.ring.next) stands.header is)
+
 -- what was recorded at a record, by the numbers of the past
-pub Records-at : (tells : Tells) (past : SessionPast) (s : Session) (blocks : List Block) (d d' : State) → RepresentsSession s past
-    → Records tells s.ring.header s.ring.next blocks d d'
-    → Records tells past.header (past.first + length (recorded_of past)) blocks d d'
-Records-at tells past s blocks d d' stands is =
-    subst (λ (n : ℕ). Records tells past.header n blocks d d') (sym (next_at past s stands))
-    (subst (λ (h : Header). Records tells h s.ring.next blocks d d') stands.header is)
+module _ (tells : Tells) (past : SessionPast) (s : Session) (blocks : List Block) (d d' : State) (stands : RepresentsSession s past) where
+  pub Records-at : Records tells s.ring.header s.ring.next blocks d d' → Records tells past.header (past.first + length (recorded_of past)) blocks d d'
+  Records-at = at_past (λ (h : Header) (n : ℕ). Records tells h n blocks d d') past s stands
 
-pub HasRecorded-at : (tells : Tells) (past : SessionPast) (s : Session) (blocks : List Block) (d d' : State) → RepresentsSession s past
-    → HasRecorded tells s.ring.header s.ring.next blocks d d'
-    → HasRecorded tells past.header (past.first + length (recorded_of past)) blocks d d'
-HasRecorded-at tells past s blocks d d' stands is =
-    subst (λ (n : ℕ). HasRecorded tells past.header n blocks d d') (sym (next_at past s stands))
-    (subst (λ (h : Header). HasRecorded tells h s.ring.next blocks d d') stands.header is)
+  pub HasRecorded-at : HasRecorded tells s.ring.header s.ring.next blocks d d'
+      → HasRecorded tells past.header (past.first + length (recorded_of past)) blocks d d'
+  HasRecorded-at = at_past (λ (h : Header) (n : ℕ). HasRecorded tells h n blocks d d') past s stands
 
-pub HasEnded-at : (tells : Tells) (past : SessionPast) (s : Session) (blocks : List Block) (d d' : State) → RepresentsSession s past
-    → HasEnded tells s.ring.header s.ring.next blocks d d'
-    → HasEnded tells past.header (past.first + length (recorded_of past)) blocks d d'
-HasEnded-at tells past s blocks d d' stands is =
-    subst (λ (n : ℕ). HasEnded tells past.header n blocks d d') (sym (next_at past s stands))
-    (subst (λ (h : Header). HasEnded tells h s.ring.next blocks d d') stands.header is)
+  pub HasEnded-at : HasEnded tells s.ring.header s.ring.next blocks d d' → HasEnded tells past.header (past.first + length (recorded_of past)) blocks d d'
+  HasEnded-at = at_past (λ (h : Header) (n : ℕ). HasEnded tells h n blocks d d') past s stands
 
 -- ---- how the trace ended
 
@@ -418,15 +414,6 @@ refusal_refuses (session.WordsDiffer image table) = tt
 refusal_refuses session.DiskFault = tt
 refusal_refuses session.SeqEnd = tt
 refusal_refuses session.NoMemory = tt
-
-pub refuses_own : (path image : List ℕ) (answer : Outcome) → RefusesSession answer
-    → (answer ≡ outcome.NoMemory) ⊎ IsOwn (record_line path image) answer
-refuses_own path image (outcome.ImageRefused why) refuses = inr tt
-refuses_own path image (outcome.WordsDiffer i w) refuses = inr tt
-refuses_own path image outcome.DiskFault refuses = inr tt
-refuses_own path image outcome.SeqEnd refuses = inr tt
-refuses_own path image outcome.NoMemory refuses = inl refl
-refuses_own path image answer refuses = absurd refuses
 
 pub is_disk_fault : (f : SessionFault) → session_refusal f ≡ outcome.DiskFault → f ≡ session.DiskFault
 is_disk_fault (session.Image why) e = absurd (cc)

@@ -14,6 +14,7 @@ use Rattle.fdr_bus.specs.Records.{IsDecided, fault_after, good_prefix, has_end, 
 use Rattle.fdr_bus.proofs.TraceLemmas.{good_prefix-decided, trace_fault-ended}
 use Rattle.fdr_bus.proofs.WholeRecords.{record_bytes-append}
 use Rattle.fdr_deck.specs.State.{State, Tells}
+use Rattle.fdr_trace.specs.Pulls.{PullsMore}
 use Rattle.fdr_words.specs.Forms.{stream_line}
 use Rattle.fdr_table.specs.Rows.{TableRows}
 use Rattle.fdr_sampler.specs.Stream.{stream_of}
@@ -77,19 +78,27 @@ unfolding trace_fault
 trace_fault-decided bytes more decided =
     ap (λ good. fault_after good (bytes ++ more)) (good_prefix-decided bytes more decided) ∙ fault_after-decided (good_prefix bytes) bytes more decided
 
+-- the refusal of the part that was pulled is that of the whole line
+pub refused_line : (tells : Tells) (old new : State) (pulled : List ℕ) (index : ℕ) (why : TraceFault) → PullsMore tells old new [] pulled
+    → trace_fault pulled ≡ Some (index, why) → (why ≡ trace.Truncated → new.line ≡ []) → IsTrue tells.line → trace_fault old.line ≡ Some (index, why)
+refused_line tells old new pulled index why pulls first end told =
+    ap trace_fault (pulls.takes.line told) ∙ ⊎_elim
+    (λ (short : why ≡ trace.Truncated). ap trace_fault (ap (λ (x : List ℕ). pulled ++ x) (end short) ∙ append-nil pulled) ∙ first)
+    (λ (decided : IsDecided pulled). trace_fault-decided pulled new.line decided ∙ first)
+    (refused_decides pulled index why first)
+
+-- a line with an end record isn't refused
+pub ended_unrefused : (line : List ℕ) (index : ℕ) (why : TraceFault) → has_end (good_prefix line) ≡ true → trace_fault line ≡ Some (index, why) → ⊥
+ended_unrefused line index why ended first =
+    let c : ◌≡◌ {A = Option (ℕ × TraceFault)} None (Some (index, why)) = sym (trace_fault-ended line ended) ∙ first in cc
+
 -- the fault that is answered is that of the whole line
 pub told_fault : (t : TableRows) (tells : Tells) (old new : State) (before now : Option (List ℕ)) (answer : Outcome) (index : ℕ) (why : TraceFault)
     → Streams t tells old new before now answer → answer ≡ outcome.TraceRefused index why → IsTrue tells.line →
     trace_fault old.line ≡ Some (index, why)
 told_fault t tells old new before now answer index why streams refused told =
-    let first = streams.refused index why refused in
-    let line : old.line ≡ streams.pulled ++ new.line = streams.pulls.takes.line told in
-    ap trace_fault line ∙ ⊎_elim
-    (λ (short : why ≡ trace.Truncated).
-    let end : new.line ≡ [] = streams.truncated index (refused ∙ ap (outcome.TraceRefused index) short) told in
-    ap trace_fault (ap (λ (x : List ℕ). streams.pulled ++ x) end ∙ append-nil streams.pulled) ∙ first)
-    (λ (decided : IsDecided streams.pulled). trace_fault-decided streams.pulled new.line decided ∙ first)
-    (refused_decides streams.pulled index why first)
+    refused_line tells old new streams.pulled index why streams.pulls (streams.refused index why refused)
+    (λ short. streams.truncated index (refused ∙ ap (outcome.TraceRefused index) short) told) told
 
 ended_line : (t : TableRows) (tells : Tells) (old new : State) (before now : Option (List ℕ)) (answer : Outcome)
     (streams : Streams t tells old new before now answer) → answer ≡ outcome.Done → IsTrue tells.line →
@@ -112,10 +121,8 @@ pub fault_answered : (path : List ℕ) (t : TableRows) (tells : Tells) (old new 
     (answer ≡ outcome.TraceRefused index why) ⊎ ((answer ≡ outcome.ReadFault input.Line) ⊎ (answer ≡ outcome.WriteFault))
 unfolding answer_to
 fault_answered path t tells old new before now outcome.Done index why streams own told first =
-    let ended : has_end (good_prefix old.line) ≡ true =
-    ap has_end (ended_line t tells old new before now outcome.Done streams refl told) ∙ streams.ended refl in
-    let none = trace_fault-ended old.line ended in
-    absurd (let c : ◌≡◌ {A = Option (ℕ × TraceFault)} None (Some (index, why)) = sym none ∙ first in cc)
+    absurd (ended_unrefused old.line index why
+    (ap has_end (ended_line t tells old new before now outcome.Done streams refl told) ∙ streams.ended refl) first)
 fault_answered path t tells old new before now (outcome.TraceRefused i w) index why streams own told first =
     let here = told_fault t tells old new before now (outcome.TraceRefused i w) i w streams refl told in
     let same : ◌≡◌ {A = Option (ℕ × TraceFault)} (Some (i, w)) (Some (index, why)) = sym here ∙ first in
@@ -130,9 +137,7 @@ pub stream_done : (path : List ℕ) (t : TableRows) (tells : Tells) (old new : S
     (answer ≡ outcome.ReadFault input.Line → ⊥) → (answer ≡ outcome.WriteFault → ⊥) → answer ≡ outcome.Done
 stream_done path t tells old new before now outcome.Done streams own told ended line_quiet sink_quiet = refl
 stream_done path t tells old new before now (outcome.TraceRefused i w) streams own told ended line_quiet sink_quiet =
-    let here = told_fault t tells old new before now (outcome.TraceRefused i w) i w streams refl told in
-    let none = trace_fault-ended old.line ended in
-    absurd (let c : ◌≡◌ {A = Option (ℕ × TraceFault)} None (Some (i, w)) = sym none ∙ here in cc)
+    absurd (ended_unrefused old.line i w ended (told_fault t tells old new before now (outcome.TraceRefused i w) i w streams refl told))
 stream_done path t tells old new before now (outcome.ReadFault input.Line) streams own told ended line_quiet sink_quiet = absurd (line_quiet refl)
 stream_done path t tells old new before now outcome.WriteFault streams own told ended line_quiet sink_quiet = absurd (sink_quiet refl)
 stream_done path t tells old new before now answer streams own told ended line_quiet sink_quiet = absurd own

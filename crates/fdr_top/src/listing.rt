@@ -20,7 +20,7 @@ ghost use Rattle.fdr_top.specs.Complete.{IsFaultless, IsWholeInput};
 ghost use Rattle.fdr_top.specs.Leaves.{Causes, LeavesAll, LeavesUnused};
 ghost use Rattle.fdr_top.specs.Limits.{TakesAtMost, piece_bytes};
 ghost use Rattle.fdr_top.specs.List.{IsOpened, KeepsShut, ListsImage};
-ghost use Rattle.fdr_top.specs.Recover.{OnlyLooks, payloads_of};
+ghost use Rattle.fdr_top.specs.Recover.{IsFoundRun, OnlyLooks, payloads_of};
 ghost use Rattle.fdr_top.specs.Refusals.{RefusesImage};
 ghost use Rattle.fdr_top.specs.Tables.{ByTable, ReadsItsTable};
 
@@ -31,7 +31,7 @@ use fdr_check::Sound;
 use fdr_deck::Deck;
 use fdr_io::{Failed, Sink, Source};
 use fdr_readout::{EventReader, LineWriter, Taker, take_piece, take_rest};
-use fdr_recover::{block, scan};
+use fdr_recover::{Found, block, scan};
 use fdr_ring::read_image_header;
 use fdr_slot::Header;
 use fdr_table::Table;
@@ -90,6 +90,45 @@ fn take_block<D: Deck, O: Sink, T: Taker<O>>(
     }
 }
 
+/// Reads the blocks of the found run, one after another, and hands on all gaps, frames and rows of their bits.
+fn take_run<D: Deck, O: Sink, T: Taker<O>>(
+    reader: &mut ImageReader,
+    table: &Table,
+    found: Found,
+    deck: &mut D,
+    taker: &mut T,
+    out: &mut O,
+) -> Result<(), BlocksFault>
+    requires fresh { ReadsEvents table.now reader.old.events (decided_past table.now.frame.words []) }
+    requires limits { IsInLimits reader.old.header }
+    requires whole { image_size reader.old.header ≤ (D.state deck.old).extent }
+    requires order { found.first ≤ found.next }
+    requires bound { found.next ≤ 2 ^ 48 }
+    requires room { found.next ≤ found.first + reader.old.header.slots }
+    requires run { IsTrue D.tells.bytes → IsFoundRun reader.old.header (D.state deck.old).held found.first found.next }
+    ensures all { IsTrue D.tells.bytes → OnOk result (T.took table.now taker.old out.old taker.new out.new
+        (entries_of table.now (payloads_of (recovered_run reader.old.header (D.state deck.old).held)))) }
+    ensures part { IsTrue D.tells.bytes → IsErrOf result BlocksFault.Taker → T.failed_in table.now taker.old out.old out.new
+        (entries_of table.now (payloads_of (recovered_run reader.old.header (D.state deck.old).held))) }
+    ensures front { IsTrue D.tells.bytes → IsErrOf result BlocksFault.Disk → (entries rest : List Entry)
+        × T.took table.now taker.old out.old taker.new out.new entries
+        × (entries_of table.now (payloads_of (recovered_run reader.old.header (D.state deck.old).held)) ≡ entries ++ rest) }
+    ensures bounded { IsTrue D.tells.bytes
+        → OnOk result (length (payloads_of (recovered_run reader.old.header (D.state deck.old).held)) ≤ 2 ^ 28) }
+    ensures disk_fault { IsErrOf result BlocksFault.Disk → Rose (D.state deck.old).disk_faults (D.state deck.new).disk_faults }
+    ensures write_fault { IsErrOf result BlocksFault.Taker → Rose (O.faults out.old) (O.faults out.new) }
+    ensures quiet { OnOk result (O.faults out.new ≡ O.faults out.old) }
+    ensures looks { Looks D.tells (D.state deck.old) (D.state deck.new) }
+{
+    for number in found.first..found.next {
+        take_block(reader, table, number, deck, taker, out)?;
+    }
+    match take_rest(&mut reader.events, table, taker, out) {
+        Ok(()) => Ok(()),
+        Err(Failed) => Err(BlocksFault::Taker),
+    }
+}
+
 /// Reads the blocks of the recovered run of an image, one after another, and hands on all gaps, frames and rows of their bits.
 pub fn take_blocks<D: Deck, O: Sink, T: Taker<O>>(
     reader: &mut ImageReader,
@@ -118,13 +157,7 @@ pub fn take_blocks<D: Deck, O: Sink, T: Taker<O>>(
     let Ok(found) = scan(deck, &reader.header) else {
         return Err(BlocksFault::Disk);
     };
-    for number in found.first..found.next {
-        take_block(reader, table, number, deck, taker, out)?;
-    }
-    match take_rest(&mut reader.events, table, taker, out) {
-        Ok(()) => Ok(()),
-        Err(Failed) => Err(BlocksFault::Taker),
-    }
+    take_run(reader, table, found, deck, taker, out)
 }
 
 /// The words in a subframe by a table.

@@ -9,6 +9,7 @@ use Rattle.fdr_deck.specs.Calls.{KeepsTold, HasOneAnnounced, LeavesDisk}
 use Rattle.fdr_deck.specs.Moments.{HasPulled, IsNow, IsInsideCall, Within, Elapses, EachMoment, IsSoundDeck}
 use Rattle.fdr_deck.specs.Pull.{KeepsLine}
 use Rattle.fdr_deck.proofs.Moments.{Elapses-here, Elapses-then, EachMoment-then, EachMoment-weaken, KeepsTold-here, KeepsTold-then}
+use Rattle.fdr_deck.proofs.Moments.{KeepsTold-least, KeepsTold-greatest}
 use Rattle.fdr_trace.specs.Kept.{TraceKept}
 use Rattle.fdr_trace.specs.Moments.{IsLastPull, IsPulling, IsTraceMoment, PullsFor}
 use Rattle.fdr_trace.specs.Pulls.{Pulled, PullsMore}
@@ -69,20 +70,24 @@ IsLastPull-more start bytes more later records before taken last =
       undecided = λ decided. last.undecided (subst IsDecided front decided);
     }
 
+pulled_more : (old : State) (bytes more later : List ℕ) (records : List BusRecord) (m : Moment)
+    → HasPulled old m ⊎ IsPulling old bytes more records m → HasPulled old m ⊎ IsPulling old bytes (more ++ later) records m
+pulled_more old bytes more later records m pulled = ⊎_elim
+    (λ here. inl here)
+    (λ pulling. inr (record {
+      told = pulling.told;
+      last = IsLastPull-more old.taken bytes more later records
+          m.before m.taken pulling.last;
+    }))
+    pulled
+
 pub IsTraceMoment-more : (old : State) (bytes more later : List ℕ) (records : List BusRecord) (m : Moment)
     → IsTraceMoment old bytes more records m → IsTraceMoment old bytes (more ++ later) records m
 IsTraceMoment-more old bytes more later records m is = record {
   image = is.image;
   least = is.least;
   greatest = is.greatest;
-  pulled = ⊎_elim
-      (λ here. inl here)
-      (λ pulling. inr (record {
-        told = pulling.told;
-        last = IsLastPull-more old.taken bytes more later records
-            m.before m.taken pulling.last;
-      }))
-      is.pulled;
+  pulled = pulled_more old bytes more later records m is.pulled;
 }
 
 -- a pull that gave bytes, where those before it held no whole record that wasn't read
@@ -174,23 +179,14 @@ PullsFor-then tells a b c bytes more piece records sound deck pulls was disk tim
 }
   where
     least : a.least ≤ b.least
-    least = ⊎_elim (λ fresh. omega (arith, fresh.0, deck.told.told, sound.least)) (λ kept. omega (arith, kept.0))
-        deck.told.numbers
+    least = KeepsTold-least tells a b sound deck.told
 
     greatest : b.greatest ≤ a.greatest
-    greatest = ⊎_elim (λ fresh. omega (arith, fresh.1, deck.told.told, sound.greatest))
-        (λ kept. omega (arith, kept.1)) deck.told.numbers
+    greatest = KeepsTold-greatest tells a b sound deck.told
 
     widen : (m : Moment) → HasPulled a m ⊎ IsPulling a bytes more records m
         → HasPulled a m ⊎ IsPulling a bytes (more ++ piece) records m
-    widen m pulled = ⊎_elim
-        (λ here. inl here)
-        (λ pulling. inr (record {
-          told = pulling.told;
-          last = IsLastPull-more a.taken bytes more piece records
-              m.before m.taken pulling.last;
-        }))
-        pulled
+    widen = pulled_more a bytes more piece records
 
     told_fresh : (m : Moment) → IsNow b m → 0 < length more → m.told ≡ a.told
     told_fresh m now some =

@@ -175,12 +175,16 @@ module _ (c : List Rule) where
   never_both true x y = refl
   never_both false x y = refl
 
+  turn_at : (word : Text) (h : Held) (p : ℕ) (o : Option Rule) → IsValueWord word → arg_by_index c p ≡ o
+      → turn_fault (shaped c) [] (standing h p) word ≡ option_map_or (λ (a : Rule). positional_fault c false a h) o (stray_fault (shaped c))
+  turn_at word h p o is at =
+      ap₂ (λ (ks : Kinds) (m : Held × Step). or_else ks (step_fault (shaped c) p m.0 m.1)) (plain_passes word h is) (plain_met word h p is)
+      ∙ ap (λ (o : Option Rule). option_map_or (λ (a : Rule). positional_fault c false a h) o (stray_fault (shaped c))) at
+
   plain_turn : (word : Text) (h : Held) (p : ℕ) (id : Text) → IsValueWord word → arg_by_index c p ≡ Some (ruled id None (Some p))
       → turn_fault (shaped c) [] (standing h p) word ≡ settle_fault c false h
   plain_turn word h p id is at =
-      ap₂ (λ (ks : Kinds) (m : Held × Step). or_else ks (step_fault (shaped c) p m.0 m.1)) (plain_passes word h is) (plain_met word h p is)
-      ∙ ap (λ (o : Option Rule). option_map_or (λ (a : Rule). positional_fault c false a h) o (stray_fault (shaped c))) at
-      ∙ never_both (is_pending (ruled id None (Some p)) h.pending) [] (settle_fault c false h)
+      turn_at word h p (Some (ruled id None (Some p))) is at ∙ never_both (is_pending (ruled id None (Some p)) h.pending) [] (settle_fault c false h)
 
   plain_walk : (word : Text) (h : Held) (p q : ℕ) (id : Text) → IsValueWord word → arg_by_index c p ≡ Some (ruled id None (Some p)) → min (p + 1) usize_max ≡ q
       → walked c [] (standing h p) word ≡ standing (holding (settled c h).rows id (word ∷ []) h.skip) q
@@ -203,11 +207,8 @@ module _ (c : List Rule) where
   pub stray_step : (word : Text) (rest : List Text) (h : Held) (p : ℕ) → is_plain word ≡ true → arg_by_index c p ≡ None
       → ended c (standing h p) (word ∷ rest) ≡ None
   stray_step word rest h p is none =
-      let w = value_word word is in
       ended_step (standing h p) word rest
-      ∙ ap (λ ks. passing ks (ended c (walked c [] (standing h p) word) rest))
-      (ap₂ (λ (ks : Kinds) (m : Held × Step). or_else ks (step_fault (shaped c) p m.0 m.1)) (plain_passes word h w) (plain_met word h p w)
-      ∙ ap (λ (o : Option Rule). option_map_or (λ (a : Rule). positional_fault c false a h) o (stray_fault (shaped c))) none)
+      ∙ ap (λ ks. passing ks (ended c (walked c [] (standing h p) word) rest)) (turn_at word h p None (value_word word is) none)
 
   -- ---- an option's word
 

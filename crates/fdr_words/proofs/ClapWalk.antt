@@ -1,11 +1,12 @@
 -- Where clap takes the words, its rows are their values by place; elsewhere it fails.
 use Rattle.std.proofs.Common.{◌≡◌, ◌∙◌, ◌++◌, ◌&&◌, ap, ap₂, subst, sym, refl, ℕ, Bool, true, false, codes, List, [], ◌∷◌, Option, Some, None, length, take}
-use Rattle.std.proofs.Common.{drop, nat_lt, take-append-drop}
+use Rattle.std.proofs.Common.{drop, min, ◌+◌, nat_lt, take-append-drop}
 use Rattle.std.specs.Prelude.{if◌then◌else◌, bytes_eq}
 use Rattle.std.specs.Option.{option_and_then, option_map_or}
 use Rattle.std.proofs.lemmas.Bool.{and_parts, cond_both}
 use Rattle.std.proofs.lemmas.Slice.Eq.{bytes_eq-Decides}
-use Rattle.clap.specs.Walk.{Held, Row, Rule, Text, arg_by_id, arg_by_long, nothing_held}
+use Rattle.clap.specs.Lexer.{usize_max}
+use Rattle.clap.specs.Walk.{Held, Row, Rule, Text, arg_by_id, arg_by_index, arg_by_long, nothing_held}
 use Rattle.clap.specs.Walk.{used}
 use Rattle.clap.specs.Faults.{use_fault}
 use Rattle.fdr_words.specs.declared.uses.OptionName.{OptionName}
@@ -162,20 +163,20 @@ held_walks : (rest : List Text) (f : Position → Option Values) → Walks rest 
 held_walks rest f walks id v l i known q rows skip =
     walks (holding rows id (v ∷ []) skip) q ∙ ap (through (f q)) (holding_out rules id v l i rows skip known)
 
+one_plain : (word : Text) (rest : List Text) (f : Position → Option Values) → is_plain word ≡ true → Walks rest f → (h : Held) (p q : Position) (id : Text)
+    → arg_by_index rules (number p) ≡ Some (ruled id None (Some (number p))) → arg_by_id rules id ≡ Some (ruled id None (Some (number p)))
+    → min (number p + 1) usize_max ≡ number q
+    → ended rules (standing h (number p)) (word ∷ rest) ≡ through (with_place id word (f q)) (settled_out rules h)
+one_plain word rest f is walks h p q id by_index known next =
+    plain_step rules word rest h (number p) (number q) id is by_index next
+    ∙ (λ j. option_and_then (λ rows. held_walks rest f walks id word None (Some (number p)) known q rows h.skip j) (settled_out rules h))
+    ∙ one_in_turn id word (f q) (settled_out rules h)
+
 plain_walks : (word : Text) (rest : List Text) (f : Position → Option Values) → is_plain word ≡ true → Walks rest f
     → (h : Held) (p : Position) → ended rules (standing h (number p)) (word ∷ rest) ≡ through (at_position p word (f (after_position p))) (settled_out rules h)
-plain_walks word rest f is walks h first =
-    plain_step rules word rest h 1 2 (codes "command") is refl refl
-    ∙ (λ j. option_and_then (λ rows. held_walks rest f walks (codes "command") word None (Some 1) refl second rows h.skip j) (settled_out rules h))
-    ∙ one_in_turn (codes "command") word (f second) (settled_out rules h)
-plain_walks word rest f is walks h second =
-    plain_step rules word rest h 2 3 (codes "path") is refl refl
-    ∙ (λ j. option_and_then (λ rows. held_walks rest f walks (codes "path") word None (Some 2) refl third rows h.skip j) (settled_out rules h))
-    ∙ one_in_turn (codes "path") word (f third) (settled_out rules h)
-plain_walks word rest f is walks h third =
-    plain_step rules word rest h 3 4 (codes "image") is refl refl
-    ∙ (λ j. option_and_then (λ rows. held_walks rest f walks (codes "image") word None (Some 3) refl past rows h.skip j) (settled_out rules h))
-    ∙ one_in_turn (codes "image") word (f past) (settled_out rules h)
+plain_walks word rest f is walks h first = one_plain word rest f is walks h first second (codes "command") refl refl refl
+plain_walks word rest f is walks h second = one_plain word rest f is walks h second third (codes "path") refl refl refl
+plain_walks word rest f is walks h third = one_plain word rest f is walks h third past (codes "image") refl refl refl
 plain_walks word rest f is walks h past = stray_step rules word rest h 4 is refl
 
 given_one : (o : OptionName) (v : Text) (rest : List Text) (f : Position → Option Values) → Walks rest f → (h : Held) (p : Position) (rows : List Row)

@@ -4,8 +4,11 @@ use Rattle.fdr_check.specs.Occurrences.{occurrences}
 use Rattle.fdr_check.specs.Groups.{places_of}
 use Rattle.fdr_check.proofs.Sharing.{occurrences_kept}
 use Rattle.fdr_check.proofs.Grouping.{length_grouped, group_at}
-use Rattle.fdr_check.proofs.Enumerating.{rate_is_found, rate_not_yet, rate_none}
+use Rattle.fdr_check.proofs.Searches.{first_later}
+use Rattle.fdr_check.proofs.Overlapping.{none_of}
+use Rattle.fdr_check.proofs.Enumerating.{rate_row_of, rate_here, rate_is_found, rate_none}
 use Rattle.fdr_check.proofs.faults.rate_fault.Goals as goal
+use Rattle.fdr_check.proofs.faults.rate_fault.Goals.{After-rate_of-fault}
 
 pub bounds-groups-index : goal.bounds-groups-index
 bounds-groups-index c =
@@ -14,17 +17,22 @@ bounds-groups-index c =
     ap length c.requires.groups ∙ length_grouped c.args.t.now.places (length c.args.t.now.params) in
     omega (arith, same, len, c.loop-index-test.true)
 
+here : (c : After-rate_of-fault) → rate_row_of c.args.t.now (c.loop-index.index, c.index-params-index.result) ≡ c.rate_of-fault.result
+here c =
+    rate_here c.args.t.now c.args.groups.now c.loop-index.index c.index-params-index.result c.index-groups-index.result _ _ _ c.words_of-words.ensures.words
+    c.requires.groups (omega (arith, ap length c.params-params.ensures, c.loop-index-test.true)) c.index-groups-index.is c.places.ensures
+    c.rate_of-fault.ensures
+
 pub returns-then-is_some : goal.returns-then-is_some
 returns-then-is_some c =
-    rate_is_found c.args.t.now c.params-params.result.now c.args.groups.now c.loop-index.index c.index-params-index.result c.index-groups-index.result _ _ _
-    c.words_of-words.ensures.words c.params-params.ensures c.requires.groups c.loop-index-test.true c.index-params-index.is c.index-groups-index.is
-    c.places.ensures c.rate_of-fault.ensures c.loop-index.invariant (sym c.if-is_some.ensures)
+    rate_is_found c.args.t.now c.params-params.result.now c.loop-index.index c.index-params-index.result _ c.params-params.ensures c.loop-index-test.true
+    c.index-params-index.is c.loop-index.invariant (here (goal.at.returns-then-is_some c).After-rate_of-fault) (sym c.if-is_some.ensures)
 
 pub loop-index-preserved : goal.loop-index-preserved
 loop-index-preserved c =
-    rate_not_yet c.args.t.now c.params-params.result.now c.args.groups.now c.loop-index.index c.index-params-index.result c.index-groups-index.result _ _ _
-    c.words_of-words.ensures.words c.params-params.ensures c.requires.groups c.loop-index-test.true c.index-params-index.is c.index-groups-index.is
-    c.places.ensures c.rate_of-fault.ensures c.loop-index.invariant (sym c.if-is_some.ensures)
+    first_later (rate_row_of c.args.t.now) c.params-params.result.now c.loop-index.index c.index-params-index.result c.loop-index-test.true
+    c.index-params-index.is c.loop-index.invariant
+    (here (goal.at.loop-index-preserved c).After-rate_of-fault ∙ none_of c.rate_of-fault.result (sym c.if-is_some.ensures))
 
 pub returns : goal.returns
 returns c = rate_none c.args.t.now c.params-params.result.now c.loop-index.index c.params-params.ensures c.loop-index-test.false c.loop-index.invariant

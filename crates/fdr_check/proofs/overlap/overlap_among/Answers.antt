@@ -2,7 +2,8 @@ use Rattle.std.proofs.Common.{◌≡◌, ℕ, ◌<◌, ◌*◌, ◌+◌, ◌||�
 use Rattle.std.proofs.lemmas.List.{take_at}
 use Rattle.fdr_check.specs.Soundness.{covers}
 use Rattle.fdr_check.specs.Walks.{AreMarks, is_marked}
-use Rattle.fdr_check.proofs.Overlapping.{no_overlap_among, overlap_among_not_yet, overlap_among_found, marks_next}
+use Rattle.fdr_check.proofs.Searches.{first_later}
+use Rattle.fdr_check.proofs.Overlapping.{none_of, overlap_by_index, no_overlap_among, overlap_among_found, marks_next}
 use Rattle.fdr_check.proofs.overlap.overlap_among.Goals as goal
 
 pub loop-index-init : goal.loop-index-init
@@ -29,8 +30,8 @@ loop-index-preserved c =
     record {
       marks = subst (λ ms. AreMarks w (take (i + 1) c.args.places.now) ms) (sym whole)
           (marks_next w c.args.places.now i q old new c.loop-index-test.true c.index-places-index.is c.loop-index.invariant.marks len more);
-      none = overlap_among_not_yet w c.args.places.now i q c.in_ok-overlap.overlap c.loop-index-test.true c.index-places-index.is c.loop-index.invariant.none
-          c.in_ok-overlap.ensures (sym c.if-is_some.ensures);
+      none = first_later (overlap_by_index w c.args.places.now) c.args.places.now i q c.loop-index-test.true c.index-places-index.is c.loop-index.invariant.none
+          (sym c.in_ok-overlap.ensures ∙ none_of c.in_ok-overlap.overlap (sym c.if-is_some.ensures));
     }
 
 pub returns : goal.returns

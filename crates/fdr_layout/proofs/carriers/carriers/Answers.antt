@@ -1,7 +1,8 @@
 use Rattle.std.proofs.Common.{◌≡◌, ◌-◌, map, ap, ◌∙◌, arith}
 use Rattle.std.specs.List.{range_with_len}
 use Rattle.fdr_layout.specs.Samples.{carrier_of}
-use Rattle.fdr_layout.proofs.Carrying.{first_shift, next_shift, bits_lie, carrier_is, carrier_more}
+use Rattle.fdr_layout.proofs.Carrying.{first_shift, next_shift, bits_lie, carrier_is}
+use Rattle.fdr_check.proofs.Slotting.{of_parts_more}
 use Rattle.fdr_layout.proofs.carriers.carriers.Goals as goal
 
 pub loop-part-init : goal.loop-part-init
@@ -21,7 +22,7 @@ loop-part-preserved c =
     let part = c.loop-part.part in
     let low = c.loop-part.auto.part in
     record {
-      so_far = carrier_more c.args.words places n part _ _ _ low c.loop-part.invariant.so_far c.in_ok-push.ensures
+      so_far = of_parts_more (carrier_of c.args.words places n) part _ _ _ low c.loop-part.invariant.so_far c.in_ok-push.ensures
           (carrier_is c.args.words places n part c.part_width-width.result c.loop-part.shift c.in_ok-part_bits.field-0.items c.requires.widths
           c.in_ok-part_bits.ensures c.part_width-width.ensures.width c.loop-part.invariant.shift);
       shift = next_shift places n part c.loop-part.shift c.part_width-width.result low c.loop-part.invariant.shift c.part_width-width.ensures.width;

@@ -2,12 +2,14 @@ use Rattle.std.proofs.Common.{◌≡◌, ◌<◌, Some, length, [], ◌∷◌, �
 use Rattle.std.specs.Prelude.{IsSome}
 use Rattle.std.proofs.lemmas.Result.{err_from_is_err_and}
 use Rattle.fdr_sync.specs.Events.{events_of}
-use Rattle.fdr_resync.specs.Past.{scanner_with_events, known_events}
+use Rattle.fdr_resync.specs.Past.{ScannerPast, scanner_with_events, known_events}
 use Rattle.fdr_resync.specs.Answers.{answered_event, answered_frame}
 use Rattle.fdr_readout.specs.Entries.{event_entries}
 use Rattle.fdr_readout.specs.Reading.{ReadsEvents, entries_in}
 use Rattle.fdr_readout.proofs.EventFrames.{some_read, entries_step, entries_rest}
 use Rattle.fdr_readout.proofs.Readings.{frame_answered}
+use Rattle.fdr_readout.proofs.entries.take_known.Given.{Over}
+use Rattle.fdr_readout.proofs.entries.take_known.Goals.{In-Some}
 use Rattle.fdr_readout.proofs.entries.take_known.Goals as goal
 
 pub loop-event-init : goal.loop-event-init
@@ -25,16 +27,28 @@ loop-event-init g c = record {
   quiet = refl;
 }
 
+-- what is read with the event that comes next
+read_with : (g : Over) (c : In-Some g) (past : ScannerPast) (reads : ReadsEvents c.args.table.now c.args.reader.now past)
+    → ReadsEvents c.args.table.now c.next.new.self
+    (scanner_with_events (scanner_with_events past (c.loop-event.invariant.taken past reads).0) (answered_event c.in-Some.event ∷ []))
+read_with g c past reads =
+    let inv = c.loop-event.invariant.taken past reads in
+    c.in-Some.ensures.stands c.args.table.now (scanner_with_events past inv.0) inv.2
+
+-- where it is a frame, one was read
+frame_read : (g : Over) (c : In-Some g) (past : ScannerPast) (reads : ReadsEvents c.args.table.now c.args.reader.now past)
+    → IsSome (answered_frame (Some c.in-Some.event)) → 0 < length (read_with g c past reads).frames.0
+frame_read g c past reads frame =
+    let inv = c.loop-event.invariant.taken past reads in
+    let now = read_with g c past reads in
+    some_read (past.bytes ++ []) c.args.table.now.frame.words (past.taken ++ inv.0) (answered_event c.in-Some.event) now.frames.0
+    (subst IsSome (frame_answered c.in-Some.event) frame) (now.frames.2 [] (λ finished. refl))
+
 pub take_event-requires : goal.take_event-requires
 take_event-requires g c =
-    let past = c.requires.0 in
-    let inv = c.loop-event.invariant.taken past c.requires.1 in
-    let now = c.in-Some.ensures.stands c.args.table.now (scanner_with_events past inv.0) inv.2 in (
-      now.frames.0,
-      now.frames.1,
-      λ frame. some_read (past.bytes ++ []) c.args.table.now.frame.words (past.taken ++ inv.0) (answered_event c.in-Some.event) now.frames.0
-          (subst IsSome (frame_answered c.in-Some.event) frame) (now.frames.2 [] (λ finished. refl)),
-    )
+    let at = (goal.at.take_event-requires g c).In-Some in
+    let frames = (read_with g at c.requires.0 c.requires.1).frames in
+    (frames.0, frames.1, frame_read g at c.requires.0 c.requires.1)
 
 pub loop-event-preserved : goal.loop-event-preserved
 loop-event-preserved g c = record {
@@ -43,11 +57,9 @@ loop-event-preserved g c = record {
       let inv = c.loop-event.invariant.taken past reads in
       let e = answered_event c.in-Some.event in
       let mid = scanner_with_events past inv.0 in
-      let now = c.in-Some.ensures.stands t mid inv.2 in
-      let some : IsSome (answered_frame (Some c.in-Some.event)) → 0 < length now.frames.0 =
-      λ frame. some_read (past.bytes ++ []) t.frame.words (past.taken ++ inv.0) e now.frames.0
-      (subst IsSome (frame_answered c.in-Some.event) frame) (now.frames.2 [] (λ finished. refl)) in
-      let took = c.in_ok-take_event.ensures.all now.frames.0 now.frames.1 some in (
+      let at = (goal.at.loop-event-preserved g c).In-Some in
+      let now = read_with g at past reads in
+      let took = c.in_ok-take_event.ensures.all now.frames.0 now.frames.1 (frame_read g at past reads) in (
         inv.0 ++ e ∷ [],
         inv.1 ++ event_entries t now.frames.0 e,
         subst (λ es. ReadsEvents t c.next.new.self (record past { taken = es })) (append_assoc past.taken inv.0 (e ∷ [])) now,
@@ -68,11 +80,9 @@ returns-in_err-take_event-clause-part g c = λ past reads.
     let inv = c.loop-event.invariant.taken past reads in
     let e = answered_event c.in-Some.event in
     let mid = scanner_with_events past inv.0 in
-    let now = c.in-Some.ensures.stands t mid inv.2 in
-    let some : IsSome (answered_frame (Some c.in-Some.event)) → 0 < length now.frames.0 =
-    λ frame. some_read (past.bytes ++ []) t.frame.words (past.taken ++ inv.0) e now.frames.0
-    (subst IsSome (frame_answered c.in-Some.event) frame) (now.frames.2 [] (λ finished. refl)) in
-    let failed = c.in_err-take_event.ensures.part now.frames.0 now.frames.1 some in
+    let at = (goal.at.returns-in_err-take_event-clause-part g c).In-Some in
+    let now = read_with g at past reads in
+    let failed = c.in_err-take_event.ensures.part now.frames.0 now.frames.1 (frame_read g at past reads) in
     let p = err_from_is_err_and c.from_residual.result c.from_residual.ensures.1 in
     rw p.1 (
       inv.1 ++ event_entries t now.frames.0 e,

@@ -1,4 +1,4 @@
-use Rattle.std.proofs.Common.{◌≡◌, ◌+◌, ◌∙◌, ℕ, List, length, ap, sym, subst, Some}
+use Rattle.std.proofs.Common.{◌≡◌, ◌+◌, ◌∙◌, ℕ, List, [], ◌∷◌, length, ap, sym, subst, Some}
 use Rattle.fdr_deck.specs.State.{State, Tells}
 use Rattle.fdr_deck.specs.Calls.{IsQuiet, Announces}
 use Rattle.fdr_slot.specs.declared.image.Header.{Header}
@@ -7,7 +7,10 @@ use Rattle.fdr_recover.specs.Blocks.{Block}
 use Rattle.fdr_ring.specs.Gates.{waiting}
 use Rattle.fdr_ring.specs.Runs.{HasAdded}
 use Rattle.fdr_ring.specs.Rings.{IsSureRing, IsCommitting, OfSettled}
-use Rattle.fdr_recorder.proofs.Adding.{IsRing-told, Records-unprepared, Records-prepared, Records-added, HasRecorded-added}
+use Rattle.fdr_recorder.specs.Recording.{Records, HasRecorded}
+use Rattle.fdr_recorder.proofs.Adding.{IsRing-told, Records-unprepared, Records-prepared, recorded-added}
+use Rattle.fdr_recorder.proofs.session.add.Given.{Over}
+use Rattle.fdr_recorder.proofs.session.add.Goals.{After-announce}
 use Rattle.fdr_recorder.proofs.session.add.Goals as goal
 
 quiet_as : (tells : Tells) (h p : Header) (next k : ℕ) (d1 d2 : State) → p ≡ h → k ≡ next → IsQuiet tells (OfSettled d1 (IsCommitting p k)) d1 d2
@@ -43,8 +46,12 @@ returns-in_err-ring-clause-records g c =
     b ok.settled ok.succeeds c.prepare.ensures.keeps ok.block (s c.commit.new.deck) c.commit.ensures.extent
     (quiet_as _ h p.header next p.next _ _ ok.prepared.0 ok.prepared.1 c.commit.ensures.quiet)
 
-pub returns-clause-records : goal.returns-clause-records
-returns-clause-records g c =
+-- what a call that added its block recorded
+added : (g : Over) (c : After-announce g) → let s = g.D.Deck.state in
+    let b : Block = record { number = c.args.ring.next; payload = c.args.bytes.now } in
+    Records g.D.Deck.tells c.args.ring.header c.args.ring.next (b ∷ []) (s c.args.deck.now) (s c.announce.new.self)
+    × HasRecorded g.D.Deck.tells c.args.ring.header c.args.ring.next (b ∷ []) (s c.args.deck.now) (s c.announce.new.self)
+added g c =
     let s = g.D.Deck.state in
     let h = c.args.ring.header in
     let next = c.args.ring.next in
@@ -55,7 +62,7 @@ returns-clause-records g c =
     let up : c.in_ok-ring.ring.next ≡ next + 1 = done.ring.1 ∙ ap (λ (n : ℕ). n + 1) ok.prepared.1 in
     let announces : Announces (next + 1) (s c.commit.new.deck) (s c.announce.new.self) =
     subst (λ (n : ℕ). Announces n (s c.commit.new.deck) (s c.announce.new.self)) (c.next.ensures.number ∙ up) c.announce.ensures.announces in
-    Records-added g.D.Deck.tells h next (length c.args.bytes.now) (s c.args.deck.now) (s c.prepare.new.deck)
+    recorded-added g.D.Deck.tells h next (length c.args.bytes.now) (s c.args.deck.now) (s c.prepare.new.deck)
     (g.met.D.Deck.sound c.args.deck.now) c.requires.fact c.prepare.ensures.extent c.prepare.ensures.quiet
     b ok.settled ok.succeeds c.prepare.ensures.keeps ok.block (s c.commit.new.deck) c.commit.ensures.extent
     (quiet_as _ h p.header next p.next _ _ ok.prepared.0 ok.prepared.1 c.commit.ensures.quiet)
@@ -67,28 +74,11 @@ returns-clause-records g c =
     (s c.announce.new.self) announces c.announce.ensures.disk
     c.announce.ensures.line c.announce.ensures.line_faults c.announce.ensures.time c.announce.ensures.moments
 
+pub returns-clause-records : goal.returns-clause-records
+returns-clause-records g c = (added g (goal.at.returns-clause-records g c).After-announce).0
+
 pub returns-clause-recorded : goal.returns-clause-recorded
-returns-clause-recorded g c =
-    let s = g.D.Deck.state in
-    let h = c.args.ring.header in
-    let next = c.args.ring.next in
-    let p = c.in_ok-prepared.prepared in
-    let ok = c.in_ok-prepared.ensures in
-    let done = c.in_ok-ring.ensures in
-    let b : Block = record { number = next; payload = c.args.bytes.now } in
-    let up : c.in_ok-ring.ring.next ≡ next + 1 = done.ring.1 ∙ ap (λ (n : ℕ). n + 1) ok.prepared.1 in
-    let announces : Announces (next + 1) (s c.commit.new.deck) (s c.announce.new.self) =
-    subst (λ (n : ℕ). Announces n (s c.commit.new.deck) (s c.announce.new.self)) (c.next.ensures.number ∙ up) c.announce.ensures.announces in
-    HasRecorded-added g.D.Deck.tells h next (length c.args.bytes.now) (s c.args.deck.now) (s c.prepare.new.deck)
-    (g.met.D.Deck.sound c.args.deck.now) c.requires.fact c.prepare.ensures.extent c.prepare.ensures.quiet
-    b ok.settled ok.succeeds c.prepare.ensures.keeps ok.block (s c.commit.new.deck) c.commit.ensures.extent
-    (quiet_as _ h p.header next p.next _ _ ok.prepared.0 ok.prepared.1 c.commit.ensures.quiet)
-    (in_limits-is h c.args.ring.limits) done.settled done.succeeds
-    (sure_as _ h c.in_ok-ring.ring.header (next + 1) c.in_ok-ring.ring.next _ (done.ring.0 ∙ ok.prepared.0) up done.fact)
-    ok.run
-    (λ told. subst (λ (hh : Header). HasAdded hh b (s c.prepare.new.deck).held (s c.commit.new.deck).held) ok.prepared.0
-    (done.added told b (waits_as h p.header _ next p.next b ok.prepared.0 ok.prepared.1 (ok.block told))))
-    (s c.announce.new.self) announces c.announce.ensures.disk
+returns-clause-recorded g c = (added g (goal.at.returns-clause-recorded g c).After-announce).1
 
 pub returns-clause-fact : goal.returns-clause-fact
 returns-clause-fact g c = IsRing-told _ _ _ _ _ c.announce.ensures.disk c.in_ok-ring.ensures.fact.ring

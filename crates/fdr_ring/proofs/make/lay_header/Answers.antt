@@ -1,6 +1,7 @@
 use Rattle.std.proofs.Common.{◌≡◌, ◌∙◌, List, ℕ, length, take, drop, ap, arith, length-take}
 use Rattle.std.specs.Prelude.{[], ◌∷◌, IsTrue, replicate}
-use Rattle.fdr_deck.specs.Disk.{patched}
+use Rattle.fdr_deck.specs.Disk.{Torn, patched}
+use Rattle.fdr_deck.specs.Calls.{IsQuiet}
 use Rattle.fdr_deck.proofs.Moments.{IsQuiet-keep}
 use Rattle.fdr_slot.specs.Places.{image_size}
 use Rattle.fdr_slot.specs.Headers.{header_bytes}
@@ -8,68 +9,60 @@ use Rattle.fdr_ring.specs.Formatting.{fresh_image}
 use Rattle.fdr_deck.proofs.Quiet.{IsQuiet-weaken, IsQuiet-then}
 use Rattle.fdr_ring.proofs.Results.{map_ok}
 use Rattle.fdr_ring.proofs.Made.{lays_tail, torn_stop, gate_stop, opened_fresh}
+use Rattle.fdr_ring.proofs.make.lay_header.Given.{Over}
+use Rattle.fdr_ring.proofs.make.lay_header.Goals.{After-write, After-sync, After-open_gate}
 use Rattle.fdr_ring.proofs.make.lay_header.Goals as goal
+
+-- a write that puts no more than the header behind its gate
+tail_laid : (g : Over) (c : After-write g) → IsQuiet g.D.Deck.tells (Torn 1 63 (replicate (image_size c.args.h.now) 0)) (g.D.Deck.state c.args.deck.now)
+    (g.D.Deck.state c.write.new.self)
+tail_laid g c =
+    lays_tail _ (image_size c.args.h.now) _ _ _ (g.met.D.Deck.sound c.args.deck.now) c.requires.zeros c.requires.settled
+    (omega (arith, length-take 63 (drop 1 c.write_header-bytes.result))) c.write.ensures.passes c.write.ensures.moments c.write.ensures.tears
+
+-- and the sync behind it
+synced : (g : Over) (c : After-sync g) → IsQuiet g.D.Deck.tells (Torn 1 63 (replicate (image_size c.args.h.now) 0)) (g.D.Deck.state c.args.deck.now)
+    (g.D.Deck.state c.write.new.self) → IsQuiet g.D.Deck.tells (Torn 1 63 (replicate (image_size c.args.h.now) 0)) (g.D.Deck.state c.args.deck.now)
+    (g.D.Deck.state c.sync.new.self)
+synced g c laid =
+    IsQuiet-keep _ _ _ _ _ (g.met.D.Deck.sound c.args.deck.now) (g.met.D.Deck.sound c.write.new.self) laid
+    c.sync.ensures.passes c.sync.ensures.moments c.sync.ensures.no_more
+
+-- then the header behind its gate is laid on zeros
+header_held : (g : Over) (c : After-open_gate g) → IsTrue g.D.Deck.tells.bytes → (g.D.Deck.state c.sync.new.self).held
+    ≡ patched 1 (take 63 (drop 1 (header_bytes c.args.h.now))) (replicate (image_size c.args.h.now) 0)
+header_held g c told =
+    c.sync.ensures.held ∙ c.in_ok-write.ensures.writes.held told
+    ∙ ap (λ (l : List ℕ). patched 1 (take 63 (drop 1 l)) (g.D.Deck.state c.args.deck.now).held) c.write_header-bytes.ensures.bytes
+    ∙ ap (patched 1 (take 63 (drop 1 (header_bytes c.args.h.now)))) (c.requires.zeros told)
 
 pub returns-in_err-write-clause-quiet : goal.returns-in_err-write-clause-quiet
 returns-in_err-write-clause-quiet g c =
-    IsQuiet-weaken _ _ _ _ _
-    (lays_tail _ (image_size c.args.h.now) _ _ _ (g.met.D.Deck.sound c.args.deck.now) c.requires.zeros c.requires.settled
-    (omega (
-      arith,
-      length-take 63
-          (drop 1 c.write_header-bytes.result),
-    )) c.write.ensures.passes c.write.ensures.moments c.write.ensures.tears)
-    (λ told image torn. torn_stop _ _ _ _ torn)
+    IsQuiet-weaken _ _ _ _ _ (tail_laid g (goal.at.returns-in_err-write-clause-quiet g c).After-write) (λ told image torn. torn_stop _ _ _ _ torn)
 
 pub returns-in_err-sync-clause-quiet : goal.returns-in_err-sync-clause-quiet
 returns-in_err-sync-clause-quiet g c =
-    let sound = g.met.D.Deck.sound c.args.deck.now in
-    IsQuiet-weaken _ _ _ _ _
-    (IsQuiet-keep _ _ _ _ _ sound (g.met.D.Deck.sound c.write.new.self)
-    (lays_tail _ (image_size c.args.h.now) _ _ _ sound c.requires.zeros c.requires.settled
-    (omega (
-      arith,
-      length-take 63
-          (drop 1 c.write_header-bytes.result),
-    )) c.write.ensures.passes c.write.ensures.moments c.write.ensures.tears)
-    c.sync.ensures.passes c.sync.ensures.moments c.sync.ensures.no_more)
-    (λ told image torn. torn_stop _ _ _ _ torn)
+    let at = goal.at.returns-in_err-sync-clause-quiet g c in
+    IsQuiet-weaken _ _ _ _ _ (synced g at.After-sync (tail_laid g at.After-write)) (λ told image torn. torn_stop _ _ _ _ torn)
 
 pub returns-clause-quiet : goal.returns-clause-quiet
 returns-clause-quiet g c =
     let sound = g.met.D.Deck.sound c.args.deck.now in
-    IsQuiet-then _ _ _ _ _ _ _ sound
-    (IsQuiet-keep _ _ _ _ _ sound (g.met.D.Deck.sound c.write.new.self)
-    (lays_tail _ (image_size c.args.h.now) _ _ _ sound c.requires.zeros c.requires.settled
-    (omega (
-      arith,
-      length-take 63
-          (drop 1 c.write_header-bytes.result),
-    )) c.write.ensures.passes c.write.ensures.moments c.write.ensures.tears)
-    c.sync.ensures.passes c.sync.ensures.moments c.sync.ensures.no_more)
-    c.open_gate.ensures.quiet
+    let at = goal.at.returns-clause-quiet g c in
+    IsQuiet-then _ _ _ _ _ _ _ sound (synced g at.After-sync (tail_laid g at.After-write)) c.open_gate.ensures.quiet
     (λ told image torn. torn_stop _ _ _ _ torn)
     (λ told image turned.
     let bytes_told = sound.stops_need_bytes told in
-    let held : (g.D.Deck.state c.sync.new.self).held ≡ patched 1 (take 63 (drop 1 (header_bytes c.args.h.now)))
-    (replicate (image_size c.args.h.now) 0) =
-    c.sync.ensures.held ∙ c.in_ok-write.ensures.writes.held bytes_told
-    ∙ ap (λ (l : List ℕ). patched 1 (take 63 (drop 1 l)) (g.D.Deck.state c.args.deck.now).held) c.write_header-bytes.ensures.bytes
-    ∙ ap (patched 1 (take 63 (drop 1 (header_bytes c.args.h.now)))) (c.requires.zeros bytes_told) in
     let long : length (g.D.Deck.state c.sync.new.self).held ≡ image_size c.args.h.now = (g.met.D.Deck.sound c.sync.new.self).size bytes_told
     ∙ c.sync.ensures.extent ∙ c.write.ensures.extent ∙ c.requires.extent in
-    gate_stop c.args.h.now (g.D.Deck.state c.sync.new.self).held image c.requires.limits held (omega (arith, long))
-    (turned (c.in_ok-sync.ensures.settles told)))
+    gate_stop c.args.h.now (g.D.Deck.state c.sync.new.self).held image c.requires.limits (header_held g at.After-open_gate bytes_told)
+    (omega (arith, long)) (turned (c.in_ok-sync.ensures.settles told)))
 
 pub returns-clause-held : goal.returns-clause-held
 returns-clause-held g c =
+    let at = (goal.at.returns-clause-held g c).After-open_gate in
     let Mid : Type 0 = IsTrue g.D.Deck.tells.bytes → (g.D.Deck.state c.open_gate.new.deck).held ≡ patched 0 (0x5a ∷ [])
     (g.D.Deck.state c.sync.new.self).held in
     let End : Type 0 = IsTrue g.D.Deck.tells.bytes → (g.D.Deck.state c.open_gate.new.deck).held ≡ fresh_image c.args.h.now in
-    map_ok c.open_gate.result Mid End (λ written told.
-    let held : (g.D.Deck.state c.sync.new.self).held ≡ patched 1 (take 63 (drop 1 (header_bytes c.args.h.now)))
-    (replicate (image_size c.args.h.now) 0) =
-    c.sync.ensures.held ∙ c.in_ok-write.ensures.writes.held told
-    ∙ ap (λ (l : List ℕ). patched 1 (take 63 (drop 1 l)) (g.D.Deck.state c.args.deck.now).held) c.write_header-bytes.ensures.bytes
-    ∙ ap (patched 1 (take 63 (drop 1 (header_bytes c.args.h.now)))) (c.requires.zeros told) in
-    written told ∙ ap (patched 0 (0x5a ∷ [])) held ∙ opened_fresh c.args.h.now) c.open_gate.ensures.written
+    map_ok c.open_gate.result Mid End
+    (λ written told. written told ∙ ap (patched 0 (0x5a ∷ [])) (header_held g at told) ∙ opened_fresh c.args.h.now) c.open_gate.ensures.written

@@ -11,6 +11,7 @@ use Rattle.fdr_sampler.specs.Kept.{slot_parts, value_at, IsDrawn}
 use Rattle.fdr_sampler.specs.Schedule.{SlotStep, slot_steps, step_of}
 use Rattle.fdr_sampler.proofs.Drawing.{IsDrawn-none, IsDrawn-more, param_within, value_read}
 use Rattle.fdr_sampler.proofs.pieces.data_word.Goals as goal
+use Rattle.fdr_sampler.proofs.pieces.data_word.Goals.{After-step-item}
 
 -- the part of a step
 record IsPartOf (l : Laid) (slot i : ℕ) (x : SlotStep) : Type 0 where
@@ -37,26 +38,28 @@ part_of l slot i items x all low is =
 pub loop-step-init : goal.loop-step-init
 loop-step-init c = record { small = omega arith; drawn = λ value have. IsDrawn-none value c.args.raws.now }
 
+here : (c : After-step-item) → IsPartOf c.args.schedule.now c.args.slot c.loop-step.step-index c.step-item.result
+here c =
+    part_of c.args.schedule.now c.args.slot c.loop-step.step-index c.at_slot-step-items.result.now c.step-item.result c.at_slot-step-items.ensures.steps
+    c.loop-step-test.true c.step-item.is
+
+its_sample : (c : After-step-item) → (here c).part.sample < length c.args.schedule.now.samples
+its_sample c =
+    let p = here c in
+    subst (λ (y : SlotPart). y.sample < length c.args.schedule.now.samples) (sym p.at)
+    (c.at_slot-step-items.ensures.numbers c.loop-step.step-index p.part p.within)
+
 pub value_at-raw-requires-clause-param : goal.value_at-raw-requires-clause-param
 value_at-raw-requires-clause-param c =
+    let at : After-step-item = (goal.at.value_at-raw-requires-clause-param c).After-step-item in
     let laid = c.args.schedule.now in
-    let x = c.step-item.result in
-    let p = part_of laid c.args.slot c.loop-step.step-index c.at_slot-step-items.result.now x c.at_slot-step-items.ensures.steps c.loop-step-test.true
-    c.step-item.is in
-    let a = p.part in
-    let below = subst (λ (y : SlotPart). y.sample < length laid.samples) (sym p.at) (c.at_slot-step-items.ensures.numbers c.loop-step.step-index a p.within) in
-    subst (λ (y : SlotStep). y.param < length c.args.held.now) (sym p.step)
-    (param_within laid a.sample (length c.args.held.now) (map (λ (s : Sample). s.param) laid.samples) below refl c.requires.params)
+    subst (λ (y : SlotStep). y.param < length c.args.held.now) (sym (here at).step)
+    (param_within laid (here at).part.sample (length c.args.held.now) (map (λ (s : Sample). s.param) laid.samples) (its_sample at) refl c.requires.params)
 
 pub value_at-raw-requires-clause-number : goal.value_at-raw-requires-clause-number
 value_at-raw-requires-clause-number c =
-    let laid = c.args.schedule.now in
-    let x = c.step-item.result in
-    let p = part_of laid c.args.slot c.loop-step.step-index c.at_slot-step-items.result.now x c.at_slot-step-items.ensures.steps c.loop-step-test.true
-    c.step-item.is in
-    let a = p.part in
-    let below = subst (λ (y : SlotPart). y.sample < length laid.samples) (sym p.at) (c.at_slot-step-items.ensures.numbers c.loop-step.step-index a p.within) in
-    omega (arith, below, ap (λ (y : SlotStep). y.sample) p.step, c.requires.raws, c.loop-step.auto.raws)
+    let at : After-step-item = (goal.at.value_at-raw-requires-clause-number c).After-step-item in
+    omega (arith, its_sample at, ap (λ (y : SlotStep). y.sample) (here at).step, c.requires.raws, c.loop-step.auto.raws)
 
 pub loop-step-preserved : goal.loop-step-preserved
 loop-step-preserved c =
@@ -68,12 +71,12 @@ loop-step-preserved c =
     let owners = map (λ (s : Sample). s.param) laid.samples in
     let firsts = map first_part_slot laid.samples in
     let i = c.loop-step.step-index in
-    let x = c.step-item.result in
-    let p = part_of laid slot i c.at_slot-step-items.result.now x c.at_slot-step-items.ensures.steps c.loop-step-test.true c.step-item.is in
+    let at : After-step-item = (goal.at.loop-step-preserved c).After-step-item in
+    let p = here at in
     let a = p.part in
     let raws = c.loop-step.raws in
     let raw = c.value_at-raw.result in
-    let below = subst (λ (y : SlotPart). y.sample < length laid.samples) (sym p.at) (c.at_slot-step-items.ensures.numbers i a p.within) in
+    let below = its_sample at in
     let room : a.sample < length raws = omega (arith, below, c.requires.raws, c.loop-step.auto.raws) in
     record {
       small = c.with_piece-word.ensures.twelve_bits;

@@ -1,14 +1,13 @@
 use Rattle.std.proofs.Common.{[], inl, inr, ap, Err}
 use Rattle.fdr_top.proofs.ItsTable.{accepted_left, by_table, read_accepted, read_refused}
-use Rattle.fdr_top.proofs.Answering.{format_unused, making_done, making_refusal}
+use Rattle.fdr_top.proofs.Answering.{image_unused, making_done, making_refusal}
 use Rattle.fdr_words.specs.Forms.{format_image}
 use Rattle.fdr_top.proofs.Commands.{own_may, own_not_line, own_not_sink, own_not_table, own_past, own_uses}
 use Rattle.fdr_top.proofs.Making.{makes_nothing}
 use Rattle.fdr_top.proofs.formatting.format.Goals as goal
 
 pub returns-in-Err-clause-table : goal.returns-in-Err-clause-table
-returns-in-Err-clause-table g c = read_refused _ _ _ c.in-Err.ensures.answers
-    (λ row f e. c.in-Err.ensures.refused row f (ap Err e)) (λ e. c.in-Err.ensures.fault_within_limit (ap Err e))
+returns-in-Err-clause-table g c = read_refused _ _ _ c.in-Err.ensures.answers c.in-Err.ensures.refused c.in-Err.ensures.fault_within_limit
 
 pub returns-in-Err-clause-format : goal.returns-in-Err-clause-format
 returns-in-Err-clause-format g c =
@@ -16,27 +15,24 @@ returns-in-Err-clause-format g c =
 
 pub returns-in-Err-clause-complete : goal.returns-in-Err-clause-complete
 returns-in-Err-clause-complete g c = λ path image faults whole faultless.
-    let reads = read_refused _ _ _ c.in-Err.ensures.answers
-    (λ row f e. c.in-Err.ensures.refused row f (ap Err e)) (λ e. c.in-Err.ensures.fault_within_limit (ap Err e)) in
-    accepted_left _ _ _ c.in-Err.ensures.answers reads whole.0 (λ e. faultless.0 (c.in-Err.ensures.fault (ap Err e)))
+    accepted_left _ _ _ c.in-Err.ensures.answers (returns-in-Err-clause-table g c) whole.0 (λ e. faultless.0 (c.in-Err.ensures.fault (ap Err e)))
 
 pub returns-in-Ok-clause-table : goal.returns-in-Ok-clause-table
 returns-in-Ok-clause-table g c =
-    let read = c.in-Ok.ensures.table in
-    read_accepted _ _ read.0 c.in-Ok.sound _ read.1 read.2 read.3 c.in-Ok.ensures.end c.in-Ok.ensures.sound
+    read_accepted _ _ c.in-Ok.sound _ c.in-Ok.ensures.table c.in-Ok.ensures.end c.in-Ok.ensures.sound
     (inr (own_past (format_image [] [] c.args.slots c.args.payload) _ (c.make_image.ensures.answer [] [])))
 
 pub returns-in-Ok-clause-format : goal.returns-in-Ok-clause-format
 returns-in-Ok-clause-format g c =
-    let read = c.in-Ok.ensures.table in
-    by_table _ _ read.0 c.in-Ok.sound _ read.2 read.3 c.in-Ok.ensures.end c.make_image.ensures.makes
+    by_table _ _ c.in-Ok.sound _ c.in-Ok.ensures.table c.in-Ok.ensures.end c.make_image.ensures.makes
 
 pub returns-in-Ok-clause-refusal : goal.returns-in-Ok-clause-refusal
 returns-in-Ok-clause-refusal g c = λ nothing written faults.
     making_refusal [] [] c.args.slots c.args.payload _ _ _ _ _ _ _ (c.make_image.ensures.answer [] []) c.make_image.ensures.makes nothing
 
 pub returns-in-Ok-clause-unused : goal.returns-in-Ok-clause-unused
-returns-in-Ok-clause-unused g c = λ path image. format_unused path image _ _ _ _ _ _ c.make_image.ensures.makes.quiet.passes
+returns-in-Ok-clause-unused g c = λ path image. image_unused (format_image path image c.args.slots c.args.payload) _ _ _ _ tt
+    (λ none. none) (λ none. none) c.make_image.ensures.makes.quiet.passes
 
 pub returns-in-Ok-clause-complete : goal.returns-in-Ok-clause-complete
 returns-in-Ok-clause-complete g c = λ path image faults whole faultless.

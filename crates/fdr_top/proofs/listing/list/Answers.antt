@@ -1,17 +1,17 @@
-use Rattle.std.proofs.Common.{◌≡◌, ◌∙◌, [], inl, inr, ⊎_elim, ap, sym, subst, Err}
+use Rattle.std.proofs.Common.{◌≡◌, ◌∙◌, [], inr, ap, sym, subst, Err}
 use Rattle.fdr_table.specs.Rows.{TableRows}
 use Rattle.fdr_words.specs.Forms.{list_image}
 use Rattle.fdr_recorder.specs.Starting.{IsFor}
 use Rattle.fdr_top.specs.Tables.{table_in}
 use Rattle.fdr_top.proofs.ItsTable.{accepted_left, by_table, read_accepted, read_refused}
 use Rattle.fdr_top.proofs.TableAnswers.{taken_is_all}
-use Rattle.fdr_top.proofs.Commands.{own_past}
-use Rattle.fdr_top.proofs.ListedImages.{list_causes, list_done, list_may, list_not_before, list_unused, lists_nothing}
+use Rattle.fdr_top.proofs.Answering.{image_unused}
+use Rattle.fdr_top.proofs.Commands.{memory_may, memory_past, own_uses}
+use Rattle.fdr_top.proofs.ListedImages.{list_causes, list_done, lists_nothing}
 use Rattle.fdr_top.proofs.listing.list.Goals as goal
 
 pub returns-in-Err-clause-table : goal.returns-in-Err-clause-table
-returns-in-Err-clause-table g c = read_refused _ _ _ c.in-Err.ensures.answers
-    (λ row f e. c.in-Err.ensures.refused row f (ap Err e)) (λ e. c.in-Err.ensures.fault_within_limit (ap Err e))
+returns-in-Err-clause-table g c = read_refused _ _ _ c.in-Err.ensures.answers c.in-Err.ensures.refused c.in-Err.ensures.fault_within_limit
 
 pub returns-in-Err-clause-list : goal.returns-in-Err-clause-list
 returns-in-Err-clause-list g c =
@@ -19,29 +19,26 @@ returns-in-Err-clause-list g c =
 
 pub returns-in-Err-clause-complete : goal.returns-in-Err-clause-complete
 returns-in-Err-clause-complete g c = λ path image whole faultless.
-    let reads = read_refused _ _ _ c.in-Err.ensures.answers
-    (λ row f e. c.in-Err.ensures.refused row f (ap Err e)) (λ e. c.in-Err.ensures.fault_within_limit (ap Err e)) in
-    accepted_left _ _ _ c.in-Err.ensures.answers reads whole.0 (λ e. faultless.0 (c.in-Err.ensures.fault (ap Err e)))
+    accepted_left _ _ _ c.in-Err.ensures.answers (returns-in-Err-clause-table g c) whole.0 (λ e. faultless.0 (c.in-Err.ensures.fault (ap Err e)))
 
 pub returns-in-Ok-clause-table : goal.returns-in-Ok-clause-table
 returns-in-Ok-clause-table g c =
-    let read = c.in-Ok.ensures.table in
-    read_accepted _ _ read.0 c.in-Ok.sound _ read.1 read.2 read.3 c.in-Ok.ensures.end c.in-Ok.ensures.sound
-    (⊎_elim (λ memory. inl memory) (λ own. inr (own_past (list_image [] []) _ own)) (c.list_image.ensures.answer [] []))
+    read_accepted _ _ c.in-Ok.sound _ c.in-Ok.ensures.table c.in-Ok.ensures.end c.in-Ok.ensures.sound
+    (memory_past (list_image [] []) _ (c.list_image.ensures.answer [] []))
 
 pub returns-in-Ok-clause-list : goal.returns-in-Ok-clause-list
 returns-in-Ok-clause-list g c =
-    let read = c.in-Ok.ensures.table in
-    by_table _ _ read.0 c.in-Ok.sound _ read.2 read.3 c.in-Ok.ensures.end c.list_image.ensures.lists
+    by_table _ _ c.in-Ok.sound _ c.in-Ok.ensures.table c.in-Ok.ensures.end c.list_image.ensures.lists
 
 pub returns-in-Ok-clause-unused : goal.returns-in-Ok-clause-unused
-returns-in-Ok-clause-unused g c = λ path image. list_unused path image _ _ _ _ _ _ _ c.list_image.ensures.lists
+returns-in-Ok-clause-unused g c = λ path image. image_unused (list_image path image) _ _ _ _ tt (λ none. none) (λ none. none)
+    c.list_image.ensures.lists.looks.quiet.passes
 
 pub returns-in-Ok-clause-answers : goal.returns-in-Ok-clause-answers
-returns-in-Ok-clause-answers g c = λ path image. list_may path image _ (c.list_image.ensures.answer path image)
+returns-in-Ok-clause-answers g c = λ path image. memory_may (list_image path image) _ (c.list_image.ensures.answer path image)
 
 pub returns-in-Ok-clause-deck_untouched : goal.returns-in-Ok-clause-deck_untouched
-returns-in-Ok-clause-deck_untouched g c = λ before. absurd (list_not_before _ (c.list_image.ensures.answer [] []) before)
+returns-in-Ok-clause-deck_untouched g c = λ before. absurd (own_uses (list_image [] []) _ (c.list_image.ensures.answer [] []) before)
 
 pub returns-in-Ok-clause-causes : goal.returns-in-Ok-clause-causes
 returns-in-Ok-clause-causes g c =

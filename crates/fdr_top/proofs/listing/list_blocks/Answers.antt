@@ -1,25 +1,33 @@
-use Rattle.std.proofs.Common.{Err, ap}
+use Rattle.std.proofs.Common.{[], Err, ap}
+use Rattle.std.specs.Prelude.{IsTrue}
+use Rattle.fdr_io.specs.Output.{Emits}
 use Rattle.fdr_io.proofs.OutputSteps.{part_at_end, whole_is_part, written_at_end}
 use Rattle.fdr_recover.specs.Images.{recovered_run}
+use Rattle.fdr_readout.specs.Listing.{listing_of}
 use Rattle.fdr_readout.proofs.EntryLemmas.{lines_of_entries}
 use Rattle.fdr_top.specs.Recover.{payloads_of}
 use Rattle.fdr_top.proofs.ListedLines.{part_of_first, part_of_lines}
+use Rattle.fdr_top.proofs.listing.list_blocks.Given.{Over}
+use Rattle.fdr_top.proofs.listing.list_blocks.Goals.{In-Ok}
 use Rattle.fdr_top.proofs.listing.list_blocks.Goals as goal
+
+-- what went out once all was taken
+emits : (g : Over) (c : In-Ok g) → IsTrue g.D.Deck.tells.bytes
+    → Emits (g.O.Sink.written c.args.out.now) (g.O.Sink.written c.take_blocks.new.out) [] c.take_blocks.new.taker
+    (listing_of c.args.table.now (payloads_of (recovered_run c.args.reader.now.header (g.D.Deck.state c.args.deck.now).held)))
+emits g c told = rw (c.requires.empty, lines_of_entries) at c.in-Ok.ensures.all told
 
 pub returns-in-Ok-finish-clause-text : goal.returns-in-Ok-finish-clause-text
 returns-in-Ok-finish-clause-text g c = λ done told.
-    let emits = rw (c.requires.empty, lines_of_entries) at c.in-Ok.ensures.all told in
-    written_at_end _ _ _ _ _ emits c.in-Ok-finish.ensures.all
+    written_at_end _ _ _ _ _ (emits g (goal.at.returns-in-Ok-finish-clause-text g c).In-Ok told) c.in-Ok-finish.ensures.all
 
 pub returns-in-Ok-finish-clause-part : goal.returns-in-Ok-finish-clause-part
 returns-in-Ok-finish-clause-part g c = λ told.
-    let emits = rw (c.requires.empty, lines_of_entries) at c.in-Ok.ensures.all told in
-    whole_is_part _ _ _ (written_at_end _ _ _ _ _ emits c.in-Ok-finish.ensures.all)
+    whole_is_part _ _ _ (written_at_end _ _ _ _ _ (emits g (goal.at.returns-in-Ok-finish-clause-part g c).In-Ok told) c.in-Ok-finish.ensures.all)
 
 pub returns-in-Err-clause-part : goal.returns-in-Err-clause-part
 returns-in-Err-clause-part g c = λ told.
-    let emits = rw (c.requires.empty, lines_of_entries) at c.in-Ok.ensures.all told in
-    part_at_end _ _ _ _ _ c.in-Err.ensures.part.0 emits c.in-Err.ensures.part.1
+    part_at_end _ _ _ _ _ c.in-Err.ensures.part.0 (emits g (goal.at.returns-in-Err-clause-part g c).In-Ok told) c.in-Err.ensures.part.1
 
 pub returns-in-Err-Disk-clause-part : goal.returns-in-Err-Disk-clause-part
 returns-in-Err-Disk-clause-part g c = λ told.

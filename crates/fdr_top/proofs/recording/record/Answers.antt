@@ -1,9 +1,9 @@
-use Rattle.std.proofs.Common.{[], ap, inl, inr, ⊎_elim, Err}
+use Rattle.std.proofs.Common.{[], ap, Err}
 use Rattle.fdr_bus.specs.Records.{good_prefix}
 use Rattle.fdr_table.specs.Rows.{TableRows}
 use Rattle.fdr_words.specs.Forms.{record_line}
 use Rattle.fdr_top.proofs.ItsTable.{accepted_left, by_table, read_accepted, read_refused}
-use Rattle.fdr_top.proofs.Commands.{memory_may, own_not_sink, own_not_table, own_past, own_uses}
+use Rattle.fdr_top.proofs.Commands.{memory_may, own_not_sink, own_not_table, memory_past, own_uses}
 use Rattle.fdr_top.proofs.Answering.{memory_writes, record_leaves, record_unused}
 use Rattle.fdr_top.proofs.Readable.{records_line, records_nothing}
 use Rattle.fdr_top.proofs.RecordLines.{record_done, room_of}
@@ -11,8 +11,7 @@ use Rattle.fdr_top.proofs.TableAnswers.{table_not_past}
 use Rattle.fdr_top.proofs.recording.record.Goals as goal
 
 pub returns-in-Err-clause-table : goal.returns-in-Err-clause-table
-returns-in-Err-clause-table g c = read_refused _ _ _ c.in-Err.ensures.answers
-    (λ row f e. c.in-Err.ensures.refused row f (ap Err e)) (λ e. c.in-Err.ensures.fault_within_limit (ap Err e))
+returns-in-Err-clause-table g c = read_refused _ _ _ c.in-Err.ensures.answers c.in-Err.ensures.refused c.in-Err.ensures.fault_within_limit
 
 pub returns-in-Err-clause-record : goal.returns-in-Err-clause-record
 returns-in-Err-clause-record g c =
@@ -20,23 +19,19 @@ returns-in-Err-clause-record g c =
 
 pub returns-in-Err-clause-complete : goal.returns-in-Err-clause-complete
 returns-in-Err-clause-complete g c = λ path image faults whole faultless.
-    let reads = read_refused _ _ _ c.in-Err.ensures.answers
-    (λ row f e. c.in-Err.ensures.refused row f (ap Err e)) (λ e. c.in-Err.ensures.fault_within_limit (ap Err e)) in
-    accepted_left _ _ _ c.in-Err.ensures.answers reads whole.0 (λ e. faultless.0 (c.in-Err.ensures.fault (ap Err e)))
+    accepted_left _ _ _ c.in-Err.ensures.answers (returns-in-Err-clause-table g c) whole.0 (λ e. faultless.0 (c.in-Err.ensures.fault (ap Err e)))
 
 pub returns-in-Ok-clause-answers : goal.returns-in-Ok-clause-answers
 returns-in-Ok-clause-answers g c = λ path image. memory_may (record_line path image) _ (c.record_line.ensures.answer path image)
 
 pub returns-in-Ok-clause-table : goal.returns-in-Ok-clause-table
 returns-in-Ok-clause-table g c =
-    let read = c.in-Ok.ensures.table in
-    read_accepted _ _ read.0 c.in-Ok.sound _ read.1 read.2 read.3 c.in-Ok.ensures.end c.in-Ok.ensures.sound
-    (⊎_elim (λ memory. inl memory) (λ own. inr (own_past (record_line [] []) _ own)) (c.record_line.ensures.answer [] []))
+    read_accepted _ _ c.in-Ok.sound _ c.in-Ok.ensures.table c.in-Ok.ensures.end c.in-Ok.ensures.sound
+    (memory_past (record_line [] []) _ (c.record_line.ensures.answer [] []))
 
 pub returns-in-Ok-clause-record : goal.returns-in-Ok-clause-record
 returns-in-Ok-clause-record g c =
-    let read = c.in-Ok.ensures.table in
-    by_table _ _ read.0 c.in-Ok.sound _ read.2 read.3 c.in-Ok.ensures.end
+    by_table _ _ c.in-Ok.sound _ c.in-Ok.ensures.table c.in-Ok.ensures.end
     (records_line _ _ _ _ _ c.in-Ok.ensures.in_range c.in-Ok.ensures.sound c.record_line.ensures.records)
 
 pub returns-in-Ok-clause-refusal : goal.returns-in-Ok-clause-refusal

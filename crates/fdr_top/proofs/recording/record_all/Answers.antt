@@ -1,9 +1,31 @@
-use Rattle.std.proofs.Common.{◌∙◌, ap, refl, sym, Err, subst, arith}
+use Rattle.std.proofs.Common.{◌≡◌, ◌∙◌, ap, refl, sym, Err, subst, arith}
 use Rattle.std.proofs.lemmas.Result.{err_from_is_err_and}
+use Rattle.fdr_deck.specs.Pull.{KeepsLine}
+use Rattle.fdr_top.specs.Answers.{KeepsLineAndFaults}
 use Rattle.fdr_top.specs.Recording.{Continues, fed}
-use Rattle.fdr_top.specs.Supply.{supplied}
+use Rattle.fdr_top.specs.Supply.{IsGenerator, supplied}
 use Rattle.fdr_top.proofs.SessionEnds.{Continues-closed, Continues-unclosed, is_disk_fault, keeps_line_then, only_close, ring_of, told_closed, two_cut}
+use Rattle.fdr_top.proofs.recording.record_all.Given.{Over}
+use Rattle.fdr_top.proofs.recording.record_all.Goals.{After-close}
 use Rattle.fdr_top.proofs.recording.record_all.Goals as goal
+
+-- what closing keeps
+kept : (g : Over) (c : After-close g)
+    → let before = g.D.Deck.state c.record_records.new.deck in
+    let after = g.D.Deck.state c.close.new.deck in
+    KeepsLine before after × (after.line_faults ≡ before.line_faults) × (after.extent ≡ before.extent)
+kept g c =
+    let r = c.requires in
+    let whole = c.in_ok-fed.ensures.fed r.0 r.1 r.2 in
+    let wrote = c.close.ensures.records (fed r.1 (supplied r.0 whole.pulled)) whole.stands in
+    (wrote.line, wrote.line_faults, wrote.extent)
+
+extent : (g : Over) (c : After-close g) → (g.D.Deck.state c.close.new.deck).extent ≡ (g.D.Deck.state c.args.deck.now).extent
+extent g c = (kept g c).2 ∙ c.in_ok-fed.ensures.extent
+
+unpulled : (g : Over) (c : After-close g) → IsGenerator c.args.source.now
+    → KeepsLineAndFaults (g.D.Deck.state c.args.deck.now) (g.D.Deck.state c.close.new.deck)
+unpulled g c is = let k = kept g c in keeps_line_then _ _ _ _ (c.in_ok-fed.ensures.unpulled is) refl k.0 k.1
 
 pub close-requires-clause-stands : goal.close-requires-clause-stands
 close-requires-clause-stands g c =
@@ -53,36 +75,19 @@ returns-in-Ok-clause-all g c = let r = c.requires in (c.in_ok-fed.ensures.fed r.
 
 pub returns-in-Ok-clause-line_fault : goal.returns-in-Ok-clause-line_fault
 returns-in-Ok-clause-line_fault g c = λ fails.
-    let r = c.requires in
-    let whole = c.in_ok-fed.ensures.fed r.0 r.1 r.2 in
-    let same = (c.in-Ok.ensures.records (fed r.1 (supplied r.0 whole.pulled)) whole.stands).line_faults in
-    omega (arith, same, c.in_ok-fed.ensures.line_fault fails)
+    omega (arith, (kept g (goal.at.returns-in-Ok-clause-line_fault g c).After-close).1, c.in_ok-fed.ensures.line_fault fails)
 
 pub returns-in-Ok-clause-unpulled : goal.returns-in-Ok-clause-unpulled
-returns-in-Ok-clause-unpulled g c = λ is.
-    let r = c.requires in
-    let whole = c.in_ok-fed.ensures.fed r.0 r.1 r.2 in
-    let records = c.in-Ok.ensures.records (fed r.1 (supplied r.0 whole.pulled)) whole.stands in
-    keeps_line_then _ _ _ _ (c.in_ok-fed.ensures.unpulled is) refl records.line records.line_faults
+returns-in-Ok-clause-unpulled g c = unpulled g (goal.at.returns-in-Ok-clause-unpulled g c).After-close
 
 pub returns-in-Ok-clause-extent : goal.returns-in-Ok-clause-extent
-returns-in-Ok-clause-extent g c =
-    let r = c.requires in
-    let whole = c.in_ok-fed.ensures.fed r.0 r.1 r.2 in
-    (c.in-Ok.ensures.records (fed r.1 (supplied r.0 whole.pulled)) whole.stands).extent ∙ c.in_ok-fed.ensures.extent
+returns-in-Ok-clause-extent g c = extent g (goal.at.returns-in-Ok-clause-extent g c).After-close
 
 pub returns-in-Err-clause-unpulled : goal.returns-in-Err-clause-unpulled
-returns-in-Err-clause-unpulled g c = λ is.
-    let r = c.requires in
-    let whole = c.in_ok-fed.ensures.fed r.0 r.1 r.2 in
-    let records = c.in-Err.ensures.records (fed r.1 (supplied r.0 whole.pulled)) whole.stands in
-    keeps_line_then _ _ _ _ (c.in_ok-fed.ensures.unpulled is) refl records.line records.line_faults
+returns-in-Err-clause-unpulled g c = unpulled g (goal.at.returns-in-Err-clause-unpulled g c).After-close
 
 pub returns-in-Err-clause-extent : goal.returns-in-Err-clause-extent
-returns-in-Err-clause-extent g c =
-    let r = c.requires in
-    let whole = c.in_ok-fed.ensures.fed r.0 r.1 r.2 in
-    (c.in-Err.ensures.records (fed r.1 (supplied r.0 whole.pulled)) whole.stands).extent ∙ c.in_ok-fed.ensures.extent
+returns-in-Err-clause-extent g c = extent g (goal.at.returns-in-Err-clause-extent g c).After-close
 
 pub returns-in-Ok-clause-disk_quiet : goal.returns-in-Ok-clause-disk_quiet
 returns-in-Ok-clause-disk_quiet g c =

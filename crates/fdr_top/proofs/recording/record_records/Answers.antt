@@ -1,17 +1,97 @@
 use Rattle.std.proofs.Common.{◌≡◌, ◌∙◌, Result, Err, refl, sym, ap, subst, arith, [], ◌∷◌, ◌++◌}
 use Rattle.fdr_bus.specs.declared.BusRecord.{BusRecord}
+use Rattle.fdr_recorder.specs.Past.{MayFeedSession, SessionPast, due_at, session_with_record}
+use Rattle.fdr_recorder.specs.Recording.{Records}
 use Rattle.fdr_top.specs.Answers.{KeepsLineAndFaults}
-use Rattle.fdr_top.specs.Recording.{fed}
+use Rattle.fdr_top.specs.Recording.{HasFed, IsBegun, fed}
+use Rattle.fdr_top.specs.Supply.{IsGenerator, RecordSupply}
 use Rattle.fdr_top.specs.declared.outcome.Outcome.{Outcome}
 use Rattle.fdr_top.proofs.Records.{is_end-no, is_end-yes}
 use Rattle.fdr_top.proofs.Sessions.{HasFed-pull, HasFed-feed}
 use Rattle.fdr_top.proofs.SessionEnds.{Continues-fault, HasEnded-at, HasFedAll-end, HasFedAll-stop, HasRecorded-at, Records-at, begun, bound_of, is_disk_fault}
 use Rattle.fdr_top.proofs.SessionEnds.{keeps_line, keeps_line_then, limits_of, line_failed, only_two, ring_at, sure_at, two_cut}
 use Rattle.fdr_top.proofs.Supplies.{may_feed, supplied_with_next}
+use Rattle.fdr_top.proofs.recording.record_records.Given.{Over}
+use Rattle.fdr_top.proofs.recording.record_records.Goals.{In-Ok, After-feed, In-Ok-feed}
 use Rattle.fdr_top.proofs.recording.record_records.Goals as goal
 
 err_same : (a b : Outcome) → ◌≡◌ {A = Result BusRecord Outcome} (Err a) (Err b) → a ≡ b
 err_same a b e = cc
+
+-- the session may be fed the record that came
+may : (g : Over) (c : In-Ok g) (from : RecordSupply) (past : SessionPast)
+    (is : IsBegun g.D.Deck.tells from c.args.session c.args.source.now past (g.D.Deck.state c.args.deck.now))
+    → MayFeedSession (fed past (c.loop-next.invariant.has from past is).1) c.in-Ok.next
+may g c from past is =
+    let at = c.loop-next.invariant.has from past is in
+    let next = c.in-Ok.ensures.next from at.0 at.1 at.2 in
+    may_feed past from _ (at.0 ++ next.0) at.1 c.in-Ok.next next.2
+
+-- what was pulled for it
+pulled : (g : Over) (c : In-Ok g) (from : RecordSupply) (past : SessionPast)
+    (is : IsBegun g.D.Deck.tells from c.args.session c.args.source.now past (g.D.Deck.state c.args.deck.now))
+    → let at = c.loop-next.invariant.has from past is in
+    HasFed g.D.Deck.tells (fed past at.1) (at.0 ++ (c.in-Ok.ensures.next from at.0 at.1 at.2).0) (g.D.Deck.state c.args.deck.now)
+    (g.D.Deck.state c.next.new.deck)
+pulled g c from past is =
+    let s = g.met.D.Deck.sound in
+    let e = c.in-Ok.ensures in
+    let at = c.loop-next.invariant.has from past is in
+    let next = e.next from at.0 at.1 at.2 in
+    HasFed-pull _ (fed past at.1) _ _ _ at.0 (s c.args.deck.now) is.ring is.settled is.told at.4 next.0 (s c.loop-next.deck) next.1 next.3
+    e.disk e.told e.fresh e.time
+
+-- what was recorded at it
+records : (g : Over) (c : After-feed g) (from : RecordSupply) (past : SessionPast)
+    (is : IsBegun g.D.Deck.tells from c.args.session c.args.source.now past (g.D.Deck.state c.args.deck.now))
+    → Records g.D.Deck.tells c.loop-next.session.ring.header c.loop-next.session.ring.next
+    (due_at (fed past (c.loop-next.invariant.has from past is).1) c.in-Ok.next) (g.D.Deck.state c.next.new.deck) (g.D.Deck.state c.feed.new.deck)
+records g c from past is =
+    let at = c.loop-next.invariant.has from past is in
+    let next = c.in-Ok.ensures.next from at.0 at.1 at.2 in
+    c.feed.ensures.records (fed past at.1) at.3 (may_feed past from _ (at.0 ++ next.0) at.1 c.in-Ok.next next.2)
+
+quiet : (g : Over) (c : After-feed g) → (g.D.Deck.state c.feed.new.deck).line_faults ≡ (g.D.Deck.state c.args.deck.now).line_faults
+quiet g c =
+    let r = c.requires in
+    (records g c r.0 r.1 r.2).line_faults ∙ c.in-Ok.ensures.quiet (λ x. absurd (cc)) ∙ c.loop-next.invariant.quiet
+
+extent : (g : Over) (c : After-feed g) → (g.D.Deck.state c.feed.new.deck).extent ≡ (g.D.Deck.state c.args.deck.now).extent
+extent g c = let r = c.requires in (records g c r.0 r.1 r.2).extent ∙ c.in-Ok.ensures.disk.extent ∙ c.loop-next.invariant.extent
+
+unpulled : (g : Over) (c : After-feed g) → IsGenerator c.args.source.now
+    → KeepsLineAndFaults (g.D.Deck.state c.args.deck.now) (g.D.Deck.state c.feed.new.deck)
+unpulled g c is =
+    let r = c.requires in
+    let wrote = records g c r.0 r.1 r.2 in
+    let before = c.loop-next.invariant.unpulled is in
+    keeps_line_then _ _ _ _ before.1 (ap g.D.Deck.state (c.in-Ok.ensures.still before.0).1) wrote.line wrote.line_faults
+
+-- once the session took it
+disk_quiet : (g : Over) (c : In-Ok-feed g) → (g.D.Deck.state c.feed.new.deck).disk_faults ≡ (g.D.Deck.state c.args.deck.now).disk_faults
+disk_quiet g c =
+    let e = c.in-Ok.ensures in
+    let r = c.requires in
+    let at = c.loop-next.invariant.has r.0 r.1 r.2 in
+    let next = e.next r.0 at.0 at.1 at.2 in
+    let fits = may_feed r.1 r.0 _ (at.0 ++ next.0) at.1 c.in-Ok.next next.2 in
+    (c.in-Ok-feed.ensures.recorded (fed r.1 at.1) at.3 fits).disk_faults ∙ e.disk.disk_faults ∙ c.loop-next.invariant.disk_quiet
+
+has_fed : (g : Over) (c : In-Ok-feed g) (from : RecordSupply) (past : SessionPast)
+    (is : IsBegun g.D.Deck.tells from c.args.session c.args.source.now past (g.D.Deck.state c.args.deck.now))
+    → let at = c.loop-next.invariant.has from past is in
+    let bytes = at.0 ++ (c.in-Ok.ensures.next from at.0 at.1 at.2).0 in
+    MayFeedSession (fed past at.1) c.in-Ok.next
+    → HasFed g.D.Deck.tells (fed past at.1) bytes (g.D.Deck.state c.args.deck.now) (g.D.Deck.state c.next.new.deck)
+    → HasFed g.D.Deck.tells (session_with_record (fed past at.1) c.in-Ok.next) bytes (g.D.Deck.state c.args.deck.now) (g.D.Deck.state c.feed.new.deck)
+has_fed g c from past is fits before =
+    let f = c.in-Ok-feed.ensures in
+    let at = c.loop-next.invariant.has from past is in
+    let next = c.in-Ok.ensures.next from at.0 at.1 at.2 in
+    HasFed-feed _ (fed past at.1) _ _ _ (at.0 ++ next.0) (g.met.D.Deck.sound c.args.deck.now) is.ring is.settled is.told before c.in-Ok.next
+    (limits_of (fed past at.1) _ at.3) fits
+    (Records-at _ (fed past at.1) _ _ _ _ at.3 (f.records (fed past at.1) at.3 fits))
+    (HasRecorded-at _ (fed past at.1) _ _ _ _ at.3 (f.recorded (fed past at.1) at.3 fits))
 
 pub loop-next-init : goal.loop-next-init
 loop-next-init g c = record {
@@ -48,8 +128,7 @@ pub feed-requires-clause-stands : goal.feed-requires-clause-stands
 feed-requires-clause-stands g c =
     let r = c.requires in
     let at = c.loop-next.invariant.has r.0 r.1 r.2 in
-    let next = c.in-Ok.ensures.next r.0 at.0 at.1 at.2 in
-    (fed r.1 at.1, at.3, may_feed r.1 r.0 _ (at.0 ++ next.0) at.1 c.in-Ok.next next.2)
+    (fed r.1 at.1, at.3, may g (goal.at.feed-requires-clause-stands g c).In-Ok r.0 r.1 r.2)
 
 pub feed-requires-clause-fact : goal.feed-requires-clause-fact
 feed-requires-clause-fact g c =
@@ -61,21 +140,25 @@ feed-requires-clause-fact g c =
 
 pub returns-in-Err-feed-clause-ended : goal.returns-in-Err-feed-clause-ended
 returns-in-Err-feed-clause-ended g c = λ from past is.
-    let s = g.met.D.Deck.sound in
-    let e = c.in-Ok.ensures in
+    let place = goal.at.returns-in-Err-feed-clause-ended g c in
     let f = c.in-Err-feed.ensures in
     let at = c.loop-next.invariant.has from past is in
-    let next = e.next from at.0 at.1 at.2 in
-    let may = may_feed past from _ (at.0 ++ next.0) at.1 c.in-Ok.next next.2 in
-    let has = HasFed-pull _ (fed past at.1) _ _ _ at.0 (s c.args.deck.now) is.ring is.settled is.told at.4 next.0 (s c.loop-next.deck)
-    next.1 next.3 e.disk e.told e.fresh e.time in
+    let next = c.in-Ok.ensures.next from at.0 at.1 at.2 in
+    let fits = may g place.In-Ok from past is in
     let good = supplied_with_next from _ (at.0 ++ next.0) at.1 c.in-Ok.next next.2 in
-    rw c.refusal.ensures (Continues-fault from _ past _ _ _ (at.0 ++ next.0) at.1 good.0 c.in-Ok.next c.in-Err-feed.fault (s c.args.deck.now)
-    c.args.session _ is (limits_of (fed past at.1) _ at.3) has may good.1 next.2.unpulled
-    (Records-at _ (fed past at.1) _ _ _ _ at.3 (f.records (fed past at.1) at.3 may))
+    rw c.refusal.ensures (Continues-fault from _ past _ _ _ (at.0 ++ next.0) at.1 good.0 c.in-Ok.next c.in-Err-feed.fault
+    (g.met.D.Deck.sound c.args.deck.now) c.args.session _ is (limits_of (fed past at.1) _ at.3) (pulled g place.In-Ok from past is) fits good.1
+    next.2.unpulled
+    (Records-at _ (fed past at.1) _ _ _ _ at.3 (records g place.After-feed from past is))
     (only_two _ f.only)
     (bound_of (fed past at.1) c.loop-next.session at.3)
-    (λ ends. HasEnded-at _ (fed past at.1) _ _ _ _ at.3 (f.seq_end (fed past at.1) at.3 may (ap Err ends))))
+    (λ ends. HasEnded-at _ (fed past at.1) _ _ _ _ at.3 (f.seq_end (fed past at.1) at.3 fits (ap Err ends))))
+
+pub returns-in-Err-feed-clause-extent : goal.returns-in-Err-feed-clause-extent
+returns-in-Err-feed-clause-extent g c = extent g (goal.at.returns-in-Err-feed-clause-extent g c).After-feed
+
+pub returns-in-Err-feed-clause-unpulled : goal.returns-in-Err-feed-clause-unpulled
+returns-in-Err-feed-clause-unpulled g c = unpulled g (goal.at.returns-in-Err-feed-clause-unpulled g c).After-feed
 
 pub returns-in-Err-feed-clause-only : goal.returns-in-Err-feed-clause-only
 returns-in-Err-feed-clause-only g c = rw c.refusal.ensures (two_cut c.in-Err-feed.fault (only_two _ c.in-Err-feed.ensures.only))
@@ -88,116 +171,49 @@ loop-next-smaller g c =
 
 pub loop-next-preserved : goal.loop-next-preserved
 loop-next-preserved g c =
-    let s = g.met.D.Deck.sound in
-    let e = c.in-Ok.ensures in
-    let f = c.in-Ok-feed.ensures in
-    let r = c.requires in
-    let was = c.loop-next.invariant.has r.0 r.1 r.2 in
-    let given = e.next r.0 was.0 was.1 was.2 in
-    let fits = may_feed r.1 r.0 _ (was.0 ++ given.0) was.1 c.in-Ok.next given.2 in
-    let records = f.records (fed r.1 was.1) was.3 fits in
+    let place = goal.at.loop-next-preserved g c in
     record {
       has = λ from past is.
           let at = c.loop-next.invariant.has from past is in
-          let next = e.next from at.0 at.1 at.2 in
-          let may = may_feed past from _ (at.0 ++ next.0) at.1 c.in-Ok.next next.2 in
-          let has = HasFed-pull _ (fed past at.1) _ _ _ at.0 (s c.args.deck.now) is.ring is.settled is.told at.4 next.0 (s c.loop-next.deck)
-          next.1 next.3 e.disk e.told e.fresh e.time in (
+          let next = c.in-Ok.ensures.next from at.0 at.1 at.2 in
+          let fits = may g place.In-Ok from past is in (
             at.0 ++ next.0,
             at.1 ++ c.in-Ok.next ∷ [],
             next.2.more (is_end-no c.in-Ok.next c.in-Word.is),
-            f.stands (fed past at.1) at.3 may,
-            HasFed-feed _ (fed past at.1) _ _ _ (at.0 ++ next.0) (s c.args.deck.now) is.ring is.settled is.told has c.in-Ok.next
-                (limits_of (fed past at.1) _ at.3) may
-                (Records-at _ (fed past at.1) _ _ _ _ at.3 (f.records (fed past at.1) at.3 may))
-                (HasRecorded-at _ (fed past at.1) _ _ _ _ at.3 (f.recorded (fed past at.1) at.3 may)),
+            c.in-Ok-feed.ensures.stands (fed past at.1) at.3 fits,
+            has_fed g place.In-Ok-feed from past is fits (pulled g place.In-Ok from past is),
           );
-      quiet = records.line_faults ∙ e.quiet (λ x. absurd (cc)) ∙ c.loop-next.invariant.quiet;
-      disk_quiet = (f.recorded (fed r.1 was.1) was.3 fits).disk_faults ∙ e.disk.disk_faults ∙ c.loop-next.invariant.disk_quiet;
-      unpulled = λ is.
-          let before = c.loop-next.invariant.unpulled is in
-          let still = e.still before.0 in
-          (still.0, keeps_line_then _ _ _ _ before.1 (ap g.D.Deck.state still.1) records.line records.line_faults);
-      extent = records.extent ∙ e.disk.extent ∙ c.loop-next.invariant.extent;
+      quiet = quiet g place.After-feed;
+      disk_quiet = disk_quiet g place.In-Ok-feed;
+      unpulled = λ is. ((c.in-Ok.ensures.still (c.loop-next.invariant.unpulled is).0).0, unpulled g place.After-feed is);
+      extent = extent g place.After-feed;
     }
 
 pub returns-in-End-clause-fed : goal.returns-in-End-clause-fed
 returns-in-End-clause-fed g c = λ from past is.
-    let s = g.met.D.Deck.sound in
-    let e = c.in-Ok.ensures in
-    let f = c.in-Ok-feed.ensures in
+    let place = goal.at.returns-in-End-clause-fed g c in
     let at = c.loop-next.invariant.has from past is in
-    let next = e.next from at.0 at.1 at.2 in
+    let next = c.in-Ok.ensures.next from at.0 at.1 at.2 in
     let ends = is_end-yes c.in-Ok.next c.in-End.is in
-    let may = may_feed past from _ (at.0 ++ next.0) at.1 c.in-Ok.next next.2 in
-    let has = HasFed-pull _ (fed past at.1) _ _ _ at.0 (s c.args.deck.now) is.ring is.settled is.told at.4 next.0 (s c.loop-next.deck)
-    next.1 next.3 e.disk e.told e.fresh e.time in
-    let all = HasFed-feed _ (fed past at.1) _ _ _ (at.0 ++ next.0) (s c.args.deck.now) is.ring is.settled is.told has c.in-Ok.next
-    (limits_of (fed past at.1) _ at.3) may
-    (Records-at _ (fed past at.1) _ _ _ _ at.3 (f.records (fed past at.1) at.3 may))
-    (HasRecorded-at _ (fed past at.1) _ _ _ _ at.3 (f.recorded (fed past at.1) at.3 may)) in
-    HasFedAll-end from _ past _ _ _ (at.0 ++ next.0) at.1 c.in-Ok.next is.ring (f.stands (fed past at.1) at.3 may) all (next.2.ends ends) ends
-    next.2.unpulled ((f.records (fed past at.1) at.3 may).line_faults ∙ e.quiet (λ x. absurd (cc)) ∙ c.loop-next.invariant.quiet)
+    let fits = may g place.In-Ok from past is in
+    let all = has_fed g place.In-Ok-feed from past is fits (pulled g place.In-Ok from past is) in
+    HasFedAll-end from _ past _ _ _ (at.0 ++ next.0) at.1 c.in-Ok.next is.ring (c.in-Ok-feed.ensures.stands (fed past at.1) at.3 fits) all
+    (next.2.ends ends) ends next.2.unpulled (quiet g place.After-feed)
 
 pub returns-in-End-clause-disk_quiet : goal.returns-in-End-clause-disk_quiet
-returns-in-End-clause-disk_quiet g c =
-    let e = c.in-Ok.ensures in
-    let f = c.in-Ok-feed.ensures in
-    let r = c.requires in
-    let at = c.loop-next.invariant.has r.0 r.1 r.2 in
-    let next = e.next r.0 at.0 at.1 at.2 in
-    let may = may_feed r.1 r.0 _ (at.0 ++ next.0) at.1 c.in-Ok.next next.2 in
-    (f.recorded (fed r.1 at.1) at.3 may).disk_faults ∙ e.disk.disk_faults ∙ c.loop-next.invariant.disk_quiet
+returns-in-End-clause-disk_quiet g c = disk_quiet g (goal.at.returns-in-End-clause-disk_quiet g c).In-Ok-feed
 
 pub returns-in-End-clause-extent : goal.returns-in-End-clause-extent
-returns-in-End-clause-extent g c =
-    let e = c.in-Ok.ensures in
-    let f = c.in-Ok-feed.ensures in
-    let r = c.requires in
-    let at = c.loop-next.invariant.has r.0 r.1 r.2 in
-    let next = e.next r.0 at.0 at.1 at.2 in
-    let may = may_feed r.1 r.0 _ (at.0 ++ next.0) at.1 c.in-Ok.next next.2 in
-    (f.records (fed r.1 at.1) at.3 may).extent ∙ e.disk.extent ∙ c.loop-next.invariant.extent
+returns-in-End-clause-extent g c = extent g (goal.at.returns-in-End-clause-extent g c).After-feed
 
-pub returns-in-Err-feed-clause-extent : goal.returns-in-Err-feed-clause-extent
-returns-in-Err-feed-clause-extent g c =
-    let e = c.in-Ok.ensures in
-    let f = c.in-Err-feed.ensures in
-    let r = c.requires in
-    let at = c.loop-next.invariant.has r.0 r.1 r.2 in
-    let next = e.next r.0 at.0 at.1 at.2 in
-    let may = may_feed r.1 r.0 _ (at.0 ++ next.0) at.1 c.in-Ok.next next.2 in
-    (f.records (fed r.1 at.1) at.3 may).extent ∙ e.disk.extent ∙ c.loop-next.invariant.extent
+pub returns-in-End-clause-unpulled : goal.returns-in-End-clause-unpulled
+returns-in-End-clause-unpulled g c = unpulled g (goal.at.returns-in-End-clause-unpulled g c).After-feed
 
 pub returns-in-Err-clause-unpulled : goal.returns-in-Err-clause-unpulled
 returns-in-Err-clause-unpulled g c = λ is.
     let before = c.loop-next.invariant.unpulled is in
     let still = c.in-Err.ensures.still before.0 in
     subst (λ d. KeepsLineAndFaults (g.D.Deck.state c.args.deck.now) d) (sym (ap g.D.Deck.state still.1)) before.1
-
-pub returns-in-Err-feed-clause-unpulled : goal.returns-in-Err-feed-clause-unpulled
-returns-in-Err-feed-clause-unpulled g c = λ is.
-    let e = c.in-Ok.ensures in
-    let r = c.requires in
-    let at = c.loop-next.invariant.has r.0 r.1 r.2 in
-    let next = e.next r.0 at.0 at.1 at.2 in
-    let may = may_feed r.1 r.0 _ (at.0 ++ next.0) at.1 c.in-Ok.next next.2 in
-    let records = c.in-Err-feed.ensures.records (fed r.1 at.1) at.3 may in
-    let before = c.loop-next.invariant.unpulled is in
-    let still = e.still before.0 in
-    keeps_line_then _ _ _ _ before.1 (ap g.D.Deck.state still.1) records.line records.line_faults
-
-pub returns-in-End-clause-unpulled : goal.returns-in-End-clause-unpulled
-returns-in-End-clause-unpulled g c = λ is.
-    let e = c.in-Ok.ensures in
-    let r = c.requires in
-    let at = c.loop-next.invariant.has r.0 r.1 r.2 in
-    let next = e.next r.0 at.0 at.1 at.2 in
-    let may = may_feed r.1 r.0 _ (at.0 ++ next.0) at.1 c.in-Ok.next next.2 in
-    let records = c.in-Ok-feed.ensures.records (fed r.1 at.1) at.3 may in
-    let before = c.loop-next.invariant.unpulled is in
-    let still = e.still before.0 in
-    keeps_line_then _ _ _ _ before.1 (ap g.D.Deck.state still.1) records.line records.line_faults
 
 pub returns-in-Err-feed-clause-disk_fault : goal.returns-in-Err-feed-clause-disk_fault
 returns-in-Err-feed-clause-disk_fault g c = λ fails.

@@ -1,14 +1,15 @@
 use Rattle.std.proofs.Common.{[]}
 use Rattle.fdr_words.specs.Forms.{recover_image}
 use Rattle.fdr_top.proofs.Commands.{memory_may, own_not_line, own_not_table, own_uses}
-use Rattle.fdr_top.proofs.Answering.{recover_unused, recovers_image, recovery_done}
+use Rattle.fdr_top.proofs.Answering.{image_unused, recovers_image, recovery_done}
 use Rattle.fdr_top.proofs.recovering.recover.Goals as goal
 
 pub returns-clause-recover : goal.returns-clause-recover
 returns-clause-recover g c = recovers_image [] _ _ _ _ _ _ c.recover_image.ensures.recovers (c.recover_image.ensures.answer [])
 
 pub returns-clause-unused : goal.returns-clause-unused
-returns-clause-unused g c = λ image. recover_unused image _ _ _ _ c.recover_image.ensures.recovers.looks.quiet.passes
+returns-clause-unused g c = λ image.
+    image_unused (recover_image image) _ _ _ _ tt (λ none. none) (λ none. none) c.recover_image.ensures.recovers.looks.quiet.passes
 
 pub returns-clause-complete : goal.returns-clause-complete
 returns-clause-complete g c = λ image rest faults whole faultless.

@@ -3,21 +3,28 @@ use Rattle.std.specs.Prelude.{slice_get}
 use Rattle.std.specs.List.{list_any}
 use Rattle.std.specs.Option.{option_map}
 use Rattle.fdr_frame.specs.WordCount.{IsWordCount}
+use Rattle.fdr_table.specs.Rows.{TableRows}
 use Rattle.fdr_sync.specs.Accepted.{accepted_frames}
 use Rattle.fdr_sync.specs.Events.{Frame, Gap, events_of}
 use Rattle.fdr_resync.specs.declared.Event.TheVariants as answer
 use Rattle.fdr_resync.specs.Answers.{answered_event, answered_events, answered_frame}
-use Rattle.fdr_resync.specs.Past.{RepresentsScanner, known_events, scanner_with_events}
+use Rattle.fdr_resync.specs.Past.{RepresentsScanner, ScannerPast, known_events, scanner_with_events}
 use Rattle.fdr_recon.specs.Past.{read_frame}
 use Rattle.fdr_readout.specs.Listing.{frame_words}
 use Rattle.fdr_readout.specs.Reading.{MayGoOn, ReadsEvents}
 use Rattle.fdr_readout.proofs.Readings.{read_one, read_gap, ends_with_one}
+use Rattle.fdr_readout.proofs.events.EventReader.next.Goals.{In-Some}
 use Rattle.fdr_readout.proofs.events.EventReader.next.Goals as goal
+
+-- the event is the one that comes next of those that are known
+event_known : (c : In-Some) (t : TableRows) (past : ScannerPast) → ReadsEvents t c.args.self.now past
+    → slice_get (known_events past) (length past.taken) ≡ Some (answered_event c.in-Some.event)
+event_known c t past reads = sym (c.take.ensures.event past reads.scanner) ∙ ap (option_map answered_event) c.in-Some.is
 
 pub returns-in-Frame-clause-ahead : goal.returns-in-Frame-clause-ahead
 returns-in-Frame-clause-ahead c = λ t past more reads may.
     c.stays_decided.ensures.next c.args.self.now.scanner past more (answered_event c.in-Some.event) reads.scanner
-    (subst IsWordCount (sym reads.words) reads.count) may (sym (c.take.ensures.event past reads.scanner) ∙ ap (option_map answered_event) c.in-Some.is)
+    (subst IsWordCount (sym reads.words) reads.count) may (event_known (goal.at.returns-in-Frame-clause-ahead c).In-Some t past reads)
 
 pub returns-in-Frame-clause-stands : goal.returns-in-Frame-clause-stands
 returns-in-Frame-clause-stands c = λ t past reads.
@@ -54,7 +61,7 @@ returns-in-Frame-clause-stands c = λ t past reads.
 pub returns-in-Gap-clause-ahead : goal.returns-in-Gap-clause-ahead
 returns-in-Gap-clause-ahead c = λ t past more reads may.
     c.stays_decided.ensures.next c.args.self.now.scanner past more (answered_event c.in-Some.event) reads.scanner
-    (subst IsWordCount (sym reads.words) reads.count) may (sym (c.take.ensures.event past reads.scanner) ∙ ap (option_map answered_event) c.in-Some.is)
+    (subst IsWordCount (sym reads.words) reads.count) may (event_known (goal.at.returns-in-Gap-clause-ahead c).In-Some t past reads)
 
 pub returns-in-Gap-clause-stands : goal.returns-in-Gap-clause-stands
 returns-in-Gap-clause-stands c = λ t past reads.

@@ -1,5 +1,6 @@
-use Rattle.std.proofs.Common.{◌≡◌, ◌+◌, ◌*◌, ◌≤◌, ◌^◌, ◌+ℤ◌, ◌≤ℤ◌, pos, neg_ℤ, ap, sym, subst, ◌∙◌, mul-le-mul, to_z, of_z, w64, arith, ℤ}
+use Rattle.std.proofs.Common.{◌≡◌, ◌+◌, ◌-◌, ◌*◌, ◌≤◌, ◌^◌, ◌+ℤ◌, ◌≤ℤ◌, pos, neg_ℤ, ap, sym, subst, ◌∙◌, mul-le-mul, to_z, of_z, w64, arith, ℤ}
 use Rattle.std.proofs.lemmas.Int.{ints}
+use Rattle.fdr_divisor.specs.Reach.{IsInReach}
 use Rattle.fdr_recon.proofs.scale.SmallScale.of.Goals as goal
 
 pub steps_over-steps-requires-clause-high : goal.steps_over-steps-requires-clause-high
@@ -22,17 +23,19 @@ returns c =
     ap (λ d. c.steps_over-steps.result * d) c.from-3.ensures in
     let most : c.from-5.result * c.from-6.result ≡ c.raw_mask-mask.result * c.in_ok-num.num =
     ap (λ m. m * c.from-6.result) c.from-5.ensures ∙ ap (λ n. c.raw_mask-mask.result * n) c.from-6.ensures in
+    let rise = c.steps_over-steps.result * c.from-4.result - c.from.result * c.from-2.result in
+    let den = c.new-divisor.ensures in
     record {
       some_bits = c.raw_mask-mask.ensures.some_bits;
       half = c.half_range-half.ensures.value;
       mask = c.raw_mask-mask.ensures.value;
       num = c.in_ok-num.ensures.value;
-      den = c.divisor-den.ensures.value;
-      some_den = c.divisor-den.ensures.some;
+      den = c.divisor-den.ensures.value ∙ ap pos (sym den);
+      some_den = omega (arith, den, c.divisor-den.ensures.some);
       steps = c.steps_over-steps.result;
-      rise = omega (arith, below, steps, reached, c.steps_over-steps.ensures.reached);
+      rise = omega (arith, below, steps, reached, ap (λ d. c.steps_over-steps.result * d) den, c.steps_over-steps.ensures.reached);
       offset = ap (λ (z : ℤ). z +ℤ pos c.steps_over-steps.result) same ∙ c.offset_below.ensures.value;
       offset_low = subst (λ (z : ℤ). neg_ℤ (pos (2 ^ 62 + 2 ^ 50)) ≤ℤ z) (sym same) c.offset_below.ensures.low;
       offset_high = subst (λ (z : ℤ). z ≤ℤ pos (2 ^ 50)) (sym same) c.offset_below.ensures.high;
-      within_32_bits = omega (arith, most, c.if-from-rise.false, c.from-7.ensures);
+      within_reach = subst (IsInReach c.new-divisor.result) (ap (λ n. n + rise) most) (sym c.reaches.ensures ∙ c.if-not-reaches.false);
     }

@@ -3,11 +3,13 @@ use Rattle.std.proofs.lemmas.List.{length-take}
 use Rattle.std.proofs.lemmas.Result.{err_from_is_err_and}
 use Rattle.fdr_recover.specs.Blocks.{Block}
 use Rattle.fdr_recorder.specs.Recording.{Records, HasRecorded, HasEnded}
-use Rattle.fdr_recorder.specs.Past.{rest_of, stream_past}
+use Rattle.fdr_recorder.specs.Past.{RepresentsSession, SessionPast, rest_of, stream_past}
 use Rattle.fdr_recorder.proofs.Composing.{Records-here, HasRecorded-here}
 use Rattle.fdr_recorder.proofs.Ended.{ring_seq_end}
 use Rattle.fdr_recorder.proofs.Closing.{rest-none, rest-one, HasEnded-rest}
 use Rattle.fdr_recorder.proofs.Joined.{all_blocks-rest}
+use Rattle.fdr_recorder.proofs.session.Session.close.Given.{Over}
+use Rattle.fdr_recorder.proofs.session.Session.close.Goals.{After-add}
 use Rattle.fdr_recorder.proofs.session.Session.close.Goals as goal
 
 pub returns-then-count-eq0-clause-next : goal.returns-then-count-eq0-clause-next
@@ -34,19 +36,27 @@ add-requires-clause-fits g c =
     let same : c.args.self.ring.header.payload ≡ past.header.payload = ap (λ h. h.payload) stands.header in
     omega (arith, few, same, length-take c.finish-count.result c.finish-count.new.out)
 
-pub returns-in_err-ring-clause-records : goal.returns-in_err-ring-clause-records
-returns-in_err-ring-clause-records g c past stands =
-    let one = rest-one past c.finish-count.result c.args.self.ring.next (take c.finish-count.result c.finish-count.new.out)
+-- one block was left
+one_left : (g : Over) (c : After-add g) (past : SessionPast) (stands : RepresentsSession c.args.self past)
+    → rest_of past ≡ record { number = c.args.self.ring.next; payload = take c.finish-count.result c.finish-count.new.out } ∷ []
+one_left g c past stands =
+    rest-one past c.finish-count.result c.args.self.ring.next (take c.finish-count.result c.finish-count.new.out)
     (c.finish-count.ensures.blocks (stream_past past) stands.stream refl) (omega (arith, c.if-count-eq0.false)) stands.next
-    (c.finish-count.ensures.last (stream_past past) stands.stream refl) in
+    (c.finish-count.ensures.last (stream_past past) stands.stream refl)
+
+-- and it was recorded as far as a call records it
+rest_recorded : (g : Over) (c : After-add g) (past : SessionPast) (stands : RepresentsSession c.args.self past)
+    → Records g.D.Deck.tells c.args.self.ring.header c.args.self.ring.next (rest_of past) (g.D.Deck.state c.args.deck.now) (g.D.Deck.state c.add.new.deck)
+rest_recorded g c past stands =
     subst (λ (l : List Block). Records g.D.Deck.tells c.args.self.ring.header c.args.self.ring.next l (g.D.Deck.state c.args.deck.now)
-    (g.D.Deck.state c.add.new.deck)) (sym one) c.add.ensures.records
+    (g.D.Deck.state c.add.new.deck)) (sym (one_left g c past stands)) c.add.ensures.records
+
+pub returns-in_err-ring-clause-records : goal.returns-in_err-ring-clause-records
+returns-in_err-ring-clause-records g c past stands = rest_recorded g (goal.at.returns-in_err-ring-clause-records g c).After-add past stands
 
 pub returns-in_err-ring-clause-seq_end : goal.returns-in_err-ring-clause-seq_end
 returns-in_err-ring-clause-seq_end g c past stands ends =
-    let one = rest-one past c.finish-count.result c.args.self.ring.next (take c.finish-count.result c.finish-count.new.out)
-    (c.finish-count.ensures.blocks (stream_past past) stands.stream refl) (omega (arith, c.if-count-eq0.false)) stands.next
-    (c.finish-count.ensures.last (stream_past past) stands.stream refl) in
+    let one = one_left g (goal.at.returns-in_err-ring-clause-seq_end g c).After-add past stands in
     let p = err_from_is_err_and c.from_residual.result c.from_residual.ensures.1 in
     let t = g.D.Deck.tells in
     let h = c.args.self.ring.header in
@@ -61,25 +71,16 @@ returns-in_err-ring-clause-seq_end g c past stands ends =
 
 pub returns-clause-next : goal.returns-clause-next
 returns-clause-next g c past stands =
-    let one = rest-one past c.finish-count.result c.args.self.ring.next (take c.finish-count.result c.finish-count.new.out)
-    (c.finish-count.ensures.blocks (stream_past past) stands.stream refl) (omega (arith, c.if-count-eq0.false)) stands.next
-    (c.finish-count.ensures.last (stream_past past) stands.stream refl) in
+    let one = one_left g (goal.at.returns-clause-next g c).After-add past stands in
     let long : length (rest_of past) ≡ 1 = ap (λ (l : List Block). length l) one in
     omega (arith, c.next-2.ensures.number, c.in_ok-ring.ensures.ring.1, long)
 
 pub returns-clause-records : goal.returns-clause-records
-returns-clause-records g c past stands =
-    let one = rest-one past c.finish-count.result c.args.self.ring.next (take c.finish-count.result c.finish-count.new.out)
-    (c.finish-count.ensures.blocks (stream_past past) stands.stream refl) (omega (arith, c.if-count-eq0.false)) stands.next
-    (c.finish-count.ensures.last (stream_past past) stands.stream refl) in
-    subst (λ (l : List Block). Records g.D.Deck.tells c.args.self.ring.header c.args.self.ring.next l (g.D.Deck.state c.args.deck.now)
-    (g.D.Deck.state c.add.new.deck)) (sym one) c.add.ensures.records
+returns-clause-records g c past stands = rest_recorded g (goal.at.returns-clause-records g c).After-add past stands
 
 pub returns-clause-recorded : goal.returns-clause-recorded
 returns-clause-recorded g c past stands =
-    let one = rest-one past c.finish-count.result c.args.self.ring.next (take c.finish-count.result c.finish-count.new.out)
-    (c.finish-count.ensures.blocks (stream_past past) stands.stream refl) (omega (arith, c.if-count-eq0.false)) stands.next
-    (c.finish-count.ensures.last (stream_past past) stands.stream refl) in
+    let one = one_left g (goal.at.returns-clause-recorded g c).After-add past stands in
     subst (λ (l : List Block). HasRecorded g.D.Deck.tells c.args.self.ring.header c.args.self.ring.next l (g.D.Deck.state c.args.deck.now)
     (g.D.Deck.state c.add.new.deck)) (sym one) c.in_ok-ring.ensures.recorded
 

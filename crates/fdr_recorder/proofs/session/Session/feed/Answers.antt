@@ -1,14 +1,16 @@
-use Rattle.std.proofs.Common.{◌≡◌, ◌+◌, ◌∙◌, ⊎_elim, ◌∷◌, [], take, refl, arith, None, sym, ap, subst}
+use Rattle.std.proofs.Common.{◌≡◌, ◌+◌, ◌<◌, ◌∙◌, ⊎_elim, ◌∷◌, [], take, refl, arith, None, sym, ap, subst}
 use Rattle.std.proofs.lemmas.Result.{err_from_is_err_and}
 use Rattle.fdr_io.specs.Faults.{Rose}
 use Rattle.fdr_slot.specs.declared.image.Header.{Header}
 use Rattle.fdr_recover.specs.Blocks.{Block}
 use Rattle.fdr_stream.specs.Blocks.{cut_block}
 use Rattle.fdr_recorder.specs.Recording.{Records, HasRecorded, HasEnded}
-use Rattle.fdr_recorder.specs.Past.{due, due_at, session_bytes, session_with_record, numbered_block}
+use Rattle.fdr_recorder.specs.Past.{due, due_at, session_bytes, session_with_record, numbered_block, SessionPast, MayFeedSession, RepresentsSession}
 use Rattle.fdr_recorder.proofs.Ended.{ring_seq_end, ring_disk_fault}
 use Rattle.fdr_recorder.proofs.Feeding.{IsFeeding-first, IsFeeding-step, MayStream-giving, Records-step, Records-due, block_is}
 use Rattle.fdr_recorder.proofs.Feeding.{due-few, stream-taken, number-taken, next-taken, Records-taken, HasRecorded-taken, HasEnded-due}
+use Rattle.fdr_recorder.proofs.session.Session.feed.Given.{Over}
+use Rattle.fdr_recorder.proofs.session.Session.feed.Goals.{After-add}
 use Rattle.fdr_recorder.proofs.session.Session.feed.Goals as goal
 
 pub loop-i-init : goal.loop-i-init
@@ -61,25 +63,34 @@ returns-in-Taken-clause-room g c past stands may =
     let next = next-taken _ _ _ past c.args.r.now _ _ _ _ _ at.0 at.1 at.2 _ taken in
     omega (arith, next, c.loop-i.ring.bound)
 
-pub returns-in_err-ring-in-Block-clause-records : goal.returns-in_err-ring-in-Block-clause-records
-returns-in_err-ring-in-Block-clause-records g c past stands may =
-    let is = g.met.D.Deck.sound in
+-- the block that is given is the next of those that are due, and it was recorded as far as a call records it
+block_given : (g : Over) (c : After-add g) (past : SessionPast) (stands : RepresentsSession c.args.self past) (may : MayFeedSession past c.args.r.now)
+    → let at = c.loop-i.invariant.feeding past stands may in
+    let b : Block = record { number = c.loop-i.ring.next; payload = take c.header-payload.result.payload c.feed.new.out } in
+    (at.1 < due (session_with_record past c.args.r.now)) × (b ≡ numbered_block (session_with_record past c.args.r.now) at.1)
+    × Records g.D.Deck.tells c.args.self.ring.header c.loop-i.ring.next (b ∷ []) (g.D.Deck.state c.loop-i.deck) (g.D.Deck.state c.add.new.deck)
+block_given g c past stands may =
     let s = g.D.Deck.state in
     let r = c.args.r.now in
     let at = c.loop-i.invariant.feeding past stands may in
     let stream = MayStream-giving past r at.0 at.1 may at.2.same in
-    let more = (c.in-Block.ensures.exactly _ at.2.stands stream).0 refl in
     let payload : c.header-payload.result.payload ≡ past.header.payload = ap (λ (h : Header). h.payload) (c.header-payload.ensures.header ∙ stands.header) in
     let bytes : take c.header-payload.result.payload c.feed.new.out ≡ cut_block past.header.payload (session_bytes (session_with_record past r)) at.1 =
     ap (λ n. take n c.feed.new.out) payload ∙ c.in-Block.ensures.block _ at.2.stands stream refl in
-    let b : Block = record { number = c.loop-i.ring.next; payload = take c.header-payload.result.payload c.feed.new.out } in
-    let same : b ≡ numbered_block
-    (session_with_record past r) at.1 = block_is past r c.args.self.ring.next c.loop-i.ring.next at.1 _ stands.next at.2.number at.2.since bytes in
-    let added : Records g.D.Deck.tells c.args.self.ring.header c.loop-i.ring.next (b ∷ []) (s c.loop-i.deck) (s c.add.new.deck) =
-    subst (λ (h : Header). Records g.D.Deck.tells h c.loop-i.ring.next (b ∷ []) (s c.loop-i.deck)
-    (s c.add.new.deck)) c.loop-i.invariant.header c.add.ensures.records in
-    Records-due _ _ _ past r (at.1 + 1) _ _ (omega (arith, more))
-    (Records-step _ _ _ past r _ _ _ _ _ _ at.0 at.1 (is c.args.deck.now) stands.next at.2 b same added)
+    let b : Block = record { number = c.loop-i.ring.next; payload = take c.header-payload.result.payload c.feed.new.out } in (
+      (c.in-Block.ensures.exactly _ at.2.stands stream).0 refl,
+      block_is past r c.args.self.ring.next c.loop-i.ring.next at.1 _ stands.next at.2.number at.2.since bytes,
+      subst (λ (h : Header). Records g.D.Deck.tells h c.loop-i.ring.next (b ∷ []) (s c.loop-i.deck) (s c.add.new.deck)) c.loop-i.invariant.header
+          c.add.ensures.records,
+    )
+
+pub returns-in_err-ring-in-Block-clause-records : goal.returns-in_err-ring-in-Block-clause-records
+returns-in_err-ring-in-Block-clause-records g c past stands may =
+    let r = c.args.r.now in
+    let at = c.loop-i.invariant.feeding past stands may in
+    let given = block_given g (goal.at.returns-in_err-ring-in-Block-clause-records g c).After-add past stands may in
+    Records-due _ _ _ past r (at.1 + 1) _ _ (omega (arith, given.0))
+    (Records-step _ _ _ past r _ _ _ _ _ _ at.0 at.1 (g.met.D.Deck.sound c.args.deck.now) stands.next at.2 _ given.1 given.2)
 
 pub returns-in_err-ring-in-Block-clause-seq_end : goal.returns-in_err-ring-in-Block-clause-seq_end
 returns-in_err-ring-in-Block-clause-seq_end g c past stands may ends =
@@ -112,29 +123,20 @@ returns-in_err-ring-in-Block-clause-rest g c = g.met.D.Deck.rest_then c.args.dec
 pub loop-i-preserved : goal.loop-i-preserved
 loop-i-preserved g c = record {
   feeding = λ past stands may.
-      let is = g.met.D.Deck.sound in
       let s = g.D.Deck.state in
       let r = c.args.r.now in
       let at = c.loop-i.invariant.feeding past stands may in
       let stream = MayStream-giving past r at.0 at.1 may at.2.same in
-      let more = (c.in-Block.ensures.exactly _ at.2.stands stream).0 refl in
-      let payload : c.header-payload.result.payload ≡ past.header.payload = ap (λ (h : Header). h.payload) (c.header-payload.ensures.header ∙ stands.header) in
-      let bytes : take c.header-payload.result.payload c.feed.new.out ≡ cut_block past.header.payload (session_bytes (session_with_record past r)) at.1 =
-      ap (λ n. take n c.feed.new.out) payload ∙ c.in-Block.ensures.block _ at.2.stands stream refl in
+      let given = block_given g (goal.at.loop-i-preserved g c).After-add past stands may in
       let b : Block = record { number = c.loop-i.ring.next; payload = take c.header-payload.result.payload c.feed.new.out } in
-      let same : b ≡ numbered_block
-      (session_with_record past r) at.1 = block_is past r c.args.self.ring.next c.loop-i.ring.next at.1 _ stands.next at.2.number at.2.since bytes in
       let ok = c.in_ok-ring-in-Block.ensures in
-      let added : Records g.D.Deck.tells c.args.self.ring.header c.loop-i.ring.next (b ∷ []) (s c.loop-i.deck) (s c.add.new.deck) =
-      subst (λ (h : Header). Records g.D.Deck.tells h c.loop-i.ring.next (b ∷ []) (s c.loop-i.deck)
-      (s c.add.new.deck)) c.loop-i.invariant.header c.add.ensures.records in
       let recorded : HasRecorded g.D.Deck.tells c.args.self.ring.header c.loop-i.ring.next (b ∷ []) (s c.loop-i.deck) (s c.add.new.deck) =
       subst (λ (h : Header). HasRecorded g.D.Deck.tells h c.loop-i.ring.next (b ∷ []) (s c.loop-i.deck)
       (s c.add.new.deck)) c.loop-i.invariant.header ok.recorded in (
         _,
         at.1 + 1,
-        IsFeeding-step _ _ _ past r _ _ _ _ _ _ at.0 at.1 (is c.args.deck.now) stands.next at.2 b same _ _
-            (c.in-Block.ensures.begun _ at.2.stands stream refl) ok.ring.1 more added recorded,
+        IsFeeding-step _ _ _ past r _ _ _ _ _ _ at.0 at.1 (g.met.D.Deck.sound c.args.deck.now) stands.next at.2 b given.1 _ _
+            (c.in-Block.ensures.begun _ at.2.stands stream refl) ok.ring.1 given.0 given.2 recorded,
       );
   header = c.in_ok-ring-in-Block.ensures.ring.0 ∙ c.loop-i.invariant.header;
   fact = c.in_ok-ring-in-Block.ensures.fact;

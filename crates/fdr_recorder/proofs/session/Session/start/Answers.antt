@@ -1,6 +1,6 @@
 use Rattle.std.proofs.Common.{◌≡◌, ◌∙◌, ◌+◌, ◌-◌, ℕ, List, ap, refl, sym, subst}
 use Rattle.std.specs.Prelude.{IsTrue}
-use Rattle.fdr_deck.specs.Calls.{IsQuiet, Announces}
+use Rattle.fdr_deck.specs.Calls.{HasOneAnnounced, IsQuiet, Announces}
 use Rattle.fdr_slot.specs.declared.image.Header.{Header}
 use Rattle.fdr_recover.specs.Images.{recovered_run, next_of}
 use Rattle.fdr_recover.specs.ImageHeader.{header_in}
@@ -13,6 +13,8 @@ use Rattle.fdr_stream.specs.Past.{RepresentsStream}
 use Rattle.fdr_recorder.specs.Past.{due, started, stream_past}
 use Rattle.fdr_recorder.proofs.Adding.{IsSureRing-told}
 use Rattle.fdr_recorder.proofs.Starting.{Starts-looked, Starts-attached, Starts-announced, greatest-started, least-started, stream-started, next-started}
+use Rattle.fdr_recorder.proofs.session.Session.start.Given.{Over}
+use Rattle.fdr_recorder.proofs.session.Session.start.Goals.{After-attach}
 use Rattle.fdr_recorder.proofs.session.Session.start.Goals as goal
 
 pub returns-in_err-header-clause-starts : goal.returns-in_err-header-clause-starts
@@ -27,38 +29,44 @@ pub returns-in_err-stream-clause-starts : goal.returns-in_err-stream-clause-star
 returns-in_err-stream-clause-starts g c =
     Starts-looked _ _ _ _ (g.met.D.Deck.sound c.args.deck.now) c.read_image_header.ensures.quiet
 
+-- where a stop can be, the header that was read is the image's
+same_header : (g : Over) (c : After-attach g) → IsTrue g.D.Deck.tells.stops → c.in_ok-header.header ≡ header_in (g.D.Deck.state c.args.deck.now).held
+same_header g c stops = c.in_ok-header.ensures.read ((g.met.D.Deck.sound c.args.deck.now).stops_need_bytes stops)
+
+-- the header was read
+header_read : (g : Over) (c : After-attach g) → HasOneAnnounced (g.D.Deck.state c.read_image_header.new.deck)
+header_read g c = (c.in_ok-header.ensures.succeeds (λ e. absurd (cc))).fresh
+
+-- and the ring was attached by it
+attaching : (g : Over) (c : After-attach g) → let s = g.D.Deck.state in
+    IsTrue g.D.Deck.tells.stops → IsQuiet g.D.Deck.tells (OfSettled (s c.read_image_header.new.deck) (IsAttaching (header_in (s c.args.deck.now).held)))
+    (s c.read_image_header.new.deck) (s c.attach.new.deck)
+attaching g c stops =
+    let d1 = g.D.Deck.state c.read_image_header.new.deck in
+    subst (λ (h : Header). IsQuiet g.D.Deck.tells (OfSettled d1 (IsAttaching h)) d1 (g.D.Deck.state c.attach.new.deck)) (same_header g c stops)
+    c.attach.ensures.quiet
+
 pub returns-in_err-ring-clause-starts : goal.returns-in_err-ring-clause-starts
 returns-in_err-ring-clause-starts g c =
-    let t = g.D.Deck.tells in
     let s = g.D.Deck.state in
-    let is = g.met.D.Deck.sound in
-    let d0 = c.args.deck.now in
-    let d1 = c.read_image_header.new.deck in
-    let d2 = c.attach.new.deck in
+    let at = (goal.at.returns-in_err-ring-clause-starts g c).After-attach in
     let read = c.read_image_header.ensures in
-    let same : IsTrue t.stops → c.in_ok-header.header ≡ header_in (s d0).held = (λ stops. c.in_ok-header.ensures.read ((is d0).stops_need_bytes stops)) in
-    let fresh = (c.in_ok-header.ensures.succeeds (λ e. absurd (cc))).fresh in
-    Starts-attached t (header_in (s d0).held) (s d0) (s d1) (is d0) read.quiet read.disk fresh (s d2) c.attach.ensures.quiet.passes
-    (λ stops. subst (λ (h : Header). IsQuiet t (OfSettled (s d1) (IsAttaching h)) (s d1) (s d2)) (same stops) c.attach.ensures.quiet)
+    Starts-attached g.D.Deck.tells _ _ _ (g.met.D.Deck.sound c.args.deck.now) read.quiet read.disk (header_read g at) (s c.attach.new.deck)
+    c.attach.ensures.quiet.passes (attaching g at)
 
 pub returns-clause-starts : goal.returns-clause-starts
 returns-clause-starts g c =
-    let t = g.D.Deck.tells in
     let s = g.D.Deck.state in
-    let is = g.met.D.Deck.sound in
-    let d0 = c.args.deck.now in
+    let is = g.met.D.Deck.sound c.args.deck.now in
     let d1 = c.read_image_header.new.deck in
     let d2 = c.attach.new.deck in
-    let d3 = c.announce.new.self in
+    let at = (goal.at.returns-clause-starts g c).After-attach in
     let read = c.read_image_header.ensures in
     let ok = c.in_ok-ring.ensures in
-    let same : IsTrue t.stops → c.in_ok-header.header ≡ header_in (s d0).held = (λ stops. c.in_ok-header.ensures.read ((is d0).stops_need_bytes stops)) in
-    let fresh = (c.in_ok-header.ensures.succeeds (λ e. absurd (cc))).fresh in
-    Starts-announced t (header_in (s d0).held) (s d0) (s d1) (is d0) read.quiet read.disk fresh (s d2) c.attach.ensures.quiet.passes
-    (λ stops. subst (λ (h : Header). IsQuiet t (OfSettled (s d1) (IsAttaching h)) (s d1) (s d2)) (same stops) c.attach.ensures.quiet)
-    ok.succeeds.fresh c.next.result (s d3) c.announce.ensures.announces ok.settled
-    (λ stops. subst (λ (h : Header). IsAttaching h (s d1).held (s d2).held) (same stops) (c.attach.ensures.keeps ((is d0).stops_need_bytes stops)))
-    (λ stops. c.next.ensures.number ∙ ok.next ((is d0).stops_need_bytes stops) ∙ ap (λ (h : Header). next_of h (s d1).held) (same stops))
+    Starts-announced g.D.Deck.tells _ _ _ is read.quiet read.disk (header_read g at) (s d2) c.attach.ensures.quiet.passes (attaching g at)
+    ok.succeeds.fresh c.next.result (s c.announce.new.self) c.announce.ensures.announces ok.settled
+    (λ stops. subst (λ (h : Header). IsAttaching h (s d1).held (s d2).held) (same_header g at stops) (c.attach.ensures.keeps (is.stops_need_bytes stops)))
+    (λ stops. c.next.ensures.number ∙ ok.next (is.stops_need_bytes stops) ∙ ap (λ (h : Header). next_of h (s d1).held) (same_header g at stops))
     c.announce.ensures.disk c.announce.ensures.line c.announce.ensures.line_faults c.announce.ensures.time c.announce.ensures.moments
 
 pub returns-clause-started : goal.returns-clause-started
@@ -81,7 +89,7 @@ returns-clause-started g c =
     ∙ ap (λ (t : TableRows). t.frame) c.table.ensures) in
     let held01 : (s d1).held ≡ (s d0).held = read.disk.held in
     let held23 : (s d3).held ≡ (s d2).held = c.announce.ensures.disk.disk.held in
-    let fresh = (c.in_ok-header.ensures.succeeds (λ e. absurd (cc))).fresh in
+    let fresh = header_read g (goal.at.returns-clause-started g c).After-attach in
     let announces : Announces r.next (s d2) (s d3) = subst (λ (n : ℕ). Announces n (s d2) (s d3)) c.next.ensures.number c.announce.ensures.announces in
     let next : IsTrue t.bytes → r.next ≡ next_of r.header (s d0).held =
     (λ told. ok.next told ∙ ap (λ (l : List ℕ). next_of h l) held01 ∙ ap (λ (hh : Header). next_of hh (s d0).held) (sym same)) in

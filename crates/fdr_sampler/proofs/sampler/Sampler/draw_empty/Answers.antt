@@ -10,6 +10,13 @@ use Rattle.fdr_sampler.specs.Past.{RepresentsSampler, sampler_with_words}
 use Rattle.fdr_sampler.proofs.EmptyRuns.{Stands-empty, words_empty}
 use Rattle.fdr_sampler.proofs.sampler.Sampler.draw_empty.Goals as goal
 
+-- the number of empty slots that was read
+read : (c : goal.After-self-1) → c.index.result.now ≡ get_or c.self.inside.empty_runs.items c.slot_within-slot.result 0
+read c =
+    let runs = c.self.inside.empty_runs.items in
+    let room : c.slot_within-slot.result < length runs = omega (arith, c.slot_within-slot.ensures.below, c.self.invariant.1.long) in
+    c.index.ensures ∙ get_or_default runs c.slot_within-slot.result c.index.result.now 0 room
+
 -- so many slots are empty
 run : (c : goal.After-self-1)
     → HasEmptyRun c.self.inside.frame c.self.inside.schedule (slot_within c.self.inside.frame.words c.self.inside.drawn) c.min-count.result
@@ -18,9 +25,7 @@ run c = λ j less.
     let l = c.self.inside.schedule in
     let slot = c.slot_within-slot.result in
     let runs = c.self.inside.empty_runs.items in
-    let room : slot < length runs = omega (arith, c.slot_within-slot.ensures.below, c.self.invariant.1.long) in
-    let read : c.index.result.now ≡ get_or runs slot 0 = c.index.ensures ∙ get_or_default runs slot c.index.result.now 0 room in
-    let few : j < get_or runs slot 0 = omega (arith, less, c.min-count.ensures, read) in
+    let few : j < get_or runs slot 0 = omega (arith, less, c.min-count.ensures, read c) in
     subst (λ m. HasEmptyRun f l m (get_or runs slot 0)) c.slot_within-slot.ensures.slot (c.self.invariant.1.each slot).slots j few
 
 pub returns-clause-zeros : goal.returns-clause-zeros
@@ -35,9 +40,7 @@ returns-clause-all c = λ past st fewer inside empty.
     let l = c.self.inside.schedule in
     let slot = c.slot_within-slot.result in
     let runs = c.self.inside.empty_runs.items in
-    let room : slot < length runs = omega (arith, c.slot_within-slot.ensures.below, c.self.invariant.1.long) in
-    let read : c.index.result.now ≡ get_or runs slot 0 = c.index.ensures ∙ get_or_default runs slot c.index.result.now 0 room in
-    let all : c.min-count.result ≡ get_or runs slot 0 = omega (arith, fewer, c.min-count.ensures, read) in
+    let all : c.min-count.result ≡ get_or runs slot 0 = omega (arith, fewer, c.min-count.ensures, read c) in
     let stood : RepresentsSampler (sampler_kept c.self.inside) past = subst (λ (x : SamplerKept). RepresentsSampler x past) (sym c.self.view_is) st in
     let words : f.words ≡ past.table.frame.words = ap (λ (x : FrameRow). x.words) stood.frame in
     let at : slot + get_or runs slot 0 ≡ slot_within past.table.frame.words past.drawn + c.min-count.result =

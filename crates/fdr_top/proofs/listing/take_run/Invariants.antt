@@ -4,7 +4,7 @@ use Rattle.fdr_recover.specs.Images.{recovered_run}
 use Rattle.fdr_recover.specs.Looks.{Looks}
 use Rattle.fdr_readout.specs.Taken.{HasTaken}
 use Rattle.fdr_top.specs.Recover.{payloads_of}
-use Rattle.fdr_top.proofs.listing.take_blocks.Given as goal
+use Rattle.fdr_top.proofs.listing.take_run.Given as goal
 
 abbrev pub invariant-loop-number : goal.invariant-loop-number
 invariant-loop-number g l = record {
@@ -13,7 +13,7 @@ invariant-loop-number g l = record {
   quiet : g.O.Sink.faults l.out ≡ g.O.Sink.faults l.fn.out;
   disk_quiet : (g.D.Deck.state l.deck).disk_faults ≡ (g.D.Deck.state l.fn.deck).disk_faults;
   taken : (bytes : List ℕ) × HasTaken g.T.Taker.took l.table l.reader.events bytes l.fn.taker l.fn.out l.taker l.out
-      × (length bytes ≤ (l.number - l.initial.number) * 4096)
+      × (length bytes ≤ (l.number - l.fn.found.first) * 4096)
       × (IsTrue g.D.Deck.tells.bytes
-      → bytes ≡ payloads_of (take (l.number - l.initial.number) (recovered_run l.fn.reader.header (g.D.Deck.state l.fn.deck).held)));
+      → bytes ≡ payloads_of (take (l.number - l.fn.found.first) (recovered_run l.fn.reader.header (g.D.Deck.state l.fn.deck).held)));
 }
