@@ -7,6 +7,7 @@ use Rattle.std.proofs.lemmas.List.{take-append-le, length_push}
 use Rattle.std.proofs.lemmas.List.Elements.{All-nil, All-cons, All-head, All-tail, All-append, All-take, All-map, All-weaker}
 use Rattle.std.proofs.lemmas.List.Folds.{list_any-append, list_any_none}
 use Rattle.std.proofs.lemmas.Option.{slice_get_within, get_or_from_slice_get}
+use Rattle.fdr_lists.proofs.Pieces.{All-flat_map-range}
 use Rattle.fdr_bus.specs.declared.BusRecord.{BusRecord}
 use Rattle.fdr_bus.specs.Records.{has_end, is_end, last_time, time_after}
 use Rattle.fdr_table.specs.Rows.{TableRows}
@@ -51,25 +52,18 @@ second_times senders seed second =
     All-map (λ (r : BusRecord). r.time ≡ second * 1000000) made (enumerate_from 0 senders)
     (All-any (λ e. (made e).time ≡ second * 1000000) (enumerate_from 0 senders) (λ e. refl))
 
-All-pieces : {X : Type 0} (P : X → Type 0) (f : ℕ → List X) (a n : ℕ) → ((x : ℕ) → x < a + n → All P (f x))
-    → All P (flat_map f (range_with_len a n))
-All-pieces P f a zero each = All-nil P
-All-pieces P f a (suc n) each =
-    All-append P (f a) (flat_map f (range_with_len (a + 1) n)) (each a (omega arith))
-    (All-pieces P f (a + 1) n (λ x h. each x (omega arith)))
-
 -- each word is in time, and none is an end
 words_in_time : (senders : List Sender) (seed frames : ℕ) → frames ≤ most_frames
     → All (λ (r : BusRecord). r.time ≤ last_time) (words_of senders seed frames)
 words_in_time senders seed frames few =
-    All-pieces (λ (r : BusRecord). r.time ≤ last_time) (second_records senders seed) 0 (4 * frames)
-    (λ second low. All-weaker (λ (r : BusRecord). r.time ≡ second * 1000000) (λ (r : BusRecord). r.time ≤ last_time)
+    All-flat_map-range (λ (r : BusRecord). r.time ≤ last_time) (second_records senders seed) 0 (4 * frames)
+    (λ second from to. All-weaker (λ (r : BusRecord). r.time ≡ second * 1000000) (λ (r : BusRecord). r.time ≤ last_time)
     (λ r e. omega arith) (second_records senders seed second) (second_times senders seed second))
 
 no_end : (senders : List Sender) (seed frames : ℕ) → All (λ (r : BusRecord). is_end r ≡ false) (words_of senders seed frames)
 no_end senders seed frames =
-    All-pieces (λ (r : BusRecord). is_end r ≡ false) (second_records senders seed) 0 (4 * frames)
-    (λ second low.
+    All-flat_map-range (λ (r : BusRecord). is_end r ≡ false) (second_records senders seed) 0 (4 * frames)
+    (λ second from to.
     let made : ℕ × Sender → BusRecord = λ e. word_record second e.1 (drawn seed (second * length senders + e.0)) in
     All-map (λ (r : BusRecord). is_end r ≡ false) made (enumerate_from 0 senders)
     (All-any (λ e. is_end (made e) ≡ false) (enumerate_from 0 senders) (λ e. refl)))

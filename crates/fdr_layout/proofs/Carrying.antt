@@ -7,6 +7,7 @@ use Rattle.std.specs.List.{All, filter, filter_map, cons_option, range_with_len,
 use Rattle.std.proofs.lemmas.Bool.{and_parts}
 use Rattle.std.proofs.lemmas.List.{map-append, append_assoc, take_more, length-map}
 use Rattle.std.proofs.lemmas.List.Elements.{All-head, All-tail, All-filter, All-map, filter_passes, filter_map-append}
+use Rattle.fdr_lists.proofs.Pieces.{All-flat_map-range}
 use Rattle.fdr_table.specs.Rows.{PlaceRow}
 use Rattle.fdr_table.specs.Ranges.{IsPlaceInRange}
 use Rattle.fdr_check.specs.Occurrences.{frame_bits, is_part, begins_at, Occurrence, occurrences_at, occurrences, part_occurrences, part_bits, part_width}
@@ -17,7 +18,6 @@ use Rattle.fdr_layout.specs.Ranges.{LieInWord}
 use Rattle.fdr_layout.specs.Samples.{Carrier, carrier_of, Part, part_at}
 use Rattle.fdr_layout.specs.SlotParts.{SlotPart, parts_of_sample}
 use Rattle.fdr_layout.proofs.Bits.{none_past}
-use Rattle.fdr_layout.proofs.Endings.{pieces_hold}
 
 -- the places of each part of the parameter have one width
 abbrev pub HaveOneWidth : List PlaceRow → ℕ → Type 0
@@ -39,7 +39,7 @@ unfolding part_occurrences occurrences
 part_widths w places n part widths =
     let ps = filter (is_part n part) places in
     let P : Occurrence → Type 0 = λ o. o.width ≡ part_width places n part in
-    pieces_hold P (occurrences_at w ps) 0 (16 * frame_bits w)
+    All-flat_map-range P (occurrences_at w ps) 0 (16 * frame_bits w)
     (λ x low high. All-map P (λ (p : PlaceRow). record { at = x; width = p.width }) (filter (begins_at w x) ps)
     (All-filter (begins_at w x) (λ (p : PlaceRow). p.width ≡ part_width places n part) ps (carrier_places places n part widths)))
 
@@ -50,7 +50,7 @@ part_lie w places n part few in_range =
     let ps = filter (is_part n part) places in
     let P : Occurrence → Type 0 = λ o. LieInWord o.at o.width in
     let own : All IsPlaceInRange ps = All-filter (is_part n part) IsPlaceInRange places in_range in
-    pieces_hold P (occurrences_at w ps) 0 (16 * frame_bits w)
+    All-flat_map-range P (occurrences_at w ps) 0 (16 * frame_bits w)
     (λ x low high. All-map P (λ (p : PlaceRow). record { at = x; width = p.width }) (filter (begins_at w x) ps)
     (λ k d l.
     let p = get_or (filter (begins_at w x) ps) k d in
@@ -67,7 +67,7 @@ unfolding part_occurrences occurrences
 part_within w places n part =
     let ps = filter (is_part n part) places in
     let P : Occurrence → Type 0 = λ o. o.at < 768 * w in
-    pieces_hold P (occurrences_at w ps) 0 (16 * frame_bits w)
+    All-flat_map-range P (occurrences_at w ps) 0 (16 * frame_bits w)
     (λ x low high. All-map P (λ (p : PlaceRow). record { at = x; width = p.width }) (filter (begins_at w x) ps) (λ k d l. omega (arith, high)))
 
 -- each occurrence of one width, by its bit

@@ -4,6 +4,7 @@ use Rattle.std.specs.List.{All, range_with_len, flat_map, fold, enumerate_from}
 use Rattle.std.proofs.lemmas.List.Elements.{All-nil, All-cons, All-head, All-append, All-tail, All-map, All-weaker, filter_passes}
 use Rattle.std.proofs.lemmas.Nat.{le-div}
 use Rattle.std.proofs.Math.Nat.{div-lt_iff_lt-mul, div-mul-le_self}
+use Rattle.fdr_lists.proofs.Pieces.{All-flat_map, All-flat_map-range}
 use Rattle.fdr_table.specs.Rows.{ParamRow, PlaceRow, TableRows}
 use Rattle.fdr_check.specs.Occurrences.{frame_bits, cycle_of}
 use Rattle.fdr_layout.specs.Samples.{Part, earliest_of, first_at, last_at, Sample, parts_of, samples_of, samples, ending_in}
@@ -67,13 +68,6 @@ cycle_of_le w a b some le = quotient_le (frame_bits w) a b (omega arith) le
 
 -- ---- the samples of a cycle
 
-pub pieces_hold : {X : Type 0} (P : X → Type 0) (f : ℕ → List X) (a n : ℕ) → ((x : ℕ) → a ≤ x → x < a + n → All P (f x))
-    → All P (flat_map f (range_with_len a n))
-pieces_hold P f a zero each = All-nil P
-pieces_hold P f a (suc n) each =
-    All-append P (f a) (flat_map f (range_with_len (a + 1) n)) (each a (omega arith) (omega arith))
-    (pieces_hold P f (a + 1) n (λ x low high. each x (omega arith) (omega arith)))
-
 ends_in : (w cycle x : ℕ) (s : Sample) → 0 < w → frame_bits w * cycle ≤ x → x < frame_bits w * cycle + frame_bits w → last_at s.parts ≡ x → EndsIn w cycle s
 ends_in w cycle x s some low high at =
     let last : cycle_of w (last_at s.parts) ≡ cycle = ap (cycle_of w) at ∙ quotient_is (frame_bits w) cycle x (omega arith) low high in
@@ -89,7 +83,7 @@ ends_in w cycle x s some low high at =
 pub ending_among_ends : (w : ℕ) (all : List Sample) (cycle : ℕ) → 0 < w → All (EndsIn w cycle) (ending_among w all cycle)
 unfolding ending_among
 ending_among_ends w all cycle some =
-    pieces_hold (EndsIn w cycle) (ending_at all) (frame_bits w * cycle) (frame_bits w)
+    All-flat_map-range (EndsIn w cycle) (ending_at all) (frame_bits w * cycle) (frame_bits w)
     (λ x low high. All-weaker (λ (s : Sample). (last_at s.parts == x) ≡ true) (EndsIn w cycle)
     (λ s test. ends_in w cycle x s some low high (eqb-true (last_at s.parts) x test)) (ending_at all x)
     (filter_passes (λ (s : Sample). last_at s.parts == x) all))
@@ -100,12 +94,6 @@ unfolding ending_in ending_among
 ending_in_ends t cycle some = ending_among_ends t.frame.words (samples t) cycle some
 
 -- ---- the parameters of samples
-
-pub all_pieces : {X A : Type 0} (P : A → Type 0) (f : X → List A) (xs : List X) → All (λ x. All P (f x)) xs → All P (flat_map f xs)
-all_pieces P f [] each = All-nil P
-all_pieces P f (x ∷ xs) each =
-    All-append P (f x) (flat_map f xs) (All-head (λ y. All P (f y)) x xs each)
-    (all_pieces P f xs (All-tail (λ y. All P (f y)) x xs each))
 
 pub numbered_below : {X : Type 0} (n m : ℕ) (xs : List X) → n + length xs ≤ m → All (λ (e : ℕ × X). e.0 < m) (enumerate_from n xs)
 numbered_below {X} n m [] within = All-nil (λ (e : ℕ × X). e.0 < m)
@@ -121,7 +109,7 @@ pub samples_params : (t : TableRows) → All (λ (s : Sample). s.param < length 
 unfolding samples
 samples_params t =
     let P : Sample → Type 0 = λ s. s.param < length t.params in
-    all_pieces P (λ (e : ℕ × ParamRow). samples_of t.frame.words t.places e.0 e.1.rate) (enumerate_from 0 t.params)
+    All-flat_map P (λ (e : ℕ × ParamRow). samples_of t.frame.words t.places e.0 e.1.rate) (enumerate_from 0 t.params)
     (All-weaker (λ (e : ℕ × ParamRow). e.0 < length t.params) (λ (e : ℕ × ParamRow). All P (samples_of t.frame.words t.places e.0 e.1.rate))
     (λ e below. samples_of_param t.frame.words t.places e.0 e.1.rate (length t.params) below) (enumerate_from 0 t.params)
     (numbered_below 0 (length t.params) t.params (omega arith)))

@@ -16,6 +16,7 @@ use Rattle.fdr_check.specs.Soundness.{IsSound}
 use Rattle.fdr_lists.proofs.Ranges.{All-range, map-range-agree}
 use Rattle.fdr_lists.proofs.Filters.{filter_map_fewer, map-agree}
 use Rattle.fdr_lists.proofs.Numbered.{numbered_stand, slice_get_some}
+use Rattle.fdr_lists.proofs.Pieces.{All-flat_map, All-flat_map-range}
 use Rattle.fdr_layout.specs.declared.flat.FlatLists.{FlatLists}
 use Rattle.fdr_layout.specs.declared.parts.Sample.{Sample as ListedSample}
 use Rattle.fdr_layout.specs.Flat.{segment, segments}
@@ -30,7 +31,6 @@ use Rattle.fdr_layout.proofs.Lists.{flat_map_twelves}
 use Rattle.fdr_layout.proofs.Bits.{picked_by_bit}
 use Rattle.fdr_layout.proofs.Carrying.{part_within}
 use Rattle.fdr_layout.proofs.Drafting.{plain_again, length-enumerate, parts_among_push}
-use Rattle.fdr_layout.proofs.Endings.{pieces_hold, all_pieces}
 use Rattle.fdr_layout.proofs.Few.{ending_few, samples_few}
 use Rattle.fdr_layout.proofs.Flats.{ends, ends_of, ends_agree, segment_is, segments_are, starts_are, map-flat_map, flat_map_chunks}
 use Rattle.fdr_layout.proofs.Flats.{any_in_piece, any_kept, find_known, find-map}
@@ -43,7 +43,7 @@ parts_hold : (P : Sample → Type 0) (t : TableRows) → ((n i : ℕ) → P (rec
     → All P (samples t)
 unfolding samples samples_of
 parts_hold P t each =
-    all_pieces P (λ (e : ℕ × ParamRow). samples_of t.frame.words t.places e.0 e.1.rate) (enumerate_from 0 t.params)
+    All-flat_map P (λ (e : ℕ × ParamRow). samples_of t.frame.words t.places e.0 e.1.rate) (enumerate_from 0 t.params)
     (λ k d l. let e = get_or (enumerate_from 0 t.params) k d in
     All-map P (λ i. record { param = e.0; index = i; parts = parts_of t.frame.words t.places e.0 i }) (range_with_len 0 e.1.rate)
     (λ j c m. each e.0 (get_or (range_with_len 0 e.1.rate) j c)))
@@ -114,7 +114,7 @@ bits_within t bits parts are is =
     let P : SlotPart → Type 0 = λ a. a.part.at < m in
     let each = all_numbered (λ (s : Sample). All (λ (p : Part). p.at < m) s.parts) 0 (samples t) (samples_within t) in
     let all : All P (parts_among (samples t)) =
-    all_pieces P (λ (e : ℕ × Sample). parts_of_sample e.0 e.1.parts) (enumerate_from 0 (samples t))
+    All-flat_map P (λ (e : ℕ × Sample). parts_of_sample e.0 e.1.parts) (enumerate_from 0 (samples t))
     (λ k d l. let e = get_or (enumerate_from 0 (samples t)) k d in All-map P (λ (p : Part). record { sample = e.0; part = p }) e.1.parts (each k d l)) in
     subst (All (λ x. x < m)) (sym is) (All-map (λ x. x < m) (λ (a : SlotPart). a.part.at) parts (subst (All P) (sym are) all))
 
@@ -187,7 +187,7 @@ length_picked items (n ∷ ns) all =
 numbers_valid : (bits : List ℕ) (m : ℕ) → All (λ n. n < length bits) (numbers_by_bit bits m)
 unfolding numbers_by_bit
 numbers_valid bits m =
-    pieces_hold (λ n. n < length bits) (λ x. filter (λ i. get_or bits i 0 == x) (range_with_len 0 (length bits))) 0 m
+    All-flat_map-range (λ n. n < length bits) (λ x. filter (λ i. get_or bits i 0 == x) (range_with_len 0 (length bits))) 0 m
     (λ x low high. All-filter (λ i. get_or bits i 0 == x) (λ n. n < length bits) (range_with_len 0 (length bits))
     (All-range (λ n. n < length bits) 0 (length bits) (λ y from to. omega (arith, to))))
 
@@ -302,7 +302,7 @@ unnumbered {X} u a (x ∷ xs) =
 -- what holds of numbered samples holds of those of some bits
 numbered_hold : (P : ℕ × Sample → Type 0) (ss : List Sample) (a n : ℕ) → All P (enumerate_from 0 ss) → All P (flat_map (numbered_at ss) (range_with_len a n))
 numbered_hold P ss a n all =
-    pieces_hold P (numbered_at ss) a n (λ x low high. All-filter (λ (e : ℕ × Sample). last_at e.1.parts == x) P (enumerate_from 0 ss) all)
+    All-flat_map-range P (numbered_at ss) a n (λ x low high. All-filter (λ (e : ℕ × Sample). last_at e.1.parts == x) P (enumerate_from 0 ss) all)
 
 stands_within : (ss : List Sample) (e : ℕ × Sample) → slice_get ss e.0 ≡ Some e.1 → e.0 < length ss
 stands_within ss e at = slice_get_within ss e.0 e.1 at

@@ -1,4 +1,5 @@
 pub mod Ranges
+pub mod Pieces
 pub mod Searches
 pub mod Filters
 pub mod Sums

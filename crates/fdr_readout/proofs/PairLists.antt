@@ -7,10 +7,10 @@ use Rattle.std.proofs.lemmas.Bool.{cases_order}
 use Rattle.std.proofs.lemmas.List.{get_or_default}
 use Rattle.std.proofs.lemmas.List.Elements.{All-nil, All-cons, All-head, All-tail, All-append, All-map, All-weaker}
 use Rattle.std.proofs.lemmas.List.Kept.{AllPairs-cons}
-use Rattle.fdr_layout.proofs.Endings.{all_pieces}
 use Rattle.fdr_lists.proofs.Ranges.{All-range}
 use Rattle.fdr_lists.proofs.Options.{some_or_none}
 use Rattle.fdr_lists.proofs.Pairs.{AllPairs-nil, AllPairs-head, AllPairs-tail}
+use Rattle.fdr_lists.proofs.Pieces.{All-flat_map}
 
 pub AllPairs-weaker : {X : Type 0} (R S : X → X → Type 0) (xs : List X) → ((x y : X) → R x y → S x y) → AllPairs R xs → AllPairs S xs
 AllPairs-weaker R S xs weaker pairs i j d before within = weaker (get_or xs i d) (get_or xs j d) (pairs i j d before within)
@@ -36,7 +36,7 @@ AllPairs-flat_map R f [] each cross = AllPairs-nil R
 AllPairs-flat_map R f (x ∷ xs) each cross =
     AllPairs-append R (f x) (flat_map f xs) (All-head (λ x. AllPairs R (f x)) x xs each)
     (AllPairs-flat_map R f xs (All-tail (λ x. AllPairs R (f x)) x xs each) (AllPairs-tail (λ x y. All (λ u. All (R u) (f y)) (f x)) x xs cross))
-    (λ k d within. all_pieces (R (get_or (f x) k d)) f xs
+    (λ k d within. All-flat_map (R (get_or (f x) k d)) f xs
     (All-weaker (λ y. All (λ u. All (R u) (f y)) (f x)) (λ y. All (R (get_or (f x) k d)) (f y)) (λ y here. here k d within) xs
     (AllPairs-head (λ x y. All (λ u. All (R u) (f y)) (f x)) x xs cross)))
 

@@ -13,7 +13,6 @@ use Rattle.fdr_layout.specs.SlotParts.{SlotPart, parts_of_sample, parts_among, a
 use Rattle.fdr_check.specs.Occurrences.{frame_bits}
 use Rattle.fdr_layout.specs.Samples.{Part, Sample, samples, ending_in}
 use Rattle.fdr_layout.proofs.ByLastPart.{ending_at}
-use Rattle.fdr_layout.proofs.Endings.{pieces_hold}
 use Rattle.fdr_layout.proofs.SlotLemmas.{parts_of_slot_hold}
 use Rattle.fdr_sampler.specs.Held.{Source, source_of, held_record, raw_of_record, raw_value, first_part_slot}
 use Rattle.fdr_sampler.specs.SlotWord.{numbered_value, piece_of, data_word}
@@ -25,6 +24,7 @@ use Rattle.fdr_readout.proofs.Recordable.{IsPlaced, IsRecordable}
 use Rattle.fdr_readout.proofs.RecordedWords.{parts_in-placed}
 use Rattle.fdr_readout.proofs.PartsApart.{IsOther, data_carries}
 use Rattle.fdr_lists.proofs.Sums.{sum_by-agree}
+use Rattle.fdr_lists.proofs.Pieces.{All-flat_map-range}
 
 -- part p of sample n
 abbrev pub part_of : ℕ → Part → SlotPart
@@ -105,7 +105,7 @@ pub ending_in-samples : (t : TableRows) (cycle : ℕ) → All (Contains (samples
 unfolding ending_in
 ending_in-samples t cycle =
     let w = t.frame.words in
-    pieces_hold (Contains (samples t)) (ending_at (samples t)) (frame_bits w * cycle) (frame_bits w)
+    All-flat_map-range (Contains (samples t)) (ending_at (samples t)) (frame_bits w * cycle) (frame_bits w)
     (λ x low high. All-filter _ (Contains (samples t)) (samples t) (All-contains_itself (samples t)))
 
 pub contained_get : {X : Type 0} (xs : List X) (x : X) (at : Contains xs x) → slice_get xs at.0 ≡ Some x

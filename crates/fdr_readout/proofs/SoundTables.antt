@@ -12,7 +12,6 @@ use Rattle.fdr_layout.specs.SlotParts.{SlotPart, parts_of_sample, parts_among, a
 use Rattle.fdr_check.specs.Occurrences.{Occurrence, part_occurrences, shift_of}
 use Rattle.fdr_check.specs.Soundness.{IsSound}
 use Rattle.fdr_layout.specs.Samples.{Part, part_at, carrier_of, parts_of, Sample, samples_of, samples}
-use Rattle.fdr_layout.proofs.Endings.{all_pieces}
 use Rattle.fdr_recon.specs.Kept.{IsSampleOf}
 use Rattle.fdr_recon.proofs.FilledValues.{filled_pieces}
 use Rattle.fdr_recon.proofs.SoundSamples.{IsPartOccurrence, part_occurrences_come, IsMade, samples_made, samples_sound}
@@ -20,6 +19,7 @@ use Rattle.fdr_readout.proofs.Recordable.{IsPlaced, AreApart, AreWhole, IsRecord
 use Rattle.fdr_readout.proofs.PairLists.{AllPairs-weaker, AllPairs-map, AllPairs-flat_map, AllPairs_range, AllPairs_enumerate, All_filter_map}
 use Rattle.fdr_readout.proofs.SoundPlaces.{OccurrencesApart, part_occurrences_apart, parts_apart, lies_in_word, stands_in_data}
 use Rattle.fdr_lists.proofs.Numbered.{numbered_stand}
+use Rattle.fdr_lists.proofs.Pieces.{All-flat_map}
 
 -- ---- the numbers of samples
 
@@ -109,7 +109,7 @@ parts_from t n s stands made =
 all_from : (t : TableRows) → All (IsFrom t) (all_parts t)
 unfolding parts_among
 all_from t =
-    all_pieces (IsFrom t) (λ (e : ℕ × Sample). parts_of_sample e.0 e.1.parts) (enumerate_from 0 (samples t))
+    All-flat_map (IsFrom t) (λ (e : ℕ × Sample). parts_of_sample e.0 e.1.parts) (enumerate_from 0 (samples t))
     (All-weaker (λ (e : ℕ × Sample). slice_get (samples t) e.0 ≡ Some e.1) (λ (e : ℕ × Sample). All (IsFrom t) (parts_of_sample e.0 e.1.parts))
     (λ e stands.
     let within = slice_get_within (samples t) e.0 e.1 stands in

@@ -13,11 +13,11 @@ use Rattle.fdr_check.specs.Occurrences.{frame_bits, begins_at, Occurrence, occur
 use Rattle.fdr_check.specs.Soundness.{has_part, HasParts, HasRate, IsSound}
 use Rattle.fdr_layout.specs.Samples.{Part, carrier_of, part_at, parts_of, Sample, samples_of, samples, ending_in}
 use Rattle.fdr_layout.proofs.ByLastPart.{ending_at}
-use Rattle.fdr_layout.proofs.Endings.{pieces_hold, all_pieces}
 use Rattle.fdr_recon.specs.Kept.{FillUp, IsSampleOf}
 use Rattle.fdr_lists.proofs.Ranges.{range_more, All-range}
 use Rattle.fdr_lists.proofs.Numbered.{numbered_stand}
 use Rattle.fdr_lists.proofs.Options.{some_or_none}
+use Rattle.fdr_lists.proofs.Pieces.{All-flat_map, All-flat_map-range}
 
 -- ---- where occurrences come from
 
@@ -32,7 +32,7 @@ pub record IsOccurrence (w : ℕ) (places : List PlaceRow) (o : Occurrence) : Ty
 pub occurrences_come : (w : ℕ) (places : List PlaceRow) → All (IsOccurrence w places) (occurrences w places)
 unfolding occurrences
 occurrences_come w places =
-    pieces_hold (IsOccurrence w places) (occurrences_at w places) 0 (16 * frame_bits w) (λ x low high.
+    All-flat_map-range (IsOccurrence w places) (occurrences_at w places) 0 (16 * frame_bits w) (λ x low high.
     let begins = filter_passes (begins_at w x) places in
     let among = All-filter (begins_at w x) (Contains places) places (All-contains_itself places) in
     All-map (IsOccurrence w places) (λ (p : PlaceRow). record { at = x; width = p.width }) (filter (begins_at w x) places)
@@ -206,7 +206,7 @@ samples_of_made t n p is =
 pub samples_made : (t : TableRows) → All (IsMade t) (samples t)
 unfolding samples
 samples_made t =
-    all_pieces (IsMade t) (λ (e : ℕ × ParamRow). samples_of t.frame.words t.places e.0 e.1.rate) (enumerate_from 0 t.params)
+    All-flat_map (IsMade t) (λ (e : ℕ × ParamRow). samples_of t.frame.words t.places e.0 e.1.rate) (enumerate_from 0 t.params)
     (All-weaker (λ (e : ℕ × ParamRow). slice_get t.params e.0 ≡ Some e.1)
     (λ (e : ℕ × ParamRow). All (IsMade t) (samples_of t.frame.words t.places e.0 e.1.rate))
     (λ e is. samples_of_made t e.0 e.1 is) (enumerate_from 0 t.params) (numbered_stand t.params))
@@ -232,5 +232,5 @@ samples_sound t range sound = All-weaker (IsMade t) (IsSampleOf t.params) (λ s 
 pub ending_in_sound : (t : TableRows) (cycle : ℕ) → IsInRange t → IsSound t → All (IsSampleOf t.params) (ending_in t cycle)
 unfolding ending_in
 ending_in_sound t cycle range sound =
-    pieces_hold (IsSampleOf t.params) (ending_at (samples t)) (frame_bits t.frame.words * cycle) (frame_bits t.frame.words)
+    All-flat_map-range (IsSampleOf t.params) (ending_at (samples t)) (frame_bits t.frame.words * cycle) (frame_bits t.frame.words)
     (λ x low high. All-filter _ (IsSampleOf t.params) (samples t) (samples_sound t range sound))

@@ -7,12 +7,13 @@ use Rattle.std.proofs.lemmas.List.Elements.{All-map, All-weaker, filter_passes, 
 use Rattle.fdr_table.specs.Rows.{TableRows}
 use Rattle.fdr_layout.specs.SlotParts.{SlotPart, parts_of_sample, parts_among, parts_at, parts_of_slot, parts_in}
 use Rattle.fdr_layout.specs.Samples.{Part, Sample, samples, earliest_of, first_at}
-use Rattle.fdr_layout.proofs.Endings.{first_at_low, pieces_hold, all_pieces}
+use Rattle.fdr_layout.proofs.Endings.{first_at_low}
 use Rattle.fdr_layout.proofs.SlotLemmas.{parts_of_slot_hold}
 use Rattle.fdr_sampler.specs.Held.{first_part_slot}
 use Rattle.fdr_sampler.proofs.Lists.{Contains-there, Contains-map, Contains-filter, Contains-flat_map, Contains-range, Contains-enumerate}
 use Rattle.fdr_lists.proofs.Numbered.{numbered_stand}
 use Rattle.fdr_lists.proofs.Pairs.{Contains-here}
+use Rattle.fdr_lists.proofs.Pieces.{All-flat_map, All-flat_map-range}
 
 -- the part is one of a sample that has this number among the samples
 pub record IsOfSample (samples : List Sample) (a : SlotPart) : Type 0 where
@@ -25,7 +26,7 @@ parts_among_of : (samples : List Sample) → All (IsOfSample samples) (parts_amo
 unfolding parts_among
 parts_among_of samples =
     let made : ℕ → Part → SlotPart = λ n p. record { sample = n; part = p } in
-    all_pieces (IsOfSample samples) (λ (e : ℕ × Sample). parts_of_sample e.0 e.1.parts) (enumerate_from 0 samples)
+    All-flat_map (IsOfSample samples) (λ (e : ℕ × Sample). parts_of_sample e.0 e.1.parts) (enumerate_from 0 samples)
     (All-weaker (λ (e : ℕ × Sample). slice_get samples e.0 ≡ Some e.1) (λ (e : ℕ × Sample). All (IsOfSample samples) (parts_of_sample e.0 e.1.parts))
     (λ e stands. All-map (IsOfSample samples) (made e.0) e.1.parts
     (λ k d l. record { sample = e.1; numbered = stands; some = omega arith; first = first_at_low e.1.parts k d l }))
@@ -37,7 +38,7 @@ parts_in_of t k = parts_of_slot_hold (IsOfSample (samples t)) (parts_among (samp
 pub parts_of_slot_in : (parts : List SlotPart) (k : ℕ) → All (λ (a : SlotPart). a.part.at / 12 ≡ k) (parts_of_slot parts k)
 unfolding parts_of_slot
 parts_of_slot_in parts k =
-    pieces_hold (λ (a : SlotPart). a.part.at / 12 ≡ k) (parts_at parts) (12 * k) 12
+    All-flat_map-range (λ (a : SlotPart). a.part.at / 12 ≡ k) (parts_at parts) (12 * k) 12
     (λ x low high. All-weaker (λ (a : SlotPart). (a.part.at == x) ≡ true) (λ (a : SlotPart). a.part.at / 12 ≡ k)
     (λ a at. let is : a.part.at ≡ x = eqb-true a.part.at x at in let in' : x / 12 ≡ k = omega arith in ap (λ y. y / 12) is ∙ in') (parts_at parts x)
     (filter_passes (λ (a : SlotPart). a.part.at == x) parts))

@@ -13,12 +13,12 @@ use Rattle.fdr_stream.specs.Blocks.{cut_block, due_blocks}
 use Rattle.fdr_stream.specs.Packing.{unpaired, whole_bytes, filled_by, unpaired_after}
 use Rattle.fdr_stream.specs.Kept.{StreamKept}
 use Rattle.fdr_stream.specs.Past.{StreamPast, words_to, IsPacked}
-use Rattle.fdr_stream.proofs.PackingLemmas.{unpaired-push, whole_bytes-push, length-whole_bytes, bytes_after, packed-whole}
+use Rattle.fdr_stream.proofs.PackingLemmas.{unpaired-append, whole_bytes-append, length-whole_bytes, bytes_after, packed-whole}
 
 pub length-words_to : (past : StreamPast) (n : ℕ) → length (words_to past n) ≡ n
 length-words_to past n = length-map-range_with_len (slot_word past.table past.records) 0 n
 
-words_to-more : (past : StreamPast) (n : ℕ) → words_to past (n + 1) ≡ words_to past n ++ slot_word past.table past.records n ∷ []
+pub words_to-more : (past : StreamPast) (n : ℕ) → words_to past (n + 1) ≡ words_to past n ++ slot_word past.table past.records n ∷ []
 words_to-more past n = map-range_with_len_more (slot_word past.table past.records) 0 n n (omega arith)
 
 pub length-whole_to : (past : StreamPast) (n : ℕ) → length (whole_bytes (words_to past n)) ≡ 3 * n / 2
@@ -37,25 +37,24 @@ length-waiting k past at =
 three_halves : (m n : ℕ) → m ≤ n → 3 * m / 2 ≤ 3 * n / 2
 three_halves m n le = omega arith
 
--- after a further word
-pub IsPacked-word : (k k' : StreamKept) (past : StreamPast) (word : ℕ) → IsPacked k past → word ≡ slot_word past.table past.records k.sampler.drawn →
-    k'.sampler.drawn ≡ k.sampler.drawn + 1 → k'.payload ≡ k.payload → k'.odd ≡ unpaired_after k.odd word → k'.bytes ≡ k.bytes ++ filled_by k.odd word
-    → IsPacked k' past
-IsPacked-word k k' past word at is drawn payload odd bytes =
-    let n = k.sampler.drawn in
+-- after n further words
+pub IsPacked-words : (k k' : StreamKept) (past : StreamPast) (n : ℕ) (words : List ℕ) → IsPacked k past
+    → words_to past (k.sampler.drawn + n) ≡ words_to past k.sampler.drawn ++ words → k'.sampler.drawn ≡ k.sampler.drawn + n → k'.payload ≡ k.payload
+    → k'.odd ≡ unpaired_after k.odd words → k'.bytes ≡ k.bytes ++ filled_by k.odd words → IsPacked k' past
+IsPacked-words k k' past n words at drawn_words drawn payload odd bytes =
+    let d = k.sampler.drawn in
     let given = past.payload * past.blocks in
-    let words = words_to past n in
-    let more : words_to past k'.sampler.drawn ≡ words ++ word ∷ [] =
-    ap (words_to past) drawn ∙ words_to-more past n ∙ ap (λ w. words ++ w ∷ []) (sym is) in
-    let low : given ≤ length (whole_bytes words) = omega (arith, at.given, length-whole_to past n) in
+    let before = words_to past d in
+    let more : words_to past k'.sampler.drawn ≡ before ++ words = ap (words_to past) drawn ∙ drawn_words in
+    let low : given ≤ length (whole_bytes before) = omega (arith, at.given, length-whole_to past d) in
     record {
       payload = payload ∙ at.payload;
       words = at.words;
-      given = omega (arith, at.given, drawn, three_halves n (n + 1) (omega arith));
-      odd = odd ∙ ap (λ o. unpaired_after o word) at.odd ∙ sym (unpaired-push words word) ∙ ap unpaired (sym more);
-      bytes = bytes ∙ ap (λ xs. xs ++ filled_by k.odd word) at.bytes ∙ ap (λ o. drop given (whole_bytes words) ++ filled_by o word) at.odd
-          ∙ sym (drop-append-le given (whole_bytes words) (filled_by (unpaired words) word) low)
-          ∙ ap (drop given) (sym (whole_bytes-push words word)) ∙ ap (λ ws. drop given (whole_bytes ws)) (sym more);
+      given = omega (arith, at.given, drawn, three_halves d (d + n) (omega arith));
+      odd = odd ∙ ap (λ o. unpaired_after o words) at.odd ∙ sym (unpaired-append before words) ∙ ap unpaired (sym more);
+      bytes = bytes ∙ ap (λ xs. xs ++ filled_by k.odd words) at.bytes ∙ ap (λ o. drop given (whole_bytes before) ++ filled_by o words) at.odd
+          ∙ sym (drop-append-le given (whole_bytes before) (filled_by (unpaired before) words) low)
+          ∙ ap (drop given) (sym (whole_bytes-append before words)) ∙ ap (λ ws. drop given (whole_bytes ws)) (sym more);
     }
 
 -- the words up to a later slot begin with those up to an earlier one

@@ -7,26 +7,22 @@ use Rattle.fdr_sampler.specs.Stream.{packed}
 use Rattle.fdr_sampler.proofs.Packing.{IsWord, packed-none, packed-one, packed-pair}
 use Rattle.fdr_stream.specs.Packing.{unpaired, whole_bytes, filled_by, unpaired_after, last_byte}
 
--- the word that waits after a further one
-pub unpaired-push : (words : List ℕ) (word : ℕ) → unpaired (words ++ word ∷ []) ≡ unpaired_after (unpaired words) word
+-- the bits that wait after further words
+pub unpaired-append : (words more : List ℕ) → unpaired (words ++ more) ≡ unpaired_after (unpaired words) more
 unfolding unpaired unpaired_after
-unpaired-push [] word = refl
-unpaired-push (a ∷ []) word = refl
-unpaired-push (a ∷ b ∷ words) word = unpaired-push words word
+unpaired-append [] more = refl
+unpaired-append (a ∷ []) [] = refl
+unpaired-append (a ∷ []) (b ∷ more) = refl
+unpaired-append (a ∷ b ∷ words) more = unpaired-append words more
 
--- the bytes that are whole after a further word
-pub whole_bytes-push : (words : List ℕ) (word : ℕ) → whole_bytes (words ++ word ∷ []) ≡ whole_bytes words ++ filled_by (unpaired words) word
+-- the bytes that are whole after further words
+pub whole_bytes-append : (words more : List ℕ) → whole_bytes (words ++ more) ≡ whole_bytes words ++ filled_by (unpaired words) more
 unfolding unpaired whole_bytes filled_by
-whole_bytes-push [] word = refl
-whole_bytes-push (a ∷ []) word = refl
-whole_bytes-push (a ∷ b ∷ words) word =
-    ap (λ bytes. a % 256 ∷ (a / 256 + 16 * (b % 16)) ∷ b / 16 ∷ bytes) (whole_bytes-push words word)
-
--- a word fills a byte, or two where another one waits for it
-pub length-filled_by : (odd : Option ℕ) (word : ℕ) → (1 ≤ length (filled_by odd word)) × (length (filled_by odd word) ≤ 2)
-unfolding filled_by
-length-filled_by None word = (omega arith, omega arith)
-length-filled_by (Some a) word = (omega arith, omega arith)
+whole_bytes-append [] more = refl
+whole_bytes-append (a ∷ []) [] = refl
+whole_bytes-append (a ∷ []) (b ∷ more) = refl
+whole_bytes-append (a ∷ b ∷ words) more =
+    ap (λ bytes. a % 256 ∷ (a / 256 + 16 * (b % 16)) ∷ b / 16 ∷ bytes) (whole_bytes-append words more)
 
 pub length-last_byte : (odd : Option ℕ) → length (last_byte odd) ≤ 1
 unfolding last_byte
@@ -40,11 +36,19 @@ length-whole_bytes [] = refl
 length-whole_bytes (a ∷ []) = refl
 length-whole_bytes (a ∷ b ∷ words) = omega (arith, length-whole_bytes words)
 
+-- so many bytes are whole of further words
+pub length-filled_by : (odd : Option ℕ) (words : List ℕ) → (3 * length words / 2 ≤ length (filled_by odd words))
+    × (length (filled_by odd words) ≤ (3 * length words + 1) / 2)
+unfolding filled_by
+length-filled_by None words = (omega (arith, length-whole_bytes words), omega (arith, length-whole_bytes words))
+length-filled_by (Some bits) [] = (omega arith, omega arith)
+length-filled_by (Some bits) (word ∷ words) = (omega (arith, length-whole_bytes words), omega (arith, length-whole_bytes words))
+
 -- the bytes after those that some words fill, where more words come
 unfoldable pub bytes_after : Option ℕ → List ℕ → List ℕ
 bytes_after None more = packed more
-bytes_after (Some a) [] = a / 256 ∷ []
-bytes_after (Some a) (b ∷ more) = (a / 256 + 16 * (b % 16)) ∷ b / 16 ∷ packed more
+bytes_after (Some bits) [] = bits ∷ []
+bytes_after (Some bits) (b ∷ more) = (bits + 16 * (b % 16)) ∷ b / 16 ∷ packed more
 
 tail_fits : (a b : ℕ) (words : List ℕ) → All IsWord (a ∷ b ∷ words) → All IsWord words
 tail_fits a b words fit = All-tail IsWord b words (All-tail IsWord a (b ∷ words) fit)

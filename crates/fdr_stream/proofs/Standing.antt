@@ -9,7 +9,6 @@ use Rattle.fdr_bus.specs.declared.BusRecord.{BusRecord}
 use Rattle.fdr_bus.specs.declared.RecordKind.TheVariants.{Word}
 use Rattle.fdr_bus.specs.Records.{time_of, has_end}
 use Rattle.fdr_table.specs.Rows.{TableRows}
-use Rattle.fdr_sampler.specs.SlotWord.{slot_word}
 use Rattle.fdr_sampler.specs.Stream.{packed, slot_count, stream_of}
 use Rattle.fdr_sampler.specs.Past.{MayTake, RepresentsSampler, sampler_made}
 use Rattle.fdr_sampler.specs.Kept.{SamplerKept}
@@ -18,11 +17,11 @@ use Rattle.fdr_sampler.proofs.Counting.{slot_count-below, slot_count-above}
 use Rattle.fdr_sampler.proofs.Streaming.{words-late, stream_words-none}
 use Rattle.fdr_stream.specs.Blocks.{cut_block, blocks_of}
 use Rattle.fdr_stream.specs.Packing.{unpaired, whole_bytes, last_byte}
-use Rattle.fdr_stream.specs.Kept.{StreamKept, stream_at_start, with_packed_word}
+use Rattle.fdr_stream.specs.Kept.{StreamKept, stream_at_start, with_packed}
 use Rattle.fdr_stream.specs.Past.{StreamPast, stream_made, with_block, stream_with_record, MayFeedStream, words_to, time_from, IsPacked, IsSampled, IsDrawing}
 use Rattle.fdr_stream.specs.Past.{RepresentsStream}
 use Rattle.fdr_stream.proofs.PackingLemmas.{packed-last, length-last_byte}
-use Rattle.fdr_stream.proofs.Drawn.{length-words_to, length-whole_to, words_to-fit, length-waiting, IsPacked-word, none_due}
+use Rattle.fdr_stream.proofs.Drawn.{length-words_to, length-whole_to, words_to-fit, length-waiting, IsPacked-words, none_due}
 use Rattle.fdr_bus.proofs.TraceLemmas.{time_of-push}
 
 pub slot_count-later : (w a b : ℕ) → a ≤ b → slot_count w a ≤ slot_count w b
@@ -161,17 +160,17 @@ pub sampled_here : (s : SamplerKept) (past : StreamPast) (n : ℕ) → Represent
     RepresentsSampler s (record { table = past.table; records = past.records; drawn = s.drawn })
 sampled_here s past n st = subst (λ m. RepresentsSampler s (record { table = past.table; records = past.records; drawn = m })) (sym st.drawn) st
 
--- after a further word was drawn and packed
-pub IsSampled-word : (k k1 : StreamKept) (s : SamplerKept) (word : ℕ) (past : StreamPast) → k1 ≡ with_packed_word (record k { sampler = s }) word →
-    RepresentsSampler s (record { table = past.table; records = past.records; drawn = k.sampler.drawn + 1 }) → IsSampled k1 past
-IsSampled-word k k1 s word past is st = subst (λ (x : StreamKept). IsSampled x past) (sym is) (sampled_here s past (k.sampler.drawn + 1) st)
+-- after n further words were drawn and packed
+pub IsSampled-words : (k k1 : StreamKept) (s : SamplerKept) (past : StreamPast) (n : ℕ) (words : List ℕ) → k1 ≡ with_packed (record k { sampler = s }) words →
+    RepresentsSampler s (record { table = past.table; records = past.records; drawn = k.sampler.drawn + n }) → IsSampled k1 past
+IsSampled-words k k1 s past n words is st = subst (λ (x : StreamKept). IsSampled x past) (sym is) (sampled_here s past (k.sampler.drawn + n) st)
 
-pub IsPacked-drawn : (k k1 : StreamKept) (s : SamplerKept) (word : ℕ) (past : StreamPast) → k1 ≡ with_packed_word (record k { sampler = s }) word →
-    RepresentsSampler s (record { table = past.table; records = past.records; drawn = k.sampler.drawn + 1 }) →
-    word ≡ slot_word past.table past.records k.sampler.drawn → IsPacked k past → IsPacked k1 past
-IsPacked-drawn k k1 s word past is st drawn at =
+pub IsPacked-drawn : (k k1 : StreamKept) (s : SamplerKept) (past : StreamPast) (n : ℕ) (words : List ℕ) → k1 ≡ with_packed (record k { sampler = s }) words →
+    RepresentsSampler s (record { table = past.table; records = past.records; drawn = k.sampler.drawn + n }) →
+    words_to past (k.sampler.drawn + n) ≡ words_to past k.sampler.drawn ++ words → IsPacked k past → IsPacked k1 past
+IsPacked-drawn k k1 s past n words is st drawn at =
     subst (λ (x : StreamKept). IsPacked x past) (sym is)
-    (IsPacked-word k (with_packed_word (record k { sampler = s }) word) past word at drawn st.drawn refl refl refl)
+    (IsPacked-words k (with_packed (record k { sampler = s }) words) past n words at drawn st.drawn refl refl refl)
 
 -- ---- at the end
 

@@ -1,10 +1,10 @@
 -- What is kept of a stream: all that a block still needs.
-use Rattle.std.specs.Prelude.{ℕ, ◌≡◌, ◌<◌, ◌≤◌, ◌+◌, List, [], ◌++◌, Option, None, replicate}
-use Rattle.std.specs.Option.{ForSome}
+use Rattle.std.specs.Prelude.{ℕ, ◌≡◌, ◌≤◌, ◌+◌, List, [], ◌++◌, Option, None}
 use Rattle.fdr_sampler.specs.Kept.{SamplerKept}
-use Rattle.fdr_stream.specs.Packing.{filled_by, unpaired, unpaired_after, last_byte, whole_bytes}
+use Rattle.fdr_stream.specs.Packing.{filled_by, unpaired_after, last_byte}
 
--- The sampler, how many bytes a block has, the word that waits for its pair, and the whole bytes that wait for a block.
+-- The sampler, how many bytes a block has, the four bits that wait for the next word, and the whole bytes that wait for a
+-- block.
 pub record StreamKept : Type 0 where
   pub sampler : SamplerKept
   pub payload : ℕ
@@ -15,18 +15,13 @@ pub record StreamKept : Type 0 where
 pub record IsStreamKept (k : StreamKept) (capacity : ℕ) : Type 0 where
   pub low : 64 ≤ k.payload
   pub high : k.payload ≤ 4096
-  pub room : capacity ≡ k.payload + 1
-  pub odd : ForSome k.odd (λ a. a < 4096)
+  pub room : capacity ≡ k.payload + 2
 
--- what is kept after a further word
-abbrev pub with_packed_word : StreamKept → ℕ → StreamKept
-with_packed_word k word = record k { odd = unpaired_after k.odd word; bytes = k.bytes ++ filled_by k.odd word }
+-- what is kept after further words
+abbrev pub with_packed : StreamKept → List ℕ → StreamKept
+with_packed k words = record k { odd = unpaired_after k.odd words; bytes = k.bytes ++ filled_by k.odd words }
 
--- what is kept after n further words that are 0, where none waits
-abbrev pub with_packed_zeros : StreamKept → ℕ → StreamKept
-with_packed_zeros k n = record k { odd = unpaired (replicate n 0); bytes = k.bytes ++ whole_bytes (replicate n 0) }
-
--- what is kept once the waiting word is filled with zero bits
+-- what is kept once the waiting bits are filled with zero bits
 abbrev pub padded : StreamKept → StreamKept
 padded k = record k { odd = None; bytes = k.bytes ++ last_byte k.odd }
 

@@ -1,15 +1,14 @@
 //! The stream.
 
-ghost use Rattle.std.specs.Prelude.{◌≡◌, ◌<◌, ◌≤◌, ◌+◌, ◌-◌, ◌*◌, ◌/◌, ◌^◌, ◌↔◌, false, [], ◌∷◌, ◌++◌, None, length, min, take, drop, IfOk, IsTrue};
+ghost use Rattle.std.specs.Prelude.{◌≡◌, ◌<◌, ◌≤◌, ◌+◌, ◌-◌, ◌*◌, ◌/◌, ◌^◌, ◌↔◌, false, [], ◌∷◌, ◌++◌, None, length, min, take, drop, replicate, IfOk, IsTrue};
 ghost use Rattle.fdr_bus.specs.Records.{has_end, last_time};
 ghost use Rattle.fdr_sampler.specs.Kept.{most_word_slots};
 ghost use Rattle.fdr_sampler.specs.Stream.{slot_count, stream_of};
 ghost use Rattle.fdr_stream.specs.Blocks.{cut_block, blocks_of, due_blocks};
-ghost use Rattle.fdr_stream.specs.Kept.{stream_at_start, padded, with_packed_word, with_packed_zeros};
+ghost use Rattle.fdr_stream.specs.Kept.{stream_at_start, padded, with_packed};
 ghost use Rattle.fdr_stream.specs.Past.{StreamPast, stream_made, with_block, stream_with_record, HasFinished, MayFeedStream, RepresentsStream, IsPacked, IsSampled, IsDrawing};
 
 use crate::waiting::Waiting;
-use fdr_bits::pack_pair;
 use fdr_bus::{BusRecord, RecordKind};
 use fdr_check::Sound;
 use fdr_layout::Layout;
@@ -32,8 +31,7 @@ pub enum Fed {
 pub struct Stream {
     sampler: Sampler,
     payload: usize,
-    odd: Option<u16>,
-    bytes: Waiting,
+    waiting: Waiting,
 }
 
 impl Model for Stream {
@@ -45,7 +43,7 @@ impl Model for Stream {
 
     ghost view = { stream_kept };
 
-    ghost invariant = { λ s. IsStreamKept (stream_kept s) s.bytes.capacity };
+    ghost invariant = { λ s. IsStreamKept (stream_kept s) s.waiting.capacity };
 }
 
 impl Stream {
@@ -109,8 +107,8 @@ impl Stream {
         ensures finished { (past : StreamPast) → RepresentsStream self.old past → past.begun ≡ None → HasFinished self.new past }
     {
         self.pad();
-        let count = self.bytes.len();
-        self.bytes.give(count, out);
+        let count = self.waiting.len();
+        self.waiting.give(count, out);
         count
     }
 
@@ -119,12 +117,11 @@ impl Stream {
         requires high { payload ≤ 4096 }
         ensures { IfOk result (λ s. s ≡ stream_at_start sampler payload) }
     {
-        let bytes = Waiting::with_capacity(alloc, payload + 1)?;
+        let waiting = Waiting::with_capacity(alloc, payload + 2)?;
         Ok(Stream {
             sampler,
             payload,
-            odd: None,
-            bytes,
+            waiting,
         })
     }
 
@@ -168,7 +165,7 @@ impl Stream {
     }
 
     /// Draws of so many slots those without any data that come first, as far as the block has room for them, and answers
-    /// how many it drew. A word that waits for its pair comes before them.
+    /// how many it drew.
     fn draw_empty(&mut self, left: u64) -> u32
         requires past { (past : StreamPast) × IsSampled self.old past }
         requires more { self.old.sampler.drawn + left ≤ most_word_slots }
@@ -180,11 +177,8 @@ impl Stream {
         ensures payload { self.new.payload ≡ self.old.payload }
         ensures within_room { length self.new.bytes ≤ self.new.payload }
     {
-        if self.odd.is_some() {
-            return 0;
-        }
         // Two words fill three bytes, so that half as many words as bytes have room.
-        let room = (self.payload - self.bytes.len()) / 2;
+        let room = (self.payload - self.waiting.len()) / 2;
         let count = self.sampler.draw_empty(left.min(room as u64) as u32);
         self.pack_zeros(count);
         count
@@ -192,15 +186,11 @@ impl Stream {
 
     /// Packs so many words that are 0.
     fn pack_zeros(&mut self, count: u32)
-        requires paired { self.old.odd ≡ None }
         requires within_block { count ≤ 4096 }
         requires room { length self.old.bytes + 3 * count / 2 ≤ self.old.payload + 1 }
-        ensures { self.new ≡ with_packed_zeros self.old count }
+        ensures { self.new ≡ with_packed self.old (replicate count 0) }
     {
-        self.bytes.push_zeros((3 * count / 2) as usize);
-        if count % 2 == 1 {
-            self.odd = Some(0);
-        }
+        self.waiting.push_zeros(count as usize);
     }
 
     /// Draws the word of the next slot.
@@ -223,38 +213,24 @@ impl Stream {
     fn pack(&mut self, word: u16)
         requires twelve_bits { word < 4096 }
         requires room { length self.old.bytes < self.old.payload }
-        ensures { self.new ≡ with_packed_word self.old word }
+        ensures { self.new ≡ with_packed self.old (word ∷ []) }
     {
-        match self.odd {
-            None => {
-                self.bytes.push((word & 0xff) as u8);
-                self.odd = Some(word);
-            }
-            Some(first) => {
-                let pair = pack_pair(first, word);
-                self.bytes.push(pair[1]);
-                self.bytes.push(pair[2]);
-                self.odd = None;
-            }
-        }
+        self.waiting.push(word);
     }
 
-    /// Fills a word that waits for its pair with zero bits.
+    /// Fills four bits that wait for the next word with zero bits.
     fn pad(&mut self)
         requires { length self.old.bytes < self.old.payload }
         ensures { self.new ≡ padded self.old }
     {
-        if let Some(word) = self.odd {
-            self.bytes.push((word >> 8) as u8);
-            self.odd = None;
-        }
+        self.waiting.pad();
     }
 
     /// Whether a whole block waits.
     fn is_full(&self) -> bool
         ensures { IsTrue result ↔ (self.now.payload ≤ length self.now.bytes) }
     {
-        self.payload <= self.bytes.len()
+        self.payload <= self.waiting.len()
     }
 
     /// Puts the block that waits at the front of `out`.
@@ -266,7 +242,7 @@ impl Stream {
         ensures rest { self.new ≡ record self.old { bytes = drop self.old.payload self.old.bytes } }
         ensures beyond { drop self.old.payload out.new ≡ drop self.old.payload out.old }
     {
-        self.bytes.give(self.payload, out);
+        self.waiting.give(self.payload, out);
     }
 
     /// Takes a record before which all words were drawn.

@@ -1,11 +1,13 @@
-use Rattle.std.proofs.Common.{◌≡◌, ◌+◌, ◌*◌, ◌/◌, ◌<◌, length, replicate, sym, ap, ◌∙◌, subst, arith, length-append}
-use Rattle.fdr_check.proofs.Overlapping.{none_of}
+use Rattle.std.proofs.Common.{◌≡◌, ℕ, List, ◌+◌, ◌<◌, length, replicate, sym, ap, ◌∙◌, subst, arith, length-append}
+use Rattle.std.proofs.lemmas.List.{length-replicate}
 use Rattle.fdr_sampler.specs.Past.{SamplerPast, RepresentsSampler}
-use Rattle.fdr_stream.specs.Packing.{whole_bytes}
+use Rattle.fdr_stream.specs.Packing.{filled_by}
 use Rattle.fdr_stream.specs.Kept.{StreamKept}
 use Rattle.fdr_stream.specs.View.{stream_kept}
 use Rattle.fdr_stream.specs.Past.{StreamPast, IsPacked, IsSampled}
-use Rattle.fdr_stream.proofs.Zeros.{IsSampled-zeros, IsPacked-empty, zero_length}
+use Rattle.fdr_stream.proofs.PackingLemmas.{length-filled_by}
+use Rattle.fdr_stream.proofs.Standing.{IsSampled-words, IsPacked-drawn}
+use Rattle.fdr_stream.proofs.Zeros.{words_to-zeros}
 use Rattle.fdr_stream.proofs.stream.Stream.draw_empty.Goals as goal
 
 here : (c : goal.After-pack_zeros) (past : StreamPast) → IsSampled c.args.self.now past → IsSampled (stream_kept c.self.inside) past
@@ -21,14 +23,16 @@ stands c past st = c.draw_empty-count.ensures.stands (at c past) (here c past st
 
 pub returns-clause-sampled : goal.returns-clause-sampled
 returns-clause-sampled c = λ past st.
-    IsSampled-zeros (stream_kept c.self.inside) c.pack_zeros.new.self c.draw_empty-count.new.self past c.draw_empty-count.result c.pack_zeros.ensures
+    let n = c.draw_empty-count.result in
+    IsSampled-words (stream_kept c.self.inside) c.pack_zeros.new.self c.draw_empty-count.new.self past n (replicate n 0) c.pack_zeros.ensures
     (stands c past st)
 
 pub returns-clause-packed : goal.returns-clause-packed
 unfolding at
 returns-clause-packed c = λ past st packed.
-    IsPacked-empty (stream_kept c.self.inside) c.pack_zeros.new.self c.draw_empty-count.new.self past c.draw_empty-count.result c.pack_zeros.ensures
-    (stands c past st) (c.draw_empty-count.ensures.zeros (at c past) (here c past st)) (none_of c.self.inside.odd (sym c.if-is_some.ensures))
+    let n = c.draw_empty-count.result in
+    IsPacked-drawn (stream_kept c.self.inside) c.pack_zeros.new.self c.draw_empty-count.new.self past n (replicate n 0) c.pack_zeros.ensures
+    (stands c past st) (words_to-zeros past c.self.inside.sampler.drawn n (c.draw_empty-count.ensures.zeros (at c past) (here c past st)))
     (subst (λ (k : StreamKept). IsPacked k past) (sym c.self.view_is) packed)
 
 pub returns-clause-drawn : goal.returns-clause-drawn
@@ -40,9 +44,11 @@ pub returns-clause-within_room : goal.returns-clause-within_room
 returns-clause-within_room c =
     let k = stream_kept c.self.inside in
     let n = c.draw_empty-count.result in
-    let bytes : length c.pack_zeros.new.self.bytes ≡ length k.bytes + 3 * n / 2 =
-    ap (λ (x : StreamKept). length x.bytes) c.pack_zeros.ensures ∙ length-append k.bytes (whole_bytes (replicate n 0))
-    ∙ ap (λ m. length k.bytes + m) (zero_length n) in
+    let bytes : length c.pack_zeros.new.self.bytes ≡ length k.bytes + length (filled_by k.odd (replicate n 0)) =
+    ap (λ (x : StreamKept). length x.bytes) c.pack_zeros.ensures ∙ length-append k.bytes (filled_by k.odd (replicate n 0)) in
+    let zeros : List ℕ = replicate n 0 in
+    let filled = length-filled_by k.odd zeros in
+    let count : length zeros ≡ n = length-replicate {A = ℕ} n 0 in
     let payload : c.pack_zeros.new.self.payload ≡ k.payload = ap (λ (x : StreamKept). x.payload) c.pack_zeros.ensures in
     let before : length k.bytes < k.payload = subst (λ (x : StreamKept). length x.bytes < x.payload) (sym c.self.view_is) c.requires.room in
-    omega (arith, bytes, payload, before, c.draw_empty-count.ensures.most, c.min.ensures, c.len.ensures.len)
+    omega (arith, bytes, filled, count, payload, before, c.draw_empty-count.ensures.most, c.min.ensures, c.len.ensures.len)
