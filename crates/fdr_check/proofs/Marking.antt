@@ -6,7 +6,7 @@ use Rattle.std.specs.Int.{bit_at, trailing_zeros, w16}
 use Rattle.std.specs.Int.RustNames.{bit_or, bit_and}
 use Rattle.std.specs.List.{find, range_with_len, filter, list_any, All, AllPairs}
 use Rattle.std.specs.List.Sorted.{IsStrictlyIncreasing}
-use Rattle.std.proofs.Math.Bool.{or_assoc, and_assoc}
+use Rattle.std.proofs.Math.Bool.{and-true, or_assoc, and_assoc}
 use Rattle.std.proofs.Math.Nat.{mod-eq_of_lt}
 use Rattle.std.proofs.Math.Pow.{pow_mono}
 use Rattle.std.proofs.lemmas.Nat.{pow_pos}
@@ -155,10 +155,6 @@ marked_next p slots i slot bits m old new b before its l is within read written 
     ] in
     made ∙ ap (λ x. x || (t slot && takes_bit p c)) so_far ∙ or_assoc before (marked_in p slots i b) (t slot && takes_bit p c) ∙ wanted
 
-and_true : (b : Bool) → (b && true) ≡ b
-and_true true = refl
-and_true false = refl
-
 slot_found : (w : ℕ) (p : PlaceRow) (k : ℕ) → k < 64 * w → list_any (λ x. x == k) (slots_of w p) ≡ occurs w p k
 unfolding slots_of
 slot_found w p k within =
@@ -166,7 +162,7 @@ slot_found w p k within =
     let test : (x : ℕ) → (x == k) ≡ true → occurs w p x ≡ occurs w p k = λ x e. ap (occurs w p) (eqb-true x k e) in
     let at : get_or all k 0 ≡ k = get_or-range_with_len 0 (64 * w) k 0 within ∙ zero-add k in
     let any : list_any (λ x. x == k) all ≡ true = list_any_at (λ x. x == k) all k 0 (omega (arith, length-range_with_len 0 (64 * w))) (eq-eqb _ _ at) in
-    any-filter_same (λ x. x == k) (occurs w p) (occurs w p k) test all ∙ ap (λ b. occurs w p k && b) any ∙ and_true (occurs w p k)
+    any-filter_same (λ x. x == k) (occurs w p) (occurs w p k) test all ∙ ap (λ b. occurs w p k && b) any ∙ and-true (occurs w p k)
 
 -- all slots are marked
 pub marked_all : (w : ℕ) (p : PlaceRow) (slots : List ℕ) (i b : ℕ) (before new : Bool) → slots ≡ slots_of w p → length slots ≤ i → b < 768 * w

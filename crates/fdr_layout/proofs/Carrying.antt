@@ -7,6 +7,7 @@ use Rattle.std.specs.List.{All, filter, filter_map, cons_option, range_with_len,
 use Rattle.std.proofs.lemmas.Bool.{and_parts}
 use Rattle.std.proofs.lemmas.List.{map-append, append_assoc, take_more, length-map}
 use Rattle.std.proofs.lemmas.List.Elements.{All-head, All-tail, All-filter, All-map, filter_passes, filter_map-append}
+use Rattle.std.proofs.lemmas.Option.{slice_get_past}
 use Rattle.fdr_lists.proofs.Pieces.{All-flat_map-range}
 use Rattle.fdr_table.specs.Rows.{PlaceRow}
 use Rattle.fdr_table.specs.Ranges.{IsPlaceInRange}
@@ -17,7 +18,6 @@ use Rattle.fdr_check.proofs.Starting.{begins_low}
 use Rattle.fdr_layout.specs.Ranges.{LieInWord}
 use Rattle.fdr_layout.specs.Samples.{Carrier, carrier_of, Part, part_at}
 use Rattle.fdr_layout.specs.SlotParts.{SlotPart, parts_of_sample}
-use Rattle.fdr_layout.proofs.Bits.{none_past}
 
 -- the places of each part of the parameter have one width
 abbrev pub HaveOneWidth : List PlaceRow → ℕ → Type 0
@@ -130,7 +130,7 @@ pub no_part : (bits : List ℕ) (width shift i : ℕ) → length bits ≤ i
 no_part bits width shift i past =
     let made : ℕ → Occurrence = λ x. record { at = x; width = width } in
     let long = length-map bits made in
-    ap (option_map (λ (o : Occurrence). record { at = o.at; width = o.width; shift = shift })) (none_past (map made bits) i (omega arith))
+    ap (option_map (λ (o : Occurrence). record { at = o.at; width = o.width; shift = shift })) (slice_get_past (map made bits) i (omega arith))
 
 pub parts_more : (n i : ℕ) (carriers : List Carrier) (k : ℕ) (c : Carrier) (before old new : List SlotPart) → k < length carriers → c ≡ get_or carriers k c
     → old ≡ before ++ parts_of_sample n (filter_map (part_at i) (take k carriers)) → new ≡ old ++ parts_of_sample n (option_to_list (part_at i c))

@@ -1,7 +1,7 @@
 -- What a layout says of a cycle.
-use Rattle.std.proofs.Common.{eqb-true, ◌≡◌, ℕ, ◌+◌, ◌*◌, ◌/◌, ◌<◌, ◌≤◌, max, min, true, ◌==◌, List, [], ◌∷◌, length, zero, suc, ap, ◌∙◌, arith}
-use Rattle.std.specs.List.{All, range_with_len, flat_map, fold, enumerate_from}
-use Rattle.std.proofs.lemmas.List.Elements.{All-nil, All-cons, All-head, All-append, All-tail, All-map, All-weaker, filter_passes}
+use Rattle.std.proofs.Common.{eqb-true, ◌≡◌, ℕ, ◌+◌, ◌*◌, ◌/◌, ◌<◌, ◌≤◌, max, min, true, ◌==◌, List, [], ◌∷◌, length, ap, ◌∙◌, arith}
+use Rattle.std.specs.List.{All, range_with_len, fold, enumerate_from}
+use Rattle.std.proofs.lemmas.List.Elements.{All-nil, All-cons, All-head, All-map, All-weaker, filter_passes}
 use Rattle.std.proofs.lemmas.Nat.{le-div}
 use Rattle.std.proofs.Math.Nat.{div-lt_iff_lt-mul, div-mul-le_self}
 use Rattle.fdr_lists.proofs.Pieces.{All-flat_map, All-flat_map-range}
