@@ -1,4 +1,5 @@
 pub mod WordLemmas
+pub mod Labels
 pub mod ParseLemmas
 pub mod GoodRecords
 pub mod WholeRecords

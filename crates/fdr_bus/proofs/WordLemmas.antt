@@ -86,7 +86,7 @@ low_bit word m n low =
     ∙ ap (λ w. bit_at w n) (div-add-mod' word (2 ^ m))
     ∙ sym (shifted_bit word n)
 
-reversed_to-low : (word m n : ℕ) → n ≤ m → reversed_to (word % 2 ^ m) n ≡ reversed_to word n
+pub reversed_to-low : (word m n : ℕ) → n ≤ m → reversed_to (word % 2 ^ m) n ≡ reversed_to word n
 reversed_to-low word m zero low = reversed_to_none (word % 2 ^ m) ∙ sym (reversed_to_none word)
 reversed_to-low word m (suc n) low = omega (
   arith,

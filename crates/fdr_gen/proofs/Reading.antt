@@ -12,6 +12,7 @@ use Rattle.std.proofs.lemmas.List.FromFn.{get_or-range_with_len, length-range_wi
 use Rattle.std.proofs.lemmas.List.Sums.{AllPass-from_list_all}
 use Rattle.fdr_bus.specs.Words.{bits_at, is_odd, label_of, ones_to, reversed_to, sdi_of}
 use Rattle.fdr_bus.proofs.WordLemmas.{ones_to_more, ones_to_none, reversed_to_more, reversed_to_none, reverse_bits-low}
+use Rattle.fdr_bus.proofs.Labels.{label_fits, label_turns}
 use Rattle.fdr_gen.specs.Trace.{Sender, fields_of, bus_word_of}
 
 -- a label the other way round
@@ -63,28 +64,6 @@ low_bits f more none next low high k zero below = none (low + high * 2 ^ k) ∙ 
 low_bits f more none next low high k (suc n) below =
     next (low + high * 2 ^ k) n ∙ ap (λ x. more x ((low + high * 2 ^ k) / 2 ^ n % 2)) (low_bits f more none next low high k n (omega arith))
     ∙ ap (more (f low n)) (low_bit low high k n (omega arith)) ∙ sym (next low n)
-
--- a byte that is turned twice is what it was
-turns_back : list_all (λ x. reversed_to (reversed_to x 8) 8 == x) (range_with_len 0 256) ≡ true
-unfolding reversed_to
-turns_back = refl
-
-reversed_small : list_all (λ x. nat_lt (reversed_to x 8) 256) (range_with_len 0 256) ≡ true
-unfolding reversed_to
-reversed_small = refl
-
-for_byte : (p : ℕ → Bool) → list_all p (range_with_len 0 256) ≡ true → (x : ℕ) → x < 256 → p x ≡ true
-for_byte p all x low =
-    let inside : x < length (range_with_len 0 256) = omega (arith, length-range_with_len 0 256) in
-    let at : 0 + x ≡ x = omega arith in
-    ap p (sym (get_or-range_with_len 0 256 x x low ∙ at)) ∙ AllPass-from_list_all p (range_with_len 0 256) all x x inside
-
-label_turns : (label : ℕ) → label < 256 → reversed_to (reversed_to label 8) 8 ≡ label
-label_turns label low =
-    eqb-true (reversed_to (reversed_to label 8) 8) label (for_byte (λ x. reversed_to (reversed_to x 8) 8 == x) turns_back label low)
-
-reversed_fits : (label : ℕ) → label < 256 → reversed_to label 8 < 256
-reversed_fits label low = ltb-true (reversed_to label 8) 256 (for_byte (λ x. nat_lt (reversed_to x 8) 256) reversed_small label low)
 
 second_field : (a b c : ℕ) → a < 256 → b < 4 → (a + 256 * b + 1024 * c) / 256 % 4 ≡ b
 second_field a b c low two = omega arith
@@ -139,7 +118,7 @@ pub reads_sdi : (s : Sender) (number : ℕ) → s.label < 256 → s.sdi < 4 → 
 reads_sdi s number low two =
     let w = word_is s number in
     let top = w.0 in
-    let fits = reversed_fits s.label low in
+    let fits = label_fits s.label in
     let rest = bits_at number 11 21 in
     let parts : bus_word_of s number ≡ reversed_to s.label 8 + 256 * s.sdi + 1024 * (rest + top * 2 ^ 21) = omega (arith, w.2) in
     ap (λ x. x / 256 % 4) parts ∙ second_field (reversed_to s.label 8) s.sdi (rest + top * 2 ^ 21) fits two
@@ -149,7 +128,7 @@ pub reads_data : (s : Sender) (number : ℕ) → s.label < 256 → s.sdi < 4
 reads_data s number low two =
     let w = word_is s number in
     let top = w.0 in
-    let fits = reversed_fits s.label low in
+    let fits = label_fits s.label in
     let rest = bits_at number 11 21 in
     let parts : bus_word_of s number ≡ reversed_to s.label 8 + 256 * s.sdi + 1024 * (rest + 2 ^ 21 * top) = omega (arith, w.2) in
     ap (λ x. x / 2 ^ 10 % 2 ^ 21) parts
@@ -159,7 +138,7 @@ pub reads_odd : (s : Sender) (number : ℕ) → s.label < 256 → s.sdi < 4 → 
 unfolding bus_word_of
 reads_odd s number low two =
     let f = fields_of s number in
-    let label = reversed_fits s.label low in
+    let label = label_fits s.label in
     let bits = bits_fit number in
     let fits : f < 2 ^ 31 = omega arith in
     made_odd f fits

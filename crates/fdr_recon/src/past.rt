@@ -152,6 +152,7 @@ impl Rebuild {
 
     /// The value of a sample that ends in the last frame.
     #[tactic(auto, unfolding(crate::specs::Kept::kept_value, crate::specs::Rows::param_at))]
+    #[inline(always)]
     fn value(&self, sample: &Sample) -> i64
         requires of { IsSampleOf self.now.params (sample_in self.now.laid sample.now) }
         requires listed { IsListedSample self.now.laid sample.now }

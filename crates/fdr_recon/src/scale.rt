@@ -170,8 +170,17 @@ impl Scale {
     {
         match &self.small {
             Some(scale) => scale.value(raw),
-            None => self.param.value(raw),
+            None => self.divided(raw),
         }
+    }
+
+    /// The value as the table defines it, by a division. The call stays one: hardly a parameter needs it.
+    #[inline(never)]
+    fn divided(&self, raw: u32) -> i64
+        requires { raw < 2 ^ self.now.width }
+        ensures { result ≡ value_of self.now raw }
+    {
+        self.param.value(raw)
     }
 }
 

@@ -1,11 +1,14 @@
 -- Slots that have nothing are drawn at once.
-use Rattle.std.proofs.Common.{◌≡◌, ℕ, zero, suc, ◌+◌, ◌*◌, ◌%◌, ◌<◌, ◌≤◌, ⊎_elim, List, [], length, set, get_or, replicate, get_or-set_same, get_or-set_other}
+use Rattle.std.proofs.Common.{◌≡◌, ℕ, zero, suc, ◌+◌, ◌-◌, ◌*◌, ◌%◌, ◌==◌, true, false}
+use Rattle.std.proofs.Common.{◌<◌, ◌≤◌, ⊎_elim, List, [], length, set, get_or, replicate, get_or-set_same, get_or-set_other}
 use Rattle.std.proofs.Common.{refl, sym, ap, ◌∙◌, subst, arith}
-use Rattle.std.specs.Prelude.{slice_index}
-use Rattle.std.proofs.lemmas.Bool.{cases_eq, cases_lt}
+use Rattle.std.specs.Prelude.{if◌then◌else◌, slice_index}
+use Rattle.std.proofs.lemmas.Bool.{cases_eq, cases_lt, false≢true}
+use Rattle.std.proofs.lemmas.Nat.{mod_below}
+use Rattle.std.proofs.Math.Nat.{mod-add-mod, mod_self, zero-mod}
 use Rattle.fdr_frame.specs.declared.SlotKind.{SlotKind}
 use Rattle.fdr_frame.specs.declared.SlotKind.TheVariants.{Sync, Counter, Plain}
-use Rattle.fdr_frame.specs.Slots.{frame_of, kind_of, subframe_of, sync_word}
+use Rattle.fdr_frame.specs.Slots.{frame_of, kind_of, is_counter, subframe_of, sync_word}
 use Rattle.fdr_table.specs.Rows.{FrameRow}
 use Rattle.fdr_layout.specs.SlotParts.{SlotPart, Laid}
 use Rattle.fdr_sampler.specs.Empty.{IsEmptySlot, HasEmptyRun, IsEmptyRun}
@@ -46,6 +49,53 @@ run_none f l slot taken =
       ends = λ inside empty. taken (subst (IsEmptySlot f l) here empty);
     }
 
+-- the first slot of a superframe has a sync word
+first_taken : (f : FrameRow) (l : Laid) → IsEmptySlot f l 0 → ⊥
+first_taken f l empty =
+    let first : kind_of f.words f.cword f.csub 0 ≡ Sync =
+    ap (λ x. if (x + 1) == 1 then Sync else (if is_counter f.words f.cword f.csub 0 then Counter else Plain)) (zero-mod f.words) in
+    false≢true (ap (λ (kind : SlotKind). elim kind [
+      | Sync ↦ false
+      | Counter ↦ false
+      | Plain ↦ true
+    ]) (sym first ∙ empty.plain))
+
+pub run_first : (f : FrameRow) (l : Laid) (slot : ℕ) → slot ≡ 0 → IsEmptyRun f l slot 0
+run_first f l slot first = subst (λ k. IsEmptyRun f l k 0) (sym first) (run_none f l 0 (first_taken f l))
+
+-- a run that reaches the end of the superframe ends there
+run_end : (f : FrameRow) (l : Laid) (slot run n : ℕ) → IsEmptyRun f l slot run → n ≤ run → slot < 64 * f.words → 64 * f.words ≤ slot + n
+    → (slot + n ≡ 64 * f.words) × (run - n ≡ 0)
+run_end f l slot run zero is few below past = absurd (omega (arith, below, past))
+run_end f l slot run (suc n) is few below past =
+    let last = (is.slots n (omega (arith, few))).0 in
+    ⊎_elim
+    (λ (more : suc n < run). let next = (is.slots (suc n) more).0 in absurd (omega (arith, next, past)))
+    (λ (all : run ≤ suc n). (omega (arith, last, past), omega (arith, all, few)))
+    (cases_lt (suc n) run)
+
+-- what is left of a run after some of its slots
+pub run_rest : (f : FrameRow) (l : Laid) (k run n : ℕ) → 0 < f.words → IsEmptyRun f l (slot_within f.words k) run → n ≤ run
+    → IsEmptyRun f l (slot_within f.words (k + n)) (run - n)
+run_rest f l k run n some is few =
+    let w = f.words in
+    let slot = slot_within w k in
+    ⊎_elim
+    (λ (inside : slot + n < 64 * w).
+    let last : slot + n + (run - n) ≡ slot + run = omega (arith, few) in
+    subst (λ m. IsEmptyRun f l m (run - n)) (sym (within_more w k n inside)) (record {
+      slots = λ j less.
+          let at = is.slots (n + j) (omega (arith, less)) in
+          let there : slot + (n + j) ≡ slot + n + j = omega arith in
+          (omega (arith, at.0), subst (IsEmptySlot f l) there at.1);
+      ends = λ within empty. is.ends (omega (arith, within, last)) (subst (IsEmptySlot f l) last empty);
+    }))
+    (λ (past : 64 * w ≤ slot + n).
+    let end = run_end f l slot run n is few (mod_below k (64 * w) (omega arith)) past in
+    let next : slot_within w (k + n) ≡ 0 = sym (mod-add-mod k (64 * w) n) ∙ ap (λ x. x % (64 * w)) end.0 ∙ mod_self (64 * w) in
+    subst (IsEmptyRun f l (slot_within w (k + n))) (sym end.1) (run_first f l (slot_within w (k + n)) next))
+    (cases_lt (slot + n) (64 * w))
+
 -- past the superframe's last slot
 pub run_past : (f : FrameRow) (l : Laid) (slot run : ℕ) → run ≡ 0 → 64 * f.words ≤ slot → IsEmptyRun f l slot run
 run_past f l slot run none past = record {
@@ -66,7 +116,7 @@ run_put f l runs slot run room here each k from =
     (λ (other : k ≡ slot → ⊥). subst (IsEmptyRun f l k) (sym (get_or-set_other runs slot k run 0 other)) (each k (after k slot from other)))
     (cases_eq k slot)
 
-zeros_read : (n k : ℕ) → ◌≡◌ {A = ℕ} (get_or (replicate n 0) k 0) 0
+pub zeros_read : (n k : ℕ) → ◌≡◌ {A = ℕ} (get_or (replicate n 0) k 0) 0
 zeros_read zero k = refl
 zeros_read (suc n) zero = refl
 zeros_read (suc n) (suc k) = zeros_read n k

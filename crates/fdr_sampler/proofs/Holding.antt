@@ -1,79 +1,150 @@
--- A bus word is held for the sources that it is from, one number after another.
-use Rattle.std.proofs.Common.{◌≡◌, ℕ, ◌+◌, ◌<◌, ◌≤◌, ⊎_elim, false, List, Some, length, get_or, set, refl, sym, ap, ◌∙◌, subst, get_or-set_same}
-use Rattle.std.proofs.Common.{get_or-set_other, arith}
-use Rattle.std.specs.Prelude.{Contains, slice_get, slice_index}
-use Rattle.std.proofs.lemmas.Bool.{cases_eq, cases_Bool, cond-true, cond-false}
+-- A bus word is held for the sources that it is from.
+use Rattle.std.proofs.Common.{◌≡◌, ℕ, ◌+◌, ◌*◌, ◌%◌, ◌<◌, ◌≤◌, ◌⊎◌, inl, inr, ⊎_elim, not}
+use Rattle.std.proofs.Common.{◌==◌, ◌&&◌, Bool, true, false, List, Option, Some, None, length, get_or, set}
+use Rattle.std.proofs.Common.{refl, sym, ap, subst, ◌∙◌, zero-add, get_or-set_same, get_or-set_other, arith}
+use Rattle.std.specs.Prelude.{slice_get, slice_index}
+use Rattle.std.specs.List.{enumerate_from}
+use Rattle.std.specs.Option.{option_map_or}
+use Rattle.std.proofs.lemmas.Bool.{cases_eq, cases_Bool, cond-true, cond-false, both_ways, and_parts, and_from, eqb-true, eq-eqb}
+use Rattle.std.proofs.lemmas.List.{get_or-map, length-set}
+use Rattle.std.proofs.lemmas.List.FromFn.{length-enumerate_from, get_or-enumerate_from}
+use Rattle.std.proofs.lemmas.Option.{slice_get_within, get_or_from_slice_get}
 use Rattle.fdr_bus.specs.declared.BusRecord.{BusRecord}
+use Rattle.fdr_bus.specs.declared.RecordKind.{RecordKind}
+use Rattle.fdr_bus.specs.declared.RecordKind.TheVariants.{Word, End}
+use Rattle.fdr_bus.specs.Records.{is_end}
+use Rattle.fdr_bus.specs.Words.{bits_at, is_odd, label_of, sdi_of}
+use Rattle.fdr_bus.proofs.Labels.{label_fits, label_of-low, label_turns}
 use Rattle.fdr_sampler.specs.Held.{Source, is_from}
+use Rattle.fdr_sampler.specs.HeldWords.{place_of, number_held, held_numbers, own_word, AreHeldWords}
 use Rattle.fdr_sampler.specs.Kept.{number_held_after}
 
--- the word is held for the sources of the first i numbers, and another turn changes nothing for those
-pub record IsHeldTo (sources : List Source) (numbers : List ℕ) (r : BusRecord) (before after : List ℕ) (i : ℕ) : Type 0 where
-  pub found : (k : ℕ) (d : ℕ) (s : Source) → k < i → slice_get sources (get_or numbers k d) ≡ Some s →
-      slice_index after (get_or numbers k d) ≡ number_held_after s r (slice_index before (get_or numbers k d))
-  pub again : (n : ℕ) (s : Source) → slice_get sources n ≡ Some s → number_held_after s r (slice_index after n) ≡ number_held_after s r (slice_index before n)
+-- ---- the number of a source
 
-twice : (s : Source) (r : BusRecord) (n : ℕ) → number_held_after s r (number_held_after s r n) ≡ number_held_after s r n
-twice s r n = ⊎_elim
-    (λ from. cond-true _ _ _ from ∙ sym (cond-true _ _ _ from))
-    (λ other. cond-false _ _ _ other)
+pub number_at : (sources : List Source) (places words : List ℕ) (n : ℕ) (s : Source) → slice_get sources n ≡ Some s
+    → slice_index (held_numbers sources places words).numbers n ≡ number_held places words (n, s)
+number_at sources places words n s got =
+    let within = slice_get_within sources n s got in
+    let all = enumerate_from 0 sources in
+    let here : get_or all n (n, s) ≡ (n, s) =
+    get_or-enumerate_from 0 sources n (n, s) within ∙ ap (λ m. (m, get_or sources n s)) (zero-add n)
+    ∙ ap (λ x. (n, x)) (get_or_from_slice_get sources n s s got) in
+    get_or-map (number_held places words) all n (n, s) 0 (omega (arith, length-enumerate_from 0 sources, within)) ∙ ap (number_held places words) here
+
+-- ---- which sources a word is from
+
+-- the word has the SDI that the source asks for
+abbrev fits_sdi : Option ℕ → ℕ → Bool
+fits_sdi asked sdi = option_map_or (λ x. sdi == x) asked true
+
+from_parts : (s : Source) (r : BusRecord) → is_from s r ≡ true
+    → (is_odd r.word ≡ true) × (place_of s ≡ r.bus * 256 + r.word % 256) × (fits_sdi s.sdi (sdi_of r.word) ≡ true)
+from_parts s r from =
+    let all = and_parts (not (is_end r) && is_odd r.word && (r.bus == s.bus) && (label_of r.word == s.label)) (fits_sdi s.sdi (sdi_of r.word)) from in
+    let with_label = and_parts (not (is_end r) && is_odd r.word && (r.bus == s.bus)) (label_of r.word == s.label) all.0 in
+    let with_bus = and_parts (not (is_end r) && is_odd r.word) (r.bus == s.bus) with_label.0 in
+    let bus : r.bus ≡ s.bus = eqb-true r.bus s.bus with_bus.1 in
+    let label : label_of r.word ≡ s.label = eqb-true (label_of r.word) s.label with_label.1 in
+    let turned : label_of s.label ≡ r.word % 256 =
+    ap label_of (sym label ∙ label_of-low r.word) ∙ label_turns (r.word % 256) (omega arith) in
+    let place : place_of s ≡ r.bus * 256 + r.word % 256 = omega (arith, bus, turned) in
+    ((and_parts (not (is_end r)) (is_odd r.word) with_bus.0).1, place, all.1)
+
+from_by : (s : Source) (r : BusRecord) → r.kind ≡ Word → is_odd r.word ≡ true → place_of s ≡ r.bus * 256 + r.word % 256 → s.label < 256
+    → fits_sdi s.sdi (sdi_of r.word) ≡ true → is_from s r ≡ true
+from_by s r kind odd place low sdi =
+    let few = label_fits s.label in
+    let bus : r.bus ≡ s.bus = omega (arith, place, few) in
+    let turned : r.word % 256 ≡ label_of s.label = omega (arith, place, few) in
+    let label : label_of r.word ≡ s.label = label_of-low r.word ∙ ap label_of turned ∙ label_turns s.label low in
+    let word : not (elim r.kind [ Word ↦ false | End ↦ true ]) ≡ true = ap (λ (k : RecordKind). not (elim k [ Word ↦ false | End ↦ true ])) kind in
+    and_from _ _ (and_from _ _ (and_from _ _ (and_from _ _ word odd) (eq-eqb _ _ bus)) (eq-eqb _ _ label)) sdi
+
+-- ---- where a source has its word
+
+own_of : (asked : Option ℕ) (sdi : ℕ) → fits_sdi asked sdi ≡ true → (own_word asked ≡ sdi) ⊎ (own_word asked ≡ 4)
+own_of None sdi fits = inr refl
+own_of (Some x) sdi fits = inl (sym (eqb-true sdi x fits))
+
+fits_any : (asked : Option ℕ) (sdi : ℕ) → ((x : ℕ) → asked ≡ Some x → x < 4) → own_word asked ≡ 4 → fits_sdi asked sdi ≡ true
+fits_any None sdi low is = refl
+fits_any (Some x) sdi low is = absurd (omega (arith, low x refl, is))
+
+fits_own : (asked : Option ℕ) (sdi : ℕ) → own_word asked ≡ sdi → fits_sdi asked sdi ≡ true
+fits_own None sdi is = refl
+fits_own (Some x) sdi is = eq-eqb sdi x (sym is)
+
+-- a word that is put in two places
+put_there : (words : List ℕ) (i j v k : ℕ) → i < length words → j < length words → (k ≡ i) ⊎ (k ≡ j) → slice_index (set (set words i v) j v) k ≡ v
+put_there words i j v k room also at =
+    ⊎_elim
+    (λ (last : k ≡ j). subst (λ m. slice_index (set (set words i v) j v) m ≡ v) (sym last)
+    (get_or-set_same (set words i v) j v 0 (omega (arith, also, length-set words i v))))
+    (λ (other : k ≡ j → ⊥). get_or-set_other (set words i v) j k v 0 other
+    ∙ ⊎_elim (λ (first : k ≡ i). subst (λ m. slice_index (set words i v) m ≡ v) (sym first) (get_or-set_same words i v 0 room))
+    (λ (last : k ≡ j). absurd (other last)) at)
+    (cases_eq k j)
+
+put_elsewhere : (words : List ℕ) (i j v k : ℕ) → (k ≡ i → ⊥) → (k ≡ j → ⊥) → slice_index (set (set words i v) j v) k ≡ slice_index words k
+put_elsewhere words i j v k not_first not_last = get_or-set_other (set words i v) j k v 0 not_last ∙ get_or-set_other words i k v 0 not_first
+
+-- where the words of a bus word's bus and label begin: those of none, where it doesn't count
+pub record Begins (starts : List ℕ) (r : BusRecord) (start : ℕ) : Type 0 where
+  pub odd : is_odd r.word ≡ true → start ≡ slice_index starts (r.bus * 256 + r.word % 256)
+  pub even : is_odd r.word ≡ false → start ≡ 0
+
+begins_within : (sources : List Source) (places starts : List ℕ) (count : ℕ) (r : BusRecord) (start : ℕ) → AreHeldWords sources places starts count
+    → Begins starts r start → (start + 5 ≤ count) × (start % 5 ≡ 0)
+begins_within sources places starts count r start are at =
+    let k = r.bus * 256 + r.word % 256 in
+    ⊎_elim
+    (λ odd. (omega (arith, at.odd odd, are.begin.within k), omega (arith, at.odd odd, are.begin.fives k)))
+    (λ even. (omega (arith, at.even even, are.begin.within k), omega (arith, at.even even)))
+    (cases_Bool (is_odd r.word))
+
+-- a source whose word is one of those is from that bus and label
+same_begin : (sources : List Source) (places starts : List ℕ) (count : ℕ) (r : BusRecord) (start n k : ℕ) (s : Source)
+    → AreHeldWords sources places starts count → Begins starts r start → slice_get sources n ≡ Some s → k < 5 → slice_index places n ≡ start + k
+    → (own_word s.sdi ≡ k) × (is_odd r.word ≡ true) × (place_of s ≡ r.bus * 256 + r.word % 256)
+same_begin sources places starts count r start n k s are at got few is =
+    let has = are.words n s got in
+    let fives = are.begin.fives (place_of s) in
+    let whole = (begins_within sources places starts count r start are at).1 in
+    let same : slice_index starts (place_of s) ≡ start = omega (arith, has.at, has.own, fives, whole, is) in
+    let own : own_word s.sdi ≡ k = omega (arith, has.at, same, is) in
+    ⊎_elim
+    (λ odd. (own, odd, are.begin.apart (place_of s) (r.bus * 256 + r.word % 256) has.begun (same ∙ at.odd odd)))
+    (λ even. absurd (omega (arith, has.begun, same, at.even even)))
+    (cases_Bool (is_odd r.word))
+
+-- A word that is put in the word of its SDI and in the one of any SDI is held for the sources that it is from, and for no
+-- others.
+pub holds : (sources : List Source) (places starts words : List ℕ) (r : BusRecord) (start sdi : ℕ) → AreHeldWords sources places starts (length words)
+    → Begins starts r start → r.kind ≡ Word → sdi < 4 → sdi ≡ sdi_of r.word → (n : ℕ) (s : Source) → slice_get sources n ≡ Some s
+    → slice_index (held_numbers sources places (set (set words (start + sdi) r.word) (start + 4) r.word)).numbers n
+    ≡ number_held_after s r (slice_index (held_numbers sources places words).numbers n)
+holds sources places starts words r start sdi are at kind low sdi_is n s got =
+    let has = are.words n s got in
+    let count = length words in
+    let room = (begins_within sources places starts count r start are at).0 in
+    let after = set (set words (start + sdi) r.word) (start + 4) r.word in
+    let field : ℕ → ℕ = λ word. bits_at word s.lsb s.width in
+    let place = slice_index places n in
+    number_at sources places after n s got ∙ ⊎_elim
+    (λ (from : is_from s r ≡ true).
+    let parts = from_parts s r from in
+    let begin : start ≡ slice_index starts (place_of s) = at.odd parts.0 ∙ ap (slice_index starts) (sym parts.1) in
+    let there : (place ≡ start + sdi) ⊎ (place ≡ start + 4) =
+    ⊎_elim (λ own. inl (omega (arith, own, begin, has.at, sdi_is))) (λ any. inr (omega (arith, any, begin, has.at)))
+    (own_of s.sdi (sdi_of r.word) parts.2) in
+    ap field (put_there words (start + sdi) (start + 4) r.word place (omega (arith, room)) (omega (arith, room)) there) ∙ sym (cond-true _ _ _ from))
+    (λ (other : is_from s r ≡ false).
+    let not_own : place ≡ start + sdi → ⊥ = λ is.
+    let b = same_begin sources places starts count r start n sdi s are at got (omega (arith, low)) is in
+    both_ways (is_from s r) other (from_by s r kind b.1 b.2 has.label (fits_own s.sdi (sdi_of r.word) (b.0 ∙ sdi_is))) in
+    let not_any : place ≡ start + 4 → ⊥ = λ is.
+    let b = same_begin sources places starts count r start n 4 s are at got (omega arith) is in
+    both_ways (is_from s r) other (from_by s r kind b.1 b.2 has.label (fits_any s.sdi (sdi_of r.word) has.two_bits b.0)) in
+    ap field (put_elsewhere words (start + sdi) (start + 4) r.word place not_own not_any) ∙ sym (number_at sources places words n s got)
+    ∙ sym (cond-false _ _ _ other))
     (cases_Bool (is_from s r))
-
--- the same where it is held for the source of one more number
-at_source : (sources : List Source) (r : BusRecord) (before after : List ℕ) (m : ℕ) (t : Source) →
-    ((n : ℕ) (s : Source) → slice_get sources n ≡ Some s → number_held_after s r (slice_index after n) ≡ number_held_after s r (slice_index before n)) →
-    slice_get sources m ≡ Some t → m < length after →
-    (s : Source) → slice_get sources m ≡ Some s → slice_index (set after m (number_held_after t r (slice_index after m))) m ≡ number_held_after s r
-    (slice_index before m)
-at_source sources r before after m t again is room s got =
-    let same : t ≡ s = cc in
-    get_or-set_same after m (number_held_after t r (slice_index after m)) 0 room ∙ ap (λ (x : Source). number_held_after x r (slice_index after m)) same
-    ∙ again m s got
-
-below_here : (k i : ℕ) → (k ≡ i → ⊥) → k < i + 1 → k < i
-below_here k i other l = omega arith
-
-get_or-set_other' : (xs : List ℕ) (m n v : ℕ) → (n ≡ m → ⊥) → slice_index (set xs m v) n ≡ slice_index xs n
-get_or-set_other' xs m n v other = rw get_or-set_other refl
-
-pub IsHeldTo-more : (sources : List Source) (numbers : List ℕ) (r : BusRecord) (before after : List ℕ) (i e : ℕ) (t : Source) →
-    ((d : ℕ) → get_or numbers i d ≡ e) → slice_get sources e ≡ Some t → e < length after →
-    IsHeldTo sources numbers r before after i → IsHeldTo sources numbers r before (set after e (number_held_after t r (slice_index after e)))
-    (i + 1)
-IsHeldTo-more sources numbers r before after i e t here is room held =
-    let now : (s : Source) → slice_get sources e ≡ Some s
-    → slice_index (set after e (number_held_after t r (slice_index after e))) e ≡ number_held_after s r (slice_index before e) =
-    at_source sources r before after e t held.again is room in
-    let later = set after e (number_held_after t r (slice_index after e)) in
-    record {
-      found = λ k d s l got. ⊎_elim
-          (λ (at : get_or numbers k d ≡ e).
-          subst (λ m. slice_index later m ≡ number_held_after s r (slice_index before m)) (sym at) (now s (ap (slice_get sources) (sym at) ∙ got)))
-          (λ (other : get_or numbers k d ≡ e → ⊥).
-          let earlier : k < i = below_here k i (λ m. other (ap (λ n. get_or numbers n d) m ∙ here d)) l in
-          get_or-set_other' after e (get_or numbers k d) (number_held_after t r (slice_index after e)) other
-          ∙ held.found k d s earlier got)
-          (cases_eq (get_or numbers k d) e);
-      again = λ n s got. ⊎_elim
-          (λ (at : n ≡ e).
-          subst (λ m. number_held_after s r (slice_index later m) ≡ number_held_after s r (slice_index before m)) (sym at)
-          (ap (number_held_after s r) (now s (ap (slice_get sources) (sym at) ∙ got)) ∙ twice s r (slice_index before e)))
-          (λ (other : n ≡ e → ⊥).
-          ap (number_held_after s r) (get_or-set_other' after e n (number_held_after t r (slice_index after e)) other) ∙ held.again n s got)
-          (cases_eq n e);
-    }
-
--- so it is held for the source of each number
-pub held_for_all : (sources : List Source) (numbers : List ℕ) (r : BusRecord) (before after : List ℕ) (i : ℕ) → length numbers ≤ i →
-    IsHeldTo sources numbers r before after i → (n : ℕ) (s : Source) → Contains numbers n → slice_get sources n ≡ Some s
-    → slice_index after n ≡ number_held_after s r (slice_index before n)
-held_for_all sources numbers r before after i all held n s has got =
-    subst (λ m. slice_index after m ≡ number_held_after s r (slice_index before m)) has.2
-    (held.found has.0 n s (omega (arith, has.1)) (ap (slice_get sources) has.2 ∙ got))
-
--- and for no source that it isn't from
-pub held_for_no_other : (sources : List Source) (numbers : List ℕ) (r : BusRecord) (before after : List ℕ) (i : ℕ)
-    → IsHeldTo sources numbers r before after i →
-    (n : ℕ) (s : Source) → slice_get sources n ≡ Some s → is_from s r ≡ false → slice_index after n ≡ slice_index before n
-held_for_no_other sources numbers r before after i held n s got other =
-    sym (cond-false _ _ _ other) ∙ held.again n s got ∙ cond-false _ _ _ other

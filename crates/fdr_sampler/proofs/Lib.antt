@@ -1,6 +1,6 @@
 pub mod Lists
 pub mod Holding
-pub mod Indexing
+pub mod Beginning
 pub mod DataWords
 pub mod Drawing
 pub mod Superframes

@@ -26,6 +26,7 @@ pub record SamplerKept : Type 0 where
 
 -- what holds of every value
 pub record IsSamplerKept (k : SamplerKept) : Type 0 where
+  pub words : 0 < k.frame.words
   pub slots : length k.laid.slots ≡ 64 * k.frame.words
   pub params : All (λ (s : Sample). s.param < length k.sources) k.laid.samples
   pub held : length k.held ≡ length k.sources

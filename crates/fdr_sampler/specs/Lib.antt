@@ -1,5 +1,5 @@
 pub mod Held
-pub mod Index
+pub mod HeldWords
 pub mod SlotWord
 pub mod Stream
 pub mod Kept

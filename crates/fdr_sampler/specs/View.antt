@@ -5,9 +5,9 @@ use Rattle.fdr_sampler.specs.Kept.{SamplerKept}
 abbrev pub sampler_kept : Inside → SamplerKept
 sampler_kept s = record {
   frame = s.frame;
-  sources = s.sources;
+  sources = s.held.sources;
   laid = s.schedule;
-  held = s.held.items;
+  held = s.held.numbers;
   raws = s.raws.items;
   drawn = s.drawn;
 }

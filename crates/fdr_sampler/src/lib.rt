@@ -7,7 +7,7 @@
 #![tactic(auto)]
 
 mod empty;
-mod index;
+mod held_words;
 mod law;
 mod owners;
 mod pieces;

@@ -7,6 +7,7 @@ ghost use Rattle.fdr_layout.specs.SlotParts.{plain_parts};
 ghost use Rattle.fdr_sampler.specs.Held.{first_part_slot};
 ghost use Rattle.fdr_sampler.specs.Kept.{slot_parts, HaveValues, IsDrawn};
 
+use crate::held_words::HeldWords;
 use crate::schedule::{Schedule, Step};
 use fdr_bits::put_bits;
 use fdr_check::push;
@@ -47,15 +48,15 @@ pub(crate) fn first_slots(alloc: Global, layout: &Layout) -> Result<Vec<u32>, No
 }
 
 /// The raw value of the sample of a step: it is kept from the slot that the sample begins in.
-fn value_at(step: &Step, held: &[u32], raws: &mut [u32]) -> u32
-    requires param { step.now.param < length held.now }
+fn value_at(step: &Step, held: &HeldWords, raws: &mut [u32]) -> u32
+    requires param { step.now.param < length held.now.sources }
     requires number { step.now.sample < length raws.old }
-    ensures value { result ≡ (if step.now.begins then slice_index held.now step.now.param else slice_index raws.old step.now.sample) }
+    ensures value { result ≡ (if step.now.begins then slice_index held.now.numbers step.now.param else slice_index raws.old step.now.sample) }
     ensures kept { raws.new ≡ slice_set raws.old step.now.sample result }
 {
     let number = step.sample as usize;
     if step.begins {
-        raws[number] = held[step.param as usize];
+        raws[number] = held.number(step.param);
     }
     raws[number]
 }
@@ -79,11 +80,11 @@ fn with_piece(word: u16, step: &Step, raw: u32) -> u16
 }
 
 /// The pieces of the parts in a slot of the superframe, with 0 in all other bits.
-pub(crate) fn data_word(schedule: &Schedule, slot: u32, held: &[u32], raws: &mut [u32]) -> u16
+pub(crate) fn data_word(schedule: &Schedule, slot: u32, held: &HeldWords, raws: &mut [u32]) -> u16
     requires slot { slot < length schedule.now.slots }
-    requires params { All (λ s. s.param < length held.now) schedule.now.samples }
+    requires params { All (λ s. s.param < length held.now.sources) schedule.now.samples }
     requires raws { length raws.old ≡ length schedule.now.samples }
-    ensures drawn { (value : ℕ → ℕ) → HaveValues value schedule.now slot held.now raws.old →
+    ensures drawn { (value : ℕ → ℕ) → HaveValues value schedule.now slot held.now.numbers raws.old →
         IsDrawn value (slot_parts schedule.now slot) raws.old raws.new result }
     ensures twelve_bits { result < 4096 }
 {

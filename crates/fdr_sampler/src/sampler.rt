@@ -11,7 +11,7 @@ ghost use Rattle.fdr_sampler.specs.Past.{SamplerPast, sampler_made, sampler_with
 ghost use Rattle.fdr_sampler.specs.Stream.{slot_count};
 
 use crate::empty::empty_runs;
-use crate::index::Sources;
+use crate::held_words::HeldWords;
 use crate::pieces::data_word;
 use crate::schedule::Schedule;
 use fdr_bus::BusRecord;
@@ -28,11 +28,11 @@ use std::marker::Model;
 #[derive(Drop)]
 pub struct Sampler {
     frame: Frame,
-    sources: Sources,
+    held: HeldWords,
     schedule: Schedule,
-    // How many empty slots follow one another from each slot on.
+    // How many empty slots follow one another from each slot on, and from the next one.
     empty_runs: Vec<u32>,
-    held: Vec<u32>,
+    empty_next: u32,
     raws: Vec<u32>,
     drawn: u64,
 }
@@ -42,12 +42,14 @@ impl Model for Sampler {
 
     ghost Value = { SamplerKept };
 
-    ghost use Rattle.fdr_sampler.specs.Empty.{AreEmptyRuns};
+    ghost use Rattle.fdr_sampler.specs.Empty.{AreEmptyRuns, IsEmptyRun};
+    ghost use Rattle.fdr_sampler.specs.SlotWord.{slot_within};
     ghost use Rattle.fdr_sampler.specs.View.{sampler_kept};
 
     ghost view = { sampler_kept };
 
-    ghost invariant = { λ s. IsSamplerKept (sampler_kept s) × AreEmptyRuns s.frame s.schedule s.empty_runs.items };
+    ghost invariant = { λ s. IsSamplerKept (sampler_kept s) × AreEmptyRuns s.frame s.schedule s.empty_runs.items
+        × IsEmptyRun s.frame s.schedule (slot_within s.frame.words s.drawn) s.empty_next };
 }
 
 impl Sampler {
@@ -84,7 +86,7 @@ impl Sampler {
         requires { (past : SamplerPast) × RepresentsSampler self.old past × MayTake past r.now }
         ensures { (past : SamplerPast) → RepresentsSampler self.old past → MayTake past r.now → RepresentsSampler self.new (sampler_with_record past r.now) }
     {
-        self.sources.hold(&mut self.held, r);
+        self.held.hold(r);
     }
 
     /// The word of the next slot. A recording has at most 1,474,560,000. Takes no memory.
@@ -99,6 +101,7 @@ impl Sampler {
         let plain = data_word(&self.schedule, slot, &self.held, &mut self.raws);
         let word = word_with(frame, self.drawn, plain);
         self.drawn += 1;
+        self.empty_next = self.empty_runs[slot_within(frame, self.drawn) as usize];
         word
     }
 
@@ -114,8 +117,8 @@ impl Sampler {
             → IsEmptySlot past.table.frame (laid_of past.table) (slot_within past.table.frame.words past.drawn + result) → ⊥ }
         ensures stands { (past : SamplerPast) → RepresentsSampler self.old past → RepresentsSampler self.new (sampler_with_words past result) }
     {
-        let slot = slot_within(self.frame, self.drawn);
-        let count = self.empty_runs[slot as usize].min(most);
+        let count = self.empty_next.min(most);
+        self.empty_next -= count;
         self.drawn += u64::from(count);
         count
     }
@@ -127,22 +130,22 @@ impl Sampler {
         layout: Layout,
     ) -> Result<Sampler, NoMemory>
         requires slots { length layout.slots ≡ 64 * frame.words }
-        requires within_u32 { length params.now < 2 ^ 32 }
+        requires few { length params.now ≤ 2 ^ 24 }
         requires owners { owners_of params.now ≡ map (λ (s : Sample). s.param) layout.samples }
         requires params { All (λ s. s.param < length params.now) layout.samples }
         ensures { IfOk result (λ s. s ≡ sampler_at_start frame params.now layout) }
     {
-        let sources = Sources::of(alloc, params)?;
+        let held = HeldWords::of(alloc, params)?;
         let empty_runs = empty_runs(alloc, frame, &layout)?;
-        let held = zeros(alloc, params.len())?;
         let raws = zeros(alloc, layout.samples() as usize)?;
         let schedule = Schedule::of(alloc, layout, params, 64 * frame.words)?;
         Ok(Sampler {
             frame,
-            sources,
+            held,
             schedule,
             empty_runs,
-            held,
+            // A superframe begins with a sync word.
+            empty_next: 0,
             raws,
             drawn: 0,
         })

@@ -1,16 +1,17 @@
 //! Where the parameters come from.
 
-ghost use Rattle.std.specs.Prelude.{◌≡◌, ◌<◌, ◌+◌, ◌*◌, IfOk, map, true};
-ghost use Rattle.fdr_bus.specs.declared.RecordKind.TheVariants.{Word};
-ghost use Rattle.fdr_bus.specs.Words.{bits_at, is_odd, label_of};
-ghost use Rattle.fdr_sampler.specs.Held.{Source, source_of, is_from};
-ghost use Rattle.fdr_sampler.specs.Index.{bus_labels, place_of};
-ghost use Rattle.fdr_sampler.specs.Kept.{number_held_after};
+ghost use Rattle.std.specs.Prelude.{◌≡◌, ◌<◌, ◌+◌, ◌*◌, ℕ, IfOk, Some, map};
+ghost use Rattle.fdr_bus.specs.Words.{bits_at};
+ghost use Rattle.fdr_sampler.specs.Held.{Source, source_of};
+ghost use Rattle.fdr_sampler.specs.HeldWords.{bus_labels, own_word, place_of};
 
-use fdr_bus::{BusRecord, field, sdi};
+use fdr_bus::{field, label};
 use fdr_table::{NoMemory, Param};
 use std::alloc::Global;
 use std::marker::Model;
+
+/// Which of the five words that are held of a bus and a label is of any SDI; the others are of SDI 0 to 3.
+pub(crate) const ANY_SDI: u32 = 4;
 
 /// Where a parameter comes from: the words of a bus, and the field in them that has its raw number.
 #[derive(Drop)]
@@ -23,14 +24,15 @@ pub(crate) struct Source {
 }
 
 impl Model for Source {
-    ghost use Rattle.std.specs.Prelude.{◌+◌, ◌≤◌};
+    ghost use Rattle.std.specs.Prelude.{◌+◌, ◌≤◌, IsTrue, nat_le, true};
+    ghost use Rattle.std.specs.Option.{option_map_or};
     ghost use Rattle.fdr_sampler.specs.Held.{Source};
 
     ghost Value = { Source };
 
     ghost view = { λ s. record { bus = s.bus; label = s.label; sdi = s.sdi; lsb = s.lsb; width = s.width } };
 
-    ghost invariant = { λ s. (1 ≤ s.lsb) × (1 ≤ s.width) × (s.lsb + s.width ≤ 33) };
+    ghost invariant = { λ s. (1 ≤ s.lsb) × (1 ≤ s.width) × (s.lsb + s.width ≤ 33) × IsTrue (option_map_or (λ sdi. nat_le sdi 3) s.sdi true) };
 }
 
 impl Source {
@@ -47,57 +49,41 @@ impl Source {
         }
     }
 
-    /// Whether a bus word of odd parity, which has this label, is the source's. Words of even parity are nobody's.
-    fn sends(&self, r: &BusRecord, label: u8) -> bool
-        requires kind { r.now.kind ≡ Word }
-        requires odd { is_odd r.now.word ≡ true }
-        requires label { label ≡ label_of r.now.word }
-        ensures { result ≡ is_from self.now r.now }
-    {
-        r.bus == self.bus
-            && label == self.label
-            && match self.sdi {
-                Some(wanted) => sdi(r.word) == wanted,
-                None => true,
-            }
-    }
-
     /// The raw number in a bus word.
-    fn raw(&self, word: u32) -> u32
+    pub(crate) fn raw(&self, word: u32) -> u32
         ensures { result ≡ bits_at word self.now.lsb self.now.width }
     {
         field(word, self.lsb, self.width)
     }
 
-    /// The raw number that is held after a bus word of odd parity, which has this label, where `before` was held.
-    pub(crate) fn held_after(&self, r: &BusRecord, label: u8, before: u32) -> u32
-        requires kind { r.now.kind ≡ Word }
-        requires odd { is_odd r.now.word ≡ true }
-        requires label { label ≡ label_of r.now.word }
-        ensures { result ≡ number_held_after self.now r.now before }
+    /// Which of the words of its bus and label is the source's: the one of its SDI, or else the last one.
+    pub(crate) fn own_word(&self) -> u32
+        ensures value { result ≡ own_word self.now.sdi }
+        ensures within { result < 5 }
+        ensures two_bits { (sdi : ℕ) → self.now.sdi ≡ Some sdi → sdi < 4 }
     {
-        if self.sends(r, label) {
-            self.raw(r.word)
-        } else {
-            before
+        match self.sdi {
+            Some(sdi) => u32::from(sdi),
+            None => ANY_SDI,
         }
     }
 
-    /// Where the source stands in the order of buses and labels.
+    /// Where the source stands in the order of buses and of the first bytes of bus words.
     pub(crate) fn place(&self) -> u32
         ensures value { result ≡ place_of self.now }
         ensures within { result < bus_labels }
+        ensures label { self.now.label < 256 }
     {
-        place(self.bus, self.label)
+        place(self.bus, label(u32::from(self.label)))
     }
 }
 
-/// Where the words of a bus with a label stand in the order of buses and labels.
-pub(crate) fn place(bus: u8, label: u8) -> u32
-    ensures value { result ≡ bus * 256 + label }
+/// Where the words of a bus with a first byte, which has their label, stand in the order of these.
+pub(crate) fn place(bus: u8, first: u8) -> u32
+    ensures value { result ≡ bus * 256 + first }
     ensures within { result < bus_labels }
 {
-    u32::from(bus) * 256 + u32::from(label)
+    u32::from(bus) * 256 + u32::from(first)
 }
 
 /// The sources of the parameters, in their order.

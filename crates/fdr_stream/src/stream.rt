@@ -64,6 +64,7 @@ impl Stream {
     /// Feeds the next record of the trace. Where a whole block is due at it, the block is put at the front of `out`, and
     /// the record has to be fed again; else the record is taken. `out` has room for a block at least, and what it holds
     /// beyond the block stays.
+    #[inline(always)]
     pub fn feed(&mut self, next: &BusRecord, out: &mut [u8]) -> Fed
         requires { (past : StreamPast) × RepresentsStream self.old past × MayFeedStream past next.now × (past.payload ≤ length out.old) }
         ensures exactly { (past : StreamPast) → RepresentsStream self.old past → MayFeedStream past next.now
@@ -193,7 +194,8 @@ impl Stream {
         self.waiting.push_zeros(count as usize);
     }
 
-    /// Draws the word of the next slot.
+    /// Draws the word of the next slot. The call stays one: most records draw no such word.
+    #[inline(never)]
     fn draw_word(&mut self)
         requires past { (past : StreamPast) × IsSampled self.old past × IsPacked self.old past }
         requires more { self.old.sampler.drawn < most_word_slots }
@@ -234,6 +236,7 @@ impl Stream {
     }
 
     /// Puts the block that waits at the front of `out`.
+    #[inline(never)]
     fn give(&mut self, out: &mut [u8])
         requires whole { self.old.payload ≤ length self.old.bytes }
         requires few_left { length self.old.bytes ≤ self.old.payload + 1 }

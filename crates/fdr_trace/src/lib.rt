@@ -72,6 +72,7 @@ impl TraceLine {
 
     /// The next record of the trace, which may be its end. It pulls only where less than a record waits. It
     /// leaves the deck's disk and its announced number.
+    #[inline(always)]
     pub fn next<D: Deck>(&mut self, deck: &mut D) -> Result<BusRecord, TraceStop>
         requires { (bytes : List ℕ) × (records : List BusRecord) × RepresentsTrace self.old bytes records }
         ensures next { (bytes : List ℕ) (records : List BusRecord) → RepresentsTrace self.old bytes records
@@ -176,7 +177,9 @@ impl TraceLine {
         Ok(())
     }
 
-    /// Pulls a piece behind what waits, and answers how many bytes came; none only at the line's end.
+    /// Pulls a piece behind what waits, and answers how many bytes came; none only at the line's end. It has room for the
+    /// piece on the stack, which the calls that pull nothing don't pay for.
+    #[inline(never)]
     fn pull<D: Deck>(&mut self, deck: &mut D) -> Result<usize, Failed>
         requires { length self.old.waiting < 16 }
         ensures pulled { IfOk result (λ n. (piece : List ℕ) × (length piece ≡ n) × (self.new.waiting ≡ self.old.waiting ++ piece)
@@ -208,14 +211,25 @@ impl TraceLine {
         ensures count { self.new.count ≡ self.old.count }
     {
         let (front, _behind) = self.waiting.as_slices();
-        let mut bytes = [0; RECORD];
-        if RECORD <= front.len() {
-            // A copy whose length is known costs no call.
-            bytes.copy_from_slice(&front[..RECORD]);
-            self.waiting.truncate_front(self.waiting.len() - RECORD);
-        } else {
-            self.waiting.read_into(&mut bytes);
+        if front.len() < RECORD {
+            return self.take_over_end();
         }
+        let mut bytes = [0; RECORD];
+        bytes.copy_from_slice(&front[..RECORD]);
+        self.waiting.truncate_front(self.waiting.len() - RECORD);
+        bytes
+    }
+
+    /// Takes the bytes of the next record, which go over the end of the room.
+    #[inline(never)]
+    fn take_over_end(&mut self) -> [u8; 16]
+        requires { 16 ≤ length self.old.waiting }
+        ensures bytes { self.old.waiting ≡ result ++ self.new.waiting }
+        ensures time { self.new.time ≡ self.old.time }
+        ensures count { self.new.count ≡ self.old.count }
+    {
+        let mut bytes = [0; RECORD];
+        self.waiting.read_into(&mut bytes);
         bytes
     }
 }

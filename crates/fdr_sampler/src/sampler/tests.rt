@@ -21,6 +21,10 @@ const COUNTER_LAST: &[u8] = b"F,64,64,4\nP,ALT,0,203,,11,12,U,1,1,0,0,16\nL,ALT,
 const POSITION: &[u8] =
     b"F,64,2,1\nP,POS,1,310,,9,20,U,1,1,0,0,1\nL,POS,1,1,20,0,1,12,0,16\nL,POS,2,1,20,0,1,8,1,16\n";
 
+/// Three parameters of one label: of one SDI, of any, and of another bus.
+const ONE_LABEL: &[u8] =
+    b"F,64,64,4\nP,ONE,0,203,1,11,12,U,1,1,0,0,16\nL,ONE,1,1,10,0,1,12,0,1\nP,ANY,0,203,,11,12,U,1,1,0,0,16\nL,ANY,1,1,11,0,1,12,0,1\nP,OTH,1,203,2,11,12,U,1,1,0,0,16\nL,OTH,1,1,12,0,1,12,0,1\n";
+
 fn sampler_of(alloc: Global, table: &[u8]) -> Result<Sampler, Fail>
     ensures { IfOk result (λ s. (t : TableRows) × RepresentsSampler s (sampler_made t)) }
 {
@@ -122,6 +126,29 @@ fn holds_a_word_at_the_time_of_a_slot(rt: HostRuntime) -> Result<(), Fail> {
         assert_eq!(rt; words.get(1).copied(), Some(altitude), "at {time}");
         assert_eq!(rt; words.get(255).copied(), Some(0));
         assert_eq!(rt; words.get(511).copied(), Some(1));
+    }
+    Ok(())
+}
+
+#[test]
+fn holds_words_by_bus_and_sdi(rt: HostRuntime) -> Result<(), Fail> {
+    for (bus, bits, one, any, other) in [
+        (0, 0x14c1, 0, 5, 0),
+        (0, 0x8000_15c1, 5, 5, 0),
+        (0, 0x8000_16c1, 0, 5, 0),
+        (1, 0x8000_16c1, 0, 0, 5),
+        (1, 0x14c1, 0, 0, 0),
+        (0, 0x15c1, 0, 0, 0),
+    ] {
+        let sampler = sampler_of(rt.alloc(), ONE_LABEL)?;
+        let words = words_of(rt.alloc(), sampler, &word(bus, bits, 0), 64)?;
+        assert_eq!(rt; words.get(9).copied(), Some(one), "one SDI of {bits}");
+        assert_eq!(rt; words.get(10).copied(), Some(any), "any SDI of {bits}");
+        assert_eq!(rt;
+            words.get(11).copied(),
+            Some(other),
+            "another bus of {bits}"
+        );
     }
     Ok(())
 }

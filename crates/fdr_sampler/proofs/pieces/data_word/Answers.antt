@@ -53,8 +53,9 @@ pub value_at-raw-requires-clause-param : goal.value_at-raw-requires-clause-param
 value_at-raw-requires-clause-param c =
     let at : After-step-item = (goal.at.value_at-raw-requires-clause-param c).After-step-item in
     let laid = c.args.schedule.now in
-    subst (λ (y : SlotStep). y.param < length c.args.held.now) (sym (here at).step)
-    (param_within laid (here at).part.sample (length c.args.held.now) (map (λ (s : Sample). s.param) laid.samples) (its_sample at) refl c.requires.params)
+    subst (λ (y : SlotStep). y.param < length c.args.held.now.sources) (sym (here at).step)
+    (param_within laid (here at).part.sample (length c.args.held.now.sources) (map (λ (s : Sample). s.param) laid.samples) (its_sample at) refl
+    c.requires.params)
 
 pub value_at-raw-requires-clause-number : goal.value_at-raw-requires-clause-number
 value_at-raw-requires-clause-number c =
@@ -65,7 +66,7 @@ pub loop-step-preserved : goal.loop-step-preserved
 loop-step-preserved c =
     let laid = c.args.schedule.now in
     let slot = c.args.slot in
-    let held = c.args.held.now in
+    let held = c.args.held.now.numbers in
     let before = c.args.raws.now in
     let parts = slot_parts laid slot in
     let owners = map (λ (s : Sample). s.param) laid.samples in

@@ -5,6 +5,6 @@ use Rattle.fdr_sampler.proofs.pieces.data_word.Given as goal
 abbrev pub invariant-loop-step : goal.invariant-loop-step
 invariant-loop-step l = record {
   small : l.word < 4096;
-  drawn : (value : ℕ → ℕ) → HaveValues value l.schedule l.slot l.held l.initial.raws →
+  drawn : (value : ℕ → ℕ) → HaveValues value l.schedule l.slot l.held.numbers l.initial.raws →
       IsDrawn value (take l.step-index (slot_parts l.schedule l.slot)) l.initial.raws l.raws l.word;
 }

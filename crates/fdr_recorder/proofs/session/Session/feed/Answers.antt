@@ -6,7 +6,8 @@ use Rattle.fdr_recover.specs.Blocks.{Block}
 use Rattle.fdr_stream.specs.Blocks.{cut_block}
 use Rattle.fdr_recorder.specs.Recording.{Records, HasRecorded, HasEnded}
 use Rattle.fdr_recorder.specs.Past.{due, due_at, session_bytes, session_with_record, numbered_block, SessionPast, MayFeedSession, RepresentsSession}
-use Rattle.fdr_recorder.proofs.Ended.{ring_seq_end, ring_disk_fault}
+use Rattle.fdr_io.proofs.OutputSteps.{failed_or_not}
+use Rattle.fdr_recorder.proofs.Ended.{ring_seq_end, ring_disk_fault, ring_only}
 use Rattle.fdr_recorder.proofs.Feeding.{IsFeeding-first, IsFeeding-step, MayStream-giving, Records-step, Records-due, block_is}
 use Rattle.fdr_recorder.proofs.Feeding.{due-few, stream-taken, number-taken, next-taken, Records-taken, HasRecorded-taken, HasEnded-due}
 use Rattle.fdr_recorder.proofs.session.Session.feed.Given.{Over}
@@ -116,6 +117,12 @@ returns-in_err-ring-in-Block-clause-cause g c fails =
     let rose : Rose (g.D.Deck.state c.loop-i.deck).disk_faults (g.D.Deck.state c.add.new.deck).disk_faults =
     a.cause (ring_disk_fault c.from_residual.result c.in_err-ring-in-Block.field-0.0 p.0 p.1 p.2 fails a.only) in
     subst (λ n. Rose n (g.D.Deck.state c.add.new.deck).disk_faults) at.2.recorded.disk_faults rose
+
+pub returns-in_err-ring-in-Block-clause-only : goal.returns-in_err-ring-in-Block-clause-only
+returns-in_err-ring-in-Block-clause-only g c =
+    let p = err_from_is_err_and c.from_residual.result c.from_residual.ensures.1 in
+    failed_or_not c.from_residual.result
+    (ring_only c.from_residual.result c.in_err-ring-in-Block.field-0.0 p.0 p.1 p.2 c.in_err-ring-in-Block.ensures.only)
 
 pub returns-in_err-ring-in-Block-clause-rest : goal.returns-in_err-ring-in-Block-clause-rest
 returns-in_err-ring-in-Block-clause-rest g c = g.met.D.Deck.rest_then c.args.deck.now c.loop-i.deck c.add.new.deck c.loop-i.invariant.rest c.add.ensures.rest

@@ -127,3 +127,9 @@ returns-clause-learns g c =
       stops = λ told. same ∙ learns.stops told;
       known = λ some. same ∙ learns.known some;
     }
+
+pub returns-clause-rest : goal.returns-clause-rest
+returns-clause-rest g c =
+    let then = g.met.D.Deck.rest_then c.args.deck.now in
+    then c.attach.new.deck c.announce.new.self
+    (then c.read_image_header.new.deck c.attach.new.deck c.read_image_header.ensures.rest c.attach.ensures.rest) c.announce.ensures.rest

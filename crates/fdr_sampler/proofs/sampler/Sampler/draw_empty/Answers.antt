@@ -1,32 +1,18 @@
-use Rattle.std.proofs.Common.{◌≡◌, ◌+◌, ◌<◌, ◌∙◌, ap, sym, subst, get_or, length, arith}
-use Rattle.std.proofs.lemmas.List.{get_or_default}
+use Rattle.std.proofs.Common.{◌≡◌, ◌+◌, ◌-◌, ◌<◌, ◌≤◌, ◌∙◌, ap, sym, subst, arith}
 use Rattle.fdr_table.specs.Rows.{FrameRow}
 use Rattle.fdr_layout.specs.SlotParts.{Laid, laid_of}
-use Rattle.fdr_sampler.specs.Empty.{HasEmptyRun, IsEmptySlot}
+use Rattle.fdr_sampler.specs.Empty.{HasEmptyRun, IsEmptyRun, IsEmptySlot}
 use Rattle.fdr_sampler.specs.Kept.{SamplerKept}
 use Rattle.fdr_sampler.specs.SlotWord.{slot_within}
 use Rattle.fdr_sampler.specs.View.{sampler_kept}
 use Rattle.fdr_sampler.specs.Past.{RepresentsSampler, sampler_with_words}
-use Rattle.fdr_sampler.proofs.EmptyRuns.{Stands-empty, words_empty}
+use Rattle.fdr_sampler.proofs.EmptyRuns.{Stands-empty, run_rest, words_empty}
 use Rattle.fdr_sampler.proofs.sampler.Sampler.draw_empty.Goals as goal
 
--- the number of empty slots that was read
-read : (c : goal.After-self-1) → c.index.result.now ≡ get_or c.self.inside.empty_runs.items c.slot_within-slot.result 0
-read c =
-    let runs = c.self.inside.empty_runs.items in
-    let room : c.slot_within-slot.result < length runs = omega (arith, c.slot_within-slot.ensures.below, c.self.invariant.1.long) in
-    c.index.ensures ∙ get_or_default runs c.slot_within-slot.result c.index.result.now 0 room
-
 -- so many slots are empty
-run : (c : goal.After-self-1)
+run : (c : goal.After-self-2-1)
     → HasEmptyRun c.self.inside.frame c.self.inside.schedule (slot_within c.self.inside.frame.words c.self.inside.drawn) c.min-count.result
-run c = λ j less.
-    let f = c.self.inside.frame in
-    let l = c.self.inside.schedule in
-    let slot = c.slot_within-slot.result in
-    let runs = c.self.inside.empty_runs.items in
-    let few : j < get_or runs slot 0 = omega (arith, less, c.min-count.ensures, read c) in
-    subst (λ m. HasEmptyRun f l m (get_or runs slot 0)) c.slot_within-slot.ensures.slot (c.self.invariant.1.each slot).slots j few
+run c = λ j less. c.self.invariant.2.slots j (omega (arith, less, c.min-count.ensures))
 
 pub returns-clause-zeros : goal.returns-clause-zeros
 returns-clause-zeros c = λ past st k less.
@@ -35,18 +21,18 @@ returns-clause-zeros c = λ past st k less.
 
 -- all that come next in the superframe, where there was room for more
 pub returns-clause-all : goal.returns-clause-all
-returns-clause-all c = λ past st fewer inside empty.
+returns-clause-all c = λ past st fewer within empty.
     let f = c.self.inside.frame in
     let l = c.self.inside.schedule in
-    let slot = c.slot_within-slot.result in
-    let runs = c.self.inside.empty_runs.items in
-    let all : c.min-count.result ≡ get_or runs slot 0 = omega (arith, fewer, c.min-count.ensures, read c) in
+    let slot = slot_within f.words c.self.inside.drawn in
+    let runs = c.self.inside.empty_next in
+    let all : c.min-count.result ≡ runs = omega (arith, fewer, c.min-count.ensures) in
     let stood : RepresentsSampler (sampler_kept c.self.inside) past = subst (λ (x : SamplerKept). RepresentsSampler x past) (sym c.self.view_is) st in
     let words : f.words ≡ past.table.frame.words = ap (λ (x : FrameRow). x.words) stood.frame in
-    let at : slot + get_or runs slot 0 ≡ slot_within past.table.frame.words past.drawn + c.min-count.result =
-    ap (λ n. n + get_or runs slot 0) (c.slot_within-slot.ensures.slot ∙ ap (slot_within f.words) stood.drawn ∙ ap (λ w. slot_within w past.drawn) words)
+    let at : slot + runs ≡ slot_within past.table.frame.words past.drawn + c.min-count.result =
+    ap (λ n. n + runs) (ap (slot_within f.words) stood.drawn ∙ ap (λ w. slot_within w past.drawn) words)
     ∙ ap (λ n. slot_within past.table.frame.words past.drawn + n) (sym all) in
-    (c.self.invariant.1.each slot).ends (omega (arith, at, words, inside))
+    c.self.invariant.2.ends (omega (arith, at, words, within))
     (subst (λ n. IsEmptySlot f l n) (sym at) (subst (λ (x : Laid). IsEmptySlot f x (slot_within past.table.frame.words past.drawn + c.min-count.result))
     (sym stood.laid) (subst (λ (x : FrameRow). IsEmptySlot x (laid_of past.table) (slot_within past.table.frame.words past.drawn + c.min-count.result))
     (sym stood.frame) empty)))
@@ -56,3 +42,23 @@ returns-clause-stands c = λ past st.
     let inside = sampler_kept c.self.inside in
     subst (λ n. RepresentsSampler (record inside { drawn = c.self.inside.drawn + n }) (sampler_with_words past c.min-count.result)) (sym c.from.ensures)
     (Stands-empty inside past c.min-count.result (subst (λ (x : SamplerKept). RepresentsSampler x past) (sym c.self.view_is) st) (run c))
+
+pub invariant_of-self : goal.invariant_of-self
+invariant_of-self c =
+    let inside = c.self.inside in
+    let inv = c.self.invariant in
+    let f = inside.frame in
+    let drawn = ap (λ (k : SamplerKept). k.drawn) c.self.view_is ∙ c.requires.1.drawn in
+    let few : c.min-count.result ≤ inside.empty_next = omega (arith, c.min-count.ensures) in (
+      record {
+        words = inv.0.words;
+        slots = inv.0.slots;
+        params = inv.0.params;
+        held = inv.0.held;
+        raws = inv.0.raws;
+        drawn = omega (arith, drawn, c.from.ensures, c.min-count.ensures, c.requires.2);
+      },
+      inv.1,
+      subst (λ n. IsEmptyRun f inside.schedule (slot_within f.words (inside.drawn + n)) (inside.empty_next - c.min-count.result)) (sym c.from.ensures)
+          (run_rest f inside.schedule inside.drawn inside.empty_next c.min-count.result inv.0.words inv.2 few),
+    )

@@ -29,8 +29,8 @@ with_layout-requires-clause-params c =
     subst (λ (l : Laid). P l.samples c.params.result.now) (sym laid)
     (subst (P (samples t)) (sym c.params.ensures) (samples_params t))
 
-pub with_layout-requires-clause-within_u32 : goal.with_layout-requires-clause-within_u32
-with_layout-requires-clause-within_u32 c =
+pub with_layout-requires-clause-few : goal.with_layout-requires-clause-few
+with_layout-requires-clause-few c =
     let t = c.args.sound.now in
     let params = ap length (c.params.ensures ∙ ap (λ (x : TableRows). x.params) c.table-table.ensures) in
     omega (arith, params, params_few t c.holds.ensures.in_range, samples_few t c.holds.ensures.sound)

@@ -6,19 +6,18 @@ use Rattle.fdr_sampler.specs.Past.{RepresentsSampler}
 use Rattle.fdr_sampler.proofs.Standing.{DrawsData, slot_word-stands, Stands-next}
 use Rattle.fdr_sampler.proofs.sampler.Sampler.next_word.Goals as goal
 
-draws : (c : goal.After-self-2-1) → DrawsData (sampler_kept c.self.inside) c.slot_within-slot.result c.data_word-plain.new.raws c.data_word-plain.result
+draws : (c : goal.After-self-3-1) → DrawsData (sampler_kept c.self.inside) c.slot_within-slot.result c.data_word-plain.new.raws c.data_word-plain.result
 draws c =
     let inside = c.self.inside in
     let slot = c.slot_within-slot.result in
     let plain = c.data_word-plain.result in
     let after = c.data_word-plain.new.raws in
-    let Draws : List ℕ → List ℕ → Type 0 = λ held raws. (value : ℕ → ℕ) → HaveValues value inside.schedule slot held raws
+    let Draws : List ℕ → Type 0 = λ raws. (value : ℕ → ℕ) → HaveValues value inside.schedule slot inside.held.numbers raws
     → IsDrawn value (slot_parts inside.schedule slot) raws after plain in
     record {
       slot_is = c.slot_within-slot.ensures.slot;
       below = c.slot_within-slot.ensures.below;
-      drawn = subst (Draws inside.held.items) c.deref_mut.ensures.value
-          (subst (λ held. Draws held c.deref_mut.result.now) c.deref.ensures.value c.data_word-plain.ensures.drawn);
+      drawn = subst Draws c.deref_mut.ensures.value c.data_word-plain.ensures.drawn;
     }
 
 pub returns-clause-word : goal.returns-clause-word

@@ -1,0 +1,36 @@
+use Rattle.std.proofs.Common.{◌≡◌, ◌+◌, ◌*◌, ap, ◌∙◌, subst, length, arith}
+use Rattle.std.specs.Prelude.{slice_get, slice_index, slice_set}
+use Rattle.std.proofs.lemmas.Bool.{both_ways}
+use Rattle.std.proofs.lemmas.List.{get_or_default}
+use Rattle.fdr_bus.specs.Words.{is_odd, sdi_of}
+use Rattle.fdr_sampler.specs.HeldWords.{HeldNumbers, held_numbers, AreHeldWords}
+use Rattle.fdr_sampler.specs.Kept.{number_held_after}
+use Rattle.fdr_sampler.proofs.Holding.{Begins, holds}
+use Rattle.fdr_sampler.proofs.held_words.HeldWords.hold.Goals as goal
+use Rattle.fdr_sampler.proofs.held_words.HeldWords.hold.Goals.{then-is_odd, else-is_odd}
+
+pub returns-clause-numbers : goal.returns-clause-numbers
+returns-clause-numbers c = λ n s got.
+    let inside = c.self.inside in
+    let r = c.args.r.now in
+    let starts = inside.starts.items in
+    let len : inside.words.len ≡ length inside.words.items = omega arith in
+    let begin : Begins starts r c.if-is_odd.start = elim c.if-is_odd.branch [
+      | then-is_odd w ↦ record {
+        odd = λ odd. w.start-is ∙ w.index.ensures
+            ∙ get_or_default starts w.place.result w.index.result.now 0 (omega (arith, w.place.ensures.within, c.self.invariant.begin.pairs))
+            ∙ ap (slice_index starts) w.place.ensures.value;
+        even = λ even. absurd (both_ways (is_odd r.word) even (c.is_odd.ensures.0 w.if-is_odd.true));
+      }
+      | else-is_odd w ↦ record {
+        odd = λ odd. absurd (both_ways c.is_odd.result w.if-is_odd.false (c.is_odd.ensures.1 odd));
+        even = λ even. w.start-is;
+      }
+    ] in
+    let sdi : c.from.result ≡ sdi_of r.word = c.from.ensures ∙ c.sdi.ensures.value in
+    subst (λ (h : HeldNumbers). slice_index (held_numbers inside.sources.items inside.places.items
+    (slice_set (slice_set inside.words.items (c.if-is_odd.start + c.from.result) r.word) (c.if-is_odd.start + 4) r.word)).numbers n
+    ≡ number_held_after s r (slice_index h.numbers n)) c.self.view_is
+    (holds inside.sources.items inside.places.items starts inside.words.items r c.if-is_odd.start c.from.result
+    (subst (AreHeldWords inside.sources.items inside.places.items starts) len c.self.invariant) begin c.requires
+    (omega (arith, sdi, c.sdi.ensures.two_bits)) sdi n s (ap (λ (h : HeldNumbers). slice_get h.sources n) c.self.view_is ∙ got))

@@ -1,0 +1,115 @@
+//! The bus words that are held for the parameters.
+
+ghost use Rattle.std.specs.Prelude.{◌≡◌, ◌<◌, ◌≤◌, ◌+◌, ◌*◌, ◌^◌, ℕ, IfOk, Some, length, map, replicate, slice_get, slice_index};
+ghost use Rattle.fdr_bus.specs.declared.RecordKind.TheVariants.{Word};
+ghost use Rattle.fdr_sampler.specs.Held.{Source, source_of};
+ghost use Rattle.fdr_sampler.specs.HeldWords.{bus_labels, AreLabelStarts};
+ghost use Rattle.fdr_sampler.specs.Kept.{number_held_after};
+
+use crate::sampler::zeros;
+use crate::source::{ANY_SDI, Source, place, sources_of};
+use fdr_bus::{BusRecord, is_odd, sdi};
+use fdr_check::push;
+use fdr_table::{NoMemory, Param};
+use std::alloc::Global;
+use std::marker::Model;
+
+/// How many pairs of a bus and a label there are.
+const BUS_LABELS: usize = 65_536;
+
+/// How many words are held of a bus and a label: one of each SDI, and one of any.
+const WORDS: u32 = 5;
+
+/// The sources of the parameters, in their order, and the bus words that are held for them.
+#[derive(Drop)]
+pub(crate) struct HeldWords {
+    sources: Vec<Source>,
+    // Where each source has its word.
+    places: Vec<u32>,
+    // Where the words of each bus and label begin; 0 where no parameter is from there.
+    starts: Vec<u32>,
+    // The first five are of no parameter.
+    words: Vec<u32>,
+}
+
+impl Model for HeldWords {
+    ghost use Rattle.fdr_sampler.specs.HeldWords.{HeldNumbers, held_numbers, AreHeldWords};
+
+    ghost Value = { HeldNumbers };
+
+    ghost view = { λ h. held_numbers h.sources.items h.places.items h.words.items };
+
+    ghost invariant = { λ h. AreHeldWords h.sources.items h.places.items h.starts.items h.words.len };
+}
+
+impl HeldWords {
+    /// The sources of the parameters, where no word came yet.
+    pub(crate) fn of(alloc: Global, params: &[Param]) -> Result<HeldWords, NoMemory>
+        requires { length params.now ≤ 2 ^ 24 }
+        ensures sources { IfOk result (λ h. h.sources ≡ map source_of params.now) }
+        ensures numbers { IfOk result (λ h. h.numbers ≡ replicate (length params.now) 0) }
+    {
+        let sources = sources_of(alloc, params)?;
+        let mut starts = zeros(alloc, BUS_LABELS)?;
+        let mut places = Vec::with_capacity(alloc, sources.len())?;
+        let mut end = WORDS;
+        for source in &sources {
+            let place = source.place();
+            end = begin(&mut starts, place, end);
+            push(&mut places, starts[place as usize] + source.own_word())?;
+        }
+        let words = zeros(alloc, end as usize)?;
+        Ok(HeldWords {
+            sources,
+            places,
+            starts,
+            words,
+        })
+    }
+
+    /// Holds a bus word for each of the sources that it is from.
+    pub(crate) fn hold(&mut self, r: &BusRecord)
+        requires { r.now.kind ≡ Word }
+        ensures sources { self.new.sources ≡ self.old.sources }
+        ensures long { length self.new.numbers ≡ length self.old.numbers }
+        ensures numbers { (n : ℕ) (s : Source) → slice_get self.old.sources n ≡ Some s →
+            slice_index self.new.numbers n ≡ number_held_after s r.now (slice_index self.old.numbers n) }
+    {
+        let start = if is_odd(r.word) {
+            self.starts[place(r.bus, (r.word % 256) as u8) as usize] as usize
+        } else {
+            0
+        };
+        self.words[start + usize::from(sdi(r.word))] = r.word;
+        self.words[start + ANY_SDI as usize] = r.word;
+    }
+
+    /// The raw number of a source in the word that is held for it; 0 where none came.
+    pub(crate) fn number(&self, source: u32) -> u32
+        requires { source < length self.now.sources }
+        ensures { result ≡ slice_index self.now.numbers source }
+    {
+        let number = source as usize;
+        let word = self.words[self.places[number] as usize];
+        self.sources[number].raw(word)
+    }
+}
+
+/// Gives a bus and a label words of their own, where they have none, from `end` on, which is behind those of the others.
+/// Answers where the words end then.
+fn begin(starts: &mut [u32], place: u32, end: u32) -> u32
+    requires starts { AreLabelStarts starts.old end }
+    requires place { place < bus_labels }
+    requires room { end + 5 < 2 ^ 32 }
+    ensures starts { AreLabelStarts starts.new result }
+    ensures begun { 0 < slice_index starts.new place }
+    ensures others { (k : ℕ) → 0 < slice_index starts.old k → slice_index starts.new k ≡ slice_index starts.old k }
+    ensures few { result ≤ end + 5 }
+{
+    if starts[place as usize] == 0 {
+        starts[place as usize] = end;
+        end + WORDS
+    } else {
+        end
+    }
+}
