@@ -23,7 +23,7 @@ pub fn unpack(bytes: &[u8], from: u64, out: &mut [u16])
     }
 }
 
-// The first of these words, as many as whole blocks give: eight at a time, while a block of 16 bytes lies within the
+// The first of these words, as many as whole blocks give: eight at a time, from blocks of 16 bytes that lie within the
 // bytes.
 fn unpack_blocks(bytes: &[u8], from: u64, out: &mut [u16]) -> usize
     requires short { length bytes.now ≤ 2 ^ 60 }
@@ -32,15 +32,15 @@ fn unpack_blocks(bytes: &[u8], from: u64, out: &mut [u16]) -> usize
     ensures words { (k : ℕ) → k < result → slice_index out.new k ≡ word_at bytes.now (from + 12 * k) }
 {
     let phase = (from % 8) as u32;
-    let mut at = (from / 8) as usize;
-    let mut read = 0;
-    while out.len() - read >= 8 && bytes.len() - at >= 16 {
-        let block = u8x16::from_slice(&bytes[at..]);
-        eight_words(block, phase).copy_to_slice(&mut out[read..]);
-        at += 12;
-        read += 8;
+    let first = (from / 8) as usize;
+    // The words of a block take twelve of its bytes.
+    let whole = bytes.len().saturating_sub(first + 4) / 12;
+    let blocks = whole.min(out.len() / 8);
+    for i in 0..blocks {
+        let block = u8x16::from_slice(&bytes[first + 12 * i..]);
+        eight_words(block, phase).copy_to_slice(&mut out[8 * i..]);
     }
-    read
+    8 * blocks
 }
 
 // Eight words from bit `phase` of the block on.

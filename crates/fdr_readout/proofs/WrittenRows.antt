@@ -28,6 +28,13 @@ ready_at texts subframe word text ready low high first last at =
     at ∙ ap (λ (ys : List (List ℕ)). get_or ys n text) ready ∙ get_or-map-range_with_len place_text 0 4096 n n text within (zero-add n)
     ∙ place_text_is subframe word low first last
 
+-- what stands among the ready starts for that counter
+pub start_at : (starts : List (List ℕ)) (counter : ℕ) (start : List ℕ) → starts ≡ map row_start_text (range_with_len 0 4096) → counter < 4096
+    → start ≡ get_or starts counter start → start ≡ row_start_text counter
+start_at starts counter start ready within at =
+    at ∙ ap (λ (ys : List (List ℕ)). get_or ys counter start) ready
+    ∙ get_or-map-range_with_len row_start_text 0 4096 counter counter start within (zero-add counter)
+
 pub written_row : (t : TableRows) (r : Row) (p : ParamRow) (start place : List ℕ) → param_at t.params r.param ≡ p
     → start ≡ row_start_text r.counter → place ≡ row_place_text r.subframe r.word
     → row_line_text start place p.name r.value p.decimals ≡ row_line_of t r

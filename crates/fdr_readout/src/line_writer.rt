@@ -26,66 +26,31 @@ const MAX_WORDS: u32 = 1024;
 /// How many subframes a frame has.
 const SUBFRAMES: u32 = 4;
 
-/// What the lines of rows with a counter begin with. A clause sees its text.
-#[derive(Drop)]
-struct RowStart {
-    text: ShortText,
-    counter: u16,
-}
+/// How many values a frame's counter has.
+const COUNTERS: u16 = 4096;
 
-impl Model for RowStart {
-    ghost use Rattle.std.specs.Prelude.{ℕ, List, ◌≡◌};
-    ghost use Rattle.fdr_listing.specs.Text.{row_start_text};
-
-    ghost Value = { List ℕ };
-
-    ghost view = { λ s. s.text };
-
-    ghost invariant = { λ s. s.text ≡ row_start_text s.counter };
-}
-
-impl RowStart {
-    fn new(counter: u16) -> RowStart
-        requires { counter < 4096 }
-        ensures { result ≡ row_start_text counter }
-    {
-        RowStart {
-            text: ShortText::row_start(counter),
-            counter,
-        }
-    }
-
-    /// Makes it that of this counter, where it is that of another one.
-    fn set(&mut self, counter: u16)
-        requires { counter < 4096 }
-        ensures { self.new ≡ row_start_text counter }
-    {
-        if counter != self.counter {
-            *self = RowStart::new(counter);
-        }
-    }
-}
-
-/// Writes the lines of what it takes. The texts of places and of small numbers are ready, and what a line begins with is
-/// made once for the rows of a frame. A clause sees it as the bytes that wait to be written.
+/// Writes the lines of what it takes. What a row begins with is ready for each counter, and so are the texts of places and of
+/// small numbers. A clause sees it as the bytes that wait to be written.
 #[derive(Drop)]
 pub struct LineWriter {
     buffer: OutBuffer,
     numbers: NumberTexts,
+    starts: Vec<ShortText>,
     places: Vec<ShortText>,
-    start: RowStart,
 }
 
 impl Model for LineWriter {
     ghost use Rattle.std.specs.Prelude.{ℕ, List, ◌≡◌, map};
     ghost use Rattle.std.specs.List.{range_with_len};
+    ghost use Rattle.fdr_listing.specs.Text.{row_start_text};
     ghost use Rattle.fdr_readout.specs.Places.{place_text};
 
     ghost Value = { List ℕ };
 
     ghost view = { λ w. w.buffer };
 
-    ghost invariant = { λ w. w.places.items ≡ map place_text (range_with_len 0 4096) };
+    ghost invariant = { λ w. (w.starts.items ≡ map row_start_text (range_with_len 0 4096))
+        × (w.places.items ≡ map place_text (range_with_len 0 4096)) };
 }
 
 impl LineWriter {
@@ -95,12 +60,13 @@ impl LineWriter {
     {
         let buffer = empty_buffer(alloc)?;
         let numbers = NumberTexts::new(alloc)?;
+        let starts = all_starts(alloc)?;
         let places = all_places(alloc)?;
         Ok(LineWriter {
             buffer,
             numbers,
+            starts,
             places,
-            start: RowStart::new(0),
         })
     }
 
@@ -123,6 +89,19 @@ fn empty_buffer(alloc: Global) -> Result<OutBuffer, NoMemory>
     OutBuffer::new(alloc).map_err(|_| NoMemory)
 }
 
+/// What the lines of rows begin with, for each counter.
+fn all_starts(alloc: Global) -> Result<Vec<ShortText>, NoMemory>
+    ensures { IfOk result (λ v. v.items ≡ map row_start_text (range_with_len 0 4096)) }
+{
+    let mut starts = Vec::new(alloc);
+    for counter in 0..COUNTERS {
+        if starts.push(ShortText::row_start(counter)).is_err() {
+            return Err(NoMemory);
+        }
+    }
+    Ok(starts)
+}
+
 /// The texts of all places that a frame may have.
 fn all_places(alloc: Global) -> Result<Vec<ShortText>, NoMemory>
     ensures { IfOk result (λ v. v.items ≡ map place_text (range_with_len 0 4096)) }
@@ -142,13 +121,13 @@ fn all_places(alloc: Global) -> Result<Vec<ShortText>, NoMemory>
 fn put_row_line(
     buffer: &mut OutBuffer,
     numbers: &NumberTexts,
-    start: &RowStart,
+    starts: &[ShortText],
     places: &[ShortText],
     table: &Table,
     row: &Row,
 )
     requires row { IsRow (length table.now.params) row.now }
-    requires start { start.now ≡ row_start_text row.now.counter }
+    requires starts { starts.now ≡ map row_start_text (range_with_len 0 4096) }
     requires places { places.now ≡ map place_text (range_with_len 0 4096) }
     requires room { length buffer.old + 96 ≤ 65536 }
     ensures { buffer.new ≡ buffer.old ++ row_line_of table.now row.now }
@@ -158,7 +137,7 @@ fn put_row_line(
     put_row(
         buffer,
         numbers,
-        &start.text,
+        &starts[usize::from(row.counter)],
         &places[place as usize],
         &param.name,
         row,
@@ -181,11 +160,10 @@ impl<O: Sink> Taker<O> for LineWriter {
 
     fn row(&mut self, table: &Table, row: &Row, out: &mut O) -> Result<(), Failed> {
         self.buffer.make_room(out, ROW_ROOM)?;
-        self.start.set(row.counter);
         put_row_line(
             &mut self.buffer,
             &self.numbers,
-            &self.start,
+            &self.starts,
             &self.places,
             table,
             row,
