@@ -2,12 +2,12 @@
 use Rattle.std.proofs.Common.{◌≡◌, ℕ, ◌+◌, ◌-◌, ◌*◌, ◌/◌, ◌%◌, ◌^◌, ◌<◌, ◌≤◌, Bool, true, false, List, [], length, map, subst, ap, sym, ◌∙◌, ⊎_elim, ◌⊎◌}
 use Rattle.std.proofs.Common.{Some, None, arith}
 use Rattle.std.proofs.Common.{lit≤}
-use Rattle.std.specs.Prelude.{◌&&◌, ◌==◌, not, nat_le, slice_index, slice_get, ℤ}
-use Rattle.std.proofs.lemmas.Bool.{and_left, and_right, and_from, le-leb, lt-leb, cond-true, cond-false}
+use Rattle.std.specs.Prelude.{◌&&◌, ◌==◌, not, nat_le, slice_index, ℤ}
+use Rattle.std.proofs.lemmas.Bool.{and_left, and_right, and_from, le-leb, lt-leb, cond-true, cond-false, cases_lt}
 use Rattle.std.specs.List.{All, slice_index_or}
 use Rattle.std.proofs.lemmas.Nat.{mod_below, pow_pos}
 use Rattle.std.proofs.Math.Nat.{pow-le-pow_right}
-use Rattle.std.proofs.lemmas.List.{length-map, get_or-map}
+use Rattle.std.proofs.lemmas.List.{length-map, get_or-map, get_or_past}
 use Rattle.std.proofs.lemmas.Option.{get_or_from_slice_get}
 use Rattle.fdr_table.specs.Rows.{ParamRow}
 use Rattle.fdr_check.specs.Occurrences.{cycle_of}
@@ -42,12 +42,17 @@ pub kept_samples-empty : (k : RebuildKept) → (length k.words == 0) ≡ true �
 unfolding kept_samples
 kept_samples-empty k empty = cond-true _ _ _ empty
 
-pub kept_samples-cycle : (k : RebuildKept) (cycle : ℕ) (xs : List Sample) → (length k.words == 0) ≡ false → cycle ≡ kept_cycle k
-    → slice_get k.laid.cycles cycle ≡ Some xs →
-    kept_samples k ≡ xs
+pub kept_samples-here : (k : RebuildKept) → (length k.words == 0) ≡ false → kept_samples k ≡ slice_index_or k.laid.cycles (kept_cycle k) []
 unfolding kept_samples
-kept_samples-cycle k cycle xs more cycle_is read =
-    cond-false _ _ _ more ∙ get_or_from_slice_get k.laid.cycles (kept_cycle k) xs [] (ap (slice_get k.laid.cycles) (sym cycle_is) ∙ read)
+kept_samples-here k more = cond-false _ _ _ more
+
+-- what holds of each list holds of the one at a place, where it holds of none at all
+pub held_at : {X : Type 0} (P : List X → Type 0) (lists : List (List X)) (n : ℕ) → All P lists → P [] → P (slice_index_or lists n [])
+held_at P lists n all none =
+    ⊎_elim
+    (λ (within : n < length lists). all n [] within)
+    (λ (past : length lists ≤ n). subst P (sym (get_or_past lists n [] past)) none)
+    (cases_lt n (length lists))
 
 pub kept_row-none : (k : RebuildKept) (s : Sample) (d : ℕ) → d ≡ reach k.frame.words s.parts → k.joined < d → kept_row k s ≡ None
 unfolding kept_row
@@ -117,9 +122,3 @@ pub parts_of_listed : (l k : Laid) (e : ListedSample) (parts : List SlotPart) �
     → parts ≡ parts_of_sample e.number (numbered_parts l e.number) → plain_parts parts ≡ (sample_in k e).parts
 parts_of_listed l k e parts laid own =
     ap plain_parts own ∙ plain_again e.number (numbered_parts l e.number) ∙ ap (λ (x : Laid). numbered_parts x e.number) laid
-
--- the raw value of a listed sample, by the parts that are found under its number
-pub raw_of_listed : (k : RebuildKept) (l : Laid) (cycle : ℕ) (e : ListedSample) (parts : List SlotPart) (raw : ℕ) → l ≡ k.laid
-    → parts ≡ parts_of_sample e.number (numbered_parts l e.number) → raw ≡ kept_raw k cycle (plain_parts parts)
-    → raw ≡ kept_raw k cycle (sample_in k.laid e).parts
-raw_of_listed k l cycle e parts raw laid own is = is ∙ ap (kept_raw k cycle) (parts_of_listed l k.laid e parts laid own)

@@ -9,3 +9,4 @@ pub mod StandingRows
 pub mod StandingSteps
 pub mod KeptRows
 pub mod LastFrames
+pub mod Planning

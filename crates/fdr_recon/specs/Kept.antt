@@ -55,8 +55,10 @@ kept_word k back place =
 abbrev pub kept_counter : RebuildKept → ℕ → ℕ
 kept_counter k back = kept_word k back (counter_place k.frame)
 
--- what holds of every value, whose words have room for this many, and which has this counter of the last frame
-pub record IsRebuildKept (k : RebuildKept) (capacity counter : ℕ) : Type 0 where
+-- what holds of every value, whose words have room for this many, and which has this counter of the last frame, where rows
+-- are planned for so many words a subframe
+pub record IsRebuildKept (k : RebuildKept) (capacity counter planned : ℕ) : Type 0 where
+  pub planned_for : planned ≡ k.frame.words
   pub some_words : 0 < k.frame.words
   pub room : capacity ≡ 64 * k.frame.words
   pub words : All (λ word. word < 4096) k.words

@@ -6,6 +6,7 @@
 #![tactic(auto)]
 
 mod past;
+mod plans;
 mod scale;
 
 pub use past::Rebuild;

@@ -2,21 +2,21 @@
 
 ghost use Rattle.std.specs.Prelude.{◌≡◌, ℕ, ◌+◌, ◌-◌, ◌*◌, ◌/◌, ◌^◌, ◌<◌, ◌≤◌, List, [], ◌∷◌, ◌++◌, Some, length, map, IfOk, IfSome, All, slice_get, unwrap_or};
 ghost use Rattle.std.specs.List.{range_with_len, slice_index_or};
-ghost use Rattle.fdr_check.specs.Occurrences.{cycle_of};
 ghost use Rattle.fdr_frame.specs.WordCount.{IsWordCount};
 ghost use Rattle.fdr_table.specs.Rows.{TableRows};
-ghost use Rattle.fdr_layout.specs.Listed.{sample_in, IsListedSample};
-ghost use Rattle.fdr_layout.specs.SlotParts.{laid_of, plain_parts};
+ghost use Rattle.fdr_layout.specs.SlotParts.{laid_of};
+ghost use Rattle.fdr_layout.specs.Samples.{Sample};
+ghost use Rattle.fdr_recon.specs.Plans.{row_plan, planned_bits, planned_raw, FitsWord};
 ghost use Rattle.fdr_recon.specs.Rows.{ReadFrame, counter_in, counter_place, rows_looked_at};
-ghost use Rattle.fdr_recon.specs.Kept.{kept_word, kept_counter, kept_cycle, kept_bits, kept_raw, kept_value, kept_row, kept_samples, is_next, word_back, EndsInCycle, IsRow, IsSampleOf};
+ghost use Rattle.fdr_recon.specs.Kept.{kept_word, kept_counter, kept_cycle, kept_value, kept_row, kept_samples, is_next, word_back, EndsInCycle, IsRow, IsSampleOf};
 ghost use Rattle.fdr_recon.specs.Past.{RepresentsRebuild, read_frame};
 
 use crate::Row;
+use crate::plans::{Field, Plans, RowPlan};
 use crate::scale::Scale;
 use circular_buffer::HeapCircularBuffer;
 use fdr_check::{Sound, push};
-use fdr_frame::{frames_before, subframe_of, word_of};
-use fdr_layout::{Layout, Part, Sample};
+use fdr_layout::Layout;
 use fdr_table::{Frame, NoMemory, Param};
 use std::alloc::Global;
 use std::marker::Model;
@@ -29,7 +29,7 @@ const MAX_JOINED: u8 = 15;
 pub struct Rebuild {
     frame: Frame,
     scales: Vec<Scale>,
-    layout: Layout,
+    plans: Plans,
     words: HeapCircularBuffer<u16>,
     // The last frame's counter; 0 before the first frame.
     counter: u16,
@@ -45,7 +45,7 @@ impl Model for Rebuild {
 
     ghost view = { rebuild_kept };
 
-    ghost invariant = { λ r. IsRebuildKept (rebuild_kept r) r.words.capacity r.counter };
+    ghost invariant = { λ r. IsRebuildKept (rebuild_kept r) r.words.capacity r.counter r.plans.words };
 }
 
 impl Rebuild {
@@ -86,7 +86,7 @@ impl Rebuild {
         ensures rows { (t : TableRows) (past : List ReadFrame) → RepresentsRebuild self.now t past → 0 < length past
             → result ≡ length (rows_looked_at t past (length past - 1)) }
     {
-        self.samples().len() as u32
+        self.plans().len() as u32
     }
 
     /// The row of a sample that ends in the last frame's cycle, in the order of last parts. There is none where the
@@ -98,7 +98,7 @@ impl Rebuild {
             → slice_get (rows_looked_at t past (length past - 1)) i ≡ Some result }
         ensures range { IfSome result (IsRow (length self.now.params)) }
     {
-        self.row_of(&self.samples()[i as usize])
+        self.row_of(&self.plans()[i as usize])
     }
 
     /// Whether a next frame is linked to the last one.
@@ -111,89 +111,77 @@ impl Rebuild {
         counter_of(self.frame, words) == (self.counter + 1) % 4096
     }
 
-    /// The samples that end in the last frame's cycle, none before the first frame.
-    fn samples(&self) -> &[Sample]
-        ensures samples { map (sample_in self.now.laid) result.now ≡ kept_samples self.now }
-        ensures listed { All (IsListedSample self.now.laid) result.now }
+    /// The plans of the samples that end in the last frame's cycle, none before the first frame.
+    fn plans(&self) -> &[RowPlan]
+        ensures rows { result.now ≡ map (row_plan self.now.frame.words (kept_cycle self.now)) (kept_samples self.now) }
         ensures countable { length result.now < 2 ^ 32 }
-        ensures params { All (λ e. IsSampleOf self.now.params (sample_in self.now.laid e)) result.now }
-        ensures ends { All (λ e. EndsInCycle self.now.frame.words (kept_cycle self.now) (sample_in self.now.laid e)) result.now }
+        ensures params { All (IsSampleOf self.now.params) (kept_samples self.now) }
+        ensures ends { All (EndsInCycle self.now.frame.words (kept_cycle self.now)) (kept_samples self.now) }
         ensures frame { 0 < self.now.frame.words }
     {
         if self.words.is_empty() {
             &[]
         } else {
-            self.layout.ending_in(self.cycle())
+            self.plans.ending_in(self.cycle())
         }
     }
 
     #[inline(always)]
-    fn row_of(&self, sample: &Sample) -> Option<Row>
-        requires of { IsSampleOf self.now.params (sample_in self.now.laid sample.now) }
-        requires listed { IsListedSample self.now.laid sample.now }
-        requires ends { EndsInCycle self.now.frame.words (kept_cycle self.now) (sample_in self.now.laid sample.now) }
-        ensures row { result ≡ kept_row self.now (sample_in self.now.laid sample.now) }
+    fn row_of(&self, plan: &RowPlan) -> Option<Row>
+        requires { (s : Sample) × (plan.now ≡ row_plan self.now.frame.words (kept_cycle self.now) s) × IsSampleOf self.now.params s
+            × EndsInCycle self.now.frame.words (kept_cycle self.now) s }
+        ensures row { (s : Sample) → plan.now ≡ row_plan self.now.frame.words (kept_cycle self.now) s → IsSampleOf self.now.params s
+            → EndsInCycle self.now.frame.words (kept_cycle self.now) s → result ≡ kept_row self.now s }
         ensures range { IfSome result (IsRow (length self.now.params)) }
     {
-        let words = frame_words(self.frame);
-        let reach = u32::from(self.cycle()).saturating_sub(frame_of(sample.first, words));
-        if reach > u32::from(self.joined) {
+        if plan.reach > self.joined {
             return None;
         }
-        let slot = u64::from(sample.first);
         Some(Row {
-            counter: self.counter(reach),
-            subframe: subframe_of(slot, words),
-            word: word_of(slot, words),
-            param: sample.param,
-            value: self.value(sample),
+            counter: self.counter(u32::from(plan.reach)),
+            subframe: plan.subframe,
+            word: plan.word,
+            param: plan.param,
+            value: self.value(plan),
         })
     }
 
     /// The value of a sample that ends in the last frame.
     #[tactic(auto, unfolding(crate::specs::Kept::kept_value, crate::specs::Rows::param_at))]
     #[inline(always)]
-    fn value(&self, sample: &Sample) -> i64
-        requires of { IsSampleOf self.now.params (sample_in self.now.laid sample.now) }
-        requires listed { IsListedSample self.now.laid sample.now }
-        requires ends { EndsInCycle self.now.frame.words (kept_cycle self.now) (sample_in self.now.laid sample.now) }
-        ensures { result ≡ kept_value self.now (sample_in self.now.laid sample.now) }
+    fn value(&self, plan: &RowPlan) -> i64
+        requires { (s : Sample) × (plan.now ≡ row_plan self.now.frame.words (kept_cycle self.now) s) × IsSampleOf self.now.params s
+            × EndsInCycle self.now.frame.words (kept_cycle self.now) s }
+        ensures { (s : Sample) → plan.now ≡ row_plan self.now.frame.words (kept_cycle self.now) s → IsSampleOf self.now.params s
+            → EndsInCycle self.now.frame.words (kept_cycle self.now) s → result ≡ kept_value self.now s }
     {
-        let scale = &self.scales[sample.param as usize];
-        let raw = self.raw(self.cycle(), self.layout.parts(sample.number)) as u32;
+        let scale = &self.scales[plan.param as usize];
+        let raw = self.raw(plan.fields()) as u32;
         scale.value(raw)
     }
 
-    /// The raw value of the parts of a sample that ends in the last frame, which has this cycle.
-    #[tactic(auto, unfolding(crate::specs::Kept::kept_raw))]
-    fn raw(&self, cycle: u8, parts: &[Part]) -> u64
-        requires cycle { cycle < 16 }
-        requires four_parts { length parts.now ≤ 4 }
-        requires ends { All (λ p. cycle_of self.now.frame.words p.at ≤ cycle) (plain_parts parts.now) }
-        ensures raw { result ≡ kept_raw self.now cycle (plain_parts parts.now) }
+    /// The raw value of these fields of the last frames.
+    fn raw(&self, fields: &[Field]) -> u64
+        requires four { length fields.now ≤ 4 }
+        requires fit { All FitsWord fields.now }
+        ensures raw { result ≡ planned_raw self.now fields.now }
         ensures fifty_bits { result ≤ 2 ^ 50 }
     {
-        let end = 4 * frame_words(self.frame) * (u32::from(cycle) + 1);
         let mut raw = 0;
-        for part in parts {
-            raw += self.shifted_bits(cycle, end, part);
+        for field in fields {
+            raw += self.field_bits(field);
         }
         raw
     }
 
-    /// The bits of a part of a sample that ends in the last frame, which has this cycle and ends before slot `end` of its
-    /// superframe, at their place in the raw value.
-    fn shifted_bits(&self, cycle: u8, end: u32, part: &Part) -> u64
-        requires cycle { cycle < 16 }
-        requires some_words { 0 < self.now.frame.words }
-        requires end { end ≡ 4 * self.now.frame.words * (cycle + 1) }
-        requires ends { cycle_of self.now.frame.words part.now.part.at ≤ cycle }
-        ensures bits { result ≡ kept_bits self.now cycle part.now.part * 2 ^ part.now.part.shift }
+    /// The bits of a field, at their place in the raw value.
+    fn field_bits(&self, field: &Field) -> u64
+        requires { FitsWord field.now }
+        ensures bits { result ≡ planned_bits self.now field.now }
         ensures four_words { result < 2 ^ 48 }
     {
-        let word = self.word_back(end - 1 - part.slot);
-        let bits = (word >> (part.lsb - 1)) & ((1 << part.width) - 1);
-        u64::from(bits) << part.shift
+        let word = self.word_back(field.back);
+        u64::from((word >> field.low) & field.ones) << field.shift
     }
 
     fn with_layout(
@@ -208,10 +196,11 @@ impl Rebuild {
     {
         let scales = scales_of(alloc, params)?;
         let words = room_for_words(alloc, frame)?;
+        let plans = Plans::of(alloc, layout, frame_words(frame))?;
         Ok(Rebuild {
             frame,
             scales,
-            layout,
+            plans,
             words,
             counter: 0,
             joined: 0,
@@ -289,14 +278,6 @@ fn counter_of(frame: Frame, words: &[u16]) -> u16
         .get(counter_place(frame) as usize)
         .copied()
         .unwrap_or(0)
-}
-
-/// The frame, counted from 0, that a word slot of the superframe is in.
-fn frame_of(slot: u32, words: u32) -> u32
-    requires { IsWordCount words }
-    ensures { result ≡ slot / (4 * words) }
-{
-    frames_before(u64::from(slot), words) as u32
 }
 
 /// How many words a subframe has.

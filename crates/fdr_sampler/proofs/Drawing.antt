@@ -1,15 +1,14 @@
 -- A word of data is drawn part by part.
-use Rattle.std.proofs.Common.{◌≡◌, ℕ, ◌+◌, ◌-◌, ◌*◌, ◌/◌, ◌%◌, ◌^◌, ◌<◌, ◌≢◌, ⊎_elim, ◌==◌, List, [], ◌∷◌, ◌++◌, Some, length, get_or, map, set, take, sym}
+use Rattle.std.proofs.Common.{◌≡◌, ℕ, ◌+◌, ◌/◌, ◌%◌, ◌<◌, ◌≢◌, ⊎_elim, ◌==◌, List, [], ◌∷◌, ◌++◌, Some, length, get_or, map, set, take, sym}
 use Rattle.std.proofs.Common.{ap, refl, ◌∙◌}
 use Rattle.std.proofs.Common.{subst, get_or-set_same, get_or-set_other}
-use Rattle.std.specs.Prelude.{bit_and, slice_get, slice_index, if◌then◌else◌}
+use Rattle.std.specs.Prelude.{slice_get, slice_index, if◌then◌else◌}
 use Rattle.std.specs.List.{All}
 use Rattle.std.specs.Option.{option_map_or}
 use Rattle.std.proofs.lemmas.Bool.{cases_eq, cases_Bool, cond-true, cond-false}
 use Rattle.std.proofs.lemmas.List.Elements.{All-nil, All-weaker, All-more}
 use Rattle.std.proofs.lemmas.List.{take_more, get_or-map, map_push}
 use Rattle.std.proofs.lemmas.Option.{get_or_from_slice_get}
-use Rattle.std.proofs.lemmas.Nat.{and_mask, one_shl}
 use Rattle.fdr_bits.specs.Fields.{with_field}
 use Rattle.fdr_layout.specs.SlotParts.{SlotPart, Laid, parts_of_sample, plain_parts}
 use Rattle.fdr_layout.specs.Samples.{Sample, first_at}
@@ -112,7 +111,3 @@ value_read value l slot held before raws n firsts owners first param raw is belo
     let param_is : param ≡ s.0.param = of_sample (λ (x : Sample). x.param) l n owners param s.0 s.1 below owned read in
     let P : ℕ → ℕ → Type 0 = λ f p. raw ≡ (if f == slot then slice_index held p else slice_index raws n) in
     value_taken value l slot held before raws n s.0 raw is s.1 keeps (subst (λ f. P f s.0.param) first_is (subst (P first) param_is raw_is))
-
--- a piece by a mask
-pub piece_masked : (raw shift width : ℕ) → width < 64 → bit_and (raw / 2 ^ shift) (1 * 2 ^ width % 2 ^ 64 - 1) ≡ raw / 2 ^ shift % 2 ^ width
-piece_masked raw shift width few = ap (λ m. bit_and (raw / 2 ^ shift) (m - 1)) (one_shl width 64 few) ∙ and_mask (raw / 2 ^ shift) width

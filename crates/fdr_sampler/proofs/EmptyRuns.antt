@@ -12,7 +12,7 @@ use Rattle.fdr_frame.specs.Slots.{frame_of, kind_of, is_counter, subframe_of, sy
 use Rattle.fdr_table.specs.Rows.{FrameRow}
 use Rattle.fdr_layout.specs.SlotParts.{SlotPart, Laid}
 use Rattle.fdr_sampler.specs.Empty.{IsEmptySlot, HasEmptyRun, IsEmptyRun}
-use Rattle.fdr_sampler.specs.Kept.{SamplerKept, slot_parts, IsDrawn}
+use Rattle.fdr_sampler.specs.Kept.{SamplerKept, slot_parts, drawn_on, IsDrawn}
 use Rattle.fdr_sampler.specs.SlotWord.{slot_within, slot_word, word_with}
 use Rattle.fdr_sampler.specs.Past.{SamplerPast, sampler_with_words, RepresentsSampler}
 use Rattle.fdr_sampler.proofs.Drawing.{IsDrawn-none}
@@ -73,6 +73,16 @@ run_end f l slot run (suc n) is few below past =
     (λ (more : suc n < run). let next = (is.slots (suc n) more).0 in absurd (omega (arith, next, past)))
     (λ (all : run ≤ suc n). (omega (arith, last, past), omega (arith, all, few)))
     (cases_lt (suc n) run)
+
+-- what is left of empty slots after some of them
+pub HasEmptyRun-rest : (f : FrameRow) (l : Laid) (k run n rest : ℕ) → HasEmptyRun f l (slot_within f.words k) run → n + rest ≤ run
+    → HasEmptyRun f l (slot_within f.words (k + n)) rest
+HasEmptyRun-rest f l k run n rest is within j less =
+    let at = is (n + j) (omega (arith, within)) in
+    let slot = slot_within f.words k in
+    let here = within_more f.words k n (omega (arith, at.0)) in
+    let there : slot + (n + j) ≡ slot_within f.words (k + n) + j = omega (arith, here) in
+    (omega (arith, at.0, there), subst (IsEmptySlot f l) there at.1)
 
 -- what is left of a run after some of its slots
 pub run_rest : (f : FrameRow) (l : Laid) (k run n : ℕ) → 0 < f.words → IsEmptyRun f l (slot_within f.words k) run → n ≤ run
@@ -143,10 +153,6 @@ word_none f k plain =
       | Counter ↦ frame_of f.words k % 4096
       | Plain ↦ 0
     ]) plain)
-
--- so many slots on
-abbrev pub drawn_on : SamplerKept → ℕ → SamplerKept
-drawn_on k n = record k { drawn = k.drawn + n }
 
 draws_next : (k : SamplerKept) (n : ℕ) → (slot_within k.frame.words k.drawn + n < 64 * k.frame.words)
     × IsEmptySlot k.frame k.laid (slot_within k.frame.words k.drawn + n) → DrawsData (drawn_on k n) (slot_within k.frame.words k.drawn + n) k.raws 0

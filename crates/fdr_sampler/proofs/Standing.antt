@@ -18,7 +18,7 @@ use Rattle.fdr_layout.specs.Samples.{Sample, samples, first_at}
 use Rattle.fdr_layout.proofs.Endings.{samples_params}
 use Rattle.fdr_sampler.specs.Held.{Source, source_of, is_from, counts_for, held_record, raw_of_record, raw_value, first_part_slot}
 use Rattle.fdr_sampler.specs.SlotWord.{numbered_value, slot_within, start_of, data_of, data_word, word_with, slot_word}
-use Rattle.fdr_sampler.specs.Kept.{SamplerKept, sampler_at_start, number_held_after, value_at, slot_parts, HaveValues, IsDrawn}
+use Rattle.fdr_sampler.specs.Kept.{SamplerKept, sampler_at_start, number_held_after, HasHeld, value_at, slot_parts, HaveValues, IsDrawn}
 use Rattle.fdr_sampler.specs.Past.{SamplerPast, sampler_made, sampler_with_record, sampler_with_word, MayTake, RepresentsSampler}
 use Rattle.fdr_lists.proofs.Numbered.{slice_get_some}
 use Rattle.fdr_sampler.proofs.SlotFacts.{IsOfSample, parts_in_of, parts_of_slot_in, beginning_holds}
@@ -235,6 +235,13 @@ Stands-record k k' past r st may held frame sources laid raws count =
           ap (λ xs. slice_index xs n) raws ∙ st.raws n s got parts below
           ∙ sym (raw_value-late t past.records start n s r got (may.counts_for_none (start + first_part_slot s) before));
     }
+
+-- after a record was held
+pub Stands-held : (k k' : SamplerKept) (past : SamplerPast) (r : BusRecord) → RepresentsSampler k past → MayTake past r → HasHeld k k' r
+    → RepresentsSampler k' (sampler_with_record past r)
+Stands-held k k' past r st may held =
+    subst (λ x. RepresentsSampler x (sampler_with_record past r)) (sym held.others)
+    (Stands-record k (record k { held = k'.held }) past r st may held.numbers refl refl refl refl refl)
 
 -- ---- a word that is drawn for every raw value that the samples may have
 

@@ -1,5 +1,5 @@
 -- What is kept of a table and of the records that were given.
-use Rattle.std.specs.Prelude.{ℕ, ◌≡◌, ◌<◌, ◌≤◌, ◌*◌, ◌==◌, if◌then◌else◌, List, [], length, map, replicate, slice_get, slice_index}
+use Rattle.std.specs.Prelude.{ℕ, ◌≡◌, ◌<◌, ◌≤◌, ◌+◌, ◌*◌, ◌==◌, if◌then◌else◌, List, [], Some, length, map, replicate, slice_get, slice_index}
 use Rattle.std.specs.List.{All, enumerate_from, flat_map, range_with_len, slice_index_or}
 use Rattle.std.specs.Option.{option_map_or}
 use Rattle.fdr_bus.specs.declared.BusRecord.{BusRecord}
@@ -36,6 +36,15 @@ pub record IsSamplerKept (k : SamplerKept) : Type 0 where
 -- the raw number that is held for a source after a record, where it was `before`
 abbrev pub number_held_after : Source → BusRecord → ℕ → ℕ
 number_held_after s r before = if is_from s r then bits_at r.word s.lsb s.width else before
+
+-- the record is held for each of the sources that it is from, and nothing else changed
+pub record HasHeld (before after : SamplerKept) (r : BusRecord) : Type 0 where
+  pub others : after ≡ record before { held = after.held }
+  pub numbers : (n : ℕ) (s : Source) → slice_get before.sources n ≡ Some s → slice_index after.held n ≡ number_held_after s r (slice_index before.held n)
+
+-- what is kept so many slots on, where nothing was drawn for them
+abbrev pub drawn_on : SamplerKept → ℕ → SamplerKept
+drawn_on k n = record k { drawn = k.drawn + n }
 
 -- the raw value of sample n at a slot of its superframe: what is held there for its parameter where it begins in this
 -- slot, and what it was begun with elsewhere

@@ -9,7 +9,6 @@ ghost use Rattle.fdr_sampler.specs.Kept.{slot_parts, HaveValues, IsDrawn};
 
 use crate::held_words::HeldWords;
 use crate::schedule::{Schedule, Step};
-use fdr_bits::put_bits;
 use fdr_check::push;
 use fdr_layout::{Layout, Part};
 use fdr_table::NoMemory;
@@ -66,7 +65,7 @@ fn piece_of(raw: u32, step: &Step) -> u16
     ensures piece { result ≡ raw / 2 ^ step.now.shift % 2 ^ step.now.width }
     ensures fits { result < 2 ^ step.now.width }
 {
-    ((u64::from(raw) >> step.shift) & ((1 << step.width) - 1)) as u16
+    ((u64::from(raw) >> step.shift) & u64::from(step.ones)) as u16
 }
 
 /// The word with a step's piece of a raw value in the step's bits.
@@ -75,8 +74,7 @@ fn with_piece(word: u16, step: &Step, raw: u32) -> u16
     ensures value { result ≡ with_field word step.now.low step.now.width (raw / 2 ^ step.now.shift % 2 ^ step.now.width) }
     ensures twelve_bits { result < 4096 }
 {
-    let piece = piece_of(raw, step);
-    put_bits(word, step.lsb, step.width, piece)
+    (word & !step.mask) | (piece_of(raw, step) << step.low)
 }
 
 /// The pieces of the parts in a slot of the superframe, with 0 in all other bits.

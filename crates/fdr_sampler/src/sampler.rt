@@ -1,12 +1,13 @@
 //! The sampler.
 
 ghost use Rattle.std.specs.Prelude.{◌≡◌, ◌<◌, ◌≤◌, ◌+◌, ◌-◌, ◌*◌, ◌^◌, ◌↔◌, ℕ, All, IsTrue, IfOk, length, map, replicate};
+ghost use Rattle.fdr_bus.specs.declared.RecordKind.TheVariants.{Word};
 ghost use Rattle.fdr_bus.specs.Records.{last_time};
 ghost use Rattle.fdr_sampler.specs.SlotWord.{slot_word, slot_within, word_with};
 ghost use Rattle.fdr_layout.specs.Samples.{Sample};
 ghost use Rattle.fdr_layout.specs.SlotParts.{laid_of};
-ghost use Rattle.fdr_sampler.specs.Empty.{IsEmptySlot};
-ghost use Rattle.fdr_sampler.specs.Kept.{sampler_at_start, most_word_slots, owners_of};
+ghost use Rattle.fdr_sampler.specs.Empty.{HasEmptyRun, IsEmptyRun};
+ghost use Rattle.fdr_sampler.specs.Kept.{sampler_at_start, drawn_on, most_word_slots, owners_of, HasHeld};
 ghost use Rattle.fdr_sampler.specs.Past.{SamplerPast, sampler_made, sampler_with_record, sampler_with_word, sampler_with_words, MayTake, RepresentsSampler};
 ghost use Rattle.fdr_sampler.specs.Stream.{slot_count};
 
@@ -69,22 +70,24 @@ impl Sampler {
         ensures { (past : SamplerPast) → RepresentsSampler self.now past →
             IsTrue result ↔ (past.drawn * 1000000 < time * past.table.frame.words) }
     {
-        self.drawn * 1_000_000 < time * u64::from(self.frame.words)
+        self.slots_before(0) < self.slots_at(time)
     }
 
     /// How many slots come before this time, in microseconds from the start, and weren't drawn. Takes no memory.
     pub fn count_due(&self, time: u64) -> u64
         requires { time ≤ last_time }
-        ensures { (past : SamplerPast) → RepresentsSampler self.now past → result ≡ slot_count past.table.frame.words time - past.drawn }
+        ensures { result ≡ slot_count self.now.frame.words time - self.now.drawn }
     {
         let before = (time * u64::from(self.frame.words) + 999_999) / 1_000_000;
         before.saturating_sub(self.drawn)
     }
 
-    /// Takes the next bus word. All slots before its time must have been drawn, and no others. Takes no memory.
+    /// Takes the next bus word. All slots before its time must have been drawn, but for empty ones that may still be drawn
+    /// as if they had been, and no others. Takes no memory.
     pub fn bus(&mut self, r: &BusRecord)
-        requires { (past : SamplerPast) × RepresentsSampler self.old past × MayTake past r.now }
-        ensures { (past : SamplerPast) → RepresentsSampler self.old past → MayTake past r.now → RepresentsSampler self.new (sampler_with_record past r.now) }
+        requires { r.now.kind ≡ Word }
+        ensures held { HasHeld self.old self.new r.now }
+        ensures stands { (past : SamplerPast) → RepresentsSampler self.old past → MayTake past r.now → RepresentsSampler self.new (sampler_with_record past r.now) }
     {
         self.held.hold(r);
     }
@@ -105,16 +108,38 @@ impl Sampler {
         word
     }
 
-    /// Draws slots that have no part, no sync word and no counter, as long as they come next in the superframe, and at
-    /// most so many. Their words are 0. Answers how many it drew. Takes no memory.
+    /// How many slots that have no part, no sync word and no counter come next in the superframe. Takes no memory.
+    pub fn empty_ahead(&self) -> u32
+        ensures { IsEmptyRun self.now.frame self.now.laid (slot_within self.now.frame.words self.now.drawn) result }
+    {
+        self.empty_next
+    }
+
+    /// How many slots pass until a time in microseconds from the start, in millionths of a slot. Takes no memory.
+    pub fn slots_at(&self, time: u64) -> u64
+        requires { time ≤ last_time }
+        ensures { result ≡ time * self.now.frame.words }
+    {
+        time * u64::from(self.frame.words)
+    }
+
+    /// How many slots come before the one so many behind the next, in millionths of a slot. Takes no memory.
+    pub fn slots_before(&self, behind: u32) -> u64
+        ensures { result ≡ (self.now.drawn + behind) * 1000000 }
+    {
+        (self.drawn + u64::from(behind)) * 1_000_000
+    }
+
+    /// Draws slots that have no part, no sync word and no counter, as long as they come next in the superframe, and at most
+    /// so many. Their words are 0. Answers how many it drew. Takes no memory.
     pub fn draw_empty(&mut self, most: u32) -> u32
-        requires { (past : SamplerPast) × RepresentsSampler self.old past × (past.drawn + most ≤ most_word_slots) }
+        requires { self.old.drawn + most ≤ most_word_slots }
         ensures most { result ≤ most }
+        ensures empty { HasEmptyRun self.old.frame self.old.laid (slot_within self.old.frame.words self.old.drawn) result }
+        ensures all { result < most → IsEmptyRun self.old.frame self.old.laid (slot_within self.old.frame.words self.old.drawn) result }
+        ensures drawn { self.new ≡ drawn_on self.old result }
         ensures zeros { (past : SamplerPast) → RepresentsSampler self.old past
             → (k : ℕ) → k < result → slot_word past.table past.records (past.drawn + k) ≡ 0 }
-        ensures all { (past : SamplerPast) → RepresentsSampler self.old past → result < most
-            → slot_within past.table.frame.words past.drawn + result < 64 * past.table.frame.words
-            → IsEmptySlot past.table.frame (laid_of past.table) (slot_within past.table.frame.words past.drawn + result) → ⊥ }
         ensures stands { (past : SamplerPast) → RepresentsSampler self.old past → RepresentsSampler self.new (sampler_with_words past result) }
     {
         let count = self.empty_next.min(most);

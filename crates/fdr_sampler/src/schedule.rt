@@ -8,6 +8,7 @@ ghost use Rattle.fdr_sampler.specs.Schedule.{step_of, steps_in, slot_steps};
 
 use crate::owners::owners_of;
 use crate::pieces::first_slots;
+use crate::source::ones;
 use fdr_check::push;
 use fdr_layout::{Layout, Part};
 use fdr_table::{NoMemory, Param};
@@ -25,21 +26,26 @@ pub(crate) struct Step {
     pub(crate) begins: bool,
     /// How many bits of the raw value are below the part.
     pub(crate) shift: u8,
-    /// The part's lowest bit in its word, 1 to 12.
-    pub(crate) lsb: u8,
+    /// How many bits of its word are below the part, at most 11.
+    pub(crate) low: u8,
     /// How many bits the part has, 1 to 12.
-    pub(crate) width: u8,
+    width: u8,
+    /// As many ones as the part has bits.
+    pub(crate) ones: u16,
+    /// The part's bits in its word.
+    pub(crate) mask: u16,
 }
 
 impl Model for Step {
-    ghost use Rattle.std.specs.Prelude.{◌+◌, ◌-◌, ◌≤◌};
+    ghost use Rattle.std.specs.Prelude.{◌≡◌, ◌+◌, ◌-◌, ◌^◌, ◌≤◌};
     ghost use Rattle.fdr_sampler.specs.Schedule.{SlotStep};
 
     ghost Value = { SlotStep };
 
-    ghost view = { λ s. record { sample = s.sample; param = s.param; begins = s.begins; shift = s.shift; low = s.lsb - 1; width = s.width } };
+    ghost view = { λ s. record { sample = s.sample; param = s.param; begins = s.begins; shift = s.shift; low = s.low; width = s.width } };
 
-    ghost invariant = { λ s. (1 ≤ s.lsb) × (1 ≤ s.width) × (s.lsb + s.width ≤ 13) × (s.shift ≤ 36) };
+    ghost invariant = { λ s. (1 ≤ s.width) × (s.low + s.width ≤ 12) × (s.shift ≤ 36) × (s.ones ≡ 2 ^ s.width - 1)
+        × (s.mask ≡ 2 ^ (s.low + s.width) - 2 ^ s.low) };
 }
 
 impl Step {
@@ -50,13 +56,16 @@ impl Step {
         ensures { result ≡ step_of owners.now firsts.now slot part.now }
     {
         let number = part.sample as usize;
+        let low = part.lsb - 1;
         Step {
             sample: part.sample,
             param: owners[number],
             begins: firsts[number] == slot,
             shift: part.shift,
-            lsb: part.lsb,
+            low,
             width: part.width,
+            ones: ones(part.width) as u16,
+            mask: (1 << (low + part.width)) - (1 << low),
         }
     }
 }

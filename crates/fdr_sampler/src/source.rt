@@ -1,11 +1,11 @@
 //! Where the parameters come from.
 
-ghost use Rattle.std.specs.Prelude.{◌≡◌, ◌<◌, ◌+◌, ◌*◌, ℕ, IfOk, Some, map};
+ghost use Rattle.std.specs.Prelude.{◌≡◌, ◌<◌, ◌≤◌, ◌+◌, ◌-◌, ◌*◌, ◌^◌, ℕ, IfOk, Some, map};
 ghost use Rattle.fdr_bus.specs.Words.{bits_at};
 ghost use Rattle.fdr_sampler.specs.Held.{Source, source_of};
 ghost use Rattle.fdr_sampler.specs.HeldWords.{bus_labels, own_word, place_of};
 
-use fdr_bus::{field, label};
+use fdr_bus::label;
 use fdr_table::{NoMemory, Param};
 use std::alloc::Global;
 use std::marker::Model;
@@ -21,10 +21,12 @@ pub(crate) struct Source {
     sdi: Option<u8>,
     lsb: u8,
     width: u8,
+    // As many ones as the field has bits.
+    ones: u32,
 }
 
 impl Model for Source {
-    ghost use Rattle.std.specs.Prelude.{◌+◌, ◌≤◌, IsTrue, nat_le, true};
+    ghost use Rattle.std.specs.Prelude.{◌≡◌, ◌+◌, ◌-◌, ◌^◌, ◌≤◌, IsTrue, nat_le, true};
     ghost use Rattle.std.specs.Option.{option_map_or};
     ghost use Rattle.fdr_sampler.specs.Held.{Source};
 
@@ -32,7 +34,8 @@ impl Model for Source {
 
     ghost view = { λ s. record { bus = s.bus; label = s.label; sdi = s.sdi; lsb = s.lsb; width = s.width } };
 
-    ghost invariant = { λ s. (1 ≤ s.lsb) × (1 ≤ s.width) × (s.lsb + s.width ≤ 33) × IsTrue (option_map_or (λ sdi. nat_le sdi 3) s.sdi true) };
+    ghost invariant = { λ s. (1 ≤ s.lsb) × (1 ≤ s.width) × (s.lsb + s.width ≤ 33) × IsTrue (option_map_or (λ sdi. nat_le sdi 3) s.sdi true)
+        × (s.ones ≡ 2 ^ s.width - 1) };
 }
 
 impl Source {
@@ -46,6 +49,7 @@ impl Source {
             sdi: param.sdi,
             lsb: param.lsb,
             width: param.width,
+            ones: ones(param.width),
         }
     }
 
@@ -53,7 +57,7 @@ impl Source {
     pub(crate) fn raw(&self, word: u32) -> u32
         ensures { result ≡ bits_at word self.now.lsb self.now.width }
     {
-        field(word, self.lsb, self.width)
+        (word >> (self.lsb - 1)) & self.ones
     }
 
     /// Which of the words of its bus and label is the source's: the one of its SDI, or else the last one.
@@ -76,6 +80,15 @@ impl Source {
     {
         place(self.bus, label(u32::from(self.label)))
     }
+}
+
+/// So many ones.
+pub(crate) fn ones(count: u8) -> u32
+    requires some { 1 ≤ count }
+    requires few { count ≤ 32 }
+    ensures { result ≡ 2 ^ count - 1 }
+{
+    u32::MAX >> (32 - count)
 }
 
 /// Where the words of a bus with a first byte, which has their label, stand in the order of these.

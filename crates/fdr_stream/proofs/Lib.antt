@@ -5,3 +5,4 @@ pub mod Later
 pub mod Zeros
 pub mod ZeroWords
 pub mod Rooms
+pub mod Behind

@@ -24,6 +24,20 @@ whole_bytes-append (a ∷ []) (b ∷ more) = refl
 whole_bytes-append (a ∷ b ∷ words) more =
     ap (λ bytes. a % 256 ∷ (a / 256 + 16 * (b % 16)) ∷ b / 16 ∷ bytes) (whole_bytes-append words more)
 
+-- and after more of them, where four bits may wait for the first
+pub unpaired_after-append : (odd : Option ℕ) (words more : List ℕ) → unpaired_after odd (words ++ more) ≡ unpaired_after (unpaired_after odd words) more
+unfolding unpaired_after
+unpaired_after-append None words more = unpaired-append words more
+unpaired_after-append (Some bits) [] more = refl
+unpaired_after-append (Some bits) (word ∷ words) more = unpaired-append words more
+
+pub filled_by-append : (odd : Option ℕ) (words more : List ℕ) → filled_by odd (words ++ more) ≡ filled_by odd words ++ filled_by (unpaired_after odd words) more
+unfolding filled_by unpaired_after
+filled_by-append None words more = whole_bytes-append words more
+filled_by-append (Some bits) [] more = refl
+filled_by-append (Some bits) (word ∷ words) more =
+    ap (λ bytes. (bits + 16 * (word % 16)) ∷ word / 16 ∷ bytes) (whole_bytes-append words more)
+
 pub length-last_byte : (odd : Option ℕ) → length (last_byte odd) ≤ 1
 unfolding last_byte
 length-last_byte None = omega arith

@@ -22,7 +22,14 @@ use Rattle.fdr_stream.specs.Past.{StreamPast, stream_made, with_block, stream_wi
 use Rattle.fdr_stream.specs.Past.{RepresentsStream}
 use Rattle.fdr_stream.proofs.PackingLemmas.{packed-last, length-last_byte}
 use Rattle.fdr_stream.proofs.Drawn.{length-words_to, length-whole_to, words_to-fit, length-waiting, IsPacked-words, none_due}
-use Rattle.fdr_bus.proofs.TraceLemmas.{time_of-push}
+use Rattle.fdr_bus.proofs.TraceLemmas.{time_of-push, has_end-push}
+use Rattle.fdr_sampler.specs.Past.{SamplerPast}
+use Rattle.fdr_sampler.proofs.Standing.{Stands-held}
+use Rattle.std.proofs.Common.{◌⊎◌, inl, inr, true}
+use Rattle.std.proofs.lemmas.Bool.{false≢true}
+use Rattle.fdr_bus.specs.Records.{is_end}
+use Rattle.fdr_bus.specs.declared.RecordKind.TheVariants.{End}
+use Rattle.fdr_stream.specs.Kept.{HasSampled}
 
 pub slot_count-later : (w a b : ℕ) → a ≤ b → slot_count w a ≤ slot_count w b
 slot_count-later w a b le = let more : a * w ≤ b * w = mul-le-mul_right w le in omega (arith, more)
@@ -124,6 +131,29 @@ MayTake-fed k past r may is kind =
       counts_for_none = λ i below. slot_count-below w r.time i (omega (arith, is));
     }
 
+-- a sampler stands for as many slots as it counts
+pub sampled_here : (s : SamplerKept) (past : StreamPast) (n : ℕ) → RepresentsSampler s (record { table = past.table; records = past.records; drawn = n }) →
+    RepresentsSampler s (record { table = past.table; records = past.records; drawn = s.drawn })
+sampled_here s past n st = subst (λ m. RepresentsSampler s (record { table = past.table; records = past.records; drawn = m })) (sym st.drawn) st
+
+is_word_or_end : (r : BusRecord) → (r.kind ≡ Word) ⊎ (is_end r ≡ true)
+is_word_or_end r = elim r.kind as (λ kind. (kind ≡ Word) ⊎ ((elim kind [ Word ↦ false | End ↦ true ]) ≡ true)) [ Word ↦ inl refl | End ↦ inr refl ]
+
+-- after it was
+pub Stands-taken : (k k1 k2 : StreamKept) (past : StreamPast) (r : BusRecord) → RepresentsStream k past → MayFeedStream past r → IsDrawing k1 past r.time
+    → k1.sampler.drawn ≡ slot_count past.table.frame.words r.time → length k1.bytes < k1.payload → HasSampled k1 k2 r
+    → RepresentsStream k2 (stream_with_record past r)
+Stands-taken k k1 k2 past r st may at all few taken =
+    let here : SamplerPast = record { table = past.table; records = past.records; drawn = k1.sampler.drawn } in
+    Stands-record k k1 k2 past r st at few all (ap (λ (x : StreamKept). x.sampler.drawn) taken.others) (ap (λ (x : StreamKept). x.payload) taken.others)
+    (ap (λ (x : StreamKept). x.odd) taken.others) (ap (λ (x : StreamKept). x.bytes) taken.others)
+    (λ unended. elim (is_word_or_end r) [
+      | inl word ↦
+          sampled_here k2.sampler (stream_with_record past r) k1.sampler.drawn
+          (Stands-held k1.sampler k2.sampler here r at.sampler (MayTake-fed k1 past r may all word) (taken.word word))
+      | inr ends ↦ absurd (false≢true (sym unended ∙ has_end-push past.records r ends))
+    ])
+
 -- ---- at the start
 
 pub Stands-made : (sampler : SamplerKept) (t : TableRows) (payload : ℕ) → 64 ≤ payload → payload ≤ 4096 → t.frame.words ≤ 1024
@@ -154,11 +184,6 @@ Stands-made sampler t payload low high few st =
     }
 
 -- ---- the sampler
-
--- a sampler stands for as many slots as it counts
-pub sampled_here : (s : SamplerKept) (past : StreamPast) (n : ℕ) → RepresentsSampler s (record { table = past.table; records = past.records; drawn = n }) →
-    RepresentsSampler s (record { table = past.table; records = past.records; drawn = s.drawn })
-sampled_here s past n st = subst (λ m. RepresentsSampler s (record { table = past.table; records = past.records; drawn = m })) (sym st.drawn) st
 
 -- after n further words were drawn and packed
 pub IsSampled-words : (k k1 : StreamKept) (s : SamplerKept) (past : StreamPast) (n : ℕ) (words : List ℕ) → k1 ≡ with_packed (record k { sampler = s }) words →

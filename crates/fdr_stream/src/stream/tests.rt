@@ -6,6 +6,7 @@ ghost use Rattle.fdr_table.specs.Rows.{TableRows};
 ghost use Rattle.fdr_stream.specs.Past.{StreamPast, stream_made, stream_with_record, MayFeedStream, RepresentsStream};
 
 use super::*;
+use fdr_bus::RecordKind;
 use fdr_check::check;
 use fdr_table::Table;
 use std::test::Fail;

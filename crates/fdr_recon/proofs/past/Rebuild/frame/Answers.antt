@@ -17,6 +17,7 @@ invariant_of-self c =
     let kept = ap (λ (b : Buffer ℕ). b.items) c.extend_from_slice.ensures in
     let words = c.self.inside.words.items ++ c.args.words.now in
     record {
+      planned_for = c.self.invariant.planned_for;
       some_words = c.self.invariant.some_words;
       room = ap (λ (b : Buffer ℕ). b.capacity) c.extend_from_slice.ensures ∙ c.self.invariant.room;
       words = subst (All Small) (sym kept)

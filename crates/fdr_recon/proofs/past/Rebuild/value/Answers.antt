@@ -1,70 +1,60 @@
-use Rattle.std.proofs.Common.{◌≡◌, ℕ, ◌<◌, ◌≤◌, ◌^◌, List, length, sym, ap, ◌∙◌, subst, arith}
+use Rattle.std.proofs.Common.{◌≡◌, ◌<◌, ◌^◌, List, sym, ap, ◌∙◌, subst, arith}
 use Rattle.std.specs.Int.{w64}
-use Rattle.std.specs.List.{All, slice_index_or}
+use Rattle.std.specs.List.{slice_index_or}
 use Rattle.std.proofs.lemmas.Int.{to_z-of_z}
-use Rattle.std.proofs.lemmas.Option.{get_or_from_slice_get, slice_get_within}
+use Rattle.std.proofs.lemmas.Option.{get_or_from_slice_get}
 use Rattle.fdr_table.specs.Rows.{ParamRow}
 use Rattle.fdr_table.specs.Value.{value_of}
-use Rattle.fdr_check.specs.Occurrences.{cycle_of}
-use Rattle.fdr_layout.specs.Listed.{sample_in}
-use Rattle.fdr_layout.specs.Samples.{Part}
-use Rattle.fdr_layout.specs.SlotParts.{Laid}
-use Rattle.fdr_recon.specs.Kept.{RebuildKept, kept_raw, kept_value}
+use Rattle.fdr_layout.specs.Samples.{Sample}
+use Rattle.fdr_recon.specs.Kept.{RebuildKept, kept_cycle, kept_raw, kept_value, EndsInCycle, IsSampleOf}
+use Rattle.fdr_recon.specs.Plans.{RowPlan, row_plan, planned_raw}
 use Rattle.fdr_recon.specs.Rows.{param_at}
-use Rattle.fdr_recon.proofs.KeptRows.{kept_raw-below, kept_raw-small, param_at-sample, parts_of_listed, raw_of_listed}
+use Rattle.fdr_recon.proofs.KeptRows.{kept_raw-below, kept_raw-small, param_at-sample}
+use Rattle.fdr_recon.proofs.Planning.{planned_raw_is}
 use Rattle.fdr_recon.proofs.past.Rebuild.value.Goals.{After-index-scale, After-raw-raw}
 use Rattle.fdr_recon.proofs.past.Rebuild.value.Goals as goal
 
-pub parts-requires : goal.parts-requires
-parts-requires c =
-    let k = c.args.self.now in
-    let e = c.args.sample.now in
-    let laid : c.self.inside.layout ≡ k.laid = ap (λ (k : RebuildKept). k.laid) c.self.view_is in
-    omega (arith, ap (λ (l : Laid). length l.samples) laid, slice_get_within k.laid.samples e.number (sample_in k.laid e) c.requires.listed.sample)
-
-pub raw-raw-requires-clause-ends : goal.raw-raw-requires-clause-ends
-raw-raw-requires-clause-ends c =
-    let k = c.args.self.now in
-    let e = c.args.sample.now in
-    let laid : c.self.inside.layout ≡ k.laid = ap (λ (k : RebuildKept). k.laid) c.self.view_is in
-    let parts = parts_of_listed c.self.inside.layout k.laid e c.parts.result.now laid c.parts.ensures.parts in
-    let Up : ℕ → List Part → Type 0 = λ n ps. All (λ (p : Part). cycle_of k.frame.words p.at ≤ n) ps in
-    subst (Up c.cycle.result) (sym parts) (subst (λ n. Up n (sample_in k.laid e).parts) (sym c.cycle.ensures.cycle) c.requires.ends.parts)
-
 -- the raw value is that of the sample's parts
-raw_is : (c : After-raw-raw) → c.raw-raw.result ≡ kept_raw c.args.self.now c.cycle.result (sample_in c.args.self.now.laid c.args.sample.now).parts
-raw_is c =
-    raw_of_listed c.args.self.now c.self.inside.layout c.cycle.result c.args.sample.now c.parts.result.now c.raw-raw.result
-    (ap (λ (k : RebuildKept). k.laid) c.self.view_is) c.parts.ensures.parts c.raw-raw.ensures.raw
+raw_is : (c : After-raw-raw) (s : Sample) → c.args.plan.now ≡ row_plan c.args.self.now.frame.words (kept_cycle c.args.self.now) s
+    → EndsInCycle c.args.self.now.frame.words (kept_cycle c.args.self.now) s → c.raw-raw.result ≡ kept_raw c.args.self.now (kept_cycle c.args.self.now) s.parts
+raw_is c s is ends =
+    let k = c.args.self.now in
+    let some : 0 < k.frame.words = subst (λ (x : RebuildKept). 0 < x.frame.words) c.self.view_is c.self.invariant.some_words in
+    c.raw-raw.ensures.raw ∙ ap (planned_raw k) (c.fields.ensures.fields ∙ ap (λ (p : RowPlan). p.fields) is)
+    ∙ planned_raw_is k (kept_cycle k) s.parts some ends.parts
 
 -- the scale is that of the sample's parameter
-param_is : (c : After-index-scale) → c.index-scale.result.now ≡ c.requires.of.param
-param_is c =
+param_is : (c : After-index-scale) (s : Sample) → c.args.plan.now ≡ row_plan c.args.self.now.frame.words (kept_cycle c.args.self.now) s
+    → (of : IsSampleOf c.args.self.now.params s) → c.index-scale.result.now ≡ of.param
+param_is c s is of =
     let k = c.args.self.now in
-    let s = sample_in k.laid c.args.sample.now in
-    let params : c.self.inside.scales.items ≡ k.params = ap (λ (k : RebuildKept). k.params) c.self.view_is in
-    c.index-scale.ensures ∙ ap (λ (ps : List ParamRow). slice_index_or ps s.param c.index-scale.result.now) params
-    ∙ get_or_from_slice_get k.params s.param c.requires.of.param c.index-scale.result.now c.requires.of.found
+    let params : c.self.inside.scales.items ≡ k.params = ap (λ (x : RebuildKept). x.params) c.self.view_is in
+    let same : c.plan.inside.param ≡ s.param = ap (λ (p : RowPlan). p.param) (c.plan.view_is ∙ is) in
+    c.index-scale.ensures ∙ ap (λ n. slice_index_or c.self.inside.scales.items n c.index-scale.result.now) same
+    ∙ ap (λ (ps : List ParamRow). slice_index_or ps s.param c.index-scale.result.now) params
+    ∙ get_or_from_slice_get k.params s.param of.param c.index-scale.result.now of.found
 
 pub overflow_cast-raw : goal.overflow_cast-raw
 overflow_cast-raw c =
-    let small = kept_raw-small c.args.self.now c.cycle.result (sample_in c.args.self.now.laid c.args.sample.now) c.requires.of in
-    omega (arith, raw_is (goal.at.overflow_cast-raw c).After-raw-raw, small)
+    let k = c.args.self.now in
+    let known = c.requires in
+    let small = kept_raw-small k (kept_cycle k) known.0 known.2 in
+    omega (arith, raw_is (goal.at.overflow_cast-raw c).After-raw-raw known.0 known.1 known.3, small)
 
 pub value-requires : goal.value-requires
 value-requires c =
     let k = c.args.self.now in
     let at = goal.at.value-requires c in
-    let below = kept_raw-below k c.cycle.result (sample_in k.laid c.args.sample.now) c.requires.of in
-    subst (λ n. c.raw-raw.result < 2 ^ n) (sym (ap (λ (p : ParamRow). p.width) (param_is at.After-index-scale)))
-    (subst (λ n. n < 2 ^ c.requires.of.param.width) (sym (raw_is at.After-raw-raw)) below)
+    let known = c.requires in
+    let below = kept_raw-below k (kept_cycle k) known.0 known.2 in
+    subst (λ n. c.raw-raw.result < 2 ^ n) (sym (ap (λ (p : ParamRow). p.width) (param_is at.After-index-scale known.0 known.1 known.2)))
+    (subst (λ n. n < 2 ^ known.2.param.width) (sym (raw_is at.After-raw-raw known.0 known.1 known.3)) below)
 
 pub returns : goal.returns
 unfolding kept_value
-returns c =
+returns c s is of ends =
     let k = c.args.self.now in
-    let s = sample_in k.laid c.args.sample.now in
     let at = goal.at.returns c in
     to_z-of_z w64 c.value.result (record { sfits = c.value.type_inv }) ∙ c.value.ensures
-    ∙ ap (λ p. value_of p c.raw-raw.result) (param_is at.After-index-scale ∙ sym (param_at-sample k.params s c.requires.of))
-    ∙ ap (value_of (param_at k.params s.param)) (raw_is at.After-raw-raw ∙ ap (λ n. kept_raw k n s.parts) c.cycle.ensures.cycle)
+    ∙ ap (λ p. value_of p c.raw-raw.result) (param_is at.After-index-scale s is of ∙ sym (param_at-sample k.params s of))
+    ∙ ap (value_of (param_at k.params s.param)) (raw_is at.After-raw-raw s is ends)

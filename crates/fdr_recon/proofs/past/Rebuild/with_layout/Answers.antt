@@ -1,21 +1,26 @@
-use Rattle.std.proofs.Common.{◌<◌, List, sym, subst, arith}
-use Rattle.std.specs.List.{All}
+use Rattle.std.proofs.Common.{◌≡◌, ◌<◌, ℕ, List, [], ap, ◌∙◌, sym, subst, arith}
+use Rattle.std.specs.List.{All, slice_index_or}
+use Rattle.fdr_layout.specs.SlotParts.{Laid}
+use Rattle.fdr_recon.specs.Plans.{Planned}
 use Rattle.std.proofs.lemmas.List.Elements.{All-nil}
 use Rattle.fdr_table.specs.Rows.{ParamRow}
 use Rattle.fdr_layout.specs.Samples.{Sample}
-use Rattle.fdr_recon.specs.Kept.{IsSampleOf}
+use Rattle.fdr_recon.specs.Kept.{IsSampleOf, EndsInCycle}
 use Rattle.fdr_recon.proofs.KeptWords.{kept_word-none}
 use Rattle.fdr_recon.proofs.past.Rebuild.with_layout.Goals as goal
 
 pub invariant_of-result : goal.invariant_of-result
 invariant_of-result c =
+    let laid : c.in_ok-plans.plans.laid ≡ c.args.layout = ap (λ (p : Planned). p.laid) c.in_ok-plans.ensures in
     let P : List ParamRow → Type 0 = λ ps. All (λ (samples : List Sample). All (IsSampleOf ps) samples) c.args.layout.cycles in
     record {
+      planned_for = ap (λ (p : Planned). p.words) c.in_ok-plans.ensures ∙ c.frame_words.ensures.words;
       some_words = c.room_for_words.ensures.some_words;
       room = c.in_ok-words.ensures.room;
       words = subst (All (λ word. word < 4096)) (sym c.in_ok-words.ensures.none) (All-nil (λ word. word < 4096));
       last_counter = sym (kept_word-none _ 0 _ c.in_ok-words.ensures.none);
       joined = omega arith;
-      ends = c.requires.ends;
-      params = subst P (sym c.in_ok-scales.ensures) c.requires.params;
+      ends = subst (λ (l : Laid). (cycle : ℕ) → All (EndsInCycle c.args.frame.words cycle) (slice_index_or l.cycles cycle [])) (sym laid) c.requires.ends;
+      params = subst (λ (l : Laid). All (λ (samples : List Sample). All (IsSampleOf c.in_ok-scales.scales.items) samples) l.cycles) (sym laid)
+          (subst P (sym c.in_ok-scales.ensures) c.requires.params);
     }

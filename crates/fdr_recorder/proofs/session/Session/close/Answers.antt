@@ -5,7 +5,8 @@ use Rattle.fdr_recover.specs.Blocks.{Block}
 use Rattle.fdr_recorder.specs.Recording.{Records, HasRecorded, HasEnded}
 use Rattle.fdr_recorder.specs.Past.{RepresentsSession, SessionPast, rest_of, stream_past}
 use Rattle.fdr_recorder.proofs.Composing.{Records-here, HasRecorded-here}
-use Rattle.fdr_recorder.proofs.Ended.{ring_seq_end}
+use Rattle.fdr_io.proofs.OutputSteps.{failed_or_not}
+use Rattle.fdr_recorder.proofs.Ended.{ring_seq_end, ring_disk_fault, ring_only}
 use Rattle.fdr_recorder.proofs.Closing.{rest-none, rest-one, HasEnded-rest}
 use Rattle.fdr_recorder.proofs.Joined.{all_blocks-rest}
 use Rattle.fdr_recorder.proofs.session.Session.close.Given.{Over}
@@ -97,3 +98,14 @@ returns-clause-all g c past stands = all_blocks-rest past c.finish-count.result 
 
 pub returns-then-count-eq0-clause-rest : goal.returns-then-count-eq0-clause-rest
 returns-then-count-eq0-clause-rest g c = g.met.D.Deck.rest_here c.args.deck.now
+
+pub returns-in_err-ring-clause-only : goal.returns-in_err-ring-clause-only
+returns-in_err-ring-clause-only g c =
+    let p = err_from_is_err_and c.from_residual.result c.from_residual.ensures.1 in
+    failed_or_not c.from_residual.result (ring_only c.from_residual.result c.in_err-ring.field-0.0 p.0 p.1 p.2 c.in_err-ring.ensures.only)
+
+pub returns-in_err-ring-clause-cause : goal.returns-in_err-ring-clause-cause
+returns-in_err-ring-clause-cause g c fails =
+    let a = c.in_err-ring.ensures in
+    let p = err_from_is_err_and c.from_residual.result c.from_residual.ensures.1 in
+    a.cause (ring_disk_fault c.from_residual.result c.in_err-ring.field-0.0 p.0 p.1 p.2 fails a.only)

@@ -1,12 +1,15 @@
-use Rattle.std.proofs.Common.{refl, sym, subst}
-use Rattle.fdr_sampler.specs.Kept.{SamplerKept}
+use Rattle.std.proofs.Common.{List, ap, subst}
+use Rattle.fdr_sampler.specs.Held.{Source}
+use Rattle.fdr_sampler.specs.Kept.{SamplerKept, HasHeld}
 use Rattle.fdr_sampler.specs.View.{sampler_kept}
-use Rattle.fdr_sampler.specs.Past.{RepresentsSampler}
-use Rattle.fdr_sampler.proofs.Standing.{Stands-record}
+use Rattle.fdr_sampler.proofs.Standing.{Stands-held}
 use Rattle.fdr_sampler.proofs.sampler.Sampler.bus.Goals as goal
 
-pub returns : goal.returns
-returns c = λ past st may.
-    let inside = c.self.inside in
-    let stood : RepresentsSampler (sampler_kept inside) past = subst (λ (k : SamplerKept). RepresentsSampler k past) (sym c.self.view_is) st in
-    Stands-record (sampler_kept inside) _ past c.args.r.now stood may c.hold.ensures.numbers refl c.hold.ensures.sources refl refl refl
+pub returns-clause-held : goal.returns-clause-held
+returns-clause-held c =
+    let Kept : List Source → SamplerKept = λ sources. record (sampler_kept c.self.inside) { sources = sources; held = c.hold.new.self.numbers } in
+    subst (λ (k : SamplerKept). HasHeld k (Kept c.hold.new.self.sources) c.args.r.now) c.self.view_is
+    (record { others = ap Kept c.hold.ensures.sources; numbers = c.hold.ensures.numbers })
+
+pub returns-clause-stands : goal.returns-clause-stands
+returns-clause-stands c = λ past st may. Stands-held c.args.self.now _ past c.args.r.now st may (returns-clause-held c)

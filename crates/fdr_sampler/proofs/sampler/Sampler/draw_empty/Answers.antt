@@ -1,7 +1,5 @@
-use Rattle.std.proofs.Common.{◌≡◌, ◌+◌, ◌-◌, ◌<◌, ◌≤◌, ◌∙◌, ap, sym, subst, arith}
-use Rattle.fdr_table.specs.Rows.{FrameRow}
-use Rattle.fdr_layout.specs.SlotParts.{Laid, laid_of}
-use Rattle.fdr_sampler.specs.Empty.{HasEmptyRun, IsEmptyRun, IsEmptySlot}
+use Rattle.std.proofs.Common.{◌≡◌, ◌+◌, ◌-◌, ◌≤◌, ap, sym, subst, arith}
+use Rattle.fdr_sampler.specs.Empty.{HasEmptyRun, IsEmptyRun}
 use Rattle.fdr_sampler.specs.Kept.{SamplerKept}
 use Rattle.fdr_sampler.specs.SlotWord.{slot_within}
 use Rattle.fdr_sampler.specs.View.{sampler_kept}
@@ -19,23 +17,18 @@ returns-clause-zeros c = λ past st k less.
     let inside = sampler_kept c.self.inside in
     words_empty inside past c.min-count.result k (subst (λ (x : SamplerKept). RepresentsSampler x past) (sym c.self.view_is) st) (run c) less
 
+pub returns-clause-empty : goal.returns-clause-empty
+returns-clause-empty c =
+    let Run : SamplerKept → Type 0 = λ k. HasEmptyRun k.frame k.laid (slot_within k.frame.words k.drawn) c.min-count.result in
+    subst Run c.self.view_is (run c)
+
 -- all that come next in the superframe, where there was room for more
 pub returns-clause-all : goal.returns-clause-all
-returns-clause-all c = λ past st fewer within empty.
+returns-clause-all c = λ fewer.
+    let runs : c.self.inside.empty_next ≡ c.min-count.result = omega (arith, fewer, c.min-count.ensures) in
+    let Run : SamplerKept → Type 0 = λ k. IsEmptyRun k.frame k.laid (slot_within k.frame.words k.drawn) c.min-count.result in
     let f = c.self.inside.frame in
-    let l = c.self.inside.schedule in
-    let slot = slot_within f.words c.self.inside.drawn in
-    let runs = c.self.inside.empty_next in
-    let all : c.min-count.result ≡ runs = omega (arith, fewer, c.min-count.ensures) in
-    let stood : RepresentsSampler (sampler_kept c.self.inside) past = subst (λ (x : SamplerKept). RepresentsSampler x past) (sym c.self.view_is) st in
-    let words : f.words ≡ past.table.frame.words = ap (λ (x : FrameRow). x.words) stood.frame in
-    let at : slot + runs ≡ slot_within past.table.frame.words past.drawn + c.min-count.result =
-    ap (λ n. n + runs) (ap (slot_within f.words) stood.drawn ∙ ap (λ w. slot_within w past.drawn) words)
-    ∙ ap (λ n. slot_within past.table.frame.words past.drawn + n) (sym all) in
-    c.self.invariant.2.ends (omega (arith, at, words, within))
-    (subst (λ n. IsEmptySlot f l n) (sym at) (subst (λ (x : Laid). IsEmptySlot f x (slot_within past.table.frame.words past.drawn + c.min-count.result))
-    (sym stood.laid) (subst (λ (x : FrameRow). IsEmptySlot x (laid_of past.table) (slot_within past.table.frame.words past.drawn + c.min-count.result))
-    (sym stood.frame) empty)))
+    subst Run c.self.view_is (subst (IsEmptyRun f c.self.inside.schedule (slot_within f.words c.self.inside.drawn)) runs c.self.invariant.2)
 
 pub returns-clause-stands : goal.returns-clause-stands
 returns-clause-stands c = λ past st.
@@ -48,7 +41,7 @@ invariant_of-self c =
     let inside = c.self.inside in
     let inv = c.self.invariant in
     let f = inside.frame in
-    let drawn = ap (λ (k : SamplerKept). k.drawn) c.self.view_is ∙ c.requires.1.drawn in
+    let drawn = ap (λ (k : SamplerKept). k.drawn) c.self.view_is in
     let few : c.min-count.result ≤ inside.empty_next = omega (arith, c.min-count.ensures) in (
       record {
         words = inv.0.words;
@@ -56,7 +49,7 @@ invariant_of-self c =
         params = inv.0.params;
         held = inv.0.held;
         raws = inv.0.raws;
-        drawn = omega (arith, drawn, c.from.ensures, c.min-count.ensures, c.requires.2);
+        drawn = omega (arith, drawn, c.from.ensures, c.min-count.ensures, c.requires);
       },
       inv.1,
       subst (λ n. IsEmptyRun f inside.schedule (slot_within f.words (inside.drawn + n)) (inside.empty_next - c.min-count.result)) (sym c.from.ensures)

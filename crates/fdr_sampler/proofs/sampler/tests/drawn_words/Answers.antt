@@ -1,14 +1,12 @@
-use Rattle.std.proofs.Common.{◌+◌, ◌≤◌, ap, ◌∙◌, arith}
+use Rattle.std.proofs.Common.{◌+◌, ap, arith}
 use Rattle.fdr_sampler.specs.Past.{sampler_with_word, sampler_with_words}
 use Rattle.fdr_sampler.proofs.sampler.tests.drawn_words.Goals as goal
 
 pub draw_empty-slot-requires : goal.draw_empty-slot-requires
 draw_empty-slot-requires c =
-    let inv = c.loop-slot.invariant.0 in (
-      sampler_with_word inv.0,
-      c.next_word.ensures.stands inv.0 inv.1,
-      omega (arith, inv.2, c.requires.within_frame, c.loop-slot-test.true),
-    )
+    let inv = c.loop-slot.invariant.0 in
+    let drawn = (c.next_word.ensures.stands inv.0 inv.1).drawn in
+    omega (arith, drawn, inv.2, c.requires.within_frame, c.loop-slot-test.true)
 
 pub loop-slot-preserved : goal.loop-slot-preserved
 loop-slot-preserved c =

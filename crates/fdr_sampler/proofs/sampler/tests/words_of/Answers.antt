@@ -37,17 +37,6 @@ loop-words-preserved c =
           (below_more (λ k. k * 1000000 < r.time * t.frame.words) (vec_len c.loop-words.words) inv.2 ((c.due.ensures past inv.1).0 c.loop-words-test.true)),
     )
 
-pub bus-requires : goal.bus-requires
-unfolding drawn_past
-bus-requires c =
-    let inv = c.loop-words.invariant in
-    let past = drawn_past inv.0 (vec_len c.loop-words.words) in (
-      past,
-      inv.1,
-      first_record inv.0 (vec_len c.loop-words.words) c.args.r.now c.due.result c.requires.kind c.requires.in_time (c.due.ensures past inv.1)
-          c.loop-words-test.false inv.2,
-    )
-
 pub loop-words-2-init : goal.loop-words-2-init
 unfolding drawn_past
 loop-words-2-init c =
@@ -56,7 +45,7 @@ loop-words-2-init c =
     let r = c.args.r.now in
     let may = first_record inv.0 (vec_len c.loop-words.words) r c.due.result c.requires.kind c.requires.in_time (c.due.ensures past inv.1)
     c.loop-words-test.false inv.2 in
-    (sampler_with_record past r, c.bus.ensures past inv.1 may, refl)
+    (sampler_with_record past r, c.bus.ensures.stands past inv.1 may, refl)
 
 pub loop-words-2-preserved : goal.loop-words-2-preserved
 loop-words-2-preserved c =

@@ -1,8 +1,9 @@
 use Rattle.std.proofs.Common.{◌≡◌, ◌≤◌, sym, ap, ◌∙◌, subst, arith}
-use Rattle.std.proofs.lemmas.Result.{IfOk-weaker}
 use Rattle.fdr_table.specs.Rows.{FrameRow, TableRows}
-use Rattle.fdr_stream.specs.Kept.{StreamKept}
+use Rattle.fdr_sampler.specs.Past.{RepresentsSampler, sampler_made}
+use Rattle.fdr_stream.specs.Kept.{StreamKept, stream_at_start, IsBehind}
 use Rattle.fdr_stream.specs.Past.{stream_made, RepresentsStream}
+use Rattle.fdr_stream.proofs.Behind.{caught_up-none, HasEmptyAhead-none}
 use Rattle.fdr_stream.proofs.Standing.{Stands-made}
 use Rattle.fdr_stream.proofs.stream.Stream.new.Goals as goal
 
@@ -12,7 +13,25 @@ returns c =
     let words : c.frame.inside.words ≡ t.frame.words =
     ap (λ (f : FrameRow). f.words) (c.frame.view_is ∙ c.frame-frame.ensures ∙ ap (λ (x : TableRows). x.frame) c.table.ensures) in
     let few : t.frame.words ≤ 1024 = omega arith in
-    IfOk-weaker c.with_sampler.result _ _ (λ (k : StreamKept) is.
-    subst (λ (x : StreamKept). RepresentsStream x (stream_made t c.args.payload)) (sym is)
-    (Stands-made c.in_ok-sampler.sampler t c.args.payload c.requires.low c.requires.high few c.in_ok-sampler.ensures))
-    c.with_sampler.ensures
+    let drawing = c.in_ok-drawing.drawing in
+    let made : RepresentsStream (stream_at_start c.in_ok-sampler.sampler c.args.payload) (stream_made t c.args.payload) =
+    Stands-made c.in_ok-sampler.sampler t c.args.payload c.requires.low c.requires.high few c.in_ok-sampler.ensures in
+    subst (λ (x : StreamKept). RepresentsStream x (stream_made t c.args.payload)) (sym c.in_ok-drawing.ensures ∙ sym (caught_up-none drawing)) made
+
+pub invariant_of-result : goal.invariant_of-result
+invariant_of-result c =
+    let t = c.args.sound.now in
+    let sampler = c.in_ok-sampler.sampler in
+    let start : StreamKept = stream_at_start sampler c.args.payload in
+    let made : RepresentsSampler sampler (sampler_made t) = c.in_ok-sampler.ensures in
+    let words : c.frame.inside.words ≡ t.frame.words =
+    ap (λ (f : FrameRow). f.words) (c.frame.view_is ∙ c.frame-frame.ensures ∙ ap (λ (x : TableRows). x.frame) c.table.ensures) in
+    let frame : sampler.frame.words ≡ t.frame.words = ap (λ (f : FrameRow). f.words) made.frame in
+    subst (λ (x : StreamKept). IsBehind x 0 0 0) (sym c.in_ok-drawing.ensures) (record {
+      empty = HasEmptyAhead-none start (omega (arith, c.requires.low));
+      before_is = omega (arith, made.drawn);
+      within = omega arith;
+      in_time = omega arith;
+      words = omega (arith, words, frame);
+      slots = omega (arith, made.drawn);
+    })
