@@ -17,15 +17,16 @@ abbrev pub first_line : TableRows → List ℕ
 first_line t = frame_line t.frame.words (length t.params) (length (occurrences t.frame.words t.places))
 
 pub line_step : (t : TableRows) (params : List ParamRow) (groups : List (List PlaceRow)) (i : ℕ) (p : ParamRow) (g : List PlaceRow) (w : ℕ)
-    (front old new line : List ℕ) → w ≡ t.frame.words → groups ≡ grouped t.places (length params) → i < length params → p ≡ get_or params i p
-    → g ≡ get_or groups i g → old ≡ front ++ flat_map (line_at t) (enumerate_from 0 (take i params)) → line ≡ param_line (is_even w g i p.rate) p
-    → new ≡ old ++ line → new ≡ front ++ flat_map (line_at t) (enumerate_from 0 (take (i + 1) params))
-line_step t params groups i p g w front old new line words are l is read so_far line_is more =
+    (front old new : List ℕ) → w ≡ t.frame.words → groups ≡ grouped t.places (length params) → i < length params → p ≡ get_or params i p
+    → g ≡ get_or groups i g → old ≡ front ++ flat_map (line_at t) (enumerate_from 0 (take i params))
+    → new ≡ old ++ param_line (is_even w g i p.rate) p → new ≡ front ++ flat_map (line_at t) (enumerate_from 0 (take (i + 1) params))
+line_step t params groups i p g w front old new words are l is read so_far more =
     let before = flat_map (line_at t) (enumerate_from 0 (take i params)) in
     let even : is_even w g i p.rate ≡ is_even t.frame.words t.places i p.rate =
     ap (λ k. is_even k g i p.rate) words ∙ ap (λ ps. is_even t.frame.words ps i p.rate) (group_at t.places (length params) i groups g are l read)
     ∙ is_even_of t.frame.words t.places i p.rate in
-    let here : line ≡ line_at t (i, get_or params i p) = line_is ∙ ap (λ b. param_line b p) even ∙ ap (λ (x : ParamRow). line_at t (i, x)) is in
+    let line = param_line (is_even w g i p.rate) p in
+    let here : line ≡ line_at t (i, get_or params i p) = ap (λ b. param_line b p) even ∙ ap (λ (x : ParamRow). line_at t (i, x)) is in
     more ∙ ap (λ xs. xs ++ line) so_far ∙ append_assoc front before line ∙ ap (λ xs. front ++ (before ++ xs)) here
     ∙ ap (λ xs. front ++ xs) (sym (flat_map-enumerate_from_more (line_at t) params i p l))
 

@@ -1,6 +1,6 @@
 //! The report of a table.
 
-ghost use Rattle.std.specs.Prelude.{◌≡◌, ◌<◌, ◌≤◌, ◌++◌, length, codes, decimal, IfOk};
+ghost use Rattle.std.specs.Prelude.{◌≡◌, ◌<◌, ◌≤◌, ◌++◌, length, codes, decimal, IfOk, OnOk};
 ghost use Rattle.std.specs.List.{enumerate_from};
 ghost use Rattle.fdr_check.specs.Occurrences.{occurrences};
 ghost use Rattle.fdr_check.specs.Report.{is_even, frame_line, param_line, report_of};
@@ -44,38 +44,40 @@ fn frame_line(alloc: Global, words: u32, params: usize, parts: u32) -> Result<Ve
     Ok(line)
 }
 
-/// `param,NAME,RATE,even` or `param,NAME,RATE,uneven`
-fn param_line(alloc: Global, param: &Param, even: bool) -> Result<Vec<u8>, NoMemory>
-    ensures { IfOk result (λ line. line.items ≡ param_line even param.now) }
+/// Adds `param,NAME,RATE,even` or `param,NAME,RATE,uneven`.
+fn add_param_line(text: &mut Vec<u8>, param: &Param, even: bool) -> Result<(), NoMemory>
+    ensures { OnOk result (text.new.items ≡ text.old.items ++ param_line even param.now) }
 {
     let mut digits = Buffer::new();
-    let mut line = Vec::from_slice(alloc, b"param,")?;
-    line.extend_from_slice(param.name.bytes())?;
-    line.extend_from_slice(b",")?;
-    line.extend_from_slice(digits.format(param.rate).as_bytes())?;
+    text.extend_from_slice(b"param,")?;
+    text.extend_from_slice(param.name.bytes())?;
+    text.extend_from_slice(b",")?;
+    text.extend_from_slice(digits.format(param.rate).as_bytes())?;
     if even {
-        line.extend_from_slice(b",even\n")?;
+        text.extend_from_slice(b",even\n")?;
     } else {
-        line.extend_from_slice(b",uneven\n")?;
+        text.extend_from_slice(b",uneven\n")?;
     }
-    Ok(line)
+    Ok(())
 }
 
-/// The line of the parameter with this index, by its own places.
-fn line_of(
+/// Adds the line of the parameter with this index, by its own places. `slots` is room for the slots of a place.
+fn add_line(
+    text: &mut Vec<u8>,
     alloc: Global,
+    slots: &mut Vec<u32>,
     words: u32,
     places: &[Place],
     index: usize,
     param: &Param,
-) -> Result<Vec<u8>, NoMemory>
+) -> Result<(), NoMemory>
     requires some_words { 0 < words }
     requires word_limit { words ≤ 1024 }
-    ensures { IfOk result (λ line. line.items
-        ≡ param_line (is_even words places.now index param.now.rate) param.now) }
+    ensures { OnOk result (text.new.items ≡ text.old.items
+        ++ param_line (is_even words places.now index param.now.rate) param.now) }
 {
-    let even = is_even(alloc, words, places, index, param.rate)?;
-    param_line(alloc, param, even)
+    let even = is_even(alloc, slots, words, places, index, param.rate)?;
+    add_param_line(text, param, even)
 }
 
 /// The report of a sound table: its frame's words, its numbers of parameters and parts, and for each parameter whether
@@ -89,9 +91,10 @@ pub fn report(alloc: Global, t: &Sound) -> Result<Vec<u8>, NoMemory>
     let groups = places_by_param(alloc, params.len(), table.places())?;
     let parts = count_parts(words, table.places());
     let mut text = frame_line(alloc, words, params.len(), parts)?;
+    let mut slots = Vec::new(alloc);
     for (index, param) in params.iter().enumerate() {
-        let line = line_of(alloc, words, groups[index].places(), index, param)?;
-        text.extend_from_slice(&line)?;
+        let places = groups[index].places();
+        add_line(&mut text, alloc, &mut slots, words, places, index, param)?;
     }
     Ok(text)
 }

@@ -2,7 +2,7 @@
 use Rattle.std.proofs.Common.{◌≡◌, ℕ, ◌+◌, ◌*◌, ◌/◌, ◌%◌, ◌^◌, ◌<◌, ◌≤◌, List, ◌++◌, length, get_or, replicate, bit_and, refl, sym, ap, ◌∙◌, arith}
 use Rattle.std.proofs.Common.{eqb, eqb→eq, w8, Fits}
 use Rattle.std.proofs.lemmas.List.{get_or-map, get_or_append_left, get_or_default}
-use Rattle.std.proofs.lemmas.Nat.{and_mask, mod_below}
+use Rattle.std.proofs.lemmas.Nat.{and_mask, mod_below, shr-shr}
 use Rattle.std.proofs.lemmas.Simd.{Each1-from_get_or, Each1-get_or, Each1-chunk, get_or-chunk, get_or_wider, get_or-zip2, get_or-replicate, length-zip2}
 use lib.Lanes.{zip2, pick_l, number_l, digits_l, chunk, Each1}
 use Rattle.fdr_bits.specs.Bits.{word_at}
@@ -58,3 +58,18 @@ pub cut_at-fits : (s : ℕ) (v : List ℕ) → length v ≡ 4 → (k d : ℕ) �
 cut_at-fits s v long k d h =
     let few : k < 4 = omega (arith, length-cut_at s v long) in
     omega (arith, get_or_default (cut_at s v) k d 0 h, get_or-cut_at s v long k few, mod_below (get_or v k 0 / 2 ^ s) (2 ^ 12) (omega arith))
+
+-- ---- the same of numbers without their lowest r bits
+
+abbrev pub from_bit : ℕ → List ℕ → List ℕ
+from_bit r v = zip2 upper v (replicate 4 r)
+
+pub length-from_bit : (r : ℕ) (v : List ℕ) → length v ≡ 4 → length (from_bit r v) ≡ 4
+length-from_bit r v long = length-zip2 upper v (replicate 4 r) long ∙ long
+
+pub cut_behind : (r s : ℕ) (v : List ℕ) → length v ≡ 4 → (m : ℕ) → m < 4 → get_or (cut_at s (from_bit r v)) m 0 ≡ get_or v m 0 / 2 ^ (r + s) % 2 ^ 12
+cut_behind r s v long m few =
+    get_or-cut_at s (from_bit r v) (length-from_bit r v long) m few
+    ∙ ap (λ x. x / 2 ^ s % 2 ^ 12)
+    (get_or-zip2 upper v (replicate 4 r) m 0 0 0 (omega arith) few ∙ ap (λ x. get_or v m 0 / 2 ^ x) (get_or-replicate 4 m r 0 few))
+    ∙ ap (λ x. x % 2 ^ 12) (shr-shr (get_or v m 0) r s)

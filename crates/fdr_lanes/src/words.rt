@@ -50,11 +50,11 @@ fn eight_words(block: u8x16, phase: u32) -> u16x8
     ensures len { length result ≡ 8 }
     ensures words { (k : ℕ) → k < 8 → slice_index result k ≡ word_at block (phase + 12 * k) }
 {
-    let pairs = pairs(block);
+    let from_phase = pairs(block) >> u32x4::splat(phase);
     let twelve_bits = u32x4::splat(0xfff);
     alternate(
-        (pairs >> u32x4::splat(phase)) & twelve_bits,
-        (pairs >> u32x4::splat(phase + 12)) & twelve_bits,
+        from_phase & twelve_bits,
+        (from_phase >> u32x4::splat(12)) & twelve_bits,
     )
 }
 

@@ -182,7 +182,7 @@ impl Plans {
         ensures { IfOk result (λ p. p ≡ record { laid = layout; words = words }) }
     {
         let mut starts = Vec::with_capacity(alloc, usize::from(CYCLES) + 1)?;
-        let mut rows = Vec::new(alloc);
+        let mut rows = Vec::with_capacity(alloc, layout.samples() as usize)?;
         push(&mut starts, 0)?;
         for cycle in 0..CYCLES {
             add_plans(&mut rows, &layout, words, cycle)?;

@@ -1,13 +1,12 @@
 -- A bus word is held for the sources that it is from.
 use Rattle.std.proofs.Common.{◌≡◌, ℕ, ◌+◌, ◌*◌, ◌%◌, ◌<◌, ◌≤◌, ◌⊎◌, inl, inr, ⊎_elim, not}
-use Rattle.std.proofs.Common.{◌==◌, ◌&&◌, Bool, true, false, List, Option, Some, None, length, get_or, set}
-use Rattle.std.proofs.Common.{refl, sym, ap, subst, ◌∙◌, zero-add, get_or-set_same, get_or-set_other, arith}
+use Rattle.std.proofs.Common.{◌==◌, ◌&&◌, Bool, true, false, List, Option, Some, None, length, map, set}
+use Rattle.std.proofs.Common.{refl, sym, ap, subst, ◌∙◌, get_or-set_same, get_or-set_other, arith}
 use Rattle.std.specs.Prelude.{slice_get, slice_index}
-use Rattle.std.specs.List.{enumerate_from}
+use Rattle.std.specs.List.{All}
 use Rattle.std.specs.Option.{option_map_or}
 use Rattle.std.proofs.lemmas.Bool.{cases_eq, cases_Bool, cond-true, cond-false, both_ways, and_parts, and_from, eqb-true, eq-eqb}
-use Rattle.std.proofs.lemmas.List.{get_or-map, length-set}
-use Rattle.std.proofs.lemmas.List.FromFn.{length-enumerate_from, get_or-enumerate_from}
+use Rattle.std.proofs.lemmas.List.{get_or-map, length-map, length-set}
 use Rattle.std.proofs.lemmas.Option.{slice_get_within, get_or_from_slice_get}
 use Rattle.fdr_bus.specs.declared.BusRecord.{BusRecord}
 use Rattle.fdr_bus.specs.declared.RecordKind.{RecordKind}
@@ -15,21 +14,34 @@ use Rattle.fdr_bus.specs.declared.RecordKind.TheVariants.{Word, End}
 use Rattle.fdr_bus.specs.Records.{is_end}
 use Rattle.fdr_bus.specs.Words.{bits_at, is_odd, label_of, sdi_of}
 use Rattle.fdr_bus.proofs.Labels.{label_fits, label_of-low, label_turns}
+use Rattle.fdr_lists.proofs.Numbered.{slice_get_some}
+use Rattle.fdr_sampler.specs.declared.held_words.HeldSource.{HeldSource}
 use Rattle.fdr_sampler.specs.Held.{Source, is_from}
-use Rattle.fdr_sampler.specs.HeldWords.{place_of, number_held, held_numbers, own_word, AreHeldWords}
+use Rattle.fdr_sampler.specs.HeldWords.{place_of, number_held, held_numbers, own_word, HasWord, AreHeldWords}
 use Rattle.fdr_sampler.specs.Kept.{number_held_after}
 
--- ---- the number of a source
+-- ---- a source that is kept with its place
 
-pub number_at : (sources : List Source) (places words : List ℕ) (n : ℕ) (s : Source) → slice_get sources n ≡ Some s
-    → slice_index (held_numbers sources places words).numbers n ≡ number_held places words (n, s)
-number_at sources places words n s got =
-    let within = slice_get_within sources n s got in
-    let all = enumerate_from 0 sources in
-    let here : get_or all n (n, s) ≡ (n, s) =
-    get_or-enumerate_from 0 sources n (n, s) within ∙ ap (λ m. (m, get_or sources n s)) (zero-add n)
-    ∙ ap (λ x. (n, x)) (get_or_from_slice_get sources n s s got) in
-    get_or-map (number_held places words) all n (n, s) 0 (omega (arith, length-enumerate_from 0 sources, within)) ∙ ap (number_held places words) here
+-- what holds of each holds of the one with this number
+pub of_held : (P : HeldSource → Type 0) (held : List HeldSource) (n : ℕ) (h : HeldSource) → All P held → slice_get held n ≡ Some h → P h
+of_held P held n h all got = subst P (get_or_from_slice_get held n h h got) (all n h (slice_get_within held n h got))
+
+-- the source with this number is one of those
+pub kept_source : (held : List HeldSource) (n : ℕ) (s : Source) → slice_get (map (λ (h : HeldSource). h.source) held) n ≡ Some s
+    → (h : HeldSource) × (slice_get held n ≡ Some h) × (h.source ≡ s)
+kept_source held n s got =
+    let of = λ (h : HeldSource). h.source in
+    let within : n < length held = omega (arith, slice_get_within (map of held) n s got, length-map held of) in
+    let h = slice_get_some held n within in
+    let same : h.0.source ≡ s =
+    ap of (sym (get_or_from_slice_get held n h.0 h.0 h.1)) ∙ sym (get_or-map of held n h.0 s within)
+    ∙ get_or_from_slice_get (map of held) n s s got in
+    (h.0, h.1, same)
+
+pub number_at : (held : List HeldSource) (words : List ℕ) (n : ℕ) (h : HeldSource) → slice_get held n ≡ Some h
+    → slice_index (held_numbers held words).numbers n ≡ number_held words h
+number_at held words n h got =
+    get_or-map (number_held words) held n h 0 (slice_get_within held n h got) ∙ ap (number_held words) (get_or_from_slice_get held n h h got)
 
 -- ---- which sources a word is from
 
@@ -74,6 +86,10 @@ fits_own : (asked : Option ℕ) (sdi : ℕ) → own_word asked ≡ sdi → fits_
 fits_own None sdi is = refl
 fits_own (Some x) sdi is = eq-eqb sdi x (sym is)
 
+pub own_below : (asked : Option ℕ) → ((x : ℕ) → asked ≡ Some x → x < 4) → own_word asked < 5
+own_below None low = omega arith
+own_below (Some x) low = omega (arith, low x refl)
+
 -- a word that is put in two places
 put_there : (words : List ℕ) (i j v k : ℕ) → i < length words → j < length words → (k ≡ i) ⊎ (k ≡ j) → slice_index (set (set words i v) j v) k ≡ v
 put_there words i j v k room also at =
@@ -93,9 +109,9 @@ pub record Begins (starts : List ℕ) (r : BusRecord) (start : ℕ) : Type 0 whe
   pub odd : is_odd r.word ≡ true → start ≡ slice_index starts (r.bus * 256 + r.word % 256)
   pub even : is_odd r.word ≡ false → start ≡ 0
 
-begins_within : (sources : List Source) (places starts : List ℕ) (count : ℕ) (r : BusRecord) (start : ℕ) → AreHeldWords sources places starts count
-    → Begins starts r start → (start + 5 ≤ count) × (start % 5 ≡ 0)
-begins_within sources places starts count r start are at =
+begins_within : (held : List HeldSource) (starts : List ℕ) (count : ℕ) (r : BusRecord) (start : ℕ) → AreHeldWords held starts count → Begins starts r start
+    → (start + 5 ≤ count) × (start % 5 ≡ 0)
+begins_within held starts count r start are at =
     let k = r.bus * 256 + r.word % 256 in
     ⊎_elim
     (λ odd. (omega (arith, at.odd odd, are.begin.within k), omega (arith, at.odd odd, are.begin.fives k)))
@@ -103,48 +119,54 @@ begins_within sources places starts count r start are at =
     (cases_Bool (is_odd r.word))
 
 -- a source whose word is one of those is from that bus and label
-same_begin : (sources : List Source) (places starts : List ℕ) (count : ℕ) (r : BusRecord) (start n k : ℕ) (s : Source)
-    → AreHeldWords sources places starts count → Begins starts r start → slice_get sources n ≡ Some s → k < 5 → slice_index places n ≡ start + k
-    → (own_word s.sdi ≡ k) × (is_odd r.word ≡ true) × (place_of s ≡ r.bus * 256 + r.word % 256)
-same_begin sources places starts count r start n k s are at got few is =
-    let has = are.words n s got in
-    let fives = are.begin.fives (place_of s) in
-    let whole = (begins_within sources places starts count r start are at).1 in
-    let same : slice_index starts (place_of s) ≡ start = omega (arith, has.at, has.own, fives, whole, is) in
-    let own : own_word s.sdi ≡ k = omega (arith, has.at, same, is) in
+same_begin : (held : List HeldSource) (starts : List ℕ) (count : ℕ) (r : BusRecord) (start k : ℕ) (h : HeldSource) → AreHeldWords held starts count
+    → Begins starts r start → HasWord starts h → k < 5 → h.at ≡ start + k
+    → (own_word h.source.sdi ≡ k) × (is_odd r.word ≡ true) × (place_of h.source ≡ r.bus * 256 + r.word % 256)
+same_begin held starts count r start k h are at has few is =
+    let fives = are.begin.fives (place_of h.source) in
+    let whole = (begins_within held starts count r start are at).1 in
+    let same : slice_index starts (place_of h.source) ≡ start = omega (arith, has.at, own_below h.source.sdi has.two_bits, fives, whole, is) in
+    let own : own_word h.source.sdi ≡ k = omega (arith, has.at, same, is) in
     ⊎_elim
-    (λ odd. (own, odd, are.begin.apart (place_of s) (r.bus * 256 + r.word % 256) has.begun (same ∙ at.odd odd)))
+    (λ odd. (own, odd, are.begin.apart (place_of h.source) (r.bus * 256 + r.word % 256) has.begun (same ∙ at.odd odd)))
     (λ even. absurd (omega (arith, has.begun, same, at.even even)))
     (cases_Bool (is_odd r.word))
 
 -- A word that is put in the word of its SDI and in the one of any SDI is held for the sources that it is from, and for no
 -- others.
-pub holds : (sources : List Source) (places starts words : List ℕ) (r : BusRecord) (start sdi : ℕ) → AreHeldWords sources places starts (length words)
-    → Begins starts r start → r.kind ≡ Word → sdi < 4 → sdi ≡ sdi_of r.word → (n : ℕ) (s : Source) → slice_get sources n ≡ Some s
-    → slice_index (held_numbers sources places (set (set words (start + sdi) r.word) (start + 4) r.word)).numbers n
-    ≡ number_held_after s r (slice_index (held_numbers sources places words).numbers n)
-holds sources places starts words r start sdi are at kind low sdi_is n s got =
-    let has = are.words n s got in
-    let count = length words in
-    let room = (begins_within sources places starts count r start are at).0 in
-    let after = set (set words (start + sdi) r.word) (start + 4) r.word in
+held_after : (held : List HeldSource) (starts words : List ℕ) (r : BusRecord) (start sdi : ℕ) → AreHeldWords held starts (length words) → Begins starts r start
+    → r.kind ≡ Word → sdi < 4 → sdi ≡ sdi_of r.word → (h : HeldSource) → HasWord starts h
+    → number_held (set (set words (start + sdi) r.word) (start + 4) r.word) h ≡ number_held_after h.source r (number_held words h)
+held_after held starts words r start sdi are at kind low sdi_is h has =
+    let s = h.source in
+    let room = (begins_within held starts (length words) r start are at).0 in
     let field : ℕ → ℕ = λ word. bits_at word s.lsb s.width in
-    let place = slice_index places n in
-    number_at sources places after n s got ∙ ⊎_elim
+    ⊎_elim
     (λ (from : is_from s r ≡ true).
     let parts = from_parts s r from in
     let begin : start ≡ slice_index starts (place_of s) = at.odd parts.0 ∙ ap (slice_index starts) (sym parts.1) in
-    let there : (place ≡ start + sdi) ⊎ (place ≡ start + 4) =
+    let there : (h.at ≡ start + sdi) ⊎ (h.at ≡ start + 4) =
     ⊎_elim (λ own. inl (omega (arith, own, begin, has.at, sdi_is))) (λ any. inr (omega (arith, any, begin, has.at)))
     (own_of s.sdi (sdi_of r.word) parts.2) in
-    ap field (put_there words (start + sdi) (start + 4) r.word place (omega (arith, room)) (omega (arith, room)) there) ∙ sym (cond-true _ _ _ from))
+    ap field (put_there words (start + sdi) (start + 4) r.word h.at (omega (arith, room)) (omega (arith, room)) there) ∙ sym (cond-true _ _ _ from))
     (λ (other : is_from s r ≡ false).
-    let not_own : place ≡ start + sdi → ⊥ = λ is.
-    let b = same_begin sources places starts count r start n sdi s are at got (omega (arith, low)) is in
+    let not_own : h.at ≡ start + sdi → ⊥ = λ is.
+    let b = same_begin held starts (length words) r start sdi h are at has (omega (arith, low)) is in
     both_ways (is_from s r) other (from_by s r kind b.1 b.2 has.label (fits_own s.sdi (sdi_of r.word) (b.0 ∙ sdi_is))) in
-    let not_any : place ≡ start + 4 → ⊥ = λ is.
-    let b = same_begin sources places starts count r start n 4 s are at got (omega arith) is in
+    let not_any : h.at ≡ start + 4 → ⊥ = λ is.
+    let b = same_begin held starts (length words) r start 4 h are at has (omega arith) is in
     both_ways (is_from s r) other (from_by s r kind b.1 b.2 has.label (fits_any s.sdi (sdi_of r.word) has.two_bits b.0)) in
-    ap field (put_elsewhere words (start + sdi) (start + 4) r.word place not_own not_any) ∙ sym (number_at sources places words n s got)
-    ∙ sym (cond-false _ _ _ other))
+    ap field (put_elsewhere words (start + sdi) (start + 4) r.word h.at not_own not_any) ∙ sym (cond-false _ _ _ other))
     (cases_Bool (is_from s r))
+
+pub holds : (held : List HeldSource) (starts words : List ℕ) (r : BusRecord) (start sdi : ℕ) → AreHeldWords held starts (length words) → Begins starts r start
+    → r.kind ≡ Word → sdi < 4 → sdi ≡ sdi_of r.word → (n : ℕ) (s : Source) → slice_get (map (λ (h : HeldSource). h.source) held) n ≡ Some s
+    → slice_index (held_numbers held (set (set words (start + sdi) r.word) (start + 4) r.word)).numbers n
+    ≡ number_held_after s r (slice_index (held_numbers held words).numbers n)
+holds held starts words r start sdi are at kind low sdi_is n s got =
+    let kept = kept_source held n s got in
+    let h = kept.0 in
+    let after = set (set words (start + sdi) r.word) (start + 4) r.word in
+    number_at held after n h kept.1 ∙ held_after held starts words r start sdi are at kind low sdi_is h (of_held (HasWord starts) held n h are.words kept.1)
+    ∙ ap (number_held_after h.source r) (sym (number_at held words n h kept.1))
+    ∙ ap (λ x. number_held_after x r (slice_index (held_numbers held words).numbers n)) kept.2

@@ -1,8 +1,9 @@
 -- The bus words that are held for sources.
-use Rattle.std.specs.Prelude.{ℕ, ◌≡◌, ◌<◌, ◌≤◌, ◌+◌, ◌*◌, ◌%◌, List, Option, Some, length, map, slice_get, slice_index}
-use Rattle.std.specs.List.{enumerate_from}
+use Rattle.std.specs.Prelude.{ℕ, ◌≡◌, ◌<◌, ◌≤◌, ◌+◌, ◌*◌, ◌%◌, List, Option, Some, length, map, slice_index}
+use Rattle.std.specs.List.{All}
 use Rattle.std.specs.Option.{unwrap_or}
 use Rattle.fdr_bus.specs.Words.{bits_at, label_of}
+use Rattle.fdr_sampler.specs.declared.held_words.HeldSource.{HeldSource}
 use Rattle.fdr_sampler.specs.Held.{Source}
 
 -- how many pairs of a bus and a label there are
@@ -19,12 +20,12 @@ pub record HeldNumbers : Type 0 where
   pub sources : List Source
   pub numbers : List ℕ
 
--- the raw number of a source in the word at its place
-abbrev pub number_held : List ℕ → List ℕ → ℕ × Source → ℕ
-number_held places words e = bits_at (slice_index words (slice_index places e.0)) e.1.lsb e.1.width
+-- the raw number of a source in its word
+abbrev pub number_held : List ℕ → HeldSource → ℕ
+number_held words h = bits_at (slice_index words h.at) h.source.lsb h.source.width
 
-abbrev pub held_numbers : List Source → List ℕ → List ℕ → HeldNumbers
-held_numbers sources places words = record { sources = sources; numbers = map (number_held places words) (enumerate_from 0 sources) }
+abbrev pub held_numbers : List HeldSource → List ℕ → HeldNumbers
+held_numbers held words = record { sources = map (λ (h : HeldSource). h.source) held; numbers = map (number_held words) held }
 
 -- Which of the words of a bus and a label is a source's: the one of its SDI, or the last one, which is of any SDI.
 abbrev pub own_word : Option ℕ → ℕ
@@ -39,16 +40,14 @@ pub record AreLabelStarts (starts : List ℕ) (end : ℕ) : Type 0 where
   pub whole : end % 5 ≡ 0
   pub apart : (k m : ℕ) → 0 < slice_index starts k → slice_index starts k ≡ slice_index starts m → k ≡ m
 
--- the source has a word of those of its bus and label
-pub record HasWord (starts : List ℕ) (s : Source) (place : ℕ) : Type 0 where
-  pub begun : 0 < slice_index starts (place_of s)
-  pub label : s.label < 256
-  pub own : own_word s.sdi < 5
-  pub at : place ≡ slice_index starts (place_of s) + own_word s.sdi
-  pub two_bits : (sdi : ℕ) → s.sdi ≡ Some sdi → sdi < 4
+-- the source's word is one of those of its bus and label
+pub record HasWord (starts : List ℕ) (h : HeldSource) : Type 0 where
+  pub begun : 0 < slice_index starts (place_of h.source)
+  pub label : h.source.label < 256
+  pub at : h.at ≡ slice_index starts (place_of h.source) + own_word h.source.sdi
+  pub two_bits : (sdi : ℕ) → h.source.sdi ≡ Some sdi → sdi < 4
 
 -- each source has its word among so many
-pub record AreHeldWords (sources : List Source) (places starts : List ℕ) (count : ℕ) : Type 0 where
+pub record AreHeldWords (held : List HeldSource) (starts : List ℕ) (count : ℕ) : Type 0 where
   pub begin : AreLabelStarts starts count
-  pub each : length places ≡ length sources
-  pub words : (n : ℕ) (s : Source) → slice_get sources n ≡ Some s → HasWord starts s (slice_index places n)
+  pub words : All (HasWord starts) held

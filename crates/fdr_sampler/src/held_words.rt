@@ -7,7 +7,7 @@ ghost use Rattle.fdr_sampler.specs.HeldWords.{bus_labels, AreLabelStarts};
 ghost use Rattle.fdr_sampler.specs.Kept.{number_held_after};
 
 use crate::sampler::zeros;
-use crate::source::{ANY_SDI, Source, place, sources_of};
+use crate::source::{ANY_SDI, Source, place};
 use fdr_bus::{BusRecord, is_odd, sdi};
 use fdr_check::push;
 use fdr_table::{NoMemory, Param};
@@ -20,12 +20,17 @@ const BUS_LABELS: usize = 65_536;
 /// How many words are held of a bus and a label: one of each SDI, and one of any.
 const WORDS: u32 = 5;
 
+/// A source, with where its word is among those that are held.
+#[derive(Drop)]
+pub(crate) struct HeldSource {
+    source: Source,
+    at: u32,
+}
+
 /// The sources of the parameters, in their order, and the bus words that are held for them.
 #[derive(Drop)]
 pub(crate) struct HeldWords {
-    sources: Vec<Source>,
-    // Where each source has its word.
-    places: Vec<u32>,
+    sources: Vec<HeldSource>,
     // Where the words of each bus and label begin; 0 where no parameter is from there.
     starts: Vec<u32>,
     // The first five are of no parameter.
@@ -37,9 +42,9 @@ impl Model for HeldWords {
 
     ghost Value = { HeldNumbers };
 
-    ghost view = { λ h. held_numbers h.sources.items h.places.items h.words.items };
+    ghost view = { λ h. held_numbers h.sources.items h.words.items };
 
-    ghost invariant = { λ h. AreHeldWords h.sources.items h.places.items h.starts.items h.words.len };
+    ghost invariant = { λ h. AreHeldWords h.sources.items h.starts.items h.words.len };
 }
 
 impl HeldWords {
@@ -49,19 +54,19 @@ impl HeldWords {
         ensures sources { IfOk result (λ h. h.sources ≡ map source_of params.now) }
         ensures numbers { IfOk result (λ h. h.numbers ≡ replicate (length params.now) 0) }
     {
-        let sources = sources_of(alloc, params)?;
         let mut starts = zeros(alloc, BUS_LABELS)?;
-        let mut places = Vec::with_capacity(alloc, sources.len())?;
+        let mut sources = Vec::with_capacity(alloc, params.len())?;
         let mut end = WORDS;
-        for source in &sources {
+        for param in params {
+            let source = Source::of(param);
             let place = source.place();
             end = begin(&mut starts, place, end);
-            push(&mut places, starts[place as usize] + source.own_word())?;
+            let at = starts[place as usize] + source.own_word();
+            push(&mut sources, HeldSource { source, at })?;
         }
         let words = zeros(alloc, end as usize)?;
         Ok(HeldWords {
             sources,
-            places,
             starts,
             words,
         })
@@ -89,9 +94,8 @@ impl HeldWords {
         requires { source < length self.now.sources }
         ensures { result ≡ slice_index self.now.numbers source }
     {
-        let number = source as usize;
-        let word = self.words[self.places[number] as usize];
-        self.sources[number].raw(word)
+        let held = &self.sources[source as usize];
+        held.source.raw(self.words[held.at as usize])
     }
 }
 

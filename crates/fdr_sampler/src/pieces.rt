@@ -39,7 +39,7 @@ fn earliest_slot(first: &Part, parts: &[Part]) -> u32
 pub(crate) fn first_slots(alloc: Global, layout: &Layout) -> Result<Vec<u32>, NoMemory>
     ensures { IfOk result (λ v. v.items ≡ map first_part_slot layout.now.samples) }
 {
-    let mut firsts = Vec::new(alloc);
+    let mut firsts = Vec::with_capacity(alloc, layout.samples() as usize)?;
     for number in 0..layout.samples() {
         push(&mut firsts, first_slot(layout.parts(number)))?;
     }

@@ -82,8 +82,8 @@ impl Sampler {
         before.saturating_sub(self.drawn)
     }
 
-    /// Takes the next bus word. All slots before its time must have been drawn, but for empty ones that may still be drawn
-    /// as if they had been, and no others. Takes no memory.
+    /// Holds the next bus word. It counts for the slots that it should where all slots before its time were drawn, and no
+    /// others; of these, empty ones may as well be drawn later. Takes no memory.
     pub fn bus(&mut self, r: &BusRecord)
         requires { r.now.kind ≡ Word }
         ensures held { HasHeld self.old self.new r.now }

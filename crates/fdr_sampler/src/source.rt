@@ -1,13 +1,12 @@
 //! Where the parameters come from.
 
-ghost use Rattle.std.specs.Prelude.{◌≡◌, ◌<◌, ◌≤◌, ◌+◌, ◌-◌, ◌*◌, ◌^◌, ℕ, IfOk, Some, map};
+ghost use Rattle.std.specs.Prelude.{◌≡◌, ◌<◌, ◌≤◌, ◌+◌, ◌-◌, ◌*◌, ◌^◌, ℕ, Some};
 ghost use Rattle.fdr_bus.specs.Words.{bits_at};
 ghost use Rattle.fdr_sampler.specs.Held.{Source, source_of};
 ghost use Rattle.fdr_sampler.specs.HeldWords.{bus_labels, own_word, place_of};
 
 use fdr_bus::label;
-use fdr_table::{NoMemory, Param};
-use std::alloc::Global;
+use fdr_table::Param;
 use std::marker::Model;
 
 /// Which of the five words that are held of a bus and a label is of any SDI; the others are of SDI 0 to 3.
@@ -40,7 +39,7 @@ impl Model for Source {
 
 impl Source {
     /// The source of a parameter.
-    fn of(param: &Param) -> Source
+    pub(crate) fn of(param: &Param) -> Source
         ensures { result ≡ source_of param.now }
     {
         Source {
@@ -97,17 +96,4 @@ pub(crate) fn place(bus: u8, first: u8) -> u32
     ensures within { result < bus_labels }
 {
     u32::from(bus) * 256 + u32::from(first)
-}
-
-/// The sources of the parameters, in their order.
-pub(crate) fn sources_of(alloc: Global, params: &[Param]) -> Result<Vec<Source>, NoMemory>
-    ensures { IfOk result (λ v. v.items ≡ map source_of params.now) }
-{
-    let mut sources = Vec::new(alloc);
-    for param in params {
-        if sources.push(Source::of(param)).is_err() {
-            return Err(NoMemory);
-        }
-    }
-    Ok(sources)
 }

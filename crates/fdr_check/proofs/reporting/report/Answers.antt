@@ -37,13 +37,11 @@ loop-index-preserved c =
     let words : w ≡ t.frame.words = c.words_of-words.ensures.words ∙ ap (λ (x : TableRows). x.frame.words) same in
     let places : c.places.result.now ≡ t.places = c.places.ensures ∙ ap (λ (x : TableRows). x.places) same in
     let groups : c.in_ok-groups.groups.items ≡ grouped t.places (length params) = c.in_ok-groups.ensures ∙ ap (λ ps. grouped ps (length params)) places in
-    let line : c.in_ok-line.line.items ≡ param_line (is_even w g i p.rate) p =
-    c.in_ok-line.ensures ∙ ap (λ ps. param_line (is_even w ps i p.rate) p) c.places-in-loop-index.ensures in
-    let more : c.extend_from_slice.new.self.items ≡ c.loop-index.text.items ++ c.in_ok-line.line.items =
-    c.in_ok-extend_from_slice.ensures.items ∙ ap (λ xs. c.loop-index.text.items ++ xs) c.deref.ensures.value in
+    let more : c.add_line.new.text.items ≡ c.loop-index.text.items ++ param_line (is_even w g i p.rate) p =
+    c.in_ok-add_line.ensures ∙ ap (λ ps. c.loop-index.text.items ++ param_line (is_even w ps i p.rate) p) c.places-places.ensures in
     line_step t params c.in_ok-groups.groups.items i p g w (first_line t)
-    c.loop-index.text.items c.extend_from_slice.new.self.items c.in_ok-line.line.items words groups c.loop-index-test.true c.index-params-index.is
-    c.index.ensures c.loop-index.invariant line more
+    c.loop-index.text.items c.add_line.new.text.items words groups c.loop-index-test.true c.index-params-index.is c.index.ensures
+    c.loop-index.invariant more
 
 pub returns : goal.returns
 returns c =

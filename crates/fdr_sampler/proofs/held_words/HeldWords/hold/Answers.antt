@@ -14,6 +14,7 @@ returns-clause-numbers c = λ n s got.
     let inside = c.self.inside in
     let r = c.args.r.now in
     let starts = inside.starts.items in
+    let held = inside.sources.items in
     let len : inside.words.len ≡ length inside.words.items = omega arith in
     let begin : Begins starts r c.if-is_odd.start = elim c.if-is_odd.branch [
       | then-is_odd w ↦ record {
@@ -28,9 +29,9 @@ returns-clause-numbers c = λ n s got.
       }
     ] in
     let sdi : c.from.result ≡ sdi_of r.word = c.from.ensures ∙ c.sdi.ensures.value in
-    subst (λ (h : HeldNumbers). slice_index (held_numbers inside.sources.items inside.places.items
+    subst (λ (h : HeldNumbers). slice_index (held_numbers held
     (slice_set (slice_set inside.words.items (c.if-is_odd.start + c.from.result) r.word) (c.if-is_odd.start + 4) r.word)).numbers n
     ≡ number_held_after s r (slice_index h.numbers n)) c.self.view_is
-    (holds inside.sources.items inside.places.items starts inside.words.items r c.if-is_odd.start c.from.result
-    (subst (AreHeldWords inside.sources.items inside.places.items starts) len c.self.invariant) begin c.requires
+    (holds held starts inside.words.items r c.if-is_odd.start c.from.result
+    (subst (AreHeldWords held starts) len c.self.invariant) begin c.requires
     (omega (arith, sdi, c.sdi.ensures.two_bits)) sdi n s (ap (λ (h : HeldNumbers). slice_get h.sources n) c.self.view_is ∙ got))
