@@ -1,13 +1,14 @@
 #!/usr/bin/env python3
 """Measures the built program on large inputs, beside `cat` of the same bytes.
 
-    tools/bench.py PROGRAM [--size MB] [--repeat N] [--folder FOLDER] [--only WORD]
+    tools/bench.py PROGRAM [--size MB] [--repeat N] [--folder FOLDER] [--memory FOLDER] [--only WORD]
 
 The inputs are made here, in a folder that is removed at the end, and without the program: tables, frames by them,
 noise, frames with a bit too many in each, traces, and a full image. The seed is fixed, so the inputs are the same in
 every run. Each work is run once with its output in a file, for its size, and then N times with its output to
 /dev/null; the run with the middle seconds of the processor counts. `cat` of the same file to /dev/null is what
-reading the bytes costs.
+reading the bytes costs. Recordings go into an image on a file system in memory, where a sync costs next to nothing, and
+which is made anew before each run.
 
 It prints the machine, and a table in Markdown: bytes in and out, seconds of the processor (of the program, and of the
 system for it), bytes of the input a second of these, the most memory, and the seconds of `cat`. docs/PERFORMANCE.md
@@ -35,6 +36,7 @@ from inputs import HEAD, HEADER, OPEN, ORDINARY, SYNCS, T1, empty_image, end_at,
 from measure_record import PAYLOAD, SLOTS, SUPERFRAME, print_row, run
 
 COUNTERS = 4096
+DRILLED = 20_000  # frames of a drill
 DISTINCT = 256  # frames with data of their own, before they come again with other counters
 MOST_WORDS = 50  # that a parameter sends in a second
 MB = 1_000_000
@@ -42,7 +44,7 @@ SECOND = 1_000_000  # microseconds
 
 Parameter = collections.namedtuple("Parameter", "bus label sdi rate")
 Place = collections.namedtuple("Place", "subframes word step lsb width cycle period")
-Work = collections.namedtuple("Work", "name words given measured")
+Work = collections.namedtuple("Work", "name words given measured image")
 
 
 # --- tables
@@ -199,8 +201,9 @@ def write_trace(path, table, seconds, chance):
 # --- the works
 
 
-def make_works(room, size, hours):
-    """Makes the inputs in a folder, and answers the works: the words, the input and the file whose bytes count."""
+def make_works(room, memory, size, hours):
+    """Makes the inputs in a folder, and answers the works: the words, the input, the file whose bytes count, and the image that is
+    made anew in a folder in memory."""
     chance = random.Random(717)
     texts = {"t1": T1, "ordinary": ORDINARY, "dense": dense_table(), "full": full_table(), "largest": largest_table()}
     for name, text in texts.items():
@@ -212,8 +215,8 @@ def make_works(room, size, hours):
 
     works = []
 
-    def add(name, words, given=None, measured=None):
-        works.append(Work(name, words, given or os.devnull, measured or given))
+    def add(name, words, given=None, measured=None, image=None):
+        works.append(Work(name, words, given or os.devnull, measured or given, image))
 
     for name in ("t1", "ordinary", "dense"):
         line, frame = frames(table_of[name], chance)
@@ -232,6 +235,12 @@ def make_works(room, size, hours):
         write_trace(at(f"{name}.trace"), table_of[name], int(seconds * hours), chance)
         what = {"full": "four parts in each slot"}.get(name, f"the {name} table")
         add(f"stream, {what}, {seconds // 3600 * hours:g} h", ["stream", at(f"{name}.csv")], at(f"{name}.trace"))
+    image = memory / "recorded.img"
+    for name, seconds in (("ordinary", 25 * 3600), ("dense", 3600)):
+        words = ["record", at(f"{name}.csv"), image]
+        add(f"record, the {name} table, {seconds // 3600 * hours:g} h", words, at(f"{name}.trace"), image=image)
+    words = ["drill", at("ordinary.csv"), image, "--seed", "7", "--frames", str(DRILLED)]
+    add(f"drill, the ordinary table, {DRILLED:,} frames", words, measured=at("ordinary.csv"), image=image)
     add("check, the largest table", ["check", at("largest.csv")], measured=at("largest.csv"))
     return works
 
@@ -239,18 +248,34 @@ def make_works(room, size, hours):
 # --- the runs
 
 
-def middle_run(words, given, repeat):
+def make_anew(work):
+    """Makes the image of a work without blocks, by the table that its words name second."""
+    if work.image:
+        words = Table(work.words[1].read_bytes()).words
+        work.image.write_bytes(empty_image(SLOTS, PAYLOAD, words))
+
+
+def runs_of(words, work, repeat):
+    for _ in range(repeat):
+        make_anew(work)
+        yield run(words, given=work.given)
+
+
+def middle_run(runs):
     """The run with the middle seconds of the processor, and the most memory of all."""
-    runs = sorted((run(words, given=given) for _ in range(repeat)), key=lambda one: one.processor)
+    runs = sorted(runs, key=lambda one: one.processor)
+    repeat = len(runs)
     return runs[repeat // 2]._replace(peak=max(one.peak for one in runs))
 
 
 def row_of(program, work, repeat, room):
     words, shown = [program, *work.words], room / "shown"
+    make_anew(work)
     run(words, given=work.given, written=shown)
     written, read = shown.stat().st_size, work.measured.stat().st_size
     shown.unlink()
-    figures, floor = middle_run(words, work.given, repeat), middle_run(["cat", work.measured], os.devnull, repeat)
+    figures = middle_run(runs_of(words, work, repeat))
+    floor = middle_run([run(["cat", work.measured]) for _ in range(repeat)])
     speed = f"{read / figures.processor / MB:,.0f}" if figures.processor else "-"
     cells = [work.name, f"{read:,}", f"{written:,}", f"{figures.processor:.3f}", speed, f"{figures.peak:.1f}"]
     return cells + [f"{floor.processor:.3f}"]
@@ -273,12 +298,14 @@ def main():
     words.add_argument("--hours", type=float, default=1, help="what the hours of the traces are multiplied by")
     words.add_argument("--repeat", type=int, default=5)
     words.add_argument("--folder", help="where the inputs are made")
+    words.add_argument("--memory", default="/dev/shm", help="where the images are made that are recorded in")
     words.add_argument("--only", default="", help="the works with this in their names")
     given = words.parse_args()
     print(f"{machine()}\n")
-    with tempfile.TemporaryDirectory(prefix="fdr_bench_", dir=given.folder) as room:
-        room = pathlib.Path(room)
-        works = [work for work in make_works(room, given.size * MB, given.hours) if given.only in work.name]
+    prefix = "fdr_bench_"
+    with tempfile.TemporaryDirectory(prefix=prefix, dir=given.folder) as room, tempfile.TemporaryDirectory(prefix=prefix, dir=given.memory) as memory:
+        room, memory = pathlib.Path(room), pathlib.Path(memory)
+        works = [work for work in make_works(room, memory, given.size * MB, given.hours) if given.only in work.name]
         print_row(["work", "bytes in", "bytes out", "seconds", "MB a second", "peak MB", "`cat`, seconds"])
         print_row(["---"] + ["---:"] * 6)
         for work in works:

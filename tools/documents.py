@@ -5,15 +5,22 @@
     tools/documents.py check    prints what differs, and ends with 1 where something does
 
 The check wants: the pages of docs/clauses as the source says; each name in `these marks` of docs/GUARANTEES.md and
-docs/LAYERS.md to be one of the source; README.md to say of how many definitions the contract of `run` speaks;
-docs/MODEL.md to list exactly the public definitions of specs/, crate by crate; the crates' edges in
-docs/ARCHITECTURE.md to be those of crates.txt; the forms, statuses and texts of docs/fdr.1 to be those of the source;
-README.md, CHANGELOG.md and docs/fdr.1 to name the version of VERSION; each link to lead to a file and heading; no two
-public definitions of specs/ to share a name; and no line of specs/ and proofs/ to be over 160 columns.
+docs/LAYERS.md to be one of the source; each clause in a row of docs/LAYERS.md to be one of the calls that the row names;
+README.md to say of how many definitions the contract of `run` speaks; docs/MODEL.md to list exactly the public
+definitions of specs/, crate by crate; the crates' edges in docs/ARCHITECTURE.md to be those of crates.txt; the forms,
+statuses and texts of docs/fdr.1 to be those of the source; README.md, CHANGELOG.md and docs/fdr.1 to name the version of
+VERSION; README.md and docs/GUARANTEES.md to name the logic of the kit that is here; each link to lead to a file and
+heading; no two public definitions of specs/ to share a name; and no line of specs/ and proofs/ to be over 160 columns.
+
+It notes, and that is no difference: another kit of the same logic than the documents name, and an edge of crates.txt
+that no file of its crate uses.
 """
 
+import functools
 import pathlib
 import re
+import shutil
+import subprocess
 import sys
 
 TOP = pathlib.Path(__file__).resolve().parent.parent
@@ -239,6 +246,65 @@ def check_guarantees():
                         yield f"docs/{page}:{number}: nothing is named `{name}`"
 
 
+def clauses_of_calls():
+    """Each public function: its crate, its owner or none, its name, and the names of its `ensures` clauses."""
+    for crate, _ in crate_lines():
+        names = exported(crate)
+        for path in source_files(crate):
+            for owner, name, public, contract in functions(path):
+                if public and (owner or name) in names:
+                    yield crate, owner, name, set(re.findall(r"^    ensures\*? (\w+) \{", "\n".join(contract), re.M))
+
+
+def calls_in(cell, known):
+    """The calls that a cell names: each mark with the clauses of the functions that it may be.
+
+    `T::f` is that of a type or trait, `f` of the same one where it has such a call and else a function of none, `T` all
+    of its calls. The mark of a crate says where the call of the cell stands."""
+    marks = re.findall(r"`([\w:]+)`", cell)
+    crates = {mark for mark in marks if mark.startswith("fdr_")}
+    owner = None
+    for mark in [mark for mark in marks if mark not in crates]:
+        before, _, name = mark.rpartition("::")
+        if mark[:1].isupper() and not before:
+            yield mark, [clauses for _, whose, _, clauses in known if whose == mark]
+            continue
+        owner = before or owner
+        same = [call for call in known if call[2] == name and (not crates or call[0] in crates)]
+        of_owner = [clauses for _, whose, _, clauses in same if whose == owner]
+        yield mark, of_owner or [clauses for _, whose, _, clauses in same if not whose and not before]
+
+
+def rows_of_calls(text):
+    """The rows of a page's tables whose first column is of calls and whose last is of clauses: line, calls, clauses."""
+    within = False
+    for number, line in enumerate(text.splitlines(), 1):
+        cells = [cell.strip() for cell in line.strip("|").split("|")]
+        if not line.startswith("|"):
+            within = False
+        elif (cells[0], cells[-1]) == ("call", "clauses"):
+            within = True
+        elif within and not line.startswith("|---"):
+            yield number, cells[0], re.findall(r"`(\w+)`", cells[-1])
+
+
+def check_layers():
+    """Each clause in a row of LAYERS.md is one of the calls that the row names, and each of these has one of them."""
+    known = list(clauses_of_calls())
+    for number, cell, clauses in rows_of_calls((TOP / "docs" / "LAYERS.md").read_text()):
+        found = set()
+        for mark, same in calls_in(cell, known):
+            its = set().union(*same)
+            found |= its
+            if not same:
+                yield f"docs/LAYERS.md:{number}: there is no call `{mark}`"
+            elif clauses and not its & set(clauses):
+                yield f"docs/LAYERS.md:{number}: `{mark}` has none of these clauses"
+        for clause in clauses:
+            if clause not in found:
+                yield f"docs/LAYERS.md:{number}: none of the calls has a clause `{clause}`"
+
+
 def check_edges():
     """The table of crates in ARCHITECTURE.md has the edges of crates.txt."""
     rows = {}
@@ -318,6 +384,51 @@ def check_version():
         yield f"CHANGELOG.md doesn't begin with version {version}"
 
 
+def kits_named():
+    """The pages that name the kit that proved, each with what it names: the kit and its logic, or nothing."""
+    for page in ("README.md", "docs/GUARANTEES.md"):
+        yield page, re.search(r"(rattle-kit-\w+)`?,? logic `?([0-9a-f]{16})", (TOP / page).read_text())
+
+
+@functools.cache
+def kit_here():
+    """The kit of the command `rt` and its logic, where there is one."""
+    if not shutil.which("rt"):
+        return None
+    says = subprocess.run(["rt", "version"], capture_output=True, text=True, check=False).stdout
+    return re.search(r"(rattle-kit-\w+) logic ([0-9a-f]{16})", says)
+
+
+def check_kit():
+    """The pages name a kit, and the logic of the one that is here."""
+    here = kit_here()
+    for page, named in kits_named():
+        if not named:
+            yield f"{page} doesn't name the kit and its logic"
+        elif here and named[2] != here[2]:
+            yield f"{page} names the logic {named[2]}, and `rt version` says {here[2]}"
+
+
+def note_kit():
+    """The pages name another kit of the same logic, or there is none to compare with."""
+    here = kit_here()
+    if not here:
+        yield "`rt version` names no kit, so the one that the documents name isn't compared"
+    for page, named in kits_named():
+        if here and named and named[2] == here[2] and named[1] != here[1]:
+            yield f"{page} names {named[1]}, and {here[1]} has the same logic"
+
+
+def note_uses():
+    """A crate uses nothing of one that it stands on: in its source, its definitions and its proofs."""
+    for crate, needs in crate_lines():
+        files = [path for folder in ("src", "specs", "proofs") for path in (CRATES / crate / folder).rglob("*")]
+        text = "\n".join(path.read_text() for path in files if path.suffix in (".rt", ".antt"))
+        for need in needs:
+            if f"{need}::" not in text and f"Rattle.{need}." not in text:
+                yield f"crates.txt: {crate} uses nothing of {need}"
+
+
 def check_links():
     for path in [*TOP.glob("*.md"), *(TOP / "docs").rglob("*.md"), *(TOP / "examples").glob("*.md")]:
         for target in re.findall(r"\]\(([^)\s]+)\)", path.read_text()):
@@ -343,10 +454,12 @@ def main(command):
         print(__doc__)
         return 2
     checks = (
-        *(check_readme, check_clauses, check_model, check_guarantees, check_edges, check_manual),
-        *(check_version, check_links, check_names, check_columns),
+        *(check_readme, check_clauses, check_model, check_guarantees, check_layers, check_edges),
+        *(check_manual, check_version, check_kit, check_links, check_names, check_columns),
     )
     faults = [fault for check in checks for fault in check()]
+    for note in (*note_kit(), *note_uses()):
+        print("note:", note)
     print("\n".join(faults) if faults else "documents: as the source says")
     return 1 if faults else 0
 

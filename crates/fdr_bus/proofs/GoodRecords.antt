@@ -9,11 +9,11 @@ use Rattle.fdr_bus.specs.Records.{record_of, is_good, is_end, good_from, time_af
 pub good_from_bad : (before : ℕ) (bytes : List ℕ) (rest : List (List ℕ)) → is_good before bytes ≡ false → good_from before (bytes ∷ rest) ≡ []
 good_from_bad before bytes rest bad = rw bad refl
 
-good_from_end : (before : ℕ) (bytes : List ℕ) (rest : List (List ℕ)) → is_good before bytes ≡ true → is_end (record_of bytes) ≡ true
+pub good_from_end : (before : ℕ) (bytes : List ℕ) (rest : List (List ℕ)) → is_good before bytes ≡ true → is_end (record_of bytes) ≡ true
     → good_from before (bytes ∷ rest) ≡ record_of bytes ∷ []
 good_from_end before bytes rest good ends = rw (good, ends) refl
 
-good_from_more : (before : ℕ) (bytes : List ℕ) (rest : List (List ℕ)) → is_good before bytes ≡ true → is_end (record_of bytes) ≡ false
+pub good_from_more : (before : ℕ) (bytes : List ℕ) (rest : List (List ℕ)) → is_good before bytes ≡ true → is_end (record_of bytes) ≡ false
     → good_from before (bytes ∷ rest) ≡ record_of bytes ∷ good_from (record_of bytes).time rest
 good_from_more before bytes rest good goes_on = rw (good, goes_on) refl
 
@@ -23,11 +23,11 @@ good_from_one before bytes good =
     ⊎_elim (λ ends. good_from_end before bytes [] good ends) (λ goes_on. good_from_more before bytes [] good goes_on) (cases_Bool (is_end (record_of bytes)))
 
 -- the three things that the first record may be
-First : ℕ → List ℕ → Type 0
+unfoldable pub First : ℕ → List ℕ → Type 0
 First before bytes = (is_good before bytes ≡ false)
     ⊎ (((is_good before bytes ≡ true) × (is_end (record_of bytes) ≡ true)) ⊎ ((is_good before bytes ≡ true) × (is_end (record_of bytes) ≡ false)))
 
-first_cases : (before : ℕ) (bytes : List ℕ) → First before bytes
+pub first_cases : (before : ℕ) (bytes : List ℕ) → First before bytes
 unfolding First
 first_cases before bytes =
     ⊎_elim (λ good. inr (⊎_elim (λ ends. inl (good, ends)) (λ goes_on. inr (good, goes_on)) (cases_Bool (is_end (record_of bytes))))) (λ bad. inl bad)

@@ -66,11 +66,18 @@ record_fault_none before bytes named order in_time =
     rw (named, back, late) refl
 
 -- what a good record is
+named_tests : (kind : Bool) (before time last : ℕ) → (kind && nat_le before time && nat_le time last) ≡ true → kind ≡ true
+named_tests kind before time last good = grind (arith, nat_tests)
+
 in_time_tests : (kind : Bool) (before time last : ℕ) → (kind && nat_le before time && nat_le time last) ≡ true → time ≤ last
 in_time_tests kind before time last good = grind (arith, nat_tests)
 
 order_tests : (kind : Bool) (before time last : ℕ) → (kind && nat_le before time && nat_le time last) ≡ true → before ≤ time
 order_tests kind before time last good = grind (arith, nat_tests)
+
+pub is_good_named : (before : ℕ) (bytes : List ℕ) → is_good before bytes ≡ true → has_kind bytes ≡ true
+unfolding is_good
+is_good_named before bytes good = named_tests (has_kind bytes) before (record_of bytes).time last_time good
 
 pub is_good_in_time : (before : ℕ) (bytes : List ℕ) → is_good before bytes ≡ true → (record_of bytes).time ≤ last_time
 unfolding is_good

@@ -33,7 +33,7 @@ length-good_prefix-most bytes = omega (arith, length-good_from 0 (take most_reco
 count_whole : (bytes : List ℕ) → IsOpen bytes → length (whole_records bytes) ≡ length (good_prefix bytes)
 count_whole bytes open_so_far = omega (arith, length-whole_records bytes, open_so_far.whole)
 
-good_prefix_is : (bytes : List ℕ) → good_prefix bytes ≡ good_from 0 (take most_records (whole_records bytes))
+pub good_prefix_is : (bytes : List ℕ) → good_prefix bytes ≡ good_from 0 (take most_records (whole_records bytes))
 unfolding good_prefix
 good_prefix_is bytes = refl
 
@@ -130,7 +130,7 @@ IsEnded-next : (bytes next : List ℕ) → good_prefix (bytes ++ next) ≡ good_
 IsEnded-next bytes next here ends = ap has_end here ∙ has_end-push (good_prefix bytes) (record_of next) ends
 
 -- one record more that isn't good
-good_prefix_stays : (bytes next : List ℕ) → IsOpen bytes → length next ≡ 16 → is_good (time_of (good_prefix bytes)) next ≡ false
+pub good_prefix_stays : (bytes next : List ℕ) → IsOpen bytes → length next ≡ 16 → is_good (time_of (good_prefix bytes)) next ≡ false
     → good_prefix (bytes ++ next) ≡ good_prefix bytes
 good_prefix_stays bytes next so_far sixteen bad = ⊎_elim
     (λ few. good_prefix_one bytes next so_far few sixteen
@@ -164,14 +164,14 @@ fault_after_end : (good : List BusRecord) (bytes : List ℕ) → has_end good �
 unfolding fault_after
 fault_after_end good bytes ended = rw ended refl
 
-fault_after_many : (good : List BusRecord) (bytes : List ℕ) → has_end good ≡ false → length good ≡ most_records
+pub fault_after_many : (good : List BusRecord) (bytes : List ℕ) → has_end good ≡ false → length good ≡ most_records
     → fault_after good bytes ≡ Some (length good, fault.Many)
 unfolding fault_after
 fault_after_many good bytes unended many =
     let test : (length good == most_records) ≡ true = eq-eqb (length good) most_records many in
     rw (unended, test) refl
 
-fault_after_truncated : (good : List BusRecord) (bytes : List ℕ) → has_end good ≡ false → length good < most_records → length bytes < 16 * length good + 16
+pub fault_after_truncated : (good : List BusRecord) (bytes : List ℕ) → has_end good ≡ false → length good < most_records → length bytes < 16 * length good + 16
     → fault_after good bytes ≡ Some (length good, fault.Truncated)
 unfolding fault_after
 fault_after_truncated good bytes unended few short =
@@ -179,7 +179,7 @@ fault_after_truncated good bytes unended few short =
     let cut : nat_lt (length bytes) (16 * length good + 16) ≡ true = grind (arith, nat_tests) in
     rw (unended, test, cut) refl
 
-fault_after_bad : (good : List BusRecord) (bytes : List ℕ) (why : TraceFault) → has_end good ≡ false → length good < most_records
+pub fault_after_bad : (good : List BusRecord) (bytes : List ℕ) (why : TraceFault) → has_end good ≡ false → length good < most_records
     → 16 * length good + 16 ≤ length bytes → record_fault (time_of good) (record_bytes bytes (length good)) ≡ Some why
     → fault_after good bytes ≡ Some (length good, why)
 unfolding fault_after
@@ -188,7 +188,7 @@ fault_after_bad good bytes why unended few long faulty =
     let cut : nat_lt (length bytes) (16 * length good + 16) ≡ false = grind (arith, nat_tests) in
     rw (unended, test, cut, faulty) refl
 
-trace_fault_is : (bytes : List ℕ) → trace_fault bytes ≡ fault_after (good_prefix bytes) bytes
+pub trace_fault_is : (bytes : List ℕ) → trace_fault bytes ≡ fault_after (good_prefix bytes) bytes
 unfolding trace_fault
 trace_fault_is bytes = refl
 

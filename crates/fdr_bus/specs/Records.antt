@@ -1,6 +1,6 @@
 -- The records of a trace, and which of them are good.
-use Rattle.std.specs.Prelude.{◌≡◌, ◌≤◌, ◌⊎◌, ℕ, ◌+◌, ◌*◌, ◌/◌, ◌^◌, ◌==◌, Bool, true, false, not, ◌&&◌, ◌||◌, nat_lt, nat_le, if◌then◌else◌, List, [], ◌∷◌}
-use Rattle.std.specs.Prelude.{length, map, take, drop, fold, slice_index, Option, Some, None}
+use Rattle.std.specs.Prelude.{◌≡◌, ◌<◌, ◌≤◌, ◌⊎◌, ℕ, ◌+◌, ◌*◌, ◌/◌, ◌^◌, ◌==◌, Bool, true, false, not, ◌&&◌, ◌||◌, nat_lt, nat_le, if◌then◌else◌}
+use Rattle.std.specs.Prelude.{List, [], ◌∷◌, IsTrue, All, AllPairs, length, map, take, drop, fold, slice_index, Option, Some, None}
 use Rattle.std.specs.List.{range_with_len, list_any}
 use Rattle.std.specs.Option.{option_map}
 use Rattle.byteorder.specs.Endian.{big_number}
@@ -63,6 +63,21 @@ good_from before (bytes ∷ rest) =
 unfoldable pub good_prefix : List ℕ → List BusRecord
 good_prefix bytes = good_from 0 (take most_records (whole_records bytes))
 
+-- These are the first of the whole records, and all of them are good: a kind of record each, none before the one before it,
+-- none too late, none after an end record, and no more than a trace may have.
+pub record AreGoodRecords (bytes : List ℕ) (records : List BusRecord) : Type 0 where
+  pub first : records ≡ map record_of (take (length records) (whole_records bytes))
+  pub kinds : All (λ r. IsTrue (has_kind r)) (take (length records) (whole_records bytes))
+  pub in_order : AllPairs (λ earlier later. earlier.time ≤ later.time) records
+  pub in_time : All (λ r. r.time ≤ last_time) records
+  pub end_is_last : AllPairs (λ earlier later. is_end earlier ≡ false) records
+  pub few : length records ≤ most_records
+
+-- the longest of such lists
+pub record IsGoodPrefix (bytes : List ℕ) (records : List BusRecord) : Type 0 where
+  pub are_good : AreGoodRecords bytes records
+  pub longest : (other : List BusRecord) → AreGoodRecords bytes other → length other ≤ length records
+
 -- the time of the last record, or `before`
 abbrev pub time_after : ℕ → List BusRecord → ℕ
 time_after before records = fold (λ time (r : BusRecord). r.time) before records
@@ -82,6 +97,12 @@ IsDecided bytes = (has_end (good_prefix bytes) ≡ true) ⊎ ((length (good_pref
 pub record IsOpen (bytes : List ℕ) : Type 0 where
   pub whole : length bytes ≡ 16 * length (good_prefix bytes)
   pub unended : has_end (good_prefix bytes) ≡ false
+
+-- whole good records, the last of them at this time, or none and the time is 0; and one more may follow
+pub record AwaitsRecord (bytes : List ℕ) (before : ℕ) : Type 0 where
+  pub goes_on : IsOpen bytes
+  pub few : length (good_prefix bytes) < most_records
+  pub last : time_of (good_prefix bytes) ≡ before
 
 -- why no good record follows these, with its number
 unfoldable pub fault_after : List BusRecord → List ℕ → Option (ℕ × TraceFault)

@@ -3,13 +3,19 @@
 //! A trace is a list of records of 16 bytes, each with the time at which it came, up to an end record.
 #![tactic(auto)]
 
-ghost use Rattle.std.specs.Prelude.{◌≡◌, ◌≤◌, ◌<◌, ◌+◌, ◌^◌, ◌↔◌, true, false, Err, IsTrue, IsNone, IsOk, IfSome, IfOk, IfErr, Some};
-ghost use Rattle.fdr_bus.specs.Records.{has_kind, is_good, last_time, record_fault, record_of};
+mod law;
+
+ghost use Rattle.std.specs.Prelude.{◌≡◌, ◌≤◌, ◌<◌, ◌+◌, ◌^◌, ◌↔◌, ℕ, true, false, List, [], ◌∷◌, ◌++◌, length, Err, IsTrue, IsNone, IsOk, IfSome, IfOk, IfErr, MatchResult, Some};
+ghost use Rattle.fdr_bus.specs.Records.{AwaitsRecord, IsGoodPrefix, good_prefix, has_kind, is_good, last_time, record_fault, record_of, trace_fault};
 ghost use Rattle.fdr_bus.specs.Words.{bits_at, label_of, sdi_of};
 ghost use Rattle.fdr_bus.specs.Words as words;
 ghost use Rattle.fdr_bus.specs.declared.TraceFault.TheVariants as fault;
 
 use byteorder::{BigEndian, ByteOrder};
+pub use law::{
+    decided_stays, fault_is_after_the_good_records, good_prefix_is_longest,
+    label_has_the_first_bits,
+};
 
 /// The latest time that a record may have, in microseconds from the start of the recording.
 const MAX_TIME: u64 = 1_440_000_000_000;
@@ -83,6 +89,12 @@ pub fn parse(bytes: &[u8; 16], before: u64) -> Result<BusRecord, TraceFault>
         ↔ ((has_kind bytes.now ≡ true) × (before ≤ (record_of bytes.now).time)
         × (last_time < (record_of bytes.now).time)) }
     ensures first_fault { IfErr result (λ why. record_fault before bytes.now ≡ Some why) }
+
+    ensures next { (earlier : List ℕ) → AwaitsRecord earlier before
+        → MatchResult result (λ r. IsGoodPrefix (earlier ++ bytes.now) (good_prefix earlier ++ r ∷ []))
+        (λ why. IsGoodPrefix (earlier ++ bytes.now) (good_prefix earlier)) }
+    ensures trace { (earlier : List ℕ) → AwaitsRecord earlier before
+        → IfErr result (λ why. trace_fault (earlier ++ bytes.now) ≡ Some (length (good_prefix earlier), why)) }
 {
     let Some(record) = record_in(bytes) else {
         return Err(TraceFault::Kind);

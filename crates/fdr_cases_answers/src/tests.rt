@@ -10,10 +10,24 @@ use std::test::Fail;
 #[test]
 fn refuses_other_words(rt: HostRuntime) -> Result<(), Fail> {
     let alloc = rt.alloc();
-    let cases: [&[&str]; 7] = [
+    let cases: [&[&str]; 11] = [
         &[],
+        &["list"],
         &["listbits"],
         &["stream"],
+        &["check", "-"],
+        &["record", "t1.csv", "flight.img", "--seed", "1"],
+        &[
+            "format",
+            "t1.csv",
+            "flight.img",
+            "--slots",
+            "16",
+            "--slots",
+            "16",
+            "--payload",
+            "64",
+        ],
         &["listbits", "t1.csv", "t2.csv"],
         &["listbits", "-x"],
         &["check", "t1.csv", "t2.csv"],
@@ -98,7 +112,7 @@ fn says_each_answer(rt: HostRuntime) -> Result<(), Fail> {
     for (fault, text) in faults {
         assert_eq!(rt; Outcome::TableRefused { row, fault }.text().bytes(), text);
     }
-    let answers: [(Outcome, u8, &[u8]); 20] = [
+    let answers: [(Outcome, u8, &[u8]); 22] = [
         (Outcome::Done, 0, b""),
         (Outcome::Usage, 1, b"fdr: usage"),
         (
@@ -175,6 +189,15 @@ fn says_each_answer(rt: HostRuntime) -> Result<(), Fail> {
             b"fdr: image: shorter than its ring",
         ),
         (Outcome::NotEmpty, 5, b"fdr: image is not empty"),
+        (
+            Outcome::WordsDiffer {
+                image: 64,
+                table: 1024,
+            },
+            6,
+            b"fdr: image has 64 words, table has 1024",
+        ),
+        (Outcome::SeqEnd, 7, b"fdr: sequence numbers are used up"),
         (
             Outcome::ReadFault(Input::Table),
             8,

@@ -43,6 +43,28 @@ fn makes_an_image_once(rt: HostRuntime) -> Result<(), Fail> {
     Ok(())
 }
 
+// Sixteen slots of 80 bytes behind the header.
+#[test]
+fn makes_an_image_of_options_in_other_spellings(rt: HostRuntime) -> Result<(), Fail> {
+    let alloc = rt.alloc();
+    let mut deck = deck_of(alloc, &[], &[], &[])?;
+    let words = [
+        "format",
+        "t1.csv",
+        "flight.img",
+        "--payload=64",
+        "--slots",
+        "016",
+    ];
+    let made = run_words(alloc, &words, ALTITUDE, &mut deck, &[])?;
+    assert_eq!(rt; made.outcome, Outcome::Done);
+    let mut image = HEADER.to_vec(alloc)?;
+    *image.get_mut(11).ok_or("a byte")? = 16;
+    image.resize(64 + 16 * 80, 0)?;
+    assert_eq!(rt; deck.image(), image.as_slice());
+    Ok(())
+}
+
 #[test]
 fn leaves_a_disk_that_it_does_not_make(rt: HostRuntime) -> Result<(), Fail> {
     let alloc = rt.alloc();

@@ -35,6 +35,37 @@ pub fn image_of_a_frame(alloc: Global) -> Result<Vec<u8>, Fail> {
     Ok(deck.image().to_vec(alloc)?)
 }
 
+/// Adds a block of 64 bytes to the ring of an image that is opened first, and answers how many calls that takes.
+fn calls_of_a_block(deck: &mut MemDeck, block: &[u8; 64]) -> Result<u64, RingFault> {
+    let header = read_image_header(deck)?;
+    let ring = Ring::attach(deck, header)?;
+    if header.payload < 64 {
+        return Err(RingFault::SeqEnd);
+    }
+    let before = deck.calls();
+    let prepared = ring.prepare(deck, block)?;
+    prepared.commit(deck)?;
+    Ok(deck.calls().saturating_sub(before))
+}
+
+// Block 6 comes into the slot of block 2, and the gate of block 3 behind it is open.
+#[test]
+fn a_block_takes_at_most_six_calls(rt: HostRuntime) -> Result<(), Fail> {
+    let alloc = rt.alloc();
+    let mut deck = deck_of(alloc, &image_of_a_frame(alloc)?, &[], &[])?;
+    let taken = calls_of_a_block(&mut deck, &[7; 64]).ok().ok_or("a block")?;
+    assert!(rt; taken <= 6, "{taken} calls");
+    let mut blocks = frame_with(alloc, &[])?
+        .get(256..)
+        .ok_or("blocks")?
+        .to_vec(alloc)?;
+    blocks.extend_from_slice(&[7; 64])?;
+    let recovered = recover(alloc, &mut deck)?;
+    assert_eq!(rt; recovered.outcome, Outcome::Done);
+    assert_eq!(rt; recovered.written, blocks);
+    Ok(())
+}
+
 #[test]
 fn recovers_the_last_blocks_of_a_ring(rt: HostRuntime) -> Result<(), Fail> {
     let alloc = rt.alloc();

@@ -1,6 +1,6 @@
-use crate::images::{END_AT_0, fresh, record, recovered, stopped};
+use crate::images::{END_AT_0, fresh, listed, record, recovered, stopped};
 use fdr_bus::TraceFault;
-use fdr_cases::{END_AT_4000000, WORD_AT_0, WORD_AT_4000000, frame_with};
+use fdr_cases::{ALTITUDE, END_AT_4000000, WORD_AT_0, WORD_AT_4000000, frame_with};
 use fdr_deck::Tear;
 use fdr_io::Input;
 use fdr_top::Outcome;
@@ -22,6 +22,10 @@ fn keeps_what_was_pulled_before_a_fault(rt: HostRuntime) -> Result<(), Fail> {
     assert_eq!(rt; deck.told(), 6);
     let five = frame_with(alloc, &[(13, 0x50)])?;
     assert_eq!(rt; recovered(alloc, deck.image())?, five);
+    assert_eq!(rt;
+        listed(alloc, ALTITUDE, deck.image())?.as_slice(),
+        b"row,0,1,10,ALT,5\n".as_slice()
+    );
     Ok(())
 }
 
@@ -42,6 +46,8 @@ fn records_nothing_where_the_first_sync_fails(rt: HostRuntime) -> Result<(), Fai
     for tear in [Tear::Old, Tear::New, Tear::Half, Tear::Fill(0x5a)] {
         let left = stopped(alloc, &deck, sync, tear)?;
         assert_eq!(rt; recovered(alloc, &left)?.len(), 0, "{tear:?}");
+        let lines = listed(alloc, ALTITUDE, &left)?;
+        assert_eq!(rt; lines.len(), 0, "{tear:?}");
     }
     Ok(())
 }

@@ -13,6 +13,8 @@ const DRILL: &[&str] = &["drill", "t1.csv", "flight.img", "--seed=1", "--frames=
 
 const LONG_DRILL: &[&str] = &["drill", "t1.csv", "flight.img", "--seed=1", "--frames=10"];
 
+const DRILL_OF_SEED_7: &[&str] = &["drill", "t1.csv", "flight.img", "--seed=7", "--frames=10"];
+
 /// An end at the start.
 const NO_WORDS: [u8; 16] = [2, 0, 0, 0, 0, 0, 0, 0, 0, 0, 0, 0, 0, 0, 0, 0];
 
@@ -41,9 +43,37 @@ impl Base {
         Ok((ran, deck))
     }
 
-    /// The number of the next block after the whole recording.
+    /// The number of the next block after the whole recording, whose last block may be shorter.
     pub fn ends(&self) -> u64 {
-        (self.stream.len() / self.block.max(1)) as u64
+        self.stream.len().div_ceil(self.block.max(1)) as u64
+    }
+
+    /// The bytes of the last blocks before this number, as many as these are, where they begin with a block.
+    fn blocks_before(&self, next: u64, count: usize) -> Option<&[u8]> {
+        let block = self.block.max(1);
+        if next > self.ends() {
+            return None;
+        }
+        let ends = (next as usize).saturating_mul(block).min(self.stream.len());
+        let begins = ends.checked_sub(count)?;
+        if begins % block != 0 {
+            return None;
+        }
+        self.stream.get(begins..ends)
+    }
+
+    /// Whether slot 0 is open: it then holds block 0, which is all that is recorded, with its head. None where it doesn't.
+    pub fn stands_in_slot_0(&self, image: &[u8]) -> Option<bool> {
+        let length = self.stream.len();
+        let (high, low) = ((length / 256 % 256) as u8, (length % 256) as u8);
+        let head = [0x5a, 0, high, low, 0, 0, 0, 0, 0, 0, 0, 0, 0, 0, 0, 0];
+        let slot = image.get(64..)?;
+        if slot.first() != Some(&0x5a) {
+            return Some(false);
+        }
+        let block = slot.get(16..)?;
+        let is_whole = slot.starts_with(&head) && block.starts_with(&self.stream);
+        if is_whole { Some(true) } else { None }
     }
 
     /// Which call pulls the line: a recording without words in this ring ends with its pull.
@@ -78,14 +108,13 @@ impl Base {
         let frame = recorded_frame(alloc)?;
         let more = frame.len().div_ceil(block);
         let next = standing.next_then.checked_sub(more as u64).ok_or("blocks")?;
-        let ends = (next as usize).saturating_mul(block);
-        let begins = ends.saturating_sub(standing.held.len());
-        let blocks = self.stream.get(begins..ends).ok_or("blocks")?;
-        let count = blocks.len() / block;
+        let Some(blocks) = self.blocks_before(next, standing.held.len()) else {
+            return Ok(None);
+        };
+        let count = blocks.len().div_ceil(block);
         let least = self.slots.saturating_sub(2).min(next as usize);
         let known = announced.max(self.began);
         if standing.held.as_slice() != blocks
-            || blocks.len() % block != 0
             || count < least
             || next < known
             || next > known.saturating_add(1)
@@ -142,9 +171,9 @@ pub fn behind_another(alloc: Global) -> Result<Base, Fail> {
     Ok(base)
 }
 
-/// The altitudes of a drill of seed 1, frame by frame. Four words are drawn a frame, and the first is sampled.
-fn altitudes(alloc: Global, frames: u8) -> Result<Vec<u64>, AllocError> {
-    let mut state: u64 = 1;
+/// The altitudes of a drill of this seed, frame by frame. Four words are drawn a frame, and the first is sampled.
+fn altitudes(alloc: Global, seed: u64, frames: u8) -> Result<Vec<u64>, AllocError> {
+    let mut state = seed;
     let mut sampled = Vec::new(alloc);
     for draw in 0..u32::from(frames) * 4 {
         state = state
@@ -180,14 +209,14 @@ pub fn drill_of_a_frame(alloc: Global) -> Result<Base, AllocError> {
         slots: 16,
         block: 64,
         began: 0,
-        stream: frames_of(alloc, &altitudes(alloc, 1)?)?,
+        stream: frames_of(alloc, &altitudes(alloc, 1, 1)?)?,
         text: b"drill,6,1,1,1499\n".to_vec(alloc)?,
     })
 }
 
 /// A drill of ten frames in four slots of 960 bytes. Its four blocks go round, and seven whole frames stand at its end.
 pub fn drill_of_ten_frames(alloc: Global) -> Result<Base, Fail> {
-    let drawn = altitudes(alloc, 10)?;
+    let drawn = altitudes(alloc, 1, 10)?;
     let mut sum: u64 = 0;
     for altitude in drawn.get(3..).ok_or("frames")? {
         sum = sum.saturating_add(*altitude);
@@ -199,6 +228,26 @@ pub fn drill_of_ten_frames(alloc: Global) -> Result<Base, Fail> {
         line: b"no trace".to_vec(alloc)?,
         slots: 4,
         block: 960,
+        began: 0,
+        stream: frames_of(alloc, &drawn)?,
+        text: text.as_bytes().to_vec(alloc)?,
+    })
+}
+
+/// A drill of ten frames in so many slots of 4,096 bytes. They are one block of 3,840 bytes.
+pub fn drill_of_one_block(alloc: Global, slots: u16) -> Result<Base, AllocError> {
+    let drawn = altitudes(alloc, 7, 10)?;
+    let mut sum: u64 = 0;
+    for altitude in &drawn {
+        sum = sum.saturating_add(*altitude);
+    }
+    let text = format!(in alloc; "drill,1,10,10,{sum}\n")?;
+    Ok(Base {
+        words: DRILL_OF_SEED_7,
+        image: empty_ring(alloc, slots, 4096)?,
+        line: b"no trace".to_vec(alloc)?,
+        slots: usize::from(slots),
+        block: 4096,
         began: 0,
         stream: frames_of(alloc, &drawn)?,
         text: text.as_bytes().to_vec(alloc)?,

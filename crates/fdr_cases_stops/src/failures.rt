@@ -1,7 +1,8 @@
 //! Recordings whose calls of the deck fail, one in each run.
 
 use crate::bases::{
-    Base, behind_another, drill_of_a_frame, drill_of_ten_frames, in_sixteen_slots, round_four_slots,
+    Base, behind_another, drill_of_a_frame, drill_of_one_block, drill_of_ten_frames,
+    in_sixteen_slots, round_four_slots,
 };
 use crate::rings::{Rings, TEARS, left_by_stop};
 use fdr_deck::MemDeck;
@@ -126,5 +127,11 @@ fn a_drill_writes_nothing_where_a_call_fails(rt: HostRuntime) -> Result<(), Fail
 #[test]
 fn a_drill_of_ten_frames_writes_nothing_where_a_call_fails(rt: HostRuntime) -> Result<(), Fail> {
     let base = drill_of_ten_frames(rt.alloc())?;
+    check_failures(&rt, rt.alloc(), &base, 0)
+}
+
+#[test]
+fn a_drill_of_one_block_writes_nothing_where_a_call_fails(rt: HostRuntime) -> Result<(), Fail> {
+    let base = drill_of_one_block(rt.alloc(), 4)?;
     check_failures(&rt, rt.alloc(), &base, 0)
 }

@@ -9,6 +9,8 @@ mod failures;
 #[cfg(test)]
 mod formats;
 #[cfg(test)]
+mod large;
+#[cfg(test)]
 mod moments;
 #[cfg(test)]
 mod rings;

@@ -17,11 +17,13 @@ pub const TEARS: [Tear; 6] = [
 ];
 
 /// A ring of so many slots of so many bytes without blocks, for subframes of 64 words.
-pub fn empty_ring(alloc: Global, slots: u8, payload: u16) -> Result<Vec<u8>, AllocError> {
+pub fn empty_ring(alloc: Global, slots: u16, payload: u16) -> Result<Vec<u8>, AllocError> {
     let mut image = Vec::new(alloc);
     image.extend_from_slice(&[0x5a, 0, b'F', b'D', b'R', b'7', b'1', b'7'])?;
-    let [high, low] = payload.to_be_bytes();
-    image.extend_from_slice(&[0, 0, 0, slots, 0, 0, high, low, 0, 0, 0, 64])?;
+    for number in [slots, payload, 64] {
+        let [high, low] = number.to_be_bytes();
+        image.extend_from_slice(&[0, 0, high, low])?;
+    }
     image.resize(64 + usize::from(slots) * (16 + usize::from(payload)), 0)?;
     Ok(image)
 }

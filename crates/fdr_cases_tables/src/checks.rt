@@ -57,7 +57,7 @@ fn names_the_first_fault_of_the_rows(rt: HostRuntime) -> Result<(), Fail> {
             TableFault::Name,
         ),
         (
-            "F,64,2,1\nP,ALT,0,203,,11,12,U,1,1,0,0,16\nP,ALT,0,203,,11,12,U,1,1,0,0,16\n",
+            "F,64,2,1\nP,ALT,0,203,,11,12,U,1,1,0,0,16\nP,ALT,0,203,,11,12,U,1,1,0,0,16\nL,ALT,1,1,10,0,1,12,0,1\n",
             2,
             TableFault::Twice,
         ),

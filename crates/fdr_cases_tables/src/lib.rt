@@ -5,3 +5,5 @@
 mod checks;
 #[cfg(test)]
 mod recordings;
+#[cfg(test)]
+mod values;

@@ -1,6 +1,8 @@
 -- What is seen of the deck that never fails.
 use Rattle.std.specs.Prelude.{ℕ, List, length, true, false}
-use Rattle.std.proofs.Common.{refl, arith}
+use Rattle.std.proofs.Common.{refl}
+use Rattle.std.proofs.Math.Nat.{min-le_right, le-max_right}
+use Rattle.std.proofs.lemmas.Bool.{false≢true}
 use Rattle.fdr_deck.specs.State.{State, Tells}
 use Rattle.fdr_deck.specs.Moments.{IsSoundDeck}
 use Rattle.fdr_deck.specs.Announced.{least_announced, greatest_announced}
@@ -36,12 +38,12 @@ sure_state s = record {
 
 pub sure_is_sound : (s : Sure) → IsSoundDeck sure_tells (sure_state s)
 sure_is_sound s = record {
-  stops_need_bytes = λ told. cc;
+  stops_need_bytes = λ told. refl;
   size = λ told. refl;
-  held = λ told. cc;
-  least = omega arith;
-  greatest = omega arith;
-  only_now = λ told m since. cc;
-  counts_now = λ told m leaves same pulled. cc;
-  falls = λ told earlier t m le now since. cc;
+  held = λ told. absurd (false≢true told);
+  least = min-le_right s.announced.least s.announced.told;
+  greatest = le-max_right s.announced.greatest s.announced.told;
+  only_now = λ told m since. absurd since;
+  counts_now = λ told m leaves same pulled. leaves;
+  falls = λ told earlier t m le now since. since;
 }

@@ -73,6 +73,8 @@ impl MemDeck {
         ensures taken { result.numbers.taken ≡ 0 }
         ensures before { result.numbers.before ≡ 0 }
         ensures told { result.numbers.announced.told ≡ 0 }
+        ensures least { least_announced result.numbers.announced ≡ 0 }
+        ensures greatest { greatest_announced result.numbers.announced ≡ 0 }
         ensures disk_faults { result.disk_faults ≡ 0 }
         ensures line_faults { result.line_faults ≡ 0 }
         ensures failing { result.failing ≡ failing.items }
@@ -403,6 +405,8 @@ impl Deck for MemDeck {
         ensures unlisted { OnErr result (IsFailedCall self.old self.new) }
         ensures numbered { OnOk result (HasOneCallMore self.old self.new) }
         ensures failing { self.new.failing ≡ self.old.failing }
+        ensures entered { OnOk result (IsEntered Pass self.old self.new) }
+        ensures failed { OnErr result (IsEntered Pass self.old self.new ⊎ IsUnentered self.old self.new) }
     {
         self.pass(Call::Pass)?;
         Ok(self.image().len() as u64)
@@ -421,6 +425,11 @@ impl Deck for MemDeck {
         ensures unlisted { OnErr result (IsFailedCall self.old self.new) }
         ensures numbered { OnOk result (HasOneCallMore self.old self.new) }
         ensures failing { self.new.failing ≡ self.old.failing }
+        ensures entered { OnOk result ((memory_state self.old).extent ≡ 0 → IsEntered (Provide size) self.old self.new) }
+        ensures failed { OnErr result ((memory_state self.old).extent ≡ 0
+            → IsEntered (FailedProvide size) self.old self.new ⊎ IsUnentered self.old self.new) }
+        ensures passed { OnOk result (0 < (memory_state self.old).extent → IsEntered Pass self.old self.new) }
+        ensures refused { OnErr result (0 < (memory_state self.old).extent → IsEntered Pass self.old self.new ⊎ IsUnentered self.old self.new) }
         // one that failed and has a number may leave zeros of every length
         ensures zeros { OnErr result (HasOneCallMore self.old self.new → length (held_in self.old) ≡ 0
             → (image : List ℕ) → IsZeros size image → left_in self.new image) }
@@ -450,6 +459,8 @@ impl Deck for MemDeck {
         ensures unlisted { OnErr result (IsFailedCall self.old self.new) }
         ensures numbered { OnOk result (HasOneCallMore self.old self.new) }
         ensures failing { self.new.failing ≡ self.old.failing }
+        ensures entered { OnOk result (IsEntered Pass self.old self.new) }
+        ensures failed { OnErr result (IsEntered Pass self.old self.new ⊎ IsUnentered self.old self.new) }
     {
         self.pass(Call::Pass)?;
         copy_from(self.image(), at as usize, buf);
@@ -469,6 +480,9 @@ impl Deck for MemDeck {
         ensures unlisted { OnErr result (IsFailedCall self.old self.new) }
         ensures numbered { OnOk result (HasOneCallMore self.old self.new) }
         ensures failing { self.new.failing ≡ self.old.failing }
+        ensures entered { OnOk result ((copy : Vec ℕ Global) × (copy.items ≡ bytes.now) × IsEntered (Write at copy) self.old self.new) }
+        ensures failed { OnErr result (((copy : Vec ℕ Global) × (copy.items ≡ bytes.now) × IsEntered (FailedWrite at copy) self.old self.new)
+            ⊎ IsUnentered self.old self.new) }
         // a failed write that has a number is pending
         ensures torn { OnErr result (HasOneCallMore self.old self.new
             → (from image : List ℕ) → left_in self.old from → Torn at (length bytes.now) from image → left_in self.new image) }
@@ -495,6 +509,8 @@ impl Deck for MemDeck {
         ensures unlisted { OnErr result (IsFailedCall self.old self.new) }
         ensures numbered { OnOk result (HasOneCallMore self.old self.new) }
         ensures failing { self.new.failing ≡ self.old.failing }
+        ensures entered { OnOk result (IsEntered Sync self.old self.new) }
+        ensures failed { OnErr result (IsEntered Pass self.old self.new ⊎ IsUnentered self.old self.new) }
     {
         self.pass(Call::Sync)?;
         Ok(())
@@ -507,6 +523,9 @@ impl Deck for MemDeck {
         ensures line_faults { (memory_state self.new).line_faults ≡ (memory_state self.old).line_faults }
         ensures time { Elapses memory_tells (memory_state self.old) (memory_state self.new) }
         ensures moments { EachMoment memory_tells (memory_state self.old) (memory_state self.new) (IsNow (memory_state self.new)) }
+        ensures entries { self.new.entries ≡ self.old.entries }
+        ensures first { self.new.first ≡ self.old.first }
+        ensures failing { self.new.failing ≡ self.old.failing }
     {
         self.tell(count);
     }
@@ -527,6 +546,8 @@ impl Deck for MemDeck {
         ensures unlisted { OnErr result (IsFailedCall self.old self.new) }
         ensures numbered { OnOk result (HasOneCallMore self.old self.new) }
         ensures failing { self.new.failing ≡ self.old.failing }
+        ensures entered { OnOk result (IsEntered Pass self.old self.new) }
+        ensures failed { OnErr result (IsEntered Pass self.old self.new ⊎ IsUnentered self.old self.new) }
         ensures full { IfOk result (λ n. n ≡ min (length self.old.line) (length buf.new)) }
     {
         self.pass_pull()?;

@@ -5,6 +5,7 @@ ghost use Rattle.fdr_deck.specs.Disk.{IsSettled, KeepsDisk, LearnsExtent, Reads,
 ghost use Rattle.fdr_deck.specs.Moments.{Elapses, EachMoment, IsNow, Within, WithinProvide};
 ghost use Rattle.fdr_deck.specs.Pull.{Pulls, KeepsLine};
 ghost use Rattle.fdr_deck.specs.Calls.{Passes, KeepsTold, HasOneAnnounced, Succeeds, LeavesDisk, Announces};
+ghost use Rattle.fdr_deck.specs.Announced.{least_announced, greatest_announced};
 ghost use Rattle.fdr_deck.specs.Sure.{sure_state, sure_tells, sure_is_sound};
 ghost use Rattle.fdr_io.specs.Faults.{Rose};
 
@@ -50,6 +51,8 @@ impl SureDeck {
         ensures taken { result.taken ≡ 0 }
         ensures before { result.before ≡ 0 }
         ensures told { result.announced.told ≡ 0 }
+        ensures least { least_announced result.announced ≡ 0 }
+        ensures greatest { greatest_announced result.announced ≡ 0 }
     {
         SureDeck {
             image,

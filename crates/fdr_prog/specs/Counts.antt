@@ -1,6 +1,7 @@
 -- What is seen of the deck of a program.
 use Rattle.std.specs.Prelude.{ℕ, [], false}
-use Rattle.std.proofs.Common.{arith}
+use Rattle.std.proofs.Math.Nat.{min-le_right, le-max_right}
+use Rattle.std.proofs.lemmas.Bool.{false≢true}
 use Rattle.fdr_deck.specs.State.{State, Tells}
 use Rattle.fdr_deck.specs.Moments.{IsSoundDeck}
 use Rattle.fdr_deck.specs.Announced.{least_announced, greatest_announced}
@@ -39,11 +40,11 @@ counts_state c = record {
 pub counts_are_sound : (c : Counts) → IsSoundDeck telling_nothing (counts_state c)
 counts_are_sound c = record {
   stops_need_bytes = λ told. told;
-  size = λ told. cc;
-  held = λ told. cc;
-  least = omega arith;
-  greatest = omega arith;
-  only_now = λ told m since. cc;
-  counts_now = λ told m leaves same pulled. cc;
-  falls = λ told earlier t m le now since. cc;
+  size = λ told. absurd (false≢true told);
+  held = λ told. absurd (false≢true told);
+  least = min-le_right c.announced.least c.announced.told;
+  greatest = le-max_right c.announced.greatest c.announced.told;
+  only_now = λ told m since. absurd since;
+  counts_now = λ told m leaves same pulled. leaves;
+  falls = λ told earlier t m le now since. since;
 }

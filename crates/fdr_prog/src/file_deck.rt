@@ -1,6 +1,7 @@
 //! The deck over a line of input and a file.
 
 ghost use Rattle.std.specs.Prelude.{◌≡◌, ⊤};
+ghost use Rattle.fdr_deck.specs.Announced.{least_announced, greatest_announced};
 ghost use Rattle.fdr_prog.specs.Counts.{counts_state, telling_nothing, counts_are_sound};
 
 use crate::image_file::ImageFile;
@@ -61,6 +62,8 @@ impl<'a, R: Files<File = File>, L: Read + Drop, A: Write + Drop> FileDeck<'a, R,
     pub fn new(image: ImageFile<'a, R>, line: L, acknowledgements: A) -> Self
         ensures extent { result.extent ≡ image.entry }
         ensures told { result.announced.told ≡ 0 }
+        ensures least { least_announced result.announced ≡ 0 }
+        ensures greatest { greatest_announced result.announced ≡ 0 }
         ensures taken { result.taken ≡ 0 }
         ensures before { result.before ≡ 0 }
         ensures disk_faults { result.disk_faults ≡ 0 }

@@ -6,6 +6,7 @@ pub mod EventFrames
 pub mod Readings
 pub mod Taking
 pub mod TakerLemmas
+pub mod ListedEvents
 pub mod SummaryLemmas
 pub mod PackedWords
 pub mod SlotPlaces

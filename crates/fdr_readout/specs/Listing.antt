@@ -1,9 +1,9 @@
 -- The listing of a bit list: the text of its gaps and of the rows of its accepted frames, in bit order.
-use Rattle.std.specs.Prelude.{ℕ, ◌+◌, ◌-◌, ◌*◌, ◌==◌, nat_le, nat_lt, if◌then◌else◌, List, [], length, map, filter}
+use Rattle.std.specs.Prelude.{ℕ, ◌≡◌, ◌+◌, ◌-◌, ◌*◌, ◌==◌, nat_le, nat_lt, if◌then◌else◌, List, [], length, map, filter}
 use Rattle.std.specs.List.{flat_map, range_with_len, list_any}
 use Rattle.fdr_bits.specs.Bits.{word_at}
 use Rattle.fdr_sync.specs.Accepted.{accepted_frames}
-use Rattle.fdr_sync.specs.Events.{Event, Frame, Gap, decided_events, events_of}
+use Rattle.fdr_sync.specs.Events.{Event, Frame, Gap, decided_events, events_of, AreEvents, EventsAreUnique}
 use Rattle.fdr_table.specs.Rows.{TableRows}
 use Rattle.fdr_recon.specs.declared.Row.{Row}
 use Rattle.fdr_recon.specs.Rows.{ReadFrame, rows_of_frame, param_at}
@@ -45,3 +45,9 @@ listing_of t b = flat_map (lines_of t b) (events_of b t.frame.words)
 -- the lines of the events that bytes decide which may go on
 unfoldable pub decided_listing : TableRows → List ℕ → List ℕ
 decided_listing t b = flat_map (lines_of t b) (decided_events b t.frame.words)
+
+-- The listing is that of the accepted frames and the gaps, of which the bits have exactly one list: it has the lines of
+-- those events, one behind another.
+pub record ListsEvents (t : TableRows) (b : List ℕ) : Type 0 where
+  pub unique : EventsAreUnique b t.frame.words
+  pub lines : (es : List Event) → AreEvents b t.frame.words es → listing_of t b ≡ flat_map (lines_of t b) es

@@ -3,6 +3,7 @@
 ghost use Rattle.std.specs.Prelude.{◌≡◌, ◌+◌, ◌≤◌, ◌<◌, ◌^◌, ℕ, List, [], ◌∷◌, ◌++◌, length, take, OnOk, OnErr, IfSome, IsSome};
 ghost use Rattle.std.specs.List.{flat_map};
 ghost use Rattle.fdr_io.specs.Faults.{Rose};
+ghost use Rattle.fdr_sync.specs.Events.{AreEvents};
 ghost use Rattle.fdr_table.specs.Rows.{TableRows};
 ghost use Rattle.fdr_resync.specs.Past.{ScannerPast, known_events, bytes_pushed};
 ghost use Rattle.fdr_resync.specs.Answers.{answered_event, answered_frame};
@@ -18,6 +19,7 @@ use crate::takers::Taker;
 use fdr_io::{Failed, Sink};
 use fdr_recon::{Rebuild, Row};
 use fdr_resync::Event;
+use fdr_sync::events_are_unique;
 use fdr_table::Table;
 
 /// Hands on a row, if it is listed.
@@ -163,12 +165,16 @@ pub fn take_rest<O: Sink, T: Taker<O>>(
     ensures part { (bytes : List ℕ) (first : T) (out_first : O)
         → HasTaken T.took table.now reader.old bytes first out_first taker.old out.old
         → OnErr result (T.failed_in table.now first out_first out.new (entries_of table.now bytes)) }
+    ensures events { (bytes : List ℕ) (first : T) (out_first : O) (es : List Rattle.fdr_sync.specs.Events.Event)
+        → HasTaken T.took table.now reader.old bytes first out_first taker.old out.old → AreEvents bytes table.now.frame.words es
+        → OnOk result (T.took table.now first out_first taker.new out.new (entries_in table.now bytes es)) }
     ensures step { OnOk result ((entries : List Entry) × T.took table.now taker.old out.old taker.new out.new entries) }
     ensures step_part { OnErr result ((entries : List Entry) × T.failed_in table.now taker.old out.old out.new entries) }
     ensures cause { OnErr result (Rose (O.faults out.old) (O.faults out.new)) }
     ensures quiet { OnOk result (O.faults out.new ≡ O.faults out.old) }
     ensures monotone { O.faults out.old ≤ O.faults out.new }
 {
+    events_are_unique();
     reader.finish();
     take_known(reader, table, taker, out)
 }

@@ -1,4 +1,4 @@
-//! What a recording reads back as, whole and where only some of it survives.
+//! What bits list as; what a recording reads back as, whole and where only some of it survives.
 
 ghost use Rattle.std.specs.Prelude.{◌≡◌, ℕ, ◌+◌, ◌*◌, ◌%◌, ◌<◌, ◌≤◌, List};
 ghost use Rattle.fdr_bus.specs.declared.BusRecord.{BusRecord};
@@ -6,9 +6,15 @@ ghost use Rattle.fdr_table.specs.Ranges.{IsInRange};
 ghost use Rattle.fdr_table.specs.Rows.{TableRows};
 ghost use Rattle.fdr_check.specs.Soundness.{IsSound};
 ghost use Rattle.fdr_sampler.specs.Stream.{stream_of};
-ghost use Rattle.fdr_readout.specs.Listing.{listing_of};
+ghost use Rattle.fdr_readout.specs.Listing.{ListsEvents, listing_of};
 ghost use Rattle.fdr_readout.specs.SampledRows.{sampled_listing, whole_frames};
 ghost use Rattle.fdr_readout.specs.Survival.{StandIn, IsClearBefore, Survives, AreListed, AreInBoth, sampled_since, lines_at};
+
+/// A law, and no work: the listing of any bits, by any table, is that of their accepted frames and gaps. The bits have exactly
+/// one list of these, and the listing has their lines in that order.
+pub fn lists_events()
+    ensures { (t : TableRows) (b : List ℕ) → ListsEvents t b }
+{}
 
 /// A law, and no work: the listing of a recording's bytes is the sampled rows of its whole frames, in order, and one gap of
 /// the bits that remain. It holds of every trace and of every sound table.

@@ -12,7 +12,7 @@ mod tally;
 
 pub use entries::{take_piece, take_rest};
 pub use events::EventReader;
-pub use law::{damage_elsewhere, reads_back, survives};
+pub use law::{damage_elsewhere, lists_events, reads_back, survives};
 pub use line_writer::LineWriter;
 pub use takers::Taker;
 pub use tally::Summary;

@@ -1,12 +1,12 @@
 -- A block that is prepared, committed and announced.
-use Rattle.std.proofs.Common.{◌≡◌, ⊎_elim, ℕ, ◌+◌, ◌-◌, List, [], ◌∷◌, ◌++◌, sym, ◌∙◌, ap, subst, arith, Some}
+use Rattle.std.proofs.Common.{◌≡◌, ◌≤◌, ⊎_elim, ℕ, ◌+◌, ◌-◌, List, [], ◌∷◌, ◌++◌, sym, ◌∙◌, ap, subst, arith, Some}
 use Rattle.std.specs.Prelude.{IsTrue}
 use Rattle.fdr_deck.specs.State.{State, Tells}
 use Rattle.fdr_deck.specs.Disk.{IsSettled}
 use Rattle.fdr_deck.specs.Pull.{KeepsLine}
-use Rattle.fdr_deck.specs.Moments.{IsNow, Elapses, EachMoment, IsSoundDeck}
+use Rattle.fdr_deck.specs.Moments.{HasPulled, IsNow, Elapses, EachMoment, IsSoundDeck}
 use Rattle.fdr_deck.specs.Calls.{IsQuiet, Succeeds, Announces, LeavesDisk}
-use Rattle.fdr_deck.proofs.Moments.{EachMoment-then, Elapses-then}
+use Rattle.fdr_deck.proofs.Moments.{EachMoment-then, Elapses-then, KeepsTold-least, KeepsTold-greatest, KeepsTold-then}
 use Rattle.fdr_slot.specs.declared.image.Header.{Header}
 use Rattle.fdr_slot.specs.Limits.{IsInLimits}
 use Rattle.fdr_recover.specs.Blocks.{Block}
@@ -51,16 +51,28 @@ module _ (tells : Tells) (h : Header) (next size : ℕ) (d0 d1 : State) (sound :
     preparing_close mark ready near stops m since = let q = quiet.moments stops m since in
         omega (arith, (q.image ready.settled).run.next, number stops, near.least, q.least)
 
+    preparing_pulled : EachMoment tells d0 d1 (HasPulled d0)
+    preparing_pulled stops m since = (quiet.moments stops m since).pulled
+
+    least1 : d0.least ≤ d1.least
+    least1 = KeepsTold-least tells d0 d1 sound quiet.passes.told
+
+    greatest1 : d1.greatest ≤ d0.greatest
+    greatest1 = KeepsTold-greatest tells d0 d1 sound quiet.passes.told
+
     -- the block wasn't prepared
     pub Records-unprepared : (new : List Block) → Records tells h next new d0 d1
     Records-unprepared new = record {
       time = quiet.passes.time;
       moments = preparing new;
       close = preparing_close;
+      pulled = preparing_pulled;
       line = quiet.passes.line;
       line_faults = quiet.passes.line_faults;
       disk_faults = quiet.passes.disk_faults;
       extent = extent;
+      least = λ le. least1;
+      greatest = λ le. omega (arith, greatest1, le);
     }
 
     module _ (b : Block) (settled : IsTrue tells.stops → IsSettled d1) (succeeds : Succeeds d0 d1) (keeps : IsTrue tells.bytes
@@ -75,12 +87,16 @@ module _ (tells : Tells) (h : Header) (next size : ℕ) (d0 d1 : State) (sound :
         told1 : d1.told ≡ d0.told
         told1 = quiet.passes.told.told
 
+        committing_pulled : EachMoment tells d1 d2 (HasPulled d0)
+        committing_pulled stops m since = let q = quiet2.moments stops m since in
+            record { taken = q.pulled.taken ∙ quiet.passes.line.taken; before = q.pulled.before ∙ quiet.passes.line.before }
+
         committing : IsReady next d0 → EachMoment tells d1 d2 (IsRecording h d0 (b ∷ []))
         committing ready stops m since = let q = quiet2.moments stops m since in record {
           image = keeps_may h b d0.held d1.held m.image m.told (run1 stops) ((q.image (settled stops)).run b (waits (sound.stops_need_bytes stops)))
               (omega (arith, q.greatest, succeeds.fresh.greatest, told1, sound.greatest, ready.greatest, number stops));
           least = omega (arith, q.least, succeeds.fresh.least, told1, sound.least);
-          pulled = record { taken = q.pulled.taken ∙ quiet.passes.line.taken; before = q.pulled.before ∙ quiet.passes.line.before };
+          pulled = committing_pulled stops m since;
         }
 
         committing_close : (mark : ℕ) → IsNear next mark d0 → EachMoment tells d1 d2 (IsClose h mark)
@@ -99,6 +115,12 @@ module _ (tells : Tells) (h : Header) (next size : ℕ) (d0 d1 : State) (sound :
             ))
             ((q.image (settled stops)).run b (waits (sound.stops_need_bytes stops)))
 
+        least2 : d0.least ≤ d2.least
+        least2 = KeepsTold-least tells d0 d2 sound (KeepsTold-then d0 d1 d2 quiet.passes.told quiet2.passes.told)
+
+        greatest2 : d2.greatest ≤ d0.greatest
+        greatest2 = KeepsTold-greatest tells d0 d2 sound (KeepsTold-then d0 d1 d2 quiet.passes.told quiet2.passes.told)
+
         -- the block wasn't committed, or it wasn't announced yet
         pub Records-prepared : Records tells h next (b ∷ []) d0 d2
         Records-prepared = record {
@@ -107,6 +129,7 @@ module _ (tells : Tells) (h : Header) (next size : ℕ) (d0 d1 : State) (sound :
               (b ∷ []) ready) (committing ready);
           close = λ mark ready near. EachMoment-then tells d0 d1 d2 (IsClose h mark) quiet.passes.time quiet2.passes.time
               (preparing_close mark ready near) (committing_close mark near);
+          pulled = EachMoment-then tells d0 d1 d2 (HasPulled d0) quiet.passes.time quiet2.passes.time preparing_pulled committing_pulled;
           line = record {
             line = quiet2.passes.line.line ∙ quiet.passes.line.line;
             taken = quiet2.passes.line.taken ∙ quiet.passes.line.taken;
@@ -115,6 +138,8 @@ module _ (tells : Tells) (h : Header) (next size : ℕ) (d0 d1 : State) (sound :
           line_faults = quiet2.passes.line_faults ∙ quiet.passes.line_faults;
           disk_faults = omega (arith, quiet.passes.disk_faults, quiet2.passes.disk_faults);
           extent = extent2 ∙ extent;
+          least = λ le. least2;
+          greatest = λ le. omega (arith, greatest2, le);
         }
 
         module _ (limits : IsInLimits h) (settled2 : IsTrue tells.stops → IsSettled d2) (succeeds2 : Succeeds d1 d2) (sure2 : IsSureRing tells h (next + 1) d2)
@@ -123,6 +148,14 @@ module _ (tells : Tells) (h : Header) (next size : ℕ) (d0 d1 : State) (sound :
           where
             told2 : d2.told ≡ d1.told
             told2 = quiet2.passes.told.told
+
+            announcing_pulled : KeepsLine d2 d3 → EachMoment tells d2 d3 (IsNow d3) → EachMoment tells d2 d3 (HasPulled d0)
+            announcing_pulled line3 moments stops m since =
+                let now = moments stops m since in
+                record {
+                  taken = now.pulled.taken ∙ line3.taken ∙ quiet2.passes.line.taken ∙ quiet.passes.line.taken;
+                  before = now.pulled.before ∙ line3.before ∙ quiet2.passes.line.before ∙ quiet.passes.line.before;
+                }
 
             announcing : (line3 : KeepsLine d2 d3) → EachMoment tells d2 d3 (IsNow d3) → IsReady next d0 → EachMoment tells d2 d3 (IsRecording h d0 (b ∷ []))
             announcing line3 moments ready stops m since =
@@ -133,10 +166,7 @@ module _ (tells : Tells) (h : Header) (next size : ℕ) (d0 d1 : State) (sound :
                       (keeps_added h b d0.held d1.held d2.held m.told (run1 stops) (added (sound.stops_need_bytes stops))
                       (omega (arith, now.greatest, announces.greatest, succeeds2.fresh.greatest, told2, told1, sound.greatest, ready.greatest, number stops)));
                   least = omega (arith, now.least, announces.least, succeeds2.fresh.least, told2, told1, sound.least, sound.greatest, ready.greatest);
-                  pulled = record {
-                    taken = now.pulled.taken ∙ line3.taken ∙ quiet2.passes.line.taken ∙ quiet.passes.line.taken;
-                    before = now.pulled.before ∙ line3.before ∙ quiet2.passes.line.before ∙ quiet.passes.line.before;
-                  };
+                  pulled = announcing_pulled line3 moments stops m since;
                 }
 
             announcing_close : EachMoment tells d2 d3 (IsNow d3) → (mark : ℕ) → IsNear next mark d0 → EachMoment tells d2 d3 (IsClose h mark)
@@ -158,6 +188,12 @@ module _ (tells : Tells) (h : Header) (next size : ℕ) (d0 d1 : State) (sound :
                   near.told,
                 )
 
+            announced_least : d0.greatest ≤ next → d0.least ≤ d3.least
+            announced_least le = omega (arith, announces.least, succeeds2.fresh.least, told2, told1, sound.least, sound.greatest, le)
+
+            announced_greatest : d0.greatest ≤ next → d3.greatest ≤ next + 1
+            announced_greatest le = omega (arith, announces.greatest, succeeds2.fresh.greatest, told2, told1, sound.greatest, le)
+
             Records-added : KeepsLine d2 d3 → d3.line_faults ≡ d2.line_faults → Elapses tells d2 d3 → EachMoment tells d2 d3 (IsNow d3)
                 → Records tells h next (b ∷ []) d0 d3
             Records-added line3 line_faults3 time3 moments = let was = Records-prepared in record {
@@ -165,10 +201,13 @@ module _ (tells : Tells) (h : Header) (next size : ℕ) (d0 d1 : State) (sound :
               moments = λ ready. EachMoment-then tells d0 d2 d3 (IsRecording h d0 (b ∷ [])) was.time time3 (was.moments ready) (announcing line3 moments ready);
               close = λ mark ready near. EachMoment-then tells d0 d2 d3 (IsClose h mark) was.time time3 (was.close mark ready near)
                   (announcing_close moments mark near);
+              pulled = EachMoment-then tells d0 d2 d3 (HasPulled d0) was.time time3 was.pulled (announcing_pulled line3 moments);
               line = record { line = line3.line ∙ was.line.line; taken = line3.taken ∙ was.line.taken; before = line3.before ∙ was.line.before };
               line_faults = line_faults3 ∙ was.line_faults;
               disk_faults = omega (arith, was.disk_faults, leaves.disk_faults);
               extent = leaves.extent ∙ was.extent;
+              least = announced_least;
+              greatest = announced_greatest;
             }
 
             HasRecorded-added : HasRecorded tells h next (b ∷ []) d0 d3
@@ -182,8 +221,8 @@ module _ (tells : Tells) (h : Header) (next size : ℕ) (d0 d1 : State) (sound :
                   ∙ last_one_more h.slots whole (recovered_run h d0.held) b (omega (arith, limits.least_slots)) is;
               settled = λ stops is image left. settled2 stops image (leaves.disk.no_more image left) ∙ sym leaves.disk.held;
               told = λ is. announces.told;
-              greatest = λ le. omega (arith, announces.greatest, succeeds2.fresh.greatest, told2, told1, sound.greatest, le);
-              least = λ le. omega (arith, announces.least, succeeds2.fresh.least, told2, told1, sound.least, sound.greatest, le);
+              greatest = announced_greatest;
+              least = announced_least;
               near = λ mark near. record {
                 told = announces.told;
                 least = omega (arith, announces.least, succeeds2.fresh.least, told2, told1, near.told);

@@ -2,7 +2,7 @@
 use Rattle.std.proofs.Common.{◌≡◌, ℕ, ◌+◌, ◌-◌, List, [], ◌++◌, length, refl, sym, ◌∙◌, ap, subst, arith, length-append, append_assoc}
 use Rattle.std.specs.Prelude.{IsTrue}
 use Rattle.fdr_deck.specs.State.{State, Tells}
-use Rattle.fdr_deck.specs.Moments.{IsSoundDeck}
+use Rattle.fdr_deck.specs.Moments.{HasPulled, IsSoundDeck}
 use Rattle.fdr_deck.proofs.Moments.{EachMoment-then, Elapses-here, Elapses-then}
 use Rattle.fdr_slot.specs.declared.image.Header.{Header}
 use Rattle.fdr_recover.specs.Blocks.{Block}
@@ -44,6 +44,7 @@ Records-here tells h next new d sound ring = record {
         least = now.least;
         pulled = now.pulled;
       };
+  pulled = λ stops m since. (sound.only_now stops m since).pulled;
   close = λ mark ready near stops m since.
       let now = sound.only_now stops m since in
       let number : next ≡ next_of h d.held = ring.next (sound.stops_need_bytes stops) in
@@ -53,6 +54,8 @@ Records-here tells h next new d sound ring = record {
   line_faults = refl;
   disk_faults = omega arith;
   extent = refl;
+  least = λ le. omega arith;
+  greatest = λ le. omega (arith, le);
 }
 
 pub Records-more : (tells : Tells) (h : Header) (next : ℕ) (new more : List Block) (old now : State) → Records tells h next new old now
@@ -65,10 +68,13 @@ Records-more tells h next new more old now is = record {
     pulled = at.pulled;
   };
   close = is.close;
+  pulled = is.pulled;
   line = is.line;
   line_faults = is.line_faults;
   disk_faults = is.disk_faults;
   extent = is.extent;
+  least = is.least;
+  greatest = λ le. let one = is.greatest le in omega (arith, one, length-append new more);
 }
 
 module _ (tells : Tells) (h : Header) (next : ℕ) (new more : List Block) (d0 d1 d2 : State) (has : HasRecorded tells h next new d0 d1) where
@@ -89,6 +95,9 @@ module _ (tells : Tells) (h : Header) (next : ℕ) (new more : List Block) (d0 d
           least = omega (arith, at.least, has.least ready.greatest);
           pulled = record { taken = at.pulled.taken ∙ first.line.taken; before = at.pulled.before ∙ first.line.before };
         });
+    pulled = EachMoment-then tells d0 d1 d2 (HasPulled d0) first.time second.time first.pulled
+        (λ stops m since. let at = second.pulled stops m since in
+        record { taken = at.taken ∙ first.line.taken; before = at.before ∙ first.line.before });
     close = λ mark ready near. EachMoment-then tells d0 d1 d2 (IsClose h mark) first.time second.time
         (first.close mark ready near)
         (λ stops m since. second.close mark (ready_on stops ready) (has.near mark near) stops m since);
@@ -96,6 +105,8 @@ module _ (tells : Tells) (h : Header) (next : ℕ) (new more : List Block) (d0 d
     line_faults = second.line_faults ∙ first.line_faults;
     disk_faults = omega (arith, first.disk_faults, second.disk_faults);
     extent = second.extent ∙ first.extent;
+    least = λ le. let one = has.least le in let two = second.least (has.greatest le) in omega (arith, one, two);
+    greatest = λ le. let last = second.greatest (has.greatest le) in omega (arith, last, all_long);
   }
 
   pub HasRecorded-then : HasRecorded tells h (next + length new) more d1 d2 → HasRecorded tells h next (new ++ more) d0 d2

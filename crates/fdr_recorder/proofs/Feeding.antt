@@ -1,42 +1,38 @@
 -- The blocks that are recorded while a record is fed.
-use Rattle.std.proofs.Common.{◌≡◌, ℕ, ◌+◌, ◌-◌, ◌*◌, ◌/◌, ◌^◌, ◌<◌, ◌≤◌, ◌⊎◌, inl, inr, List, []}
+use Rattle.std.proofs.Common.{◌≡◌, ℕ, ◌+◌, ◌-◌, ◌^◌, ◌<◌, ◌≤◌, ◌⊎◌, inl, inr, List, []}
 use Rattle.std.proofs.Common.{◌∷◌, ◌++◌, length, take, drop, Option, Some, None, ap, sym, refl, ◌∙◌, subst, arith}
 use Rattle.std.proofs.lemmas.List.{take-append-drop}
 use Rattle.std.proofs.lemmas.List.FromFn.{length-map-range_with_len, take-map-range_with_len, map-range_with_len_more}
-use Rattle.std.proofs.lemmas.Nat.{mul-le}
-use Rattle.std.proofs.Math.Nat.{div-le_self}
 use Rattle.fdr_bus.specs.declared.BusRecord.{BusRecord}
-use Rattle.fdr_bus.specs.Records.{last_time, time_of}
 use Rattle.fdr_deck.specs.State.{State, Tells}
 use Rattle.fdr_deck.specs.Moments.{IsSoundDeck}
 use Rattle.fdr_slot.specs.declared.image.Header.{Header}
 use Rattle.fdr_recover.specs.Blocks.{Block}
-use Rattle.fdr_sampler.specs.SlotWord.{slot_word}
-use Rattle.fdr_sampler.specs.Stream.{slot_count, stream_words}
 use Rattle.fdr_stream.specs.Blocks.{cut_block}
 use Rattle.fdr_stream.specs.Kept.{StreamKept}
-use Rattle.fdr_stream.specs.Past.{MayFeedStream, RepresentsStream, with_block as with_stream_block, stream_with_record}
+use Rattle.fdr_stream.specs.Past.{StreamPast, MayFeedStream, RepresentsStream, with_block as with_stream_block, stream_with_record}
 use Rattle.fdr_ring.specs.Rings.{IsRing}
 use Rattle.fdr_recorder.specs.Recording.{Records, HasRecorded, HasEnded}
 use Rattle.fdr_recorder.specs.Past.{SessionPast, MayFeedSession, session_with_record, session_bytes, due, numbered_block, blocks_from, due_at, stream_past}
 use Rattle.fdr_recorder.proofs.Composing.{HasRecorded-here, HasRecorded-then, Records-here, Records-more, Records-then}
-use Rattle.fdr_bus.proofs.TraceLemmas.{time_of-push}
 
 -- the blocks that were recorded of those due at a record
 abbrev pub so_far : SessionPast → BusRecord → ℕ → List Block
 so_far past r blocks = blocks_from (session_with_record past r) (due past) (blocks - due past)
 
--- after i turns
-pub record IsFeeding (tells : Tells) (h : Header) (first : ℕ) (past : SessionPast) (r : BusRecord) (k : StreamKept) (at i : ℕ) (old now : State)
+-- after some turns
+pub record IsFeeding (tells : Tells) (h : Header) (first : ℕ) (past : SessionPast) (r : BusRecord) (k : StreamKept) (at : ℕ) (old now : State)
     (begun : Option BusRecord) (blocks : ℕ) : Type 0 where
   pub stands : RepresentsStream k (record { table = past.table; payload = past.header.payload; records = past.records; begun = begun; blocks = blocks })
   pub same : (begun ≡ None) ⊎ (begun ≡ Some r)
-  pub rises : i ≤ blocks
   pub since : due past ≤ blocks
-  pub within : (i ≡ 0) ⊎ (blocks ≤ due (session_with_record past r))
   pub number : at ≡ first + (blocks - due past)
   pub records : Records tells h first (so_far past r blocks) old now
   pub recorded : HasRecorded tells h first (so_far past r blocks) old now
+
+-- the stream that a box contains
+pub in_box : {k boxed : StreamKept} {past : StreamPast} → k ≡ boxed → RepresentsStream boxed past → RepresentsStream k past
+in_box {k} {boxed} {past} is stands = subst (λ (x : StreamKept). RepresentsStream x past) (sym is) stands
 
 pub MayStream-giving : (past : SessionPast) (r : BusRecord) (begun : Option BusRecord) (blocks : ℕ) → MayFeedSession past r → (begun ≡ None) ⊎ (begun ≡ Some r)
     → MayFeedStream (record { table = past.table; payload = past.header.payload; records = past.records; begun = begun; blocks = blocks }) r
@@ -47,16 +43,14 @@ none_from past r n none = ap (λ m. blocks_from (session_with_record past r) (du
 
 pub IsFeeding-first : (tells : Tells) (h : Header) (first : ℕ) (past : SessionPast) (r : BusRecord) (k : StreamKept) (d : State) → IsSoundDeck tells d
     → IsRing tells h first d → RepresentsStream k (stream_past past)
-    → IsFeeding tells h first past r k first 0 d d None (due past)
+    → IsFeeding tells h first past r k first d d None (due past)
 IsFeeding-first tells h first past r k d sound ring stands =
     let none : due past - due past ≡ 0 = omega arith in
     let empty = none_from past r (due past - due past) none in
     record {
       stands = stands;
       same = inl refl;
-      rises = omega arith;
       since = omega arith;
-      within = inl refl;
       number = omega (arith, none);
       records = Records-here tells h first _ d sound ring;
       recorded = subst (λ (l : List Block). HasRecorded tells h first l d d) (sym empty) (HasRecorded-here tells h first d);
@@ -91,9 +85,9 @@ Records-due tells h first past r blocks old now within is =
     subst (λ (l : List Block). Records tells h first l old now) all
     (Records-more tells h first (so_far past r blocks) (drop (blocks - due past) (due_at past r)) old now is)
 
-module _ (tells : Tells) (h : Header) (first : ℕ) (past : SessionPast) (r : BusRecord) (k : StreamKept) (at i : ℕ) (old mid now : State)
+module _ (tells : Tells) (h : Header) (first : ℕ) (past : SessionPast) (r : BusRecord) (k : StreamKept) (at : ℕ) (old mid now : State)
     (begun : Option BusRecord) (blocks : ℕ)
-    (sound : IsSoundDeck tells old) (begins : first ≡ past.first + due past) (was : IsFeeding tells h first past r k at i old mid begun blocks) (b : Block)
+    (sound : IsSoundDeck tells old) (begins : first ≡ past.first + due past) (was : IsFeeding tells h first past r k at old mid begun blocks) (b : Block)
     (is : b ≡ numbered_block (session_with_record past r) blocks)
   where
     step_at : at ≡ first + length (so_far past r blocks)
@@ -115,14 +109,12 @@ module _ (tells : Tells) (h : Header) (first : ℕ) (past : SessionPast) (r : Bu
     pub IsFeeding-step : (k' : StreamKept) (at' : ℕ)
         → RepresentsStream k' (with_stream_block
         (record { table = past.table; payload = past.header.payload; records = past.records; begun = begun; blocks = blocks }) r)
-        → at' ≡ at + 1 → blocks < due (session_with_record past r) → Records tells h at (b ∷ []) mid now → HasRecorded tells h at (b ∷ []) mid now
-        → IsFeeding tells h first past r k' at' (i + 1) old now (Some r) (blocks + 1)
-    IsFeeding-step k' at' stands up due_more records recorded = record {
+        → at' ≡ at + 1 → Records tells h at (b ∷ []) mid now → HasRecorded tells h at (b ∷ []) mid now
+        → IsFeeding tells h first past r k' at' old now (Some r) (blocks + 1)
+    IsFeeding-step k' at' stands up records recorded = record {
       stands = stands;
       same = inr refl;
-      rises = omega (arith, was.rises);
       since = omega (arith, was.since);
-      within = inr (omega (arith, due_more));
       number = omega (arith, up, was.number, was.since);
       records = Records-step records;
       recorded = HasRecorded-step recorded;
@@ -137,22 +129,10 @@ block_is past r first at blocks bytes begins number since is =
     let same : at ≡ past.first + blocks = omega (arith, begins, number, since) in
     ap (λ (n : ℕ). record { number = n; payload = bytes }) same ∙ ap (λ (l : List ℕ). record { number = past.first + blocks; payload = l }) is
 
--- a recording has fewer blocks
-pub due-few : (past : SessionPast) (r : BusRecord) → past.table.frame.words ≤ 1024 → r.time ≤ last_time → due (session_with_record past r) < 3000000000
-due-few past r words in_time =
-    let t = past.table in
-    let more = past.records ++ r ∷ [] in
-    let count : length (stream_words t more) ≡ slot_count t.frame.words r.time =
-    length-map-range_with_len (slot_word t more) 0 (slot_count t.frame.words (time_of more)) ∙ ap (slot_count t.frame.words) (time_of-push past.records r) in
-    let most : r.time * t.frame.words ≤ 1440000000000 * 1024 = mul-le r.time t.frame.words 1440000000000 1024 in_time words in
-    let less : due (session_with_record past r) ≤ 3 * length (stream_words t more) / 2 =
-    div-le_self (3 * length (stream_words t more) / 2) past.header.payload in
-    omega (arith, count, most, less)
-
 -- all blocks that are due were recorded, and the record is taken
-module _ (tells : Tells) (h : Header) (first : ℕ) (past : SessionPast) (r : BusRecord) (k : StreamKept) (at i : ℕ) (old now : State) (begun : Option BusRecord)
+module _ (tells : Tells) (h : Header) (first : ℕ) (past : SessionPast) (r : BusRecord) (k : StreamKept) (at : ℕ) (old now : State) (begun : Option BusRecord)
     (blocks : ℕ)
-    (was : IsFeeding tells h first past r k at i old now begun blocks) (k' : StreamKept)
+    (was : IsFeeding tells h first past r k at old now begun blocks) (k' : StreamKept)
     (taken : RepresentsStream k' (stream_with_record
     (record { table = past.table; payload = past.header.payload; records = past.records; begun = begun; blocks = blocks }) r))
   where
@@ -176,11 +156,11 @@ module _ (tells : Tells) (h : Header) (first : ℕ) (past : SessionPast) (r : Bu
     HasRecorded-taken = subst (λ n. HasRecorded tells h first (so_far past r n) old now) all_blocks was.recorded
 
 -- there was no number for the next block
-pub HasEnded-due : (tells : Tells) (h : Header) (first : ℕ) (past : SessionPast) (r : BusRecord) (k : StreamKept) (at i : ℕ) (old now : State)
+pub HasEnded-due : (tells : Tells) (h : Header) (first : ℕ) (past : SessionPast) (r : BusRecord) (k : StreamKept) (at : ℕ) (old now : State)
     (begun : Option BusRecord) (blocks : ℕ)
-    → IsFeeding tells h first past r k at i old now begun blocks → at ≡ 2 ^ 48 → blocks < due (session_with_record past r)
+    → IsFeeding tells h first past r k at old now begun blocks → at ≡ 2 ^ 48 → blocks < due (session_with_record past r)
     → HasEnded tells h first (due_at past r) old now
-HasEnded-due tells h first past r k at i old now begun blocks was ends more =
+HasEnded-due tells h first past r k at old now begun blocks was ends more =
     let count : 2 ^ 48 - first ≡ blocks - due past = omega (arith, ends, was.number) in
     let front : so_far past r blocks ≡ take (2 ^ 48 - first) (due_at past r) =
     sym (so_far-front past r blocks (omega (arith, more))) ∙ ap (λ n. take n (due_at past r)) (sym count) in

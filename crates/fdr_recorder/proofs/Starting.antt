@@ -46,11 +46,15 @@ module _ (tells : Tells) (h : Header) (d0 d1 : State) (sound : IsSoundDeck tells
       starting h d0 m (subst (λ (l : List ℕ). IsAttaching h d0.held l) (sym (ready.settled m.image q.image)) (attaching_same h d0.held))
       (omega (arith, q.greatest, ready.greatest)) q.least q.pulled
 
+  looking_pulled : EachMoment tells d0 d1 (HasPulled d0)
+  looking_pulled stops m since = (quiet.moments stops m since).pulled
+
   -- only the header was read
   pub Starts-looked : Starts tells h d0 d1
   Starts-looked = record {
     time = quiet.passes.time;
     moments = looking;
+    pulled = looking_pulled;
     line = quiet.passes.line;
     line_faults = quiet.passes.line_faults;
     disk_faults = quiet.passes.disk_faults;
@@ -61,6 +65,10 @@ module _ (tells : Tells) (h : Header) (d0 d1 : State) (sound : IsSoundDeck tells
     settled1 : IsSettled d0 → IsSettled d1
     settled1 settled image left = settled image (disk.no_more image left) ∙ sym disk.held
 
+    attaching_pulled : EachMoment tells d1 d2 (HasPulled d0)
+    attaching_pulled stops m since = let q = (quiet2 stops).moments stops m since in
+        record { taken = q.pulled.taken ∙ quiet.passes.line.taken; before = q.pulled.before ∙ quiet.passes.line.before }
+
     attaching : IsReady (next_of h d0.held) d0 → EachMoment tells d1 d2 (IsStarting h d0)
     attaching ready stops m since =
         let q = (quiet2 stops).moments stops m since in
@@ -68,13 +76,14 @@ module _ (tells : Tells) (h : Header) (d0 d1 : State) (sound : IsSoundDeck tells
         starting h d0 m (subst (λ (l : List ℕ). IsAttaching h l m.image) disk.held (q.image (settled1 ready.settled)))
         (omega (arith, q.greatest, fresh.greatest, told, sound.greatest, ready.greatest))
         (omega (arith, q.least, fresh.least, told, sound.least))
-        (record { taken = q.pulled.taken ∙ quiet.passes.line.taken; before = q.pulled.before ∙ quiet.passes.line.before })
+        (attaching_pulled stops m since)
 
     -- the ring was attached, or the disk failed then
     pub Starts-attached : Starts tells h d0 d2
     Starts-attached = record {
       time = Elapses-then tells d0 d1 d2 quiet.passes.time passes2.time;
       moments = λ ready. EachMoment-then tells d0 d1 d2 (IsStarting h d0) quiet.passes.time passes2.time (looking ready) (attaching ready);
+      pulled = EachMoment-then tells d0 d1 d2 (HasPulled d0) quiet.passes.time passes2.time looking_pulled attaching_pulled;
       line = record {
         line = passes2.line.line ∙ quiet.passes.line.line;
         taken = passes2.line.taken ∙ quiet.passes.line.taken;
@@ -97,21 +106,26 @@ module _ (tells : Tells) (h : Header) (d0 d1 : State) (sound : IsSoundDeck tells
       pub Starts-announced : (IsTrue tells.stops → IsSettled d2) → (IsTrue tells.stops → IsAttaching h d1.held d2.held) → (IsTrue tells.stops
           → next ≡ next_of h d1.held) → LeavesDisk d2 d3 → KeepsLine d2 d3 →
           d3.line_faults ≡ d2.line_faults → Elapses tells d2 d3 → EachMoment tells d2 d3 (IsNow d3) → Starts tells h d0 d3
-      Starts-announced settled2 keeps number leaves line3 line_faults3 time3 moments = let was = Starts-attached in record {
-        time = Elapses-then tells d0 d2 d3 was.time time3;
-        moments = λ ready. EachMoment-then tells d0 d2 d3 (IsStarting h d0) was.time time3 (was.moments ready) (λ stops m since.
-            let now = moments stops m since in
-            let at : next ≡ next_of h d0.held = number stops ∙ ap (λ (l : List ℕ). next_of h l) disk.held in
-            let image : m.image ≡ d2.held = settled2 stops m.image (leaves.disk.no_more m.image now.image) in
-            let kept : IsAttaching h d0.held d2.held = subst (λ (l : List ℕ). IsAttaching h l d2.held) disk.held (keeps stops) in
-            starting h d0 m (subst (λ (l : List ℕ). IsAttaching h d0.held l) (sym image) kept)
-            (omega (arith, now.greatest, announces.greatest, fresh2.greatest, told2, sound.greatest, ready.greatest, at))
-            (omega (arith, now.least, announces.least, fresh2.least, told2, sound.least, sound.greatest, ready.greatest, at))
-            (record { taken = now.pulled.taken ∙ line3.taken ∙ was.line.taken; before = now.pulled.before ∙ line3.before ∙ was.line.before }));
-        line = record { line = line3.line ∙ was.line.line; taken = line3.taken ∙ was.line.taken; before = line3.before ∙ was.line.before };
-        line_faults = line_faults3 ∙ was.line_faults;
-        disk_faults = omega (arith, was.disk_faults, leaves.disk_faults);
-      }
+      Starts-announced settled2 keeps number leaves line3 line_faults3 time3 moments =
+          let was = Starts-attached in
+          let announced_pulled : EachMoment tells d2 d3 (HasPulled d0) = λ stops m since. let now = moments stops m since in
+          record { taken = now.pulled.taken ∙ line3.taken ∙ was.line.taken; before = now.pulled.before ∙ line3.before ∙ was.line.before } in
+          record {
+            time = Elapses-then tells d0 d2 d3 was.time time3;
+            moments = λ ready. EachMoment-then tells d0 d2 d3 (IsStarting h d0) was.time time3 (was.moments ready) (λ stops m since.
+                let now = moments stops m since in
+                let at : next ≡ next_of h d0.held = number stops ∙ ap (λ (l : List ℕ). next_of h l) disk.held in
+                let image : m.image ≡ d2.held = settled2 stops m.image (leaves.disk.no_more m.image now.image) in
+                let kept : IsAttaching h d0.held d2.held = subst (λ (l : List ℕ). IsAttaching h l d2.held) disk.held (keeps stops) in
+                starting h d0 m (subst (λ (l : List ℕ). IsAttaching h d0.held l) (sym image) kept)
+                (omega (arith, now.greatest, announces.greatest, fresh2.greatest, told2, sound.greatest, ready.greatest, at))
+                (omega (arith, now.least, announces.least, fresh2.least, told2, sound.least, sound.greatest, ready.greatest, at))
+                (announced_pulled stops m since));
+            pulled = EachMoment-then tells d0 d2 d3 (HasPulled d0) was.time time3 was.pulled announced_pulled;
+            line = record { line = line3.line ∙ was.line.line; taken = line3.taken ∙ was.line.taken; before = line3.before ∙ was.line.before };
+            line_faults = line_faults3 ∙ was.line_faults;
+            disk_faults = omega (arith, was.disk_faults, leaves.disk_faults);
+          }
 
 -- no block is due before the first record
 pub stream-started : (k : StreamKept) (t : TableRows) (payload : ℕ) → RepresentsStream k (stream_made t payload)

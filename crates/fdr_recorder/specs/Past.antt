@@ -66,8 +66,9 @@ rest_of past = blocks_from past (due past) (length (blocks_of past.header.payloa
 abbrev pub stream_past : SessionPast → StreamPast
 stream_past past = record { table = past.table; payload = past.header.payload; records = past.records; begun = None; blocks = due past }
 
--- The session was started on this and fed these records, and the due blocks were recorded.
+-- The session was started on this and fed these records, and the due blocks were recorded. It has room for a block.
 pub record RepresentsSession (s : Session) (past : SessionPast) : Type 0 where
   pub header : s.ring.header ≡ past.header
-  pub stream : RepresentsStream s.stream (stream_past past)
+  pub stream : RepresentsStream s.stream.value (stream_past past)
   pub next : s.ring.next ≡ past.first + due past
+  pub room : past.header.payload ≤ length s.block.value

@@ -37,10 +37,15 @@ pub record Records (tells : Tells) (h : Header) (next : ℕ) (new : List Block) 
   pub time : Elapses tells old now
   pub moments : IsReady next old → EachMoment tells old now (IsRecording h old new)
   pub close : (mark : ℕ) → IsReady next old → IsNear next mark old → EachMoment tells old now (IsClose h mark)
+  -- on any disk, the numbers of bytes pulled are those at entry
+  pub pulled : EachMoment tells old now (HasPulled old)
   pub line : KeepsLine old now
   pub line_faults : now.line_faults ≡ old.line_faults
   pub disk_faults : old.disk_faults ≤ now.disk_faults
   pub extent : now.extent ≡ old.extent
+  -- no number below the least at entry may be announced, and none above the next one behind these blocks
+  pub least : old.greatest ≤ next → old.least ≤ now.least
+  pub greatest : old.greatest ≤ next → now.greatest ≤ next + length new
 
 -- All of these blocks stand behind the run, and are announced.
 pub record HasRecorded (tells : Tells) (h : Header) (next : ℕ) (new : List Block) (old now : State) : Type 0 where

@@ -2,7 +2,7 @@
 use Rattle.std.specs.Prelude.{◌≡◌, ◌≤◌, ℕ, ◌-◌, List, [], None, IsTrue}
 use Rattle.fdr_deck.specs.State.{Moment, State, Tells}
 use Rattle.fdr_deck.specs.Disk.{IsSettled}
-use Rattle.fdr_deck.specs.Moments.{Elapses, EachMoment}
+use Rattle.fdr_deck.specs.Moments.{HasPulled, Elapses, EachMoment}
 use Rattle.fdr_deck.specs.Pull.{KeepsLine}
 use Rattle.fdr_slot.specs.declared.image.Header.{Header}
 use Rattle.fdr_recover.specs.Images.{recovered_run, next_of}
@@ -25,6 +25,8 @@ pub record IsStarting (h : Header) (entry : State) (m : Moment) : Type 0 where
 pub record Starts (tells : Tells) (h : Header) (old now : State) : Type 0 where
   pub time : Elapses tells old now
   pub moments : IsReady (next_of h old.held) old → EachMoment tells old now (IsStarting h old)
+  -- on any disk, the numbers of bytes pulled are those at entry
+  pub pulled : EachMoment tells old now (HasPulled old)
   pub line : KeepsLine old now
   pub line_faults : now.line_faults ≡ old.line_faults
   pub disk_faults : old.disk_faults ≤ now.disk_faults

@@ -19,19 +19,19 @@ use fdr_deck::Deck;
 use fdr_recover::{RingFault, read_image_header};
 use fdr_ring::Ring;
 use fdr_stream::{Fed, Stream};
+use fdr_table::NoMemory;
 use std::alloc::Global;
 
 /// The most bytes of a block.
 const MAX_PAYLOAD: usize = 4096;
 
-/// More blocks than a recording has.
-const MANY_BLOCKS: u32 = 3_000_000_000;
-
 /// A recording of a trace in the image on a deck's disk. A call that is refused consumes it.
 #[derive(Drop)]
 pub struct Session {
     ring: Ring,
-    stream: Stream,
+    // These stay where they were made, so that a session is small where it is moved.
+    stream: Box<Stream>,
+    block: Box<[u8; MAX_PAYLOAD]>,
 }
 
 impl Session {
@@ -48,6 +48,8 @@ impl Session {
             → (why : ImageFault) → result ≡ Err (SessionFault.Image why) → image_fault_of (D.state deck.old).held ≡ Some why }
         ensures small { (why : ImageFault) → result ≡ Err (SessionFault.Image why)
             → (why ≡ image_fault.Small) ↔ ((D.state deck.new).extent < 64) }
+        ensures small_always { (D.state deck.new).extent < 64
+            → (result ≡ Err (SessionFault.Image image_fault.Small)) ⊎ (result ≡ Err SessionFault.DiskFault) }
         ensures words { (image table : ℕ) → result ≡ Err (SessionFault.WordsDiffer image table)
             → (table ≡ sound.now.frame.words) × (image ≢ table)
             × (IsTrue D.tells.bytes → IsFor image (D.state deck.old).held) }
@@ -75,13 +77,21 @@ impl Session {
             });
         }
         let stream = Stream::new(alloc, sound, header.payload)?;
+        let stream = boxed(alloc, stream)?;
+        let block = boxed(alloc, [0; MAX_PAYLOAD])?;
         let ring = Ring::attach(deck, header)?;
         deck.announce(ring.next());
-        Ok(Session { ring, stream })
+        Ok(Session {
+            ring,
+            stream,
+            block,
+        })
     }
 
     /// Feeds the next record of the trace: each block that is due at it is added to the image, and announced once it is
-    /// durable. `SeqEnd` is answered where there is no number left for one of them, and the blocks before it stand.
+    /// durable. `SeqEnd` is answered where there is no number left for one of them, and the blocks before it stand. It
+    /// is inlined: at most records no block is due.
+    #[inline(always)]
     pub fn feed<D: Deck>(self, deck: &mut D, r: &BusRecord) -> Result<Session, SessionFault>
         requires stands { (past : SessionPast) × RepresentsSession self past × MayFeedSession past r.now }
         requires fact { IsRing D.tells self.ring.header self.ring.next (D.state deck.old) }
@@ -107,16 +117,23 @@ impl Session {
         let Session {
             mut ring,
             mut stream,
+            mut block,
         } = self;
-        let payload = ring.header().payload as usize;
-        let mut block = [0; MAX_PAYLOAD];
-        for i in 0..MANY_BLOCKS {
-            match stream.feed(r, &mut block) {
-                Fed::Taken => return Ok(Session { ring, stream }),
-                Fed::Block => ring = add(ring, deck, &block[..payload])?,
+        loop {
+            match stream.feed(r, &mut *block) {
+                Fed::Taken => {
+                    return Ok(Session {
+                        ring,
+                        stream,
+                        block,
+                    });
+                }
+                Fed::Block => {
+                    let payload = ring.header().payload as usize;
+                    ring = add(ring, deck, &block[..payload])?;
+                }
             }
         }
-        unreachable!()
     }
 
     /// Ends the recording: what is left of the stream is added as a last block, and announced. Answers the next number of
@@ -139,9 +156,12 @@ impl Session {
             → Rose (D.state deck.old).disk_faults (D.state deck.new).disk_faults }
         ensures rest { D.same_rest deck.old deck.new }
     {
-        let Session { ring, mut stream } = self;
-        let mut block = [0; MAX_PAYLOAD];
-        let count = stream.finish(&mut block);
+        let Session {
+            ring,
+            mut stream,
+            mut block,
+        } = self;
+        let count = stream.finish(&mut *block);
         if count == 0 {
             return Ok(ring.next());
         }
@@ -157,7 +177,18 @@ impl Session {
     }
 }
 
-/// Adds a block and announces it.
+/// Puts a value where it stays.
+fn boxed<T: Drop>(alloc: Global, value: T) -> Result<Box<T>, NoMemory>
+    ensures { IfOk result (λ b. b.value ≡ value) }
+{
+    match Box::new(alloc, value) {
+        Ok(boxed) => Ok(boxed),
+        Err(_) => Err(NoMemory),
+    }
+}
+
+/// Adds a block and announces it. The call stays one: at most records no block is due.
+#[inline(never)]
 fn add<D: Deck>(ring: Ring, deck: &mut D, bytes: &[u8]) -> Result<Ring, RingFault>
     requires fact { IsRing D.tells ring.header ring.next (D.state deck.old) }
     requires some_bytes { 0 < length bytes.now }

@@ -4,12 +4,14 @@
 #![tactic(auto)]
 
 mod error;
+mod laws;
 mod open;
 mod payload;
 mod run;
 mod slots;
 
 pub use error::RingFault;
+pub use laws::recovered_run_is_longest;
 pub use open::read_image_header;
 pub use payload::block;
 pub use run::{Found, scan};

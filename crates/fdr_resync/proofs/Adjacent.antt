@@ -19,7 +19,7 @@ ends_at w a es = list_any (λ x. x + 48 * w == a) (filter_map frame_of_event es)
 last_is_frame : Bool → List Event → Bool
 last_is_frame was es = fold (λ was e. is_some (frame_of_event e)) was es
 
-cover_forward : (w n : ℕ) (es : List Event) (from : ℕ) → Cover w from n es → from ≤ n
+pub cover_forward : (w n : ℕ) (es : List Event) (from : ℕ) → Cover w from n es → from ≤ n
 cover_forward w n [] from cover = omega arith
 cover_forward w n (e ∷ es) from cover = let rest = cover_forward w n es (from + event_bits w e) cover.1 in omega arith
 
@@ -70,7 +70,7 @@ pub frame_is_adjacent : (b : List ℕ) (w a : ℕ) (before after : List Event) �
 unfolding ends_at last_is_frame
 frame_is_adjacent b w a before after some is =
     let P : Event → Type 0 = λ e. 0 < event_bits w e in
-    let events = are_events b w some in
+    let events = are_events b w in
     let cover = cover_before w (bits_in b) a before after 0 (subst (Cover w 0 (bits_in b)) is events.cover) in
     let bits = front P before (Frame a ∷ after) (subst (All P) is events.not_empty) in
     let here : (a + 48 * w == a) ≡ false = ne_eqb (a + 48 * w) a (λ same. omega arith) in

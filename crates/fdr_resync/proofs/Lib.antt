@@ -6,3 +6,4 @@ pub mod Taking
 pub mod Growing
 pub mod Adjacent
 pub mod Ahead
+pub mod Longest

@@ -3,24 +3,34 @@ use Rattle.std.proofs.Common.{◌≡◌, ℕ, ◌+◌, ◌*◌, ◌<◌, ◌≤�
 use Rattle.std.proofs.Common.{◌∙◌, subst, ⊎_elim, arith}
 use Rattle.std.proofs.Common.{append_assoc, append-nil, length-append, length-drop}
 use Rattle.std.specs.List.{slice_get}
+use Rattle.std.specs.List.{filter_map}
+use Rattle.std.specs.Prelude.{Contains}
+use Rattle.std.specs.Option.{ForSome}
 use Rattle.std.proofs.lemmas.Bool.{cases_lt, cases_Bool}
+use Rattle.std.proofs.lemmas.List.Elements.{Contains-append_right, filter_map-append}
 use Rattle.std.proofs.lemmas.List.{drop-drop, drop-append-le}
 use Rattle.std.proofs.lemmas.Option.{slice_get-get_or, slice_get_past}
 use Rattle.std.proofs.Math.Seq.{get_or-append_seam}
 use Rattle.fdr_sync.specs.Frames.{IsFramePosition, HasNoFrameFrom}
-use Rattle.fdr_sync.specs.Events.{Event, decided_from, events_from, decided_events, events_of}
+use Rattle.fdr_lists.proofs.Pairs.{Contains-here}
+use Rattle.fdr_sync.specs.Accepted.{accepted_frames}
+use Rattle.fdr_sync.specs.Events.{Event, Frame, decided_from, events_from, decided_events, events_of, frame_of_event}
+use Rattle.fdr_sync.proofs.EventLemmas.{frames_of_events}
 use Rattle.fdr_sync.proofs.FrameLemmas.{frame_within}
 use Rattle.fdr_resync.specs.Past.{ScannerPast, ScannerKept, RepresentsScanner, scanner_made, scanner_with_bytes, scanner_with_events, scanner_finished}
-use Rattle.fdr_resync.specs.Past.{known_events, bytes_pushed}
+use Rattle.fdr_resync.specs.Past.{EndsWithFrameAt, known_events, bytes_pushed}
 use Rattle.fdr_resync.proofs.Following.{rest_from, rest_from-decided, rest_from-all}
 
 -- the value whose fields are seen is the one that the caller sees
 pub stands_seen : (k seen : ScannerKept) (past : ScannerPast) → k ≡ seen → RepresentsScanner seen past → RepresentsScanner k past
 stands_seen k seen past is st = subst (λ (k : ScannerKept). RepresentsScanner k past) (sym is) st
 
-pub stands_made : (w : ℕ) (f : Option ℕ)
-    → RepresentsScanner (record { words = w; before = 0; window = []; free = 0; from = 0; ended = false; frame = f }) (scanner_made w)
-stands_made w f = record {
+no_frame : (es : List Event) → ForSome None (λ at. EndsWithFrameAt es at)
+no_frame es at is = absurd (cc)
+
+pub stands_made : (w : ℕ)
+    → RepresentsScanner (record { words = w; before = 0; window = []; free = 0; from = 0; ended = false; frame = None }) (scanner_made w)
+stands_made w = record {
   words = refl;
   ended = refl;
   pushed = refl;
@@ -28,11 +38,12 @@ stands_made w f = record {
   decided = λ more going. refl;
   events = λ more ends. refl;
   clear = λ more q low high. absurd (omega arith);
+  frame = no_frame [];
 }
 
--- the frame whose words may be read is no part of the past
-pub stands_frame : (k : ScannerKept) (past : ScannerPast) (f : Option ℕ) → RepresentsScanner k past → RepresentsScanner (record k { frame = f }) past
-stands_frame k past f st = record {
+-- no frame's words need to be kept
+pub stands_frame : (k : ScannerKept) (past : ScannerPast) → RepresentsScanner k past → RepresentsScanner (record k { frame = None }) past
+stands_frame k past st = record {
   words = st.words;
   ended = st.ended;
   pushed = st.pushed;
@@ -40,6 +51,7 @@ stands_frame k past f st = record {
   decided = st.decided;
   events = st.events;
   clear = st.clear;
+  frame = no_frame past.taken;
 }
 
 pub stands_finished : (k : ScannerKept) (past : ScannerPast) → RepresentsScanner k past → RepresentsScanner (record k { ended = true }) (scanner_finished past)
@@ -51,6 +63,7 @@ stands_finished k past st = record {
   decided = λ more going. absurd (cc);
   events = λ more ends. st.events more (λ was. ends refl);
   clear = st.clear;
+  frame = st.frame;
 }
 
 -- further bytes came, of which all are in the window
@@ -73,13 +86,14 @@ stands_bytes k past piece window st going is =
       clear = λ more q low high.
           let P : List ℕ → Type 0 = λ b. IsFramePosition b past.words q → ⊥ in
           subst P (sym (append_assoc past.bytes piece more)) (st.clear (piece ++ more) q low high);
+      frame = st.frame;
     }
 
 -- the first bytes of the window were dropped
-pub stands_dropped : (k : ScannerKept) (past : ScannerPast) (n before : ℕ) (window : List ℕ) (f : Option ℕ) → RepresentsScanner k past → n ≤ length k.window
+pub stands_dropped : (k : ScannerKept) (past : ScannerPast) (n before : ℕ) (window : List ℕ) → RepresentsScanner k past → n ≤ length k.window
     → before ≡ k.before + n → window ≡ drop n k.window
-    → RepresentsScanner (record k { before = before; window = window; frame = f }) past
-stands_dropped k past n before window f st few at is = record {
+    → RepresentsScanner (record k { before = before; window = window; frame = None }) past
+stands_dropped k past n before window st few at is = record {
   words = st.words;
   ended = st.ended;
   pushed = omega (arith, st.pushed, at, ap length is, length-drop n k.window);
@@ -87,6 +101,7 @@ stands_dropped k past n before window f st few at is = record {
   decided = st.decided;
   events = st.events;
   clear = st.clear;
+  frame = no_frame past.taken;
 }
 
 -- the events up to another bit were taken, or the search went on to another bit
@@ -94,8 +109,9 @@ pub stands_events : (k : ScannerKept) (past : ScannerPast) (es : List Event) (fr
     → ((all : Bool) (more : List ℕ) → (past.finished ≡ true → (all ≡ true) × (more ≡ []))
     → rest_from all (past.bytes ++ more) past.words k.free ≡ es ++ rest_from all (past.bytes ++ more) past.words free)
     → ((more : List ℕ) (q : ℕ) → free ≤ q → q < from → IsFramePosition (past.bytes ++ more) past.words q → ⊥)
+    → ForSome f (λ at. EndsWithFrameAt (past.taken ++ es) at)
     → RepresentsScanner (record k { free = free; from = from; frame = f }) (scanner_with_events past es)
-stands_events k past es free from f st next clear = record {
+stands_events k past es free from f st next clear frame = record {
   words = st.words;
   ended = st.ended;
   pushed = st.pushed;
@@ -111,6 +127,7 @@ stands_events k past es free from f st next clear = record {
       ∙ ap (λ xs. past.taken ++ xs) (sym (next true more (λ was. (refl, ends was))) ∙ rest_from-all (past.bytes ++ more) past.words k.free)
       ∙ st.events more ends;
   clear = clear;
+  frame = frame;
 }
 
 pub stands_searched : (k : ScannerKept) (past : ScannerPast) (from : ℕ) → RepresentsScanner k past
@@ -124,6 +141,7 @@ stands_searched k past from st clear = record {
   decided = st.decided;
   events = st.events;
   clear = λ more q low high. ⊎_elim (λ old. st.clear more q low old) (λ new. clear more q new high) (cases_lt q k.from);
+  frame = st.frame;
 }
 
 -- the events that are known are those that were taken, and those from bit `free` on
@@ -178,3 +196,19 @@ none_left k past st few q low h =
     let within = frame_within past.bytes past.words q h in
     let P : List ℕ → Type 0 = λ b. IsFramePosition b past.words q in
     ⊎_elim (λ old. st.clear [] q low old (subst P (sym (append-nil past.bytes)) h)) (λ new. omega (arith, within, st.pushed, same)) (cases_lt q k.from)
+
+-- the frame whose words may be read is an accepted frame of the bytes so far
+pub frame_accepted : (k : ScannerKept) (past : ScannerPast) (at : ℕ) → RepresentsScanner k past → k.frame ≡ Some at
+    → Contains (accepted_frames past.bytes past.words) at
+frame_accepted k past at st is =
+    let last = st.frame at is in
+    let b = past.bytes ++ [] in
+    let rest = events_from b past.words k.free in
+    let xs = filter_map frame_of_event last.0 in
+    let ys = filter_map frame_of_event rest in
+    let frames : accepted_frames b past.words ≡ xs ++ at ∷ ys =
+    sym (frames_of_events b past.words)
+    ∙ ap (filter_map frame_of_event) (sym (st.events [] (λ was. refl)) ∙ ap (λ es. es ++ rest) last.1 ∙ append_assoc last.0 (Frame at ∷ []) rest)
+    ∙ filter_map-append frame_of_event last.0 (Frame at ∷ rest) in
+    subst (λ b. Contains (accepted_frames b past.words) at) (append-nil past.bytes)
+    (subst (λ zs. Contains zs at) (sym frames) (Contains-append_right xs (at ∷ ys) at (Contains-here at ys)))

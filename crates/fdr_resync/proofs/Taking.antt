@@ -1,5 +1,5 @@
 -- The next event of a scanner, and what it stands for once that was taken.
-use Rattle.std.proofs.Common.{◌≡◌, ℕ, ◌+◌, ◌-◌, ◌*◌, ◌<◌, ◌≤◌, Bool, true, false, List, [], ◌∷◌, ◌++◌, Option, Some, length, refl, sym, ap, ◌∙◌, subst}
+use Rattle.std.proofs.Common.{◌≡◌, ℕ, ◌+◌, ◌-◌, ◌*◌, ◌<◌, ◌≤◌, Bool, true, false, List, [], ◌∷◌, ◌++◌, Option, None, Some, length, refl, sym, ap, ◌∙◌, subst}
 use Rattle.std.proofs.Common.{⊎_elim, arith}
 use Rattle.std.proofs.Common.{append-nil}
 use Rattle.std.specs.List.{slice_get}
@@ -53,23 +53,23 @@ pub gap_next : (k : ScannerKept) (past : ScannerPast) (room : ℕ) → Represent
 gap_next k past room st kept at later = next_now k past (Gap k.free (k.from - k.free)) k.from st (gap_ahead k past room past.finished [] st kept at later)
 
 pub gap_taken : (k : ScannerKept) (past : ScannerPast) (room : ℕ) (f : Option ℕ) → RepresentsScanner k past → IsScannerKept k room → IsAtFrame k
-    → k.free < k.from
+    → k.free < k.from → f ≡ None
     → RepresentsScanner (record k { free = k.from; frame = f }) (scanner_with_events past (Gap k.free (k.from - k.free) ∷ []))
-gap_taken k past room f st kept at later =
+gap_taken k past room f st kept at later none =
     stands_events k past (Gap k.free (k.from - k.free) ∷ []) k.from k.from f st (λ all more ends. gap_ahead k past room all more st kept at later)
-    (λ more q low high h. absurd (omega arith))
+    (λ more q low high h. absurd (omega arith)) (λ a is. absurd (cc))
 
 pub frame_next : (k : ScannerKept) (past : ScannerPast) (room : ℕ) → RepresentsScanner k past → IsScannerKept k room → IsAtFrame k → k.from ≤ k.free
     → slice_get (known_events past) (length past.taken) ≡ Some (Frame k.from)
 frame_next k past room st kept at here =
     next_now k past (Frame k.from) (k.from + 48 * k.words) st (frame_ahead k past room (k.from + 48 * k.words) past.finished [] st kept at here refl)
 
-pub frame_taken : (k : ScannerKept) (past : ScannerPast) (room next : ℕ) (f : Option ℕ) → RepresentsScanner k past → IsScannerKept k room → IsAtFrame k
+pub frame_taken : (k : ScannerKept) (past : ScannerPast) (room next : ℕ) → RepresentsScanner k past → IsScannerKept k room → IsAtFrame k
     → k.from ≤ k.free → next ≡ k.from + 48 * k.words
-    → RepresentsScanner (record k { free = next; from = next; frame = f }) (scanner_with_events past (Frame k.from ∷ []))
-frame_taken k past room next f st kept at here is =
-    stands_events k past (Frame k.from ∷ []) next next f st (λ all more ends. frame_ahead k past room next all more st kept at here is)
-    (λ more q low high h. absurd (omega arith))
+    → RepresentsScanner (record k { free = next; from = next; frame = Some k.from }) (scanner_with_events past (Frame k.from ∷ []))
+frame_taken k past room next st kept at here is =
+    stands_events k past (Frame k.from ∷ []) next next (Some k.from) st (λ all more ends. frame_ahead k past room next all more st kept at here is)
+    (λ more q low high h. absurd (omega arith)) (λ a is. let here : k.from ≡ a = cc in (past.taken, ap (λ x. past.taken ++ Frame x ∷ []) here))
 
 -- where a frame is ahead, those that were taken are not all
 pub not_all_taken : (k : ScannerKept) (past : ScannerPast) (room : ℕ) → RepresentsScanner k past → IsScannerKept k room → IsAtFrame k
@@ -112,13 +112,13 @@ last_next k past end st few ended is some =
     (ap (λ all. rest_from all past.bytes past.words k.free) finished ∙ last_ahead k past end st few is some)
 
 pub last_taken : (k : ScannerKept) (past : ScannerPast) (end : ℕ) (f : Option ℕ) → RepresentsScanner k past → 8 * bytes_pushed k < k.from + 48 * k.words
-    → k.ended ≡ true → end ≡ 8 * bytes_pushed k → k.free < end
+    → k.ended ≡ true → end ≡ 8 * bytes_pushed k → k.free < end → f ≡ None
     → RepresentsScanner (record k { free = end; from = end; frame = f }) (scanner_with_events past (Gap k.free (end - k.free) ∷ []))
-last_taken k past end f st few ended is some =
+last_taken k past end f st few ended is some none =
     let finished : past.finished ≡ true = sym st.ended ∙ ended in
     stands_events k past (Gap k.free (end - k.free) ∷ []) end end f st
     (λ all more ends.
     let Q : Bool → List ℕ → Type 0 = λ x b. rest_from x b past.words k.free ≡ Gap k.free (end - k.free) ∷ rest_from x b past.words end in
     let whole : past.bytes ++ more ≡ past.bytes = ap (λ m. past.bytes ++ m) (ends finished).1 ∙ append-nil past.bytes in
     subst (λ b. Q all b) (sym whole) (subst (λ x. Q x past.bytes) (sym (ends finished).0) (last_ahead k past end st few is some)))
-    (λ more q low high h. absurd (omega arith))
+    (λ more q low high h. absurd (omega arith)) (λ a is. absurd (cc))

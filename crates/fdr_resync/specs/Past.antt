@@ -1,9 +1,9 @@
 -- What came to a scanner and was taken from it, and what a scanner keeps of it.
-use Rattle.std.specs.Prelude.{ℕ, ◌≡◌, ◌+◌, ◌*◌, ◌<◌, ◌≤◌, ◌-◌, ◌^◌, Bool, true, false, if◌then◌else◌, List, [], ◌++◌, Option, length, drop}
+use Rattle.std.specs.Prelude.{ℕ, ◌≡◌, ◌+◌, ◌*◌, ◌<◌, ◌≤◌, ◌-◌, ◌^◌, Bool, true, false, if◌then◌else◌, List, [], ◌∷◌, ◌++◌, Option, length, drop}
 use Rattle.std.specs.Option.{ForSome}
 use Rattle.fdr_frame.specs.WordCount.{IsWordCount}
 use Rattle.fdr_sync.specs.Frames.{IsFramePosition}
-use Rattle.fdr_sync.specs.Events.{Event, events_of, decided_events, events_from, decided_from}
+use Rattle.fdr_sync.specs.Events.{Event, Frame, events_of, decided_events, events_from, decided_from}
 
 -- How many words a subframe has, the bytes that were pushed and the events that were taken since the scanner was made or
 -- restarted, and whether no further byte comes.
@@ -65,8 +65,13 @@ pub record IsScannerKept (k : ScannerKept) (capacity : ℕ) : Type 0 where
   pub frame_behind : ForSome k.frame (λ at. 8 * k.before ≤ at)
   pub frame_within : ForSome k.frame (λ at. at + 48 * k.words ≤ 8 * bytes_pushed k)
 
+-- the last of these events is a frame that begins at a bit
+abbrev pub EndsWithFrameAt : List Event → ℕ → Type 0
+EndsWithFrameAt es at = (before : List Event) × (es ≡ before ++ Frame at ∷ [])
+
 -- The value stands where these bytes were pushed and these events were taken. Then, however the bytes go on, the events
--- that were taken and those from bit `free` on are all the events, and no frame begins from bit `free` up to bit `from`.
+-- that were taken and those from bit `free` on are all the events, and no frame begins from bit `free` up to bit `from`. The
+-- frame whose words may be read is the last event that was taken.
 pub record RepresentsScanner (k : ScannerKept) (past : ScannerPast) : Type 0 where
   pub words : k.words ≡ past.words
   pub ended : k.ended ≡ past.finished
@@ -77,3 +82,4 @@ pub record RepresentsScanner (k : ScannerKept) (past : ScannerPast) : Type 0 whe
   pub events : (more : List ℕ) → (past.finished ≡ true → more ≡ [])
       → past.taken ++ events_from (past.bytes ++ more) past.words k.free ≡ events_of (past.bytes ++ more) past.words
   pub clear : (more : List ℕ) (q : ℕ) → k.free ≤ q → q < k.from → ¬ IsFramePosition (past.bytes ++ more) past.words q
+  pub frame : ForSome k.frame (λ at. EndsWithFrameAt past.taken at)

@@ -9,8 +9,8 @@ ghost use Rattle.fdr_sync.specs.Events.{Event, Frame, decided_events, events_of}
 ghost use Rattle.fdr_resync.specs.Past.{ScannerKept, ScannerPast, RepresentsScanner, known_events};
 ghost use Rattle.fdr_resync.specs.Adjacency.{ends_with_frame};
 
-/// A law, and no work: what is decided of bytes stays so, however they go on and wherever they end. Further accepted frames
-/// end behind these bytes. The events that a scanner has given are the first of those that are known, and the next one is
+/// A law, and no work: what is decided of bytes stays so, however they go on and wherever they end, and nothing else does: any
+/// events that all longer bytes begin with are among the first decided ones. Further accepted frames end behind these bytes. The events that a scanner has given are the first of those that are known, and the next one is
 /// next among all events, whatever comes.
 pub fn stays_decided()
     ensures frames { (bytes more : List ℕ) (w : ℕ) → IsWordCount w → (next : List ℕ)
@@ -20,6 +20,9 @@ pub fn stays_decided()
     ensures empty { (w : ℕ) → IsWordCount w → decided_events [] w ≡ [] }
     ensures events { (bytes more : List ℕ) (w : ℕ) → IsWordCount w → (next : List Event)
         × (events_of (bytes ++ more) w ≡ decided_events bytes w ++ next) }
+    ensures longest { (bytes : List ℕ) (w : ℕ) (es : List Event)
+        → ((more : List ℕ) → (next : List Event) × (events_of (bytes ++ more) w ≡ es ++ next))
+        → (rest : List Event) × (decided_events bytes w ≡ es ++ rest) }
     ensures taken { (k : ScannerKept) (past : ScannerPast) → RepresentsScanner k past → (next : List Event)
         × (known_events past ≡ past.taken ++ next) }
     ensures next { (k : ScannerKept) (past : ScannerPast) (more : List ℕ) (e : Event) → RepresentsScanner k past

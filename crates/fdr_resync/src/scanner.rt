@@ -1,14 +1,15 @@
 //! The scanner.
 
 ghost use Rattle.std.specs.Prelude.{◌≡◌, ◌+◌, ◌-◌, ◌*◌, ◌^◌, ◌≤◌, ◌<◌, ◌++◌, ◌∷◌, [], ◌↔◌, ℕ, List, Some, false, IfOk, IsSome, IsNone, OnSome, IsTrue};
-ghost use Rattle.std.specs.Prelude.{None, true, MatchBool, All, length, map, min, take, slice_get};
+ghost use Rattle.std.specs.Prelude.{None, true, MatchBool, All, Contains, length, map, min, take, slice_get};
 ghost use Rattle.std.specs.List.{range_with_len};
 ghost use Rattle.std.specs.Option.{option_map};
 ghost use Rattle.fdr_bits.specs.Bits.{bits_in, word_at};
 ghost use Rattle.fdr_frame.specs.WordCount.{IsWordCount};
 ghost use Rattle.fdr_sync.specs.Frames.{IsFramePosition};
+ghost use Rattle.fdr_sync.specs.Accepted.{accepted_frames};
 ghost use Rattle.fdr_resync.specs.Past.{ScannerPast, RepresentsScanner, scanner_made, scanner_with_bytes, scanner_with_events, scanner_finished};
-ghost use Rattle.fdr_resync.specs.Past.{known_events, bytes_pushed, bits_left, window_size};
+ghost use Rattle.fdr_resync.specs.Past.{EndsWithFrameAt, known_events, bytes_pushed, bits_left, window_size};
 ghost use Rattle.fdr_resync.specs.Answers.{answered_event, answered_events, answered_frame};
 
 use crate::search::reach;
@@ -113,7 +114,7 @@ impl Scanner {
         }
     }
 
-    /// The words of the frame that the last call, a `take`, answered. Takes no memory.
+    /// The words of the frame that the last `take` answered, where nothing was pushed since. Takes no memory.
     pub fn frame_words(&self, out: &mut [u16])
         requires frame { IsSome self.now.frame }
         requires whole { length out.old ≡ 4 * self.now.words }
@@ -122,6 +123,10 @@ impl Scanner {
         ensures twelve_bits { All (λ word. word < 4096) out.new }
         ensures within { (past : ScannerPast) (at : ℕ) → RepresentsScanner self.now past → self.now.frame ≡ Some at
             → at + 48 * past.words ≤ bits_in past.bytes }
+        ensures taken { (past : ScannerPast) (at : ℕ) → RepresentsScanner self.now past → self.now.frame ≡ Some at
+            → EndsWithFrameAt past.taken at }
+        ensures accepted { (past : ScannerPast) (at : ℕ) → RepresentsScanner self.now past → self.now.frame ≡ Some at
+            → Contains (accepted_frames past.bytes past.words) at }
     {
         let at = self.frame.unwrap();
         unpack(&self.window, at - 8 * self.before, out);
@@ -132,6 +137,9 @@ impl Scanner {
         ensures stands { (past : ScannerPast) → RepresentsScanner self.old past
             → RepresentsScanner self.new (scanner_finished past) }
         ensures words { self.new.words ≡ self.old.words }
+        ensures pushed { bytes_pushed self.new ≡ bytes_pushed self.old }
+        ensures ended { self.new.ended ≡ true }
+        ensures frame { self.new.frame ≡ self.old.frame }
     {
         self.ended = true;
     }
@@ -167,7 +175,7 @@ impl Scanner {
         requires { IsFramePosition self.old.window self.old.words (self.old.from - 8 * self.old.before) }
         ensures event { (past : ScannerPast) → RepresentsScanner self.old past
             → slice_get (known_events past) (length past.taken) ≡ Some (answered_event result) }
-        ensures stands { (past : ScannerPast) → RepresentsScanner self.old past
+        ensures stands { (past : ScannerPast) → self.old.frame ≡ None → RepresentsScanner self.old past
             → RepresentsScanner self.new (scanner_with_events past (answered_events (Some result))) }
         ensures frame { self.old.frame ≡ None → self.new.frame ≡ answered_frame (Some result) }
         ensures words { self.new.words ≡ self.old.words }
@@ -198,7 +206,7 @@ impl Scanner {
             → option_map answered_event result ≡ slice_get (known_events past) (length past.taken) }
         ensures none { (past : ScannerPast) → RepresentsScanner self.old past
             → IsNone result ↔ (past.taken ≡ known_events past) }
-        ensures stands { (past : ScannerPast) → RepresentsScanner self.old past
+        ensures stands { (past : ScannerPast) → self.old.frame ≡ None → RepresentsScanner self.old past
             → RepresentsScanner self.new (scanner_with_events past (answered_events result)) }
         ensures frame { self.old.frame ≡ None → self.new.frame ≡ answered_frame result }
         ensures words { self.new.words ≡ self.old.words }

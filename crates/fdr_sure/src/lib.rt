@@ -1,20 +1,30 @@
-//! Commands over objects that never fail, where no fault can stand for an answer.
+//! Commands over objects that never fail, where no fault can stand for an answer, and recordings in a deck in memory as it is
+//! made, of which all premises hold.
 #![tactic(auto)]
 
-ghost use Rattle.std.specs.Prelude.{◌≡◌, ◌≤◌, ◌⊎◌, ◌↔◌, true, ℕ, List, length, map, string_bytes, Some, None};
+ghost use Rattle.std.specs.Prelude.{◌≡◌, ◌<◌, ◌≤◌, ◌⊎◌, ◌↔◌, true, ℕ, List, length, map, string_bytes, Some, None};
 ghost use Rattle.fdr_bus.specs.Records.{good_prefix, has_end};
-ghost use Rattle.fdr_words.specs.Forms.{check_table, form_of, list_bits, recover_image, stream_line};
+ghost use Rattle.fdr_deck.specs.Sure.{sure_state};
+ghost use Rattle.fdr_words.specs.Forms.{check_table, drill_image, form_of, format_image, list_bits, list_image, record_line, recover_image, stream_line};
 ghost use Rattle.fdr_recover.specs.ImageHeader.{image_fault_of};
-ghost use Rattle.fdr_top.specs.Tables.{IsAccepted};
+ghost use Rattle.fdr_gen.specs.Trace.{generated_trace};
+ghost use Rattle.fdr_recorder.specs.Starting.{IsFor};
+ghost use Rattle.fdr_top.specs.Complete.{HasRoom};
+ghost use Rattle.fdr_top.specs.Tables.{IsAccepted, table_in};
+
+mod in_memory;
 
 use fdr_deck::SureDeck;
 use fdr_io::{NullSink, SureSource};
 use fdr_top::{Outcome, run};
+pub use in_memory::{Ran, made_deck, run_in_memory};
 use std::alloc::Global;
 
 /// Runs a command over a source, a deck and a sink that never fail. Words of no form give `Usage`. A table that is
 /// accepted, and for `listbits` a line of at most 268,435,456 bytes, for `stream` a trace with an end record, give `Done`,
-/// unless memory ends. So does an image without faults, for `recover`.
+/// unless memory ends. So does an image without faults for `recover`, one for the table's frames for `list`, and one with
+/// numbers enough for all blocks for `record` and `drill`. `format` answers `NotEmpty` where the deck has an image, as a new one
+/// has: a deck that never fails can't take room.
 pub fn sure_command(
     alloc: Global,
     words: &[String],
@@ -31,6 +41,23 @@ pub fn sure_command(
         → length deck.old.line ≤ 268435456 → (result ≡ Outcome.Done) ⊎ (result ≡ Outcome.NoMemory) }
     ensures stream { (path : List ℕ) → form_of (map string_bytes words.now) ≡ Some (stream_line path) → IsAccepted table.old
         → has_end (good_prefix deck.old.line) ≡ true → (result ≡ Outcome.Done) ⊎ (result ≡ Outcome.NoMemory) }
+    ensures making { (path image : List ℕ) (slots payload : ℕ)
+        → form_of (map string_bytes words.now) ≡ Some (format_image path image slots payload) → IsAccepted table.old
+        → length deck.old.image ≡ 0 → (result ≡ Outcome.Done) ⊎ (result ≡ Outcome.NoMemory) }
+    ensures made_already { (path image : List ℕ) (slots payload : ℕ)
+        → form_of (map string_bytes words.now) ≡ Some (format_image path image slots payload) → IsAccepted table.old
+        → 0 < length deck.old.image → (result ≡ Outcome.NotEmpty) ⊎ (result ≡ Outcome.NoMemory) }
+    ensures recording { (path image : List ℕ) → form_of (map string_bytes words.now) ≡ Some (record_line path image)
+        → IsAccepted table.old → has_end (good_prefix deck.old.line) ≡ true
+        → HasRoom (table_in table.old) (sure_state deck.old) (good_prefix deck.old.line)
+        → (result ≡ Outcome.Done) ⊎ (result ≡ Outcome.NoMemory) }
+    ensures image_listing { (path image : List ℕ) → form_of (map string_bytes words.now) ≡ Some (list_image path image)
+        → IsAccepted table.old → IsFor (table_in table.old).frame.words deck.old.image
+        → (result ≡ Outcome.Done) ⊎ (result ≡ Outcome.NoMemory) }
+    ensures drill { (path image : List ℕ) (seed frames : ℕ)
+        → form_of (map string_bytes words.now) ≡ Some (drill_image path image seed frames) → IsAccepted table.old
+        → HasRoom (table_in table.old) (sure_state deck.old) (generated_trace (table_in table.old) seed frames)
+        → (result ≡ Outcome.Done) ⊎ (result ≡ Outcome.NoMemory) }
 {
     run(alloc, words, table, deck, out)
 }

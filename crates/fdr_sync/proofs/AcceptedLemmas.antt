@@ -7,7 +7,7 @@ use Rattle.std.proofs.lemmas.List.Elements.{All-nil, All-cons, All-head, All-tai
 use Rattle.fdr_bits.specs.Bits.{bits_in}
 use Rattle.fdr_sync.specs.Frames.{is_frame_position, IsFramePosition, IsFirstFrameFrom}
 use Rattle.fdr_sync.specs.Accepted.{AreAcceptedFrames, frame_positions, chosen_from, accepted_from, accepted_frames}
-use Rattle.fdr_sync.proofs.FrameLemmas.{frame_within}
+use Rattle.fdr_sync.proofs.FrameLemmas.{frame_within, some_words}
 use Rattle.fdr_sync.proofs.ChoiceLemmas.{passing, passing_more, passing_same, chosen_nil, chosen_late, chosen_early, chosen_over, accepted_is_chosen}
 use Rattle.fdr_sync.proofs.ChoiceLemmas.{accepted_none, accepted_first}
 use Rattle.fdr_lists.proofs.Pairs.{AllPairs-nil, AllPairs-head, AllPairs-tail, Contains-here}
@@ -86,11 +86,12 @@ chosen_others test len free a (suc n) p behind from below passes =
     (cases_lt a p)
 
 -- every frame position from bit `free` on is accepted, or begins inside an accepted frame
-pub accepted_others : (b : List ℕ) (w free p : ℕ) → 0 < w → free ≤ p → IsFramePosition b w p
+pub accepted_others : (b : List ℕ) (w free p : ℕ) → free ≤ p → IsFramePosition b w p
     → Contains (accepted_from b w free) p ⊎ ((a : ℕ) × Contains (accepted_from b w free) a × (a < p) × (p < a + 48 * w))
 unfolding Listed
-accepted_others b w free p some behind h =
+accepted_others b w free p behind h =
     let within = frame_within b w p h in
+    let some = some_words b w p h in
     subst (λ xs. Listed (48 * w) xs p) (sym (accepted_is_chosen b w free))
     (chosen_others (is_frame_position b w) (48 * w) free 0 (bits_in b) p behind (omega arith) (omega (arith, within)) h)
 
@@ -108,22 +109,23 @@ unfolding accepted_from
 accepted_apart b w free = chosen_apart (48 * w) free (frame_positions b w)
 
 -- the function gives the accepted frames
-pub are_accepted : (b : List ℕ) (w : ℕ) → 0 < w → AreAcceptedFrames b w (accepted_frames b w)
-are_accepted b w some = record {
+pub are_accepted : (b : List ℕ) (w : ℕ) → AreAcceptedFrames b w (accepted_frames b w)
+are_accepted b w = record {
   positions = accepted_positions b w 0;
   apart = accepted_apart b w 0;
   others =
-      λ p h. accepted_others b w 0 p some (omega arith) h;
+      λ p h. accepted_others b w 0 p (omega arith) h;
 }
 
 -- a list that has each frame position from `free` on, or one that it begins inside of, is the accepted one from there
-only_accepted_from : (b : List ℕ) (w : ℕ) → 0 < w → (xs : List ℕ) (free : ℕ) → All (IsFramePosition b w) xs → All (λ x. free ≤ x) xs
+only_accepted_from : (b : List ℕ) (w : ℕ) (xs : List ℕ) (free : ℕ) → All (IsFramePosition b w) xs → All (λ x. free ≤ x) xs
     → AllPairs (λ earlier later. earlier + 48 * w ≤ later) xs → ((p : ℕ) → free ≤ p → IsFramePosition b w p → Listed (48 * w) xs p)
     → xs ≡ accepted_from b w free
 unfolding Listed
-only_accepted_from b w some [] free positions behind apart others =
+only_accepted_from b w [] free positions behind apart others =
     sym (accepted_none b w free (λ q from h. ⊎_elim (λ here. Contains-nil q here) (λ inside. Contains-nil inside.0 inside.1) (others q from h)))
-only_accepted_from b w some (a ∷ xs) free positions behind apart others =
+only_accepted_from b w (a ∷ xs) free positions behind apart others =
+    let some = some_words b w a (All-head (IsFramePosition b w) a xs positions) in
     let R : ℕ → ℕ → Type 0 = λ earlier later. earlier + 48 * w ≤ later in
     let after : All (λ c. a + 48 * w ≤ c) xs = AllPairs-head R a xs apart in
     let least : All (λ c. a ≤ c) (a ∷ xs) = All-cons (λ c. a ≤ c) a xs (omega arith)
@@ -144,10 +146,10 @@ only_accepted_from b w some (a ∷ xs) free positions behind apart others =
     (λ there. inr (inside.0, there, inside.2, inside.3))
     (Contains-cons_cases a xs inside.0 inside.1))
     (others p (omega (arith, first.behind)) h) in
-    ap (λ ys. a ∷ ys) (only_accepted_from b w some xs (a + 48 * w) (All-tail (IsFramePosition b w) a xs positions) after (AllPairs-tail R a xs apart) rest)
+    ap (λ ys. a ∷ ys) (only_accepted_from b w xs (a + 48 * w) (All-tail (IsFramePosition b w) a xs positions) after (AllPairs-tail R a xs apart) rest)
     ∙ sym (accepted_first b w free a some first)
 
 -- no other list is one of accepted frames
-pub only_accepted : (b : List ℕ) (w : ℕ) → 0 < w → (xs : List ℕ) → AreAcceptedFrames b w xs → xs ≡ accepted_frames b w
+pub only_accepted : (b : List ℕ) (w : ℕ) (xs : List ℕ) → AreAcceptedFrames b w xs → xs ≡ accepted_frames b w
 unfolding Listed
-only_accepted b w some xs h = only_accepted_from b w some xs 0 h.positions (λ k d within. omega arith) h.apart (λ p from at. h.others p at)
+only_accepted b w xs h = only_accepted_from b w xs 0 h.positions (λ k d within. omega arith) h.apart (λ p from at. h.others p at)

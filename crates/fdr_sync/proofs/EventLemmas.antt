@@ -9,8 +9,8 @@ use Rattle.fdr_bits.specs.Bits.{bits_in}
 use Rattle.fdr_sync.specs.Frames.{IsFramePosition}
 use Rattle.fdr_sync.specs.Accepted.{AreAcceptedFrames, accepted_from, accepted_frames}
 use Rattle.fdr_sync.specs.Events.{Event, Frame, Gap, gap_between, frames_and_gaps, end_of_frames, decided_from, events_from, events_of, frame_of_event}
-use Rattle.fdr_sync.specs.Events.{gap_of_event, gaps, event_bits, Cover, NoGapsMeet, AreEvents}
-use Rattle.fdr_sync.proofs.FrameLemmas.{frame_within}
+use Rattle.fdr_sync.specs.Events.{gap_of_event, gaps, event_bits, Cover, NoGapsMeet, AreEvents, EventsAreUnique}
+use Rattle.fdr_sync.proofs.FrameLemmas.{frame_within, some_words}
 use Rattle.fdr_sync.proofs.AcceptedLemmas.{accepted_positions, accepted_behind, accepted_apart, are_accepted, only_accepted}
 use Rattle.fdr_lists.proofs.Pairs.{AllPairs-head, AllPairs-tail}
 
@@ -85,16 +85,22 @@ over_covers w n = over_cases w n (λ free xs es. Cover w free n es)
     (λ free a xs later rest. let next : free + (a - free) ≡ a = omega arith in
     (refl, (sym next, subst (λ x. Cover w (x + 48 * w) n (over w (a + 48 * w) n xs)) (sym next) rest)))
 
-over_some : (w n : ℕ) → 0 < w → (xs : List ℕ) (free : ℕ) → Fit w free n xs → All (λ e. 0 < event_bits w e) (over w free n xs)
-over_some w n some =
+-- where each of the frames has a bit, so has each event
+over_some : (w n : ℕ) (xs : List ℕ) (free : ℕ) → Fit w free n xs → All (λ a. 0 < w) xs → All (λ e. 0 < event_bits w e) (over w free n xs)
+over_some w n =
     let P : Event → Type 0 = λ e. 0 < event_bits w e in
+    let HasBits : ℕ → Type 0 = λ a. 0 < w in
+    over_cases w n (λ free xs es. All HasBits xs → All P es)
+    (λ some. All-nil P)
+    (λ free later some. let gap_some : 0 < n - free = omega arith in All-cons P (Gap free (n - free)) [] gap_some (All-nil P))
+    (λ a xs rest some. let words : 0 < w = All-head HasBits a xs some in
     let frame_some : 0 < 48 * w = omega arith in
-    over_cases w n (λ free xs es. All P es)
-    (All-nil P)
-    (λ free later. let gap_some : 0 < n - free = omega arith in All-cons P (Gap free (n - free)) [] gap_some (All-nil P))
-    (λ a xs rest. All-cons P (Frame a) (over w (a + 48 * w) n xs) frame_some rest)
-    (λ free a xs later rest. let gap_some : 0 < a - free = omega arith in
-    All-cons P (Gap free (a - free)) (Frame a ∷ over w (a + 48 * w) n xs) gap_some (All-cons P (Frame a) (over w (a + 48 * w) n xs) frame_some rest))
+    All-cons P (Frame a) (over w (a + 48 * w) n xs) frame_some (rest (All-tail HasBits a xs some)))
+    (λ free a xs later rest some. let words : 0 < w = All-head HasBits a xs some in
+    let frame_some : 0 < 48 * w = omega arith in
+    let gap_some : 0 < a - free = omega arith in
+    All-cons P (Gap free (a - free)) (Frame a ∷ over w (a + 48 * w) n xs) gap_some
+    (All-cons P (Frame a) (over w (a + 48 * w) n xs) frame_some (rest (All-tail HasBits a xs some))))
 
 over_apart : (w n : ℕ) (xs : List ℕ) (free : ℕ) → Fit w free n xs → NoGapsMeet (over w free n xs)
 over_apart w n = over_cases w n (λ free xs es. NoGapsMeet es)
@@ -183,25 +189,35 @@ pub frames_of_events : (b : List ℕ) (w : ℕ) → filter_map frame_of_event (e
 frames_of_events b w = ap (filter_map frame_of_event) (events_are_over b w 0) ∙ over_frames w (bits_in b) (accepted_frames b w) 0 (accepted_fit b w)
 
 -- the function gives the events
-pub are_events : (b : List ℕ) (w : ℕ) → 0 < w → AreEvents b w (events_of b w)
-are_events b w some =
+pub are_events : (b : List ℕ) (w : ℕ) → AreEvents b w (events_of b w)
+are_events b w =
     let n = bits_in b in
     let xs = accepted_frames b w in
     let is = events_are_over b w 0 in
     let fit = accepted_fit b w in
     record {
       cover = subst (Cover w 0 n) (sym is) (over_covers w n xs 0 fit);
-      not_empty = subst (All (λ e. 0 < event_bits w e)) (sym is) (over_some w n some xs 0 fit);
+      not_empty = subst (All (λ e. 0 < event_bits w e)) (sym is)
+          (over_some w n xs 0 fit (All-weaker (IsFramePosition b w) (λ a. 0 < w) (λ x h. some_words b w x h) xs (accepted_positions b w 0)));
       apart = subst NoGapsMeet (sym is) (over_apart w n xs 0 fit);
-      frames = subst (AreAcceptedFrames b w) (sym (frames_of_events b w)) (are_accepted b w some);
+      frames = subst (AreAcceptedFrames b w) (sym (frames_of_events b w)) (are_accepted b w);
     }
 
 -- no other list is one of events
-pub only_events : (b : List ℕ) (w : ℕ) → 0 < w → (es : List Event) → AreEvents b w es → es ≡ events_of b w
-only_events b w some es h =
+pub only_events : (b : List ℕ) (w : ℕ) (es : List Event) → AreEvents b w es → es ≡ events_of b w
+only_events b w es h =
     cover_is_over w (bits_in b) es 0 h.cover h.not_empty h.apart
-    ∙ ap (over w 0 (bits_in b)) (only_accepted b w some (filter_map frame_of_event es) h.frames)
+    ∙ ap (over w 0 (bits_in b)) (only_accepted b w (filter_map frame_of_event es) h.frames)
     ∙ sym (events_are_over b w 0)
+
+-- each bit list has exactly one list of accepted frames, and exactly one of events
+pub events_unique : (b : List ℕ) (w : ℕ) → EventsAreUnique b w
+events_unique b w = record {
+  accepted = are_accepted b w;
+  only_accepted = only_accepted b w;
+  events = are_events b w;
+  only_events = only_events b w;
+}
 
 -- accepted frames and gaps have all the bits
 pub total_bits : (b : List ℕ) (w : ℕ) → 48 * w * length (accepted_frames b w) + sum_by (λ g. g.1) (gaps b w) ≡ bits_in b

@@ -2,7 +2,7 @@
 use Rattle.std.specs.Prelude.{ℕ, ◌≡◌, ◌+◌, ◌-◌, ◌*◌, ◌<◌, nat_lt, if◌then◌else◌, List, [], ◌∷◌, ◌++◌, Option, Some, None, All}
 use Rattle.std.specs.List.{filter_map}
 use Rattle.fdr_bits.specs.Bits.{bits_in}
-use Rattle.fdr_sync.specs.Accepted.{accepted_from, AreAcceptedFrames}
+use Rattle.fdr_sync.specs.Accepted.{accepted_from, accepted_frames, AreAcceptedFrames}
 
 -- a frame that begins at a bit, or a gap that begins at a bit and has so many bits
 pub data Event : Type 0 where
@@ -90,3 +90,10 @@ pub record AreEvents (b : List ℕ) (w : ℕ) (es : List Event) : Type 0 where
   pub not_empty : All (λ e. 0 < event_bits w e) es
   pub apart : NoGapsMeet es
   pub frames : AreAcceptedFrames b w (filter_map frame_of_event es)
+
+-- A bit list has exactly one list of accepted frames and exactly one of events, which are those that the functions give.
+pub record EventsAreUnique (b : List ℕ) (w : ℕ) : Type 0 where
+  pub accepted : AreAcceptedFrames b w (accepted_frames b w)
+  pub only_accepted : (xs : List ℕ) → AreAcceptedFrames b w xs → xs ≡ accepted_frames b w
+  pub events : AreEvents b w (events_of b w)
+  pub only_events : (es : List Event) → AreEvents b w es → es ≡ events_of b w

@@ -2,9 +2,11 @@
 #![tactic(auto)]
 
 mod frames;
+mod law;
 mod search;
 #[cfg(test)]
 mod tests;
 
 pub use frames::{Gap, accepted_frames, gaps};
+pub use law::events_are_unique;
 pub use search::{frame_at, next_frame};

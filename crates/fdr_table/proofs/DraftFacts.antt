@@ -1,7 +1,7 @@
 -- Facts about the rows above a row, and what they say.
 use Rattle.std.proofs.Common.{◌≡◌, ◌∙◌, sym, ap, subst, refl, ℕ, ◌+◌, ◌<◌, All, Bool, true, false, ◌&&◌, ◌||◌, List, [], ◌∷◌, ◌++◌, length, map, filter, Option}
 use Rattle.std.proofs.Common.{Some, None, Result, arith, zero-add}
-use Rattle.std.specs.Prelude.{IfOk, ok_or, option_map, if◌then◌else◌, is_none, is_some, bytes_eq, filter_map, unwrap_or, position}
+use Rattle.std.specs.Prelude.{◌≢◌, IfOk, ok_or, option_map, if◌then◌else◌, is_none, is_some, bytes_eq, filter_map, unwrap_or, position}
 use Rattle.std.specs.List.{cons_option, enumerate_from, list_any}
 use Rattle.std.proofs.lemmas.Bool.{false≢true}
 use Rattle.std.proofs.lemmas.List.{length-map, map-append}
@@ -19,6 +19,8 @@ use Rattle.fdr_table.specs.declared.fault.TableFault.{TableFault}
 use Rattle.fdr_table.specs.declared.fault.TableFault.TheVariants as fault
 use Rattle.fdr_table.proofs.SearchFacts.{position-below, position-is_some, position-map, position-more, list_any-map}
 use Rattle.fdr_lists.proofs.Numbered.{enumerate_from_push}
+use Rattle.fdr_lists.proofs.Pairs.{AllPairs-nil}
+use Rattle.fdr_table.specs.Ranges.{HaveOwnNames}
 
 -- the field with the name
 abbrev pub name_in : Row → List ℕ
@@ -170,6 +172,10 @@ pub none-from : {A : Type 0} (o p : Option A) → o ≡ p → is_some o ≡ fals
 none-from None p same e = sym same
 none-from (Some a) p same e = absurd (false≢true (sym e))
 
+-- no parameters have names of their own
+no-names : HaveOwnNames []
+no-names = record { allowed = λ i d lt. absurd (omega arith); different = AllPairs-nil (λ (p q : ParamRow). p.name ≢ q.name) }
+
 -- the draft of no rows
 pub no-rows : IsDraft [] (record { frame = None; params = []; places = []; rows = 0 })
 no-rows = record {
@@ -182,6 +188,9 @@ no-rows = record {
   count = refl;
   named = λ i d lt. absurd (omega arith);
   rows = refl;
+  own_names = no-names;
+  few_params = omega arith;
+  few_places = omega arith;
 }
 
 pub some-row : (rows : List Row) (d : DraftRows) → IsDraft rows d → is_some d.frame ≡ true → 0 < length rows
@@ -193,3 +202,9 @@ pub if-there : {A T E : Type 0} (o : Option A) (f : A → T) (e : E) (r : Result
     → IfOk r (λ t. Q)
 if-there None f e r Q same q = subst (λ (x : Result _ _). IfOk x (λ t. Q)) (sym same) tt
 if-there (Some a) f e r Q same q = subst (λ (x : Result _ _). IfOk x (λ t. Q)) (sym same) (q refl)
+
+-- what holds of the table that is made of a draft
+pub if-made : {A T E : Type 0} (o : Option A) (f : A → T) (e : E) (r : Result T E) (Q : T → Type 0) → r ≡ ok_or (option_map f o) e
+    → ((a : A) → Q (f a)) → IfOk r Q
+if-made None f e r Q same q = subst (λ (x : Result _ _). IfOk x Q) (sym same) tt
+if-made (Some a) f e r Q same q = subst (λ (x : Result _ _). IfOk x Q) (sym same) (q a)

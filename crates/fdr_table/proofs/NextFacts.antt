@@ -1,13 +1,17 @@
 -- The fault of the next row, and the draft with one more row.
 use Rattle.std.proofs.Common.{◌≡◌, ◌∙◌, sym, ap, refl, ℕ, ◌+◌, ◌<◌, ◌≤◌, All, Bool, true, false, ◌||◌, cond, List, [], ◌∷◌, ◌++◌, length, map, filter, Option}
-use Rattle.std.proofs.Common.{Some, None, arith, append-nil, length-append}
-use Rattle.std.specs.Prelude.{is_some, not, nat_le, unwrap_or}
-use Rattle.std.specs.List.{cons_option}
+use Rattle.std.proofs.Common.{Some, None, arith, append-nil, length-append, get_or, subst, zero, suc, rules}
+use Rattle.std.specs.Prelude.{◌≢◌, if◌then◌else◌, IsTrue, bytes_eq, is_some, not, nat_le, unwrap_or}
+use Rattle.std.specs.List.{cons_option, list_any}
 use Rattle.std.specs.Option.{option_map_or}
 use Rattle.std.proofs.lemmas.Bool.{false≢true, le-leb, lt-leb}
 use Rattle.std.proofs.lemmas.List.{map-append}
 use Rattle.std.proofs.lemmas.List.Elements.{All-push, All-weaker, filter-append}
 use Rattle.std.proofs.lemmas.List.Folds.{list_any-append}
+use Rattle.std.proofs.lemmas.List.Quantifiers.{all_pairs_push}
+use Rattle.std.specs.Cmp.Lexicographic.{bytes_decides}
+use Rattle.fdr_table.specs.Fields.{is_name}
+use Rattle.fdr_table.specs.Ranges.{HaveOwnNames}
 use Rattle.fdr_table.specs.Rows.{FrameRow, ParamRow, PlaceRow}
 use Rattle.fdr_table.specs.Reading.{Row, field, row_kind, is_frame, is_param, is_place, first_some, frame_misread, param_misread, place_misread, misnamed}
 use Rattle.fdr_table.specs.Reading.{frame_row, param_row, place_row, names_of, param_named, table_of}
@@ -20,7 +24,7 @@ use Rattle.fdr_table.specs.declared.row.RowKind.{RowKind}
 use Rattle.fdr_table.specs.declared.row.RowKind.TheVariants as kind
 use Rattle.fdr_table.specs.declared.fault.TableFault.{TableFault}
 use Rattle.fdr_table.specs.declared.fault.TableFault.TheVariants as fault
-use Rattle.fdr_table.proofs.SearchFacts.{first_some-next, first_some-kept}
+use Rattle.fdr_table.proofs.SearchFacts.{first_some-next, first_some-kept, position-is_some}
 use Rattle.fdr_table.proofs.FaultFacts.{no-fault-push}
 use Rattle.fdr_table.proofs.DraftFacts.{IsNamed, name_in, none-from, frame_row-right, frame_row-other, param_row-right, param_row-other, param_row-name}
 use Rattle.fdr_table.proofs.DraftFacts.{place_row-right, place_row-other, has_name-is, has_name-push, names-push, param_count-is, param_named-is}
@@ -160,6 +164,39 @@ no-place above row e place = absurd (false≢true (sym e ∙ place))
 rows-push : (above : List Row) (row : Row) (d : DraftRows) → IsDraft above d → length (above ++ row ∷ []) ≡ d.rows + 1
 rows-push above row d h = omega (arith, length-append above (row ∷ []), h.rows)
 
+-- ---- names of their own
+
+-- a row with a right name
+name-allowed : (row : Row) → misnamed row ≡ None → IsTrue (is_name (name_in row))
+unfolding misnamed
+name-allowed row e = go (is_name (name_in row)) e
+  where
+    go : (b : Bool) → (if b then None else Some fault.Name) ≡ None → IsTrue b
+    go true h = search rules
+    go false h = cc
+
+-- a name that is not found is no parameter's
+other-name : (params : List ParamRow) (name : List ℕ) (k : ℕ) (d : ParamRow) → list_any (λ (p : ParamRow). bytes_eq p.name name) params ≡ false
+    → k < length params → (get_or params k d).name ≢ name
+other-name [] name k d off lt = absurd (omega (arith, lt))
+other-name (p ∷ ps) name zero d off lt =
+    λ same. absurd (false≢true (sym off ∙ ap (λ (b : Bool). b || list_any (λ (q : ParamRow). bytes_eq q.name name) ps) ((bytes_decides p.name name).1 same)))
+other-name (p ∷ ps) name (suc k) d off lt = other-name ps name k d (later (bytes_eq p.name name) _ off) (omega (arith, lt))
+  where
+    later : (b c : Bool) → (b || c) ≡ false → c ≡ false
+    later true c h = cc
+    later false c h = h
+
+own-names-push : (params : List ParamRow) (p : ParamRow) → HaveOwnNames params → IsTrue (is_name p.name) → is_some (index_named params p.name) ≡ false
+    → HaveOwnNames (params ++ p ∷ [])
+own-names-push params p h allowed new =
+    let off : list_any (λ (q : ParamRow). bytes_eq q.name p.name) params ≡ false =
+    sym (position-is_some (λ (q : ParamRow). bytes_eq q.name p.name) params) ∙ new in
+    record {
+      allowed = All-push (λ (q : ParamRow). IsTrue (is_name q.name)) params p h.allowed allowed;
+      different = all_pairs_push (λ (q r : ParamRow). q.name ≢ r.name) params p h.different (λ k d lt. other-name params p.name k d off lt);
+    }
+
 -- the draft with one more row
 pub frame-next : (d : DraftRows) (row : Row) (f : FrameRow) → row_kind row ≡ Some kind.Frame → frame_row row ≡ Some f → is_some d.frame ≡ false
     → IsNextDraft d row (with_entry d (entry.Frame f))
@@ -177,6 +214,9 @@ frame-next d row f k e there above h =
       count = count-kept above row d h (ap is_place k);
       named = named-push above row d h (no-place (above ++ row ∷ []) row (ap is_place k));
       rows = rows-push above row d h;
+      own_names = h.own_names;
+      few_params = h.few_params;
+      few_places = h.few_places;
     }
 
 pub param-next : (d : DraftRows) (row : Row) (p : ParamRow) → row_kind row ≡ Some kind.Param → param_misread row ≡ None → param_row d.rows row ≡ Some p
@@ -199,6 +239,11 @@ param-next d row p k m e there twice few above h =
       count = count-kept above row d h (ap is_place k);
       named = named-push above row d h (no-place (above ++ row ∷ []) row (ap is_place k));
       rows = rows-push above row d h;
+      own_names = own-names-push d.params p h.own_names
+          (subst (λ (n : List ℕ). IsTrue (is_name n)) (param_row-name d.rows row p e) (name-allowed row named))
+          (ap (λ (n : List ℕ). is_some (index_named d.params n)) (sym (param_row-name d.rows row p e)) ∙ twice);
+      few_params = omega (arith, length-append d.params (p ∷ []), few);
+      few_places = h.few_places;
     }
 
 pub place-next : (d : DraftRows) (row : Row) (l : PlaceRow) → row_kind row ≡ Some kind.Place
@@ -222,6 +267,9 @@ place-next d row l k e there known few above h =
       count = omega (arith, count-is above row true (ap is_place k), h.count, length-append d.places (l ∷ []));
       named = named-push above row d h (λ place. has_name-push above row (name_in row) name);
       rows = rows-push above row d h;
+      own_names = h.own_names;
+      few_params = h.few_params;
+      few_places = omega (arith, length-append d.places (l ∷ []), few);
     }
 
 -- the first row is a frame row, so a draft with no frame has no rows

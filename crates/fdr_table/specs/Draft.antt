@@ -1,9 +1,9 @@
 -- The table of the rows above a row.
-use Rattle.std.specs.Prelude.{◌≡◌, ◌<◌, ◌+◌, ℕ, true, List, [], ◌∷◌, ◌++◌, length, All, map, take, bytes_eq, slice_index_or, Option, Some, None, IfSome}
+use Rattle.std.specs.Prelude.{◌≡◌, ◌<◌, ◌≤◌, ◌+◌, ℕ, true, List, [], ◌∷◌, ◌++◌, length, All, map, take, bytes_eq, slice_index_or, Option, Some, None, IfSome}
 use Rattle.std.specs.Prelude.{is_some, position}
-use Rattle.fdr_table.specs.Bounds.{most_params}
+use Rattle.fdr_table.specs.Bounds.{most_params, most_places}
 use Rattle.fdr_table.specs.Rows.{ParamRow, PlaceRow}
-use Rattle.fdr_table.specs.Ranges.{IsFrameInRange, IsPlaceInRange}
+use Rattle.fdr_table.specs.Ranges.{HaveOwnNames, IsFrameInRange, IsPlaceInRange}
 use Rattle.fdr_table.specs.Reading.{Row, field, first_some, frame_row, is_place, row_kind, names_of, table_of}
 use Rattle.fdr_table.specs.Faults.{has_frame, has_name, place_count, row_fault}
 use Rattle.fdr_table.specs.declared.draft.Entry.{Entry}
@@ -32,6 +32,9 @@ pub record IsDraft (above : List Row) (d : DraftRows) : Type 0 where
   pub count : place_count above ≡ length d.places
   pub named : All (λ (fields : Row). is_place (row_kind fields) ≡ true → has_name above (field fields 1) ≡ true) above
   pub rows : length above ≡ d.rows
+  pub own_names : HaveOwnNames d.params
+  pub few_params : length d.params ≤ most_params
+  pub few_places : length d.places ≤ most_places
 
 -- the fault of a row below the rows of the draft
 abbrev pub IsNextFault : DraftRows → Row → TableFault → Type 0

@@ -1,10 +1,10 @@
 -- The ranges that the fields of a table keep.
-use Rattle.std.specs.Prelude.{◌+◌, ◌<◌, ◌≤◌, neg_ℤ, pos, ◌≤ℤ◌, IsTrue, true, nat_le, length, All}
+use Rattle.std.specs.Prelude.{◌≢◌, ◌+◌, ◌<◌, ◌≤◌, neg_ℤ, pos, ◌≤ℤ◌, List, IsTrue, true, nat_le, length, All, AllPairs}
 use Rattle.std.specs.Option.{option_map_or}
 use Rattle.fdr_frame.specs.WordCount.{IsWordCount}
-use Rattle.fdr_table.specs.Bounds.{most_words, subframe_count, least_counter_word, frame_word_bits, most_parts, periods}
+use Rattle.fdr_table.specs.Bounds.{most_params, most_places, most_words, subframe_count, least_counter_word, frame_word_bits, most_parts, periods}
 use Rattle.fdr_table.specs.Bounds.{bus_word_bits, most_bus, most_label, most_sdi, most_scale, most_offset, most_decimals, most_rate}
-use Rattle.fdr_table.specs.Fields.{is_among}
+use Rattle.fdr_table.specs.Fields.{is_among, is_name}
 use Rattle.fdr_table.specs.Rows.{FrameRow, ParamRow, PlaceRow, TableRows}
 
 pub record IsFrameInRange (f : FrameRow) : Type 0 where
@@ -52,3 +52,13 @@ pub record IsInRange (t : TableRows) : Type 0 where
   pub params : All IsParamInRange t.params
   pub places : All IsPlaceInRange t.places
   pub owners : All (λ (p : PlaceRow). p.param < length t.params) t.places
+
+-- each parameter has a name of its own
+pub record HaveOwnNames (params : List ParamRow) : Type 0 where
+  pub allowed : All (λ (p : ParamRow). IsTrue (is_name p.name)) params
+  pub different : AllPairs (λ (p q : ParamRow). p.name ≢ q.name) params
+
+-- a table has no more parameters and places than it may have
+pub record IsWithinLimits (t : TableRows) : Type 0 where
+  pub params : length t.params ≤ most_params
+  pub places : length t.places ≤ most_places

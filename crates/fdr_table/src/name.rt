@@ -44,6 +44,7 @@ impl Name {
     /// The name's bytes.
     pub fn bytes(&self) -> &[u8]
         ensures bytes { result.now ≡ self.now }
+        ensures allowed { IsTrue (is_name result.now) }
         ensures name_limit { length result.now ≤ most_name_bytes }
     {
         &self.bytes[..self.len]
@@ -53,6 +54,7 @@ impl Name {
     /// knows, is faster than one of as many as the name has.
     pub fn padded(&self) -> (&[u8; 16], usize)
         ensures bytes { take result.1 result.0.now ≡ self.now }
+        ensures allowed { IsTrue (is_name (take result.1 result.0.now)) }
         ensures length { length self.now ≡ result.1 }
         ensures name_limit { result.1 ≤ most_name_bytes }
     {

@@ -2,6 +2,7 @@ ghost use Rattle.std.specs.Prelude.{◌≡◌, ◌<◌, ℕ, Err, Some, None, If
 ghost use Rattle.fdr_table.specs.Answers.{refused};
 ghost use Rattle.fdr_table.specs.Bounds.{most_table_bytes};
 ghost use Rattle.fdr_table.specs.Faults.{table_bytes_fault};
+ghost use Rattle.fdr_table.specs.Ranges.{HaveOwnNames, IsInRange, IsWithinLimits};
 ghost use Rattle.fdr_table.specs.Reading.{records_of, table_of};
 ghost use Rattle.fdr_table.specs.declared.fault.TableFault.{TableFault};
 ghost use Rattle.fdr_table.specs.declared.fault.TableFault.TheVariants as fault;
@@ -47,6 +48,9 @@ impl Table {
     #[tactic(auto, unfolding(crate::specs::Faults::table_bytes_fault))]
     pub fn read(alloc: Global, bytes: &[u8]) -> Result<Table, TableError>
         ensures table { IfOk result (λ t. t ≡ table_of (records_of bytes.now)) }
+        ensures in_range { IfOk result IsInRange }
+        ensures names { IfOk result (λ t. HaveOwnNames t.params) }
+        ensures limits { IfOk result IsWithinLimits }
         ensures no_fault { IfOk result (λ t. table_bytes_fault bytes.now ≡ None) }
         ensures refused { (row : ℕ) (f : TableFault) → result ≡ Err (refused row f) → table_bytes_fault bytes.now ≡ Some (row, f) }
         ensures too_large { most_table_bytes < length bytes.now → result ≡ Err (refused 0 fault.Size) }
@@ -68,6 +72,13 @@ impl Table {
             places: draft.places,
             rows: draft.rows,
         })
+    }
+
+    /// What holds of every table. It does no work.
+    pub fn holds(&self)
+        ensures in_range { IsInRange self.now }
+    {
+        let _ = &self.frame;
     }
 
     /// The shape of the frames.

@@ -1,14 +1,20 @@
 -- Which answers commands give.
-use Rattle.std.proofs.Common.{◌≡◌, ◌⊎◌, inl, inr, ⊎_elim, ℕ, List, Option, Some, None, ap, sym, ◌∙◌, subst}
+use Rattle.std.proofs.Common.{refl, ◌≢◌, ◌≡◌, ◌⊎◌, inl, inr, ⊎_elim, ℕ, List, Option, Some, None, ap, sym, ◌∙◌, subst}
 use Rattle.std.specs.Prelude.{◌↔◌}
 use Rattle.fdr_io.specs.declared.Input.TheVariants as input
 use Rattle.fdr_words.specs.Forms.{Form}
 use Rattle.fdr_words.specs.Request.{form_of_request}
+use Rattle.fdr_table.specs.declared.path.PathText.{PathText}
 use Rattle.fdr_words.specs.declared.Request.{Request}
+use Rattle.fdr_words.specs.declared.Request.TheVariants as request
+use Rattle.std.specs.Prelude.{IfSome}
 use Rattle.fdr_top.specs.declared.outcome.Outcome.{Outcome}
 use Rattle.fdr_top.specs.declared.outcome.Outcome.TheVariants as outcome
-use Rattle.fdr_top.specs.Answers.{EndsBeforeDeck, HasImage, IsOfTable, IsOwn, IsPastTable, MayAnswer, PullsLine, ReadsTable, WritesText}
-use Rattle.fdr_top.specs.Answers.{MakesImage, ReadsBoth, ReadsImage, WritesNothing}
+use Rattle.fdr_top.specs.Stages.{EndsBeforeDeck, IsOfTable, IsPastTable, WritesNothing}
+use Rattle.fdr_top.specs.Answers.{HasImage, IsOwn, MayAnswer, PullsLine, ReadsTable, WritesText}
+use Rattle.fdr_top.specs.Answers.{KeepsLineAndFaults, MakesImage, ReadsBoth, ReadsImage}
+use Rattle.fdr_deck.specs.State.{State}
+use Rattle.fdr_top.specs.Leaves.{CoversLineFault}
 use Rattle.fdr_top.specs.Check.{Reports}
 use Rattle.fdr_io.proofs.Telling.{followed_by-nil}
 use Rattle.fdr_table.specs.Rows.{TableRows}
@@ -89,22 +95,30 @@ own_begun form (outcome.ReadFault input.Table) reads makes both own nothing = ow
 own_begun form outcome.NoMemory reads makes both own nothing = own
 own_begun form answer reads makes both own nothing = nothing
 
--- words ask for the form of the request that they are read as
-pub asked : (told : Option Form) (form : Form) (given request : Request) → told ≡ Some form → told ≡ Some (form_of_request given)
-    → given ≡ request → form ≡ form_of_request request
-asked told form given request asks read is =
-    let same : Some form ≡ Some (form_of_request given) = sym asks ∙ read in
-    let one : form ≡ form_of_request given = cc in
-    one ∙ ap form_of_request is
+-- where an answer covers no fault of the line, none was met
+pub uncovered_line : (form : Form) (old new : State) (answer : Outcome) → (answer ≡ outcome.NoMemory) ⊎ IsOwn form answer
+    → (answer ≡ outcome.NoMemory → KeepsLineAndFaults old new) → (IsOwn form answer → answer ≢ outcome.WriteFault → new.line_faults ≡ old.line_faults)
+    → (CoversLineFault answer → ⊥) → new.line_faults ≡ old.line_faults
+uncovered_line form old new answer of memory quiet covers = ⊎_elim
+    (λ none. (memory none).faults)
+    (λ own. quiet own (λ e. covers (subst CoversLineFault (sym e) tt)))
+    of
 
--- a command's answers are the same for any path
-pub may_asks : (form other : Form) (answer : Outcome) → form ≡ other → MayAnswer other answer → MayAnswer form answer
-may_asks form other answer same may = subst (λ (x : Form). MayAnswer x answer) (sym same) may
+-- each request but one has a table
+pub request_reads : (r : Request) → ((image : PathText) → r ≡ request.RecoverImage image → ⊥) → ReadsTable (form_of_request r)
+request_reads (request.CheckTable table) other = refl
+request_reads (request.StreamLine table) other = refl
+request_reads (request.ListBits table) other = refl
+request_reads (request.FormatImage table image slots payload) other = refl
+request_reads (request.RecordLine table image) other = refl
+request_reads (request.RecoverImage image) other = absurd (other image refl)
+request_reads (request.ListImage table image) other = refl
+request_reads (request.Drill table image seed frames) other = refl
 
--- where words are read as a request, an answer of its command isn't that they are wrong
-pub not_usage : (told : Option Form) (read : Form) (answer : Outcome) → told ≡ Some read → (answer ≡ outcome.Usage → ⊥)
-    → (answer ≡ outcome.Usage) ↔ (told ≡ None)
-not_usage told read answer is other = (λ e. absurd (other e), λ none. absurd (let k = sym none ∙ is in cc))
+-- what holds of each form holds of the one that words are of
+pub of_form : (asked : Option Form) (P : Form → Type 0) → ((form : Form) → P form) → IfSome asked P
+of_form None P all = tt
+of_form (Some form) P all = all form
 
 -- where memory ends, nothing of a report is written
 pub nothing_reported : (t : TableRows) (written : Option (List ℕ)) → Reports t written written outcome.NoMemory

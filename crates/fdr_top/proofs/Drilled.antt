@@ -5,7 +5,7 @@ use Rattle.fdr_io.specs.Told.{followed_by}
 use Rattle.fdr_io.specs.declared.Input.TheVariants as input
 use Rattle.fdr_check.specs.Soundness.{IsSound}
 use Rattle.fdr_deck.specs.State.{State, Tells}
-use Rattle.fdr_deck.specs.Disk.{KeepsDisk, LearnsExtent}
+use Rattle.fdr_deck.specs.Disk.{LearnsExtent}
 use Rattle.fdr_deck.specs.Moments.{IsSoundDeck}
 use Rattle.fdr_gen.specs.Past.{GeneratorKept, RepresentsGenerator, generator_made}
 use Rattle.fdr_gen.specs.Trace.{generated_trace, most_frames}
@@ -18,12 +18,12 @@ use Rattle.fdr_table.specs.Rows.{TableRows}
 use Rattle.fdr_readout.specs.Summary.{summary_of}
 use Rattle.fdr_recorder.proofs.Starting.{Starts-looked}
 use Rattle.fdr_words.specs.Forms.{drill_image}
-use Rattle.fdr_top.specs.Answers.{IsOwn, IsPastTable, KeepsLineAndFaults}
+use Rattle.fdr_top.specs.Stages.{EndsReading, EndsRecording, IsPastTable}
+use Rattle.fdr_top.specs.Answers.{IsOwn, KeepsLineAndFaults}
 use Rattle.fdr_top.specs.Complete.{HasRoom}
 use Rattle.fdr_top.specs.Drill.{DrillsImage, drill_line, drill_text}
-use Rattle.fdr_top.specs.Leaves.{LeavesAll, LeavesUnused}
-use Rattle.fdr_top.specs.List.{KeepsShut}
-use Rattle.fdr_top.specs.Record.{EndsReading, RecordsAll, RecordsBlocks, RefusesSession, new_blocks, next_in}
+use Rattle.fdr_top.specs.List.{RefusesOpening}
+use Rattle.fdr_top.specs.Record.{RecordsBlocks, RefusesSession, new_blocks, next_in}
 use Rattle.fdr_top.specs.Recording.{RecordsSupply}
 use Rattle.fdr_top.specs.Recover.{OnlyLooks, payloads_of, run_in}
 use Rattle.fdr_top.specs.Refusals.{RefusesImage}
@@ -59,30 +59,30 @@ drills t seed frames tells old new before now answer range sound blocks text par
 
 -- ---- where the image isn't opened, or memory ends
 
-shut_records_none : (answer : Outcome) → KeepsShut answer → RecordsAll answer → ⊥
+shut_records_none : (answer : Outcome) → RefusesOpening answer → EndsRecording answer → ⊥
 shut_records_none (outcome.ImageRefused why) shut all = all
 shut_records_none (outcome.WordsDiffer image table) shut all = all
 shut_records_none outcome.DiskFault shut all = all
 shut_records_none outcome.NoMemory shut all = all
 shut_records_none answer shut all = shut
 
-shut_not_end : (answer : Outcome) → KeepsShut answer → answer ≡ outcome.SeqEnd → ⊥
+shut_not_end : (answer : Outcome) → RefusesOpening answer → answer ≡ outcome.SeqEnd → ⊥
 shut_not_end answer shut e = rw e at shut
 
 pub drill_shut : (t : TableRows) (seed frames : ℕ) (tells : Tells) (old new : State) (written : Option (List ℕ)) (answer : Outcome) → IsInRange t
-    → IsSound t → IsSoundDeck tells old → OnlyLooks tells old new → KeepsShut answer → RefusesImage t tells old new answer
+    → IsSound t → IsSoundDeck tells old → OnlyLooks tells old new → RefusesOpening answer → RefusesImage t tells old new answer
     → DrillsImage t seed frames tells old new written written answer
 drill_shut t seed frames tells old new written answer range sound deck looks shut image =
     drills t seed frames tells old new written written answer range sound
     (RecordsBlocks-unbegun t tells (generated_trace t seed frames) old new answer (Starts-looked tells (header_in old.held) old new deck looks.quiet)
     (shut_records_none answer shut) (shut_not_end answer shut) image)
-    (λ done. absurd (shut_records_none answer shut (subst RecordsAll (sym done) tt)))
-    (λ fails. absurd (shut_records_none answer shut (subst RecordsAll (sym fails) tt)))
+    (λ done. absurd (shut_records_none answer shut (subst EndsRecording (sym done) tt)))
+    (λ fails. absurd (shut_records_none answer shut (subst EndsRecording (sym fails) tt)))
     (λ done fails. refl)
 
 -- ---- where the recording was cut short
 
-pub session_not_all : (answer : Outcome) → RefusesSession answer → RecordsAll answer → ⊥
+pub session_not_all : (answer : Outcome) → RefusesSession answer → EndsRecording answer → ⊥
 session_not_all (outcome.ImageRefused why) refuses all = all
 session_not_all (outcome.WordsDiffer image table) refuses all = all
 session_not_all outcome.DiskFault refuses all = all
@@ -101,8 +101,8 @@ pub drill_cut : (t : TableRows) (seed frames : ℕ) (tells : Tells) (a b c : Sta
     → DrillsImage t seed frames tells a c written written answer
 drill_cut t seed frames tells a b c written answer range sound deck looks refuses is =
     drills t seed frames tells a c written written answer range sound (drawn_blocks t seed frames tells a b c answer deck looks is)
-    (λ done. absurd (session_not_all answer refuses (subst RecordsAll (sym done) tt)))
-    (λ fails. absurd (session_not_all answer refuses (subst RecordsAll (sym fails) tt)))
+    (λ done. absurd (session_not_all answer refuses (subst EndsRecording (sym done) tt)))
+    (λ fails. absurd (session_not_all answer refuses (subst EndsRecording (sym fails) tt)))
     (λ done fails. refl)
 
 -- ---- where all was recorded
@@ -168,16 +168,6 @@ drills_nothing seed frames tells rest d written answer sound early =
 
 -- ---- its answers
 
-pub drill_unused : (path image : List ℕ) (seed frames : ℕ) (old new : State) (answer : Outcome) → KeepsLineAndFaults old new
-    → LeavesUnused (drill_image path image seed frames) old new answer
-drill_unused path image seed frames old new answer line = record {
-  line = λ unused. line;
-  disk = λ unused. absurd (unused tt);
-  told = λ unused. absurd (unused tt);
-  memory = λ other none. absurd other;
-  bits = λ other. absurd other;
-}
-
 -- an image for the table's frames, numbers enough, and no fault: all is done, or memory ended
 pub drill_done : (path image : List ℕ) (seed frames : ℕ) (t : TableRows) (tells : Tells) (old new : State) (before now : Option (List ℕ)) (answer : Outcome)
     → (answer ≡ outcome.NoMemory) ⊎ IsOwn (drill_image path image seed frames) answer → DrillsImage t seed frames tells old new before now answer
@@ -190,7 +180,7 @@ drill_done path image seed frames t tells old new before now outcome.DiskFault o
 drill_done path image seed frames t tells old new before now outcome.SeqEnd own is bytes room disk sink =
     absurd (omega (arith, is.blocks.beyond refl bytes, room.numbers))
 drill_done path image seed frames t tells old new before now (outcome.ImageRefused why) own is bytes room disk sink =
-    absurd (no_first old.held why room.image.no_fault (is.blocks.image.refused why refl bytes))
+    absurd (no_first old.held why room.image.no_fault (is.blocks.image.header.refused why refl bytes))
 drill_done path image seed frames t tells old new before now (outcome.WordsDiffer i w) own is bytes room disk sink =
     absurd (no_differ t tells old new (outcome.WordsDiffer i w) i w is.blocks.image bytes room.image refl)
 drill_done path image seed frames t tells old new before now (outcome.ReadFault input.Table) own is bytes room disk sink =
@@ -198,19 +188,6 @@ drill_done path image seed frames t tells old new before now (outcome.ReadFault 
 drill_done path image seed frames t tells old new before now (outcome.ReadFault input.Line) own is bytes room disk sink =
     ⊎_elim (λ memory. absurd (cc)) (λ it. absurd it) own
 drill_done path image seed frames t tells old new before now answer own is bytes room disk sink = ⊎_elim (λ memory. inr memory) (λ it. absurd it) own
-
--- where the drill was refused, all is as it was
-pub drill_leaves : (tells : Tells) (old new : State) (before now : Option (List ℕ)) (f g : ℕ) (answer : Outcome) → now ≡ before → g ≡ f
-    → KeepsDisk old new → LearnsExtent tells old new → new.told ≡ old.told → KeepsLineAndFaults old new
-    → LeavesAll tells old new before now f g answer
-drill_leaves tells old new before now f g answer written faults disk learns told line = record {
-  written = written;
-  faults = faults;
-  disk = disk;
-  extent = learns;
-  told = told;
-  line = λ first. line;
-}
 
 -- a generator that was just made
 pub begun_generator : (t : TableRows) (seed frames : ℕ) (g : GeneratorKept) (s : RecordSource) → s ≡ source.Generator g

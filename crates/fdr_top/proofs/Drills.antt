@@ -9,6 +9,7 @@ use Rattle.fdr_deck.specs.Disk.{KeepsDisk}
 use Rattle.fdr_deck.specs.Moments.{EachMoment, IsSoundDeck}
 use Rattle.fdr_deck.proofs.Moments.{EachMoment-then, EachMoment-weaken, Elapses-then}
 use Rattle.fdr_slot.specs.declared.image.Header.{Header}
+use Rattle.fdr_slot.specs.declared.image.ImageFault.TheVariants as fault
 use Rattle.fdr_recover.specs.Blocks.{Block}
 use Rattle.fdr_recover.specs.Images.{next_of, recovered_run}
 use Rattle.fdr_recover.specs.ImageHeader.{header_in, image_fault_of}
@@ -83,9 +84,12 @@ RecordsBlocks-before t tells records a b c answer sound looks is =
       beyond = λ e told. subst (λ (i : List ℕ). 2 ^ 48 < next_in i + length (new_blocks t i records)) same (is.beyond e told);
       good = λ either told. for t.frame.words (is.good either told);
       image = record {
-        refused = λ why e told. ap image_fault_of (sym same) ∙ is.image.refused why e told;
-        small = is.image.small;
-        refused_always = λ why past told first. is.image.refused_always why past told (ap image_fault_of same ∙ first);
+        header = record {
+          refused = λ why e told. ap image_fault_of (sym same) ∙ is.image.header.refused why e told;
+          small = is.image.header.small;
+          small_always = is.image.header.small_always;
+          refused_always = λ why past told first. is.image.header.refused_always why past told (ap image_fault_of same ∙ first);
+        };
         words = λ image table e. let here = is.image.words image table e in (here.0, here.1, λ told. for image (here.2 told));
         words_always = λ image past told it differ. is.image.words_always image past told (back image it) differ;
       };
@@ -154,9 +158,13 @@ RecordsBlocks-after t tells records a b c answer sound_a sound_b is looks of =
       seq_end = λ e. absurd (of_blocks_going answer of e);
       beyond = λ e. absurd (of_blocks_going answer of e);
       good = λ either bytes. is.good (inl tt) bytes;
-      image = takes_image t tells a c answer (of_blocks_begun answer of) (λ bytes. is.good (inl tt) bytes);
+      image = takes_image t tells a c answer (of_blocks_begun answer of)
+          (λ short. done_long (is.image.header.small_always tt (omega (arith, short, looks.extent)))) (λ bytes. is.good (inl tt) bytes);
     }
   where
+    done_long : (outcome.Done ≡ outcome.ImageRefused fault.Small) ⊎ (outcome.Done ≡ outcome.DiskFault) → ⊥
+    done_long either = ⊎_elim (λ e. cc) (λ e. cc) either
+
     of_blocks_going : (answer : Outcome) → IsOfBlocks answer → answer ≡ outcome.SeqEnd → ⊥
     of_blocks_going answer of e = ⊎_elim
         (λ (x : answer ≡ outcome.Done). let c : outcome.SeqEnd ≡ outcome.Done = sym e ∙ x in cc)

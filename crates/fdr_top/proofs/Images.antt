@@ -1,5 +1,5 @@
 -- What recovering an image leaves and answers.
-use Rattle.std.proofs.Common.{◌≡◌, ◌≢◌, ◌⊎◌, ⊎_elim, inl, inr, ℕ, ◌<◌, List, Option, Some, None, ap, sym, refl, ◌∙◌, subst}
+use Rattle.std.proofs.Common.{◌≡◌, ◌≢◌, ◌⊎◌, ⊎_elim, inl, inr, ℕ, ◌<◌, ◌≤◌, arith, List, Option, Some, None, ap, sym, refl, ◌∙◌, subst}
 use Rattle.std.specs.Prelude.{IsTrue, ◌↔◌, take}
 use Rattle.fdr_io.specs.Faults.{Rose}
 use Rattle.fdr_io.specs.Told.{followed_by}
@@ -7,6 +7,7 @@ use Rattle.fdr_io.specs.declared.Input.TheVariants as input
 use Rattle.fdr_io.proofs.Telling.{followed_by-nil}
 use Rattle.fdr_deck.specs.State.{State, Tells}
 use Rattle.fdr_deck.specs.Moments.{IsSoundDeck}
+use Rattle.fdr_slot.specs.Places.{image_size}
 use Rattle.fdr_slot.specs.declared.image.Header.{Header}
 use Rattle.fdr_slot.specs.declared.image.ImageFault.{ImageFault}
 use Rattle.fdr_slot.specs.declared.image.ImageFault.TheVariants as fault
@@ -53,14 +54,16 @@ pub nothing_recovered : (tells : Tells) (old new : State) (written : Option (Lis
     → ((answer ≡ outcome.DiskFault → ⊥) → ((why : ImageFault) → answer ≡ outcome.ImageRefused why → ⊥) → IsTrue tells.bytes → image_fault_of old.held ≡ None)
     → ((why : ImageFault) → answer ≡ outcome.ImageRefused why → IsTrue tells.bytes → image_fault_of old.held ≡ Some why)
     → ((why : ImageFault) → answer ≡ outcome.ImageRefused why → (why ≡ fault.Small) ↔ (new.extent < 64))
+    → ((answer ≡ outcome.DiskFault → ⊥) → ((why : ImageFault) → answer ≡ outcome.ImageRefused why → ⊥) → 64 ≤ new.extent)
     → (answer ≡ outcome.DiskFault → Rose old.disk_faults new.disk_faults) → Recovers tells old new written written answer
-nothing_recovered tells old new written answer looks undone good refused small cause = record {
+nothing_recovered tells old new written answer looks undone good refused small long cause = record {
   looks = looks;
   good = good;
   all = λ done told. absurd (undone done);
   part = λ told. (0, sym (followed_by-nil written));
   refused = refused;
   small = small;
+  long = long;
   cause = cause;
 }
 
@@ -78,11 +81,18 @@ header_unread tells old new written (ring.Image found) looks not_empty not_end f
     nothing_recovered tells old new written (outcome.ImageRefused found) looks (λ e. absurd (cc)) (λ no_fault read told. absurd (read found refl))
     (λ why e told. first told why (ap ring.Image (same_fault found why e)))
     (λ why e. small why (ap ring.Image (same_fault found why e)))
+    (λ no_fault read. absurd (read found refl))
     (λ e. absurd (cc))
 header_unread tells old new written ring.DiskFault looks not_empty not_end first small cause =
     nothing_recovered tells old new written outcome.DiskFault looks (λ e. absurd (cc)) (λ no_fault read told. absurd (no_fault refl))
-    (λ why e told. absurd (cc)) (λ why e. absurd (cc)) (λ e. cause refl)
+    (λ why e told. absurd (cc)) (λ why e. absurd (cc)) (λ no_fault read. absurd (no_fault refl)) (λ e. cause refl)
 header_unread tells old new written ring.SeqEnd looks not_empty not_end first small cause = absurd (not_end refl)
+
+pub header_not_memory : (f : RingFault) → header_refusal f ≡ outcome.NoMemory → ⊥
+header_not_memory ring.NotEmpty e = cc
+header_not_memory (ring.Image why) e = cc
+header_not_memory ring.DiskFault e = cc
+header_not_memory ring.SeqEnd e = cc
 
 -- the run that is read is that at entry
 pub run_same : (tells : Tells) (old mid : State) (h : Header) → OnlyLooks tells old mid → (IsTrue tells.bytes → h ≡ header_in old.held) → IsTrue tells.bytes
@@ -95,9 +105,9 @@ pub run_recovered : (tells : Tells) (old mid new : State) (h : Header) (before n
     → (IsTrue tells.bytes → h ≡ header_in old.held) → (IsTrue tells.bytes → image_fault_of old.held ≡ None)
     → (answer ≡ outcome.Done → IsTrue tells.bytes → now ≡ followed_by before (payloads_of (recovered_run h mid.held)))
     → (IsTrue tells.bytes → (k : ℕ) × (now ≡ followed_by before (take k (payloads_of (recovered_run h mid.held)))))
-    → ((why : ImageFault) → answer ≡ outcome.ImageRefused why → ⊥) → mid.disk_faults ≡ old.disk_faults
+    → image_size h ≤ mid.extent → ((why : ImageFault) → answer ≡ outcome.ImageRefused why → ⊥) → mid.disk_faults ≡ old.disk_faults
     → (answer ≡ outcome.DiskFault → Rose mid.disk_faults new.disk_faults) → Recovers tells old new before now answer
-run_recovered tells old mid new h before now answer sound first second header good all part unrefused quiet cause =
+run_recovered tells old mid new h before now answer sound first second header good all part long unrefused quiet cause =
     let same : IsTrue tells.bytes → recovered_run h mid.held ≡ run_in old.held = run_same tells old mid h first header in record {
       looks = OnlyLooks-then tells old mid new sound first second;
       good = λ no_fault read told. good told;
@@ -105,6 +115,7 @@ run_recovered tells old mid new h before now answer sound first second header go
       part = λ told. let p = part told in (p.0, p.1 ∙ ap (λ run. followed_by before (take p.0 (payloads_of run))) (same told));
       refused = λ why e told. absurd (unrefused why e);
       small = λ why e. absurd (unrefused why e);
+      long = λ no_fault read. omega (arith, long, second.extent);
       cause = λ e. subst (λ n. Rose n new.disk_faults) quiet (cause e);
     }
 
@@ -128,6 +139,24 @@ refusal_answered path tells old new before now (outcome.ReadFault input.Line) wh
 refusal_answered path tells old new before now answer why of recovers left told first =
     ⊎_elim (λ memory. absurd (left memory)) (λ own. absurd own) of
 
+-- an image that is too small is refused, unless the disk failed or memory ended
+pub small_answered : (path : List ℕ) (tells : Tells) (old new : State) (before now : Option (List ℕ)) (answer : Outcome)
+    → (answer ≡ outcome.NoMemory) ⊎ IsOwn (recover_image path) answer → Recovers tells old new before now answer → answer ≢ outcome.NoMemory
+    → new.extent < 64 → (answer ≡ outcome.ImageRefused fault.Small) ⊎ (answer ≡ outcome.DiskFault)
+small_answered path tells old new before now outcome.Done of recovers left short =
+    absurd (omega (arith, short, recovers.long (λ e. absurd (cc)) (λ w e. absurd (cc))))
+small_answered path tells old new before now (outcome.ImageRefused found) of recovers left short =
+    inl (ap outcome.ImageRefused ((recovers.small found refl).1 short))
+small_answered path tells old new before now outcome.WriteFault of recovers left short =
+    absurd (omega (arith, short, recovers.long (λ e. absurd (cc)) (λ w e. absurd (cc))))
+small_answered path tells old new before now outcome.DiskFault of recovers left short = inr refl
+small_answered path tells old new before now outcome.NoMemory of recovers left short = absurd (left refl)
+small_answered path tells old new before now (outcome.ReadFault input.Table) of recovers left short =
+    ⊎_elim (λ memory. absurd (left memory)) (λ own. absurd own) of
+small_answered path tells old new before now (outcome.ReadFault input.Line) of recovers left short =
+    ⊎_elim (λ memory. absurd (left memory)) (λ own. absurd own) of
+small_answered path tells old new before now answer of recovers left short = ⊎_elim (λ memory. absurd (left memory)) (λ own. absurd own) of
+
 -- where memory ends before the disk is looked at
 pub recovers_nothing : (tells : Tells) (d : State) (written : Option (List ℕ)) → IsSoundDeck tells d
     → RecoversImage tells d d written written outcome.NoMemory
@@ -136,7 +165,10 @@ recovers_nothing tells d written sound = record {
   all = λ done told. absurd (cc);
   part = λ told. (0, sym (followed_by-nil written));
   good = λ done told. absurd (cc);
-  refused = λ why e told. absurd (cc);
-  small = λ why e. absurd (cc);
-  refused_always = λ why left told first. absurd (left refl);
+  header = record {
+    refused = λ why e told. absurd (cc);
+    small = λ why e. absurd (cc);
+    small_always = λ past short. absurd past;
+    refused_always = λ why past told first. absurd past;
+  };
 }

@@ -7,7 +7,7 @@ use Rattle.fdr_check.specs.Soundness.{IsSound}
 use Rattle.fdr_table.specs.Bounds.{most_table_bytes}
 use Rattle.fdr_table.specs.Rows.{TableRows}
 use Rattle.fdr_table.specs.declared.fault.TableFault.{TableFault}
-use Rattle.fdr_top.specs.Answers.{IsOfTable, IsPastTable}
+use Rattle.fdr_top.specs.Stages.{IsOfTable, IsPastTable}
 use Rattle.fdr_top.specs.Complete.{TellsAccepted}
 use Rattle.fdr_top.specs.Limits.{piece_bytes}
 use Rattle.fdr_top.specs.Tables.{ByTable, IsAccepted, IsTableRefused, ReadsItsTable, table_in}

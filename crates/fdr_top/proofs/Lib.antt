@@ -17,10 +17,11 @@ pub mod Sessions
 pub mod Supplies
 pub mod SessionEnds
 pub mod RecordLines
+pub mod OneRun
 pub mod Readable
 pub mod ListedRuns
 pub mod ListedLines
 pub mod ListedImages
 pub mod Drills
 pub mod Drilled
-pub mod NothingDone
+pub mod Carrying

@@ -1,12 +1,12 @@
 -- What listing an image leaves and answers.
-use Rattle.std.proofs.Common.{◌≡◌, ◌≢◌, ◌⊎◌, ⊎_elim, inl, inr, ℕ, ◌<◌, List, [], Option, Some, None, ap, sym, refl, ◌∙◌, subst}
+use Rattle.std.proofs.Common.{◌≡◌, ◌≢◌, ◌⊎◌, ⊎_elim, inl, inr, ℕ, ◌<◌, ◌≤◌, List, [], Option, Some, None, ap, sym, refl, ◌∙◌, subst, arith}
 use Rattle.std.specs.Prelude.{IsTrue, ◌↔◌, take}
-use Rattle.fdr_io.specs.Faults.{Rose}
 use Rattle.fdr_io.specs.Told.{followed_by}
 use Rattle.fdr_io.specs.declared.Input.TheVariants as input
 use Rattle.fdr_io.proofs.Telling.{followed_by-nil}
 use Rattle.fdr_deck.specs.State.{State, Tells}
 use Rattle.fdr_deck.specs.Moments.{IsSoundDeck}
+use Rattle.fdr_slot.specs.Places.{image_size}
 use Rattle.fdr_slot.specs.declared.image.Header.{Header}
 use Rattle.fdr_slot.specs.declared.image.ImageFault.{ImageFault}
 use Rattle.fdr_slot.specs.declared.image.ImageFault.TheVariants as fault
@@ -19,15 +19,14 @@ use Rattle.fdr_table.specs.Rows.{TableRows}
 use Rattle.fdr_readout.specs.Listing.{listing_of}
 use Rattle.fdr_recorder.specs.Starting.{IsFor}
 use Rattle.fdr_words.specs.Forms.{drill_image, list_image}
-use Rattle.fdr_top.specs.Answers.{IsOfTable, IsOwn, IsPastTable, WritesNothing}
-use Rattle.fdr_top.specs.Leaves.{Causes}
-use Rattle.fdr_top.specs.List.{KeepsShut, ListsImage}
+use Rattle.fdr_top.specs.Stages.{IsOfTable, IsPastTable, WritesNothing}
+use Rattle.fdr_top.specs.Answers.{IsOwn}
+use Rattle.fdr_top.specs.List.{RefusesOpening, ListsImage}
 use Rattle.fdr_top.specs.Refusals.{RefusesImage}
 use Rattle.fdr_top.specs.Recover.{OnlyLooks, header_refusal, payloads_of, run_in}
 use Rattle.fdr_top.specs.Tables.{ByTable, table_in}
 use Rattle.fdr_top.specs.declared.outcome.Outcome.{Outcome}
 use Rattle.fdr_top.specs.declared.outcome.Outcome.TheVariants as outcome
-use Rattle.fdr_top.proofs.Commands.{own_not_line, own_not_table}
 use Rattle.fdr_top.proofs.Images.{OnlyLooks-here, OnlyLooks-then, run_same}
 use Rattle.fdr_top.proofs.RecordLines.{disk_failed, image_refused, no_differ, no_first, refuses_nothing, takes_image}
 use Rattle.fdr_top.proofs.TableAnswers.{past_not_memory, table_not_past}
@@ -43,7 +42,7 @@ header_refused t tells old new (ring.Image found) not_empty not_end first small 
 header_refused t tells old new ring.DiskFault not_empty not_end first small = disk_failed t tells old new
 header_refused t tells old new ring.SeqEnd not_empty not_end first small = absurd (not_end refl)
 
-pub header_shut : (f : RingFault) → KeepsShut (header_refusal f)
+pub header_shut : (f : RingFault) → RefusesOpening (header_refusal f)
 header_shut ring.NotEmpty = tt
 header_shut (ring.Image why) = tt
 header_shut ring.DiskFault = tt
@@ -51,12 +50,15 @@ header_shut ring.SeqEnd = tt
 
 -- where the image is for frames of other words
 pub words_refused : (t : TableRows) (tells : Tells) (old new : State) (h : Header) → (IsTrue tells.bytes → h ≡ header_in old.held)
-    → (IsTrue tells.bytes → image_fault_of old.held ≡ None) → h.words ≢ t.frame.words
+    → (IsTrue tells.bytes → image_fault_of old.held ≡ None) → image_size h ≤ new.extent → h.words ≢ t.frame.words
     → RefusesImage t tells old new (outcome.WordsDiffer h.words t.frame.words)
-words_refused t tells old new h header good other = record {
-  refused = λ why e told. absurd (cc);
-  small = λ why e. absurd (cc);
-  refused_always = λ why past told some. absurd (no_first old.held why (good told) some);
+words_refused t tells old new h header good long other = record {
+  header = record {
+    refused = λ why e told. absurd (cc);
+    small = λ why e. absurd (cc);
+    small_always = λ past short. absurd (omega (arith, short, long));
+    refused_always = λ why past told some. absurd (no_first old.held why (good told) some);
+  };
   words = λ image table e. same_words image table e;
   words_always = λ image past told for differs. inl
       (ap (λ (n : ℕ). outcome.WordsDiffer n t.frame.words) (ap (λ (x : Header). x.words) (header told) ∙ for.words));
@@ -78,15 +80,15 @@ pub read_for : (t : TableRows) (tells : Tells) (old : State) (h : Header) → (I
 read_for t tells old h header good same told =
     record { no_fault = good told; words = sym (ap (λ (x : Header). x.words) (header told)) ∙ same }
 
-shut_not_done : (answer : Outcome) → KeepsShut answer → answer ≡ outcome.Done → ⊥
+shut_not_done : (answer : Outcome) → RefusesOpening answer → answer ≡ outcome.Done → ⊥
 shut_not_done answer shut e = rw e at shut
 
-shut_not_write : (answer : Outcome) → KeepsShut answer → answer ≡ outcome.WriteFault → ⊥
+shut_not_write : (answer : Outcome) → RefusesOpening answer → answer ≡ outcome.WriteFault → ⊥
 shut_not_write answer shut e = rw e at shut
 
 -- where the image isn't opened
 pub unlisted : (t : TableRows) (tells : Tells) (old new : State) (written : Option (List ℕ)) (answer : Outcome) → OnlyLooks tells old new
-    → KeepsShut answer → RefusesImage t tells old new answer → ListsImage t tells old new written written answer
+    → RefusesOpening answer → RefusesImage t tells old new answer → ListsImage t tells old new written written answer
 unlisted t tells old new written answer looks shut image = record {
   looks = looks;
   text = λ done told. absurd (shut_not_done answer shut done);
@@ -122,18 +124,18 @@ of_blocks_drill path image seed frames answer = of_blocks (λ (a : Outcome). IsO
 -- where the blocks are read and their bits listed
 pub blocks_listed : (t : TableRows) (tells : Tells) (old mid new : State) (h : Header) (before now : Option (List ℕ)) (answer : Outcome) → IsSoundDeck tells old
     → OnlyLooks tells old mid → Looks tells mid new → (IsTrue tells.bytes → h ≡ header_in old.held)
-    → (IsTrue tells.bytes → IsFor t.frame.words old.held) → IsOfBlocks answer
+    → (IsTrue tells.bytes → IsFor t.frame.words old.held) → image_size h ≤ mid.extent → IsOfBlocks answer
     → (answer ≡ outcome.Done → IsTrue tells.bytes → now ≡ followed_by before (listing_of t (payloads_of (recovered_run h mid.held))))
     → (IsTrue tells.bytes → (k : ℕ) × (now ≡ followed_by before (take k (listing_of t (payloads_of (recovered_run h mid.held))))))
     → ListsImage t tells old new before now answer
-blocks_listed t tells old mid new h before now answer sound first second header for of text part =
+blocks_listed t tells old mid new h before now answer sound first second header for long of text part =
     let whole : IsTrue tells.bytes → recovered_run h mid.held ≡ run_in old.held = run_same tells old mid h first header in
     record {
       looks = OnlyLooks-then tells old mid new sound first second;
       text = λ done told. text done told ∙ ap (λ run. followed_by before (listing_of t (payloads_of run))) (whole told);
       part = λ told. let p = part told in (p.0, p.1 ∙ ap (λ run. followed_by before (take p.0 (listing_of t (payloads_of run)))) (whole told));
       good = λ either told. for told;
-      image = takes_image t tells old new answer (of_blocks_begun answer of) for;
+      image = takes_image t tells old new answer (of_blocks_begun answer of) (λ short. omega (arith, short, second.extent, long)) for;
     }
 
 -- a table, which is that of the source's bytes where it tells them
@@ -169,7 +171,7 @@ pub list_done : (path image : List ℕ) (t : TableRows) (tells : Tells) (old new
     → (answer ≡ outcome.Done) ⊎ (answer ≡ outcome.NoMemory)
 list_done path image t tells old new before now outcome.Done of lists told for disk sink = inl refl
 list_done path image t tells old new before now (outcome.ImageRefused why) of lists told for disk sink =
-    absurd (no_first old.held why for.no_fault (lists.image.refused why refl told))
+    absurd (no_first old.held why for.no_fault (lists.image.header.refused why refl told))
 list_done path image t tells old new before now (outcome.WordsDiffer words table) of lists told for disk sink =
     absurd (no_differ t tells old new (outcome.WordsDiffer words table) words table lists.image told for refl)
 list_done path image t tells old new before now outcome.WriteFault of lists told for disk sink = absurd (sink refl)
@@ -180,13 +182,3 @@ list_done path image t tells old new before now (outcome.ReadFault input.Table) 
 list_done path image t tells old new before now (outcome.ReadFault input.Line) of lists told for disk sink =
     ⊎_elim (λ memory. absurd (cc)) (λ own. absurd own) of
 list_done path image t tells old new before now answer of lists told for disk sink = ⊎_elim (λ memory. inr memory) (λ own. absurd own) of
-
-pub list_causes : (answer : Outcome) (t u : ℕ) (old new : State) (f g : ℕ) → (answer ≡ outcome.NoMemory) ⊎ IsOwn (list_image [] []) answer
-    → (answer ≡ outcome.DiskFault → Rose old.disk_faults new.disk_faults) → (answer ≡ outcome.WriteFault → Rose f g)
-    → Causes answer t u old new f g
-list_causes answer t u old new f g of disk sink = record {
-  table = λ e. absurd (own_not_table (list_image [] []) answer of e);
-  line = λ e. absurd (own_not_line (list_image [] []) answer of (λ none. none) e);
-  write = sink;
-  disk = disk;
-}

@@ -5,7 +5,7 @@ use Rattle.std.specs.Prelude.{IsTrue, OnErr, OnOk, Result, min}
 use Rattle.std.proofs.lemmas.List.Concat.{flat_map-append}
 use Rattle.std.specs.List.{flat_map}
 use Rattle.std.proofs.lemmas.Bool.{cases_lt}
-use Rattle.std.proofs.lemmas.List.{take_all, take-take, take-append-drop, length-take}
+use Rattle.std.proofs.lemmas.List.{take_all, take-take, take-append-drop, take-append-le, length-take}
 use Rattle.std.proofs.Math.Seq.{take-append-add, take-append_seam}
 use Rattle.fdr_io.specs.declared.Input.TheVariants as input
 use Rattle.fdr_io.specs.Output.{Emits, EmitsPart}
@@ -22,7 +22,7 @@ use Rattle.fdr_readout.specs.Entries.{Entry, entries_of, entry_lines}
 use Rattle.fdr_readout.specs.Listing.{decided_listing, listing_of}
 use Rattle.fdr_readout.specs.Taken.{HasTaken, WritesLines}
 use Rattle.fdr_readout.proofs.EntryLemmas.{lines_of_entries}
-use Rattle.fdr_readout.proofs.Taking.{decided_first, lines_of_taken, nothing_decided}
+use Rattle.fdr_readout.proofs.Taking.{decided_first, lines_of_taken, nothing_decided, taken_first}
 use Rattle.fdr_top.specs.Limits.{most_line_bytes, piece_bytes}
 use Rattle.fdr_words.specs.Forms.{list_bits}
 use Rattle.fdr_top.specs.Answers.{IsOwn}
@@ -48,6 +48,7 @@ pub pieces_none : (tells : Tells) (d : State) → PullsPieces tells d d []
 pieces_none tells d = record {
   takes = record { taken = omega arith; line = λ told. refl };
   last = λ some. absurd (omega (arith, some));
+  begun_within_limit = λ some. absurd (omega (arith, some));
   bounded = omega arith;
 }
 
@@ -62,6 +63,7 @@ pieces_then tells first old new bytes buffer n before few within small some pull
     gave_bytes = omega (arith, pulls.began some, pulls.taken, some);
     within_piece = omega (arith, pulls.began some, pulls.taken, small);
   };
+  begun_within_limit = λ any. omega (arith, pulls.began some, before.takes.taken, few);
   bounded = omega (arith, length-append bytes (take n buffer), length-take n buffer, few, small);
 }
 
@@ -78,6 +80,7 @@ pieces_stay tells first old new bytes before taken began line = record {
     gave_bytes = omega (arith, (before.last any).gave_bytes, began, taken);
     within_piece = omega (arith, (before.last any).within_piece, began, taken);
   };
+  begun_within_limit = λ any. omega (arith, before.begun_within_limit any, began);
   bounded = before.bounded;
 }
 
@@ -216,6 +219,64 @@ waiting_part written t r bytes pulled waiting out_first out_mid now k count fron
           ∙ ap (λ (xs : List ℕ). followed_by (written out_first) (take all.count xs)) (sym decided.1 ∙ ap (listing_of t) (sym front)),
     )
 
+-- ---- parts of the listing of the whole line
+
+-- what is listed of a line begins with what is listed of its first bytes
+line_begins : (bytes pulled left line : List ℕ) → take most_line_bytes pulled ≡ bytes → line ≡ pulled ++ left
+    → bytes ++ take (most_line_bytes - length pulled) left ≡ take most_line_bytes line
+line_begins bytes pulled left line front split = elim (cases_lt most_line_bytes (length pulled)) [
+  | inl many ↦
+      let none : most_line_bytes - length pulled ≡ 0 = omega arith in
+      ap (λ n. bytes ++ take n left) none ∙ append-nil bytes ∙ sym front
+      ∙ sym (take-append-le most_line_bytes pulled left (omega (arith, many))) ∙ ap (take most_line_bytes) (sym split)
+  | inr few ↦
+      let rest : length pulled + (most_line_bytes - length pulled) ≡ most_line_bytes = omega arith in
+      ap (λ (xs : List ℕ). xs ++ take (most_line_bytes - length pulled) left) (sym front ∙ take_all most_line_bytes pulled few)
+      ∙ sym (take-append-add pulled left (most_line_bytes - length pulled)) ∙ ap (λ n. take n (pulled ++ left)) rest
+      ∙ ap (take most_line_bytes) (sym split)
+]
+
+-- where entries were to be written that the first bytes decide, however the bytes go on, and something failed
+pub front_of_line : (t : TableRows) (bytes pulled left line : List ℕ) (start now : Option (List ℕ)) → take most_line_bytes pulled ≡ bytes
+    → line ≡ pulled ++ left → ((more : List ℕ) → EmitsPart start now [] (flat_map (entry_lines t) (entries_of t (bytes ++ more))))
+    → WritesPart t line start now
+front_of_line t bytes pulled left line start now front split part =
+    let more = take (most_line_bytes - length pulled) left in
+    rw (line_begins bytes pulled left line front split) at (part_of_lines t (bytes ++ more) start now (part more))
+
+-- where what waited of such entries was to be written and something failed
+pub waiting_of_line : {O : Type 0} (written : O → Option (List ℕ)) (t : TableRows) (r : EventReader) (bytes pulled left line waiting : List ℕ)
+    (out_first out_mid : O) (now : Option (List ℕ)) (k : ℕ) → take most_line_bytes pulled ≡ bytes → line ≡ pulled ++ left
+    → HasTaken (WritesLines written) t r bytes [] out_first waiting out_mid → now ≡ followed_by (written out_mid) (take k waiting)
+    → WritesPart t line (written out_first) now
+waiting_of_line written t r bytes pulled left line waiting out_first out_mid now k front split had last =
+    let n = part_at_end (written out_first) (written out_mid) now waiting (flat_map (entry_lines t) had.entries) k had.taken last in
+    let some : EmitsPart (written out_first) now [] (flat_map (entry_lines t) had.entries) = record { count = n.0; written = n.1 } in
+    front_of_line t bytes pulled left line (written out_first) now front split (λ more.
+    let rest = taken_first (WritesLines written) t r bytes more [] out_first waiting out_mid had in
+    let all = EmitsPart-longer (written out_first) now [] (flat_map (entry_lines t) had.entries) (flat_map (entry_lines t) rest.0) some in
+    record {
+      count = all.count;
+      written = all.written ∙ ap (λ (xs : List ℕ). followed_by (written out_first) (take all.count xs))
+          (sym (flat_map-append (entry_lines t) had.entries rest.0) ∙ ap (flat_map (entry_lines t)) (sym rest.1));
+    })
+
+-- where no pull failed, all of the line that is listed was pulled
+pub all_pulled : (tells : Tells) (old new : State) (pulled : List ℕ) (end : LineEnd) → TakesLine tells old new pulled → EndsLine tells new pulled end
+    → (end ≡ line_end.Fault → ⊥) → IsTrue tells.line → take most_line_bytes pulled ≡ take most_line_bytes old.line
+all_pulled tells old new pulled line_end.End takes ends quiet told =
+    ap (take most_line_bytes) (sym (append-nil pulled) ∙ ap (λ (xs : List ℕ). pulled ++ xs) (sym (ends.empty refl told)) ∙ sym (takes.line told))
+all_pulled tells old new pulled line_end.Fault takes ends quiet told = absurd (quiet refl)
+all_pulled tells old new pulled line_end.TooLong takes ends quiet told =
+    let many = ends.many refl in
+    sym (take-append-le most_line_bytes pulled new.line (omega (arith, many))) ∙ ap (take most_line_bytes) (sym (takes.line told))
+
+-- a part of its listing is one of the line's
+pub part_of_all : (t : TableRows) (pulled line : List ℕ) (start now : Option (List ℕ)) → take most_line_bytes pulled ≡ take most_line_bytes line
+    → WritesPart t pulled start now → WritesPart t line start now
+part_of_all t pulled line start now same part =
+    (part.0, part.1 ∙ ap (λ (xs : List ℕ). followed_by start (take part.0 (listing_of t xs))) same)
+
 -- ---- what `listbits` promises
 
 pub lists_all : (t : TableRows) (tells : Tells) (old new : State) (start now : Option (List ℕ)) (pulled : List ℕ) (end : LineEnd)
@@ -227,6 +288,7 @@ lists_all t tells old new start now pulled line_end.End pieces ends all = record
   text = λ other. all;
   part = whole_is_part start now (listing_of t (take most_line_bytes pulled)) all;
   last = pieces.last;
+  begun_within_limit = pieces.begun_within_limit;
   in_time = λ e. absurd (cc);
   done_within_limit = λ e. ends.end_within_limit refl;
   fault_within_limit = λ e. absurd (cc);
@@ -240,6 +302,7 @@ lists_all t tells old new start now pulled line_end.Fault pieces ends all = reco
   text = λ other. all;
   part = whole_is_part start now (listing_of t (take most_line_bytes pulled)) all;
   last = pieces.last;
+  begun_within_limit = pieces.begun_within_limit;
   in_time = λ e. absurd (cc);
   done_within_limit = λ e. absurd (cc);
   fault_within_limit = λ e. ends.fault_within_limit refl;
@@ -253,6 +316,7 @@ lists_all t tells old new start now pulled line_end.TooLong pieces ends all = re
   text = λ other. all;
   part = whole_is_part start now (listing_of t (take most_line_bytes pulled)) all;
   last = pieces.last;
+  begun_within_limit = pieces.begun_within_limit;
   in_time = λ e. absurd (cc);
   done_within_limit = λ e. absurd (cc);
   fault_within_limit = λ e. absurd (cc);
@@ -270,6 +334,7 @@ lists_part t tells old new start now pulled pieces part in_time = record {
   text = λ other. absurd (other refl);
   part = part;
   last = pieces.last;
+  begun_within_limit = pieces.begun_within_limit;
   in_time = λ e. in_time;
   done_within_limit = λ e. absurd (cc);
   fault_within_limit = λ e. absurd (cc);

@@ -7,7 +7,7 @@ use Rattle.fdr_slot.specs.declared.image.Header.{Header}
 use Rattle.fdr_ring.specs.Formatting.{Making}
 use Rattle.fdr_ring.proofs.Made.{empty_stop}
 use Rattle.fdr_table.specs.Rows.{TableRows}
-use Rattle.fdr_top.specs.Answers.{IsOfTable, IsPastTable}
+use Rattle.fdr_top.specs.Stages.{IsOfTable, IsPastTable}
 use Rattle.fdr_top.specs.Format.{Makes, new_header}
 use Rattle.fdr_top.specs.Tables.{ByTable, table_in}
 use Rattle.fdr_top.specs.declared.outcome.Outcome.{Outcome}

@@ -27,8 +27,8 @@ use Rattle.fdr_recorder.specs.Past.{SessionPast, all_blocks, session_bytes, numb
 use Rattle.fdr_readout.specs.Listing.{listing_of}
 use Rattle.fdr_readout.proofs.ReadsBack.{stream_lists_back}
 use Rattle.fdr_readout.proofs.Surviving.{surviving_run_listed}
-use Rattle.fdr_top.specs.Answers.{IsPastTable}
-use Rattle.fdr_top.specs.Record.{ListsSurvivors, ListsUndamaged, RecordsAll, RecordsBlocks, RecordsLine, new_blocks, next_in}
+use Rattle.fdr_top.specs.Stages.{EndsRecording, IsPastTable}
+use Rattle.fdr_top.specs.Record.{ListsSurvivors, ListsUndamaged, RecordsBlocks, RecordsLine, new_blocks, next_in}
 use Rattle.fdr_top.specs.Recording.{RecordsSupply}
 use Rattle.fdr_top.specs.Supply.{line_trace}
 use Rattle.fdr_top.specs.Recover.{payloads_of, run_in}
@@ -76,7 +76,7 @@ all_left most old new none fits =
 
 -- what was recorded lists as what was sampled
 pub lists_undamaged : (t : TableRows) (tells : Tells) (records : List BusRecord) (old new : State) (answer : Outcome) → IsInRange t → IsSound t
-    → RecordsBlocks t tells records old new answer → RecordsAll answer → ListsUndamaged t tells records old new
+    → RecordsBlocks t tells records old new answer → EndsRecording answer → ListsUndamaged t tells records old new
 lists_undamaged t tells records old new answer range sound blocks all bytes none fits =
     let has = blocks.recorded all bytes in
     let past : SessionPast = record { table = t; header = header_in old.held; first = next_in old.held; records = records } in

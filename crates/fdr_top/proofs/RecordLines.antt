@@ -42,12 +42,14 @@ use Rattle.fdr_recorder.specs.declared.session.Session.{Session}
 use Rattle.fdr_recorder.proofs.Starting.{Starts-looked}
 use Rattle.fdr_recorder.proofs.Steps.{keeps_behind, keeps_more, keeps_on}
 use Rattle.fdr_words.specs.Forms.{record_line}
-use Rattle.fdr_top.specs.Answers.{IsOwn, IsPastTable, WritesNothing}
+use Rattle.fdr_top.specs.Stages.{EndsReading, EndsRecording, IsPastTable, WritesNothing}
+use Rattle.fdr_top.specs.Answers.{IsOwn}
 use Rattle.fdr_top.specs.Complete.{HasRoom, TellsAccepted}
 use Rattle.fdr_top.specs.Tables.{table_in}
 use Rattle.fdr_top.proofs.TableAnswers.{taken_is_all}
 use Rattle.fdr_top.specs.Lag.{IsInTime, IsLagMoment}
-use Rattle.fdr_top.specs.Record.{AreRecorded, EndsReading, EndsTrace, IsBlockMoment, MayRecord, RecordsAll, RecordsBlocks, new_blocks, next_in, owed}
+use Rattle.fdr_top.specs.Traces.{EndsTrace}
+use Rattle.fdr_top.specs.Record.{AreRecorded, IsBlockMoment, MayRecord, RecordsBlocks, new_blocks, next_in, owed}
 use Rattle.fdr_top.specs.Record.{session_refusal}
 use Rattle.fdr_top.specs.Refusals.{RefusesImage}
 use Rattle.fdr_top.specs.Recording.{Continues, IsSessionMoment, RecordsSupply, fed}
@@ -183,7 +185,7 @@ chained t tells old new records moments whole tail ready = EachMoment-weaken tel
 -- where no record was fed
 pub RecordsBlocks-unbegun : (t : TableRows) (tells : Tells) (records : List BusRecord) (d0 d1 : State) (answer : Outcome)
     → Starts tells (header_in d0.held) d0 d1
-    → (RecordsAll answer → ⊥) → (answer ≡ outcome.SeqEnd → ⊥)
+    → (EndsRecording answer → ⊥) → (answer ≡ outcome.SeqEnd → ⊥)
     → RefusesImage t tells d0 d1 answer
     → RecordsBlocks t tells records d0 d1 answer
 RecordsBlocks-unbegun t tells records d0 d1 answer starts not_all not_end image =
@@ -220,7 +222,7 @@ RecordsSupply-unbegun from t tells d0 d1 answer starts not_all not_trace blocks 
   in_time = λ ready. EachMoment-weaken tells d0 d1 (IsStarting (header_in d0.held) d0)
       (IsLagMoment (owed t (header_in d0.held) (next_in d0.held)) d0 [])
       (λ m at. record { pulled = inl at.recording.pulled }) (starts.moments ready);
-  ends = fault_ends_supply from tells d0 d1 [] answer not_all not_trace (none_of from);
+  ends = fault_ends_supply from tells d0 d1 [] answer not_all not_trace (none_of from) (λ line known. starts.line_faults);
 }
 
 nothing_started : (tells : Tells) (d : State) → IsSoundDeck tells d → Starts tells (header_in d.held) d d
@@ -233,7 +235,7 @@ reading_past (outcome.TraceRefused index why) all = tt
 reading_past (outcome.ReadFault input.Line) all = tt
 reading_past a all = absurd all
 
-pub all_past : (a : Outcome) → RecordsAll a → IsPastTable a
+pub all_past : (a : Outcome) → EndsRecording a → IsPastTable a
 all_past outcome.Done all = tt
 all_past (outcome.TraceRefused index why) all = tt
 all_past (outcome.ReadFault input.Line) all = tt
@@ -244,9 +246,12 @@ all_past a all = absurd all
 pub refuses_nothing : (t : TableRows) (tells : Tells) (old new : State) (answer : Outcome) → (IsPastTable answer → ⊥)
     → RefusesImage t tells old new answer
 refuses_nothing t tells old new answer early = record {
-  refused = λ why e. absurd (early (subst IsPastTable (sym e) tt));
-  small = λ why e. absurd (early (subst IsPastTable (sym e) tt));
-  refused_always = λ why past. absurd (early past);
+  header = record {
+    refused = λ why e. absurd (early (subst IsPastTable (sym e) tt));
+    small = λ why e. absurd (early (subst IsPastTable (sym e) tt));
+    small_always = λ past. absurd (early past);
+    refused_always = λ why past. absurd (early past);
+  };
   words = λ image table e. absurd (early (subst IsPastTable (sym e) tt));
   words_always = λ image past. absurd (early past);
 }
@@ -290,9 +295,12 @@ no_differ t tells old new answer image table refuses bytes for e =
 pub image_refused : (t : TableRows) (tells : Tells) (old new : State) (found : ImageFault) → (IsTrue tells.bytes → image_fault_of old.held ≡ Some found)
     → ((found ≡ fault.Small) ↔ (new.extent < 64)) → RefusesImage t tells old new (outcome.ImageRefused found)
 image_refused t tells old new found first small = record {
-  refused = λ why e bytes. first bytes ∙ ap Some (same_fault found why e);
-  small = λ why e. subst (λ (x : ImageFault). (x ≡ fault.Small) ↔ (new.extent < 64)) (same_fault found why e) small;
-  refused_always = λ why past bytes some. inl (ap outcome.ImageRefused (some_same found why (sym (first bytes) ∙ some)));
+  header = record {
+    refused = λ why e bytes. first bytes ∙ ap Some (same_fault found why e);
+    small = λ why e. subst (λ (x : ImageFault). (x ≡ fault.Small) ↔ (new.extent < 64)) (same_fault found why e) small;
+    small_always = λ past short. inl (ap outcome.ImageRefused (small.1 short));
+    refused_always = λ why past bytes some. inl (ap outcome.ImageRefused (some_same found why (sym (first bytes) ∙ some)));
+  };
   words = λ image table e. absurd (cc);
   words_always = λ image past bytes other differ. absurd (no_first old.held found other.no_fault (first bytes));
 }
@@ -300,9 +308,12 @@ image_refused t tells old new found first small = record {
 -- the disk failed before the image was known
 pub disk_failed : (t : TableRows) (tells : Tells) (old new : State) → RefusesImage t tells old new outcome.DiskFault
 disk_failed t tells old new = record {
-  refused = λ why e. absurd (cc);
-  small = λ why e. absurd (cc);
-  refused_always = λ why past bytes first. inr refl;
+  header = record {
+    refused = λ why e. absurd (cc);
+    small = λ why e. absurd (cc);
+    small_always = λ past short. inr refl;
+    refused_always = λ why past bytes first. inr refl;
+  };
   words = λ image table e. absurd (cc);
   words_always = λ image past bytes other differ. inr refl;
 }
@@ -311,24 +322,28 @@ disk_failed t tells old new = record {
 session_image : (t : TableRows) (tells : Tells) (d0 d1 : State) (f : SessionFault) → (f ≡ session.SeqEnd → ⊥)
     → (IsTrue tells.bytes → (why : ImageFault) → f ≡ session.Image why → image_fault_of d0.held ≡ Some why)
     → ((why : ImageFault) → f ≡ session.Image why → (why ≡ fault.Small) ↔ (d1.extent < 64))
+    → (d1.extent < 64 → (f ≡ session.Image fault.Small) ⊎ (f ≡ session.DiskFault))
     → ((image table : ℕ) → f ≡ session.WordsDiffer image table
     → (table ≡ t.frame.words) × (image ≢ table) × (IsTrue tells.bytes → IsFor image d0.held))
     → RefusesImage t tells d0 d1 (session_refusal f)
-session_image t tells d0 d1 (session.Image w) not_end image small words = image_refused t tells d0 d1 w (λ bytes. image bytes w refl) (small w refl)
-session_image t tells d0 d1 (session.WordsDiffer i w) not_end image small words =
+session_image t tells d0 d1 (session.Image w) not_end image small short words = image_refused t tells d0 d1 w (λ bytes. image bytes w refl) (small w refl)
+session_image t tells d0 d1 (session.WordsDiffer i w) not_end image small short words =
     let here = words i w refl in
     record {
-      refused = λ why e. absurd (cc);
-      small = λ why e. absurd (cc);
-      refused_always = λ why past bytes first. absurd (no_first d0.held why (here.2 bytes).no_fault first);
+      header = record {
+        refused = λ why e. absurd (cc);
+        small = λ why e. absurd (cc);
+        small_always = λ past few. absurd (⊎_elim (λ e. cc) (λ e. cc) (short few));
+        refused_always = λ why past bytes first. absurd (no_first d0.held why (here.2 bytes).no_fault first);
+      };
       words = λ j table e. words j table (words_same i w j table e);
       words_always = λ j past bytes other differ. inl (words_are i w j t.frame.words (sym (here.2 bytes).words ∙ other.words) here.0);
     }
-session_image t tells d0 d1 session.DiskFault not_end image small words = disk_failed t tells d0 d1
-session_image t tells d0 d1 session.SeqEnd not_end image small words = absurd (not_end refl)
-session_image t tells d0 d1 session.NoMemory not_end image small words = refuses_nothing t tells d0 d1 outcome.NoMemory (λ past. past)
+session_image t tells d0 d1 session.DiskFault not_end image small short words = disk_failed t tells d0 d1
+session_image t tells d0 d1 session.SeqEnd not_end image small short words = absurd (not_end refl)
+session_image t tells d0 d1 session.NoMemory not_end image small short words = refuses_nothing t tells d0 d1 outcome.NoMemory (λ past. past)
 
-refusal_records_none : (f : SessionFault) → RecordsAll (session_refusal f) → ⊥
+refusal_records_none : (f : SessionFault) → EndsRecording (session_refusal f) → ⊥
 refusal_records_none (session.Image w) all = all
 refusal_records_none (session.WordsDiffer i w) all = all
 refusal_records_none session.DiskFault all = all
@@ -353,13 +368,14 @@ pub RecordsSupply-refused : (from : RecordSupply) (t : TableRows) (tells : Tells
     → (f ≡ session.SeqEnd → ⊥)
     → (IsTrue tells.bytes → (why : ImageFault) → f ≡ session.Image why → image_fault_of d0.held ≡ Some why)
     → ((why : ImageFault) → f ≡ session.Image why → (why ≡ fault.Small) ↔ (d1.extent < 64))
+    → (d1.extent < 64 → (f ≡ session.Image fault.Small) ⊎ (f ≡ session.DiskFault))
     → ((image table : ℕ) → f ≡ session.WordsDiffer image table
     → (table ≡ t.frame.words) × (image ≢ table) × (IsTrue tells.bytes → IsFor image d0.held))
     → RecordsSupply from t tells d0 d1 (session_refusal f)
-RecordsSupply-refused from t tells d0 d1 f starts not_end image small words = RecordsSupply-unbegun from t tells d0 d1 (session_refusal f) starts
+RecordsSupply-refused from t tells d0 d1 f starts not_end image small short words = RecordsSupply-unbegun from t tells d0 d1 (session_refusal f) starts
     (refusal_not_all f) (refusal_not_trace f)
     (RecordsBlocks-unbegun t tells (supplied from []) d0 d1 (session_refusal f) starts (refusal_records_none f)
-    (λ e. not_end (is_seq_end f e)) (session_image t tells d0 d1 f not_end image small words))
+    (λ e. not_end (is_seq_end f e)) (session_image t tells d0 d1 f not_end image small short words))
 
 same_blocks : (t : TableRows) (h h' : Header) (n n' : ℕ) (records : List BusRecord) → h ≡ h' → n ≡ n'
     → all_blocks (record { table = t; header = h; first = n; records = records })
@@ -383,11 +399,14 @@ shut_front h n image = ⊎_elim
 
 -- an image that is for the table's frames isn't refused
 pub takes_image : (t : TableRows) (tells : Tells) (old new : State) (answer : Outcome) → (WritesNothing answer → ⊥)
-    → (IsTrue tells.bytes → IsFor t.frame.words old.held) → RefusesImage t tells old new answer
-takes_image t tells old new answer begun good = record {
-  refused = λ why e. absurd (begun (subst WritesNothing (sym e) tt));
-  small = λ why e. absurd (begun (subst WritesNothing (sym e) tt));
-  refused_always = λ why past bytes first. absurd (no_first old.held why (good bytes).no_fault first);
+    → (new.extent < 64 → ⊥) → (IsTrue tells.bytes → IsFor t.frame.words old.held) → RefusesImage t tells old new answer
+takes_image t tells old new answer begun long good = record {
+  header = record {
+    refused = λ why e. absurd (begun (subst WritesNothing (sym e) tt));
+    small = λ why e. absurd (begun (subst WritesNothing (sym e) tt));
+    small_always = λ past short. absurd (long short);
+    refused_always = λ why past bytes first. absurd (no_first old.held why (good bytes).no_fault first);
+  };
   words = λ image table e. absurd (begun (subst WritesNothing (sym e) tt));
   words_always = λ image past bytes other differ. absurd (differ (sym other.words ∙ (good bytes).words));
 }
@@ -400,6 +419,7 @@ EndsSupply-since line_trace tells d0 d1 d2 pulled answer faults ends = record {
   truncated = ends.truncated;
   undecided = ends.undecided;
   quiet = λ all not. ends.quiet all not ∙ faults;
+  decided = λ known. ends.decided known ∙ faults;
 }
 EndsSupply-since (drawn_trace t seed frames) tells d0 d1 d2 pulled answer faults ends = ends
 
@@ -486,9 +506,9 @@ module _ (from : RecordSupply) (t : TableRows) (tells : Tells) (s : Session) (d0
         let low = has.near s.ring.next (record { told = is.told; least = omega arith }) in
         (next, omega (arith, top, next, first, count), omega (arith, low.least, next, first, count))
 
-    pub RecordsSupply-started : (WritesNothing answer → ⊥) → (RecordsAll answer → EndsReading answer) → (IsTrue tells.bytes → IsFor t.frame.words d0.held)
-        → RecordsSupply from t tells d0 d2 answer
-    RecordsSupply-started begun all_read good = record {
+    pub RecordsSupply-started : d2.extent ≡ d1.extent → (WritesNothing answer → ⊥) → (EndsRecording answer → EndsReading answer)
+        → (IsTrue tells.bytes → IsFor t.frame.words d0.held) → RecordsSupply from t tells d0 d2 answer
+    RecordsSupply-started extent begun all_read good = record {
       pulled = on.pulled;
       pulls = all_pulls;
       blocks = record {
@@ -511,7 +531,7 @@ module _ (from : RecordSupply) (t : TableRows) (tells : Tells) (s : Session) (d0
             ∙ ap (λ n. take (2 ^ 48 - n) (new_blocks t d0.held (supplied from on.pulled))) (first_is bytes)) (on.seq_end e);
         beyond = λ e bytes. omega (arith, on.beyond e, ap length (blocks_are bytes), first_is bytes);
         good = λ either bytes. good bytes;
-        image = takes_image t tells d0 d2 answer begun good;
+        image = takes_image t tells d0 d2 answer begun (λ short. omega (arith, short, extent, is.fact.ring.extent)) good;
       };
       in_time = lags;
       ends = all_ends;
@@ -576,7 +596,7 @@ record_done path image t tells d0 d2 outcome.SeqEnd own is told ended bytes room
 record_done path image t tells d0 d2 (outcome.TraceRefused index why) own is told ended bytes room line disk =
     absurd (told_whole tells d0 d2 is.pulled (outcome.TraceRefused index why) index why is.pulls is.ends refl told ended)
 record_done path image t tells d0 d2 (outcome.ImageRefused why) own is told ended bytes room line disk =
-    absurd (no_first d0.held why room.image.no_fault (is.blocks.image.refused why refl bytes))
+    absurd (no_first d0.held why room.image.no_fault (is.blocks.image.header.refused why refl bytes))
 record_done path image t tells d0 d2 (outcome.WordsDiffer i w) own is told ended bytes room line disk =
     absurd (no_differ t tells d0 d2 (outcome.WordsDiffer i w) i w is.blocks.image bytes room.image refl)
 record_done path image t tells d0 d2 answer own is told ended bytes room line disk = ⊎_elim (λ memory. inr memory) (λ it. absurd it) own

@@ -1,16 +1,17 @@
 -- The records that were streamed of a trace.
 use Rattle.std.proofs.Common.{◌≡◌, ◌≢◌, ℕ, ◌-◌, ◌*◌, ◌<◌, ◌≤◌, ⊎_elim, min, true, false, List, [], ◌∷◌, ◌++◌, length, take, Option, Some, None, ap, sym}
-use Rattle.std.proofs.Common.{refl, ◌∙◌, subst, length-append, arith}
+use Rattle.std.proofs.Common.{refl, ◌∙◌, subst, append_assoc, length-append, arith}
 use Rattle.std.proofs.lemmas.Bool.{cases_Bool}
 use Rattle.std.proofs.lemmas.List.{append-nil, take_all}
 use Rattle.fdr_io.specs.Told.{followed_by}
+use Rattle.fdr_io.specs.declared.Input.TheVariants as input
 use Rattle.fdr_io.proofs.Telling.{followed_by-nil}
 use Rattle.fdr_deck.specs.State.{State, Tells}
 use Rattle.fdr_bus.specs.declared.BusRecord.{BusRecord}
 use Rattle.fdr_bus.specs.declared.TraceFault.{TraceFault}
 use Rattle.fdr_bus.specs.declared.TraceFault.TheVariants as trace
 use Rattle.fdr_bus.specs.declared.RecordKind.TheVariants.{Word, End}
-use Rattle.fdr_bus.specs.Records.{good_prefix, has_end, is_end}
+use Rattle.fdr_bus.specs.Records.{IsDecided, good_prefix, has_end, is_end}
 use Rattle.fdr_bus.proofs.TraceLemmas.{good_prefix-append, has_end-push}
 use Rattle.fdr_table.specs.Rows.{TableRows}
 use Rattle.fdr_sampler.specs.Stream.{stream_of}
@@ -31,6 +32,7 @@ use Rattle.fdr_top.specs.Stream.{Streams, answer_of_stop}
 use Rattle.fdr_top.specs.Streaming.{due_text, ComesNext, IsStreamed, IsStreamedTo, IsStreamedPart}
 use Rattle.fdr_top.proofs.Longer.{InOrder-good_prefix, stream_of-good}
 use Rattle.fdr_top.proofs.Blocks.{take_min}
+use Rattle.std.specs.Prelude.{◌⊎◌}
 
 -- nothing was fed yet
 pub IsStreamed-made : (k : StreamKept) (t : TableRows) (written : Option (List ℕ)) → RepresentsStream k (stream_made t 4096) → IsStreamed k t [] written written
@@ -127,14 +129,24 @@ shorter t bytes records later m good =
 
 -- where a block of a record couldn't be written
 pub IsStreamedPart-next : (t : TableRows) (tells : Tells) (a c : State) (bytes : List ℕ) (records later : List BusRecord) (before now : Option (List ℕ)) (m : ℕ)
-    → PullsMore tells a c [] bytes → good_prefix bytes ≡ records ++ later → now ≡ followed_by before (take m (due_text t records)) →
-    IsStreamedPart t tells a c before now
-IsStreamedPart-next t tells a c bytes records later before now m pulls good part =
+    → PullsMore tells a c [] bytes → good_prefix bytes ≡ records ++ later → now ≡ followed_by before (take m (due_text t records))
+    → c.line_faults ≡ a.line_faults → IsStreamedPart t tells a c before now
+IsStreamedPart-next t tells a c bytes records later before now m pulls good part quiet =
     let all = 4096 * due_blocks t 4096 records in
     record {
       pulled = bytes;
       pulls = pulls;
       part = (min m all, part ∙ ap (followed_by before) (shorter t bytes records later m good));
+      part_of_whole = λ told.
+          let grown = good_prefix-append bytes c.line in
+          let whole : good_prefix (bytes ++ c.line) ≡ records ++ (later ++ grown.0) =
+          grown.1 ∙ ap (λ (x : List BusRecord). x ++ grown.0) good ∙ append_assoc records later grown.0 in
+          let line : a.line ≡ bytes ++ c.line = pulls.takes.line told in (
+            min m all,
+            part ∙ ap (followed_by before) (shorter t (bytes ++ c.line) records (later ++ grown.0) m whole)
+                ∙ ap (λ (x : List ℕ). followed_by before (take (min m all) (stream_of t (good_prefix x)))) (sym line),
+          );
+      quiet = quiet;
     }
 
 -- the good records of the bytes begin with those that were read
@@ -166,25 +178,53 @@ count_rises k k' bytes bytes' records r before after =
 
 -- ---- what was streamed when the answer is given
 
+streams_failed : (t : TableRows) (tells : Tells) (a c : State) (before now : Option (List ℕ)) (pulled : List ℕ) → PullsMore tells a c [] pulled
+    → (k : ℕ) × (now ≡ followed_by before (take k (stream_of t (good_prefix pulled)))) → (IsDecided pulled → c.line_faults ≡ a.line_faults)
+    → Streams t tells a c before now outcome.WriteFault
+streams_failed t tells a c before now pulled pulls part decided = record {
+  pulled = pulled;
+  pulls = pulls;
+  text = λ not. absurd (not refl);
+  part = part;
+  ends = record {
+    ended = λ e. absurd (cc);
+    refused = λ index why e. absurd (cc);
+    truncated = λ index e. absurd (cc);
+    undecided = λ e. absurd (cc);
+    quiet = λ reading read. absurd reading;
+    decided = decided;
+  };
+}
+
 pub Streams-part : (t : TableRows) (tells : Tells) (a c : State) (before now : Option (List ℕ)) → IsStreamedPart t tells a c before now
     → Streams t tells a c before now outcome.WriteFault
-Streams-part t tells a c before now streamed = record {
-  pulled = streamed.pulled;
-  pulls = streamed.pulls;
-  text = λ not. absurd (not refl);
-  part = streamed.part;
-  ended = λ e. absurd (cc);
-  refused = λ index why e. absurd (cc);
-  truncated = λ index e. absurd (cc);
-  undecided = λ e. absurd (cc);
-  quiet = λ read write. absurd (write refl);
-}
+Streams-part t tells a c before now streamed =
+    streams_failed t tells a c before now streamed.pulled streamed.pulls streamed.part (λ known. streamed.quiet)
+
+-- where the trace is decided, no fault of the line was met
+streamed_decided : (pulled : List ℕ) (d d' : ℕ) (answer : Outcome) → (answer ≡ outcome.ReadFault input.Line → IsDecided pulled → ⊥)
+    → (answer ≢ outcome.ReadFault input.Line → d' ≡ d) → IsDecided pulled → d' ≡ d
+streamed_decided pulled d d' (outcome.ReadFault input.Line) undecided quiet known = absurd (undecided refl known)
+streamed_decided pulled d d' (outcome.ReadFault input.Table) undecided quiet known = quiet (λ e. absurd (cc))
+streamed_decided pulled d d' outcome.Done undecided quiet known = quiet (λ e. absurd (cc))
+streamed_decided pulled d d' outcome.Usage undecided quiet known = quiet (λ e. absurd (cc))
+streamed_decided pulled d d' (outcome.TableRefused row f) undecided quiet known = quiet (λ e. absurd (cc))
+streamed_decided pulled d d' (outcome.TraceRefused index f) undecided quiet known = quiet (λ e. absurd (cc))
+streamed_decided pulled d d' (outcome.ImageRefused f) undecided quiet known = quiet (λ e. absurd (cc))
+streamed_decided pulled d d' outcome.NotEmpty undecided quiet known = quiet (λ e. absurd (cc))
+streamed_decided pulled d d' (outcome.WordsDiffer i w) undecided quiet known = quiet (λ e. absurd (cc))
+streamed_decided pulled d d' outcome.SeqEnd undecided quiet known = quiet (λ e. absurd (cc))
+streamed_decided pulled d d' outcome.WriteFault undecided quiet known = quiet (λ e. absurd (cc))
+streamed_decided pulled d d' outcome.DiskFault undecided quiet known = quiet (λ e. absurd (cc))
+streamed_decided pulled d d' outcome.TooLong undecided quiet known = quiet (λ e. absurd (cc))
+streamed_decided pulled d d' outcome.NoMemory undecided quiet known = quiet (λ e. absurd (cc))
 
 pub Streams-failed : (t : TableRows) (tells : Tells) (a c : State) (k : StreamKept) (before middle now : Option (List ℕ)) (answer : Outcome)
     (streamed : IsStreamedTo t tells a c k before middle answer) → (m : ℕ) × (now ≡ followed_by before (take m (stream_of t (good_prefix streamed.pulled)))) →
     Streams t tells a c before now outcome.WriteFault
 Streams-failed t tells a c k before middle now answer streamed part =
-    Streams-part t tells a c before now (record { pulled = streamed.pulled; pulls = streamed.pulls; part = part })
+    streams_failed t tells a c before now streamed.pulled streamed.pulls part
+    (streamed_decided streamed.pulled a.line_faults c.line_faults answer streamed.undecided streamed.quiet)
 
 pub Streams-all : (t : TableRows) (tells : Tells) (a c : State) (k : StreamKept) (before middle now : Option (List ℕ)) (answer : Outcome)
     (streamed : IsStreamedTo t tells a c k before middle answer) → now ≡ followed_by before (stream_of t (good_prefix streamed.pulled)) →
@@ -196,9 +236,12 @@ Streams-all t tells a c k before middle now answer streamed all =
       pulls = streamed.pulls;
       text = λ not. all;
       part = (length text, all ∙ ap (followed_by before) (sym (take_all (length text) text (omega arith))));
-      ended = streamed.ended;
-      refused = streamed.refused;
-      truncated = streamed.truncated;
-      undecided = streamed.undecided;
-      quiet = λ read write. streamed.quiet read;
+      ends = record {
+        ended = streamed.ended;
+        refused = streamed.refused;
+        truncated = streamed.truncated;
+        undecided = streamed.undecided;
+        quiet = λ reading read. streamed.quiet read;
+        decided = streamed_decided streamed.pulled a.line_faults c.line_faults answer streamed.undecided streamed.quiet;
+      };
     }

@@ -1,6 +1,7 @@
 -- How a recording in a session begins and ends.
-use Rattle.std.proofs.Common.{◌≡◌, ◌≢◌, ◌⊎◌, ⊎_elim, inl, inr, Result, Err, true, ℕ, ◌+◌, ◌-◌, ◌^◌, ◌≤◌, List, [], ◌∷◌, ◌++◌, length, take}
+use Rattle.std.proofs.Common.{◌≡◌, ◌≢◌, ◌⊎◌, ⊎_elim, inl, inr, Result, Err, true, ℕ, ◌+◌, ◌-◌, ◌^◌, ◌<◌, ◌≤◌, List, [], ◌∷◌, ◌++◌, length, take}
 use Rattle.std.proofs.Common.{ap, sym, refl, ◌∙◌, subst, length-append, arith}
+use Rattle.std.proofs.lemmas.Bool.{cases_lt}
 use Rattle.std.proofs.lemmas.List.{take-append-le}
 use Rattle.std.proofs.Math.Seq.{take-append-add}
 use Rattle.fdr_io.specs.Faults.{Rose}
@@ -8,7 +9,7 @@ use Rattle.fdr_io.specs.declared.Input.TheVariants as input
 use Rattle.fdr_bus.specs.declared.BusRecord.{BusRecord}
 use Rattle.fdr_bus.specs.declared.TraceFault.{TraceFault}
 use Rattle.fdr_bus.specs.declared.TraceFault.TheVariants as trace
-use Rattle.fdr_bus.specs.Records.{good_prefix, has_end, is_end}
+use Rattle.fdr_bus.specs.Records.{IsDecided, good_prefix, has_end, is_end}
 use Rattle.fdr_deck.specs.State.{State, Tells}
 use Rattle.fdr_deck.specs.Calls.{LeavesDisk}
 use Rattle.fdr_deck.specs.Pull.{KeepsLine}
@@ -36,8 +37,10 @@ use Rattle.fdr_recorder.proofs.Composing.{HasRecorded-then}
 use Rattle.fdr_recorder.proofs.Joined.{recorded_of-fed}
 use Rattle.fdr_recorder.proofs.Steps.{keeps_more}
 use Rattle.fdr_words.specs.Forms.{record_line}
-use Rattle.fdr_top.specs.Answers.{IsOwn, KeepsLineAndFaults, WritesNothing}
-use Rattle.fdr_top.specs.Record.{CutsShort, EndsReading, EndsTrace, RecordsAll, RefusesSession, session_refusal}
+use Rattle.fdr_top.specs.Stages.{CutsRecording, EndsReading, EndsRecording, WritesNothing}
+use Rattle.fdr_top.specs.Answers.{IsOwn, KeepsLineAndFaults}
+use Rattle.fdr_top.specs.Traces.{EndsTrace}
+use Rattle.fdr_top.specs.Record.{RefusesSession, session_refusal}
 use Rattle.fdr_top.specs.Recording.{Continues, HasFed, HasFedAll, IsBegun, SessionMoment, fed}
 use Rattle.fdr_top.specs.Stream.{answer_of_stop}
 use Rattle.fdr_top.specs.Supply.{RecordSupply, EndsSupply, HasRunOut, PullsNothing, RepresentsSupply, drawn_trace, line_trace, supplied}
@@ -150,6 +153,7 @@ EndsTrace-end tells d0 d' bytes records r good ends quiet = record {
   truncated = λ index e. absurd (cc);
   undecided = λ e. absurd (cc);
   quiet = λ all not. quiet;
+  decided = λ known. quiet;
 }
 
 -- no further record came
@@ -162,6 +166,7 @@ EndsTrace-stop tells d0 d d' bytes records (stop.Refused index why) stopped befo
   truncated = λ i e told. stopped.end (same_cause index i why trace.Truncated e) told;
   undecided = λ e. absurd (cc);
   quiet = λ all not. quiet (λ e. absurd (cc)) ∙ before;
+  decided = λ known. quiet (λ e. absurd (cc)) ∙ before;
 }
 EndsTrace-stop tells d0 d d' bytes records stop.Failed stopped before quiet = record {
   ended = λ e. absurd (cc);
@@ -169,32 +174,37 @@ EndsTrace-stop tells d0 d d' bytes records stop.Failed stopped before quiet = re
   truncated = λ i e. absurd (cc);
   undecided = λ e. stopped.undecided;
   quiet = λ all not. absurd (not refl);
+  decided = λ known. absurd (stopped.undecided known);
 }
 
 -- the answer isn't of the trace
 pub fault_ends : (tells : Tells) (d0 d' : State) (bytes : List ℕ) (answer : Outcome) → (EndsReading answer → ⊥)
-    → ((index : ℕ) (why : TraceFault) → answer ≡ outcome.TraceRefused index why → ⊥) → EndsTrace tells d0 d' bytes answer
-fault_ends tells d0 d' bytes answer not refused = record {
+    → ((index : ℕ) (why : TraceFault) → answer ≡ outcome.TraceRefused index why → ⊥)
+    → (IsDecided bytes → d'.line_faults ≡ d0.line_faults) → EndsTrace tells d0 d' bytes answer
+fault_ends tells d0 d' bytes answer not refused decided = record {
   ended = λ e. absurd (not (subst EndsReading (sym e) tt));
   refused = λ i w e. absurd (refused i w e);
   truncated = λ i e. absurd (refused i trace.Truncated e);
   undecided = λ e. absurd (not (subst EndsReading (sym e) tt));
   quiet = λ all. absurd (not all);
+  decided = decided;
 }
 
 -- so of every supply
 pub fault_ends_supply : (from : RecordSupply) (tells : Tells) (d0 d' : State) (bytes : List ℕ) (answer : Outcome) → (EndsReading answer → ⊥)
     → ((index : ℕ) (why : TraceFault) → answer ≡ outcome.TraceRefused index why → ⊥) → PullsNothing from bytes
-    → EndsSupply from tells d0 d' bytes answer
-fault_ends_supply line_trace tells d0 d' bytes answer not refused none = fault_ends tells d0 d' bytes answer not refused
-fault_ends_supply (drawn_trace t seed frames) tells d0 d' bytes answer not refused none = (none, λ reading. absurd (not reading))
+    → (from ≡ line_trace → IsDecided bytes → d'.line_faults ≡ d0.line_faults) → EndsSupply from tells d0 d' bytes answer
+fault_ends_supply line_trace tells d0 d' bytes answer not refused none decided =
+    fault_ends tells d0 d' bytes answer not refused (decided refl)
+fault_ends_supply (drawn_trace t seed frames) tells d0 d' bytes answer not refused none decided = (none, λ reading. absurd (not reading))
 
 -- the disk failed, or the numbers ended
 EndsSupply-fault : (from : RecordSupply) (tells : Tells) (d0 d' : State) (bytes : List ℕ) (f : SessionFault)
-    → (f ≡ session.DiskFault) ⊎ (f ≡ session.SeqEnd) → PullsNothing from bytes → EndsSupply from tells d0 d' bytes (session_refusal f)
-EndsSupply-fault from tells d0 d' bytes f only none = ⊎_elim
-    (λ (e : f ≡ session.DiskFault). rw e (fault_ends_supply from tells d0 d' bytes outcome.DiskFault (λ all. all) (λ i w x. absurd (cc)) none))
-    (λ (e : f ≡ session.SeqEnd). rw e (fault_ends_supply from tells d0 d' bytes outcome.SeqEnd (λ all. all) (λ i w x. absurd (cc)) none))
+    → (f ≡ session.DiskFault) ⊎ (f ≡ session.SeqEnd) → PullsNothing from bytes
+    → (from ≡ line_trace → IsDecided bytes → d'.line_faults ≡ d0.line_faults) → EndsSupply from tells d0 d' bytes (session_refusal f)
+EndsSupply-fault from tells d0 d' bytes f only none decided = ⊎_elim
+    (λ (e : f ≡ session.DiskFault). rw e (fault_ends_supply from tells d0 d' bytes outcome.DiskFault (λ all. all) (λ i w x. absurd (cc)) none decided))
+    (λ (e : f ≡ session.SeqEnd). rw e (fault_ends_supply from tells d0 d' bytes outcome.SeqEnd (λ all. all) (λ i w x. absurd (cc)) none decided))
     only
 
 -- the end record was fed
@@ -280,7 +290,7 @@ HasFedAll-end from tells past s d0 d' bytes records r ring stands has good ends 
 close_same : (f f' : SessionFault) → ◌≡◌ {A = Result ℕ SessionFault} (Err f) (Err f') → f ≡ f'
 close_same f f' e = cc
 
-fault_same : (f f' : SessionFault) → ◌≡◌ {A = Result Session SessionFault} (Err f) (Err f') → f ≡ f'
+pub fault_same : (f f' : SessionFault) → ◌≡◌ {A = Result Session SessionFault} (Err f) (Err f') → f ≡ f'
 fault_same f f' e = cc
 
 -- the same of the answer of a session that is closed
@@ -298,8 +308,12 @@ not_all f only all = ⊎_elim
     (λ (e : f ≡ session.SeqEnd). rw e at all)
     only
 
+-- where the disk didn't fail, the numbers ended
+pub ended_only : (f : SessionFault) → (f ≡ session.DiskFault) ⊎ (f ≡ session.SeqEnd) → (f ≡ session.DiskFault → ⊥) → f ≡ session.SeqEnd
+ended_only f only other = ⊎_elim (λ e. absurd (other e)) (λ e. e) only
+
 -- the two answers that cut a recording short
-pub two_cut : (f : SessionFault) → (f ≡ session.DiskFault) ⊎ (f ≡ session.SeqEnd) → CutsShort (session_refusal f)
+pub two_cut : (f : SessionFault) → (f ≡ session.DiskFault) ⊎ (f ≡ session.SeqEnd) → CutsRecording (session_refusal f)
 two_cut f only = ⊎_elim
     (λ (e : f ≡ session.DiskFault). rw e tt)
     (λ (e : f ≡ session.SeqEnd). rw e tt)
@@ -350,11 +364,11 @@ module _ (from : RecordSupply) (tells : Tells) (past : SessionPast) (d0 d d' : S
         (block_moments tells (fed past records) d0 d d' bytes sound0 is.ring is.settled is.told has
         (due_at (fed past records) r) wrote few))
 
-    pub Continues-fault : (past.first + length (recorded_of (fed past records)) ≤ 2 ^ 48)
+    pub Continues-fault : d.line_faults ≡ d0.line_faults → (past.first + length (recorded_of (fed past records)) ≤ 2 ^ 48)
         → (f ≡ session.SeqEnd
         → HasEnded tells past.header (past.first + length (recorded_of (fed past records))) (due_at (fed past records) r) d d')
         → Continues from tells past d0 d' (session_refusal f)
-    Continues-fault bound ended =
+    Continues-fault quiet bound ended =
         let a = recorded_of (fed past records) in
         let b = due_at (fed past records) r in
         let long = ap length parts in
@@ -376,7 +390,7 @@ module _ (from : RecordSupply) (tells : Tells) (past : SessionPast) (d0 d d' : S
           beyond = λ e.
               let end = ended (is_seq_end f e) in
               omega (arith, end.beyond, long, length-append (a ++ b) rest, length-append a b);
-          ends = EndsSupply-fault from tells d0 d' bytes f only none;
+          ends = EndsSupply-fault from tells d0 d' bytes f only none (λ line known. wrote.line_faults ∙ quiet);
         }
 
 -- ---- where the session is closed
@@ -393,19 +407,25 @@ reading_begun (outcome.TraceRefused index why) all nothing = nothing
 reading_begun (outcome.ReadFault input.Line) all nothing = nothing
 reading_begun answer all nothing = all
 
-pub cut_begun : (answer : Outcome) → CutsShort answer → WritesNothing answer → ⊥
+pub cut_begun : (answer : Outcome) → CutsRecording answer → WritesNothing answer → ⊥
 cut_begun outcome.DiskFault cut nothing = nothing
 cut_begun outcome.SeqEnd cut nothing = nothing
+cut_begun (outcome.ReadFault input.Table) cut nothing = cut
+cut_begun (outcome.ReadFault input.Line) cut nothing = cut
 cut_begun answer cut nothing = cut
 
-pub cut_reads : (answer : Outcome) → CutsShort answer → RecordsAll answer → EndsReading answer
+pub cut_reads : (answer : Outcome) → CutsRecording answer → EndsRecording answer → EndsReading answer
 cut_reads outcome.DiskFault cut all = all
 cut_reads outcome.SeqEnd cut all = all
+cut_reads (outcome.ReadFault input.Table) cut all = absurd cut
+cut_reads (outcome.ReadFault input.Line) cut all = absurd cut
 cut_reads answer cut all = absurd cut
 
-pub cut_refuses : (answer : Outcome) → CutsShort answer → RefusesSession answer
+pub cut_refuses : (answer : Outcome) → CutsRecording answer → RefusesSession answer
 cut_refuses outcome.DiskFault cut = tt
 cut_refuses outcome.SeqEnd cut = tt
+cut_refuses (outcome.ReadFault input.Table) cut = absurd cut
+cut_refuses (outcome.ReadFault input.Line) cut = absurd cut
 cut_refuses answer cut = absurd cut
 
 pub refusal_refuses : (f : SessionFault) → RefusesSession (session_refusal f)
@@ -422,6 +442,23 @@ is_disk_fault session.DiskFault e = refl
 is_disk_fault session.SeqEnd e = absurd (cc)
 is_disk_fault session.NoMemory e = absurd (cc)
 
+pub is_no_memory : (f : SessionFault) → session_refusal f ≡ outcome.NoMemory → f ≡ session.NoMemory
+is_no_memory (session.Image why) e = absurd (cc)
+is_no_memory (session.WordsDiffer image table) e = absurd (cc)
+is_no_memory session.DiskFault e = absurd (cc)
+is_no_memory session.SeqEnd e = absurd (cc)
+is_no_memory session.NoMemory e = refl
+
+pub cut_not_memory : (answer : Outcome) → CutsRecording answer → answer ≡ outcome.NoMemory → ⊥
+cut_not_memory answer cut e = rw e at cut
+
+pub reading_not_memory : (answer : Outcome) → EndsReading answer → answer ≡ outcome.NoMemory → ⊥
+reading_not_memory answer all e = rw e at all
+
+-- an image that isn't too small
+pub not_short : (n : ℕ) → (n < 64 → ⊥) → 64 ≤ n
+not_short n long = ⊎_elim (λ (short : n < 64). absurd (long short)) (λ (fits : 64 ≤ n). fits) (cases_lt n 64)
+
 -- a call that leaves the line leaves how the trace ended
 EndsTrace-kept : (tells : Tells) (d0 d d' : State) (bytes : List ℕ) (answer : Outcome) → EndsTrace tells d0 d bytes answer
     → d'.line ≡ d.line → d'.line_faults ≡ d.line_faults → EndsTrace tells d0 d' bytes answer
@@ -431,12 +468,19 @@ EndsTrace-kept tells d0 d d' bytes answer ends line faults = record {
   truncated = λ index e told. line ∙ ends.truncated index e told;
   undecided = ends.undecided;
   quiet = λ all not. faults ∙ ends.quiet all not;
+  decided = λ known. faults ∙ ends.decided known;
 }
 
 EndsSupply-kept : (from : RecordSupply) (tells : Tells) (d0 d d' : State) (bytes : List ℕ) (answer : Outcome) → EndsSupply from tells d0 d bytes answer
     → d'.line ≡ d.line → d'.line_faults ≡ d.line_faults → EndsSupply from tells d0 d' bytes answer
 EndsSupply-kept line_trace tells d0 d d' bytes answer ends line faults = EndsTrace-kept tells d0 d d' bytes answer ends line faults
 EndsSupply-kept (drawn_trace t seed frames) tells d0 d d' bytes answer ends line faults = ends
+
+-- where the trace on the line is decided, no fault of it was met
+decided_quiet : (from : RecordSupply) (tells : Tells) (d0 d d' : State) (bytes : List ℕ) (answer : Outcome) → EndsSupply from tells d0 d bytes answer
+    → d'.line_faults ≡ d.line_faults → from ≡ line_trace → IsDecided bytes → d'.line_faults ≡ d0.line_faults
+decided_quiet line_trace tells d0 d d' bytes answer ends faults line known = faults ∙ ends.decided known
+decided_quiet (drawn_trace t seed frames) tells d0 d d' bytes answer ends faults line known = absurd (cc)
 
 nothing_pulled : (from : RecordSupply) (tells : Tells) (d0 d : State) (bytes : List ℕ) (answer : Outcome) → EndsSupply from tells d0 d bytes answer
     → PullsNothing from bytes
@@ -527,5 +571,6 @@ module _ (from : RecordSupply) (tells : Tells) (past : SessionPast) (d0 d d' : S
                   let end = HasEnded-at tells p s b d d' whole.stands (ended (is_seq_end f e)) in
                   omega (arith, end.beyond, ap length parts, length-append a b);
               ends = EndsSupply-fault from tells d0 d' whole.pulled f only
-                  (nothing_pulled from tells d0 d whole.pulled answer whole.ends);
+                  (nothing_pulled from tells d0 d whole.pulled answer whole.ends)
+                  (decided_quiet from tells d0 d d' whole.pulled answer whole.ends wrote.line_faults);
             }

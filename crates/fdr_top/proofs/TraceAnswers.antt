@@ -1,5 +1,6 @@
 -- The answers to a trace on a line that is told.
-use Rattle.std.proofs.Common.{◌≡◌, ℕ, ◌+◌, ◌*◌, ◌≤◌, ◌⊎◌, inl, inr, ⊎_elim, true, false, List, [], ◌++◌, length, Option, Some, None, ap, sym, refl, ◌∙◌}
+use Rattle.std.proofs.Common.{◌≡◌, ◌≢◌, ℕ, ◌+◌, ◌*◌, ◌≤◌, ◌⊎◌, inl, inr, ⊎_elim, true, false, List, []}
+use Rattle.std.proofs.Common.{◌++◌, length, take, Option, Some, None, ap, sym, refl, ◌∙◌}
 use Rattle.std.proofs.Common.{eqb-true, length-append, arith}
 use Rattle.std.specs.Prelude.{IsTrue, ◌==◌, nat_lt}
 use Rattle.std.proofs.lemmas.Bool.{cases_Bool}
@@ -21,7 +22,11 @@ use Rattle.fdr_sampler.specs.Stream.{stream_of}
 use Rattle.fdr_top.specs.declared.outcome.Outcome.{Outcome}
 use Rattle.fdr_top.specs.declared.outcome.Outcome.TheVariants as outcome
 use Rattle.fdr_top.specs.Answers.{IsOwn}
-use Rattle.fdr_top.specs.Stream.{Streams}
+use Rattle.fdr_top.specs.Stages.{EndsReading}
+use Rattle.fdr_top.specs.Stream.{Streams, WritesStreamPart}
+use Rattle.fdr_top.specs.Streaming.{IsStreamedTo}
+use Rattle.fdr_stream.specs.Kept.{StreamKept}
+use Rattle.fdr_io.specs.Faults.{Rose}
 
 unfoldable pub answer_to : Option (ℕ × TraceFault) → Outcome
 answer_to None = outcome.Done
@@ -97,14 +102,14 @@ pub told_fault : (t : TableRows) (tells : Tells) (old new : State) (before now :
     → Streams t tells old new before now answer → answer ≡ outcome.TraceRefused index why → IsTrue tells.line →
     trace_fault old.line ≡ Some (index, why)
 told_fault t tells old new before now answer index why streams refused told =
-    refused_line tells old new streams.pulled index why streams.pulls (streams.refused index why refused)
-    (λ short. streams.truncated index (refused ∙ ap (outcome.TraceRefused index) short) told) told
+    refused_line tells old new streams.pulled index why streams.pulls (streams.ends.refused index why refused)
+    (λ short. streams.ends.truncated index (refused ∙ ap (outcome.TraceRefused index) short) told) told
 
 ended_line : (t : TableRows) (tells : Tells) (old new : State) (before now : Option (List ℕ)) (answer : Outcome)
     (streams : Streams t tells old new before now answer) → answer ≡ outcome.Done → IsTrue tells.line →
     good_prefix old.line ≡ good_prefix streams.pulled
 ended_line t tells old new before now answer streams done told =
-    ap good_prefix (streams.pulls.takes.line told) ∙ good_prefix-decided streams.pulled new.line (inl (streams.ended done))
+    ap good_prefix (streams.pulls.takes.line told) ∙ good_prefix-decided streams.pulled new.line (inl (streams.ends.ended done))
 
 -- the whole recording was written
 pub told_stream : (t : TableRows) (tells : Tells) (old new : State) (before now : Option (List ℕ)) (answer : Outcome)
@@ -122,7 +127,7 @@ pub fault_answered : (path : List ℕ) (t : TableRows) (tells : Tells) (old new 
 unfolding answer_to
 fault_answered path t tells old new before now outcome.Done index why streams own told first =
     absurd (ended_unrefused old.line index why
-    (ap has_end (ended_line t tells old new before now outcome.Done streams refl told) ∙ streams.ended refl) first)
+    (ap has_end (ended_line t tells old new before now outcome.Done streams refl told) ∙ streams.ends.ended refl) first)
 fault_answered path t tells old new before now (outcome.TraceRefused i w) index why streams own told first =
     let here = told_fault t tells old new before now (outcome.TraceRefused i w) i w streams refl told in
     let same : ◌≡◌ {A = Option (ℕ × TraceFault)} (Some (i, w)) (Some (index, why)) = sym here ∙ first in
@@ -141,3 +146,38 @@ stream_done path t tells old new before now (outcome.TraceRefused i w) streams o
 stream_done path t tells old new before now (outcome.ReadFault input.Line) streams own told ended line_quiet sink_quiet = absurd (line_quiet refl)
 stream_done path t tells old new before now outcome.WriteFault streams own told ended line_quiet sink_quiet = absurd (sink_quiet refl)
 stream_done path t tells old new before now answer streams own told ended line_quiet sink_quiet = absurd own
+
+-- where no pull failed, the records that were streamed are all good ones of the line
+pub streamed_all : (path : List ℕ) (t : TableRows) (tells : Tells) (old new : State) (k : StreamKept) (before now : Option (List ℕ)) (answer : Outcome)
+    (streamed : IsStreamedTo t tells old new k before now answer) → IsOwn (stream_line path) answer → IsTrue tells.line
+    → (Rose old.line_faults new.line_faults → ⊥) → good_prefix streamed.pulled ≡ good_prefix old.line
+streamed_all path t tells old new k before now outcome.Done streamed own told quiet =
+    sym (ap good_prefix (streamed.pulls.takes.line told) ∙ good_prefix-decided streamed.pulled new.line (inl (streamed.ended refl)))
+streamed_all path t tells old new k before now (outcome.TraceRefused index why) streamed own told quiet = sym (
+    ap good_prefix (streamed.pulls.takes.line told) ∙ ⊎_elim
+    (λ (short : why ≡ trace.Truncated). ap good_prefix (ap (λ (x : List ℕ). streamed.pulled ++ x)
+    (streamed.truncated index (ap (outcome.TraceRefused index) short) told) ∙ append-nil streamed.pulled))
+    (λ (decided : IsDecided streamed.pulled). good_prefix-decided streamed.pulled new.line decided)
+    (refused_decides streamed.pulled index why (streamed.refused index why refl)))
+streamed_all path t tells old new k before now (outcome.ReadFault input.Line) streamed own told quiet = absurd (quiet (streamed.cause refl))
+streamed_all path t tells old new k before now outcome.WriteFault streamed own told quiet = absurd (streamed.whole refl)
+streamed_all path t tells old new k before now answer streamed own told quiet = absurd own
+
+-- so what was written of their recording is a front part of that of the line
+pub streamed_part : (path : List ℕ) (t : TableRows) (tells : Tells) (old new : State) (k : StreamKept) (before middle now : Option (List ℕ)) (answer : Outcome)
+    (streamed : IsStreamedTo t tells old new k before middle answer) → IsTrue tells.line → (Rose old.line_faults new.line_faults → ⊥)
+    → (m : ℕ) × (now ≡ followed_by before (take m (stream_of t (good_prefix streamed.pulled)))) → WritesStreamPart t old before now
+streamed_part path t tells old new k before middle now answer streamed told quiet part = (
+  part.0,
+  part.1 ∙ ap (λ (x : List BusRecord). followed_by before (take part.0 (stream_of t x)))
+      (streamed_all path t tells old new k before middle answer streamed (streamed.own path) told quiet),
+)
+
+-- where all was written, the answer of a stream tells how the reading of its trace ended
+pub stream_reads : (path : List ℕ) (answer : Outcome) → IsOwn (stream_line path) answer → answer ≢ outcome.WriteFault → EndsReading answer
+stream_reads path outcome.Done own other = tt
+stream_reads path (outcome.TraceRefused index why) own other = tt
+stream_reads path (outcome.ReadFault input.Line) own other = tt
+stream_reads path (outcome.ReadFault input.Table) own other = absurd own
+stream_reads path outcome.WriteFault own other = absurd (other refl)
+stream_reads path answer own other = absurd own

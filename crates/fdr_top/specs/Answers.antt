@@ -1,60 +1,66 @@
 -- Which answers a command gives, and what they leave.
-use Rattle.std.specs.Prelude.{◌≡◌, ℕ, List, IsSome, Some}
+use Rattle.std.specs.Prelude.{◌≡◌, ◌⊎◌, Bool, true, false, IsSome}
 use Rattle.fdr_io.specs.declared.Input.TheVariants as input
 use Rattle.fdr_deck.specs.State.{State}
 use Rattle.fdr_table.specs.declared.fault.TableError.{TableError}
 use Rattle.fdr_table.specs.declared.fault.TableError.TheVariants as error
-use Rattle.fdr_words.specs.Forms.{Form, form_of, check_table, stream_line, list_bits, format_image, record_line}
-use Rattle.fdr_words.specs.Forms.{recover_image, list_image, drill_image, table_path}
+use Rattle.fdr_words.specs.Forms.{Form, command_uses, table_path}
+use Rattle.fdr_words.specs.Forms.{InputUse, takes_nothing, takes_trace, takes_bits, ImageUse, has_no_image, makes_image, records_in_image, reads_image}
+use Rattle.fdr_top.specs.Stages.{Stage, at_words, at_table, at_image, at_work, out_of_memory, stage_of}
 use Rattle.fdr_top.specs.declared.outcome.Outcome.{Outcome}
 use Rattle.fdr_top.specs.declared.outcome.Outcome.TheVariants as outcome
 
--- the words ask for the command of this form
-abbrev pub Asks : List (List ℕ) → Form → Type 0
-Asks words form = form_of words ≡ Some form
+-- a fact that a yes decides
+abbrev pub Yes : Bool → Type 0
+Yes true = Unit {0}
+Yes false = ⊥
 
--- the answers that reading the table gives
-abbrev pub IsOfTable : Outcome → Type 0
-IsOfTable (outcome.TableRefused row f) = Unit {0}
-IsOfTable (outcome.ReadFault input.Table) = Unit {0}
-IsOfTable outcome.NoMemory = Unit {0}
-IsOfTable answer = ⊥
+abbrev pub IsTraceTaken : InputUse → Type 0
+IsTraceTaken takes_nothing = ⊥
+IsTraceTaken takes_trace = Unit {0}
+IsTraceTaken takes_bits = ⊥
 
--- the answers that come once the words and the table are right, want of memory aside
-abbrev pub IsPastTable : Outcome → Type 0
-IsPastTable outcome.Usage = ⊥
-IsPastTable (outcome.TableRefused row f) = ⊥
-IsPastTable (outcome.ReadFault input.Table) = ⊥
-IsPastTable outcome.NoMemory = ⊥
-IsPastTable answer = Unit {0}
+abbrev pub AreBitsTaken : InputUse → Type 0
+AreBitsTaken takes_nothing = ⊥
+AreBitsTaken takes_trace = ⊥
+AreBitsTaken takes_bits = Unit {0}
 
--- the answers that come before the line is pulled, want of memory aside
-abbrev pub IsBeforeLine : Outcome → Type 0
-IsBeforeLine outcome.Usage = Unit {0}
-IsBeforeLine (outcome.TableRefused row f) = Unit {0}
-IsBeforeLine (outcome.ImageRefused why) = Unit {0}
-IsBeforeLine outcome.NotEmpty = Unit {0}
-IsBeforeLine (outcome.WordsDiffer image table) = Unit {0}
-IsBeforeLine (outcome.ReadFault input.Table) = Unit {0}
-IsBeforeLine answer = ⊥
+abbrev pub IsInputTaken : InputUse → Type 0
+IsInputTaken takes_nothing = ⊥
+IsInputTaken takes_trace = Unit {0}
+IsInputTaken takes_bits = Unit {0}
 
--- the answers before which the deck isn't asked for anything, want of memory aside
-abbrev pub EndsBeforeDeck : Outcome → Type 0
-EndsBeforeDeck outcome.Usage = Unit {0}
-EndsBeforeDeck (outcome.TableRefused row f) = Unit {0}
-EndsBeforeDeck (outcome.ReadFault input.Table) = Unit {0}
-EndsBeforeDeck answer = ⊥
+abbrev pub IsImageUsed : ImageUse → Type 0
+IsImageUsed has_no_image = ⊥
+IsImageUsed makes_image = Unit {0}
+IsImageUsed records_in_image = Unit {0}
+IsImageUsed reads_image = Unit {0}
 
--- the answers after which no device is changed and nothing is written
-abbrev pub WritesNothing : Outcome → Type 0
-WritesNothing outcome.Usage = Unit {0}
-WritesNothing (outcome.TableRefused row f) = Unit {0}
-WritesNothing (outcome.ImageRefused why) = Unit {0}
-WritesNothing outcome.NotEmpty = Unit {0}
-WritesNothing (outcome.WordsDiffer image table) = Unit {0}
-WritesNothing (outcome.ReadFault input.Table) = Unit {0}
-WritesNothing outcome.NoMemory = Unit {0}
-WritesNothing answer = ⊥
+abbrev pub IsImageMade : ImageUse → Type 0
+IsImageMade has_no_image = ⊥
+IsImageMade makes_image = Unit {0}
+IsImageMade records_in_image = ⊥
+IsImageMade reads_image = ⊥
+
+abbrev pub IsImageRecorded : ImageUse → Type 0
+IsImageRecorded has_no_image = ⊥
+IsImageRecorded makes_image = ⊥
+IsImageRecorded records_in_image = Unit {0}
+IsImageRecorded reads_image = ⊥
+
+-- the header of the image is read
+abbrev pub IsImageThere : ImageUse → Type 0
+IsImageThere has_no_image = ⊥
+IsImageThere makes_image = ⊥
+IsImageThere records_in_image = Unit {0}
+IsImageThere reads_image = Unit {0}
+
+-- the image is only read
+abbrev pub IsImageOnlyRead : ImageUse → Type 0
+IsImageOnlyRead has_no_image = ⊥
+IsImageOnlyRead makes_image = ⊥
+IsImageOnlyRead records_in_image = ⊥
+IsImageOnlyRead reads_image = Unit {0}
 
 -- the commands that read a table
 abbrev pub ReadsTable : Form → Type 0
@@ -62,113 +68,47 @@ ReadsTable form = IsSome (table_path form)
 
 -- the commands that have an image
 abbrev pub HasImage : Form → Type 0
-HasImage (check_table table) = ⊥
-HasImage (stream_line table) = ⊥
-HasImage (list_bits table) = ⊥
-HasImage (format_image table image slots payload) = Unit {0}
-HasImage (record_line table image) = Unit {0}
-HasImage (recover_image image) = Unit {0}
-HasImage (list_image table image) = Unit {0}
-HasImage (drill_image table image seed frames) = Unit {0}
+HasImage form = IsImageUsed (command_uses form).work
 
 -- the commands that pull a trace
 abbrev pub PullsTrace : Form → Type 0
-PullsTrace (check_table table) = ⊥
-PullsTrace (stream_line table) = Unit {0}
-PullsTrace (list_bits table) = ⊥
-PullsTrace (format_image table image slots payload) = ⊥
-PullsTrace (record_line table image) = Unit {0}
-PullsTrace (recover_image image) = ⊥
-PullsTrace (list_image table image) = ⊥
-PullsTrace (drill_image table image seed frames) = ⊥
+PullsTrace form = IsTraceTaken (command_uses form).input
 
--- the command that pulls the line to its end
+-- the commands that pull the line to its end
 abbrev pub PullsBits : Form → Type 0
-PullsBits (check_table table) = ⊥
-PullsBits (stream_line table) = ⊥
-PullsBits (list_bits table) = Unit {0}
-PullsBits (format_image table image slots payload) = ⊥
-PullsBits (record_line table image) = ⊥
-PullsBits (recover_image image) = ⊥
-PullsBits (list_image table image) = ⊥
-PullsBits (drill_image table image seed frames) = ⊥
+PullsBits form = AreBitsTaken (command_uses form).input
 
 -- the commands that pull the line
 abbrev pub PullsLine : Form → Type 0
-PullsLine (check_table table) = ⊥
-PullsLine (stream_line table) = Unit {0}
-PullsLine (list_bits table) = Unit {0}
-PullsLine (format_image table image slots payload) = ⊥
-PullsLine (record_line table image) = Unit {0}
-PullsLine (recover_image image) = ⊥
-PullsLine (list_image table image) = ⊥
-PullsLine (drill_image table image seed frames) = ⊥
+PullsLine form = IsInputTaken (command_uses form).input
 
 -- the commands that write to the sink
 abbrev pub WritesText : Form → Type 0
-WritesText (check_table table) = Unit {0}
-WritesText (stream_line table) = Unit {0}
-WritesText (list_bits table) = Unit {0}
-WritesText (format_image table image slots payload) = ⊥
-WritesText (record_line table image) = ⊥
-WritesText (recover_image image) = Unit {0}
-WritesText (list_image table image) = Unit {0}
-WritesText (drill_image table image seed frames) = Unit {0}
+WritesText form = Yes (command_uses form).text
 
--- the command that makes an image
+-- the commands that make an image
 abbrev pub MakesImage : Form → Type 0
-MakesImage (check_table table) = ⊥
-MakesImage (stream_line table) = ⊥
-MakesImage (list_bits table) = ⊥
-MakesImage (format_image table image slots payload) = Unit {0}
-MakesImage (record_line table image) = ⊥
-MakesImage (recover_image image) = ⊥
-MakesImage (list_image table image) = ⊥
-MakesImage (drill_image table image seed frames) = ⊥
+MakesImage form = IsImageMade (command_uses form).work
 
 -- the commands that record in an image
 abbrev pub RecordsImage : Form → Type 0
-RecordsImage (check_table table) = ⊥
-RecordsImage (stream_line table) = ⊥
-RecordsImage (list_bits table) = ⊥
-RecordsImage (format_image table image slots payload) = ⊥
-RecordsImage (record_line table image) = Unit {0}
-RecordsImage (recover_image image) = ⊥
-RecordsImage (list_image table image) = ⊥
-RecordsImage (drill_image table image seed frames) = Unit {0}
+RecordsImage form = IsImageRecorded (command_uses form).work
 
 -- the commands that read the header of an image
 abbrev pub ReadsImage : Form → Type 0
-ReadsImage (check_table table) = ⊥
-ReadsImage (stream_line table) = ⊥
-ReadsImage (list_bits table) = ⊥
-ReadsImage (format_image table image slots payload) = ⊥
-ReadsImage (record_line table image) = Unit {0}
-ReadsImage (recover_image image) = Unit {0}
-ReadsImage (list_image table image) = Unit {0}
-ReadsImage (drill_image table image seed frames) = Unit {0}
+ReadsImage form = IsImageThere (command_uses form).work
 
 -- the commands that read a table and the header of an image
 abbrev pub ReadsBoth : Form → Type 0
-ReadsBoth (check_table table) = ⊥
-ReadsBoth (stream_line table) = ⊥
-ReadsBoth (list_bits table) = ⊥
-ReadsBoth (format_image table image slots payload) = ⊥
-ReadsBoth (record_line table image) = Unit {0}
-ReadsBoth (recover_image image) = ⊥
-ReadsBoth (list_image table image) = Unit {0}
-ReadsBoth (drill_image table image seed frames) = Unit {0}
+ReadsBoth form = Yes (command_uses form).same_words
+
+-- the commands that list the blocks of an image by a table
+abbrev pub ListsBlocks : Form → Type 0
+ListsBlocks form = ReadsBoth form × IsImageOnlyRead (command_uses form).work
 
 -- the commands that use the deck
 abbrev pub UsesDeck : Form → Type 0
-UsesDeck (check_table table) = ⊥
-UsesDeck (stream_line table) = Unit {0}
-UsesDeck (list_bits table) = Unit {0}
-UsesDeck (format_image table image slots payload) = Unit {0}
-UsesDeck (record_line table image) = Unit {0}
-UsesDeck (recover_image image) = Unit {0}
-UsesDeck (list_image table image) = Unit {0}
-UsesDeck (drill_image table image seed frames) = Unit {0}
+UsesDeck form = HasImage form ⊎ PullsLine form
 
 -- which command may give an answer
 abbrev pub MayAnswer : Form → Outcome → Type 0
@@ -188,11 +128,15 @@ MayAnswer form outcome.TooLong = PullsBits form
 MayAnswer form outcome.NoMemory = Unit {0}
 
 -- an answer that a command gives once its words and its table are right, want of memory aside
+abbrev pub OwnAt : Stage → Type 0 → Type 0
+OwnAt at_words may = ⊥
+OwnAt at_table may = ⊥
+OwnAt at_image may = may
+OwnAt (at_work ending) may = may
+OwnAt out_of_memory may = ⊥
+
 abbrev pub IsOwn : Form → Outcome → Type 0
-IsOwn form (outcome.TableRefused row f) = ⊥
-IsOwn form (outcome.ReadFault input.Table) = ⊥
-IsOwn form outcome.NoMemory = ⊥
-IsOwn form answer = MayAnswer form answer
+IsOwn form answer = OwnAt (stage_of answer) (MayAnswer form answer)
 
 -- the line's state is as it was
 pub record KeepsLineAndFaults (old new : State) : Type 0 where

@@ -1,35 +1,76 @@
 -- What each command promises, by its form.
-use Rattle.std.specs.Prelude.{ℕ, List, Option}
-use Rattle.fdr_deck.specs.State.{State, Tells}
+use Rattle.std.specs.Prelude.{◌≡◌, ◌≢◌, ◌⊎◌, ◌+◌, ℕ, List, Option, Some, None}
+use Rattle.fdr_io.specs.Faults.{Rose}
+use Rattle.fdr_io.specs.declared.Input.TheVariants as input
+use Rattle.fdr_table.specs.Bounds.{most_table_bytes}
 use Rattle.fdr_table.specs.Rows.{TableRows}
 use Rattle.fdr_words.specs.Forms.{Form, check_table, stream_line, list_bits, format_image, record_line, recover_image, list_image, drill_image}
-use Rattle.fdr_top.specs.Answers.{IsPastTable}
+use Rattle.fdr_words.specs.Forms.{table_path}
+use Rattle.fdr_top.specs.Stages.{IsPastTable, WritesNothing}
+use Rattle.fdr_top.specs.Answers.{IsOwn, MayAnswer, ReadsTable}
 use Rattle.fdr_top.specs.Check.{Reports}
+use Rattle.fdr_top.specs.Complete.{IsFaultless, IsFaultlessWork, IsWholeInput, IsWholeWork}
 use Rattle.fdr_top.specs.Drill.{DrillsImage}
 use Rattle.fdr_top.specs.Format.{Makes, new_header}
+use Rattle.fdr_top.specs.Leaves.{HasCause, LeavesAll, LeavesUnused, PassesOverNoFault}
+use Rattle.fdr_top.specs.Limits.{TakesAtMost, piece_bytes}
 use Rattle.fdr_top.specs.List.{ListsImage}
 use Rattle.fdr_top.specs.Listbits.{ListsLine}
 use Rattle.fdr_top.specs.Record.{RecordsLine}
 use Rattle.fdr_top.specs.Recover.{RecoversImage}
+use Rattle.fdr_top.specs.Runs.{CommandRun, WorkRun}
 use Rattle.fdr_top.specs.Stream.{StreamsLine}
-use Rattle.fdr_top.specs.Tables.{ByTable}
-use Rattle.fdr_top.specs.declared.outcome.Outcome.{Outcome}
+use Rattle.fdr_top.specs.Tables.{ByTable, ReadsItsTable}
+use Rattle.fdr_top.specs.declared.outcome.Outcome.TheVariants as outcome
 
--- What the command of a form does: the bytes that the table's source had left, what the deck tells and its states before and
--- after, what was written to the sink before and after, and the answer.
-abbrev pub CarriesOut : Form → Option (List ℕ) → Tells → State → State → Option (List ℕ) → Option (List ℕ) → Outcome → Type 0
-CarriesOut (check_table path) rest tells old new before now answer =
-    IsPastTable answer → ByTable rest (λ (t : TableRows). Reports t before now answer)
-CarriesOut (stream_line path) rest tells old new before now answer =
-    IsPastTable answer → ByTable rest (λ (t : TableRows). StreamsLine t tells old new before now answer)
-CarriesOut (list_bits path) rest tells old new before now answer =
-    IsPastTable answer → ByTable rest (λ (t : TableRows). ListsLine t tells old new before now answer)
-CarriesOut (format_image path image slots payload) rest tells old new before now answer =
-    ByTable rest (λ (t : TableRows). Makes (new_header slots payload t.frame.words) tells old new answer)
-CarriesOut (record_line path image) rest tells old new before now answer =
-    ByTable rest (λ (t : TableRows). RecordsLine t tells old new answer)
-CarriesOut (recover_image image) rest tells old new before now answer = RecoversImage tells old new before now answer
-CarriesOut (list_image path image) rest tells old new before now answer =
-    ByTable rest (λ (t : TableRows). ListsImage t tells old new before now answer)
-CarriesOut (drill_image path image seed frames) rest tells old new before now answer =
-    ByTable rest (λ (t : TableRows). DrillsImage t seed frames tells old new before now answer)
+-- what the work of the command of a form does by a table
+abbrev pub DoesWork : Form → TableRows → WorkRun → Type 0
+DoesWork (check_table path) t r = IsPastTable r.answer → Reports t r.written_before r.written_now r.answer
+DoesWork (stream_line path) t r = IsPastTable r.answer → StreamsLine t r.tells r.old r.new r.written_before r.written_now r.answer
+DoesWork (list_bits path) t r = IsPastTable r.answer → ListsLine t r.tells r.old r.new r.written_before r.written_now r.answer
+DoesWork (format_image path image slots payload) t r = Makes (new_header slots payload t.frame.words) r.tells r.old r.new r.answer
+DoesWork (record_line path image) t r = RecordsLine t r.tells r.old r.new r.answer
+DoesWork (recover_image image) t r = RecoversImage r.tells r.old r.new r.written_before r.written_now r.answer
+DoesWork (list_image path image) t r = ListsImage t r.tells r.old r.new r.written_before r.written_now r.answer
+DoesWork (drill_image path image seed frames) t r =
+    DrillsImage t seed frames r.tells r.old r.new r.written_before r.written_now r.answer
+
+-- this holds by the table that a form's command read, or by any where the command reads none
+abbrev pub ByItsTable : Option (List ℕ) → Option (List ℕ) → (TableRows → Type 0) → Type 0
+ByItsTable (Some path) rest P = ByTable rest P
+ByItsTable None rest P = (t : TableRows) → P t
+
+-- what the command of a form does
+abbrev pub CarriesOut : Form → CommandRun → Type 0
+CarriesOut form r = ByItsTable (table_path form) r.rest_before (λ (t : TableRows). DoesWork form t r.work)
+
+-- What is promised of the work of a form's command by a sound table.
+pub record Works (form : Form) (t : TableRows) (r : WorkRun) : Type 0 where
+  pub answer : (r.answer ≡ outcome.NoMemory) ⊎ IsOwn form r.answer
+  pub refusal : WritesNothing r.answer → LeavesAll r
+  pub unused : LeavesUnused form r
+  pub causes : HasCause r
+  pub no_fault_passed_over : PassesOverNoFault form r
+  pub does : DoesWork form t r
+  -- Where what it needs is whole and nothing fails, all is done, or memory ended.
+  pub complete : IsWholeWork form t r.tells r.old → IsFaultlessWork form r → (r.answer ≡ outcome.Done) ⊎ (r.answer ≡ outcome.NoMemory)
+
+-- What is promised of the command of a form.
+pub record RunsCommand (form : Form) (r : CommandRun) : Type 0 where
+  -- It gives only answers that are its own.
+  pub answers : MayAnswer form r.work.answer
+  -- The table, where it reads one.
+  pub table : ReadsTable form → ReadsItsTable r.rest_before r.rest_now r.work.answer
+  pub bounded : TakesAtMost (most_table_bytes + piece_bytes) r.rest_before r.rest_now
+  -- What a refusal leaves, what the command doesn't use, and what was counted where a fault is answered, and where it isn't.
+  pub refusal : WritesNothing r.work.answer → LeavesAll r.work
+  pub unused : LeavesUnused form r.work
+  pub table_cause : r.work.answer ≡ outcome.ReadFault input.Table → Rose r.table_before r.table_now
+  pub table_quiet : r.work.answer ≢ outcome.ReadFault input.Table → r.table_now ≡ r.table_before
+  pub causes : HasCause r.work
+  pub no_fault_passed_over : PassesOverNoFault form r.work
+  -- What it does.
+  pub carries_out : CarriesOut form r
+  -- A table that is accepted, an input that is whole and no fault: all is done, or memory ended.
+  pub complete : IsWholeInput form r.rest_before r.work.tells r.work.old → IsFaultless form r
+      → (r.work.answer ≡ outcome.Done) ⊎ (r.work.answer ≡ outcome.NoMemory)

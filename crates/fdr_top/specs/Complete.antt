@@ -6,6 +6,9 @@ use Rattle.fdr_bus.specs.Records.{good_prefix, has_end}
 use Rattle.fdr_deck.specs.State.{State, Tells}
 use Rattle.fdr_recover.specs.ImageHeader.{image_fault_of}
 use Rattle.fdr_words.specs.Forms.{Form, check_table, stream_line, list_bits, format_image, record_line, recover_image, list_image, drill_image}
+use Rattle.fdr_words.specs.Forms.{table_path}
+use Rattle.fdr_top.specs.Answers.{HasImage, PullsLine, ReadsTable, WritesText}
+use Rattle.fdr_top.specs.Runs.{CommandRun, WorkRun}
 use Rattle.fdr_top.specs.Limits.{most_line_bytes}
 use Rattle.fdr_gen.specs.Trace.{generated_trace}
 use Rattle.fdr_table.specs.Rows.{TableRows}
@@ -22,38 +25,38 @@ pub record HasRoom (t : TableRows) (d : State) (records : List BusRecord) : Type
   pub image : IsFor t.frame.words d.held
   pub numbers : next_in d.held + length (new_blocks t d.held records) ≤ 2 ^ 48
 
+-- what the work of the command of a form needs is whole, where it is done by this table
+abbrev pub IsWholeWork : Form → TableRows → Tells → State → Type 0
+IsWholeWork (check_table path) t tells d = Unit {0}
+IsWholeWork (stream_line path) t tells d = IsTrue tells.line × (has_end (good_prefix d.line) ≡ true)
+IsWholeWork (list_bits path) t tells d = IsTrue tells.line × (length d.line ≤ most_line_bytes)
+IsWholeWork (format_image path image slots payload) t tells d = IsTrue tells.bytes × (d.extent ≡ 0)
+IsWholeWork (record_line path image) t tells d =
+    IsTrue tells.line × (has_end (good_prefix d.line) ≡ true) × IsTrue tells.bytes × HasRoom t d (good_prefix d.line)
+IsWholeWork (recover_image image) t tells d = IsTrue tells.bytes × (image_fault_of d.held ≡ None)
+IsWholeWork (list_image path image) t tells d = IsTrue tells.bytes × IsFor t.frame.words d.held
+IsWholeWork (drill_image path image seed frames) t tells d = IsTrue tells.bytes × HasRoom t d (generated_trace t seed frames)
+
+-- the table of a form's command is told and accepted, and this holds by it, or by any table where the command reads none
+abbrev pub ByAccepted : Option (List ℕ) → Option (List ℕ) → (TableRows → Type 0) → Type 0
+ByAccepted (Some path) rest P = (accepted : TellsAccepted rest) × P (table_in accepted.0)
+ByAccepted None rest P = (t : TableRows) → P t
+
 -- the input of the command of a form is whole
 abbrev pub IsWholeInput : Form → Option (List ℕ) → Tells → State → Type 0
-IsWholeInput (check_table path) rest tells d = TellsAccepted rest
-IsWholeInput (stream_line path) rest tells d = TellsAccepted rest × IsTrue tells.line × (has_end (good_prefix d.line) ≡ true)
-IsWholeInput (list_bits path) rest tells d = TellsAccepted rest × IsTrue tells.line × (length d.line ≤ most_line_bytes)
-IsWholeInput (format_image path image slots payload) rest tells d = TellsAccepted rest × IsTrue tells.bytes × (d.extent ≡ 0)
-IsWholeInput (record_line path image) rest tells d = (accepted : TellsAccepted rest) × IsTrue tells.line
-    × (has_end (good_prefix d.line) ≡ true) × IsTrue tells.bytes × HasRoom (table_in accepted.0) d (good_prefix d.line)
-IsWholeInput (recover_image image) rest tells d = IsTrue tells.bytes × (image_fault_of d.held ≡ None)
-IsWholeInput (list_image path image) rest tells d = (accepted : TellsAccepted rest) × IsTrue tells.bytes
-    × IsFor (table_in accepted.0).frame.words d.held
-IsWholeInput (drill_image path image seed frames) rest tells d = (accepted : TellsAccepted rest) × IsTrue tells.bytes
-    × HasRoom (table_in accepted.0) d (generated_trace (table_in accepted.0) seed frames)
+IsWholeInput form rest tells d = ByAccepted (table_path form) rest (λ (t : TableRows). IsWholeWork form t tells d)
 
 -- no fault was counted
 abbrev pub IsQuietCount : ℕ → ℕ → Type 0
 IsQuietCount before now = Rose before now → ⊥
 
--- of what the command of a form uses, nothing failed: counts of the table's source, states of the deck, counts of the sink
-abbrev pub IsFaultless : Form → ℕ → ℕ → State → State → ℕ → ℕ → Type 0
-IsFaultless (check_table path) t u old new s v = IsQuietCount t u × IsQuietCount s v
-IsFaultless (stream_line path) t u old new s v =
-    IsQuietCount t u × IsQuietCount old.line_faults new.line_faults × IsQuietCount s v
-IsFaultless (list_bits path) t u old new s v =
-    IsQuietCount t u × IsQuietCount old.line_faults new.line_faults × IsQuietCount s v
-IsFaultless (format_image path image slots payload) t u old new s v =
-    IsQuietCount t u × IsQuietCount old.disk_faults new.disk_faults
-IsFaultless (record_line path image) t u old new s v =
-    IsQuietCount t u × IsQuietCount old.line_faults new.line_faults × IsQuietCount old.disk_faults new.disk_faults
-IsFaultless (recover_image image) t u old new s v =
-    IsQuietCount old.disk_faults new.disk_faults × IsQuietCount s v
-IsFaultless (list_image path image) t u old new s v =
-    IsQuietCount t u × IsQuietCount old.disk_faults new.disk_faults × IsQuietCount s v
-IsFaultless (drill_image path image seed frames) t u old new s v =
-    IsQuietCount t u × IsQuietCount old.disk_faults new.disk_faults × IsQuietCount s v
+-- of what the work of a form's command uses, nothing failed
+pub record IsFaultlessWork (form : Form) (r : WorkRun) : Type 0 where
+  pub line : PullsLine form → IsQuietCount r.old.line_faults r.new.line_faults
+  pub disk : HasImage form → IsQuietCount r.old.disk_faults r.new.disk_faults
+  pub sink : WritesText form → IsQuietCount r.sink_before r.sink_now
+
+-- of what a form's command uses, nothing failed
+pub record IsFaultless (form : Form) (r : CommandRun) : Type 0 where
+  pub table : ReadsTable form → IsQuietCount r.table_before r.table_now
+  pub work : IsFaultlessWork form r.work

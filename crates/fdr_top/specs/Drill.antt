@@ -6,8 +6,8 @@ use Rattle.fdr_gen.specs.Trace.{generated_trace}
 use Rattle.fdr_table.specs.Rows.{TableRows}
 use Rattle.fdr_readout.specs.Summary.{summary_of}
 use Rattle.fdr_readout.specs.declared.tally.Summary.{Summary}
-use Rattle.fdr_top.specs.Answers.{IsPastTable}
-use Rattle.fdr_top.specs.Record.{ListsSurvivors, ListsUndamaged, RecordsAll, RecordsBlocks, new_blocks}
+use Rattle.fdr_top.specs.Stages.{EndsRecording, IsPastTable}
+use Rattle.fdr_top.specs.Record.{ListsSurvivors, ListsUndamaged, RecordsBlocks, new_blocks}
 use Rattle.fdr_top.specs.Recover.{payloads_of, run_in}
 use Rattle.fdr_top.specs.declared.outcome.Outcome.{Outcome}
 use Rattle.fdr_top.specs.declared.outcome.Outcome.TheVariants as outcome
@@ -36,4 +36,4 @@ pub record DrillsImage (t : TableRows) (seed frames : ℕ) (tells : Tells) (old 
       (take k (drill_line t (length (new_blocks t old.held (generated_trace t seed frames))) new.held)))
   pub silent : answer ≢ outcome.Done → answer ≢ outcome.WriteFault → written_now ≡ written_before
   pub survives : IsPastTable answer → ListsSurvivors t (generated_trace t seed frames)
-  pub undamaged : RecordsAll answer → ListsUndamaged t tells (generated_trace t seed frames) old new
+  pub undamaged : EndsRecording answer → ListsUndamaged t tells (generated_trace t seed frames) old new

@@ -7,7 +7,7 @@ use Rattle.fdr_deck.specs.Disk.{IsSettled, KeepsDisk, LearnsExtent}
 use Rattle.fdr_slot.specs.declared.image.Header.{Header}
 use Rattle.fdr_slot.specs.Places.{image_size}
 use Rattle.fdr_ring.specs.Formatting.{IsFormatted, Making, fresh_image}
-use Rattle.fdr_top.specs.Answers.{IsPastTable}
+use Rattle.fdr_top.specs.Stages.{IsPastTable}
 use Rattle.fdr_top.specs.declared.outcome.Outcome.{Outcome}
 use Rattle.fdr_top.specs.declared.outcome.Outcome.TheVariants as outcome
 

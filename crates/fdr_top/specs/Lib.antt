@@ -1,8 +1,11 @@
 pub mod Outcome
 pub mod Limits
 pub mod Tables
+pub mod Stages
 pub mod Answers
+pub mod Runs
 pub mod Refusals
+pub mod Traces
 pub mod Lag
 pub mod Streaming
 pub mod Check

@@ -36,9 +36,17 @@ pub record IsOpened (t : TableRows) (tells : Tells) (old new : State) (r : Image
   pub fresh : ReadsEvents t r.events (decided_past t.frame.words [])
 
 -- the answers where no image is opened
-abbrev pub KeepsShut : Outcome → Type 0
-KeepsShut (outcome.ImageRefused why) = Unit {0}
-KeepsShut (outcome.WordsDiffer image table) = Unit {0}
-KeepsShut outcome.DiskFault = Unit {0}
-KeepsShut outcome.NoMemory = Unit {0}
-KeepsShut answer = ⊥
+abbrev pub RefusesOpening : Outcome → Type 0
+RefusesOpening outcome.Done = ⊥
+RefusesOpening outcome.Usage = ⊥
+RefusesOpening (outcome.TableRefused row f) = ⊥
+RefusesOpening (outcome.TraceRefused index why) = ⊥
+RefusesOpening (outcome.ImageRefused why) = Unit {0}
+RefusesOpening outcome.NotEmpty = ⊥
+RefusesOpening (outcome.WordsDiffer image table) = Unit {0}
+RefusesOpening outcome.SeqEnd = ⊥
+RefusesOpening (outcome.ReadFault i) = ⊥
+RefusesOpening outcome.WriteFault = ⊥
+RefusesOpening outcome.DiskFault = Unit {0}
+RefusesOpening outcome.TooLong = ⊥
+RefusesOpening outcome.NoMemory = Unit {0}

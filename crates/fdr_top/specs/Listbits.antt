@@ -1,5 +1,6 @@
 -- What `listbits` promises: the listing of all bits of the line.
 use Rattle.std.specs.Prelude.{◌≡◌, ◌≢◌, ℕ, ◌+◌, ◌-◌, ◌<◌, ◌≤◌, ◌⊎◌, List, [], length, take, Option, IsTrue}
+use Rattle.fdr_io.specs.Faults.{Rose}
 use Rattle.fdr_io.specs.Told.{followed_by}
 use Rattle.fdr_io.specs.declared.Input.TheVariants as input
 use Rattle.fdr_deck.specs.State.{State, Tells}
@@ -28,6 +29,7 @@ pub record LastPull (old new : State) : Type 0 where
 pub record PullsPieces (tells : Tells) (old new : State) (pulled : List ℕ) : Type 0 where
   pub takes : TakesLine tells old new pulled
   pub last : 0 < length pulled → LastPull old new
+  pub begun_within_limit : 0 < length pulled → new.before ≤ old.taken + most_line_bytes
   pub bounded : length pulled ≤ most_line_bytes + piece_bytes
 
 -- what an end says of the bytes that were pulled
@@ -56,6 +58,8 @@ pub record Lists (t : TableRows) (tells : Tells) (old new : State) (written_befo
   pub text : answer ≢ outcome.WriteFault → written_now ≡ followed_by written_before (listing_of t (take most_line_bytes pulled))
   pub part : WritesPart t pulled written_before written_now
   pub last : 0 < length pulled → LastPull old new
+  -- no pull that gave bytes began once more had been pulled than are listed
+  pub begun_within_limit : 0 < length pulled → new.before ≤ old.taken + most_line_bytes
   pub in_time : answer ≡ outcome.WriteFault → HasWrittenDecided t old new pulled written_before written_now
   pub done_within_limit : answer ≡ outcome.Done → length pulled ≤ most_line_bytes
   pub fault_within_limit : answer ≡ outcome.ReadFault input.Line → length pulled ≤ most_line_bytes
@@ -67,5 +71,7 @@ pub record Lists (t : TableRows) (tells : Tells) (old new : State) (written_befo
 pub record ListsLine (t : TableRows) (tells : Tells) (old new : State) (written_before written_now : Option (List ℕ)) (answer : Outcome) : Type 0 where
   pub lists : Lists t tells old new written_before written_now answer
   pub whole : answer ≡ outcome.Done → IsTrue tells.line → written_now ≡ followed_by written_before (listing_of t old.line)
+  -- where no pull failed, nothing was written that isn't in the listing of all of the line that is listed
+  pub part_of_whole : IsTrue tells.line → (Rose old.line_faults new.line_faults → ⊥) → WritesPart t old.line written_before written_now
   pub too_long : answer ≡ outcome.TooLong → old.taken + most_line_bytes < new.taken
   pub too_long_always : old.taken + most_line_bytes < new.taken → (answer ≡ outcome.TooLong) ⊎ (answer ≡ outcome.WriteFault)

@@ -1,10 +1,10 @@
 -- What `record` promises: the blocks of a trace in an image, at every moment and in the end.
-use Rattle.std.specs.Prelude.{◌≡◌, ◌≢◌, ◌⊎◌, ◌<◌, ◌≤◌, ℕ, ◌+◌, ◌-◌, ◌^◌, max, true, List, [], ◌++◌, length, take, Some, IsTrue}
+use Rattle.std.specs.Prelude.{◌≡◌, ◌⊎◌, ◌<◌, ◌≤◌, ℕ, ◌+◌, ◌-◌, ◌^◌, max, List, [], ◌++◌, length, take, Some, IsTrue}
 use Rattle.fdr_io.specs.declared.Input.TheVariants as input
 use Rattle.fdr_bus.specs.declared.BusRecord.{BusRecord}
 use Rattle.fdr_bus.specs.declared.TraceFault.{TraceFault}
 use Rattle.fdr_bus.specs.declared.TraceFault.TheVariants as trace
-use Rattle.fdr_bus.specs.Records.{IsDecided, good_prefix, has_end, trace_fault}
+use Rattle.fdr_bus.specs.Records.{good_prefix, trace_fault}
 use Rattle.fdr_deck.specs.State.{Moment, State, Tells}
 use Rattle.fdr_deck.specs.Disk.{IsSettled}
 use Rattle.fdr_deck.specs.Moments.{Elapses, EachMoment}
@@ -22,8 +22,9 @@ use Rattle.fdr_recorder.specs.Recording.{IsClose, IsReady}
 use Rattle.fdr_recorder.specs.Starting.{IsFor}
 use Rattle.fdr_recorder.specs.declared.error.SessionFault.{SessionFault}
 use Rattle.fdr_recorder.specs.declared.error.SessionFault.TheVariants as session
-use Rattle.fdr_top.specs.Answers.{IsPastTable}
+use Rattle.fdr_top.specs.Stages.{EndsReading, EndsRecording, IsPastTable}
 use Rattle.fdr_top.specs.Refusals.{RefusesImage}
+use Rattle.fdr_top.specs.Traces.{EndsTrace}
 use Rattle.fdr_top.specs.Lag.{IsLagMoment}
 use Rattle.fdr_readout.specs.Listing.{listing_of}
 use Rattle.fdr_readout.specs.SampledRows.{sampled_listing}
@@ -75,44 +76,21 @@ pub record AreRecorded (tells : Tells) (blocks : List Block) (old new : State) :
   pub told : new.told ≡ next_in old.held + length blocks
   pub settled : IsTrue tells.stops → IsSettled new
 
--- the answers that tell how the reading of a trace ended
-abbrev pub EndsReading : Outcome → Type 0
-EndsReading outcome.Done = Unit {0}
-EndsReading (outcome.TraceRefused index why) = Unit {0}
-EndsReading (outcome.ReadFault input.Line) = Unit {0}
-EndsReading answer = ⊥
-
--- the answers after which all of a trace is recorded that there was to record; a drill's line alone can fail to be written
-abbrev pub RecordsAll : Outcome → Type 0
-RecordsAll outcome.Done = Unit {0}
-RecordsAll (outcome.TraceRefused index why) = Unit {0}
-RecordsAll (outcome.ReadFault input.Line) = Unit {0}
-RecordsAll outcome.WriteFault = Unit {0}
-RecordsAll answer = ⊥
-
--- the answers that cut a recording short
-abbrev pub CutsShort : Outcome → Type 0
-CutsShort outcome.DiskFault = Unit {0}
-CutsShort outcome.SeqEnd = Unit {0}
-CutsShort answer = ⊥
-
 -- the answers where a session is refused
 abbrev pub RefusesSession : Outcome → Type 0
+RefusesSession outcome.Done = ⊥
+RefusesSession outcome.Usage = ⊥
+RefusesSession (outcome.TableRefused row f) = ⊥
+RefusesSession (outcome.TraceRefused index why) = ⊥
 RefusesSession (outcome.ImageRefused why) = Unit {0}
+RefusesSession outcome.NotEmpty = ⊥
 RefusesSession (outcome.WordsDiffer image table) = Unit {0}
-RefusesSession outcome.DiskFault = Unit {0}
 RefusesSession outcome.SeqEnd = Unit {0}
+RefusesSession (outcome.ReadFault i) = ⊥
+RefusesSession outcome.WriteFault = ⊥
+RefusesSession outcome.DiskFault = Unit {0}
+RefusesSession outcome.TooLong = ⊥
 RefusesSession outcome.NoMemory = Unit {0}
-RefusesSession answer = ⊥
-
--- how a trace ended, of which these bytes were pulled, by the answer
-pub record EndsTrace (tells : Tells) (old new : State) (pulled : List ℕ) (answer : Outcome) : Type 0 where
-  pub ended : answer ≡ outcome.Done → has_end (good_prefix pulled) ≡ true
-  pub refused : (index : ℕ) (why : TraceFault) → answer ≡ outcome.TraceRefused index why
-      → trace_fault pulled ≡ Some (index, why)
-  pub truncated : (index : ℕ) → answer ≡ outcome.TraceRefused index trace.Truncated → IsTrue tells.line → new.line ≡ []
-  pub undecided : answer ≡ outcome.ReadFault input.Line → IsDecided pulled → ⊥
-  pub quiet : EndsReading answer → answer ≢ outcome.ReadFault input.Line → new.line_faults ≡ old.line_faults
 
 -- Blocks of these records were recorded: what a stop leaves at each moment, what stands in the end, and which refusal is
 -- answered.
@@ -123,17 +101,17 @@ pub record RecordsBlocks (t : TableRows) (tells : Tells) (records : List BusReco
   -- So many recordings one after another wear nothing away: the run at entry may be the last blocks of any list.
   pub chain : (whole : List Block) → IsTail ((header_in old.held).slots - 2) whole (run_in old.held) → MayRecord old
       → EachMoment tells old new (λ (m : Moment). KeepsBehind (header_in old.held) whole (new_blocks t old.held records) m.image)
-  pub recorded : RecordsAll answer → IsTrue tells.bytes → AreRecorded tells (new_blocks t old.held records) old new
-  pub within : RecordsAll answer → IsTrue tells.bytes → next_in old.held + length (new_blocks t old.held records) ≤ 2 ^ 48
+  pub recorded : EndsRecording answer → IsTrue tells.bytes → AreRecorded tells (new_blocks t old.held records) old new
+  pub within : EndsRecording answer → IsTrue tells.bytes → next_in old.held + length (new_blocks t old.held records) ≤ 2 ^ 48
   -- A further recording may follow at once, and at most one recorded block isn't announced by what may stand announced now.
-  pub ready : RecordsAll answer → IsTrue tells.stops → MayRecord old → MayRecord new
-  pub near : RecordsAll answer → IsTrue tells.bytes → MayRecord old
+  pub ready : EndsRecording answer → IsTrue tells.stops → MayRecord old → MayRecord new
+  pub near : EndsRecording answer → IsTrue tells.bytes → MayRecord old
       → next_in old.held + length (new_blocks t old.held records) ≤ max (next_in old.held) new.least + 1
   pub seq_end : answer ≡ outcome.SeqEnd → IsTrue tells.bytes
       → AreRecorded tells (take (2 ^ 48 - next_in old.held) (new_blocks t old.held records)) old new
   pub beyond : answer ≡ outcome.SeqEnd → IsTrue tells.bytes
       → 2 ^ 48 < next_in old.held + length (new_blocks t old.held records)
-  pub good : RecordsAll answer ⊎ (answer ≡ outcome.SeqEnd) → IsTrue tells.bytes → IsFor t.frame.words old.held
+  pub good : EndsRecording answer ⊎ (answer ≡ outcome.SeqEnd) → IsTrue tells.bytes → IsFor t.frame.words old.held
   pub image : RefusesImage t tells old new answer
 
 -- Frames of a recording of these records that survive in any bits at all are listed from them.
@@ -162,4 +140,4 @@ pub record RecordsLine (t : TableRows) (tells : Tells) (old new : State) (answer
       → trace_fault old.line ≡ Some (index, why)
       → (answer ≡ outcome.TraceRefused index why) ⊎ (answer ≡ outcome.ReadFault input.Line)
   pub survives : IsPastTable answer → ListsSurvivors t (good_prefix pulled)
-  pub undamaged : RecordsAll answer → ListsUndamaged t tells (good_prefix pulled) old new
+  pub undamaged : EndsRecording answer → ListsUndamaged t tells (good_prefix pulled) old new

@@ -16,7 +16,8 @@ use Rattle.fdr_recorder.specs.Past.{SessionPast, RepresentsSession, all_blocks, 
 use Rattle.fdr_recorder.specs.Recording.{HasRecorded, IsClose}
 use Rattle.fdr_recorder.specs.declared.session.Session.{Session}
 use Rattle.fdr_top.specs.Lag.{IsLagMoment, KeepsUp}
-use Rattle.fdr_top.specs.Record.{EndsReading, MayRecord, RecordsBlocks, next_in, owed}
+use Rattle.fdr_top.specs.Stages.{EndsReading}
+use Rattle.fdr_top.specs.Record.{MayRecord, RecordsBlocks, next_in, owed}
 use Rattle.fdr_top.specs.Supply.{RecordSupply, EndsSupply, RepresentsSupply, supplied}
 use Rattle.fdr_top.specs.declared.outcome.Outcome.{Outcome}
 use Rattle.fdr_top.specs.declared.outcome.Outcome.TheVariants as outcome

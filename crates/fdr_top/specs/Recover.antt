@@ -1,5 +1,5 @@
 -- What `recover` promises: the payloads of the recovered run of what the disk holds.
-use Rattle.std.specs.Prelude.{◌≡◌, ℕ, ◌+◌, ◌<◌, ◌↔◌, ◌≢◌, ◌⊎◌, List, Option, Some, None, IsTrue, length, take}
+use Rattle.std.specs.Prelude.{◌≡◌, ℕ, ◌+◌, ◌<◌, ◌≤◌, ◌↔◌, List, Option, Some, None, IsTrue, length, take}
 use Rattle.std.specs.List.{flat_map}
 use Rattle.fdr_io.specs.Faults.{Rose}
 use Rattle.fdr_io.specs.Told.{followed_by}
@@ -14,6 +14,7 @@ use Rattle.fdr_recover.specs.Images.{recovered_run, next_of, IsNextNumber, IsRec
 use Rattle.fdr_recover.specs.declared.error.RingFault.{RingFault}
 use Rattle.fdr_recover.specs.declared.error.RingFault.TheVariants as ring
 use Rattle.fdr_recover.specs.ImageHeader.{image_fault_of, header_in}
+use Rattle.fdr_top.specs.Refusals.{RefusesHeader}
 use Rattle.fdr_top.specs.declared.outcome.Outcome.{Outcome}
 use Rattle.fdr_top.specs.declared.outcome.Outcome.TheVariants as outcome
 
@@ -24,6 +25,12 @@ payloads_of blocks = flat_map (λ (b : Block). b.payload) blocks
 -- the recovered run of an image, by its own header
 abbrev pub run_in : List ℕ → List Block
 run_in image = recovered_run (header_in image) image
+
+-- The run of an image is the longest list of blocks that stand in it with consecutive numbers up to the greatest, and no other
+-- list is.
+pub record HasOneRun (image : List ℕ) : Type 0 where
+  pub recovered : IsRecovered (header_in image) image (run_in image)
+  pub only : (run : List Block) → IsRecovered (header_in image) image run → run ≡ run_in image
 
 -- The blocks from the first number to the next one are the recovered run.
 pub record IsFoundRun (h : Header) (image : List ℕ) (first next : ℕ) : Type 0 where
@@ -54,6 +61,7 @@ pub record Recovers (tells : Tells) (old new : State) (written_before written_no
   pub part : IsTrue tells.bytes → (k : ℕ) × (written_now ≡ followed_by written_before (take k (payloads_of (run_in old.held))))
   pub refused : (why : ImageFault) → answer ≡ outcome.ImageRefused why → IsTrue tells.bytes → image_fault_of old.held ≡ Some why
   pub small : (why : ImageFault) → answer ≡ outcome.ImageRefused why → (why ≡ fault.Small) ↔ (new.extent < 64)
+  pub long : (answer ≡ outcome.DiskFault → ⊥) → ((why : ImageFault) → answer ≡ outcome.ImageRefused why → ⊥) → 64 ≤ new.extent
   pub cause : answer ≡ outcome.DiskFault → Rose old.disk_faults new.disk_faults
 
 -- The image was recovered: what was written, and which refusal is answered.
@@ -62,7 +70,4 @@ pub record RecoversImage (tells : Tells) (old new : State) (written_before writt
   pub all : answer ≡ outcome.Done → IsTrue tells.bytes → written_now ≡ followed_by written_before (payloads_of (run_in old.held))
   pub part : IsTrue tells.bytes → (k : ℕ) × (written_now ≡ followed_by written_before (take k (payloads_of (run_in old.held))))
   pub good : answer ≡ outcome.Done → IsTrue tells.bytes → image_fault_of old.held ≡ None
-  pub refused : (why : ImageFault) → answer ≡ outcome.ImageRefused why → IsTrue tells.bytes → image_fault_of old.held ≡ Some why
-  pub small : (why : ImageFault) → answer ≡ outcome.ImageRefused why → (why ≡ fault.Small) ↔ (new.extent < 64)
-  pub refused_always : (why : ImageFault) → answer ≢ outcome.NoMemory → IsTrue tells.bytes → image_fault_of old.held ≡ Some why
-      → (answer ≡ outcome.ImageRefused why) ⊎ (answer ≡ outcome.DiskFault)
+  pub header : RefusesHeader tells old new answer

@@ -1,10 +1,11 @@
 -- What `stream` promises: the recording of the good records of the line.
-use Rattle.std.specs.Prelude.{◌≡◌, ◌≢◌, ◌⊎◌, ℕ, true, List, [], take, Option, Some, IsTrue}
+use Rattle.std.specs.Prelude.{◌≡◌, ◌≢◌, ◌⊎◌, ℕ, List, [], take, Option, Some, IsTrue}
+use Rattle.fdr_io.specs.Faults.{Rose}
 use Rattle.fdr_io.specs.Told.{followed_by}
 use Rattle.fdr_io.specs.declared.Input.TheVariants as input
 use Rattle.fdr_deck.specs.State.{State, Tells}
 use Rattle.fdr_bus.specs.declared.BusRecord.{BusRecord}
-use Rattle.fdr_bus.specs.Records.{IsDecided, good_prefix, has_end, trace_fault}
+use Rattle.fdr_bus.specs.Records.{good_prefix, trace_fault}
 use Rattle.fdr_bus.specs.declared.TraceFault.{TraceFault}
 use Rattle.fdr_bus.specs.declared.TraceFault.TheVariants as trace
 use Rattle.fdr_table.specs.Rows.{TableRows}
@@ -15,6 +16,7 @@ use Rattle.fdr_readout.specs.SampledRows.{sampled_listing}
 use Rattle.fdr_trace.specs.Pulls.{PullsMore}
 use Rattle.fdr_trace.specs.declared.TraceStop.{TraceStop}
 use Rattle.fdr_trace.specs.declared.TraceStop.TheVariants as stop
+use Rattle.fdr_top.specs.Traces.{EndsTrace}
 use Rattle.fdr_top.specs.declared.outcome.Outcome.{Outcome}
 use Rattle.fdr_top.specs.declared.outcome.Outcome.TheVariants as outcome
 
@@ -23,6 +25,10 @@ abbrev pub answer_of_stop : TraceStop → Outcome
 answer_of_stop (stop.Refused index why) = outcome.TraceRefused index why
 answer_of_stop stop.Failed = outcome.ReadFault input.Line
 
+-- a front part of the recording of all good records that the line has was written
+abbrev pub WritesStreamPart : TableRows → State → Option (List ℕ) → Option (List ℕ) → Type 0
+WritesStreamPart t d before now = (k : ℕ) × (now ≡ followed_by before (take k (stream_of t (good_prefix d.line))))
+
 -- Of the line these bytes were pulled as those of a trace, and of the stream of their good records a front part was
 -- written, all of it but where the answer is a fault of writing.
 pub record Streams (t : TableRows) (tells : Tells) (old new : State) (written_before written_now : Option (List ℕ)) (answer : Outcome) : Type 0 where
@@ -30,17 +36,15 @@ pub record Streams (t : TableRows) (tells : Tells) (old new : State) (written_be
   pub pulls : PullsMore tells old new [] pulled
   pub text : answer ≢ outcome.WriteFault → written_now ≡ followed_by written_before (stream_of t (good_prefix pulled))
   pub part : (k : ℕ) × (written_now ≡ followed_by written_before (take k (stream_of t (good_prefix pulled))))
-  pub ended : answer ≡ outcome.Done → has_end (good_prefix pulled) ≡ true
-  pub refused : (index : ℕ) (why : TraceFault) → answer ≡ outcome.TraceRefused index why → trace_fault pulled ≡ Some (index, why)
-  pub truncated : (index : ℕ) → answer ≡ outcome.TraceRefused index trace.Truncated → IsTrue tells.line → new.line ≡ []
-  pub undecided : answer ≡ outcome.ReadFault input.Line → IsDecided pulled → ⊥
-  pub quiet : answer ≢ outcome.ReadFault input.Line → answer ≢ outcome.WriteFault → new.line_faults ≡ old.line_faults
+  pub ends : EndsTrace tells old new pulled answer
 
 -- The trace was recorded: what was pulled, what was written, that it lists back, and which refusal is answered.
 pub record StreamsLine (t : TableRows) (tells : Tells) (old new : State) (written_before written_now : Option (List ℕ)) (answer : Outcome) : Type 0 where
   pub streams : Streams t tells old new written_before written_now answer
   pub whole : answer ≡ outcome.Done → IsTrue tells.line
       → written_now ≡ followed_by written_before (stream_of t (good_prefix old.line))
+  -- where no pull failed, nothing was written that isn't in the recording of all of the line
+  pub part_of_whole : IsTrue tells.line → (Rose old.line_faults new.line_faults → ⊥) → WritesStreamPart t old written_before written_now
   pub lists_back : listing_of t (stream_of t (good_prefix old.line)) ≡ sampled_listing t (good_prefix old.line)
   -- Words of one time on different buses or with different labels may come in either order.
   pub exchanged : (others : List BusRecord) → AreExchanged (good_prefix old.line) others

@@ -12,6 +12,7 @@ use Rattle.fdr_trace.specs.Pulls.{PullsMore}
 use Rattle.fdr_trace.specs.Reading.{RepresentsTrace}
 use Rattle.fdr_words.specs.Forms.{stream_line}
 use Rattle.fdr_top.specs.Answers.{IsOwn}
+use Rattle.fdr_top.specs.Stream.{WritesStreamPart}
 use Rattle.fdr_top.specs.declared.outcome.Outcome.{Outcome}
 use Rattle.fdr_top.specs.declared.outcome.Outcome.TheVariants as outcome
 use Rattle.fdr_top.specs.declared.streaming.Recording.{Recording}
@@ -65,3 +66,5 @@ pub record IsStreamedPart (t : TableRows) (tells : Tells) (old new : State) (wri
   pub pulled : List ℕ
   pub pulls : PullsMore tells old new [] pulled
   pub part : (k : ℕ) × (written_now ≡ followed_by written_before (take k (stream_of t (good_prefix pulled))))
+  pub part_of_whole : IsTrue tells.line → WritesStreamPart t old written_before written_now
+  pub quiet : new.line_faults ≡ old.line_faults

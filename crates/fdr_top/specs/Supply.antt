@@ -8,7 +8,8 @@ use Rattle.fdr_gen.specs.Trace.{generated_trace, most_frames}
 use Rattle.fdr_table.specs.Rows.{TableRows}
 use Rattle.fdr_trace.specs.Reading.{IsTraceStopped, RepresentsTrace}
 use Rattle.fdr_trace.specs.declared.TraceStop.{TraceStop}
-use Rattle.fdr_top.specs.Record.{EndsReading, EndsTrace}
+use Rattle.fdr_top.specs.Stages.{EndsReading}
+use Rattle.fdr_top.specs.Traces.{EndsTrace}
 use Rattle.fdr_top.specs.Stream.{answer_of_stop}
 use Rattle.fdr_top.specs.declared.outcome.Outcome.{Outcome}
 use Rattle.fdr_top.specs.declared.outcome.Outcome.TheVariants as outcome

@@ -9,7 +9,7 @@ use Rattle.fdr_table.specs.Faults.{table_bytes_fault}
 use Rattle.fdr_table.specs.declared.fault.TableFault.{TableFault}
 use Rattle.fdr_check.specs.Faults.{RowFault, table_fault}
 use Rattle.fdr_check.specs.Soundness.{IsSound}
-use Rattle.fdr_top.specs.Answers.{IsOfTable, IsPastTable}
+use Rattle.fdr_top.specs.Stages.{IsOfTable, IsPastTable}
 use Rattle.fdr_top.specs.Limits.{piece_bytes}
 use Rattle.fdr_top.specs.declared.outcome.Outcome.{Outcome}
 use Rattle.fdr_top.specs.declared.outcome.Outcome.TheVariants as outcome

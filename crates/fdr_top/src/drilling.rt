@@ -1,6 +1,6 @@
 //! A recording that generates its own trace, and tells what the image then lists as.
 
-ghost use Rattle.std.specs.Prelude.{◌≡◌, ◌≢◌, ◌⊎◌, ◌+◌, ◌*◌, ◌≤◌, ℕ, List, [], ◌++◌, length, take, IsTrue};
+ghost use Rattle.std.specs.Prelude.{◌≡◌, ◌≢◌, ◌⊎◌, ◌+◌, ◌≤◌, ℕ, List, [], ◌++◌, length, take, IsTrue};
 ghost use Rattle.fdr_io.specs.Faults.{Rose};
 ghost use Rattle.fdr_io.specs.Told.{followed_by};
 ghost use Rattle.fdr_deck.specs.Disk.{KeepsDisk, LearnsExtent};
@@ -12,28 +12,24 @@ ghost use Rattle.fdr_recover.specs.Looks.{Looks};
 ghost use Rattle.fdr_gen.specs.Trace.{most_frames};
 ghost use Rattle.fdr_readout.specs.Reading.{ReadsEvents, decided_past};
 ghost use Rattle.fdr_readout.specs.Summary.{summary_of};
-ghost use Rattle.fdr_table.specs.Bounds.{most_table_bytes};
 ghost use Rattle.fdr_table.specs.Ranges.{IsInRange};
-ghost use Rattle.fdr_table.specs.Rows.{TableRows};
 ghost use Rattle.fdr_check.specs.Soundness.{IsSound};
 ghost use Rattle.fdr_words.specs.Forms.{drill_image};
-ghost use Rattle.fdr_top.specs.Answers.{EndsBeforeDeck, IsOwn, KeepsLineAndFaults, MayAnswer, WritesNothing};
-ghost use Rattle.fdr_top.specs.Complete.{IsFaultless, IsWholeInput};
+ghost use Rattle.fdr_top.specs.Stages.{WritesNothing};
+ghost use Rattle.fdr_top.specs.Answers.{IsOwn, KeepsLineAndFaults};
 ghost use Rattle.fdr_top.specs.Drill.{DrillsImage, drill_text, field_text};
-ghost use Rattle.fdr_top.specs.Leaves.{Causes, LeavesAll, LeavesUnused};
-ghost use Rattle.fdr_top.specs.Limits.{TakesAtMost, piece_bytes};
 ghost use Rattle.fdr_top.specs.Recover.{payloads_of};
-ghost use Rattle.fdr_top.specs.Tables.{ByTable, ReadsItsTable};
+ghost use Rattle.fdr_top.specs.Commands.{Works};
+ghost use Rattle.fdr_top.specs.Refusals.{HasHeader};
 
 use crate::listing::{BlocksFault, ImageReader, open_image, take_blocks};
-use crate::load::load_table;
 use crate::outcome::Outcome;
 use crate::recording::record_source;
 use crate::supply::RecordSource;
 use fdr_check::Sound;
 use fdr_deck::Deck;
 use fdr_gen::Gen;
-use fdr_io::{Failed, NullSink, Sink, Source, write_whole};
+use fdr_io::{Failed, NullSink, Sink, write_whole};
 use fdr_listing::Line;
 use fdr_readout::Summary;
 use std::alloc::Global;
@@ -85,6 +81,8 @@ fn write_summary<D: Deck, O: Sink>(
     ensures disk_fault { result ≡ Outcome.DiskFault
         → Rose (D.state deck.old).disk_faults (D.state deck.new).disk_faults }
     ensures write_fault { result ≡ Outcome.WriteFault → Rose (O.faults out.old) (O.faults out.new) }
+    ensures disk_quiet { result ≢ Outcome.DiskFault → (D.state deck.new).disk_faults ≡ (D.state deck.old).disk_faults }
+    ensures write_quiet { result ≢ Outcome.WriteFault → O.faults out.new ≡ O.faults out.old }
 {
     sound.holds();
     let mut summary = Summary::new();
@@ -130,6 +128,9 @@ fn drill_image<D: Deck, O: Sink>(
     ensures disk_fault { result ≡ Outcome.DiskFault
         → Rose (D.state deck.old).disk_faults (D.state deck.new).disk_faults }
     ensures write_fault { result ≡ Outcome.WriteFault → Rose (O.faults out.old) (O.faults out.new) }
+    ensures disk_quiet { result ≢ Outcome.DiskFault → (D.state deck.new).disk_faults ≡ (D.state deck.old).disk_faults }
+    ensures write_quiet { result ≢ Outcome.WriteFault → O.faults out.new ≡ O.faults out.old }
+    ensures memory { result ≡ Outcome.NoMemory → HasHeader D.tells (D.state deck.old) (D.state deck.new) }
     ensures unwritten { result ≢ Outcome.Done → result ≢ Outcome.WriteFault → out.new ≡ out.old }
 {
     let mut reader = match open_image(alloc, sound, deck) {
@@ -147,37 +148,31 @@ fn drill_image<D: Deck, O: Sink>(
     write_summary(&mut reader, sound, recorded.blocks, deck, out)
 }
 
-/// `drill`: reads a table, records the trace of a seed in the deck's image, and writes a line of what the image then lists as.
-pub fn drill<T: Source, D: Deck, O: Sink>(
+/// `drill`: records the trace of a seed in the deck's image by a table, and writes a line of what the image then lists as.
+pub fn drill<D: Deck, O: Sink>(
     alloc: Global,
+    sound: &Sound,
     seed: u64,
     frames: u32,
-    table: &mut T,
     deck: &mut D,
     out: &mut O,
 ) -> Outcome
+    requires word_count { IsWordCount sound.now.frame.words }
+    requires in_range { IsInRange sound.now }
+    requires sound { IsSound sound.now }
     requires some_frames { 1 ≤ frames }
     requires frame_limit { frames ≤ most_frames }
-    ensures answers { (path image : List ℕ) → MayAnswer (drill_image path image seed frames) result }
-    ensures table { ReadsItsTable (T.rest table.old) (T.rest table.new) result }
-    ensures bounded { TakesAtMost (most_table_bytes + piece_bytes) (T.rest table.old) (T.rest table.new) }
-    ensures deck_untouched { EndsBeforeDeck result → deck.new ≡ deck.old }
-    ensures refusal { WritesNothing result → LeavesAll D.tells (D.state deck.old) (D.state deck.new)
-        (O.written out.old) (O.written out.new) (O.faults out.old) (O.faults out.new) result }
-    ensures unused { (path image : List ℕ)
-        → LeavesUnused (drill_image path image seed frames) (D.state deck.old) (D.state deck.new) result }
-    ensures causes { Causes result (T.faults table.old) (T.faults table.new) (D.state deck.old) (D.state deck.new)
-        (O.faults out.old) (O.faults out.new) }
-    ensures drill { ByTable (T.rest table.old) (λ (t : TableRows). DrillsImage t seed frames D.tells
-        (D.state deck.old) (D.state deck.new) (O.written out.old) (O.written out.new) result) }
-    ensures complete { (path image : List ℕ)
-        → IsWholeInput (drill_image path image seed frames) (T.rest table.old) D.tells (D.state deck.old)
-        → IsFaultless (drill_image path image seed frames) (T.faults table.old) (T.faults table.new)
-        (D.state deck.old) (D.state deck.new) (O.faults out.old) (O.faults out.new)
-        → (result ≡ Outcome.Done) ⊎ (result ≡ Outcome.NoMemory) }
+    ensures works { (path image : List ℕ) → Works (drill_image path image seed frames) sound.now (record {
+      tells = D.tells;
+      old = D.state deck.old;
+      new = D.state deck.new;
+      written_before = O.written out.old;
+      written_now = O.written out.new;
+      sink_before = O.faults out.old;
+      sink_now = O.faults out.new;
+      answer = result;
+    }) }
+    ensures memory { result ≡ Outcome.NoMemory → HasHeader D.tells (D.state deck.old) (D.state deck.new) }
 {
-    match load_table(alloc, table) {
-        Ok(sound) => drill_image(alloc, &sound, seed, frames, deck, out),
-        Err(answer) => answer,
-    }
+    drill_image(alloc, sound, seed, frames, deck, out)
 }

@@ -1,6 +1,6 @@
 //! The listing of the bits of the blocks that an image holds.
 
-ghost use Rattle.std.specs.Prelude.{◌≡◌, ◌≢◌, ◌⊎◌, ◌+◌, ◌*◌, ◌<◌, ◌≤◌, ◌^◌, ℕ, List, [], ◌++◌, length, take, OnOk, OnErr, IfOk, IfErr, IsErrOf, IsTrue};
+ghost use Rattle.std.specs.Prelude.{◌≡◌, ◌⊎◌, ◌+◌, ◌<◌, ◌≤◌, ◌^◌, ℕ, List, [], ◌++◌, length, take, OnOk, IfOk, IfErr, IsErrOf, IsTrue, ◌≢◌, Err};
 ghost use Rattle.fdr_io.specs.Faults.{Rose};
 ghost use Rattle.fdr_io.specs.Told.{followed_by};
 ghost use Rattle.fdr_frame.specs.WordCount.{IsWordCount};
@@ -12,24 +12,19 @@ ghost use Rattle.fdr_readout.specs.Entries.{Entry, entries_of};
 ghost use Rattle.fdr_readout.specs.Listing.{listing_of};
 ghost use Rattle.fdr_readout.specs.Reading.{ReadsEvents, decided_past};
 ghost use Rattle.fdr_readout.specs.Taken.{HasTaken};
-ghost use Rattle.fdr_table.specs.Bounds.{most_table_bytes};
-ghost use Rattle.fdr_table.specs.Rows.{TableRows};
 ghost use Rattle.fdr_words.specs.Forms.{list_image};
-ghost use Rattle.fdr_top.specs.Answers.{EndsBeforeDeck, IsOwn, MayAnswer, WritesNothing};
-ghost use Rattle.fdr_top.specs.Complete.{IsFaultless, IsWholeInput};
-ghost use Rattle.fdr_top.specs.Leaves.{Causes, LeavesAll, LeavesUnused};
-ghost use Rattle.fdr_top.specs.Limits.{TakesAtMost, piece_bytes};
-ghost use Rattle.fdr_top.specs.List.{IsOpened, KeepsShut, ListsImage};
+ghost use Rattle.fdr_top.specs.Stages.{WritesNothing};
+ghost use Rattle.fdr_top.specs.Answers.{IsOwn};
+ghost use Rattle.fdr_top.specs.List.{IsOpened, RefusesOpening, ListsImage};
 ghost use Rattle.fdr_top.specs.Recover.{IsFoundRun, OnlyLooks, payloads_of};
-ghost use Rattle.fdr_top.specs.Refusals.{RefusesImage};
-ghost use Rattle.fdr_top.specs.Tables.{ByTable, ReadsItsTable};
+ghost use Rattle.fdr_top.specs.Refusals.{RefusesImage, HasHeader};
+ghost use Rattle.fdr_top.specs.Commands.{Works};
 
-use crate::load::load_table;
 use crate::outcome::Outcome;
 use crate::recovering::{MAX_PAYLOAD, refusal};
 use fdr_check::Sound;
 use fdr_deck::Deck;
-use fdr_io::{Failed, Sink, Source};
+use fdr_io::{Failed, Sink};
 use fdr_readout::{EventReader, LineWriter, Taker, take_piece, take_rest};
 use fdr_recover::{Found, block, scan};
 use fdr_ring::read_image_header;
@@ -75,6 +70,8 @@ fn take_block<D: Deck, O: Sink, T: Taker<O>>(
     ensures unwritten { IsErrOf result BlocksFault.Disk → out.new ≡ out.old }
     ensures header { reader.new.header ≡ reader.old.header }
     ensures disk_fault { IsErrOf result BlocksFault.Disk → Rose (D.state deck.old).disk_faults (D.state deck.new).disk_faults }
+    ensures disk_unfailed { (IsErrOf result BlocksFault.Disk → ⊥)
+        → (D.state deck.new).disk_faults ≡ (D.state deck.old).disk_faults }
     ensures write_fault { IsErrOf result BlocksFault.Taker → Rose (O.faults out.old) (O.faults out.new) }
     ensures disk_quiet { OnOk result ((D.state deck.new).disk_faults ≡ (D.state deck.old).disk_faults) }
     ensures quiet { OnOk result (O.faults out.new ≡ O.faults out.old) }
@@ -116,6 +113,8 @@ fn take_run<D: Deck, O: Sink, T: Taker<O>>(
     ensures bounded { IsTrue D.tells.bytes
         → OnOk result (length (payloads_of (recovered_run reader.old.header (D.state deck.old).held)) ≤ 2 ^ 28) }
     ensures disk_fault { IsErrOf result BlocksFault.Disk → Rose (D.state deck.old).disk_faults (D.state deck.new).disk_faults }
+    ensures disk_unfailed { (IsErrOf result BlocksFault.Disk → ⊥)
+        → (D.state deck.new).disk_faults ≡ (D.state deck.old).disk_faults }
     ensures write_fault { IsErrOf result BlocksFault.Taker → Rose (O.faults out.old) (O.faults out.new) }
     ensures quiet { OnOk result (O.faults out.new ≡ O.faults out.old) }
     ensures looks { Looks D.tells (D.state deck.old) (D.state deck.new) }
@@ -150,6 +149,8 @@ pub fn take_blocks<D: Deck, O: Sink, T: Taker<O>>(
     ensures bounded { IsTrue D.tells.bytes
         → OnOk result (length (payloads_of (recovered_run reader.old.header (D.state deck.old).held)) ≤ 2 ^ 28) }
     ensures disk_fault { IsErrOf result BlocksFault.Disk → Rose (D.state deck.old).disk_faults (D.state deck.new).disk_faults }
+    ensures disk_unfailed { (IsErrOf result BlocksFault.Disk → ⊥)
+        → (D.state deck.new).disk_faults ≡ (D.state deck.old).disk_faults }
     ensures write_fault { IsErrOf result BlocksFault.Taker → Rose (O.faults out.old) (O.faults out.new) }
     ensures quiet { OnOk result (O.faults out.new ≡ O.faults out.old) }
     ensures looks { Looks D.tells (D.state deck.old) (D.state deck.new) }
@@ -183,10 +184,12 @@ pub fn open_image<D: Deck>(
     requires { IsWordCount sound.now.frame.words }
     ensures opened { IfOk result (IsOpened sound.now D.tells (D.state deck.old) (D.state deck.new)) }
     ensures refused { IfErr result (RefusesImage sound.now D.tells (D.state deck.old) (D.state deck.new)) }
-    ensures shut { IfErr result KeepsShut }
+    ensures shut { IfErr result RefusesOpening }
+    ensures memory { IfErr result (λ answer. answer ≡ Outcome.NoMemory → HasHeader D.tells (D.state deck.old) (D.state deck.new)) }
     ensures looks { OnlyLooks D.tells (D.state deck.old) (D.state deck.new) }
     ensures disk_fault { IfErr result (λ answer. answer ≡ Outcome.DiskFault
         → Rose (D.state deck.old).disk_faults (D.state deck.new).disk_faults) }
+    ensures disk_quiet { result ≢ Err Outcome.DiskFault → (D.state deck.new).disk_faults ≡ (D.state deck.old).disk_faults }
 {
     let header = match read_image_header(deck) {
         Ok(header) => header,
@@ -227,6 +230,8 @@ fn list_blocks<D: Deck, O: Sink>(
     ensures disk_fault { result ≡ Outcome.DiskFault
         → Rose (D.state deck.old).disk_faults (D.state deck.new).disk_faults }
     ensures write_fault { result ≡ Outcome.WriteFault → Rose (O.faults out.old) (O.faults out.new) }
+    ensures disk_quiet { result ≢ Outcome.DiskFault → (D.state deck.new).disk_faults ≡ (D.state deck.old).disk_faults }
+    ensures write_quiet { result ≢ Outcome.WriteFault → result ≢ Outcome.DiskFault → O.faults out.new ≡ O.faults out.old }
 {
     match take_blocks(reader, table, deck, lines, out) {
         Ok(()) => match lines.finish(out) {
@@ -250,6 +255,9 @@ fn list_image<D: Deck, O: Sink>(alloc: Global, sound: &Sound, deck: &mut D, out:
     ensures disk_fault { result ≡ Outcome.DiskFault
         → Rose (D.state deck.old).disk_faults (D.state deck.new).disk_faults }
     ensures write_fault { result ≡ Outcome.WriteFault → Rose (O.faults out.old) (O.faults out.new) }
+    ensures disk_quiet { result ≢ Outcome.DiskFault → (D.state deck.new).disk_faults ≡ (D.state deck.old).disk_faults }
+    ensures write_quiet { result ≢ Outcome.WriteFault → result ≢ Outcome.DiskFault → O.faults out.new ≡ O.faults out.old }
+    ensures memory { result ≡ Outcome.NoMemory → HasHeader D.tells (D.state deck.old) (D.state deck.new) }
     ensures unwritten { WritesNothing result → out.new ≡ out.old }
 {
     let mut reader = match open_image(alloc, sound, deck) {
@@ -262,32 +270,20 @@ fn list_image<D: Deck, O: Sink>(alloc: Global, sound: &Sound, deck: &mut D, out:
     list_blocks(&mut reader, &mut lines, sound.table(), deck, out)
 }
 
-/// `list`: reads a table, and lists the bits of the blocks that the deck's image holds.
-pub fn list<T: Source, D: Deck, O: Sink>(
-    alloc: Global,
-    table: &mut T,
-    deck: &mut D,
-    out: &mut O,
-) -> Outcome
-    ensures answers { (path image : List ℕ) → MayAnswer (list_image path image) result }
-    ensures table { ReadsItsTable (T.rest table.old) (T.rest table.new) result }
-    ensures bounded { TakesAtMost (most_table_bytes + piece_bytes) (T.rest table.old) (T.rest table.new) }
-    ensures deck_untouched { EndsBeforeDeck result → deck.new ≡ deck.old }
-    ensures refusal { WritesNothing result → LeavesAll D.tells (D.state deck.old) (D.state deck.new)
-        (O.written out.old) (O.written out.new) (O.faults out.old) (O.faults out.new) result }
-    ensures unused { (path image : List ℕ)
-        → LeavesUnused (list_image path image) (D.state deck.old) (D.state deck.new) result }
-    ensures causes { Causes result (T.faults table.old) (T.faults table.new) (D.state deck.old) (D.state deck.new)
-        (O.faults out.old) (O.faults out.new) }
-    ensures list { ByTable (T.rest table.old) (λ (t : TableRows). ListsImage t D.tells (D.state deck.old) (D.state deck.new)
-        (O.written out.old) (O.written out.new) result) }
-    ensures complete { (path image : List ℕ) → IsWholeInput (list_image path image) (T.rest table.old) D.tells (D.state deck.old)
-        → IsFaultless (list_image path image) (T.faults table.old) (T.faults table.new)
-        (D.state deck.old) (D.state deck.new) (O.faults out.old) (O.faults out.new)
-        → (result ≡ Outcome.Done) ⊎ (result ≡ Outcome.NoMemory) }
+/// `list`: lists the bits of the blocks that the deck's image holds by a table.
+pub fn list<D: Deck, O: Sink>(alloc: Global, sound: &Sound, deck: &mut D, out: &mut O) -> Outcome
+    requires { IsWordCount sound.now.frame.words }
+    ensures works { (path image : List ℕ) → Works (list_image path image) sound.now (record {
+      tells = D.tells;
+      old = D.state deck.old;
+      new = D.state deck.new;
+      written_before = O.written out.old;
+      written_now = O.written out.new;
+      sink_before = O.faults out.old;
+      sink_now = O.faults out.new;
+      answer = result;
+    }) }
+    ensures memory { result ≡ Outcome.NoMemory → HasHeader D.tells (D.state deck.old) (D.state deck.new) }
 {
-    match load_table(alloc, table) {
-        Ok(sound) => list_image(alloc, &sound, deck, out),
-        Err(answer) => answer,
-    }
+    list_image(alloc, sound, deck, out)
 }

@@ -1,6 +1,6 @@
 //! Reading and checking the table of a command.
 
-ghost use Rattle.std.specs.Prelude.{◌≡◌, ◌+◌, ◌≤◌, ℕ, List, [], length, IfOk, IfErr, IfSome, Err};
+ghost use Rattle.std.specs.Prelude.{◌≡◌, ◌≢◌, ◌+◌, ◌≤◌, ℕ, List, [], length, IfOk, IfErr, IfSome, Err};
 ghost use Rattle.fdr_io.specs.Faults.{Rose};
 ghost use Rattle.fdr_io.specs.Told.{preceded_by};
 ghost use Rattle.fdr_frame.specs.WordCount.{IsWordCount};
@@ -8,7 +8,8 @@ ghost use Rattle.fdr_table.specs.Bounds.{most_table_bytes};
 ghost use Rattle.fdr_table.specs.Ranges.{IsInRange};
 ghost use Rattle.fdr_table.specs.declared.fault.TableFault.{TableFault};
 ghost use Rattle.fdr_check.specs.Soundness.{IsSound};
-ghost use Rattle.fdr_top.specs.Answers.{IsOfTable, refusal};
+ghost use Rattle.fdr_top.specs.Stages.{IsOfTable};
+ghost use Rattle.fdr_top.specs.Answers.{refusal};
 ghost use Rattle.fdr_top.specs.Limits.{TakesAtMost, piece_bytes};
 ghost use Rattle.fdr_top.specs.Tables.{IsAccepted, IsTableRefused, table_in};
 
@@ -69,6 +70,7 @@ pub fn load_table<T: Source>(alloc: Global, source: &mut T) -> Result<Sound, Out
         × (length bytes ≤ most_table_bytes + piece_bytes) }
     ensures answers { IfErr result IsOfTable }
     ensures fault { result ≡ Err (Outcome.ReadFault Input.Table) → Rose (T.faults source.old) (T.faults source.new) }
+    ensures quiet { result ≢ Err (Outcome.ReadFault Input.Table) → T.faults source.new ≡ T.faults source.old }
     ensures fault_within_limit { result ≡ Err (Outcome.ReadFault Input.Table)
         → (bytes : List ℕ) × (length bytes ≤ most_table_bytes) × (T.rest source.old ≡ preceded_by bytes (T.rest source.new)) }
     ensures bounded { TakesAtMost (most_table_bytes + piece_bytes) (T.rest source.old) (T.rest source.new) }

@@ -1,6 +1,6 @@
 //! Pulling the line of a deck, and listing what it decides.
 
-ghost use Rattle.std.specs.Prelude.{◌≡◌, ◌+◌, ◌≤◌, ◌<◌, ◌^◌, ℕ, List, [], length, take, IfOk, OnOk, OnErr, IsOk};
+ghost use Rattle.std.specs.Prelude.{◌≡◌, ◌≢◌, ◌+◌, ◌≤◌, ◌<◌, ℕ, List, [], take, IfOk, OnOk, OnErr, IsTrue};
 ghost use Rattle.fdr_io.specs.Faults.{Rose};
 ghost use Rattle.fdr_deck.specs.Calls.{LeavesDisk};
 ghost use Rattle.fdr_readout.specs.Reading.{ReadsEvents, decided_past};
@@ -49,7 +49,10 @@ pub fn list_pieces<D: Deck, O: Sink>(
     ensures part { OnErr result ((pulled : List ℕ) × PullsPieces D.tells (D.state deck.old) (D.state deck.new) pulled
         × WritesPart table.now pulled (O.written out.old) (O.written out.new)
         × HasWrittenDecided table.now (D.state deck.old) (D.state deck.new) pulled (O.written out.old) (O.written out.new)) }
+    ensures part_of_whole { OnErr result (IsTrue D.tells.line
+        → WritesPart table.now (D.state deck.old).line (O.written out.old) (O.written out.new)) }
     ensures line_fault { IfOk result (λ end. end ≡ LineEnd.Fault → Rose (D.state deck.old).line_faults (D.state deck.new).line_faults) }
+    ensures line_quiet { IfOk result (λ end. end ≢ LineEnd.Fault → (D.state deck.new).line_faults ≡ (D.state deck.old).line_faults) }
     ensures write_fault { OnErr result (Rose (O.faults out.old) (O.faults out.new)) }
     ensures quiet { OnOk result (O.faults out.new ≡ O.faults out.old) }
     ensures disk { LeavesDisk (D.state deck.old) (D.state deck.new) }

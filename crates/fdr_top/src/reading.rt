@@ -1,6 +1,6 @@
 //! Reading the table's bytes from a source.
 
-ghost use Rattle.std.specs.Prelude.{◌≡◌, ◌+◌, ◌≤◌, ◌<◌, ◌≢◌, ◌^◌, ℕ, List, [], length, IsSome, IfSome, IfOk, IfErr, OnOk, OnErr, vec_len, IsErrOf, IsTrue};
+ghost use Rattle.std.specs.Prelude.{◌≡◌, ◌+◌, ◌≤◌, ◌<◌, ℕ, List, [], length, IfSome, IfOk, OnOk, vec_len, IsErrOf};
 ghost use Rattle.fdr_io.specs.Faults.{Rose};
 ghost use Rattle.fdr_io.specs.Told.{preceded_by};
 ghost use Rattle.fdr_table.specs.Bounds.{most_table_bytes};
@@ -33,6 +33,7 @@ fn read_piece<T: Source>(source: &mut T, bytes: &mut Vec<u8>) -> Result<usize, R
     ensures kept { IsErrOf result ReadError.Failed → T.rest source.new ≡ T.rest source.old }
     ensures same { IsErrOf result ReadError.Failed → bytes.new.items ≡ bytes.old.items }
     ensures within_piece { IfOk result (λ n. n ≤ piece_bytes) }
+    ensures quiet { (IsErrOf result ReadError.Failed → ⊥) → T.faults source.new ≡ T.faults source.old }
     ensures bounded { TakesAtMost piece_bytes (T.rest source.old) (T.rest source.new) }
     ensures monotone { T.faults source.old ≤ T.faults source.new }
 {
@@ -54,6 +55,7 @@ pub fn read_table_bytes<T: Source>(alloc: Global, source: &mut T) -> Result<Vec<
     ensures within_limit { IsErrOf result ReadError.Failed → ((bytes : List ℕ) × (length bytes ≤ most_table_bytes) × (T.rest source.old ≡ preceded_by bytes (T.rest source.new))) }
     ensures bounded { TakesAtMost (most_table_bytes + piece_bytes) (T.rest source.old) (T.rest source.new) }
     ensures within { IfOk result (λ bytes. vec_len bytes ≤ most_table_bytes + piece_bytes) }
+    ensures quiet { (IsErrOf result ReadError.Failed → ⊥) → T.faults source.new ≡ T.faults source.old }
     ensures monotone { T.faults source.old ≤ T.faults source.new }
 {
     let mut bytes = Vec::new(alloc);

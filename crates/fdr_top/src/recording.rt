@@ -1,28 +1,27 @@
 //! Recording the trace of a deck's line in the image on its disk.
 
-ghost use Rattle.std.specs.Prelude.{◌≡◌, ◌⊎◌, ◌+◌, ◌≤◌, ℕ, List, [], Option, IfOk, IfErr, IsTrue};
+ghost use Rattle.std.specs.Prelude.{◌≡◌, ◌≢◌, ◌⊎◌, ◌+◌, ◌≤◌, ℕ, List, [], Option, IfOk, IfErr, IsTrue};
 ghost use Rattle.fdr_io.specs.Faults.{Rose};
 ghost use Rattle.fdr_deck.specs.Disk.{KeepsDisk, LearnsExtent};
 ghost use Rattle.fdr_recorder.specs.Past.{SessionPast};
-ghost use Rattle.fdr_table.specs.Bounds.{most_table_bytes};
-ghost use Rattle.fdr_table.specs.Rows.{TableRows};
 ghost use Rattle.fdr_words.specs.Forms.{record_line};
-ghost use Rattle.fdr_top.specs.Answers.{EndsBeforeDeck, IsOwn, KeepsLineAndFaults, MayAnswer, WritesNothing};
-ghost use Rattle.fdr_top.specs.Complete.{IsFaultless, IsWholeInput};
-ghost use Rattle.fdr_top.specs.Leaves.{Causes, LeavesAll, LeavesUnused};
-ghost use Rattle.fdr_top.specs.Limits.{TakesAtMost, piece_bytes};
-ghost use Rattle.fdr_top.specs.Record.{CutsShort, EndsReading, RecordsLine, RefusesSession, next_in, session_refusal};
+ghost use Rattle.fdr_top.specs.Stages.{CutsRecording, EndsReading, WritesNothing};
+ghost use Rattle.fdr_top.specs.Answers.{IsOwn, KeepsLineAndFaults};
+ghost use Rattle.fdr_top.specs.Record.{RefusesSession, next_in, session_refusal};
 ghost use Rattle.fdr_top.specs.Recording.{Continues, HasFedAll, IsBegun, RecordsSupply};
+ghost use Rattle.fdr_top.specs.Refusals.{HasHeader};
 ghost use Rattle.fdr_top.specs.Supply.{RecordSupply, IsGenerator, RepresentsSupply, line_trace};
-ghost use Rattle.fdr_top.specs.Tables.{ByTable, ReadsItsTable};
+ghost use Rattle.fdr_top.specs.Commands.{Works};
+ghost use Rattle.fdr_table.specs.Ranges.{IsInRange};
+ghost use Rattle.fdr_check.specs.Soundness.{IsSound};
+ghost use Rattle.fdr_top.specs.Leaves.{CoversLineFault};
 
-use crate::load::load_table;
 use crate::outcome::Outcome;
 use crate::supply::RecordSource;
 use fdr_bus::RecordKind;
 use fdr_check::Sound;
 use fdr_deck::Deck;
-use fdr_io::{Input, Source};
+use fdr_io::Input;
 use fdr_recorder::{Session, SessionFault};
 use fdr_trace::TraceLine;
 use std::alloc::Global;
@@ -72,12 +71,14 @@ fn record_records<D: Deck>(
         → IfOk result (λ f. HasFedAll from D.tells past f.session (D.state deck.old) (D.state deck.new) f.answer) }
     ensures ended { (from : RecordSupply) (past : SessionPast) → IsBegun D.tells from session source.old past (D.state deck.old)
         → IfErr result (Continues from D.tells past (D.state deck.old) (D.state deck.new)) }
-    ensures only { IfErr result CutsShort }
+    ensures only { IfErr result CutsRecording }
     ensures line_fault { IfOk result (λ f. f.answer ≡ Outcome.ReadFault Input.Line
         → Rose (D.state deck.old).line_faults (D.state deck.new).line_faults) }
     ensures disk_fault { IfErr result (λ answer. answer ≡ Outcome.DiskFault
         → Rose (D.state deck.old).disk_faults (D.state deck.new).disk_faults) }
     ensures disk_quiet { IfOk result (λ f. (D.state deck.new).disk_faults ≡ (D.state deck.old).disk_faults) }
+    ensures cut_quiet { IfErr result (λ answer. answer ≢ Outcome.DiskFault
+        → (D.state deck.new).disk_faults ≡ (D.state deck.old).disk_faults) }
     ensures unpulled { IsGenerator source.old → KeepsLineAndFaults (D.state deck.old) (D.state deck.new) }
     ensures extent { (D.state deck.new).extent ≡ (D.state deck.old).extent }
 {
@@ -114,12 +115,14 @@ fn record_all<D: Deck>(
     ensures next { IfOk result (λ r. r.next ≡ (D.state deck.new).told) }
     ensures later { IfOk result (λ r. session.ring.next ≤ r.next) }
     ensures all { IfOk result (λ r. EndsReading r.answer) }
-    ensures only { IfErr result CutsShort }
+    ensures only { IfErr result CutsRecording }
     ensures line_fault { IfOk result (λ r. r.answer ≡ Outcome.ReadFault Input.Line
         → Rose (D.state deck.old).line_faults (D.state deck.new).line_faults) }
     ensures disk_fault { IfErr result (λ answer. answer ≡ Outcome.DiskFault
         → Rose (D.state deck.old).disk_faults (D.state deck.new).disk_faults) }
     ensures disk_quiet { IfOk result (λ r. (D.state deck.new).disk_faults ≡ (D.state deck.old).disk_faults) }
+    ensures cut_quiet { IfErr result (λ answer. answer ≢ Outcome.DiskFault
+        → (D.state deck.new).disk_faults ≡ (D.state deck.old).disk_faults) }
     ensures unpulled { IsGenerator source.old → KeepsLineAndFaults (D.state deck.old) (D.state deck.new) }
     ensures extent { (D.state deck.new).extent ≡ (D.state deck.old).extent }
 {
@@ -147,6 +150,7 @@ pub fn record_source<D: Deck>(
     ensures blocks { IfOk result (λ r. IsTrue D.tells.bytes → next_in (D.state deck.old).held + r.blocks ≡ (D.state deck.new).told) }
     ensures all { IfOk result (λ r. EndsReading r.answer) }
     ensures refused { IfErr result RefusesSession }
+    ensures memory { IfErr result (λ answer. answer ≡ Outcome.NoMemory → HasHeader D.tells (D.state deck.old) (D.state deck.new)) }
     ensures untouched { IfErr result (λ answer. WritesNothing answer → KeepsDisk (D.state deck.old) (D.state deck.new)) }
     ensures told { IfErr result (λ answer. WritesNothing answer → (D.state deck.new).told ≡ (D.state deck.old).told) }
     ensures line { IfErr result (λ answer. WritesNothing answer
@@ -158,6 +162,8 @@ pub fn record_source<D: Deck>(
     ensures disk_fault { IfErr result (λ answer. answer ≡ Outcome.DiskFault
         → Rose (D.state deck.old).disk_faults (D.state deck.new).disk_faults) }
     ensures disk_quiet { IfOk result (λ r. (D.state deck.new).disk_faults ≡ (D.state deck.old).disk_faults) }
+    ensures cut_quiet { IfErr result (λ answer. answer ≢ Outcome.DiskFault
+        → (D.state deck.new).disk_faults ≡ (D.state deck.old).disk_faults) }
 {
     let session = match Session::start(alloc, sound, deck) {
         Ok(session) => session,
@@ -173,6 +179,7 @@ pub fn record_source<D: Deck>(
 
 /// Records the trace of the deck's line by a table. All memory is taken before the disk is written.
 fn record_line<D: Deck>(alloc: Global, sound: &Sound, deck: &mut D) -> Outcome
+    ensures memory { result ≡ Outcome.NoMemory → (deck.new ≡ deck.old) ⊎ HasHeader D.tells (D.state deck.old) (D.state deck.new) }
     ensures records { RecordsSupply line_trace sound.now D.tells (D.state deck.old) (D.state deck.new) result }
     ensures answer { (path image : List ℕ) → (result ≡ Outcome.NoMemory) ⊎ IsOwn (record_line path image) result }
     ensures untouched { WritesNothing result → KeepsDisk (D.state deck.old) (D.state deck.new) }
@@ -183,6 +190,9 @@ fn record_line<D: Deck>(alloc: Global, sound: &Sound, deck: &mut D) -> Outcome
         → Rose (D.state deck.old).line_faults (D.state deck.new).line_faults }
     ensures disk_fault { result ≡ Outcome.DiskFault
         → Rose (D.state deck.old).disk_faults (D.state deck.new).disk_faults }
+    ensures disk_quiet { result ≢ Outcome.DiskFault → (D.state deck.new).disk_faults ≡ (D.state deck.old).disk_faults }
+    ensures line_quiet { result ≢ Outcome.ReadFault Input.Line → (CoversLineFault result → ⊥)
+        → (D.state deck.new).line_faults ≡ (D.state deck.old).line_faults }
 {
     let Ok(trace) = TraceLine::new(alloc) else {
         return Outcome::NoMemory;
@@ -194,28 +204,22 @@ fn record_line<D: Deck>(alloc: Global, sound: &Sound, deck: &mut D) -> Outcome
     }
 }
 
-/// `record`: reads a table, and records the trace on the line in the image.
-pub fn record<T: Source, D: Deck>(alloc: Global, table: &mut T, deck: &mut D) -> Outcome
-    ensures answers { (path image : List ℕ) → MayAnswer (record_line path image) result }
-    ensures table { ReadsItsTable (T.rest table.old) (T.rest table.new) result }
-    ensures bounded { TakesAtMost (most_table_bytes + piece_bytes) (T.rest table.old) (T.rest table.new) }
-    ensures deck_untouched { EndsBeforeDeck result → deck.new ≡ deck.old }
-    ensures refusal { WritesNothing result → (written : Option (List ℕ)) (faults : ℕ)
-        → LeavesAll D.tells (D.state deck.old) (D.state deck.new) written written faults faults result }
-    ensures unused { (path image : List ℕ)
-        → LeavesUnused (record_line path image) (D.state deck.old) (D.state deck.new) result }
-    ensures causes { (faults : ℕ) → Causes result (T.faults table.old) (T.faults table.new)
-        (D.state deck.old) (D.state deck.new) faults faults }
-    ensures record { ByTable (T.rest table.old) (λ (t : TableRows).
-        RecordsLine t D.tells (D.state deck.old) (D.state deck.new) result) }
-    ensures complete { (path image : List ℕ) (faults : ℕ)
-        → IsWholeInput (record_line path image) (T.rest table.old) D.tells (D.state deck.old)
-        → IsFaultless (record_line path image) (T.faults table.old) (T.faults table.new)
-        (D.state deck.old) (D.state deck.new) faults faults
-        → (result ≡ Outcome.Done) ⊎ (result ≡ Outcome.NoMemory) }
+/// `record`: records the trace of the line in the image by a table.
+pub fn record<D: Deck>(alloc: Global, sound: &Sound, deck: &mut D) -> Outcome
+    requires in_range { IsInRange sound.now }
+    requires sound { IsSound sound.now }
+    ensures works { (path image : List ℕ) (written : Option (List ℕ)) (faults : ℕ)
+        → Works (record_line path image) sound.now (record {
+          tells = D.tells;
+          old = D.state deck.old;
+          new = D.state deck.new;
+          written_before = written;
+          written_now = written;
+          sink_before = faults;
+          sink_now = faults;
+          answer = result;
+        }) }
+    ensures memory { result ≡ Outcome.NoMemory → (deck.new ≡ deck.old) ⊎ HasHeader D.tells (D.state deck.old) (D.state deck.new) }
 {
-    match load_table(alloc, table) {
-        Ok(sound) => record_line(alloc, &sound, deck),
-        Err(answer) => answer,
-    }
+    record_line(alloc, sound, deck)
 }

@@ -1,6 +1,6 @@
 //! The payloads of the blocks that an image holds.
 
-ghost use Rattle.std.specs.Prelude.{◌≡◌, ◌≢◌, ◌⊎◌, ◌<◌, ◌≤◌, ◌^◌, ℕ, List, Option, [], take, Err, IfErr, OnOk, OnErr, IsTrue};
+ghost use Rattle.std.specs.Prelude.{◌≡◌, ◌≢◌, ◌⊎◌, ◌<◌, ◌≤◌, ◌^◌, ℕ, List, [], take, Err, IfErr, OnOk, OnErr, IsTrue};
 ghost use Rattle.fdr_io.specs.Faults.{Rose};
 ghost use Rattle.fdr_io.specs.Told.{followed_by};
 ghost use Rattle.fdr_io.specs.Output.{Emits, EmitsPart};
@@ -8,11 +8,12 @@ ghost use Rattle.fdr_slot.specs.Limits.{IsInLimits};
 ghost use Rattle.fdr_slot.specs.Places.{image_size};
 ghost use Rattle.fdr_recover.specs.Images.{payload_at, recovered_run};
 ghost use Rattle.fdr_recover.specs.Looks.{Looks};
-ghost use Rattle.fdr_top.specs.Answers.{EndsBeforeDeck, IsOwn, MayAnswer, WritesNothing};
-ghost use Rattle.fdr_top.specs.Recover.{IsFoundRun, Recovers, RecoversImage, header_refusal, payloads_of};
+ghost use Rattle.fdr_top.specs.Answers.{IsOwn};
+ghost use Rattle.fdr_top.specs.Recover.{IsFoundRun, Recovers, header_refusal, payloads_of};
 ghost use Rattle.fdr_words.specs.Forms.{recover_image};
-ghost use Rattle.fdr_top.specs.Complete.{IsFaultless, IsWholeInput};
-ghost use Rattle.fdr_top.specs.Leaves.{Causes, LeavesAll, LeavesUnused};
+ghost use Rattle.fdr_top.specs.Commands.{Works};
+ghost use Rattle.fdr_table.specs.Rows.{TableRows};
+ghost use Rattle.fdr_top.specs.Refusals.{HasHeader};
 
 use crate::outcome::Outcome;
 use fdr_deck::Deck;
@@ -53,6 +54,8 @@ fn add_block<D: Deck, O: Sink>(
     ensures answer { IfErr result (λ answer. (answer ≡ Outcome.DiskFault) ⊎ (answer ≡ Outcome.WriteFault)) }
     ensures disk_fault { result ≡ Err Outcome.DiskFault → Rose (D.state deck.old).disk_faults (D.state deck.new).disk_faults }
     ensures write_fault { result ≡ Err Outcome.WriteFault → Rose (O.faults out.old) (O.faults out.new) }
+    ensures disk_unfailed { result ≢ Err Outcome.DiskFault → (D.state deck.new).disk_faults ≡ (D.state deck.old).disk_faults }
+    ensures sink_unfailed { result ≢ Err Outcome.WriteFault → O.faults out.new ≡ O.faults out.old }
     ensures disk_quiet { OnOk result ((D.state deck.new).disk_faults ≡ (D.state deck.old).disk_faults) }
     ensures sink_quiet { OnOk result (O.faults out.new ≡ O.faults out.old) }
     ensures looks { Looks D.tells (D.state deck.old) (D.state deck.new) }
@@ -89,6 +92,8 @@ fn add_blocks<D: Deck, O: Sink>(
     ensures answer { IfErr result (λ answer. (answer ≡ Outcome.DiskFault) ⊎ (answer ≡ Outcome.WriteFault)) }
     ensures disk_fault { result ≡ Err Outcome.DiskFault → Rose (D.state deck.old).disk_faults (D.state deck.new).disk_faults }
     ensures write_fault { result ≡ Err Outcome.WriteFault → Rose (O.faults out.old) (O.faults out.new) }
+    ensures disk_unfailed { result ≢ Err Outcome.DiskFault → (D.state deck.new).disk_faults ≡ (D.state deck.old).disk_faults }
+    ensures sink_unfailed { result ≢ Err Outcome.WriteFault → O.faults out.new ≡ O.faults out.old }
     ensures sink_quiet { OnOk result (O.faults out.new ≡ O.faults out.old) }
     ensures looks { Looks D.tells (D.state deck.old) (D.state deck.new) }
 {
@@ -115,6 +120,8 @@ fn write_run<D: Deck, O: Sink>(
     ensures answer { IfErr result (λ answer. (answer ≡ Outcome.DiskFault) ⊎ (answer ≡ Outcome.WriteFault)) }
     ensures disk_fault { result ≡ Err Outcome.DiskFault → Rose (D.state deck.old).disk_faults (D.state deck.new).disk_faults }
     ensures write_fault { result ≡ Err Outcome.WriteFault → Rose (O.faults out.old) (O.faults out.new) }
+    ensures disk_unfailed { result ≢ Err Outcome.DiskFault → (D.state deck.new).disk_faults ≡ (D.state deck.old).disk_faults }
+    ensures sink_unfailed { result ≢ Err Outcome.WriteFault → O.faults out.new ≡ O.faults out.old }
     ensures looks { Looks D.tells (D.state deck.old) (D.state deck.new) }
 {
     let found = match scan(deck, h) {
@@ -133,6 +140,9 @@ fn recover_image<D: Deck, O: Sink>(alloc: Global, deck: &mut D, out: &mut O) -> 
     ensures answer { (image : List ℕ) → (result ≡ Outcome.NoMemory) ⊎ IsOwn (recover_image image) result }
     ensures recovers { Recovers D.tells (D.state deck.old) (D.state deck.new) (O.written out.old) (O.written out.new) result }
     ensures write_fault { result ≡ Outcome.WriteFault → Rose (O.faults out.old) (O.faults out.new) }
+    ensures disk_quiet { result ≢ Outcome.DiskFault → (D.state deck.new).disk_faults ≡ (D.state deck.old).disk_faults }
+    ensures write_quiet { result ≢ Outcome.WriteFault → O.faults out.new ≡ O.faults out.old }
+    ensures memory { result ≡ Outcome.NoMemory → HasHeader D.tells (D.state deck.old) (D.state deck.new) }
     ensures unwritten { result ≢ Outcome.Done → result ≢ Outcome.WriteFault → result ≢ Outcome.DiskFault → out.new ≡ out.old }
 {
     let header = match read_image_header(deck) {
@@ -150,19 +160,17 @@ fn recover_image<D: Deck, O: Sink>(alloc: Global, deck: &mut D, out: &mut O) -> 
 
 /// `recover`: writes the payloads of the blocks that the deck's image holds.
 pub fn recover<D: Deck, O: Sink>(alloc: Global, deck: &mut D, out: &mut O) -> Outcome
-    ensures answers { (image : List ℕ) → MayAnswer (recover_image image) result }
-    ensures before_deck { EndsBeforeDeck result → ⊥ }
-    ensures refusal { WritesNothing result → LeavesAll D.tells (D.state deck.old) (D.state deck.new)
-        (O.written out.old) (O.written out.new) (O.faults out.old) (O.faults out.new) result }
-    ensures unused { (image : List ℕ) → LeavesUnused (recover_image image) (D.state deck.old) (D.state deck.new) result }
-    ensures causes { (faults : ℕ) → Causes result faults faults (D.state deck.old) (D.state deck.new)
-        (O.faults out.old) (O.faults out.new) }
-    ensures recover { RecoversImage D.tells (D.state deck.old) (D.state deck.new) (O.written out.old) (O.written out.new) result }
-    ensures complete { (image : List ℕ) (rest : Option (List ℕ)) (faults : ℕ)
-        → IsWholeInput (recover_image image) rest D.tells (D.state deck.old)
-        → IsFaultless (recover_image image) faults faults (D.state deck.old) (D.state deck.new)
-        (O.faults out.old) (O.faults out.new)
-        → (result ≡ Outcome.Done) ⊎ (result ≡ Outcome.NoMemory) }
+    ensures works { (image : List ℕ) (t : TableRows) → Works (recover_image image) t (record {
+      tells = D.tells;
+      old = D.state deck.old;
+      new = D.state deck.new;
+      written_before = O.written out.old;
+      written_now = O.written out.new;
+      sink_before = O.faults out.old;
+      sink_now = O.faults out.new;
+      answer = result;
+    }) }
+    ensures memory { result ≡ Outcome.NoMemory → HasHeader D.tells (D.state deck.old) (D.state deck.new) }
 {
     recover_image(alloc, deck, out)
 }

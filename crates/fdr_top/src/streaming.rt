@@ -1,29 +1,26 @@
 //! The stream of the trace on a deck's line.
 
-ghost use Rattle.std.specs.Prelude.{◌≡◌, ◌≢◌, ◌≤◌, ◌+◌, ℕ, List, [], ◌∷◌, ◌++◌, Option, length, take, OnOk, OnErr, IfOk, ◌⊎◌};
+ghost use Rattle.std.specs.Prelude.{◌≡◌, ◌≢◌, ◌≤◌, ◌+◌, ℕ, List, [], ◌∷◌, ◌++◌, Option, length, take, OnOk, OnErr, IfOk, IsTrue, ◌⊎◌};
 ghost use Rattle.fdr_io.specs.Faults.{Rose};
 ghost use Rattle.fdr_io.specs.Told.{followed_by};
 ghost use Rattle.fdr_deck.specs.Calls.{LeavesDisk};
 ghost use Rattle.fdr_sampler.specs.Stream.{stream_of};
 ghost use Rattle.fdr_bus.specs.declared.BusRecord.{BusRecord};
 ghost use Rattle.fdr_stream.specs.Past.{RepresentsStream};
-ghost use Rattle.fdr_top.specs.Answers.{EndsBeforeDeck, IsOwn, IsPastTable, KeepsLineAndFaults, MayAnswer, WritesNothing};
-ghost use Rattle.fdr_top.specs.Stream.{Streams, StreamsLine, answer_of_stop};
+ghost use Rattle.fdr_top.specs.Answers.{IsOwn, KeepsLineAndFaults};
+ghost use Rattle.fdr_top.specs.Stream.{Streams, answer_of_stop, WritesStreamPart};
 ghost use Rattle.fdr_top.specs.Streaming.{past_of, due_text, ComesNext, IsStreamed, IsStreamedTo, IsStreamedPart, IsUnbegun};
-ghost use Rattle.fdr_table.specs.Bounds.{most_table_bytes};
 ghost use Rattle.fdr_table.specs.Rows.{TableRows};
 ghost use Rattle.fdr_words.specs.Forms.{stream_line};
-ghost use Rattle.fdr_top.specs.Complete.{IsFaultless, IsWholeInput};
-ghost use Rattle.fdr_top.specs.Leaves.{Causes, LeavesAll, LeavesUnused};
-ghost use Rattle.fdr_top.specs.Tables.{ByTable, ReadsItsTable};
-ghost use Rattle.fdr_top.specs.Limits.{TakesAtMost, piece_bytes};
+ghost use Rattle.fdr_top.specs.Commands.{Works};
+ghost use Rattle.fdr_table.specs.Ranges.{IsInRange};
+ghost use Rattle.fdr_check.specs.Soundness.{IsSound};
 
-use crate::load::load_table;
 use crate::outcome::Outcome;
 use fdr_bus::{BusRecord, RecordKind};
 use fdr_check::Sound;
 use fdr_deck::Deck;
-use fdr_io::{Failed, Input, Sink, Source, write_whole};
+use fdr_io::{Failed, Input, Sink, write_whole};
 use fdr_stream::{Fed, Stream};
 use fdr_table::NoMemory;
 use fdr_trace::{TraceLine, TraceStop};
@@ -91,6 +88,7 @@ fn write_rest<O: Sink>(stream: &mut Stream, block: &mut [u8], out: &mut O) -> Re
         → IsStreamed stream.old t records before (O.written out.old)
         → (k : ℕ) × (O.written out.new ≡ followed_by before (take k (stream_of t records)))) }
     ensures cause { OnErr result (Rose (O.faults out.old) (O.faults out.new)) }
+    ensures quiet { OnOk result (O.faults out.new ≡ O.faults out.old) }
     ensures monotone { O.faults out.old ≤ O.faults out.new }
 {
     let count = stream.finish(block);
@@ -122,6 +120,7 @@ fn stream_records<D: Deck, O: Sink>(
     ensures part { (t : TableRows) → IsUnbegun recording.old t → OnErr result (
         IsStreamedPart t D.tells (D.state deck.old) (D.state deck.new) (O.written out.old) (O.written out.new)) }
     ensures cause { OnErr result (Rose (O.faults out.old) (O.faults out.new)) }
+    ensures quiet { OnOk result (O.faults out.new ≡ O.faults out.old) }
     ensures monotone { O.faults out.old ≤ O.faults out.new }
     ensures disk { LeavesDisk (D.state deck.old) (D.state deck.new) }
     ensures told { (D.state deck.new).told ≡ (D.state deck.old).told }
@@ -147,6 +146,10 @@ fn stream_trace<D: Deck, O: Sink>(recording: &mut Recording, deck: &mut D, out: 
         → Streams t D.tells (D.state deck.old) (D.state deck.new) (O.written out.old) (O.written out.new) result }
     ensures line_fault { result ≡ Outcome.ReadFault Input.Line → Rose (D.state deck.old).line_faults (D.state deck.new).line_faults }
     ensures write_fault { result ≡ Outcome.WriteFault → Rose (O.faults out.old) (O.faults out.new) }
+    ensures write_quiet { result ≢ Outcome.WriteFault → O.faults out.new ≡ O.faults out.old }
+    ensures part_of_whole { (t : TableRows) → IsUnbegun recording.old t → IsTrue D.tells.line
+        → (Rose (D.state deck.old).line_faults (D.state deck.new).line_faults → ⊥)
+        → WritesStreamPart t (D.state deck.old) (O.written out.old) (O.written out.new) }
     ensures disk { LeavesDisk (D.state deck.old) (D.state deck.new) }
     ensures told { (D.state deck.new).told ≡ (D.state deck.old).told }
 {
@@ -173,6 +176,10 @@ fn stream_sound<D: Deck, O: Sink>(
         → Streams sound.now D.tells (D.state deck.old) (D.state deck.new) (O.written out.old) (O.written out.new) result }
     ensures line_fault { result ≡ Outcome.ReadFault Input.Line → Rose (D.state deck.old).line_faults (D.state deck.new).line_faults }
     ensures write_fault { result ≡ Outcome.WriteFault → Rose (O.faults out.old) (O.faults out.new) }
+    ensures write_quiet { result ≢ Outcome.WriteFault → O.faults out.new ≡ O.faults out.old }
+    ensures part_of_whole { result ≢ Outcome.NoMemory → IsTrue D.tells.line
+        → (Rose (D.state deck.old).line_faults (D.state deck.new).line_faults → ⊥)
+        → WritesStreamPart sound.now (D.state deck.old) (O.written out.old) (O.written out.new) }
     ensures no_memory { result ≡ Outcome.NoMemory → O.written out.new ≡ O.written out.old }
     ensures no_memory_faults { result ≡ Outcome.NoMemory → O.faults out.new ≡ O.faults out.old }
     ensures no_memory_line { result ≡ Outcome.NoMemory → KeepsLineAndFaults (D.state deck.old) (D.state deck.new) }
@@ -185,32 +192,20 @@ fn stream_sound<D: Deck, O: Sink>(
     }
 }
 
-/// `stream`: reads a table and writes the recorded stream of the trace on the line.
-pub fn stream<T: Source, D: Deck, O: Sink>(
-    alloc: Global,
-    table: &mut T,
-    deck: &mut D,
-    out: &mut O,
-) -> Outcome
-    ensures answers { (path : List ℕ) → MayAnswer (stream_line path) result }
-    ensures table { ReadsItsTable (T.rest table.old) (T.rest table.new) result }
-    ensures bounded { TakesAtMost (most_table_bytes + piece_bytes) (T.rest table.old) (T.rest table.new) }
-    ensures deck_untouched { EndsBeforeDeck result → deck.new ≡ deck.old }
-    ensures refusal { WritesNothing result → LeavesAll D.tells (D.state deck.old) (D.state deck.new)
-        (O.written out.old) (O.written out.new) (O.faults out.old) (O.faults out.new) result }
-    ensures unused { (path : List ℕ) → LeavesUnused (stream_line path) (D.state deck.old) (D.state deck.new) result }
-    ensures causes { Causes result (T.faults table.old) (T.faults table.new) (D.state deck.old) (D.state deck.new)
-        (O.faults out.old) (O.faults out.new) }
-    ensures stream { IsPastTable result
-        → ByTable (T.rest table.old) (λ (t : TableRows). StreamsLine t D.tells (D.state deck.old) (D.state deck.new)
-        (O.written out.old) (O.written out.new) result) }
-    ensures complete { (path : List ℕ) → IsWholeInput (stream_line path) (T.rest table.old) D.tells (D.state deck.old)
-        → IsFaultless (stream_line path) (T.faults table.old) (T.faults table.new) (D.state deck.old) (D.state deck.new)
-        (O.faults out.old) (O.faults out.new)
-        → (result ≡ Outcome.Done) ⊎ (result ≡ Outcome.NoMemory) }
+/// `stream`: streams the trace of the line by a table.
+pub fn stream<D: Deck, O: Sink>(alloc: Global, sound: &Sound, deck: &mut D, out: &mut O) -> Outcome
+    requires in_range { IsInRange sound.now }
+    requires sound { IsSound sound.now }
+    ensures works { (path : List ℕ) → Works (stream_line path) sound.now (record {
+      tells = D.tells;
+      old = D.state deck.old;
+      new = D.state deck.new;
+      written_before = O.written out.old;
+      written_now = O.written out.new;
+      sink_before = O.faults out.old;
+      sink_now = O.faults out.new;
+      answer = result;
+    }) }
 {
-    match load_table(alloc, table) {
-        Ok(sound) => stream_sound(alloc, &sound, deck, out),
-        Err(answer) => answer,
-    }
+    stream_sound(alloc, sound, deck, out)
 }

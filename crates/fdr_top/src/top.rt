@@ -1,28 +1,116 @@
 //! The top call.
 
-ghost use Rattle.std.specs.Prelude.{◌≡◌, ◌↔◌, ◌⊎◌, ◌+◌, map, string_bytes, None};
-ghost use Rattle.fdr_words.specs.Forms.{Form, form_of};
-ghost use Rattle.fdr_table.specs.Bounds.{most_table_bytes};
-ghost use Rattle.fdr_top.specs.Answers.{Asks, EndsBeforeDeck, MayAnswer, ReadsTable, UsesDeck, WritesNothing, WritesText};
-ghost use Rattle.fdr_top.specs.Commands.{CarriesOut};
-ghost use Rattle.fdr_top.specs.Complete.{IsFaultless, IsWholeInput};
-ghost use Rattle.fdr_top.specs.Leaves.{Causes, LeavesAll, LeavesUnused};
-ghost use Rattle.fdr_top.specs.Limits.{TakesAtMost, piece_bytes};
-ghost use Rattle.fdr_top.specs.Tables.{ReadsItsTable};
+ghost use Rattle.std.specs.Prelude.{ℕ, List, ◌≡◌, ◌↔◌, map, string_bytes, None, IfSome, ◌⊎◌};
+ghost use Rattle.fdr_recover.specs.ImageHeader.{image_fault_of};
+ghost use Rattle.fdr_readout.specs.Listing.{ListsEvents};
+ghost use Rattle.fdr_top.specs.Recover.{HasOneRun};
+ghost use Rattle.fdr_words.specs.Forms.{form_of, IsInBounds};
+ghost use Rattle.fdr_top.specs.Stages.{EndsBeforeDeck};
+ghost use Rattle.fdr_top.specs.Answers.{ReadsTable, UsesDeck, WritesText, ReadsImage};
+ghost use Rattle.fdr_top.specs.Commands.{Works, RunsCommand};
+ghost use Rattle.fdr_table.specs.Ranges.{IsInRange};
+ghost use Rattle.fdr_check.specs.Soundness.{IsSound};
+ghost use Rattle.fdr_frame.specs.WordCount.{IsWordCount};
+ghost use Rattle.fdr_words.specs.Request.{form_of_request};
+ghost use Rattle.fdr_top.specs.Refusals.{HasHeader};
+ghost use Rattle.fdr_table.specs.Rows.{TableRows};
 
-use crate::checking::check;
+use crate::checking::write_report;
 use crate::drilling::drill;
 use crate::formatting::format;
 use crate::list_bits::listbits;
 use crate::listing::list;
+use crate::load::load_table;
 use crate::outcome::Outcome;
 use crate::recording::record;
 use crate::recovering::recover;
 use crate::streaming::stream;
+use fdr_check::Sound;
 use fdr_deck::Deck;
 use fdr_io::{Sink, Source};
 use fdr_words::{Request, WordsFault, read_words};
 use std::alloc::Global;
+
+/// Does the work of a command by the table that it reads.
+fn work<D: Deck, O: Sink>(
+    alloc: Global,
+    request: &Request,
+    sound: &Sound,
+    deck: &mut D,
+    out: &mut O,
+) -> Outcome
+    requires bounds { IsInBounds (form_of_request request.now) }
+    requires reads { ReadsTable (form_of_request request.now) }
+    requires word_count { IsWordCount sound.now.frame.words }
+    requires in_range { IsInRange sound.now }
+    requires sound { IsSound sound.now }
+    ensures works { Works (form_of_request request.now) sound.now (record {
+      tells = D.tells;
+      old = D.state deck.old;
+      new = D.state deck.new;
+      written_before = O.written out.old;
+      written_now = O.written out.new;
+      sink_before = O.faults out.old;
+      sink_now = O.faults out.new;
+      answer = result;
+    }) }
+    ensures deck_unused { (UsesDeck (form_of_request request.now) → ⊥) → deck.new ≡ deck.old }
+    ensures sink_unused { (WritesText (form_of_request request.now) → ⊥) → out.new ≡ out.old }
+    ensures memory { ReadsImage (form_of_request request.now) → result ≡ Outcome.NoMemory
+        → (deck.new ≡ deck.old) ⊎ HasHeader D.tells (D.state deck.old) (D.state deck.new) }
+{
+    match request {
+        Request::CheckTable { .. } => write_report(alloc, sound, out),
+        Request::StreamLine { .. } => stream(alloc, sound, deck, out),
+        Request::ListBits { .. } => listbits(alloc, sound, deck, out),
+        Request::FormatImage { slots, payload, .. } => format(sound, *slots, *payload, deck),
+        Request::RecordLine { .. } => record(alloc, sound, deck),
+        Request::ListImage { .. } => list(alloc, sound, deck, out),
+        Request::Drill { seed, frames, .. } => drill(alloc, sound, *seed, *frames, deck, out),
+        Request::RecoverImage { .. } => unreachable!(),
+    }
+}
+
+/// Carries out a command: reads its table, where it has one, and does its work.
+fn carry_out<T: Source, D: Deck, O: Sink>(
+    alloc: Global,
+    request: &Request,
+    table: &mut T,
+    deck: &mut D,
+    out: &mut O,
+) -> Outcome
+    requires bounds { IsInBounds (form_of_request request.now) }
+    ensures runs { RunsCommand (form_of_request request.now) (record {
+      rest_before = T.rest table.old;
+      rest_now = T.rest table.new;
+      table_before = T.faults table.old;
+      table_now = T.faults table.new;
+      work = record {
+        tells = D.tells;
+        old = D.state deck.old;
+        new = D.state deck.new;
+        written_before = O.written out.old;
+        written_now = O.written out.new;
+        sink_before = O.faults out.old;
+        sink_now = O.faults out.new;
+        answer = result;
+      };
+    }) }
+    ensures deck_untouched { EndsBeforeDeck result → deck.new ≡ deck.old }
+    ensures table_unused { (ReadsTable (form_of_request request.now) → ⊥) → table.new ≡ table.old }
+    ensures deck_unused { (UsesDeck (form_of_request request.now) → ⊥) → deck.new ≡ deck.old }
+    ensures sink_unused { (WritesText (form_of_request request.now) → ⊥) → out.new ≡ out.old }
+    ensures memory { ReadsImage (form_of_request request.now) → result ≡ Outcome.NoMemory
+        → (deck.new ≡ deck.old) ⊎ HasHeader D.tells (D.state deck.old) (D.state deck.new) }
+{
+    if let Request::RecoverImage { .. } = request {
+        return recover(alloc, deck, out);
+    }
+    match load_table(alloc, table) {
+        Ok(sound) => work(alloc, request, &sound, deck, out),
+        Err(answer) => answer,
+    }
+}
 
 /// Runs the command that the words after the program's name ask for.
 ///
@@ -36,6 +124,7 @@ use std::alloc::Global;
 /// - `drill TABLE IMAGE` records a generated trace in the image, and writes a line of what the image then lists as.
 ///
 /// `table` gives the bytes of the table. Each answer says what was done; its clauses say when it comes and what it leaves.
+#[tactic(auto, using(crate::proofs::OneRun::one_run))]
 pub fn run<T: Source, D: Deck, O: Sink>(
     alloc: Global,
     words: &[String],
@@ -43,54 +132,47 @@ pub fn run<T: Source, D: Deck, O: Sink>(
     deck: &mut D,
     out: &mut O,
 ) -> Outcome
-    // The words decide first, and where they are wrong nothing is touched.
+    // The words decide first, and where they are of no form nothing is touched.
     ensures usage { (result ≡ Outcome.Usage) ↔ (form_of (map string_bytes words.now) ≡ None) }
-    ensures untouched { result ≡ Outcome.Usage → (table.new ≡ table.old) × (out.new ≡ out.old) }
+    ensures untouched { form_of (map string_bytes words.now) ≡ None
+        → (table.new ≡ table.old) × (deck.new ≡ deck.old) × (out.new ≡ out.old) }
+
+    // What is promised of the command that they ask for.
+    ensures runs { IfSome (form_of (map string_bytes words.now)) (λ form. RunsCommand form (record {
+      rest_before = T.rest table.old;
+      rest_now = T.rest table.new;
+      table_before = T.faults table.old;
+      table_now = T.faults table.new;
+      work = record {
+        tells = D.tells;
+        old = D.state deck.old;
+        new = D.state deck.new;
+        written_before = O.written out.old;
+        written_now = O.written out.new;
+        sink_before = O.faults out.old;
+        sink_now = O.faults out.new;
+        answer = result;
+      };
+    })) }
+
+    // Memory ends before the disk is asked for anything, or once the header of its image is known to be good.
+    ensures memory { result ≡ Outcome.NoMemory → IfSome (form_of (map string_bytes words.now)) (λ form. ReadsImage form
+        → (deck.new ≡ deck.old) ⊎ HasHeader D.tells (D.state deck.old) (D.state deck.new)) }
+
+    // What it doesn't use isn't asked for anything.
     ensures deck_untouched { EndsBeforeDeck result → deck.new ≡ deck.old }
+    ensures left_alone { IfSome (form_of (map string_bytes words.now)) (λ form.
+        ((ReadsTable form → ⊥) → table.new ≡ table.old) × ((UsesDeck form → ⊥) → deck.new ≡ deck.old)
+        × ((WritesText form → ⊥) → out.new ≡ out.old)) }
 
-    // Each command gives only answers that are its own.
-    ensures answers { (form : Form) → Asks (map string_bytes words.now) form → MayAnswer form result }
-
-    // The table, where the command reads one.
-    ensures table { (form : Form) → Asks (map string_bytes words.now) form → ReadsTable form
-        → ReadsItsTable (T.rest table.old) (T.rest table.new) result }
-    ensures bounded { TakesAtMost (most_table_bytes + piece_bytes) (T.rest table.old) (T.rest table.new) }
-
-    // What a refusal leaves, and what a command doesn't use.
-    ensures refusal { WritesNothing result → LeavesAll D.tells (D.state deck.old) (D.state deck.new)
-        (O.written out.old) (O.written out.new) (O.faults out.old) (O.faults out.new) result }
-    ensures unused { (form : Form) → Asks (map string_bytes words.now) form
-        → LeavesUnused form (D.state deck.old) (D.state deck.new) result }
-    ensures left_alone { (form : Form) → Asks (map string_bytes words.now) form
-        → ((ReadsTable form → ⊥) → table.new ≡ table.old) × ((UsesDeck form → ⊥) → deck.new ≡ deck.old)
-        × ((WritesText form → ⊥) → out.new ≡ out.old) }
-    ensures causes { Causes result (T.faults table.old) (T.faults table.new) (D.state deck.old) (D.state deck.new)
-        (O.faults out.old) (O.faults out.new) }
-
-    // What each command does.
-    ensures carries_out { (form : Form) → Asks (map string_bytes words.now) form → CarriesOut form (T.rest table.old)
-        D.tells (D.state deck.old) (D.state deck.new) (O.written out.old) (O.written out.new) result }
-
-    // Right words, a table that is accepted, an input that is whole and no fault: all is done, or memory ended.
-    ensures complete { (form : Form) → Asks (map string_bytes words.now) form
-        → IsWholeInput form (T.rest table.old) D.tells (D.state deck.old)
-        → IsFaultless form (T.faults table.old) (T.faults table.new) (D.state deck.old) (D.state deck.new)
-        (O.faults out.old) (O.faults out.new)
-        → (result ≡ Outcome.Done) ⊎ (result ≡ Outcome.NoMemory) }
+    // What is said of runs and of listings has one meaning: each image without a fault has one recovered run, and each list of
+    // bits has one list of frames and gaps.
+    ensures one_run { (image : List ℕ) → image_fault_of image ≡ None → HasOneRun image }
+    ensures one_listing { (t : TableRows) (b : List ℕ) → ListsEvents t b }
 {
-    let request = match read_words(alloc, words) {
-        Ok(request) => request,
-        Err(WordsFault::Usage) => return Outcome::Usage,
-        Err(WordsFault::NoMemory) => return Outcome::NoMemory,
-    };
-    match request {
-        Request::CheckTable { .. } => check(alloc, table, out),
-        Request::StreamLine { .. } => stream(alloc, table, deck, out),
-        Request::ListBits { .. } => listbits(alloc, table, deck, out),
-        Request::FormatImage { slots, payload, .. } => format(alloc, slots, payload, table, deck),
-        Request::RecordLine { .. } => record(alloc, table, deck),
-        Request::ListImage { .. } => list(alloc, table, deck, out),
-        Request::RecoverImage { .. } => recover(alloc, deck, out),
-        Request::Drill { seed, frames, .. } => drill(alloc, seed, frames, table, deck, out),
+    match read_words(alloc, words) {
+        Ok(request) => carry_out(alloc, &request, table, deck, out),
+        Err(WordsFault::Usage) => Outcome::Usage,
+        Err(WordsFault::NoMemory) => Outcome::NoMemory,
     }
 }

@@ -181,7 +181,7 @@ impl TraceLine {
     /// piece on the stack, which the calls that pull nothing don't pay for.
     #[inline(never)]
     fn pull<D: Deck>(&mut self, deck: &mut D) -> Result<usize, Failed>
-        requires { length self.old.waiting < 16 }
+        requires room { length self.old.waiting ≤ 16 }
         ensures pulled { IfOk result (λ n. (piece : List ℕ) × (length piece ≡ n) × (self.new.waiting ≡ self.old.waiting ++ piece)
             × Pulled D.tells (D.state deck.old) (D.state deck.new) piece) }
         ensures kept { OnErr result (KeepsLine (D.state deck.old) (D.state deck.new)) }

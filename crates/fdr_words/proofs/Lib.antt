@@ -1,4 +1,5 @@
 pub mod UsesSteps
+pub mod Moving
 pub mod Placed
 pub mod ClapSteps
 pub mod ClapWalk

@@ -53,7 +53,7 @@ pub where_some : {A : Type 0} (b : Bool) (x y : A) → (if b then Some x else No
 where_some true x y e = (refl, cc)
 where_some false x y e = cc
 
-then_some : {A B : Type 0} (f : A → Option B) (o : Option A) (b : B) → option_and_then f o ≡ Some b → (a : A) × (o ≡ Some a) × (f a ≡ Some b)
+pub then_some : {A B : Type 0} (f : A → Option B) (o : Option A) (b : B) → option_and_then f o ≡ Some b → (a : A) × (o ≡ Some a) × (f a ≡ Some b)
 then_some f None b e = cc
 then_some f (Some a) b e = (a, refl, e)
 

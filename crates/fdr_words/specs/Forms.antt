@@ -94,38 +94,65 @@ form_of_uses u = form_with u.plain u.slots u.payload u.seed u.frames
 unfoldable pub form_of : List (List ℕ) → Option Form
 form_of words = option_and_then form_of_uses (uses_of words)
 
+-- what a command takes of the input line: nothing, a trace, or bits to the line's end
+pub data InputUse : Type 0 where
+  takes_nothing : InputUse
+  takes_trace : InputUse
+  takes_bits : InputUse
+
+-- what a command does with an image: it has none, makes it, records in it, or only reads it
+pub data ImageUse : Type 0 where
+  has_no_image : ImageUse
+  makes_image : ImageUse
+  records_in_image : ImageUse
+  reads_image : ImageUse
+
+-- What a command uses: the paths of its table and of its image, where it has them; what it takes of the input line, and does with
+-- the image; whether the image has to be for the table's words; and whether it writes text.
+pub record CommandUses : Type 0 where
+  pub table : Option (List ℕ)
+  pub image : Option (List ℕ)
+  pub input : InputUse
+  pub work : ImageUse
+  pub same_words : Bool
+  pub text : Bool
+
+abbrev pub command_uses : Form → CommandUses
+command_uses (check_table table) =
+    record { table = Some table; image = None; input = takes_nothing; work = has_no_image; same_words = false; text = true }
+command_uses (stream_line table) =
+    record { table = Some table; image = None; input = takes_trace; work = has_no_image; same_words = false; text = true }
+command_uses (list_bits table) =
+    record { table = Some table; image = None; input = takes_bits; work = has_no_image; same_words = false; text = true }
+command_uses (format_image table image slots payload) =
+    record { table = Some table; image = Some image; input = takes_nothing; work = makes_image; same_words = false; text = false }
+command_uses (record_line table image) =
+    record { table = Some table; image = Some image; input = takes_trace; work = records_in_image; same_words = true; text = false }
+command_uses (recover_image image) =
+    record { table = None; image = Some image; input = takes_nothing; work = reads_image; same_words = false; text = true }
+command_uses (list_image table image) =
+    record { table = Some table; image = Some image; input = takes_nothing; work = reads_image; same_words = true; text = true }
+command_uses (drill_image table image seed frames) =
+    record { table = Some table; image = Some image; input = takes_nothing; work = records_in_image; same_words = true; text = true }
+
 -- the path of the table
 abbrev pub table_path : Form → Option (List ℕ)
-table_path (check_table table) = Some table
-table_path (stream_line table) = Some table
-table_path (list_bits table) = Some table
-table_path (format_image table image slots payload) = Some table
-table_path (record_line table image) = Some table
-table_path (recover_image image) = None
-table_path (list_image table image) = Some table
-table_path (drill_image table image seed frames) = Some table
+table_path form = (command_uses form).table
 
 -- the path of the image
 abbrev pub image_path : Form → Option (List ℕ)
-image_path (check_table table) = None
-image_path (stream_line table) = None
-image_path (list_bits table) = None
-image_path (format_image table image slots payload) = Some image
-image_path (record_line table image) = Some image
-image_path (recover_image image) = Some image
-image_path (list_image table image) = Some image
-image_path (drill_image table image seed frames) = Some image
+image_path form = (command_uses form).image
+
+-- whether a use of an image may write it
+abbrev pub may_write : ImageUse → Bool
+may_write has_no_image = false
+may_write makes_image = true
+may_write records_in_image = true
+may_write reads_image = false
 
 -- whether the command may write the image
 abbrev pub writes_image : Form → Bool
-writes_image (check_table table) = false
-writes_image (stream_line table) = false
-writes_image (list_bits table) = false
-writes_image (format_image table image slots payload) = true
-writes_image (record_line table image) = true
-writes_image (recover_image image) = false
-writes_image (list_image table image) = false
-writes_image (drill_image table image seed frames) = true
+writes_image form = may_write (command_uses form).work
 
 -- the numbers that a form names are within their bounds
 abbrev pub IsInBounds : Form → Type 0

@@ -1,4 +1,5 @@
 pub mod Words
+pub mod Spelling
 pub mod Views
 pub mod Reader
 pub mod Forms

@@ -1,4 +1,4 @@
-//! The words after the program's name, and the request that they make.
+//! The command line: the words after the program's name, and the request that they make.
 #![tactic(auto)]
 
 ghost use Rattle.std.specs.Prelude.{◌≡◌, ◌↔◌, ◌≤◌, Err, Some, None, IfOk, IfSome, length, map, string_bytes};
@@ -14,8 +14,11 @@ use crate::uses::{PlainWords, Uses, uses_of};
 use fdr_table::{NoMemory, PathText, number_in};
 use std::alloc::Global;
 
+mod law;
 mod reader;
 mod uses;
+
+pub use law::{options_may_be_anywhere, options_may_be_one_word_or_two};
 
 /// How many words the longest form has.
 const MAX_WORDS: usize = 7;

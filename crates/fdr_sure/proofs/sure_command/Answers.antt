@@ -1,23 +1,60 @@
 use Rattle.std.proofs.Common.{refl, arith}
-use Rattle.fdr_words.specs.Forms.{check_table, list_bits, recover_image, stream_line}
+use Rattle.fdr_words.specs.Forms.{check_table, drill_image, format_image, list_bits, list_image, record_line, recover_image, stream_line}
+use Rattle.fdr_sure.proofs.Makings.{faultless, making_sure}
 use Rattle.fdr_sure.proofs.sure_command.Goals as goal
 
 pub returns-clause-listing : goal.returns-clause-listing
 returns-clause-listing c = λ path is accepted few.
-    c.run.ensures.complete (list_bits path) is ((c.args.table.now, refl, accepted), refl, few)
-    (λ rose. omega (arith, rose), λ rose. omega (arith, rose), λ rose. omega (arith, rose))
+    (rw is at c.run.ensures.runs).complete ((c.args.table.now, refl, accepted), (refl, few))
+    (faultless (list_bits path) _ (λ rose. omega (arith, rose)) (λ rose. omega (arith, rose))
+    (λ rose. omega (arith, rose)) (λ rose. omega (arith, rose)))
 
 pub returns-clause-stream : goal.returns-clause-stream
 returns-clause-stream c = λ path is accepted ended.
-    c.run.ensures.complete (stream_line path) is ((c.args.table.now, refl, accepted), refl, ended)
-    (λ rose. omega (arith, rose), λ rose. omega (arith, rose), λ rose. omega (arith, rose))
+    (rw is at c.run.ensures.runs).complete ((c.args.table.now, refl, accepted), (refl, ended))
+    (faultless (stream_line path) _ (λ rose. omega (arith, rose)) (λ rose. omega (arith, rose))
+    (λ rose. omega (arith, rose)) (λ rose. omega (arith, rose)))
 
 pub returns-clause-report : goal.returns-clause-report
 returns-clause-report c = λ path is accepted.
-    c.run.ensures.complete (check_table path) is (c.args.table.now, refl, accepted)
-    (λ rose. omega (arith, rose), λ rose. omega (arith, rose))
+    (rw is at c.run.ensures.runs).complete ((c.args.table.now, refl, accepted), tt)
+    (faultless (check_table path) _ (λ rose. omega (arith, rose)) (λ rose. omega (arith, rose))
+    (λ rose. omega (arith, rose)) (λ rose. omega (arith, rose)))
 
 pub returns-clause-recovery : goal.returns-clause-recovery
 returns-clause-recovery c = λ path is good.
-    c.run.ensures.complete (recover_image path) is (refl, good)
-    (λ rose. omega (arith, rose), λ rose. omega (arith, rose))
+    (rw is at c.run.ensures.runs).complete (λ t. (refl, good))
+    (faultless (recover_image path) _ (λ rose. omega (arith, rose)) (λ rose. omega (arith, rose))
+    (λ rose. omega (arith, rose)) (λ rose. omega (arith, rose)))
+
+pub returns-clause-recording : goal.returns-clause-recording
+returns-clause-recording c = λ path image is accepted ended room.
+    (rw is at c.run.ensures.runs).complete ((c.args.table.now, refl, accepted), (refl, ended, refl, room))
+    (faultless (record_line path image) _ (λ rose. omega (arith, rose)) (λ rose. omega (arith, rose))
+    (λ rose. omega (arith, rose)) (λ rose. omega (arith, rose)))
+
+pub returns-clause-image_listing : goal.returns-clause-image_listing
+returns-clause-image_listing c = λ path image is accepted for.
+    (rw is at c.run.ensures.runs).complete ((c.args.table.now, refl, accepted), (refl, for))
+    (faultless (list_image path image) _ (λ rose. omega (arith, rose)) (λ rose. omega (arith, rose))
+    (λ rose. omega (arith, rose)) (λ rose. omega (arith, rose)))
+
+pub returns-clause-drill : goal.returns-clause-drill
+returns-clause-drill c = λ path image seed frames is accepted room.
+    (rw is at c.run.ensures.runs).complete ((c.args.table.now, refl, accepted), (refl, room))
+    (faultless (drill_image path image seed frames) _ (λ rose. omega (arith, rose)) (λ rose. omega (arith, rose))
+    (λ rose. omega (arith, rose)) (λ rose. omega (arith, rose)))
+
+pub returns-clause-making : goal.returns-clause-making
+returns-clause-making c = λ path image slots payload is accepted empty.
+    (rw is at c.run.ensures.runs).complete ((c.args.table.now, refl, accepted), (refl, empty))
+    (faultless (format_image path image slots payload) _ (λ rose. omega (arith, rose)) (λ rose. omega (arith, rose))
+    (λ rose. omega (arith, rose)) (λ rose. omega (arith, rose)))
+
+pub returns-clause-made_already : goal.returns-clause-made_already
+returns-clause-made_already c = λ path image slots payload is accepted some.
+    let e = rw is at c.run.ensures.runs in
+    making_sure path image slots payload c.args.table.now c.run.result e.answers
+    (λ row f x. (e.table refl).refused row f c.args.table.now x refl) accepted
+    (λ x. let rose = e.table_cause x in omega (arith, rose)) (λ x. let rose = e.causes.disk x in omega (arith, rose))
+    (λ past. e.carries_out.2.not_empty_always past some)

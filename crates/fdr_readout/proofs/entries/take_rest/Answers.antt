@@ -26,6 +26,15 @@ returns-clause-all g c = λ bytes first out_first had.
     rw (← whole) (g.met.T.Taker.laws.then _ _ _ _ _ _ _ _ _ had.taken took.1))
     (c.take_known.ensures.all (scanner_finished past) ended)
 
+-- the events are the only list that is one of events
+pub returns-clause-events : goal.returns-clause-events
+unfolding entries_of
+returns-clause-events g c = λ bytes first out_first es had are.
+    let t = c.args.table.now in
+    let same : entries_of t bytes ≡ entries_in t bytes es =
+    ap (entries_in t bytes) (sym ((c.events_are_unique.ensures bytes t.frame.words).only_events es are)) in
+    rw (← same) (returns-clause-all g c bytes first out_first had)
+
 pub returns-clause-part : goal.returns-clause-part
 returns-clause-part g c = λ bytes first out_first had.
     let t = c.args.table.now in

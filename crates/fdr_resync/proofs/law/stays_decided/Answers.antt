@@ -6,6 +6,7 @@ use Rattle.fdr_resync.proofs.Following.{rest_from}
 use Rattle.fdr_resync.proofs.Standing.{known_are}
 use Rattle.fdr_resync.proofs.Growing.{frames_extend, decided_extends, events_extend}
 use Rattle.fdr_resync.proofs.Ahead.{next_of_all}
+use Rattle.fdr_resync.proofs.Longest.{none_kept_back}
 use Rattle.fdr_resync.proofs.law.stays_decided.Goals as goal
 
 pub returns-clause-frames : goal.returns-clause-frames
@@ -19,6 +20,9 @@ returns-clause-empty c = λ w count. decided_from_none [] w 0 (none_in_few_bytes
 
 pub returns-clause-events : goal.returns-clause-events
 returns-clause-events c = λ bytes more w count. events_extend bytes more w (word_count_some w count)
+
+pub returns-clause-longest : goal.returns-clause-longest
+returns-clause-longest c = none_kept_back
 
 pub returns-clause-taken : goal.returns-clause-taken
 returns-clause-taken c = λ k past st. (rest_from past.finished past.bytes past.words k.free, known_are k past st)

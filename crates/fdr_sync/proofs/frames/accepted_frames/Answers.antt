@@ -1,19 +1,19 @@
 use Rattle.std.proofs.Common.{◌≡◌, ◌+◌, ◌*◌, ap, arith}
 use Rattle.fdr_sync.proofs.AcceptedLemmas.{are_accepted, only_accepted}
-use Rattle.fdr_sync.proofs.FrameSteps.{word_count_some, found_within, accepted_more, accepted_all}
+use Rattle.fdr_sync.proofs.FrameSteps.{found_within, accepted_more, accepted_all}
 use Rattle.fdr_sync.proofs.frames.accepted_frames.Goals as goal
 
 pub returns-in_err-push-clause-accepted : goal.returns-in_err-push-clause-accepted
-returns-in_err-push-clause-accepted c = are_accepted c.args.bytes.now c.args.words (word_count_some c.args.words c.requires.word_count)
+returns-in_err-push-clause-accepted c = are_accepted c.args.bytes.now c.args.words
 
 pub returns-in_err-push-clause-only : goal.returns-in_err-push-clause-only
-returns-in_err-push-clause-only c = only_accepted c.args.bytes.now c.args.words (word_count_some c.args.words c.requires.word_count)
+returns-in_err-push-clause-only c = only_accepted c.args.bytes.now c.args.words
 
 pub returns-clause-accepted : goal.returns-clause-accepted
-returns-clause-accepted c = are_accepted c.args.bytes.now c.args.words (word_count_some c.args.words c.requires.word_count)
+returns-clause-accepted c = are_accepted c.args.bytes.now c.args.words
 
 pub returns-clause-only : goal.returns-clause-only
-returns-clause-only c = only_accepted c.args.bytes.now c.args.words (word_count_some c.args.words c.requires.word_count)
+returns-clause-only c = only_accepted c.args.bytes.now c.args.words
 
 pub overflow_add-free : goal.overflow_add-free
 overflow_add-free c =

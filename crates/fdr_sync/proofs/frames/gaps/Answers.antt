@@ -3,7 +3,7 @@ use Rattle.std.proofs.lemmas.List.{map-append}
 use Rattle.fdr_sync.specs.declared.frames.Gap.{Gap}
 use Rattle.fdr_sync.specs.Events.{gaps_from}
 use Rattle.fdr_sync.proofs.EventLemmas.{are_events, only_events, total_bits}
-use Rattle.fdr_sync.proofs.FrameSteps.{word_count_some, found_within, gaps_more_gap, gaps_more_none, gaps_all_gap, gaps_all_none}
+use Rattle.fdr_sync.proofs.FrameSteps.{found_within, gaps_more_gap, gaps_more_none, gaps_all_gap, gaps_all_none}
 use Rattle.fdr_sync.proofs.frames.gaps.Goals as goal
 use Rattle.fdr_sync.proofs.frames.gaps.Goals.{then-free-at+in_ok-push, else-free-at, then-free-end+in_ok-push-2, else-free-end}
 
@@ -18,28 +18,28 @@ pub returns-in_err-push-clause-total : goal.returns-in_err-push-clause-total
 returns-in_err-push-clause-total c = total_bits c.args.bytes.now c.args.words
 
 pub returns-in_err-push-clause-events : goal.returns-in_err-push-clause-events
-returns-in_err-push-clause-events c = are_events c.args.bytes.now c.args.words (word_count_some c.args.words c.requires.word_count)
+returns-in_err-push-clause-events c = are_events c.args.bytes.now c.args.words
 
 pub returns-in_err-push-clause-only : goal.returns-in_err-push-clause-only
-returns-in_err-push-clause-only c = only_events c.args.bytes.now c.args.words (word_count_some c.args.words c.requires.word_count)
+returns-in_err-push-clause-only c = only_events c.args.bytes.now c.args.words
 
 pub returns-in_err-push-2-clause-total : goal.returns-in_err-push-2-clause-total
 returns-in_err-push-2-clause-total c = total_bits c.args.bytes.now c.args.words
 
 pub returns-in_err-push-2-clause-events : goal.returns-in_err-push-2-clause-events
-returns-in_err-push-2-clause-events c = are_events c.args.bytes.now c.args.words (word_count_some c.args.words c.requires.word_count)
+returns-in_err-push-2-clause-events c = are_events c.args.bytes.now c.args.words
 
 pub returns-in_err-push-2-clause-only : goal.returns-in_err-push-2-clause-only
-returns-in_err-push-2-clause-only c = only_events c.args.bytes.now c.args.words (word_count_some c.args.words c.requires.word_count)
+returns-in_err-push-2-clause-only c = only_events c.args.bytes.now c.args.words
 
 pub returns-clause-total : goal.returns-clause-total
 returns-clause-total c = total_bits c.args.bytes.now c.args.words
 
 pub returns-clause-events : goal.returns-clause-events
-returns-clause-events c = are_events c.args.bytes.now c.args.words (word_count_some c.args.words c.requires.word_count)
+returns-clause-events c = are_events c.args.bytes.now c.args.words
 
 pub returns-clause-only : goal.returns-clause-only
-returns-clause-only c = only_events c.args.bytes.now c.args.words (word_count_some c.args.words c.requires.word_count)
+returns-clause-only c = only_events c.args.bytes.now c.args.words
 
 pub overflow_add-free : goal.overflow_add-free
 overflow_add-free c =

@@ -1,8 +1,9 @@
-use Rattle.std.proofs.Common.{ap, refl, inr, ⊎_elim, arith}
+use Rattle.std.proofs.Common.{◌∙◌, ap, refl, inr, ⊎_elim, arith}
 use Rattle.fdr_top.specs.Supply.{drawn_trace}
 use Rattle.fdr_top.specs.declared.outcome.Outcome.TheVariants as outcome
 use Rattle.fdr_top.proofs.Drilled.{begun_generator, drill_cut, drill_shut, drill_told, learns_then, lines_then}
 use Rattle.fdr_top.proofs.ListedImages.{of_blocks_begun, of_blocks_drill}
+use Rattle.fdr_top.proofs.Answering.{memory_writes}
 use Rattle.fdr_top.proofs.RecordLines.{refuses_nothing}
 use Rattle.fdr_top.proofs.SessionEnds.{keeps_line, keeps_line_then}
 use Rattle.fdr_top.proofs.drilling.drill_image.Goals as goal
@@ -78,3 +79,19 @@ returns-clause-unwritten g c = λ not_done not_failed.
     (λ done. absurd (not_done done))
     (λ rest. ⊎_elim (λ failed. absurd (not_failed failed)) (λ unread. c.write_summary.ensures.unread unread) rest)
     c.write_summary.ensures.answer
+
+pub returns-in_default-clause-memory : goal.returns-in_default-clause-memory
+returns-in_default-clause-memory g c = λ e.
+    let opened = c.in-Ok.ensures.opened in
+    record { long = omega (arith, opened.whole); good = λ told. (opened.image told).no_fault }
+
+pub returns-in-Err-record_source-clause-memory : goal.returns-in-Err-record_source-clause-memory
+returns-in-Err-record_source-clause-memory g c = λ e.
+    record { long = (c.in-Err-record_source.ensures.memory e).long; good = λ told. (c.in-Ok.ensures.opened.image told).no_fault }
+
+pub returns-clause-memory : goal.returns-clause-memory
+returns-clause-memory g c = λ e. absurd (of_blocks_begun c.write_summary.result c.write_summary.ensures.answer (memory_writes _ e))
+
+pub returns-clause-disk_quiet : goal.returns-clause-disk_quiet
+returns-clause-disk_quiet g c = λ other.
+    c.write_summary.ensures.disk_quiet other ∙ c.in-Ok-record_source.ensures.disk_quiet ∙ c.in-Ok.ensures.disk_quiet (λ e. absurd (cc))

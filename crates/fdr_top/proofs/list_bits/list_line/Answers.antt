@@ -1,7 +1,8 @@
-use Rattle.std.proofs.Common.{sym, ◌∙◌, inr, subst}
+use Rattle.std.proofs.Common.{sym, ◌∙◌, inr, ap, subst}
 use Rattle.fdr_top.proofs.ListedLines.{end_fault, end_not_memory, end_not_write, end_own}
 use Rattle.fdr_words.specs.Forms.{list_bits}
 use Rattle.fdr_top.specs.Answers.{IsOwn}
+use Rattle.fdr_top.specs.Listbits.{answer_of}
 use Rattle.fdr_top.proofs.list_bits.list_line.Goals as goal
 
 pub returns-in-Ok-write_line-clause-no_memory_line : goal.returns-in-Ok-write_line-clause-no_memory_line
@@ -31,3 +32,13 @@ returns-in-Ok-write_line-clause-lists g c = λ not. rw (← c.table.ensures, c.a
 
 pub returns-clause-lists : goal.returns-clause-lists
 returns-clause-lists g c = λ not. rw (← c.table.ensures) c.in-Err.ensures.part
+
+pub returns-in-Ok-write_line-clause-part_of_whole : goal.returns-in-Ok-write_line-clause-part_of_whole
+returns-in-Ok-write_line-clause-part_of_whole g c = λ fails. absurd (end_not_write c.in-Ok-write_line.end (sym c.answer_of.ensures ∙ fails))
+
+pub returns-clause-part_of_whole : goal.returns-clause-part_of_whole
+returns-clause-part_of_whole g c = λ fails. rw (← c.table.ensures) c.in-Err.ensures.part_of_whole
+
+pub returns-in-Ok-write_line-clause-line_quiet : goal.returns-in-Ok-write_line-clause-line_quiet
+returns-in-Ok-write_line-clause-line_quiet g c = λ not_read not_written.
+    c.in-Ok-write_line.ensures.line_quiet (λ e. not_read (c.answer_of.ensures ∙ ap answer_of e))

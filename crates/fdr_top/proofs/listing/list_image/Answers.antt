@@ -1,7 +1,8 @@
 use Rattle.fdr_top.specs.declared.outcome.Outcome.TheVariants as outcome
 use Rattle.fdr_top.proofs.ListedImages.{blocks_listed, of_blocks_begun, of_blocks_list, unlisted}
+use Rattle.fdr_top.proofs.Answering.{memory_writes}
 use Rattle.fdr_top.proofs.RecordLines.{refuses_nothing}
-use Rattle.std.proofs.Common.{inr, arith}
+use Rattle.std.proofs.Common.{◌∙◌, inr, arith}
 use Rattle.fdr_top.proofs.listing.list_image.Goals as goal
 
 pub returns-in-Err-clause-lists : goal.returns-in-Err-clause-lists
@@ -17,7 +18,7 @@ pub returns-clause-lists : goal.returns-clause-lists
 returns-clause-lists g c =
     let opened = c.in-Ok.ensures.opened in
     blocks_listed c.args.sound.now _ _ _ _ c.in-Ok.reader.header _ _ _ (g.met.D.Deck.sound c.args.deck.now) c.open_image.ensures.looks
-    c.list_blocks.ensures.looks opened.header opened.image c.list_blocks.ensures.answer
+    c.list_blocks.ensures.looks opened.header opened.image opened.whole c.list_blocks.ensures.answer
     (rw c.table.ensures at c.list_blocks.ensures.text) (rw c.table.ensures at c.list_blocks.ensures.part)
 
 pub returns-clause-answer : goal.returns-clause-answer
@@ -31,3 +32,14 @@ returns-clause-disk_fault g c = λ fails.
 
 pub returns-clause-unwritten : goal.returns-clause-unwritten
 returns-clause-unwritten g c = λ nothing. absurd (of_blocks_begun c.list_blocks.result c.list_blocks.ensures.answer nothing)
+
+pub returns-in_default-clause-memory : goal.returns-in_default-clause-memory
+returns-in_default-clause-memory g c = λ e.
+    let opened = c.in-Ok.ensures.opened in
+    record { long = omega (arith, opened.whole); good = λ told. (opened.image told).no_fault }
+
+pub returns-clause-memory : goal.returns-clause-memory
+returns-clause-memory g c = λ e. absurd (of_blocks_begun c.list_blocks.result c.list_blocks.ensures.answer (memory_writes _ e))
+
+pub returns-clause-disk_quiet : goal.returns-clause-disk_quiet
+returns-clause-disk_quiet g c = λ other. c.list_blocks.ensures.disk_quiet other ∙ c.in-Ok.ensures.disk_quiet (λ e. absurd (cc))

@@ -1,6 +1,7 @@
 use Rattle.std.proofs.Common.{ap, Err}
 use Rattle.fdr_top.proofs.ListedImages.{header_refused}
-use Rattle.std.proofs.Common.{sym, ◌∙◌}
+use Rattle.std.proofs.Common.{sym, ◌∙◌, arith}
+use Rattle.fdr_top.proofs.Images.{header_not_memory}
 use Rattle.fdr_slot.specs.declared.image.Header.{Header}
 use Rattle.fdr_top.proofs.listing.open_image.Goals as goal
 
@@ -23,3 +24,9 @@ returns-clause-opened g c =
       };
       fresh = c.in-Ok-new.ensures;
     }
+
+pub returns-in-Err-clause-memory : goal.returns-in-Err-clause-memory
+returns-in-Err-clause-memory g c = λ e. absurd (header_not_memory c.in-Err.fault (sym c.refusal.ensures ∙ e))
+
+pub returns-in_default-clause-memory : goal.returns-in_default-clause-memory
+returns-in_default-clause-memory g c = λ e. record { long = omega (arith, c.in-Ok.ensures.whole); good = c.in-Ok.ensures.good }

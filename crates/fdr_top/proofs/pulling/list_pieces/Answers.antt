@@ -8,6 +8,7 @@ use Rattle.fdr_readout.proofs.Taking.{taken_nothing}
 use Rattle.fdr_readout.specs.TakersSound.{text_laws}
 use Rattle.fdr_top.specs.Limits.{most_line_bytes}
 use Rattle.fdr_top.specs.Listbits.{HasWrittenDecided, PullsPieces}
+use Rattle.fdr_top.proofs.ListedLines.{front_of_line, waiting_of_line}
 use Rattle.fdr_top.proofs.ListedLines.{decided_written, front_part, grown_by, in_time_none, in_time_stay, in_time_then, listed_of_piece}
 use Rattle.fdr_top.proofs.ListedLines.{pieces_none, pieces_stay, pieces_then, taken_flushed, waiting_part}
 use Rattle.fdr_top.proofs.pulling.list_pieces.Given.{Over}
@@ -31,6 +32,7 @@ loop-count-init g c =
       disk = search rules;
       told = refl;
       quiet = refl;
+      line_quiet = refl;
       monotone = omega arith;
     }
 
@@ -137,6 +139,27 @@ returns-in_err-take_piece-clause-part g c =
       in_time g at.In-Ok _ _ c.in_err-take_piece.ensures.step_part.1.written,
     )
 
+pub returns-in_err-take_piece-clause-part_of_whole : goal.returns-in_err-take_piece-clause-part_of_whole
+returns-in_err-take_piece-clause-part_of_whole g c =
+    let at = goal.at.returns-in_err-take_piece-clause-part_of_whole g c in
+    let inv = c.loop-count.invariant.listed in
+    let listed = inv.0 ++ take c.min-listed.result c.pull.new.buf in
+    let p = err_from_is_err_and c.from_residual.result c.from_residual.ensures.1 in
+    rw p.1 (λ told. front_of_line c.args.table.now listed (inv.0 ++ take c.in-Ok.count c.pull.new.buf) (g.D.Deck.state c.pull.new.self).line _ _ _
+    (front g at.After-take_piece) ((pieces g at.In-Ok).takes.line told)
+    (λ more. c.in_err-take_piece.ensures.part inv.0 more [] c.args.out.now inv.2))
+
+pub returns-in_err-finish-clause-part_of_whole : goal.returns-in_err-finish-clause-part_of_whole
+returns-in_err-finish-clause-part_of_whole g c =
+    let at = goal.at.returns-in_err-finish-clause-part_of_whole g c in
+    let inv = c.loop-count.invariant.listed in
+    let taken = c.in_ok-take_piece.ensures.all inv.0 [] c.args.out.now inv.2 in
+    let last = c.in_err-finish.ensures.part in
+    let p = err_from_is_err_and c.from_residual-in_err-finish.result c.from_residual-in_err-finish.ensures.1 in
+    rw p.1 (λ told. waiting_of_line g.O.Sink.written c.args.table.now c.take_piece.new.reader _ (inv.0 ++ take c.in-Ok.count c.pull.new.buf)
+    (g.D.Deck.state c.pull.new.self).line _ c.take_piece.new.taker c.args.out.now c.take_piece.new.out (g.O.Sink.written c.finish.new.out) last.0
+    (front g at.After-take_piece) ((pieces g at.In-Ok).takes.line told) taken last.1)
+
 pub returns-in_err-finish-clause-part : goal.returns-in_err-finish-clause-part
 returns-in_err-finish-clause-part g c =
     let at = goal.at.returns-in_err-finish-clause-part g c in
@@ -197,5 +220,6 @@ loop-count-preserved g c =
       disk = search rules;
       told = c.in-Ok.ensures.told.told ∙ c.loop-count.invariant.told;
       quiet = c.in_ok-finish.ensures.quiet ∙ c.in_ok-take_piece.ensures.quiet ∙ c.loop-count.invariant.quiet;
+      line_quiet = c.in-Ok.ensures.pulls.faults ∙ c.loop-count.invariant.line_quiet;
       monotone = omega (arith, c.loop-count.invariant.monotone, c.in-Ok.ensures.monotone);
     }

@@ -15,6 +15,7 @@ invariant-loop-count g l = record {
   disk : LeavesDisk (g.D.Deck.state l.fn.deck) (g.D.Deck.state l.deck);
   told : (g.D.Deck.state l.deck).told ≡ (g.D.Deck.state l.fn.deck).told;
   quiet : g.O.Sink.faults l.out ≡ g.O.Sink.faults l.fn.out;
+  line_quiet : (g.D.Deck.state l.deck).line_faults ≡ (g.D.Deck.state l.fn.deck).line_faults;
   monotone : (g.D.Deck.state l.fn.deck).line_faults ≤ (g.D.Deck.state l.deck).line_faults;
 }
 

@@ -1,4 +1,4 @@
-use Rattle.std.proofs.Common.{sym, arith}
+use Rattle.std.proofs.Common.{refl, sym, arith}
 use Rattle.fdr_io.proofs.Telling.{preceded_by-nil}
 use Rattle.fdr_top.proofs.Pieces.{TakesAtMost-then}
 use Rattle.fdr_top.proofs.reading.read_table_bytes.Goals as goal
@@ -7,6 +7,7 @@ pub loop-source-init : goal.loop-source-init
 loop-source-init g c = record {
   taken = rw c.new-bytes.ensures.items (preceded_by-nil (g.T.Source.rest c.args.source.now));
   few = omega (arith, c.new-bytes.ensures.len);
+  quiet = refl;
   monotone = omega arith;
 }
 

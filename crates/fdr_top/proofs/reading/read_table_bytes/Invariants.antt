@@ -6,6 +6,7 @@ abbrev pub invariant-loop-source : goal.invariant-loop-source
 invariant-loop-source g l = record {
   taken : preceded_by l.bytes.items (g.T.Source.rest l.source) ≡ g.T.Source.rest l.fn.source;
   few : vec_len l.bytes ≤ 1048576 + 4096;
+  quiet : g.T.Source.faults l.source ≡ g.T.Source.faults l.fn.source;
   monotone : g.T.Source.faults l.fn.source ≤ g.T.Source.faults l.source;
 }
 

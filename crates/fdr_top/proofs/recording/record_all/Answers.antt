@@ -2,9 +2,11 @@ use Rattle.std.proofs.Common.{◌≡◌, ◌∙◌, ap, refl, sym, Err, subst, a
 use Rattle.std.proofs.lemmas.Result.{err_from_is_err_and}
 use Rattle.fdr_deck.specs.Pull.{KeepsLine}
 use Rattle.fdr_top.specs.Answers.{KeepsLineAndFaults}
+use Rattle.fdr_top.specs.Record.{session_refusal}
 use Rattle.fdr_top.specs.Recording.{Continues, fed}
 use Rattle.fdr_top.specs.Supply.{IsGenerator, supplied}
 use Rattle.fdr_top.proofs.SessionEnds.{Continues-closed, Continues-unclosed, is_disk_fault, keeps_line_then, only_close, ring_of, told_closed, two_cut}
+use Rattle.fdr_top.proofs.SessionEnds.{ended_only}
 use Rattle.fdr_top.proofs.recording.record_all.Given.{Over}
 use Rattle.fdr_top.proofs.recording.record_all.Goals.{After-close}
 use Rattle.fdr_top.proofs.recording.record_all.Goals as goal
@@ -110,3 +112,11 @@ returns-in-Err-clause-disk_fault g c = λ fails.
     let is = is_disk_fault c.in-Err.fault (sym c.refusal.ensures ∙ fails) in
     let rose = c.in-Err.ensures.cause (ap Err is) in
     omega (arith, rose, c.in_ok-fed.ensures.disk_quiet)
+
+pub returns-in-Err-clause-cut_quiet : goal.returns-in-Err-clause-cut_quiet
+returns-in-Err-clause-cut_quiet g c = λ other.
+    let r = c.requires in
+    let whole = c.in_ok-fed.ensures.fed r.0 r.1 r.2 in
+    let ends = ended_only c.in-Err.fault (only_close _ c.in-Err.ensures.only) (λ e. other (c.refusal.ensures ∙ ap session_refusal e)) in
+    (c.in-Err.ensures.seq_end (fed r.1 (supplied r.0 whole.pulled)) whole.stands (ap Err ends)).recorded.disk_faults
+    ∙ c.in_ok-fed.ensures.disk_quiet

@@ -3,13 +3,14 @@ use Rattle.fdr_bus.specs.declared.BusRecord.{BusRecord}
 use Rattle.fdr_recorder.specs.Past.{MayFeedSession, SessionPast, due_at, session_with_record}
 use Rattle.fdr_recorder.specs.Recording.{Records}
 use Rattle.fdr_top.specs.Answers.{KeepsLineAndFaults}
+use Rattle.fdr_top.specs.Record.{session_refusal}
 use Rattle.fdr_top.specs.Recording.{HasFed, IsBegun, fed}
 use Rattle.fdr_top.specs.Supply.{IsGenerator, RecordSupply}
 use Rattle.fdr_top.specs.declared.outcome.Outcome.{Outcome}
 use Rattle.fdr_top.proofs.Records.{is_end-no, is_end-yes}
 use Rattle.fdr_top.proofs.Sessions.{HasFed-pull, HasFed-feed}
 use Rattle.fdr_top.proofs.SessionEnds.{Continues-fault, HasEnded-at, HasFedAll-end, HasFedAll-stop, HasRecorded-at, Records-at, begun, bound_of, is_disk_fault}
-use Rattle.fdr_top.proofs.SessionEnds.{keeps_line, keeps_line_then, limits_of, line_failed, only_two, ring_at, sure_at, two_cut}
+use Rattle.fdr_top.proofs.SessionEnds.{keeps_line, ended_only, keeps_line_then, limits_of, line_failed, only_two, ring_at, sure_at, two_cut}
 use Rattle.fdr_top.proofs.Supplies.{may_feed, supplied_with_next}
 use Rattle.fdr_top.proofs.recording.record_records.Given.{Over}
 use Rattle.fdr_top.proofs.recording.record_records.Goals.{In-Ok, After-feed, In-Ok-feed}
@@ -151,6 +152,7 @@ returns-in-Err-feed-clause-ended g c = λ from past is.
     next.2.unpulled
     (Records-at _ (fed past at.1) _ _ _ _ at.3 (records g place.After-feed from past is))
     (only_two _ f.only)
+    (c.in-Ok.ensures.quiet (λ x. absurd (cc)) ∙ c.loop-next.invariant.quiet)
     (bound_of (fed past at.1) c.loop-next.session at.3)
     (λ ends. HasEnded-at _ (fed past at.1) _ _ _ _ at.3 (f.seq_end (fed past at.1) at.3 fits (ap Err ends))))
 
@@ -221,3 +223,13 @@ returns-in-Err-feed-clause-disk_fault g c = λ fails.
     let rose = c.in-Err-feed.ensures.cause (ap Err is) in
     let same = c.in-Ok.ensures.disk.disk_faults ∙ c.loop-next.invariant.disk_quiet in
     omega (arith, rose, same)
+
+pub returns-in-Err-feed-clause-cut_quiet : goal.returns-in-Err-feed-clause-cut_quiet
+returns-in-Err-feed-clause-cut_quiet g c = λ other.
+    let r = c.requires in
+    let at = c.loop-next.invariant.has r.0 r.1 r.2 in
+    let fits = may g (goal.at.returns-in-Err-feed-clause-cut_quiet g c).In-Ok r.0 r.1 r.2 in
+    let ends = ended_only c.in-Err-feed.fault (only_two _ c.in-Err-feed.ensures.only)
+    (λ e. other (c.refusal.ensures ∙ ap session_refusal e)) in
+    (c.in-Err-feed.ensures.seq_end (fed r.1 at.1) at.3 fits (ap Err ends)).recorded.disk_faults
+    ∙ c.in-Ok.ensures.disk.disk_faults ∙ c.loop-next.invariant.disk_quiet

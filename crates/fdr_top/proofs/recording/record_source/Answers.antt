@@ -1,8 +1,10 @@
-use Rattle.std.proofs.Common.{◌≡◌, ◌∙◌, ap, rules, Err, arith}
+use Rattle.std.proofs.Common.{◌≡◌, ◌∙◌, ◌≢◌, ap, sym, inl, inr, ⊎_elim, rules, Err, arith}
 use Rattle.fdr_recorder.specs.Past.{started}
 use Rattle.fdr_top.proofs.RecordLines.{RecordsSupply-refused, RecordsSupply-started}
-use Rattle.fdr_top.proofs.SessionEnds.{begun_at, cut_begun, cut_reads, reading_begun}
+use Rattle.fdr_top.proofs.SessionEnds.{begun_at, cut_begun, cut_not_memory, cut_reads, fault_same, is_no_memory, not_short, reading_begun}
 use Rattle.fdr_io.specs.Faults.{Rose}
+use Rattle.fdr_top.specs.Record.{session_refusal}
+use Rattle.fdr_top.specs.Refusals.{HasHeader}
 use Rattle.fdr_top.specs.declared.outcome.Outcome.TheVariants as outcome
 use Rattle.fdr_top.proofs.recording.record_source.Goals as goal
 
@@ -11,6 +13,7 @@ returns-in-Err-clause-ended g c = λ from gives.
     let e = c.in-Err.ensures in
     rw c.refusal.ensures (RecordsSupply-refused from c.args.sound.now _ _ _ c.in-Err.fault c.start.ensures.starts
     (λ ends. e.numbers (ap Err ends)) (λ bytes why is. e.image bytes why (ap Err is)) (λ why is. e.small why (ap Err is))
+    (λ short. ⊎_elim (λ is. inl (fault_same _ _ is)) (λ is. inr (fault_same _ _ is)) (e.small_always short))
     (λ image table is. e.words image table (ap Err is)))
 
 pub returns-in_err-closed-clause-ended : goal.returns-in_err-closed-clause-ended
@@ -19,7 +22,7 @@ returns-in_err-closed-clause-ended g c = λ from gives.
     let e = c.in_err-closed.ensures in
     let is = RecordsSupply-started from c.args.sound.now _ c.in-Ok.session _ _ _ _ (s c.args.deck.now) (s c.start.new.deck) c.start.ensures.starts
     c.in-Ok.ensures.started (e.ended from (started _ _ _) (begun_at _ _ from c.in-Ok.session _ _ _ c.in-Ok.ensures.started gives))
-    (cut_begun _ e.only) (cut_reads _ e.only) c.in-Ok.ensures.good in
+    c.record_all.ensures.extent (cut_begun _ e.only) (cut_reads _ e.only) c.in-Ok.ensures.good in
     search rules
 
 pub returns-clause-recorded : goal.returns-clause-recorded
@@ -28,7 +31,7 @@ returns-clause-recorded g c = λ from gives.
     let e = c.in_ok-closed.ensures in
     RecordsSupply-started from c.args.sound.now _ c.in-Ok.session _ _ _ _ (s c.args.deck.now) (s c.start.new.deck) c.start.ensures.starts
     c.in-Ok.ensures.started (e.closed from (started _ _ _) (begun_at _ _ from c.in-Ok.session _ _ _ c.in-Ok.ensures.started gives))
-    (reading_begun _ e.all) (λ all. e.all) c.in-Ok.ensures.good
+    c.record_all.ensures.extent (reading_begun _ e.all) (λ all. e.all) c.in-Ok.ensures.good
 
 pub returns-clause-disk_quiet : goal.returns-clause-disk_quiet
 returns-clause-disk_quiet g c = c.in_ok-closed.ensures.disk_quiet ∙ c.in-Ok.ensures.quiet (λ x. absurd (cc))
@@ -39,4 +42,31 @@ returns-in_err-closed-clause-disk_fault g c =
     let rose : c.in_err-closed.field-0.0 ≡ outcome.DiskFault
     → Rose (g.D.Deck.state c.args.deck.now).disk_faults (g.D.Deck.state c.record_all.new.deck).disk_faults =
     (λ fails. let later = c.in_err-closed.ensures.disk_fault fails in omega (arith, quiet, later)) in
+    search rules
+
+pub returns-in-Err-clause-cut_quiet : goal.returns-in-Err-clause-cut_quiet
+returns-in-Err-clause-cut_quiet g c = λ other.
+    c.in-Err.ensures.quiet (λ e. other (c.refusal.ensures ∙ ap session_refusal (fault_same _ _ e)))
+
+pub returns-in_err-closed-clause-cut_quiet : goal.returns-in_err-closed-clause-cut_quiet
+returns-in_err-closed-clause-cut_quiet g c =
+    let quiet = c.in-Ok.ensures.quiet (λ x. absurd (cc)) in
+    let both : c.in_err-closed.field-0.0 ≢ outcome.DiskFault
+    → (g.D.Deck.state c.record_all.new.deck).disk_faults ≡ (g.D.Deck.state c.args.deck.now).disk_faults =
+    (λ other. c.in_err-closed.ensures.cut_quiet other ∙ quiet) in
+    search rules
+
+pub returns-in-Err-clause-memory : goal.returns-in-Err-clause-memory
+returns-in-Err-clause-memory g c = λ e.
+    let is = is_no_memory c.in-Err.fault (sym c.refusal.ensures ∙ e) in
+    record {
+      long = not_short _ (λ short. ⊎_elim (λ x. let y = sym is ∙ fault_same _ _ x in cc) (λ x. let y = sym is ∙ fault_same _ _ x in cc)
+          (c.in-Err.ensures.small_always short));
+      good = λ told. (c.in-Err.ensures.no_memory told (ap Err is)).no_fault;
+    }
+
+pub returns-in_err-closed-clause-memory : goal.returns-in_err-closed-clause-memory
+returns-in_err-closed-clause-memory g c =
+    let none : c.in_err-closed.field-0.0 ≡ outcome.NoMemory → HasHeader g.D.Deck.tells (g.D.Deck.state c.args.deck.now)
+    (g.D.Deck.state c.record_all.new.deck) = (λ e. absurd (cut_not_memory _ c.in_err-closed.ensures.only e)) in
     search rules

@@ -1,33 +1,28 @@
-use Rattle.std.proofs.Common.{[]}
+use Rattle.std.proofs.Common.{ap}
 use Rattle.fdr_words.specs.Forms.{recover_image}
-use Rattle.fdr_top.proofs.Commands.{memory_may, own_not_line, own_not_table, own_uses}
-use Rattle.fdr_top.proofs.Answering.{image_unused, recovers_image, recovery_done}
+use Rattle.fdr_top.proofs.Answering.{has_cause, image_unused, left_all, passes_keeps, recovers_image, recovery_done, writes_other}
 use Rattle.fdr_top.proofs.recovering.recover.Goals as goal
 
-pub returns-clause-recover : goal.returns-clause-recover
-returns-clause-recover g c = recovers_image [] _ _ _ _ _ _ c.recover_image.ensures.recovers (c.recover_image.ensures.answer [])
-
-pub returns-clause-unused : goal.returns-clause-unused
-returns-clause-unused g c = λ image.
-    image_unused (recover_image image) _ _ _ _ tt (λ none. none) (λ none. none) c.recover_image.ensures.recovers.looks.quiet.passes
-
-pub returns-clause-complete : goal.returns-clause-complete
-returns-clause-complete g c = λ image rest faults whole faultless.
-    recovery_done [] _ _ _ _ _ _ (c.recover_image.ensures.answer [])
-    (recovers_image [] _ _ _ _ _ _ c.recover_image.ensures.recovers (c.recover_image.ensures.answer [])) whole.0 whole.1
-    (λ e. faultless.0 (c.recover_image.ensures.recovers.cause e))
-    (λ e. faultless.1 (c.recover_image.ensures.write_fault e))
-
-pub returns-clause-answers : goal.returns-clause-answers
-returns-clause-answers g c = λ image. memory_may (recover_image image) _ (c.recover_image.ensures.answer image)
-
-pub returns-clause-before_deck : goal.returns-clause-before_deck
-returns-clause-before_deck g c = λ early. own_uses (recover_image []) _ (c.recover_image.ensures.answer []) early
-
-pub returns-clause-causes : goal.returns-clause-causes
-returns-clause-causes g c = λ faults. record {
-  table = λ e. absurd (own_not_table (recover_image []) _ (c.recover_image.ensures.answer []) e);
-  line = λ e. absurd (own_not_line (recover_image []) _ (c.recover_image.ensures.answer []) (λ none. none) e);
-  write = c.recover_image.ensures.write_fault;
-  disk = c.recover_image.ensures.recovers.cause;
-}
+pub returns-clause-works : goal.returns-clause-works
+returns-clause-works g c = λ image t.
+    let answer = c.recover_image.ensures.answer image in
+    let looks = c.recover_image.ensures.recovers.looks in
+    let recovers = recovers_image image _ _ _ _ _ _ c.recover_image.ensures.recovers answer in
+    record {
+      answer = answer;
+      refusal = λ nothing. let same = c.recover_image.ensures.unwritten (writes_other _ _ nothing tt) (writes_other _ _ nothing tt)
+          (writes_other _ _ nothing tt) in
+          left_all _ (ap g.O.Sink.written same) (ap g.O.Sink.faults same) looks.disk looks.learns looks.quiet.passes.told.told
+          (passes_keeps _ _ _ looks.quiet.passes);
+      unused = image_unused (recover_image image) _ tt (λ none. none) (λ none. none) looks.quiet.passes;
+      causes = has_cause (recover_image image) _ answer (λ pulls. absurd pulls) (λ text. c.recover_image.ensures.write_fault)
+          (λ image. c.recover_image.ensures.recovers.cause);
+      no_fault_passed_over = record {
+        line = λ read covers. looks.quiet.passes.line_faults;
+        write = λ other covers. c.recover_image.ensures.write_quiet other;
+        disk = λ other. c.recover_image.ensures.disk_quiet other;
+      };
+      does = recovers;
+      complete = λ whole faultless. recovery_done image _ _ _ _ _ _ answer recovers whole.0 whole.1
+          (λ e. faultless.disk tt (c.recover_image.ensures.recovers.cause e)) (λ e. faultless.sink tt (c.recover_image.ensures.write_fault e));
+    }

@@ -17,6 +17,7 @@ loop-next-init g c = record {
   quiet = refl;
   disk = LeavesDisk-here _;
   told = refl;
+  sink_quiet = refl;
   monotone = omega arith;
 }
 
@@ -43,7 +44,7 @@ returns-in_err-write_record-clause-part g c = λ t fresh.
     let good = good_with_next _ (at.0 ++ next.0) at.1 c.in-Ok.next next.2 in
     let p = err_from_is_err_and c.from_residual.result c.from_residual.ensures.1 in
     rw p.1 (IsStreamedPart-next t _ _ _ (at.0 ++ next.0) (at.1 ++ c.in-Ok.next ∷ []) good.0 _ _ part.0 (PullsMore-next _ _ _ _ at.0 next.0 at.2 next.1)
-    good.1 part.1)
+    good.1 part.1 (c.in-Ok.ensures.quiet (λ e. absurd (cc)) ∙ c.loop-next.invariant.quiet))
 
 pub returns-in-End-clause-all : goal.returns-in-End-clause-all
 returns-in-End-clause-all g c = λ t fresh.
@@ -77,6 +78,7 @@ loop-next-preserved g c = record {
   quiet = c.in-Ok.ensures.quiet (λ e. absurd (cc)) ∙ c.loop-next.invariant.quiet;
   disk = LeavesDisk-then _ _ _ c.loop-next.invariant.disk c.in-Ok.ensures.disk;
   told = c.in-Ok.ensures.told.told ∙ c.loop-next.invariant.told;
+  sink_quiet = c.in_ok-write_record.ensures.quiet ∙ c.loop-next.invariant.sink_quiet;
   monotone = omega (arith, c.loop-next.invariant.monotone, c.write_record.ensures.monotone);
 }
 

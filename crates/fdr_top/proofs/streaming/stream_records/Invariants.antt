@@ -16,6 +16,7 @@ invariant-loop-next g l = record {
   quiet : (g.D.Deck.state l.deck).line_faults ≡ (g.D.Deck.state l.fn.deck).line_faults;
   disk : LeavesDisk (g.D.Deck.state l.fn.deck) (g.D.Deck.state l.deck);
   told : (g.D.Deck.state l.deck).told ≡ (g.D.Deck.state l.fn.deck).told;
+  sink_quiet : g.O.Sink.faults l.out ≡ g.O.Sink.faults l.fn.out;
   monotone : g.O.Sink.faults l.fn.out ≤ g.O.Sink.faults l.out;
 }
 

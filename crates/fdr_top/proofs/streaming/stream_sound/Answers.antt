@@ -17,3 +17,6 @@ returns-in-Ok-clause-no_memory_line g c = λ memory. absurd (own_not_memory (str
 
 pub returns-in-Ok-clause-streams : goal.returns-in-Ok-clause-streams
 returns-in-Ok-clause-streams g c = λ some. c.stream_trace.ensures.streams c.args.sound.now c.in-Ok.ensures
+
+pub returns-in-Ok-clause-part_of_whole : goal.returns-in-Ok-clause-part_of_whole
+returns-in-Ok-clause-part_of_whole g c = λ some. c.stream_trace.ensures.part_of_whole c.args.sound.now c.in-Ok.ensures

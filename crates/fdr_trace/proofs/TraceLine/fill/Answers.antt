@@ -8,9 +8,6 @@ use Rattle.fdr_trace.proofs.TraceLine.fill.Goals as goal
 waits_less : (n : ℕ) (xs : List ℕ) → n ≡ length xs → n < 16 → length xs < 16
 waits_less n xs is less = omega arith
 
-waits_enough : (n : ℕ) (xs : List ℕ) → n ≡ length xs → 16 ≤ n → 16 ≤ length xs
-waits_enough n xs is enough = omega arith
-
 pub loop-self-init : goal.loop-self-init
 loop-self-init g c =
     let sound = g.met.D.Deck.sound c.args.deck.now in
@@ -127,8 +124,7 @@ returns-clause-filled g c = λ bytes records reads few.
       inv.1,
       record {
         reads = inv.2;
-        waits =
-            (waits_enough c.waiting.result c.loop-self.self.waiting c.waiting.ensures c.loop-self-test.false);
+        waits = omega (arith, c.waiting.ensures, c.loop-self-test.false);
       },
       inv.3,
     )

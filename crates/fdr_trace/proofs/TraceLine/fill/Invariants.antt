@@ -19,4 +19,4 @@ invariant-loop-self g l = record {
 }
 
 abbrev pub decreases-loop-self : goal.decreases-loop-self
-decreases-loop-self g l = 16 - length l.self.waiting
+decreases-loop-self g l = 17 - length l.self.waiting

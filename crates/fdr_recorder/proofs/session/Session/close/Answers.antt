@@ -1,4 +1,4 @@
-use Rattle.std.proofs.Common.{◌≡◌, List, [], ◌∷◌, length, take, ap, sym, subst, refl, arith}
+use Rattle.std.proofs.Common.{◌≡◌, ◌∙◌, ℕ, List, [], ◌∷◌, length, take, ap, sym, subst, refl, arith}
 use Rattle.std.proofs.lemmas.List.{length-take}
 use Rattle.std.proofs.lemmas.Result.{err_from_is_err_and}
 use Rattle.fdr_recover.specs.Blocks.{Block}
@@ -8,6 +8,7 @@ use Rattle.fdr_recorder.proofs.Composing.{Records-here, HasRecorded-here}
 use Rattle.fdr_io.proofs.OutputSteps.{failed_or_not}
 use Rattle.fdr_recorder.proofs.Ended.{ring_seq_end, ring_disk_fault, ring_only}
 use Rattle.fdr_recorder.proofs.Closing.{rest-none, rest-one, HasEnded-rest}
+use Rattle.fdr_recorder.proofs.Feeding.{in_box}
 use Rattle.fdr_recorder.proofs.Joined.{all_blocks-rest}
 use Rattle.fdr_recorder.proofs.session.Session.close.Given.{Over}
 use Rattle.fdr_recorder.proofs.session.Session.close.Goals.{After-add}
@@ -15,7 +16,8 @@ use Rattle.fdr_recorder.proofs.session.Session.close.Goals as goal
 
 pub returns-then-count-eq0-clause-next : goal.returns-then-count-eq0-clause-next
 returns-then-count-eq0-clause-next g c past stands =
-    let none = rest-none past c.finish-count.result (c.finish-count.ensures.blocks (stream_past past) stands.stream refl) c.if-count-eq0.true in
+    let none = rest-none past c.finish-count.result
+    (c.finish-count.ensures.blocks (stream_past past) (in_box c.deref_mut.ensures.value stands.stream) refl) c.if-count-eq0.true in
     let long : length (rest_of past) ≡ 0 = ap (λ (l : List Block). length l) none in
     omega (arith, c.next.ensures.number, long)
 
@@ -26,24 +28,26 @@ returns-then-count-eq0-clause-records g c past stands =
 pub returns-then-count-eq0-clause-recorded : goal.returns-then-count-eq0-clause-recorded
 returns-then-count-eq0-clause-recorded g c past stands =
     let d = g.D.Deck.state c.args.deck.now in
-    let none = rest-none past c.finish-count.result (c.finish-count.ensures.blocks (stream_past past) stands.stream refl) c.if-count-eq0.true in
+    let none = rest-none past c.finish-count.result
+    (c.finish-count.ensures.blocks (stream_past past) (in_box c.deref_mut.ensures.value stands.stream) refl) c.if-count-eq0.true in
     subst (λ (l : List Block). HasRecorded g.D.Deck.tells c.args.self.ring.header c.args.self.ring.next l d d) (sym none) (HasRecorded-here _ _ _ d)
 
 pub add-requires-clause-fits : goal.add-requires-clause-fits
 add-requires-clause-fits g c =
     let past = c.requires.stands.0 in
     let stands = c.requires.stands.1 in
-    let few = c.finish-count.ensures.within_payload (stream_past past) stands.stream in
+    let few = c.finish-count.ensures.within_payload (stream_past past) (in_box c.deref_mut.ensures.value stands.stream) in
     let same : c.args.self.ring.header.payload ≡ past.header.payload = ap (λ h. h.payload) stands.header in
-    omega (arith, few, same, length-take c.finish-count.result c.finish-count.new.out)
+    omega (arith, few, same, length-take c.finish-count.result c.deref.result.now)
 
 -- one block was left
 one_left : (g : Over) (c : After-add g) (past : SessionPast) (stands : RepresentsSession c.args.self past)
-    → rest_of past ≡ record { number = c.args.self.ring.next; payload = take c.finish-count.result c.finish-count.new.out } ∷ []
+    → rest_of past ≡ record { number = c.args.self.ring.next; payload = take c.finish-count.result c.deref.result.now } ∷ []
 one_left g c past stands =
-    rest-one past c.finish-count.result c.args.self.ring.next (take c.finish-count.result c.finish-count.new.out)
-    (c.finish-count.ensures.blocks (stream_past past) stands.stream refl) (omega (arith, c.if-count-eq0.false)) stands.next
-    (c.finish-count.ensures.last (stream_past past) stands.stream refl)
+    rest-one past c.finish-count.result c.args.self.ring.next (take c.finish-count.result c.deref.result.now)
+    (c.finish-count.ensures.blocks (stream_past past) (in_box c.deref_mut.ensures.value stands.stream) refl) (omega (arith, c.if-count-eq0.false)) stands.next
+    (ap (λ (l : List ℕ). take c.finish-count.result l) c.deref.ensures
+    ∙ c.finish-count.ensures.last (stream_past past) (in_box c.deref_mut.ensures.value stands.stream) refl)
 
 -- and it was recorded as far as a call records it
 rest_recorded : (g : Over) (c : After-add g) (past : SessionPast) (stands : RepresentsSession c.args.self past)
@@ -65,7 +69,7 @@ returns-in_err-ring-clause-seq_end g c past stands ends =
     let d = g.D.Deck.state c.args.deck.now in
     let a = c.in_err-ring.ensures in
     let why = ring_seq_end c.from_residual.result c.in_err-ring.field-0.0 p.0 p.1 p.2 ends in
-    let b : Block = record { number = next; payload = take c.finish-count.result c.finish-count.new.out } in
+    let b : Block = record { number = next; payload = take c.finish-count.result c.deref.result.now } in
     subst (λ (l : List Block). HasEnded t h next l d (g.D.Deck.state c.add.new.deck)) (sym one)
     (subst (λ deck. HasEnded t h next (b ∷ []) d (g.D.Deck.state deck)) (sym (a.untouched why))
     (HasEnded-rest t h next b d (a.seq_end.0 why)))
@@ -87,14 +91,15 @@ returns-clause-recorded g c past stands =
 
 pub returns-then-count-eq0-clause-all : goal.returns-then-count-eq0-clause-all
 returns-then-count-eq0-clause-all g c past stands = all_blocks-rest past c.finish-count.result (c.finish-count.ensures.blocks
-    (stream_past past) stands.stream refl)
+    (stream_past past) (in_box c.deref_mut.ensures.value stands.stream) refl)
 
 pub returns-in_err-ring-clause-all : goal.returns-in_err-ring-clause-all
 returns-in_err-ring-clause-all g c past stands = all_blocks-rest past c.finish-count.result (c.finish-count.ensures.blocks
-    (stream_past past) stands.stream refl)
+    (stream_past past) (in_box c.deref_mut.ensures.value stands.stream) refl)
 
 pub returns-clause-all : goal.returns-clause-all
-returns-clause-all g c past stands = all_blocks-rest past c.finish-count.result (c.finish-count.ensures.blocks (stream_past past) stands.stream refl)
+returns-clause-all g c past stands = all_blocks-rest past c.finish-count.result
+    (c.finish-count.ensures.blocks (stream_past past) (in_box c.deref_mut.ensures.value stands.stream) refl)
 
 pub returns-then-count-eq0-clause-rest : goal.returns-then-count-eq0-clause-rest
 returns-then-count-eq0-clause-rest g c = g.met.D.Deck.rest_here c.args.deck.now

@@ -1,4 +1,4 @@
-use Rattle.std.proofs.Common.{◌≡◌, ◌+◌, ◌<◌, ◌∙◌, ⊎_elim, ◌∷◌, [], take, refl, arith, None, sym, ap, subst}
+use Rattle.std.proofs.Common.{◌≡◌, ◌+◌, ◌<◌, ◌∙◌, ℕ, List, ◌∷◌, [], length, take, refl, arith, None, sym, ap, subst}
 use Rattle.std.proofs.lemmas.Result.{err_from_is_err_and}
 use Rattle.fdr_io.specs.Faults.{Rose}
 use Rattle.fdr_slot.specs.declared.image.Header.{Header}
@@ -9,13 +9,13 @@ use Rattle.fdr_recorder.specs.Past.{due, due_at, session_bytes, session_with_rec
 use Rattle.fdr_io.proofs.OutputSteps.{failed_or_not}
 use Rattle.fdr_recorder.proofs.Ended.{ring_seq_end, ring_disk_fault, ring_only}
 use Rattle.fdr_recorder.proofs.Feeding.{IsFeeding-first, IsFeeding-step, MayStream-giving, Records-step, Records-due, block_is}
-use Rattle.fdr_recorder.proofs.Feeding.{due-few, stream-taken, number-taken, next-taken, Records-taken, HasRecorded-taken, HasEnded-due}
+use Rattle.fdr_recorder.proofs.Feeding.{in_box, stream-taken, number-taken, next-taken, Records-taken, HasRecorded-taken, HasEnded-due}
 use Rattle.fdr_recorder.proofs.session.Session.feed.Given.{Over}
 use Rattle.fdr_recorder.proofs.session.Session.feed.Goals.{After-add}
 use Rattle.fdr_recorder.proofs.session.Session.feed.Goals as goal
 
-pub loop-i-init : goal.loop-i-init
-loop-i-init g c = record {
+pub loop-ring-init : goal.loop-ring-init
+loop-ring-init g c = record {
   feeding = λ past stands may. (None, due past, IsFeeding-first _ _ _ past _ _ _ (g.met.D.Deck.sound c.args.deck.now) c.requires.fact stands.stream);
   header = refl;
   fact = c.requires.fact;
@@ -26,72 +26,79 @@ loop-i-init g c = record {
 pub feed-requires : goal.feed-requires
 feed-requires g c =
     let r = c.requires.stands in
-    let at = c.loop-i.invariant.feeding r.0 r.1 r.2 in
-    (_, at.2.stands, MayStream-giving r.0 c.args.r.now at.0 at.1 r.2 at.2.same, omega (arith, c.loop-i.invariant.room, at.2.stands.high))
+    let at = c.loop-ring.invariant.feeding r.0 r.1 r.2 in (
+      _,
+      (in_box c.deref_mut.ensures.value at.2.stands),
+      MayStream-giving r.0 c.args.r.now at.0 at.1 r.2 at.2.same,
+      omega (arith, c.loop-ring.invariant.room, ap (λ (l : List ℕ). length l) c.deref_mut-in-loop-ring.ensures.value, r.1.room),
+    )
 
 pub returns-in-Taken-clause-stands : goal.returns-in-Taken-clause-stands
 returns-in-Taken-clause-stands g c past stands may =
-    let at = c.loop-i.invariant.feeding past stands may in
-    let taken = c.in-Taken.ensures.taken _ at.2.stands (MayStream-giving past c.args.r.now at.0 at.1 may at.2.same) refl in
+    let at = c.loop-ring.invariant.feeding past stands may in
+    let taken = c.in-Taken.ensures.taken _ (in_box c.deref_mut.ensures.value at.2.stands) (MayStream-giving past c.args.r.now at.0 at.1 may at.2.same) refl in
     record {
-      header = c.loop-i.invariant.header ∙ stands.header;
-      stream = stream-taken _ _ _ past c.args.r.now _ _ _ _ _ at.0 at.1 at.2 _ taken;
-      next = number-taken _ _ _ past c.args.r.now _ _ _ _ _ at.0 at.1 at.2 _ taken stands.next;
+      header = c.loop-ring.invariant.header ∙ stands.header;
+      stream = stream-taken _ _ _ past c.args.r.now _ _ _ _ at.0 at.1 at.2 _ taken;
+      room = omega (arith, stands.room, c.loop-ring.invariant.room, c.feed.auto.out, ap (λ (l : List ℕ). length l) c.deref_mut-in-loop-ring.ensures.value);
+      next = number-taken _ _ _ past c.args.r.now _ _ _ _ at.0 at.1 at.2 _ taken stands.next;
     }
 
 pub returns-in-Taken-clause-next : goal.returns-in-Taken-clause-next
 returns-in-Taken-clause-next g c past stands may =
-    let at = c.loop-i.invariant.feeding past stands may in
-    let taken = c.in-Taken.ensures.taken _ at.2.stands (MayStream-giving past c.args.r.now at.0 at.1 may at.2.same) refl in
-    next-taken _ _ _ past c.args.r.now _ _ _ _ _ at.0 at.1 at.2 _ taken
+    let at = c.loop-ring.invariant.feeding past stands may in
+    let taken = c.in-Taken.ensures.taken _ (in_box c.deref_mut.ensures.value at.2.stands) (MayStream-giving past c.args.r.now at.0 at.1 may at.2.same) refl in
+    next-taken _ _ _ past c.args.r.now _ _ _ _ at.0 at.1 at.2 _ taken
 
 pub returns-in-Taken-clause-records : goal.returns-in-Taken-clause-records
 returns-in-Taken-clause-records g c past stands may =
-    let at = c.loop-i.invariant.feeding past stands may in
-    let taken = c.in-Taken.ensures.taken _ at.2.stands (MayStream-giving past c.args.r.now at.0 at.1 may at.2.same) refl in
-    Records-taken _ _ _ past c.args.r.now _ _ _ _ _ at.0 at.1 at.2 _ taken
+    let at = c.loop-ring.invariant.feeding past stands may in
+    let taken = c.in-Taken.ensures.taken _ (in_box c.deref_mut.ensures.value at.2.stands) (MayStream-giving past c.args.r.now at.0 at.1 may at.2.same) refl in
+    Records-taken _ _ _ past c.args.r.now _ _ _ _ at.0 at.1 at.2 _ taken
 
 pub returns-in-Taken-clause-recorded : goal.returns-in-Taken-clause-recorded
 returns-in-Taken-clause-recorded g c past stands may =
-    let at = c.loop-i.invariant.feeding past stands may in
-    let taken = c.in-Taken.ensures.taken _ at.2.stands (MayStream-giving past c.args.r.now at.0 at.1 may at.2.same) refl in
-    HasRecorded-taken _ _ _ past c.args.r.now _ _ _ _ _ at.0 at.1 at.2 _ taken
+    let at = c.loop-ring.invariant.feeding past stands may in
+    let taken = c.in-Taken.ensures.taken _ (in_box c.deref_mut.ensures.value at.2.stands) (MayStream-giving past c.args.r.now at.0 at.1 may at.2.same) refl in
+    HasRecorded-taken _ _ _ past c.args.r.now _ _ _ _ at.0 at.1 at.2 _ taken
 
 pub returns-in-Taken-clause-room : goal.returns-in-Taken-clause-room
 returns-in-Taken-clause-room g c past stands may =
-    let at = c.loop-i.invariant.feeding past stands may in
-    let taken = c.in-Taken.ensures.taken _ at.2.stands (MayStream-giving past c.args.r.now at.0 at.1 may at.2.same) refl in
-    let next = next-taken _ _ _ past c.args.r.now _ _ _ _ _ at.0 at.1 at.2 _ taken in
-    omega (arith, next, c.loop-i.ring.bound)
+    let at = c.loop-ring.invariant.feeding past stands may in
+    let taken = c.in-Taken.ensures.taken _ (in_box c.deref_mut.ensures.value at.2.stands) (MayStream-giving past c.args.r.now at.0 at.1 may at.2.same) refl in
+    let next = next-taken _ _ _ past c.args.r.now _ _ _ _ at.0 at.1 at.2 _ taken in
+    omega (arith, next, c.loop-ring.ring.bound)
 
 -- the block that is given is the next of those that are due, and it was recorded as far as a call records it
 block_given : (g : Over) (c : After-add g) (past : SessionPast) (stands : RepresentsSession c.args.self past) (may : MayFeedSession past c.args.r.now)
-    → let at = c.loop-i.invariant.feeding past stands may in
-    let b : Block = record { number = c.loop-i.ring.next; payload = take c.header-payload.result.payload c.feed.new.out } in
+    → let at = c.loop-ring.invariant.feeding past stands may in
+    let b : Block = record { number = c.loop-ring.ring.next; payload = take c.header-payload.result.payload c.deref.result.now } in
     (at.1 < due (session_with_record past c.args.r.now)) × (b ≡ numbered_block (session_with_record past c.args.r.now) at.1)
-    × Records g.D.Deck.tells c.args.self.ring.header c.loop-i.ring.next (b ∷ []) (g.D.Deck.state c.loop-i.deck) (g.D.Deck.state c.add.new.deck)
+    × Records g.D.Deck.tells c.args.self.ring.header c.loop-ring.ring.next (b ∷ []) (g.D.Deck.state c.loop-ring.deck) (g.D.Deck.state c.add.new.deck)
 block_given g c past stands may =
     let s = g.D.Deck.state in
     let r = c.args.r.now in
-    let at = c.loop-i.invariant.feeding past stands may in
+    let at = c.loop-ring.invariant.feeding past stands may in
     let stream = MayStream-giving past r at.0 at.1 may at.2.same in
-    let payload : c.header-payload.result.payload ≡ past.header.payload = ap (λ (h : Header). h.payload) (c.header-payload.ensures.header ∙ stands.header) in
-    let bytes : take c.header-payload.result.payload c.feed.new.out ≡ cut_block past.header.payload (session_bytes (session_with_record past r)) at.1 =
-    ap (λ n. take n c.feed.new.out) payload ∙ c.in-Block.ensures.block _ at.2.stands stream refl in
-    let b : Block = record { number = c.loop-i.ring.next; payload = take c.header-payload.result.payload c.feed.new.out } in (
-      (c.in-Block.ensures.exactly _ at.2.stands stream).0 refl,
-      block_is past r c.args.self.ring.next c.loop-i.ring.next at.1 _ stands.next at.2.number at.2.since bytes,
-      subst (λ (h : Header). Records g.D.Deck.tells h c.loop-i.ring.next (b ∷ []) (s c.loop-i.deck) (s c.add.new.deck)) c.loop-i.invariant.header
+    let payload : c.header-payload.result.payload ≡ past.header.payload = ap (λ (h : Header). h.payload)
+    (c.header-payload.ensures.header ∙ c.loop-ring.invariant.header ∙ stands.header) in
+    let bytes : take c.header-payload.result.payload c.deref.result.now ≡ cut_block past.header.payload (session_bytes (session_with_record past r)) at.1 =
+    ap (λ (l : List ℕ). take c.header-payload.result.payload l) c.deref.ensures ∙ ap (λ n. take n c.feed.new.out) payload
+    ∙ c.in-Block.ensures.block _ (in_box c.deref_mut.ensures.value at.2.stands) stream refl in
+    let b : Block = record { number = c.loop-ring.ring.next; payload = take c.header-payload.result.payload c.deref.result.now } in (
+      (c.in-Block.ensures.exactly _ (in_box c.deref_mut.ensures.value at.2.stands) stream).0 refl,
+      block_is past r c.args.self.ring.next c.loop-ring.ring.next at.1 _ stands.next at.2.number at.2.since bytes,
+      subst (λ (h : Header). Records g.D.Deck.tells h c.loop-ring.ring.next (b ∷ []) (s c.loop-ring.deck) (s c.add.new.deck)) c.loop-ring.invariant.header
           c.add.ensures.records,
     )
 
 pub returns-in_err-ring-in-Block-clause-records : goal.returns-in_err-ring-in-Block-clause-records
 returns-in_err-ring-in-Block-clause-records g c past stands may =
     let r = c.args.r.now in
-    let at = c.loop-i.invariant.feeding past stands may in
+    let at = c.loop-ring.invariant.feeding past stands may in
     let given = block_given g (goal.at.returns-in_err-ring-in-Block-clause-records g c).After-add past stands may in
     Records-due _ _ _ past r (at.1 + 1) _ _ (omega (arith, given.0))
-    (Records-step _ _ _ past r _ _ _ _ _ _ at.0 at.1 (g.met.D.Deck.sound c.args.deck.now) stands.next at.2 _ given.1 given.2)
+    (Records-step _ _ _ past r _ _ _ _ _ at.0 at.1 (g.met.D.Deck.sound c.args.deck.now) stands.next at.2 _ given.1 given.2)
 
 pub returns-in_err-ring-in-Block-clause-seq_end : goal.returns-in_err-ring-in-Block-clause-seq_end
 returns-in_err-ring-in-Block-clause-seq_end g c past stands may ends =
@@ -100,21 +107,21 @@ returns-in_err-ring-in-Block-clause-seq_end g c past stands may ends =
     let first = c.args.self.ring.next in
     let r = c.args.r.now in
     let old = g.D.Deck.state c.args.deck.now in
-    let at = c.loop-i.invariant.feeding past stands may in
-    let more = (c.in-Block.ensures.exactly _ at.2.stands (MayStream-giving past r at.0 at.1 may at.2.same)).0 refl in
+    let at = c.loop-ring.invariant.feeding past stands may in
+    let more = (c.in-Block.ensures.exactly _ (in_box c.deref_mut.ensures.value at.2.stands) (MayStream-giving past r at.0 at.1 may at.2.same)).0 refl in
     let a = c.in_err-ring-in-Block.ensures in
     let p = err_from_is_err_and c.from_residual.result c.from_residual.ensures.1 in
     let why = ring_seq_end c.from_residual.result c.in_err-ring-in-Block.field-0.0 p.0 p.1 p.2 ends in
     subst (λ deck. HasEnded t h first (due_at past r) old (g.D.Deck.state deck)) (sym (a.untouched why))
-    (HasEnded-due t h first past r _ c.loop-i.ring.next _ old (g.D.Deck.state c.loop-i.deck) at.0 at.1 at.2 (a.seq_end.0 why) more)
+    (HasEnded-due t h first past r _ c.loop-ring.ring.next old (g.D.Deck.state c.loop-ring.deck) at.0 at.1 at.2 (a.seq_end.0 why) more)
 
 pub returns-in_err-ring-in-Block-clause-cause : goal.returns-in_err-ring-in-Block-clause-cause
 returns-in_err-ring-in-Block-clause-cause g c fails =
     let r = c.requires.stands in
-    let at = c.loop-i.invariant.feeding r.0 r.1 r.2 in
+    let at = c.loop-ring.invariant.feeding r.0 r.1 r.2 in
     let a = c.in_err-ring-in-Block.ensures in
     let p = err_from_is_err_and c.from_residual.result c.from_residual.ensures.1 in
-    let rose : Rose (g.D.Deck.state c.loop-i.deck).disk_faults (g.D.Deck.state c.add.new.deck).disk_faults =
+    let rose : Rose (g.D.Deck.state c.loop-ring.deck).disk_faults (g.D.Deck.state c.add.new.deck).disk_faults =
     a.cause (ring_disk_fault c.from_residual.result c.in_err-ring-in-Block.field-0.0 p.0 p.1 p.2 fails a.only) in
     subst (λ n. Rose n (g.D.Deck.state c.add.new.deck).disk_faults) at.2.recorded.disk_faults rose
 
@@ -125,38 +132,29 @@ returns-in_err-ring-in-Block-clause-only g c =
     (ring_only c.from_residual.result c.in_err-ring-in-Block.field-0.0 p.0 p.1 p.2 c.in_err-ring-in-Block.ensures.only)
 
 pub returns-in_err-ring-in-Block-clause-rest : goal.returns-in_err-ring-in-Block-clause-rest
-returns-in_err-ring-in-Block-clause-rest g c = g.met.D.Deck.rest_then c.args.deck.now c.loop-i.deck c.add.new.deck c.loop-i.invariant.rest c.add.ensures.rest
+returns-in_err-ring-in-Block-clause-rest g c =
+    g.met.D.Deck.rest_then c.args.deck.now c.loop-ring.deck c.add.new.deck c.loop-ring.invariant.rest c.add.ensures.rest
 
-pub loop-i-preserved : goal.loop-i-preserved
-loop-i-preserved g c = record {
+pub loop-ring-preserved : goal.loop-ring-preserved
+loop-ring-preserved g c = record {
   feeding = λ past stands may.
       let s = g.D.Deck.state in
       let r = c.args.r.now in
-      let at = c.loop-i.invariant.feeding past stands may in
+      let at = c.loop-ring.invariant.feeding past stands may in
       let stream = MayStream-giving past r at.0 at.1 may at.2.same in
-      let given = block_given g (goal.at.loop-i-preserved g c).After-add past stands may in
-      let b : Block = record { number = c.loop-i.ring.next; payload = take c.header-payload.result.payload c.feed.new.out } in
+      let given = block_given g (goal.at.loop-ring-preserved g c).After-add past stands may in
+      let b : Block = record { number = c.loop-ring.ring.next; payload = take c.header-payload.result.payload c.deref.result.now } in
       let ok = c.in_ok-ring-in-Block.ensures in
-      let recorded : HasRecorded g.D.Deck.tells c.args.self.ring.header c.loop-i.ring.next (b ∷ []) (s c.loop-i.deck) (s c.add.new.deck) =
-      subst (λ (h : Header). HasRecorded g.D.Deck.tells h c.loop-i.ring.next (b ∷ []) (s c.loop-i.deck)
-      (s c.add.new.deck)) c.loop-i.invariant.header ok.recorded in (
+      let recorded : HasRecorded g.D.Deck.tells c.args.self.ring.header c.loop-ring.ring.next (b ∷ []) (s c.loop-ring.deck) (s c.add.new.deck) =
+      subst (λ (h : Header). HasRecorded g.D.Deck.tells h c.loop-ring.ring.next (b ∷ []) (s c.loop-ring.deck)
+      (s c.add.new.deck)) c.loop-ring.invariant.header ok.recorded in (
         _,
         at.1 + 1,
-        IsFeeding-step _ _ _ past r _ _ _ _ _ _ at.0 at.1 (g.met.D.Deck.sound c.args.deck.now) stands.next at.2 b given.1 _ _
-            (c.in-Block.ensures.begun _ at.2.stands stream refl) ok.ring.1 given.0 given.2 recorded,
+        IsFeeding-step _ _ _ past r _ _ _ _ _ at.0 at.1 (g.met.D.Deck.sound c.args.deck.now) stands.next at.2 b given.1 _ _
+            (c.in-Block.ensures.begun _ (in_box c.deref_mut.ensures.value at.2.stands) stream refl) ok.ring.1 given.2 recorded,
       );
-  header = c.in_ok-ring-in-Block.ensures.ring.0 ∙ c.loop-i.invariant.header;
+  header = c.in_ok-ring-in-Block.ensures.ring.0 ∙ c.loop-ring.invariant.header;
   fact = c.in_ok-ring-in-Block.ensures.fact;
-  room = omega (arith, c.feed.auto.out, c.loop-i.invariant.room);
-  rest = g.met.D.Deck.rest_then c.args.deck.now c.loop-i.deck c.add.new.deck c.loop-i.invariant.rest c.add.ensures.rest;
+  room = omega (arith, c.feed.auto.out, c.loop-ring.invariant.room, ap (λ (l : List ℕ). length l) c.deref_mut-in-loop-ring.ensures.value);
+  rest = g.met.D.Deck.rest_then c.args.deck.now c.loop-ring.deck c.add.new.deck c.loop-ring.invariant.rest c.add.ensures.rest;
 }
-
-pub unreachable-requires : goal.unreachable-requires
-unreachable-requires g c =
-    let r = c.requires.stands in
-    let at = c.loop-i.invariant.feeding r.0 r.1 r.2 in
-    let few = due-few r.0 c.args.r.now at.2.stands.packed.words r.2.in_time in
-    ⊎_elim
-    (λ none. absurd (omega (arith, none, c.loop-i-test.false)))
-    (λ within. absurd (omega (arith, within, few, at.2.rises, c.loop-i-test.false)))
-    at.2.within

@@ -1,4 +1,4 @@
-use Rattle.std.proofs.Common.{◌≡◌, ◌∙◌, ◌+◌, ◌-◌, ℕ, List, ap, refl, sym, subst}
+use Rattle.std.proofs.Common.{◌≡◌, ◌∙◌, ◌+◌, ◌-◌, ℕ, List, length, ap, arith, refl, sym, subst}
 use Rattle.std.specs.Prelude.{IsTrue}
 use Rattle.fdr_deck.specs.Calls.{HasOneAnnounced, IsQuiet, Announces}
 use Rattle.fdr_slot.specs.declared.image.Header.{Header}
@@ -12,6 +12,7 @@ use Rattle.fdr_table.specs.Rows.{FrameRow, TableRows}
 use Rattle.fdr_stream.specs.Past.{RepresentsStream}
 use Rattle.fdr_recorder.specs.Past.{due, started, stream_past}
 use Rattle.fdr_recorder.proofs.Adding.{IsSureRing-told}
+use Rattle.fdr_recorder.proofs.Feeding.{in_box}
 use Rattle.fdr_recorder.proofs.Starting.{Starts-looked, Starts-attached, Starts-announced, greatest-started, least-started, stream-started, next-started}
 use Rattle.fdr_recorder.proofs.session.Session.start.Given.{Over}
 use Rattle.fdr_recorder.proofs.session.Session.start.Goals.{After-attach}
@@ -33,6 +34,10 @@ returns-in_err-stream-clause-starts g c =
 same_header : (g : Over) (c : After-attach g) → IsTrue g.D.Deck.tells.stops → c.in_ok-header.header ≡ header_in (g.D.Deck.state c.args.deck.now).held
 same_header g c stops = c.in_ok-header.ensures.read ((g.met.D.Deck.sound c.args.deck.now).stops_need_bytes stops)
 
+-- and the table has as many words
+same_words : (g : Over) (c : After-attach g) → c.in_ok-header.header.words ≡ c.args.sound.now.frame.words
+same_words g c = c.if-header-words.false ∙ ap (λ (f : FrameRow). f.words) (c.words.view_is ∙ c.frame.ensures ∙ ap (λ (t : TableRows). t.frame) c.table.ensures)
+
 -- the header was read
 header_read : (g : Over) (c : After-attach g) → HasOneAnnounced (g.D.Deck.state c.read_image_header.new.deck)
 header_read g c = (c.in_ok-header.ensures.succeeds (λ e. absurd (cc))).fresh
@@ -45,6 +50,14 @@ attaching g c stops =
     let d1 = g.D.Deck.state c.read_image_header.new.deck in
     subst (λ (h : Header). IsQuiet g.D.Deck.tells (OfSettled d1 (IsAttaching h)) d1 (g.D.Deck.state c.attach.new.deck)) (same_header g c stops)
     c.attach.ensures.quiet
+
+pub returns-in_err-stream-2-clause-starts : goal.returns-in_err-stream-2-clause-starts
+returns-in_err-stream-2-clause-starts g c =
+    Starts-looked _ _ _ _ (g.met.D.Deck.sound c.args.deck.now) c.read_image_header.ensures.quiet
+
+pub returns-in_err-block-clause-starts : goal.returns-in_err-block-clause-starts
+returns-in_err-block-clause-starts g c =
+    Starts-looked _ _ _ _ (g.met.D.Deck.sound c.args.deck.now) c.read_image_header.ensures.quiet
 
 pub returns-in_err-ring-clause-starts : goal.returns-in_err-ring-clause-starts
 returns-in_err-ring-clause-starts g c =
@@ -85,8 +98,9 @@ returns-clause-started g c =
     let r = c.in_ok-ring.ring in
     let same : r.header ≡ h = ok.header in
     let k = c.in_ok-stream.stream in
-    let words : h.words ≡ table.frame.words = c.if-header-words.false ∙ ap (λ (f : FrameRow). f.words) (c.words.view_is ∙ c.frame.ensures
-    ∙ ap (λ (t : TableRows). t.frame) c.table.ensures) in
+    let boxed = c.in_ok-stream-2 in
+    let long : length c.in_ok-block.block.value ≡ 4096 = ap (λ (l : List ℕ). length l) c.in_ok-block.ensures in
+    let words = same_words g (goal.at.returns-clause-started g c).After-attach in
     let held01 : (s d1).held ≡ (s d0).held = read.disk.held in
     let held23 : (s d3).held ≡ (s d2).held = c.announce.ensures.disk.disk.held in
     let fresh = header_read g (goal.at.returns-clause-started g c).After-attach in
@@ -96,10 +110,11 @@ returns-clause-started g c =
     record {
       stands = record {
         header = refl;
-        stream = subst (λ (hh : Header). RepresentsStream k (stream_past (started table hh r.next))) (sym same)
-            (stream-started k table h.payload c.in_ok-stream.ensures);
+        stream = in_box boxed.ensures (subst (λ (hh : Header). RepresentsStream k (stream_past (started table hh r.next))) (sym same)
+            (stream-started k table h.payload c.in_ok-stream.ensures));
         next = subst (λ (hh : Header). r.next ≡ r.next + due (started table hh r.next)) (sym same)
             (next-started k table h.payload r.next c.in_ok-stream.ensures);
+        room = omega (arith, ap (λ (hh : Header). hh.payload) same, c.in_ok-header.ensures.limits.most_payload, long);
       };
       words = ap (λ (hh : Header). hh.words) same ∙ words;
       header = λ told. same ∙ c.in_ok-header.ensures.read told;
@@ -133,3 +148,26 @@ returns-clause-rest g c =
     let then = g.met.D.Deck.rest_then c.args.deck.now in
     then c.attach.new.deck c.announce.new.self
     (then c.read_image_header.new.deck c.attach.new.deck c.read_image_header.ensures.rest c.attach.ensures.rest) c.announce.ensures.rest
+
+pub returns-in_err-ring-clause-learns : goal.returns-in_err-ring-clause-learns
+returns-in_err-ring-clause-learns g c =
+    let learns = c.read_image_header.ensures.learns in
+    record {
+      bytes = λ told. c.attach.ensures.extent ∙ learns.bytes told;
+      stops = λ told. c.attach.ensures.extent ∙ learns.stops told;
+      known = λ some. c.attach.ensures.extent ∙ learns.known some;
+    }
+
+pub returns-in_err-ring-clause-rest : goal.returns-in_err-ring-clause-rest
+returns-in_err-ring-clause-rest g c =
+    g.met.D.Deck.rest_then c.args.deck.now c.read_image_header.new.deck c.attach.new.deck c.read_image_header.ensures.rest c.attach.ensures.rest
+
+pub returns-clause-good : goal.returns-clause-good
+returns-clause-good g c told = record {
+  no_fault = c.in_ok-header.ensures.good told;
+  words = ap (λ (h : Header). h.words) (sym (c.in_ok-header.ensures.read told)) ∙ same_words g (goal.at.returns-clause-good g c).After-attach;
+}
+
+pub returns-clause-quiet : goal.returns-clause-quiet
+returns-clause-quiet g c ok =
+    c.announce.ensures.disk.disk_faults ∙ c.in_ok-ring.ensures.succeeds.disk_faults ∙ (c.in_ok-header.ensures.succeeds (λ e. absurd (cc))).disk_faults

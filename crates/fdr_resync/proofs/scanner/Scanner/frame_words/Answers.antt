@@ -3,7 +3,7 @@ use Rattle.std.specs.List.{range_with_len}
 use Rattle.fdr_bits.specs.Bits.{word_at}
 use Rattle.fdr_resync.specs.Past.{ScannerKept}
 use Rattle.fdr_resync.specs.View.{scanner_kept}
-use Rattle.fdr_resync.proofs.Standing.{stands_seen}
+use Rattle.fdr_resync.proofs.Standing.{stands_seen, frame_accepted}
 use Rattle.fdr_resync.proofs.Windows.{words_in_all}
 use Rattle.fdr_resync.proofs.scanner.Scanner.frame_words.Goals as goal
 
@@ -20,3 +20,6 @@ returns-clause-words c = λ past at st is.
     ∙ ap (λ b. words_at b c.unwrap-at.result (4 * k.words)) c.deref.ensures.value
     ∙ ap (λ p. words_at k.window p (4 * k.words)) here
     ∙ words_in_all k past at stood (c.self.invariant.frame_behind at kept)
+
+pub returns-clause-accepted : goal.returns-clause-accepted
+returns-clause-accepted c = λ past at st is. frame_accepted _ past at st is

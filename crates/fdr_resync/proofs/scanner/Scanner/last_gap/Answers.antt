@@ -40,8 +40,9 @@ returns-clause-none c = λ past st.
     (λ bad. absurd (cc), λ all. absurd (known_not_all past _ (sym (returns-clause-event c past st)) all))
 
 pub returns-clause-stands : goal.returns-clause-stands
-returns-clause-stands c = λ past st.
+returns-clause-stands c = λ past none st.
     let k = scanner_kept c.self.inside in
     let last : Else-self-end = (goal.at.returns-clause-stands c).Else-self-end in
     last_taken k past _ _ (stands_seen k _ past c.self.view_is st) (searched k _ c.self.view_is c.requires.searched)
     (ap (λ (k : ScannerKept). k.ended) c.self.view_is ∙ c.requires.ended) (end last) (some last)
+    (ap (λ (k : ScannerKept). k.frame) c.self.view_is ∙ none)

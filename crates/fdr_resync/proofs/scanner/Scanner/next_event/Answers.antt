@@ -1,4 +1,4 @@
-use Rattle.std.proofs.Common.{◌≡◌, ◌+◌, ◌-◌, ◌*◌, ◌<◌, ◌≤◌, sym, subst, arith}
+use Rattle.std.proofs.Common.{◌≡◌, ◌+◌, ◌-◌, ◌*◌, ◌<◌, ◌≤◌, sym, ap, ◌∙◌, subst, arith}
 use Rattle.fdr_sync.specs.Frames.{IsFramePosition}
 use Rattle.fdr_sync.proofs.FrameLemmas.{frame_within}
 use Rattle.fdr_sync.proofs.FrameSteps.{word_count_some}
@@ -17,9 +17,10 @@ returns-then-self-at-clause-event c = λ past st.
     (at_frame (scanner_kept c.self.inside) _ c.self.view_is c.requires) c.if-self-at.true
 
 pub returns-then-self-at-clause-stands : goal.returns-then-self-at-clause-stands
-returns-then-self-at-clause-stands c = λ past st.
+returns-then-self-at-clause-stands c = λ past none st.
     gap_taken (scanner_kept c.self.inside) past _ _ (stands_seen (scanner_kept c.self.inside) _ past c.self.view_is st) c.self.invariant
     (at_frame (scanner_kept c.self.inside) _ c.self.view_is c.requires) c.if-self-at.true
+    (ap (λ (k : ScannerKept). k.frame) c.self.view_is ∙ none)
 
 pub invariant_of-self-2 : goal.invariant_of-self-2
 invariant_of-self-2 c =
@@ -45,9 +46,9 @@ returns-clause-event c = λ past st.
     (at_frame (scanner_kept c.self.inside) _ c.self.view_is c.requires) c.if-self-at.false
 
 pub returns-clause-stands : goal.returns-clause-stands
-returns-clause-stands c = λ past st.
+returns-clause-stands c = λ past none st.
     let end : c.self.inside.from + 48 * c.from.result ≡ c.self.inside.from + 48 * c.self.inside.words = omega (arith, c.from.ensures) in
-    frame_taken (scanner_kept c.self.inside) past _ _ _ (stands_seen (scanner_kept c.self.inside) _ past c.self.view_is st) c.self.invariant
+    frame_taken (scanner_kept c.self.inside) past _ _ (stands_seen (scanner_kept c.self.inside) _ past c.self.view_is st) c.self.invariant
     (at_frame (scanner_kept c.self.inside) _ c.self.view_is c.requires) c.if-self-at.false end
 
 pub returns-clause-nearer : goal.returns-clause-nearer
