@@ -3,7 +3,7 @@
 PREFIX ?= /usr/local
 PROGRAM = crates/fdr_prog
 
-.PHONY: build demo streams crash-test check-real check-memory bench test install clean
+.PHONY: build demo streams crash-test check-real check-memory bench tools-test test install clean
 
 # Proves the program and everything below it, and puts it at bin/fdr.
 build:
@@ -37,6 +37,10 @@ check-memory: build
 # Measures the built program on large inputs, beside `cat` of the same bytes: some minutes, and 1.5 GB for the inputs.
 bench: build
 	tools/bench.py bin/fdr
+
+# Tests the tools beside the program, and says which packages they lack.
+tools-test:
+	@if [ -x /usr/bin/python3 ]; then tests/flight/run; else echo "tools-test: not run: there is no /usr/bin/python3"; fi
 
 # The gate: every proof, must-fail edit, test and program.
 test:

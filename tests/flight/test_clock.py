@@ -1,0 +1,195 @@
+"""When rows were sampled: the counter unwrapped, stretches, gaps of known and of unknown length, sessions, recordings anew."""
+
+import dataclasses
+import io
+
+import pytest
+
+from flight_recorder import clock, listing
+from flight_recorder.parameters import read_table
+from flight_recorder.streams import Input
+
+FRAME_BITS = 48 * 64
+ALL_FRAMES = clock.shape_of(None, 64)
+SPREAD = """\
+F,64,2,1
+P,POS,1,310,,9,20,U,1,1,0,0,1
+L,POS,1,1,20,0,1,12,0,16
+L,POS,2,1,20,0,1,8,15,16
+P,ALT,0,203,,11,12,U,1,1,0,0,16
+L,ALT,1,1,10,0,1,12,0,1
+"""
+
+
+def timed(text, shape=ALL_FRAMES, size=None):
+    """The rows as recording, stretch and seconds, and what is between them as row and texts; in pieces of `size` lines."""
+    names, times = listing.Names(), clock.Clock(shape)
+    rows, between = [], []
+    lines = text.encode().splitlines(keepends=True)
+    size = size or max(1, len(lines))
+    for at in range(0, len(lines), size):
+        piece = listing.piece_of(b"".join(lines[at : at + size]), 1 + at, names)
+        found = times.times(piece, len(names))
+        between += [(len(rows) + one.row, dataclasses.replace(one, row=0)) for one in found.between]
+        rows += zip(found.recording.tolist(), found.stretch.tolist(), (found.time / clock.SECOND).tolist())
+    between += [(len(rows), one) for one in times.end()]
+    return rows, between
+
+
+def row(counter, name="ALT", subframe=1, word=1):
+    return f"row,{counter},{subframe},{word},{name},5\n"
+
+
+def texts(between):
+    return [(at, one.event.value, one.text) for at, one in between]
+
+
+def test_places_of_rows():
+    rows, _ = timed("row,0,1,10,ALT,5\nrow,0,4,64,B,5\nrow,3,2,33,C,5\n", clock.shape_of(None, 64))
+    assert [seconds for _, _, seconds in rows] == [9 / 64, 3 + 63 / 64, 13.5]
+    rows, _ = timed("row,5,1,1024,ALT,5\n", clock.shape_of(None, 1024))
+    assert rows == [(0, 1, 20 + 1023 / 1024)]
+
+
+def test_the_counter_comes_round():
+    rows, between = timed("".join(row(number % 4096) for number in range(4090, 3 * 4096)))
+    assert rows == [(0, 1, 4 * number) for number in range(4090, 3 * 4096)]
+    assert between == []
+
+
+def test_a_sample_of_an_earlier_frame():
+    rows, between = timed(row(0) + row(1) + row(15) + row(0, "POS", 1, 20) + row(16))
+    assert rows == [(0, 1, 0), (0, 1, 4), (0, 1, 60), (0, 1, 19 / 64), (0, 1, 64)]
+    assert between == []
+
+
+def test_a_sample_of_an_earlier_round():
+    rows, _ = timed(row(4095) + row(0) + row(4090, "POS") + row(1))
+    assert [seconds / 4 for _, _, seconds in rows] == [4095, 4096, 4090, 4097]
+
+
+@pytest.mark.parametrize(
+    "frames, after, text", [(1, 7, "4 s"), (2, 8, "8 s"), (2.5, 8, "8 s"), (2.9, 9, "12 s"), (0.01, 6, "0 s")]
+)
+def test_gaps_whose_bits_and_counters_agree(frames, after, text):
+    bits = round(frames * FRAME_BITS)
+    rows, between = timed(row(5) + f"gap,3072,{bits}\n" + row(after))
+    assert rows == [(0, 1, 20), (0, 2, 4 * after)]
+    assert texts(between) == [(1, "gap", f"from bit 3072, {bits} bits: {text}")]
+    assert (between[0][1].begin, between[0][1].end, between[0][1].known) == (6 * clock.FRAME, after * clock.FRAME, True)
+
+
+@pytest.mark.parametrize("frames, after", [(1, 8), (0.01, 900), (40, 6)])
+def test_gaps_whose_length_is_unknown(frames, after):
+    bits = round(frames * FRAME_BITS)
+    rows, between = timed(row(5) + f"gap,3072,{bits}\n" + row(after))
+    assert rows == [(0, 1, 20), (0, 2, 4 * after)]
+    assert texts(between) == [(1, "gap", f"from bit 3072, {bits} bits: unknown length")]
+    assert not between[0][1].known
+
+
+def test_a_gap_of_more_than_a_round():
+    bits = 5000 * FRAME_BITS
+    rows, between = timed(row(5) + f"gap,3072,{bits}\n" + row((6 + 5000) % 4096))
+    assert rows[1] == (0, 2, 4 * 5006)
+    assert texts(between) == [(1, "gap", f"from bit 3072, {bits} bits: 20000 s")]
+
+
+def test_a_recording_that_begins_anew_after_a_gap():
+    rows, between = timed(row(36) + row(37) + "gap,9999,2560\n" + row(0) + row(1))
+    assert rows == [(0, 1, 144), (0, 1, 148), (1, 2, 0), (1, 2, 4)]
+    assert texts(between) == [
+        (2, "gap", "from bit 9999, 2560 bits: unknown length"),
+        (2, "restart", "the counter goes from 37 to 0: a recording begins"),
+    ]
+
+
+@pytest.mark.parametrize(
+    "before, after, anew", [(3000, 0, True), (3000, 1, False), (3000, 953, True), (3000, 952, False)]
+)
+def test_a_counter_that_goes_back_or_to_0_begins_a_recording(before, after, anew):
+    rows, _ = timed(row(before) + "gap,9999,2560\n" + row(after))
+    assert rows[1] == (int(anew), 2, 4 * (after if anew else 4096 + after))
+
+
+def test_a_recording_that_begins_anew_without_a_gap():
+    rows, between = timed(row(0) + row(0) + row(1) + row(0, "IAS") + row(0))
+    assert rows == [(0, 1, 0), (1, 2, 0), (1, 2, 4), (1, 2, 0), (2, 3, 0)]
+    assert [one[:2] for one in texts(between)] == [(1, "restart"), (4, "restart")]
+
+
+def test_frames_that_are_missing_without_a_gap():
+    rows, between = timed(row(5) + row(40))
+    assert rows == [(0, 1, 20), (0, 2, 160)]
+    assert texts(between) == [(1, "break", "the counter goes from 5 to 40: unknown length")]
+
+
+def test_a_table_tells_breaks_that_are_shorter(write):
+    shape = clock.shape_of(read_table(str(write("t.csv", SPREAD))), None)
+    assert shape.every_frame
+    rows, between = timed(row(5) + row(7), shape)
+    assert texts(between) == [(1, "break", "the counter goes from 5 to 7: unknown length")]
+    assert timed(row(5) + row(7))[1] == []
+
+
+def test_frames_without_rows(write):
+    only = "F,64,2,1\nP,POS,1,310,,9,12,U,1,1,0,0,4\nL,POS,1,1,20,0,1,12,1,4\n"
+    shape = clock.shape_of(read_table(str(write("t.csv", only))), None)
+    assert shape.steps.tolist() == [1, 4, 3, 2] * 4
+    assert timed(row(1) + row(5) + row(9), shape)[1] == []
+    assert texts(timed(row(1) + row(9), shape)[1]) == [(1, "break", "the counter goes from 1 to 9: unknown length")]
+
+
+def test_sessions():
+    rows, between = timed("session,1,0\n" + row(0) + row(1) + "gap,6144,8\nsession,2,6\n" + row(0) + "session,3,9\n")
+    assert rows == [(0, 1, 0), (0, 1, 4), (1, 2, 0)]
+    assert texts(between) == [
+        (0, "session", "session 1 from block 0"),
+        (2, "gap", "from bit 6144, 8 bits: 0.010742 s by its bits"),
+        (2, "session", "session 2 from block 6"),
+        (3, "session", "session 3 from block 9"),
+    ]
+
+
+def test_gaps_with_rows_on_one_side():
+    rows, between = timed("gap,0,1536\n" + row(3) + "gap,4608,3072\n")
+    assert rows == [(0, 1, 12)]
+    assert texts(between) == [
+        (0, "gap", "from bit 0, 1536 bits: 2 s by its bits"),
+        (1, "gap", "from bit 4608, 3072 bits: 4 s by its bits"),
+    ]
+    assert [(one.begin / clock.SECOND, one.end / clock.SECOND) for _, one in between] == [(10, 12), (16, 20)]
+
+
+def test_exceedances_among_rows():
+    _, between = timed(row(4095) + row(0) + "exceed,HI,4095,1,10,2,9\n" + row(1))
+    assert texts(between) == [(2, "exceed", "HI: 2 samples, peak 9")]
+    assert between[0][1].begin == 4095 * clock.FRAME + 9 * 16
+
+
+MIXED = (
+    "gap,0,8\n" + "".join(row(number) for number in range(3)) + "gap,100,3072\n" + row(4) + row(0, "POS") + row(5) + "session,4,8\n"
+    + row(0) + row(0, "IAS") + row(1) + "exceed,A,1,1,2,3,4\n" + row(0) + "exceed,B,0,1,2,3,4\nexceed,C,9,1,2,3,4\n" + row(0)
+    + "gap,200,3\nexceed,D,0,1,2,3,4\ngap,300,4\n" + row(60) + row(3) + "exceed,E,3,1,2,3,4\ngap,400,5\nexceed,F,3,1,2,3,4\n"
+)  # fmt: skip
+
+
+@pytest.mark.parametrize("size", range(1, 9))
+def test_pieces_of_any_size_say_the_same(size):
+    (rows, between), (known_rows, known) = timed(MIXED, size=size), timed(MIXED)
+    assert rows == known_rows
+    for exceeds in (False, True):  # one that comes before a gap is decided has its place before it
+        assert [one for one in between if bool(one[1].exceedance) is exceeds] == [
+            one for one in known if bool(one[1].exceedance) is exceeds
+        ]
+
+
+def test_very_many_breaks_take_no_time():
+    rows, between = timed(row(0) * 60_000)
+    assert [recording for recording, _, _ in rows] == list(range(60_000))
+    assert len(between) == 59_999
+
+
+def test_nothing():
+    assert timed("") == ([], [])
+    assert list(listing.read_listing(Input(io.BytesIO(b""), None), listing.Names())) == []

@@ -1,0 +1,117 @@
+"""Listings as columns: each kind of line, and every line that is none, by the fast reading and by the slow one alike."""
+
+import io
+import random
+
+import pytest
+
+from flight_recorder.faults import Fault
+from flight_recorder.listing import Kind, Names, is_line, piece_of, read_listing
+from flight_recorder.streams import Input
+
+GOOD = [
+    b"row,0,1,10,ALT,5",
+    b"row,4095,4,1024,A-b_c.d012345678,-0.123456789",
+    b"row,12,2,7,V,0.0",
+    b"row,12,2,7,V,-1",
+    b"row,1,1,2,LONGNAME9,9223372036854775807",
+    b"row,1,1,2,X,100",
+    b"gap,0,1",
+    b"gap,2147483647,12",
+    b"session,4294967295,281474976710655",
+    b"session,0,0",
+    b"exceed,HI,0,1,10,3,9",
+    b"exceed,LO,4095,4,1024,1,-1.5",
+]
+BAD = [
+    b"", b"row", b"row,", b"rox,0,1,10,ALT,5", b"row,0,1,10,ALT", b"row,0,1,10,ALT,5,6", b"row,4096,1,10,ALT,5",
+    b"row,00,1,10,ALT,5", b"row,-1,1,10,ALT,5", b"row,0,0,10,ALT,5", b"row,0,5,10,ALT,5", b"row,0,1,0,ALT,5",
+    b"row,0,1,1025,ALT,5", b"row,0,1,010,ALT,5", b"row,,1,10,ALT,5", b"row,0,1,10,,5", b"row,0,1,10,ALT,",
+    b"row,0,1,10,A T,5", b"row,0,1,10,ABCDEFGHIJKLMNOPQ,5", b"row,0,1,10,ALT,5.", b"row,0,1,10,ALT,.5", b"row,0,1,10,ALT,-",
+    b"row,0,1,10,ALT,-.5", b"row,0,1,10,ALT,05", b"row,0,1,10,ALT,1.2.3", b"row,0,1,10,ALT,+5", b"row,0,1,10,ALT,5e3",
+    b"row,0,1,10,ALT,5 ", b" row,0,1,10,ALT,5", b"row,0,1,10,ALT,1.0123456789", b"row,0,1,10,ALT,12345678901234567890",
+    b"row,0,1,10,ALT,--5", b"row,0,1,10,ALT,5-", b"row,0,1,10,A\xffT,5", b"row,0,1,10,ALT,5\r", b"Row,0,1,10,ALT,5",
+    b"gap,0", b"gap,0,0", b"gap,0,1,2", b"gap,-1,5", b"gap,x,5", b"gap,01,5", b"session,1", b"session,a,b", b"exceed,HI,0,1,10,3",
+    b"exceed,HI,0,1,10,0,9", b"exceed,HI,0,5,10,3,9", b"exceed,,0,1,10,3,9", b"drill,6,2,2,1506", b"note,1,2",
+    b"row,0,1,,,", b"row,,,,,", b",,,,,", b"row,0,1,10,ALT,\x00", b"row,0,1,10,A\x00,5", b"row,0,1,10,\x00,5", b"row,0,1,10,A\x00B,5",
+]  # fmt: skip
+
+
+@pytest.mark.parametrize("line", GOOD)
+def test_good_lines(line):
+    assert is_line(line)
+    piece = piece_of(line + b"\n", 1, Names())
+    assert len(piece) + len(piece.marks) == 1
+
+
+@pytest.mark.parametrize("line", BAD)
+def test_bad_lines(line):
+    assert not is_line(line)
+    for before in (b"", GOOD[0] + b"\n", GOOD[6] + b"\n" + GOOD[0] + b"\n"):
+        for after in (b"", GOOD[0] + b"\n", GOOD[1] + b"\n"):
+            with pytest.raises(Fault, match=f"^listing line {before.count(10) + 7}: "):
+                piece_of(before + line + b"\n" + after, 7, Names())
+
+
+def test_both_readings_agree_on_changed_lines():
+    chance = random.Random(4)
+    signs = b"0123456789,.-rowgapALT\xff \x00"
+    for _ in range(4000):
+        line = bytearray(chance.choice(GOOD))
+        for _ in range(chance.randrange(1, 3)):
+            at = chance.randrange(len(line))
+            line[at : at + chance.randrange(2)] = bytes([chance.choice(signs)]) * chance.randrange(2)
+        try:
+            piece_of(bytes(line) + b"\n", 1, Names())
+            taken = True
+        except Fault:
+            taken = False
+        assert taken is is_line(bytes(line)), bytes(line)
+
+
+def test_columns():
+    names = Names()
+    text = b"gap,5,7\n" + b"".join(line + b"\n" for line in GOOD[:6]) + b"session,2,6\nexceed,HI,0,1,10,3,9\n"
+    piece = piece_of(text, 1, names)
+    assert piece.counter.tolist() == [0, 4095, 12, 12, 1, 1]
+    assert piece.subframe.tolist() == [1, 4, 2, 2, 1, 1]
+    assert piece.word.tolist() == [10, 1024, 7, 7, 2, 2]
+    assert [names.names[number] for number in piece.name] == ["ALT", "A-b_c.d012345678", "V", "V", "LONGNAME9", "X"]
+    assert piece.value.tolist() == [5, -0.123456789, 0, -1, 2.0**63, 100]
+    assert piece.decimals.tolist() == [0, 9, 1, 0, 0, 0]
+    assert [(mark.kind, mark.row, mark.first, mark.second) for mark in piece.marks[:2]] == [
+        (Kind.GAP, 0, 5, 7),
+        (Kind.SESSION, 6, 2, 6),
+    ]
+    assert (piece.marks[2].exceedance.name, piece.marks[2].exceedance.peak) == ("HI", "9")
+
+
+def test_many_pieces_are_one_listing():
+    lines = [
+        b"row,%d,%d,%d,N%d,%d.%d\n" % (at % 4096, at % 4 + 1, at % 64 + 1, at % 300, at, at % 10)
+        for at in range(150_000)
+    ]
+    names, rows = Names(), []
+    for piece in read_listing(Input(io.BytesIO(b"".join(lines)), None), names):
+        rows += zip(piece.name.tolist(), piece.value.tolist())
+    assert [(names.names[name], value) for name, value in rows] == [
+        (f"N{at % 300}", float(f"{at}.{at % 10}")) for at in range(150_000)
+    ]
+
+
+def test_faults_name_lines_of_the_whole_listing():
+    text = GOOD[0] + b"\n" + GOOD[6] + b"\n"
+    for bad in (b"x\n", b"row,0,1"):
+        with pytest.raises(Fault, match="^listing line 100001: "):
+            for _ in read_listing(Input(io.BytesIO(text * 50_000 + bad), None), Names()):
+                pass
+
+
+def test_a_listing_that_was_cut():
+    with pytest.raises(Fault, match="^listing line 2: it has no line feed at its end, so the listing was cut there$"):
+        list(read_listing(Input(io.BytesIO(GOOD[0] + b"\n" + GOOD[0]), None), Names()))
+
+
+def test_no_lines_at_all():
+    with pytest.raises(Fault, match="^listing line 1: "):
+        list(read_listing(Input(io.BytesIO(bytes(3 << 20)), None), Names()))

@@ -1,0 +1,155 @@
+"""`flight plot` as a page, opened in a headless Chromium without a network: its points, zooming, values, parameters."""
+
+import json
+import pathlib
+import re
+
+import pytest
+
+import browser
+import encoder
+from flight_recorder import page
+
+LISTING = "".join(f"row,{at},1,10,ALT,{100 * at}\nrow,{at},2,5,GEAR,{at % 2}\n" for at in range(50)) + (
+    "gap,153600,3072\n" + "".join(f"row,{at},1,10,ALT,{at}.5\n" for at in range(51, 60))
+)
+PLACE = "(box => [box.left, box.top, box.width, box.height])(document.querySelector('.chart .plot').getBoundingClientRect())"
+HAS_LIBRARY = (page.LIBRARY / "dygraph.min.js").is_file()
+pytestmark = pytest.mark.skipif(not HAS_LIBRARY, reason="libjs-dygraphs isn't installed")
+
+
+@pytest.fixture(scope="module")
+def chromium():
+    """A browser for all tests."""
+    if browser.PROGRAM is None:
+        pytest.skip("chromium isn't installed")
+    with browser.browser() as one:
+        yield one
+
+
+@pytest.fixture
+def opened(flight, write, tmp_path, chromium):
+    """Makes a page, and opens it."""
+
+    def run(listing, *words):
+        path = tmp_path / "flight.html"
+        assert flight("plot", write("l", listing), "-o", path, *words) == (0, b"", "")
+        chromium.events.clear()
+        chromium.session = None
+        chromium.open(path)
+        return chromium
+
+    return run
+
+
+def test_the_file_is_whole(flight, write, tmp_path):
+    path = tmp_path / "flight.html"
+    assert flight("plot", write("l", LISTING), "-o", path, "--words", 64, "--title", "A <b> & c").status == 0
+    text = path.read_text()
+    assert "<title>A &lt;b&gt; &amp; c</title>" in text
+    assert not re.search(
+        r"""(src|href)\s*=|@import|url\(|sourceMappingURL""", re.sub(r"(?s)<script>.*?</script>", "", text)
+    )
+    assert "sourceMappingURL" not in text
+    data = json.loads(re.search(r'(?s)<script type="application/json" id="flight">(.*?)</script>', text).group(1))
+    assert [curve["name"] for curve in data["curves"]] == ["ALT", "GEAR"]
+    assert [(span["name"], span["known"]) for span in data["spans"]] == [("gap 4 s", True)]
+
+
+def test_points_are_drawn(opened):
+    shown = opened(LISTING, "--words", 64)
+    assert shown.value("page.curves.map(curve => curve.time.length)") == [59, 50]
+    assert shown.value("page.drawn()") == 109
+    assert shown.value("page.window") == [0, 240]
+    alt = shown.value("[...page.charts.values()][0].graph.rawData_ || page.curves[0].rows(0, 240 * 1024, 1000)")
+    assert [row for row in alt if row[1] is not None] == [
+        [4 * at + 9 / 64, 100 * at if at < 50 else at + 0.5] for at in [*range(50), *range(51, 60)]
+    ]
+    assert shown.value("page.curves[0].rows(0, 240 * 1024, 1000).filter(row => row[1] === null).length") == 1
+    assert shown.faults() == []
+
+
+def test_a_drag_zooms_all_charts(opened):
+    shown = opened(LISTING, "--words", 64)
+    left, top, width, _ = shown.value(PLACE)
+    area = shown.value("[...page.charts.values()][0].graph.getArea()")
+    begin, end = (left + area["x"] + part * area["w"] for part in (0.25, 0.5))
+    shown.drag((begin, top + 50), (end, top + 55))
+    shown.wait_for("page.window[0] > 0")
+    window = shown.value("page.window")
+    assert window == pytest.approx([60, 120], abs=1)
+    ranges = shown.value("[...page.charts.values()].map(chart => chart.graph.xAxisRange())")
+    assert ranges == [pytest.approx(window)] * 2
+    inside = [at for at in range(50) if window[0] <= 4 * at + 9 / 64 <= window[1]]
+    assert len(inside) <= shown.value("[...page.charts.values()][0].graph.numRows()") <= len(inside) + 2
+    shown.double_click((begin, top + 50))
+    assert shown.value("page.window") == [0, 240]
+
+
+def test_values_under_the_pointer(opened):
+    shown = opened(LISTING, "--words", 64)
+    left, top, _, _ = shown.value(PLACE)
+    area = shown.value("[...page.charts.values()][0].graph.getArea()")
+    shown.move((left + area["x"] + area["w"] * 100.2 / 240, top + 40))
+    assert shown.value("document.getElementById('where').textContent") == "0:01:40.141"
+    assert shown.value("[...document.querySelectorAll('.name')].map(one => one.textContent)") == [
+        "ALT  2500.0",
+        "GEAR  0",
+    ]
+    assert shown.value("page.curves[0].at(202 * 1024)") == "\u2013"  # within the gap
+
+
+def test_parameters_are_put_on_and_off(opened):
+    shown = opened(LISTING, "--words", 64)
+    shown.value("page.boxes.get('ALT').click()")
+    assert shown.value("[...page.charts.keys()]") == ["GEAR"]
+    assert shown.value("page.drawn()") == 50
+    shown.value("page.boxes.get('ALT').click()")
+    assert shown.value("[...document.querySelectorAll('.chart .name')].map(one => one.textContent)") == ["ALT", "GEAR"]
+
+
+def test_many_parameters_are_off_at_first(opened):
+    shown = opened("".join(f"row,0,1,{at + 2},N{at},1\n" for at in range(60)), "--words", 64)
+    assert shown.value("[page.curves.length, page.charts.size]") == [60, 12]
+    shown.value(
+        "(box => { box.value = 'n5'; box.dispatchEvent(new Event('input')); })(document.querySelector('nav input'))"
+    )
+    assert shown.value("[...document.querySelectorAll('nav label')].filter(one => !one.hidden).length") == 11
+
+
+def test_a_day_is_drawn_by_few_points(opened):
+    """Eight samples a second for a day, as VRTG: all that is kept is there, and the chart draws few of them, zoomed too."""
+    rows = "".join(
+        f"row,{at // 4 % 4096},{at % 4 + 1},{word},VRTG,{(at * 7 + word) % 997}\n"
+        for at in range(86_400)
+        for word in range(8, 256, 32)
+    )
+    shown = opened(rows, "--words", 256)
+    assert 500_000 < shown.value("page.curves[0].time.length") <= 691_200
+    assert shown.value("page.curves[0].count") == 691_200
+    assert shown.value("page.drawn()") < 8000
+    shown.value("page.setWindow([40000, 50000])")
+    assert shown.value("page.drawn()") < 8000
+    assert shown.value(
+        "[Math.min(...page.curves[0].value.slice(0, 90000)), Math.max(...page.curves[0].value.slice(0, 90000))]"
+    ) == [0, 996]
+
+
+def test_no_extreme_of_a_long_flight_is_lost(opened):
+    values = {33_333: 500, 55_555: -500}
+    shown = opened(
+        "".join(f"row,{at % 4096},1,10,ALT,{values.get(at, at % 2)}\n" for at in range(90_000)), "--words", 64
+    )
+    rows = "page.rowsOf(page.curves[0])"
+    assert shown.value(f"{rows}.length") < 5000
+    assert shown.value(f"{rows}.filter(row => Math.abs(row[1]) === 500).map(row => row[1])") == [500, -500]
+
+
+def test_the_example_s_page(opened, hour, tmp_path):
+    shown = opened(hour, "--table", encoder.TOP / "examples" / "ordinary.csv", "--title", "A flight of an hour")
+    assert shown.value("page.charts.size") == 7
+    assert shown.value("flight.recordings.length") == 2
+    assert {"new recording", "gap, unknown length"} <= set(shown.value("flight.spans.map(span => span.name)"))
+    shown.screenshot(tmp_path / "page.png")
+    assert pathlib.Path(tmp_path / "page.png").stat().st_size > 20_000
+    assert shown.faults() == []

@@ -1,0 +1,80 @@
+"""The way from a capture to a table through the built program: what comes out is what went in."""
+
+import csv
+import io
+import random
+
+import pytest
+
+import encoder
+from conftest import example_captures
+
+POSITION = """\
+F,64,2,1
+P,POS,1,310,,9,20,S,7,3,-5,2,1
+L,POS,1,1,20,0,1,12,0,16
+L,POS,2,1,20,0,1,8,9,16
+P,ALT,0,203,2,11,12,U,1,1,0,0,64
+L,ALT,1,1234,10,0,1,12,0,1
+"""
+
+
+@pytest.mark.parametrize("name, frames", [("ordinary", 120), ("position", 100)])
+def test_generated_values_come_back(flight, fdr, write, name, frames):
+    table_path = encoder.TOP / "examples" / "ordinary.csv" if name == "ordinary" else write("t.csv", POSITION)
+    table = encoder.read_table(table_path)
+    words = encoder.generated(table, frames, 11)
+    recording = encoder.recording_of(table, words, frames * 4_000_000)
+    capture = flight("words", write("given", encoder.trace_of(words, frames * 4_000_000))).out
+    trace = flight("trace", write("capture.csv", capture)).out
+    bits = fdr("stream", table_path, given=trace)
+    assert bits == recording.bits()
+    dump = flight("unpack", write("bits", bits), "--order", "big").out
+    assert flight("pack", write("dump", dump), "--order", "big").out == bits
+    listing = fdr("listbits", table_path, given=bits)
+    assert listing.decode() == recording.listing()
+    rows = list(csv.reader(io.StringIO(flight("table", write("l", listing), "--table", table_path).out.decode())))
+    wanted = [[f"{seconds:.6f}", *map(str, place), name, value] for seconds, *place, name, value in recording.rows()]
+    assert rows[1:] == wanted
+
+
+def test_the_plain_recorder_s_listing_of_the_example_is_the_program_s(fdr, hour, flight, write):
+    bits = b""
+    for capture in example_captures():
+        trace = flight("trace", write("c.csv", capture)).out
+        bits += fdr("stream", encoder.TOP / "examples" / "ordinary.csv", given=trace)
+    assert fdr("listbits", encoder.TOP / "examples" / "ordinary.csv", given=bits).decode() == hour
+
+
+def test_examples_with_a_power_cut(fdr, flight, write):
+    listing = fdr("list", encoder.TOP / "examples" / "t1.csv", encoder.TOP / "examples" / "cut.img")
+    rows = (
+        flight("table", write("l", listing), "--table", encoder.TOP / "examples" / "t1.csv").out.decode().splitlines()
+    )
+    assert rows[1:] == [
+        ',,,,(gap),"from bit 0, 1536 bits: 2 s by its bits"',
+        "0.140625,0,1,10,ALT,5",
+        '4.000000,,,,(gap),"from bit 4608, 2560 bits: 3.333008 s by its bits"',
+    ]
+
+
+@pytest.mark.parametrize("shape", ["--table", "--words"])
+@pytest.mark.parametrize("flips, cuts", [(30, 0), (0, 5)])
+def test_times_are_right_in_damaged_bits(flight, fdr, write, shape, flips, cuts):
+    path = write("t.csv", POSITION)
+    table = encoder.read_table(path)
+    recording = encoder.recording_of(table, encoder.generated(table, 300, 1), 1_200_000_000)
+    known = {(f"{seconds:.6f}", *map(str, place), name, value) for seconds, *place, name, value in recording.rows()}
+    bits, chance = bytearray(recording.bits()), random.Random(3)
+    for _ in range(flips):  # of sync words
+        bits[384 * chance.randrange(300) + chance.choice([0, 96, 192, 288])] ^= 1 << chance.randrange(8)
+    for _ in range(cuts):
+        at = chance.randrange(len(bits) - 15_000)
+        del bits[at : at + chance.randrange(1, 10_000)]
+    listing = fdr("listbits", path, given=bytes(bits))
+    out = flight("table", write("l", listing), shape, path if shape == "--table" else 64).out.decode()
+    rows = [tuple(row) for row in csv.reader(io.StringIO(out))][1:]
+    assert len(rows) > 500
+    assert [row for row in rows if row not in known and row[4] != "(gap)"] == []
+    gaps = [row[5] for row in rows if row[4] == "(gap)"]
+    assert len(gaps) > 3 and any("unknown" in text for text in gaps) is bool(cuts)

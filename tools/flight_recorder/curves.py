@@ -1,0 +1,328 @@
+"""A listing as curves, in bounded memory: points are thinned so that each stretch of time keeps its extremes.
+
+Recordings are put one after another on one axis of time, in ticks, with some room before each.
+"""
+
+from dataclasses import dataclass
+
+import numpy as np
+
+from .clock import FRAME, Between, Event, Timed
+from .listing import MOST_WORDS, SUBFRAMES, Exceedance, Names
+
+LEAST = 256  # points of a curve that are kept in any case
+ROOMS = 50  # the room between recordings is this part of the axis,
+MOST_ROOM = 5  # and all rooms together are this part at the most
+CUT = 4  # points that a stretch of time is thinned to, at the most: the first, the least, the greatest and the last
+
+
+@dataclass
+class Points:
+    """Points of a curve: when each was sampled, its value, and the stretch that it is of."""
+
+    time: np.ndarray
+    value: np.ndarray
+    stretch: np.ndarray
+
+    def __len__(self) -> int:
+        return len(self.time)
+
+    def only(self, which: np.ndarray) -> "Points":
+        """Some of them."""
+        return Points(self.time[which], self.value[which], self.stretch[which])
+
+
+def thinned(points: Points, most: int) -> Points:
+    """At most so many points, of which the first, the least, the greatest and the last of each stretch of time are kept."""
+    if len(points) <= most:
+        return points
+    spans = max(1, most // CUT)
+    length = int(points.time[-1] - points.time[0]) // spans + 1
+    span = (points.time - points.time[0]) // length
+    first = np.flatnonzero(np.diff(span, prepend=-1))
+    last = np.append(first[1:], len(span)) - 1
+    by_value = np.lexsort((points.value, span))
+    return points.only(np.unique(np.concatenate((first, last, by_value[first], by_value[last]))))
+
+
+class Curve:
+    """A parameter's points, thinned as they come."""
+
+    def __init__(self) -> None:
+        self.parts: list[Points] = []
+        self.held = 0  # points in the parts
+        self.count = 0  # points that came
+        self.decimals = 0
+
+    def add(self, points: Points, decimals: int) -> None:
+        """Takes points, which are later than those before."""
+        self.parts.append(points)
+        self.held += len(points)
+        self.count += len(points)
+        self.decimals = max(self.decimals, decimals)
+
+    def points(self, most: int) -> Points:
+        """Its points, thinned to at most so many, which alone are held then."""
+        columns = zip(*((part.time, part.value, part.stretch) for part in self.parts))
+        whole = thinned(Points(*(np.concatenate(column) for column in columns)), most)
+        self.parts, self.held = [whole], len(whole)
+        return whole
+
+
+def share(counts: list[int], total: int) -> int:
+    """How many points each curve may have, so that all have about `total`: what curves with few leave, the others have."""
+    left = total
+    for done, count in enumerate(sorted(counts)):
+        even = left // (len(counts) - done)
+        if count > even:
+            return max(LEAST, even)
+        left -= count
+    return max(LEAST, total)
+
+
+@dataclass(frozen=True)
+class Span:
+    """Something on the axis of time that isn't a sample: from one tick to another, or at one."""
+
+    event: Event
+    begin: int
+    end: int
+    known: bool
+    text: str
+
+
+@dataclass(frozen=True)
+class Exceeding:
+    """An exceedance on the axis: where it may have begun, and the parameters that were sampled there."""
+
+    exceedance: Exceedance
+    times: tuple[int, ...]
+    parameters: tuple[str, ...]
+
+
+@dataclass
+class Recording:
+    """A recording: its first time and where its newest frame ends, by its own time, and where its first time is put."""
+
+    first: int
+    end: int
+    put: int
+
+    @property
+    def put_end(self) -> int:
+        """Where its end is put."""
+        return self.put + self.end - self.first
+
+
+@dataclass
+class Flight:
+    """All that is drawn of a listing, with times on one axis."""
+
+    curves: dict[str, Points]
+    decimals: dict[str, int]
+    counts: dict[str, int]
+    spans: list[Span]
+    exceedings: list[Exceeding]
+    recordings: list[Recording]
+
+    @property
+    def end(self) -> int:
+        """Where the axis ends."""
+        last = [recording.put_end for recording in self.recordings] + [span.end for span in self.spans]
+        return max(last, default=0)
+
+
+class Collector:
+    """Collects what is drawn, piece by piece."""
+
+    def __init__(self, names: Names, only: set[str] | None, total: int, exceedances: list[Exceedance]) -> None:
+        self.names = names
+        self.only = only
+        self.total = total
+        self.curves: dict[int, Curve] = {}
+        self.recordings: list[Recording] = []
+        self.recording_of = [0]  # by stretch
+        self.between: list[Between] = []
+        self.leading: dict[int, int] = {}  # where gaps before a recording's first row begin
+        self.finder = Finder(exceedances)
+
+    def add(self, timed: Timed) -> None:
+        """Takes a piece."""
+        self.between += timed.between
+        for one in timed.between:
+            if one.event is Event.GAP and one.begin is not None:
+                self.leading.setdefault(one.recording, one.begin)
+        if not len(timed.time):
+            return
+        time = self._put(timed)
+        self.finder.look(timed, time)
+        order = np.argsort(timed.piece.name, kind="stable")
+        for rows in np.split(order, np.flatnonzero(np.diff(timed.piece.name[order])) + 1):
+            name = int(timed.piece.name[rows[0]])
+            if self.only is None or self.names.names[name] in self.only:
+                points = Points(time[rows], timed.piece.value[rows], timed.stretch[rows])
+                curve = self.curves.setdefault(name, Curve())
+                curve.add(points, int(timed.piece.decimals[rows].max()))
+        self._thin()
+
+    def _thin(self) -> None:
+        """Thins the curves with more than their share, where all have half as many points again as they may."""
+        if sum(curve.held for curve in self.curves.values()) > self.total * 3 // 2:
+            most = share([curve.held for curve in self.curves.values()], self.total)
+            for curve in self.curves.values():
+                if curve.held > most:
+                    curve.points(most)
+
+    def _put(self, timed: Timed) -> np.ndarray:
+        """The places of a piece's rows on the axis, without the room between recordings."""
+        cuts = np.flatnonzero(np.diff(timed.recording)) + 1
+        put = np.empty(len(timed.time), dtype=np.int64)
+        for rows in np.split(np.arange(len(timed.time)), cuts):
+            number, own = int(timed.recording[rows[0]]), timed.time[rows]
+            while len(self.recordings) <= number:
+                after = self.recordings[-1].put_end if self.recordings else 0
+                first = int(own[0]) // FRAME * FRAME
+                first = min(first, self.leading.get(len(self.recordings), first))
+                self.recordings.append(Recording(first, first, after))
+            recording = self.recordings[number]
+            recording.end = max(recording.end, (int(own.max()) // FRAME + 1) * FRAME)
+            put[rows] = own - recording.first + recording.put
+        new = np.flatnonzero(np.diff(timed.stretch, prepend=len(self.recording_of) - 1))
+        self.recording_of += timed.recording[new].tolist()
+        return put
+
+    def end(self, between: list[Between]) -> Flight:
+        """All of it."""
+        self.between += between
+        length = sum(recording.end - recording.first for recording in self.recordings)
+        room = length // max(ROOMS, MOST_ROOM * len(self.recordings))
+        for number, recording in enumerate(self.recordings):
+            recording.put += number * room
+        room_of = np.array(self.recording_of, dtype=np.int64) * room
+        most = share([curve.held for curve in self.curves.values()], self.total)
+        flight = Flight({}, {}, {}, self._spans(room), self._exceedings(room), self.recordings)
+        for number in sorted(self.curves):
+            name, curve = self.names.names[number], self.curves[number]
+            points = curve.points(most)
+            points.time += room_of[points.stretch]
+            flight.curves[name], flight.decimals[name], flight.counts[name] = points, curve.decimals, curve.count
+        return flight
+
+    def _spans(self, room: int) -> list[Span]:
+        """What is between samples, on the axis; a new recording has the room before it."""
+        spans = []
+        for one in self.between:
+            if one.event is Event.EXCEED or one.recording >= len(self.recordings):
+                continue
+            recording = self.recordings[one.recording]
+            if one.event in (Event.SESSION, Event.RESTART):
+                begin = recording.put - (room if one.recording else 0)
+                spans.append(Span(one.event, begin, recording.put, True, one.text))
+            elif one.begin is not None:
+                begin = one.begin - recording.first + recording.put
+                end = begin if one.end is None else begin + one.end - one.begin
+                spans.append(Span(one.event, begin, end, one.known, one.text))
+        return spans
+
+    def _exceedings(self, room: int) -> list[Exceeding]:
+        """The exceedances of the file, and those of the listing itself."""
+        found = self.finder.found(self.names, room)
+        for one in self.between:
+            if one.exceedance and one.begin is not None:
+                recording = self.recordings[one.recording]
+                found.append(Exceeding(one.exceedance, (one.begin - recording.first + recording.put,), ()))
+        return found
+
+
+@dataclass
+class _Place:
+    """A sample at which an exceedance may have begun: where it is, its parameter, how many of the exceedance's samples
+    didn't come yet, and the least and the greatest of those that came."""
+
+    put: int
+    recording: int
+    stretch: int
+    name: int
+    left: int
+    least: float = np.inf
+    greatest: float = -np.inf
+
+    def take(self, timed: Timed, row: int) -> None:
+        """Takes the samples of a piece, from a row on."""
+        here = (timed.piece.name[row:] == self.name) & (timed.stretch[row:] == self.stretch)
+        values = timed.piece.value[row:][here][: self.left]
+        if len(values):
+            self.left -= len(values)
+            self.least = min(self.least, float(values.min()))
+            self.greatest = max(self.greatest, float(values.max()))
+
+
+class Finder:
+    """Finds where exceedances began: at samples of their places, in stretches that have all their samples. The counter comes
+    round and begins anew, so there may be several. Those whose samples have the peak are taken, if there are any, and then
+    those that the order of one rule's exceedances leaves."""
+
+    def __init__(self, exceedances: list[Exceedance]) -> None:
+        self.exceedances = exceedances
+        self.keys = np.array([int(_keys(one.counter, one.subframe, one.word)) for one in exceedances], dtype=np.int64)
+        self.places: list[list[_Place]] = [[] for _ in exceedances]
+        self.open: list[_Place] = []
+
+    def look(self, timed: Timed, put: np.ndarray) -> None:
+        """Looks for the places in a piece, whose rows are put on the axis."""
+        if not self.exceedances:
+            return
+        for place in self.open:
+            place.take(timed, 0)
+        piece = timed.piece
+        keys = _keys(piece.counter, piece.subframe, piece.word)
+        for row in np.flatnonzero(np.isin(keys, self.keys)):
+            for number in np.flatnonzero(self.keys == keys[row]):
+                where = (int(put[row]), int(timed.recording[row]), int(timed.stretch[row]), int(piece.name[row]))
+                place = _Place(*where, self.exceedances[number].length)
+                place.take(timed, int(row))
+                self.places[number].append(place)
+                self.open.append(place)
+        self.open = [place for place in self.open if place.left and place.stretch == timed.stretch[-1]]
+
+    def found(self, names: Names, room: int) -> list[Exceeding]:
+        """The exceedances on the axis, which has this room before each recording."""
+        whole = [[place for place in places if not place.left] for places in self.places]
+        with_peak = [self._with_peak(one, places) for one, places in zip(self.exceedances, whole)]
+        times = self._in_order(with_peak, room)
+        if any(places and not left for places, left in zip(whole, times)):
+            with_peak, times = whole, self._in_order(whole, room)
+        answer = []
+        for one, places, begins in zip(self.exceedances, with_peak, times):
+            here = {names.names[place.name] for place in places if place.put + place.recording * room in begins}
+            answer.append(Exceeding(one, tuple(begins), tuple(sorted(here))))
+        return answer
+
+    def _in_order(self, places: list[list[_Place]], room: int) -> list[list[int]]:
+        """The times of places that the order of one rule's exceedances leaves."""
+        times = [sorted({place.put + place.recording * room for place in one}) for one in places]
+        earliest = self._bounds(times, 1)
+        latest = self._bounds([[-time for time in reversed(one)] for one in times], -1)
+        return [[time for time in one if first <= time <= -last] for one, first, last in zip(times, earliest, latest)]
+
+    @staticmethod
+    def _with_peak(one: Exceedance, places: list[_Place]) -> list[_Place]:
+        """The places whose samples have an exceedance's peak, or all where none has."""
+        peak = [place for place in places if float(one.peak) in (place.least, place.greatest)]
+        return peak or places
+
+    def _bounds(self, times: list[list[int]], way: int) -> list[float]:
+        """For each exceedance the first time that those of its rule before it leave; from the last one on where the way is back."""
+        bounds: list[float] = [np.inf] * len(times)
+        newest: dict[str, float] = {}
+        for number in range(len(times))[::way]:
+            name = self.exceedances[number].name
+            past = newest.get(name, -np.inf)
+            bounds[number] = next((time for time in times[number] if time > past), np.inf)
+            newest[name] = bounds[number] if bounds[number] < np.inf else past
+        return bounds
+
+
+def _keys(counter: "np.ndarray | int", subframe: "np.ndarray | int", word: "np.ndarray | int") -> np.ndarray:
+    """A number for each place of a round of the counter."""
+    return (np.asarray(counter, dtype=np.int64) * SUBFRAMES + subframe - 1) * MOST_WORDS + word - 1

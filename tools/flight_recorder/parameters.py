@@ -1,0 +1,109 @@
+"""The table of a recording, as far as the tools need it. `fdr check` is what says whether a table is sound."""
+
+import csv
+import io
+import pathlib
+import re
+from dataclasses import dataclass, field
+
+import numpy as np
+
+from .faults import Fault
+
+WORDS = (64, 128, 256, 512, 1024)
+SUPERFRAME = 16  # frames
+
+
+@dataclass(frozen=True)
+class Place:
+    """Where a part of a parameter occurs."""
+
+    part: int
+    subframes: tuple[int, ...]
+    cycle: int
+    period: int
+
+
+@dataclass
+class Parameter:
+    """A parameter's source, and its places."""
+
+    name: str
+    bus: int
+    label: int
+    sdi: int | None
+    places: list[Place] = field(default_factory=list)
+
+    def is_prompt(self) -> bool:
+        """Whether all parts of a sample are in one frame, for certain: those of one cycle and period, as they mostly are."""
+        return len({(place.cycle, place.period) for place in self.places}) == 1
+
+
+@dataclass
+class Table:
+    """The words of a subframe, and the parameters by name in the order of their rows."""
+
+    words: int
+    parameters: dict[str, Parameter]
+
+    def steps(self) -> np.ndarray:
+        """For each frame of a superframe how many frames later rows come again, at the latest."""
+        with_rows = np.zeros(SUPERFRAME, dtype=bool)
+        for parameter in self.parameters.values():
+            if parameter.is_prompt():
+                with_rows[parameter.places[0].cycle :: parameter.places[0].period] = True
+        steps = np.full(SUPERFRAME, SUPERFRAME)
+        for frame in range(SUPERFRAME):
+            later = [step for step in range(1, SUPERFRAME + 1) if with_rows[(frame + step) % SUPERFRAME]]
+            steps[frame] = later[0] if later else SUPERFRAME
+        return steps
+
+
+def read_table(path: str) -> Table:
+    """Reads a table, or names the first row that isn't as it has to be. Rows are counted from 0, as `fdr check` does."""
+    table: Table | None = None
+    text = pathlib.Path(path).read_bytes().decode("utf-8-sig", "surrogateescape")
+    rows = (row for row in csv.reader(io.StringIO(text, newline="")) if row)
+    for number, row in enumerate(rows):
+        try:
+            table = _with_row(table, row)
+        except (ValueError, IndexError, KeyError):
+            raise Fault(f"table row {number}: `fdr check` says what is wrong with it") from None
+    if table is None:
+        raise Fault("table row 0: no frame row")
+    return table
+
+
+def _with_row(table: Table | None, row: list[str]) -> Table:
+    """The table with one more row. A ValueError, IndexError or KeyError says that the row is wrong."""
+    if (table is None) is not (row[0] == "F") or len(row) != {"F": 4, "P": 13, "L": 10}[row[0]]:
+        raise ValueError(row)
+    if table is None:
+        return Table(_number(row[1], WORDS), {})
+    if row[0] == "P":
+        parameter = _parameter(row)
+        if parameter.name in table.parameters:
+            raise ValueError(row)
+        table.parameters[parameter.name] = parameter
+    else:
+        table.parameters[row[1]].places.append(_place(row))
+    return table
+
+
+def _number(text: str, among: "range | tuple[int, ...]", base: int = 10) -> int:
+    if not re.fullmatch("[0-9]{1,19}", text) or int(text, base) not in among:
+        raise ValueError(text)
+    return int(text, base)
+
+
+def _parameter(row: list[str]) -> Parameter:
+    if not re.fullmatch("[A-Za-z0-9_.-]{1,16}", row[1]):
+        raise ValueError(row[1])
+    sdi = _number(row[4], range(4)) if row[4] else None
+    return Parameter(row[1], _number(row[2], range(256)), _number(row[3], range(0o400), 8), sdi)
+
+
+def _place(row: list[str]) -> Place:
+    subframes = tuple(_number(digit, range(1, 5)) for digit in row[3])
+    period = _number(row[9], (1, 2, 4, 8, 16))
+    return Place(_number(row[2], range(1, 5)), subframes, _number(row[8], range(period)), period)

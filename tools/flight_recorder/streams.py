@@ -1,0 +1,140 @@
+"""Files and standard streams: inputs that report their progress, and outputs that are whole or not there."""
+
+import contextlib
+import os
+import pathlib
+import shutil
+import stat
+import sys
+import tempfile
+import time
+from typing import BinaryIO, Iterator, cast
+
+from .faults import Fault
+
+STANDARD = "-"
+MEMORY = 1 << 23  # bytes of an output that are held in memory; more are held in a temporary file
+QUIET = 1.0  # seconds before progress is shown, and between two lines of it
+
+
+class Progress:
+    """Says on standard error how much was read: only on a terminal, and only of work that takes more than a second."""
+
+    def __init__(self, size: int | None) -> None:
+        self.size = size
+        self.done = 0
+        self.shown = False
+        self.next = time.monotonic() + QUIET
+        self.wanted = sys.stderr is not None and sys.stderr.isatty()
+
+    def add(self, count: int) -> None:
+        """Counts bytes that were read."""
+        self.done += count
+        if self.wanted and time.monotonic() >= self.next:
+            self.next = time.monotonic() + QUIET
+            self.shown = True
+            part = f", {100 * self.done // self.size} %" if self.size else ""
+            sys.stderr.write(f"\r{self.done / 1e6:.0f} MB{part} ")
+            sys.stderr.flush()
+
+    def end(self) -> None:
+        """Takes the line away."""
+        if self.shown:
+            sys.stderr.write("\r\x1b[K")
+            sys.stderr.flush()
+
+
+class Input:
+    """An open input, whose reads are counted."""
+
+    def __init__(self, file: BinaryIO, size: int | None) -> None:
+        self.file = file
+        self.progress = Progress(size)
+
+    def read(self, count: int = -1, /) -> bytes:
+        """The next bytes, as many as are asked for; fewer at the end alone."""
+        data = self.file.read(count)
+        self.progress.add(len(data))
+        return data
+
+    def lines(self) -> Iterator[str]:
+        """The lines as text, with their ends. Bytes that aren't UTF-8 come through, and match nothing."""
+        for line in self.file:
+            self.progress.add(len(line))
+            yield line.decode("utf-8", "surrogateescape")
+
+
+@contextlib.contextmanager
+def opened(path: str) -> Iterator[Input]:
+    """Opens a file, or standard input for `-`."""
+    with contextlib.ExitStack() as stack:
+        if path == STANDARD and sys.stdin is None:
+            raise Fault("standard input is closed")
+        file = sys.stdin.buffer if path == STANDARD else stack.enter_context(open(path, "rb"))
+        about = os.fstat(file.fileno())
+        source = Input(file, about.st_size if stat.S_ISREG(about.st_mode) else None)
+        stack.callback(source.progress.end)
+        yield source
+
+
+@contextlib.contextmanager
+def opened_twice(path: str, twice: bool = True) -> Iterator[tuple[Input, Input]]:
+    """Opens an input for two readings, one after the other; what isn't a file is copied into one first. Where one reading
+    is enough, both are the same."""
+    with contextlib.ExitStack() as stack:
+        source = stack.enter_context(opened(path))
+        if twice and path != STANDARD and pathlib.Path(path).is_file():
+            yield source, stack.enter_context(opened(path))
+        elif twice:
+            copy = stack.enter_context(tempfile.NamedTemporaryFile(prefix="flight-"))
+            shutil.copyfileobj(source, copy, 1 << 20)
+            copy.flush()
+            yield stack.enter_context(opened(copy.name)), stack.enter_context(opened(copy.name))
+        else:
+            yield source, source
+
+
+@contextlib.contextmanager
+def standard_output() -> Iterator[BinaryIO]:
+    """What is written in here goes to standard output once all of it is there, and nothing of it after a fault."""
+    with tempfile.SpooledTemporaryFile(max_size=MEMORY, prefix="flight-") as held:
+        yield cast(BinaryIO, held)
+        held.seek(0)
+        if sys.stdout is None:
+            raise Fault("standard output is closed")
+        try:
+            shutil.copyfileobj(held, sys.stdout.buffer, 1 << 20)
+            sys.stdout.buffer.flush()
+        except OSError as error:
+            _drop_output()
+            raise Fault(f"standard output: {error.strerror}") from None
+
+
+def _drop_output() -> None:
+    """Lets what is left in the buffer of standard output go nowhere, since it is written once more at the end."""
+    nowhere = os.open(os.devnull, os.O_WRONLY)
+    os.dup2(nowhere, sys.stdout.fileno())
+    os.close(nowhere)
+
+
+@contextlib.contextmanager
+def whole_file(path: pathlib.Path) -> Iterator[pathlib.Path]:
+    """A path to write to, with the same ending; it becomes `path` at the end, and is removed after a fault."""
+    folder = path.parent
+    handle, name = tempfile.mkstemp(prefix=".flight-", suffix=path.suffix, dir=folder)
+    os.close(handle)
+    try:
+        yield pathlib.Path(name)
+        os.chmod(name, 0o666 & ~_umask())
+        os.replace(name, path)
+    except BaseException:
+        with contextlib.suppress(FileNotFoundError):
+            os.unlink(name)
+        raise
+
+
+def _umask() -> int:
+    """The mask of this process, which can only be read by setting it."""
+    mask = os.umask(0o022)
+    os.umask(mask)
+    return mask
