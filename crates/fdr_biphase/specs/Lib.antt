@@ -1,0 +1,4 @@
+pub mod Cells
+pub mod Packed
+pub mod Phases
+pub mod Past

@@ -1,0 +1,100 @@
+//! The decoder.
+
+ghost use Rattle.std.specs.Prelude.{◌≡◌, ◌+◌, ◌^◌, ◌≤◌, ◌<◌, ◌++◌, ◌∷◌, [], ℕ, Bool, List, Some, true, false, length, is_err, IfOk, IfErr};
+ghost use Rattle.fdr_biphase.specs.Phases.{missing_place, cell_bits};
+ghost use Rattle.fdr_biphase.specs.Past.{DecoderPast, RepresentsDecoder, decoder_made, decoder_with, answered_bit, answered_place};
+
+use crate::Missing;
+
+/// The phases that fit the levels so far.
+#[derive(Clone, Copy)]
+enum Fitting {
+    Both,
+    /// Only this one, 0 or 1.
+    One(u64),
+}
+
+/// Reads bits from levels that come one by one.
+#[derive(Drop)]
+pub struct Decoder {
+    // How many levels came, and the last of them.
+    count: u64,
+    last: bool,
+    fitting: Fitting,
+    // Whether no further level may come.
+    ended: bool,
+}
+
+impl Decoder {
+    /// A decoder to which no level came.
+    pub fn new() -> Decoder
+        ensures stands { RepresentsDecoder result decoder_made }
+        ensures open { result.ended ≡ false }
+        ensures count { result.count ≡ 0 }
+    {
+        Decoder {
+            count: 0,
+            last: false,
+            fitting: Fitting::Both,
+            ended: false,
+        }
+    }
+
+    /// Takes the next level, and answers the next bit, if it is known. Fails exactly where the level completes a missing
+    /// place: then all bits were answered, and no further level or end may come.
+    pub fn push(&mut self, level: bool) -> Result<Option<bool>, Missing>
+        requires open { self.old.ended ≡ false }
+        requires limit { self.old.count < 2 ^ 63 }
+        ensures stands { (past : DecoderPast) → RepresentsDecoder self.old past
+            → IfOk result (λ answer. RepresentsDecoder self.new (decoder_with past level answer)) }
+        ensures missing { (past : DecoderPast) → RepresentsDecoder self.old past
+            → missing_place (past.levels ++ level ∷ []) ≡ answered_place result }
+
+        // All bits of the levels so far were answered, except one at most.
+        ensures answered { (past : DecoderPast) → RepresentsDecoder self.old past → IfOk result (λ answer. (waiting : List Bool)
+            × (cell_bits (past.levels ++ level ∷ []) ≡ (past.bits ++ answered_bit answer) ++ waiting) × (length waiting ≤ 1)) }
+
+        // However the levels go on, the place and the bits stay.
+        ensures stays { (past : DecoderPast) (more : List Bool) → RepresentsDecoder self.old past
+            → IfErr result (λ m. missing_place (past.levels ++ level ∷ more) ≡ Some m.at) }
+        ensures all_answered { (past : DecoderPast) (more : List Bool) → RepresentsDecoder self.old past
+            → IfErr result (λ m. cell_bits (past.levels ++ level ∷ more) ≡ past.bits) }
+        ensures count { self.new.count ≡ self.old.count + 1 }
+        ensures open { self.new.ended ≡ is_err result }
+    {
+        let at = self.count;
+        let turns = level != self.last;
+        self.count = at + 1;
+        self.last = level;
+        if at == 0 {
+            return Ok(None);
+        }
+        match self.fitting {
+            Fitting::Both if turns => Ok((at % 2 == 0).then_some(true)),
+            Fitting::Both => {
+                self.fitting = Fitting::One((at + 1) % 2);
+                Ok(Some(false))
+            }
+            Fitting::One(phase) if at % 2 != phase => Ok(Some(turns)),
+            Fitting::One(_) if turns => Ok(None),
+            Fitting::One(_) => {
+                self.ended = true;
+                Err(Missing { at })
+            }
+        }
+    }
+
+    /// Ends the levels, and answers the bit that waits, if one does.
+    pub fn finish(&mut self) -> Option<bool>
+        requires open { self.old.ended ≡ false }
+        ensures all_answered { (past : DecoderPast) → RepresentsDecoder self.old past
+            → cell_bits past.levels ≡ past.bits ++ answered_bit result }
+        ensures ended { self.new.ended ≡ true }
+    {
+        self.ended = true;
+        match self.fitting {
+            Fitting::Both if self.count > 0 && self.count % 2 == 0 => Some(true),
+            _ => None,
+        }
+    }
+}
