@@ -1,9 +1,10 @@
-# Thin targets over the commands of the Rattle kit, which has to be on the PATH as `rt`.
+# Thin targets over the commands of the Rattle kit, which has to be on the PATH as `rt`, and over the scripts that are
+# here. `make help` lists them by the first lines of the comments above them.
 
 PREFIX ?= /usr/local
 PROGRAM = crates/fdr_prog
 
-.PHONY: build demo streams crash-test check-real check-memory bench tools-test test install clean
+.PHONY: build demo check streams crash-test check-real check-memory bench tools-test test install clean help
 
 # Proves the program and everything below it, and puts it at bin/fdr.
 build:
@@ -11,32 +12,39 @@ build:
 	mkdir -p bin
 	cp $(PROGRAM)/out/fdr_prog bin/fdr
 
-# Builds the program once, without its proofs, and runs each command on the cases of examples/, whose output is compared:
-# images are made, recorded in and listed, and one is listed again as a cut of the power left it.
+# Builds the program without its proofs and runs each command on the cases of examples/.
+# It is built once. The output is compared: images are made, recorded in and listed, and one is listed again as a cut
+# of the power left it.
 demo:
 	cd $(PROGRAM) && rt try --cases ../../examples/cases --data t1.csv=../../examples/t1.csv \
 		--data ordinary.csv=../../examples/ordinary.csv --data ring.img=../../examples/ring.img \
 		--data recorded.img=../../examples/recorded.img --data cut.img=../../examples/cut.img
 
+# Checks the documents and the images of examples/ against what they are made from: two seconds.
+check:
+	tools/documents.py check
+	examples/make_images.py --check
+
 # Runs the built program with each of its standard streams closed.
 streams: build
-	examples/closed_streams.sh bin/fdr
+	tests/streams.sh bin/fdr
 
-# Ends recordings of the built program at random moments, and looks at what the image holds then.
+# Kills recordings of the built program at random moments, and looks at what the image holds then.
 crash-test: build
-	tools/crash_test.py bin/fdr
+	tests/crashes.py bin/fdr
 
 # Runs the built program on real files, devices and streams, and on what goes wrong with them.
 check-real: build
-	tests/real/run bin/fdr
+	tests/files.py bin/fdr
 
 # Refuses the built program its memory, one request at a time.
 check-memory: build
-	tests/real/memory bin/fdr
+	tests/memory.py bin/fdr
 
-# Measures the built program on large inputs, beside `cat` of the same bytes: some minutes, and 1.5 GB for the inputs.
+# Measures the built program on large inputs, beside `cat` of the same bytes.
+# It takes under a minute after the build, and 1.5 GB for the inputs.
 bench: build
-	tools/bench.py bin/fdr
+	bench/commands.py bin/fdr
 
 # Tests the tools beside the program, and says which packages they lack.
 tools-test:
@@ -46,9 +54,17 @@ tools-test:
 test:
 	./.ci/run
 
+# Puts the program and its man page below PREFIX, which is /usr/local where it isn't given.
 install: build
 	install -D -m 755 bin/fdr $(DESTDIR)$(PREFIX)/bin/fdr
 	install -D -m 644 docs/fdr.1 $(DESTDIR)$(PREFIX)/share/man/man1/fdr.1
 
+# Removes what was built.
 clean:
 	rm -rf bin crates/*/out
+
+# Lists the targets.
+help:
+	@awk '/^#/ { if (!said) said = substr($$0, 3); next } \
+		/^[a-z-]+:/ { printf "make %-13s %s\n", substr($$1, 1, index($$1, ":") - 1), said } \
+		{ said = "" }' $(MAKEFILE_LIST)

@@ -10,7 +10,8 @@ README.md to say of how many definitions the contract of `run` speaks; docs/MODE
 definitions of specs/, crate by crate; the crates' edges in docs/ARCHITECTURE.md to be those of crates.txt; the forms,
 statuses and texts of docs/fdr.1 to be those of the source; README.md, CHANGELOG.md and docs/fdr.1 to name the version of
 VERSION; README.md and docs/GUARANTEES.md to name the logic of the kit that is here; each link to lead to a file and
-heading; no two public definitions of specs/ to share a name; and no line of specs/ and proofs/ to be over 160 columns.
+heading; each path from the top that a page or a script names to be there; no two public definitions of specs/ to share a
+name; and no line of specs/ and proofs/ to be over 160 columns.
 
 It notes, and that is no difference: another kit of the same logic than the documents name, and an edge of crates.txt
 that no file of its crate uses.
@@ -429,8 +430,13 @@ def note_uses():
                 yield f"crates.txt: {crate} uses nothing of {need}"
 
 
+def written_pages():
+    """The pages in Markdown."""
+    return [*TOP.glob("*.md"), *(TOP / "docs").rglob("*.md"), *(TOP / "examples").glob("*.md")]
+
+
 def check_links():
-    for path in [*TOP.glob("*.md"), *(TOP / "docs").rglob("*.md"), *(TOP / "examples").glob("*.md")]:
+    for path in written_pages():
         for target in re.findall(r"\]\(([^)\s]+)\)", path.read_text()):
             if re.match(r"\w+:", target):
                 continue
@@ -440,6 +446,22 @@ def check_links():
                 yield f"{path.relative_to(TOP)}: {target} leads nowhere"
             elif anchor and there.suffix == ".md" and anchor not in anchors(there):
                 yield f"{path.relative_to(TOP)}: {target} leads to no heading"
+
+
+def scripts():
+    """The scripts that run the program or make what is in examples/."""
+    for folder in ("tests", "bench", "examples"):
+        yield from (path for path in sorted((TOP / folder).rglob("*")) if path.suffix in (".py", ".sh"))
+
+
+def check_paths():
+    """Each path from the top that a page or a script names leads to something."""
+    path_named = re.compile(r"(?<![\w/.$-])(?:bench|crates|docs|examples|tests|tools)/[\w./*-]*")
+    for path in [*written_pages(), *scripts()]:
+        for number, line in enumerate(path.read_text().splitlines(), 1):
+            for name in path_named.findall(line):
+                if not any(TOP.glob(name.rstrip("."))):
+                    yield f"{path.relative_to(TOP)}:{number}: there is no {name.rstrip('.')}"
 
 
 def main(command):
@@ -455,7 +477,7 @@ def main(command):
         return 2
     checks = (
         *(check_readme, check_clauses, check_model, check_guarantees, check_layers, check_edges),
-        *(check_manual, check_version, check_kit, check_links, check_names, check_columns),
+        *(check_manual, check_version, check_kit, check_links, check_paths, check_names, check_columns),
     )
     faults = [fault for check in checks for fault in check()]
     for note in (*note_kit(), *note_uses()):

@@ -1,7 +1,7 @@
 #!/usr/bin/env python3
 """Measures the built program on large inputs, beside `cat` of the same bytes.
 
-    tools/bench.py PROGRAM [--size MB] [--repeat N] [--folder FOLDER] [--memory FOLDER] [--only WORD]
+    bench/commands.py PROGRAM [--size MB] [--repeat N] [--folder FOLDER] [--memory FOLDER] [--only WORD]
 
 The inputs are made here, in a folder that is removed at the end, and without the program: tables, frames by them,
 noise, frames with a bit too many in each, traces, and a full image. The seed is fixed, so the inputs are the same in
@@ -16,24 +16,23 @@ says how to read it.
 """
 
 import argparse
-import array
-import bisect
 import collections
 import csv
 import os
 import pathlib
 import platform
 import random
-import struct
 import sys
 import tempfile
 
 TOP = pathlib.Path(__file__).resolve().parent.parent
 sys.dont_write_bytecode = True
-sys.path.insert(0, str(TOP / "tests" / "real"))
+sys.path.insert(0, str(TOP / "tests"))
 
-from inputs import HEAD, HEADER, OPEN, ORDINARY, SYNCS, T1, empty_image, end_at, largest_table, packed, with_parity
-from measure_record import PAYLOAD, SLOTS, SUPERFRAME, print_row, run
+from formats import SYNCS, Shape, bus_word, empty_image, end_at, head_of, header_of, packed, put_word, record_at
+from formats import size_of_slot, with_bit
+from inputs import ORDINARY, T1, largest_table
+from runs import PAYLOAD, SLOTS, SUPERFRAME, print_row, run
 
 COUNTERS = 4096
 DRILLED = 20_000  # frames of a drill
@@ -128,12 +127,9 @@ def frames(table, chance):
         words[table.counter] = 0
         line += packed(words)
     line *= COUNTERS // DISTINCT
-    size = 6 * table.words
     for counter in range(COUNTERS):
-        at, half = divmod(counter * size * 2 + table.counter * 3, 2)
-        both = int.from_bytes(line[at : at + 2], "little") | counter << 4 * half
-        line[at : at + 2] = both.to_bytes(2, "little")
-    return bytes(line), size
+        put_word(line, counter * 4 * table.words + table.counter, counter)
+    return bytes(line), 6 * table.words
 
 
 def with_a_bit_in_each(line, size, chance):
@@ -143,8 +139,8 @@ def with_a_bit_in_each(line, size, chance):
         bits, length = 0, 0
         for begin in range(at, at + 8 * size, size):
             frame, place = int.from_bytes(line[begin : begin + size], "little"), chance.randrange(12, 8 * size)
-            frame = frame & (1 << place) - 1 | chance.getrandbits(1) << place | frame >> place << place + 1
-            bits, length = bits | frame << length, length + 8 * size + 1
+            bits |= with_bit(frame, place, chance.getrandbits(1)) << length
+            length += 8 * size + 1
         pieces.append(bits.to_bytes(length // 8, "little"))
     return b"".join(pieces)
 
@@ -165,11 +161,12 @@ def write_noise(path, size, chance):
 
 def write_full_image(path, line):
     """An image of frames of 256 words as a recorder leaves it that filled it: only the first slot is closed."""
+    shape = Shape(SLOTS, PAYLOAD, words=256)
     with open(path, "wb") as file:
-        file.write(empty_image(SLOTS, PAYLOAD, words=256)[: HEADER + HEAD + PAYLOAD])
+        file.write(header_of(shape) + bytes(size_of_slot(shape)))
         for number in range(1, SLOTS):
             at = number * PAYLOAD % len(line)
-            file.write(struct.pack(">BxHIQ", OPEN, PAYLOAD, 0, number) + line[at : at + PAYLOAD])
+            file.write(head_of(number, PAYLOAD) + line[at : at + PAYLOAD])
 
 
 # --- traces
@@ -180,21 +177,14 @@ def write_trace(path, table, seconds, chance):
     records = []
     for parameter in table.parameters:
         count = min(parameter.rate, MOST_WORDS * SUPERFRAME)
-        low = int(f"{parameter.label:08b}"[::-1], 2) | parameter.sdi << 8
         for number in range(count):
-            word = with_parity(low | chance.getrandbits(21) << 10)
-            records.append((number * SUPERFRAME * SECOND // count, 1 << 56 | parameter.bus << 48 | word))
+            word = bus_word(parameter.label, chance.getrandbits(21), parameter.sdi)
+            records.append((number * SUPERFRAME * SECOND // count, parameter.bus, word))
     records.sort()
-    times, fronts = [time for time, _ in records], array.array("Q", [front for _, front in records])
     with open(path, "wb") as file:
-        for begin in range(0, seconds, SUPERFRAME):
-            count = bisect.bisect_left(times, (seconds - begin) * SECOND)
-            both = array.array("Q", bytes(16 * count))
-            both[0::2] = fronts[:count]
-            both[1::2] = array.array("Q", [time + begin * SECOND for time in times[:count]])
-            if sys.byteorder == "little":
-                both.byteswap()
-            file.write(both)
+        for begin in range(0, seconds * SECOND, SUPERFRAME * SECOND):
+            coming = [(begin + time, word, bus) for time, bus, word in records if begin + time < seconds * SECOND]
+            file.write(b"".join(record_at(*one) for one in coming))
         file.write(end_at(seconds * SECOND))
 
 
@@ -202,8 +192,8 @@ def write_trace(path, table, seconds, chance):
 
 
 def make_works(room, memory, size, hours):
-    """Makes the inputs in a folder, and answers the works: the words, the input, the file whose bytes count, and the image that is
-    made anew in a folder in memory."""
+    """Makes the inputs in a folder, and answers the works: the words, the input, the file whose bytes count, and the
+    image that is made anew in a folder in memory."""
     chance = random.Random(717)
     texts = {"t1": T1, "ordinary": ORDINARY, "dense": dense_table(), "full": full_table(), "largest": largest_table()}
     for name, text in texts.items():

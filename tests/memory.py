@@ -1,7 +1,7 @@
 #!/usr/bin/env python3
 """Refuses the built program its memory, one request at a time, and looks at what it answers and leaves.
 
-    tests/real/memory PROGRAM [--most N]
+    tests/memory.py PROGRAM [--most N]
 
 Each work is run once to count its requests for memory: the runs of examples/cases, whose output is compared with the
 one stored there, some worked out by hand, and some by larger tables. Then it is run again and again. Each time one request is refused, and the
@@ -29,9 +29,10 @@ from concurrent import futures
 
 sys.dont_write_bytecode = True
 
-from inputs import ORDINARY, T1, TOP, empty_image, end_at, frame, largest_table, recorded, t1_frame, with_parity, word_at
+from formats import bus_word, empty_image, end_at, frame, record_at, recorded, with_bit
+from inputs import ORDINARY, T1, TOP, largest_table, t1_frame, word_at
 
-SOURCE = TOP / "tests" / "real" / "refuse.c"
+SOURCE = TOP / "tests" / "refuse.c"
 CASES = TOP / "examples" / "cases"
 IMAGES = ["ring.img", "recorded.img", "cut.img"]
 NO_MEMORY = (12, b"", b"fdr: no memory\n")
@@ -119,7 +120,7 @@ L,ALT,1,1,10,0,1,12,0,1
 def two_parts_trace():
     """Two frames: the altitude 5, and the position hexadecimal ABCDE, which is another after a second."""
     positions = [(0x8ABCDE13, 0), (0x80000113, 1_000_000)]
-    records = [struct.pack(">BBHIQ", 1, 1, 0, word, time) for word, time in positions]
+    records = [record_at(time, word, bus=1) for word, time in positions]
     return word_at(0, 5) + b"".join(records) + end_at(8_000_000)
 
 
@@ -130,9 +131,7 @@ def two_parts_bits():
 
 def with_bit_before(bits, place):
     """Bits with a zero bit put in before this one, and seven after the last."""
-    number = int.from_bytes(bits, "little")
-    below = number & ((1 << place) - 1)
-    return (below | (number >> place) << (place + 1)).to_bytes(len(bits) + 1, "little")
+    return with_bit(int.from_bytes(bits, "little"), place, 0).to_bytes(len(bits) + 1, "little")
 
 
 def worked_works():
@@ -162,9 +161,7 @@ def worked_works():
 
 def ordinary_trace(seconds):
     """A trace of words of bus 0 and label octal 206, SDI 0, each second; and the end."""
-    label = int(f"{0o206:08b}"[::-1], 2)
-    words = [with_parity(second % 4096 << 16 | label) for second in range(seconds)]
-    records = [struct.pack(">BBHIQ", 1, 0, 0, word, second * 1_000_000) for second, word in enumerate(words)]
+    records = [record_at(second * 1_000_000, bus_word(0o206, second % 4096, lsb=17)) for second in range(seconds)]
     return b"".join(records) + end_at(seconds * 1_000_000)
 
 

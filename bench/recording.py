@@ -1,7 +1,7 @@
 #!/usr/bin/env python3
 """Measures `record`, beside a plain loop that makes the same writes and syncs.
 
-    tools/measure_record.py PROGRAM [--disk FOLDER] [--memory FOLDER] [--hours H H] [--repeat N]
+    bench/recording.py PROGRAM [--disk FOLDER] [--memory FOLDER] [--hours H H] [--repeat N]
 
 A trace is recorded by examples/ordinary.csv in an image of 8,448 slots of 4,096 bytes: one of an hour in a file on a disk,
 whose syncs take their time, and one of 25 hours in a file in memory, where a sync costs next to nothing. The trace comes
@@ -18,36 +18,29 @@ It prints a table: seconds, of the processor too, writes and syncs for each bloc
 """
 
 import argparse
-import collections
-import contextlib
 import csv
 import os
 import pathlib
 import random
 import re
 import shutil
-import struct
 import subprocess
 import sys
 import tempfile
 import time
 
 TOP = pathlib.Path(__file__).resolve().parent.parent
-TABLE = TOP / "examples" / "ordinary.csv"
-SLOTS, PAYLOAD = 8448, 4096
-HEADER, HEAD = 64, 16
-SUPERFRAME = 64  # seconds, in which a parameter comes as often as its rate says
-CALLS = ["pwrite64", "fdatasync", "fsync", "pread64", "fstat", "read"]
+sys.dont_write_bytecode = True
+sys.path.insert(0, str(TOP / "tests"))
 
-Figures = collections.namedtuple("Figures", "seconds processor peak")
+from formats import CLOSED, HEADER, OPEN, RECORD, blocks_of, bus_word, end_at, head_of, record_at, shape_of, slot_at
+from runs import PAYLOAD, SLOTS, SUPERFRAME, Figures, print_row, run
+
+TABLE = TOP / "examples" / "ordinary.csv"
+CALLS = ["pwrite64", "fdatasync", "fsync", "pread64", "fstat", "read"]
 
 
 # --- the trace
-
-
-def parity(word):
-    """What makes the number of ones odd."""
-    return (bin(word).count("1") + 1) % 2 << 31
 
 
 def trace_of(hours):
@@ -60,13 +53,10 @@ def trace_of(hours):
             if row[0] != "P":
                 continue
             bus, label, sdi, every = int(row[2]), int(row[3], 8), int(row[4] or 0), SUPERFRAME / int(row[12])
-            low = int(f"{label:08b}"[::-1], 2) | sdi << 8
             for k in range(int(seconds / every)):
-                word = low | chance.getrandbits(21) << 10
-                records.append((int(k * every * 1_000_000), struct.pack(">BBHI", 1, bus, 0, word | parity(word))))
+                records.append((int(k * every * 1_000_000), bus, bus_word(label, chance.getrandbits(21), sdi)))
     records.sort()
-    end = struct.pack(">BBHIQ", 2, 0, 0, 0, seconds * 1_000_000)
-    return b"".join(front + struct.pack(">Q", at) for at, front in records) + end
+    return b"".join(record_at(at, word, bus) for at, bus, word in records) + end_at(seconds * 1_000_000)
 
 
 # --- the plain loop
@@ -74,53 +64,24 @@ def trace_of(hours):
 
 def plain_loop(path, stream):
     """Makes the writes and syncs of a recording, and answers what that took."""
-    blocks = [stream[at : at + PAYLOAD] for at in range(0, len(stream), PAYLOAD)]
+    blocks = blocks_of(stream, PAYLOAD)
     image = os.open(path, os.O_RDWR)
+    shape = shape_of(os.pread(image, HEADER.size, 0))
     told = os.open(os.devnull, os.O_WRONLY)
     began, used = time.monotonic(), time.process_time()
     for number, block in enumerate(blocks):
-        gate = HEADER + number % SLOTS * (HEAD + PAYLOAD)
-        following = HEADER + (number + 1) % SLOTS * (HEAD + PAYLOAD)
-        os.pwrite(image, struct.pack(">xHIQ", len(block), 0, number) + block, gate + 1)
-        if os.pread(image, 1, following) == b"\x5a":
-            os.pwrite(image, b"\x00", following)
+        gate, following = slot_at(shape, number), slot_at(shape, number + 1)
+        os.pwrite(image, head_of(number, len(block))[1:] + block, gate + 1)
+        if os.pread(image, 1, following) == bytes([OPEN]):
+            os.pwrite(image, bytes([CLOSED]), following)
         os.fdatasync(image)
-        os.pwrite(image, b"\x5a", gate)
+        os.pwrite(image, bytes([OPEN]), gate)
         os.fdatasync(image)
         os.write(told, b"ack %d\n" % (number + 1))
     return time.monotonic() - began, time.process_time() - used
 
 
 # --- runs
-
-
-def peak_of(process):
-    """The most memory of a running process so far, in kB, or nothing where it has just ended."""
-    with contextlib.suppress(OSError):
-        for line in pathlib.Path(f"/proc/{process}/status").read_text().splitlines():
-            if line.startswith("VmHWM:"):
-                return int(line.split()[1])
-    return 0
-
-
-def run(words, given=os.devnull, written=os.devnull):
-    """Runs a program, and answers its figures.
-
-    Its memory is looked at while it runs: what the system says at its end counts the memory of who started it, too.
-    """
-    peak, ended = 0, 0
-    with open(given, "rb") as source, open(written, "wb") as sink, open(os.devnull, "wb") as told:
-        began = time.monotonic()
-        child = subprocess.Popen([str(word) for word in words], stdin=source, stdout=sink, stderr=told)
-        while not ended:
-            time.sleep(0.001)
-            peak = max(peak, peak_of(child.pid))
-            ended, status, used = os.wait4(child.pid, os.WNOHANG)
-        seconds = time.monotonic() - began
-    child.returncode = os.waitstatus_to_exitcode(status)
-    if child.returncode != 0:
-        sys.exit(f"{' '.join(map(str, words))} ended with {child.returncode}")
-    return Figures(seconds, used.ru_utime + used.ru_stime, peak / 1024)
 
 
 def middle(figures):
@@ -175,11 +136,7 @@ def measured(program, hours, folder, repeat, room):
     finally:
         image.unlink(missing_ok=True)
     blocks = -(-stream.stat().st_size // PAYLOAD)
-    return blocks, trace.stat().st_size // 16, figures, calls
-
-
-def print_row(cells):
-    print("| " + " | ".join(cells) + " |")
+    return blocks, trace.stat().st_size // RECORD.size, figures, calls
 
 
 def main():
@@ -195,7 +152,7 @@ def main():
     print_row(["file", "hours", "records", "blocks", "by", *figures])
     print_row(["---"] * 5 + ["---:"] * 5)
     for name, folder, hours in (("disk", given.disk, given.hours[0]), ("memory", given.memory, given.hours[1])):
-        with tempfile.TemporaryDirectory(prefix="measure_record_") as room:
+        with tempfile.TemporaryDirectory(prefix="fdr_recording_") as room:
             blocks, records, figures, calls = measured(program, hours, folder, given.repeat, pathlib.Path(room))
         for who, it in figures.items():
             made = calls[who]

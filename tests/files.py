@@ -1,13 +1,13 @@
 #!/usr/bin/env python3
 """Runs the built program on real files, devices and streams, and compares what it answers and leaves.
 
-    tests/real/run PROGRAM [--seconds N] [--only WORD]
+    tests/files.py PROGRAM [--seconds N] [--only WORD]
 
 Each case has a folder of its own, in which the program runs: a table, an image with twelve blocks, and what the case
 adds. Compared are the exit status, standard error and standard output, whole, and after the run every file of the
 folder, byte for byte: a case names the files that it changes, and all others are as they were, with none added. What
-is expected was worked out from docs/FORMATS.md; inputs.py makes the tables, bits and images without the program. A
-run that takes longer than its limit is ended, and fails.
+is expected was worked out from docs/FORMATS.md; formats.py and inputs.py make the tables, bits and images without the
+program. A run that takes longer than its limit is ended, and fails.
 
 Where it may, the script works in mounts of its own, for the cases on small and read-only file systems. A case that
 needs what isn't there is skipped, and said to be. It prints a line for each case, and ends with 0 where all are as
@@ -36,7 +36,8 @@ import time
 
 sys.dont_write_bytecode = True
 
-from inputs import T1, empty_image, end_at, frame, largest_table, recorded, t1_frame, table_of_every_word, word_at
+from formats import HEADER, empty_image, end_at, frame, recorded, shape_of, slot_at
+from inputs import T1, largest_table, t1_frame, table_of_every_word, word_at
 
 APART = "FDR_TESTS_APART"  # set where the script has mounts of its own
 NOBODY = 65534
@@ -385,11 +386,11 @@ def file(name, data=b"", mode=0o644):
     return make
 
 
-def sparse_file(name, data):
-    """A file whose bytes behind the first 64 are zeros for which no room is taken."""
+def sparse_image(name, data):
+    """An image whose bytes after the header are zeros for which no room is taken."""
 
     def make(place):
-        (place.room / name).write_bytes(data[:64])
+        (place.room / name).write_bytes(data[: HEADER.size])
         os.truncate(place.room / name, len(data))
 
     return make
@@ -798,7 +799,7 @@ def image_cases():
 
 
 def meanwhile_cases():
-    for what, size in (("shrunk", 64 + 32 * 4112), ("emptied", 0)):
+    for what, size in (("shrunk", slot_at(shape_of(BIG_IMAGE), 32)), ("emptied", 0)):
         shrunk = {"makes": BIG, "does": shrinks(size), "changes": {"a.img": BIG_IMAGE[:size]}}
         yield Case(f"recover, the image is {what}", RECOVER, DISK_FAULT, Front(BIG_BITS), **shrunk)
         yield Case(f"list, the image is {what}", LIST_EVERY, DISK_FAULT, Front(BIG_LISTING), **shrunk)
@@ -819,19 +820,19 @@ def meanwhile_cases():
 
 
 def limit_cases():
-    five = recorded(EMPTY, BITS[:320])
+    five, end_of_five = recorded(EMPTY, BITS[:320]), slot_at(shape_of(EMPTY), 5)
     only = {"makes": file("a.img", EMPTY), "changes": {"a.img": five}, "acks": (0, 5), "given": TRACE}
     front = {"given": BITS, "out": To("shown"), "changes": {"shown": LISTING[:20]}}
     ignored = {"ignores": signal.SIGXFSZ}
-    # Slot 5 begins at byte 464. A limit of the size of files ends a run by a signal, where that isn't ignored.
+    # A limit of the size of files ends a run by a signal, where that isn't ignored.
     yield Case("format, at a limit of size", FORMAT, DISK_FAULT, **size_limit(1000), **ignored)
     to_fill = {"makes": file("new.img"), **size_limit(1000), **ignored}
     yield Case("format of an empty file, at a limit of size", FORMAT, DISK_FAULT, **to_fill)
-    yield Case("record, at a limit of size", RECORD, DISK_FAULT, **only, **size_limit(464), **ignored)
+    yield Case("record, at a limit of size", RECORD, DISK_FAULT, **only, **size_limit(end_of_five), **ignored)
     yield Case("listbits, at a limit of size", LISTBITS, NO_OUTPUT, **front, **size_limit(20), **ignored)
     unfinished = {"new.img": bytes(1000)}
     yield Case("format, ended at a limit of size", FORMAT, PAST_SIZE, changes=unfinished, **size_limit(1000))
-    yield Case("record, ended at a limit of size", RECORD, PAST_SIZE, **only, **size_limit(464))
+    yield Case("record, ended at a limit of size", RECORD, PAST_SIZE, **only, **size_limit(end_of_five))
     yield Case("listbits, ended at a limit of size", LISTBITS, PAST_SIZE, **front, **size_limit(20))
     yield Case("check, few descriptors", CHECK, DONE, REPORT, **few_files(4))
     yield Case("check, few descriptors and input closed", CHECK, DONE, REPORT, given=CLOSED, **few_files(4))
@@ -884,11 +885,11 @@ def mount_cases():
     yield Case("format, no room at all", large, DISK_FAULT, makes=taken)
     whole = {"changes": {"small/a.img": AGAIN}, "acks": (12, 24), "given": TRACE}
     yield Case("record, no room is left", record, DONE, makes=taken, **whole)
-    # The first write, of a block's head and bytes behind its gate, ends where the first page ends.
-    image = empty_image(64, 4096)
-    torn = {"small/a.img": image[:65] + recorded(image, FIVES[:4096])[65:4096] + image[4096:]}
+    # The first write, of a block's head and bytes after its gate, ends where the first page ends.
+    image, begin = empty_image(64, 4096), HEADER.size + 1
+    torn = {"small/a.img": image[:begin] + recorded(image, FIVES[:4096])[begin:PAGE] + image[PAGE:]}
     lacking = {"changes": torn, "acks": (0, 0), "given": word_at(0, 5) + end_at(43_000_000)}
-    holes = all_of(small, sparse_file("small/a.img", image), filled)
+    holes = all_of(small, sparse_image("small/a.img", image), filled)
     yield Case("record, no room for an image with holes", record, DISK_FAULT, makes=holes, **lacking)
     big = all_of(BIG, small)
     front = {"changes": {"small/shown": Front(BIG_BITS)}, "out": To("small/shown")}

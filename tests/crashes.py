@@ -1,7 +1,7 @@
 #!/usr/bin/env python3
 """Ends recordings at random moments, and looks at what the image holds then.
 
-    tools/crash_test.py PROGRAM [--runs N] [--seed S] [--table FILE]
+    tests/crashes.py PROGRAM [--runs N] [--seed S] [--table FILE]
 
 A run starts `PROGRAM record` on an image, feeds it a trace through a pipe, and kills it by SIGKILL after a random number
 of acknowledgements and a random while; some runs are let end by themselves. Then the image is read here, by its slots
@@ -24,22 +24,20 @@ import itertools
 import pathlib
 import random
 import shutil
-import struct
 import subprocess
 import sys
 import tempfile
 import threading
 import time
 
-TOP = pathlib.Path(__file__).resolve().parent.parent
-OPEN = 0x5A
-HEADER, HEAD = 64, 16
+sys.dont_write_bytecode = True
+
+from formats import HEADER, blocks_of, end_at, recovered
+from inputs import TOP, word_at
+
 PROMISED_LESS = 2
 RUNS_OF_AN_IMAGE = 20
 LIMIT = 60.0  # seconds that a run of the program has
-
-# Label octal 203, whose most significant bit is bit 1.
-LABEL = 0xC1
 
 
 class Mismatch(Exception):
@@ -49,37 +47,10 @@ class Mismatch(Exception):
 # --- the trace
 
 
-def word_of(value):
-    """A bus word of the label with this value in bits 11 to 22, and odd parity."""
-    word = value << 10 | LABEL
-    return word | (bin(word).count("1") + 1) % 2 << 31
-
-
 def trace_of(chance, seconds):
     """A trace of so many seconds: a word now and then, with times in order, and the end."""
     times = sorted(chance.randrange(seconds * 1_000_000) for _ in range(seconds * 2))
-    words = [struct.pack(">BBHIQ", 1, 0, 0, word_of(chance.randrange(4096)), at) for at in times]
-    return b"".join(words) + struct.pack(">BBHIQ", 2, 0, 0, 0, seconds * 1_000_000)
-
-
-# --- the image, read by its slots alone
-
-
-def run_in(image):
-    """The recovered run of an image: numbers and payloads, from the lowest number on."""
-    slots, payload = struct.unpack_from(">II", image, 8)
-    found = {}
-    for slot in range(slots):
-        at = HEADER + slot * (HEAD + payload)
-        gate, length, number = image[at], *struct.unpack_from(">HxxxxQ", image, at + 2)
-        if gate == OPEN and number < 1 << 48 and number % slots == slot and 1 <= length <= payload:
-            found[number] = image[at + HEAD : at + HEAD + length]
-    run = []
-    number = max(found, default=-1)
-    while number in found:
-        run.append((number, found[number]))
-        number -= 1
-    return run[::-1]
+    return b"".join(word_at(at, chance.randrange(4096)) for at in times) + end_at(seconds * 1_000_000)
 
 
 # --- the program
@@ -103,21 +74,21 @@ class Image:
         status, _ = answer_of([program, "format", table, path, *sizes])
         if status != 0:
             raise Mismatch(f"format ended with {status}")
-        self.header = path.read_bytes()[:HEADER]
+        self.header = path.read_bytes()[: HEADER.size]
 
     def blocks_of(self, trace):
         """The blocks that a recording of a trace adds."""
         status, stream = answer_of([self.program, "stream", self.table], input=trace)
         if status != 0:
             raise Mismatch(f"stream ended with {status}")
-        return [stream[at : at + self.payload] for at in range(0, len(stream), self.payload)]
+        return blocks_of(stream, self.payload)
 
     def look(self, coming, told):
         """Compares the image with what was recorded before and what a recording with these acknowledgements added to it."""
         image = self.path.read_bytes()
-        if image[:HEADER] != self.header:
+        if image[: HEADER.size] != self.header:
             raise Mismatch("the header isn't what it was")
-        run = run_in(image)
+        run = recovered(image)
         following = run[-1][0] + 1 if run else 0
         every = self.blocks + coming
         least, most = (told[-1], min(told[-1] + 1, len(every))) if told else (len(self.blocks), len(self.blocks))
@@ -237,7 +208,7 @@ def main():
     names += ["blocks recorded", "blocks acknowledged"]
     counts = dict.fromkeys(names, 0)
     pace = {}
-    room = pathlib.Path(tempfile.mkdtemp(prefix="crash_test_"))
+    room = pathlib.Path(tempfile.mkdtemp(prefix="fdr_crashes_"))
     print(f"seed {seed}")
     run = 0
     try:

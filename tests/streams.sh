@@ -3,10 +3,10 @@
 # opens then must not take the place of a stream: a closed input is a fault of the input, a closed output one of the
 # output, and what would go to a closed standard error is dropped, the acknowledgements of a recording too.
 #
-# Usage: examples/closed_streams.sh [PROGRAM]
+# Usage: tests/streams.sh [PROGRAM]
 
 fdr=${1:-bin/fdr}
-here=$(dirname "$0")
+examples=$(dirname "$0")/../examples
 room=$(mktemp -d) || exit 1
 trap 'rm -rf "$room"' EXIT
 failed=0
@@ -26,19 +26,19 @@ same() {
     fi
 }
 
-make_image() { "$fdr" format "$here/t1.csv" "$1" --slots 4 --payload 64; }
+make_image() { "$fdr" format "$examples/t1.csv" "$1" --slots 4 --payload 64; }
 
-"$fdr" listbits "$here/t1.csv" <&- 2>/dev/null
+"$fdr" listbits "$examples/t1.csv" <&- 2>/dev/null
 expect 8 $? "listbits without an input"
-"$fdr" stream "$here/t1.csv" <&- >/dev/null 2>&1
+"$fdr" stream "$examples/t1.csv" <&- >/dev/null 2>&1
 expect 8 $? "stream without an input"
-"$fdr" listbits "$here/t1.csv" <"$here/cases/listbits_a_frame" >&- 2>/dev/null
+"$fdr" listbits "$examples/t1.csv" <"$examples/cases/listbits_a_frame" >&- 2>/dev/null
 expect 9 $? "listbits without an output"
-"$fdr" check "$here/t1.csv" >&- 2>/dev/null
+"$fdr" check "$examples/t1.csv" >&- 2>/dev/null
 expect 9 $? "check without an output"
-"$fdr" recover "$here/ring.img" >&- 2>/dev/null
+"$fdr" recover "$examples/ring.img" >&- 2>/dev/null
 expect 9 $? "recover without an output"
-"$fdr" list "$here/t1.csv" "$here/recorded.img" >&- 2>/dev/null
+"$fdr" list "$examples/t1.csv" "$examples/recorded.img" >&- 2>/dev/null
 expect 9 $? "list without an output"
 
 make_image "$room/open.img"
@@ -56,21 +56,21 @@ same "$room/open.img" "$room/none.img" "format without any stream"
 expect 0 $? "recover of an empty image without any stream"
 same "$room/open.img" "$room/none.img" "recover without any stream"
 
-make_large() { "$fdr" format "$here/t1.csv" "$1" --slots 32 --payload 64; }
+make_large() { "$fdr" format "$examples/t1.csv" "$1" --slots 32 --payload 64; }
 
 make_large "$room/told.img"
 make_large "$room/untold.img"
 head -c 64 "$room/told.img" >"$room/header"
-"$fdr" record "$here/t1.csv" "$room/told.img" <"$here/cases/stream_a_trace" 2>"$room/acks"
+"$fdr" record "$examples/t1.csv" "$room/told.img" <"$examples/cases/stream_a_trace" 2>"$room/acks"
 expect 0 $? "record"
-"$fdr" record "$here/t1.csv" "$room/untold.img" <"$here/cases/stream_a_trace" 2>&-
+"$fdr" record "$examples/t1.csv" "$room/untold.img" <"$examples/cases/stream_a_trace" 2>&-
 expect 0 $? "record without a standard error"
 head -c 64 "$room/untold.img" >"$room/header_after"
 same "$room/header" "$room/header_after" "the header, record without a standard error"
 same "$room/told.img" "$room/untold.img" "record without a standard error"
 "$fdr" recover "$room/untold.img" >"$room/recovered"
-same "$here/cases/stream_a_trace.stdout" "$room/recovered" "recover of what was recorded without a standard error"
-"$fdr" record "$here/t1.csv" "$room/told.img" <&- 2>/dev/null
+same "$examples/cases/stream_a_trace.stdout" "$room/recovered" "recover of what was recorded without a standard error"
+"$fdr" record "$examples/t1.csv" "$room/told.img" <&- 2>/dev/null
 expect 8 $? "record without an input"
 same "$room/told.img" "$room/untold.img" "record without an input"
 
