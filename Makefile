@@ -4,7 +4,7 @@
 PREFIX ?= /usr/local
 PROGRAM = crates/fdr_prog
 
-.PHONY: build demo check streams crash-test check-real check-memory bench tools-test test install clean help
+.PHONY: build demo check walk streams crash-test check-real check-memory bench tools-test test install clean help
 
 # Proves the program and everything below it, and puts it at bin/fdr.
 build:
@@ -24,6 +24,10 @@ demo:
 check:
 	tools/documents.py check
 	examples/make_images.py --check
+
+# Goes the walk of examples/README.md with the built program, and compares what it prints with what the page shows.
+walk: build
+	tests/walk.py bin/fdr
 
 # Runs the built program with each of its standard streams closed.
 streams: build

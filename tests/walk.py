@@ -1,0 +1,90 @@
+#!/usr/bin/env python3
+"""Goes the walk of examples/README.md with a built program, and compares what it prints with what the page shows.
+
+tests/walk.py PROGRAM
+
+All blocks of commands run one after another in one shell, in a folder with the tables alone, as a reader types them. The block
+after one of commands is what they print. Where it has no line of an announcement, those lines are left out of the comparison;
+commands without such a block print announcements or nothing.
+"""
+import pathlib
+import re
+import shutil
+import subprocess
+import sys
+import tempfile
+
+EXAMPLES = pathlib.Path(__file__).resolve().parent.parent / "examples"
+COMMAND = re.compile(r"(fdr|put|cp|head|cat|printf) |\(")
+ANNOUNCEMENT = re.compile(r"ack \d+")
+MARK = "--- end of a block ---"
+
+
+def blocks(page):
+    """The fenced blocks of a page, each with the number of its first line."""
+    inside, start, lines = False, 0, []
+    for number, line in enumerate(page.splitlines(), 1):
+        if line.startswith("```"):
+            if inside:
+                yield start, lines
+            inside, start, lines = not inside, number + 1, []
+        elif inside:
+            lines.append(line)
+    if inside:
+        raise SystemExit(f"walk: the block at line {start} has no end")
+
+
+def is_of_commands(lines):
+    return any(COMMAND.match(line) for line in lines)
+
+
+def steps(page):
+    """Each block of commands, with the lines that the page says they print, or None where it shows none."""
+    found = list(blocks(page))
+    for (start, lines), (_, after) in zip(found, [*found[1:], (0, None)]):
+        if is_of_commands(lines):
+            yield start, lines, after if after is not None and not is_of_commands(after) else None
+
+
+def printed(program, walk):
+    """What each block of commands prints, standard error among it, in one shell."""
+    with tempfile.TemporaryDirectory() as room:
+        folder = pathlib.Path(room, "examples")
+        tools = pathlib.Path(room, "tools")
+        folder.mkdir()
+        tools.mkdir()
+        for table in EXAMPLES.glob("*.csv"):
+            shutil.copy(table, folder)
+        (tools / "fdr").symlink_to(pathlib.Path(program).resolve())
+        script = f"PATH={tools}:$PATH\n" + "".join("\n".join(lines) + f"\necho '{MARK}'\n" for _, lines, _ in walk)
+        run = subprocess.run(["bash"], input=script, cwd=folder, stdout=subprocess.PIPE, stderr=subprocess.STDOUT, text=True, timeout=600)
+    return [part.strip("\n").splitlines() for part in run.stdout.split(MARK)[:-1]]
+
+
+def is_shown(lines, shown):
+    """Whether these lines are what the page shows."""
+    if shown is None:
+        return all(ANNOUNCEMENT.fullmatch(line) for line in lines)
+    if not any(ANNOUNCEMENT.fullmatch(line) for line in shown):
+        lines = [line for line in lines if not ANNOUNCEMENT.fullmatch(line)]
+    return lines == shown
+
+
+def main():
+    if len(sys.argv) != 2:
+        raise SystemExit(__doc__)
+    walk = list(steps((EXAMPLES / "README.md").read_text()))
+    outputs = printed(sys.argv[1], walk)
+    if len(outputs) != len(walk):
+        raise SystemExit(f"walk: {len(outputs)} of {len(walk)} blocks ran")
+    wrong = 0
+    for (start, _, shown), lines in zip(walk, outputs):
+        if not is_shown(lines, shown):
+            wrong += 1
+            print(f"examples/README.md:{start}: the page shows\n  " + "\n  ".join(shown or ["nothing"]) + "\nand the program prints\n  " + "\n  ".join(lines))
+    print(f"walk: {len(walk)} blocks of commands, {wrong} with another output than the page shows")
+    raise SystemExit(1 if wrong else 0)
+
+
+if __name__ == "__main__":
+    main()
