@@ -36,7 +36,7 @@ import time
 
 sys.dont_write_bytecode = True
 
-from formats import HEADER, empty_image, end_at, frame, recorded, shape_of, slot_at
+from formats import HEADER, bits_of, bytes_of_bits, empty_image, end_at, frame, levels_of, recorded, shape_of, slot_at
 from inputs import T1, largest_table, t1_frame, table_of_every_word, word_at
 
 APART = "FDR_TESTS_APART"  # set where the script has mounts of its own
@@ -48,6 +48,7 @@ PAGE = 4096
 BITS = t1_frame(0, 5) + t1_frame(1, 7)
 TRACE = word_at(0, 5) + word_at(4_000_000, 7) + end_at(8_000_000)
 LISTING = b"row,0,1,10,ALT,5\nrow,1,1,10,ALT,7\n"
+LEVELS = bytes_of_bits(levels_of(bits_of(BITS)))
 REPORT = b"frame,64,1,16\nparam,ALT,16,even\n"
 EMPTY = empty_image(16, 64)
 IMAGE = recorded(EMPTY, BITS)
@@ -71,6 +72,8 @@ BIG_LISTING = "".join(
 CHECK = ["check", "t1.csv"]
 STREAM = ["stream", "t1.csv"]
 LISTBITS = ["listbits", "t1.csv"]
+ENCODE = ["encode"]
+DECODE = ["decode"]
 RECORD = ["record", "t1.csv", "a.img"]
 RECOVER = ["recover", "a.img"]
 LIST = ["list", "t1.csv", "a.img"]
@@ -91,6 +94,7 @@ NO_OUTPUT = (9, "fdr: output cannot be written")
 DISK_FAULT = (10, "fdr: disk fault")
 TOO_LONG = (11, "fdr: input too long")
 NO_MEMORY = (12, "fdr: no memory")
+NO_TRANSITION = (14, "fdr: no transition at level 2")
 NO_FRAME = (2, "fdr: table row 0: no frame row")
 TOO_LARGE = (2, "fdr: table row 0: too large")
 TRUNCATED = (3, "fdr: trace record 0: truncated")
@@ -655,6 +659,8 @@ def writers(stream, how):
     yield Case(f"check, {how}", CHECK, NO_OUTPUT, out=stream)
     yield Case(f"stream, {how}", STREAM, NO_OUTPUT, given=TRACE, out=stream)
     yield Case(f"listbits, {how}", LISTBITS, NO_OUTPUT, given=BITS, out=stream)
+    yield Case(f"encode, {how}", ENCODE, NO_OUTPUT, given=BITS, out=stream)
+    yield Case(f"decode, {how}", DECODE, NO_OUTPUT, given=LEVELS, out=stream)
     yield Case(f"recover, {how}", RECOVER, NO_OUTPUT, out=stream)
     yield Case(f"list, {how}", LIST, NO_OUTPUT, out=stream)
     yield Case(f"drill, {how}", DRILL, NO_OUTPUT, acks=(12, 18), changes={"a.img": DRILLED}, out=stream)
@@ -671,6 +677,8 @@ def readers(stream, how):
     """Each command that reads standard input, which can't be read."""
     yield Case(f"stream, {how}", STREAM, NO_INPUT, given=stream)
     yield Case(f"listbits, {how}", LISTBITS, NO_INPUT, given=stream)
+    yield Case(f"encode, {how}", ENCODE, NO_INPUT, given=stream)
+    yield Case(f"decode, {how}", DECODE, NO_INPUT, given=stream)
     yield Case(f"record, {how}", RECORD, NO_INPUT, acks=(12, 12), given=stream)
 
 
@@ -717,6 +725,11 @@ def stream_cases():
     yield Case("check, input closed", CHECK, DONE, REPORT, given=CLOSED)
     yield Case("list, input closed", LIST, DONE, LISTING, given=CLOSED)
     yield Case("listbits, input /dev/null", LISTBITS, DONE, given=NOTHING)
+    yield Case("encode", ENCODE, DONE, LEVELS, given=BITS)
+    yield Case("decode", DECODE, DONE, BITS, given=LEVELS)
+    yield Case("encode, input /dev/null", ENCODE, DONE, given=NOTHING)
+    yield Case("decode, input /dev/null", DECODE, DONE, given=NOTHING)
+    yield Case("decode, input without end", DECODE, NO_TRANSITION, b"\0", given=ZEROS)
     yield Case("stream, input /dev/null", STREAM, TRUNCATED, given=NOTHING)
     yield Case("record, input /dev/null", RECORD, TRUNCATED, acks=(12, 12), given=NOTHING)
     yield Case("stream, input without end", STREAM, BAD_KIND, given=ZEROS)

@@ -26,6 +26,29 @@ Head = collections.namedtuple("Head", "gate length session number")
 # --- bits
 
 
+def bits_of(bytes_given):
+    """The bits of bytes, the least significant of each byte first."""
+    return [byte >> place & 1 for byte in bytes_given for place in range(8)]
+
+
+def bytes_of_bits(bits):
+    """Bits or levels as bytes, eight in each; zeros fill the last one."""
+    made = bytearray((len(bits) + 7) // 8)
+    for place, bit in enumerate(bits):
+        made[place // 8] |= bit << place % 8
+    return bytes(made)
+
+
+def levels_of(bits):
+    """The Harvard biphase levels of bits, after a low level: two for each bit."""
+    level, levels = 0, []
+    for bit in bits:
+        begin = 1 - level
+        level = 1 - begin if bit else begin
+        levels += [begin, level]
+    return levels
+
+
 def packed(words):
     """An even number of words of 12 bits as bytes, two in three."""
     pairs = zip(words[0::2], words[1::2])

@@ -175,6 +175,8 @@ def further_works():
     yield Work("stream, ordinary table", ["stream", "o.csv"], trace, files)
     yield Work("record, ordinary table", ["record", "o.csv", "o.img"], trace, files)
     yield Work("drill, ordinary table", ["drill", "o.csv", "o.img", "--seed", "7", "--frames", "18"], b"", files)
+    yield Work("encode", ["encode"], bytes(5000), files)
+    yield Work("decode", ["decode"], b"\x55" * 5000, files)
     yield Work("listbits, ordinary table", ["listbits", "o.csv"], bytes(5000), files)
     yield Work("a refused table", ["check", "t.img"], b"", files)
     yield Work("a refused word", ["format", "t1.csv", "new.img", "--slots=4"], b"", files)

@@ -34,6 +34,12 @@ expect 8 $? "listbits without an input"
 expect 8 $? "stream without an input"
 "$fdr" listbits "$examples/t1.csv" <"$examples/cases/listbits_a_frame" >&- 2>/dev/null
 expect 9 $? "listbits without an output"
+for command in encode decode; do
+    "$fdr" $command <&- 2>/dev/null
+    expect 8 $? "$command without an input"
+    "$fdr" $command <"$examples/cases/${command}_a_frame" >&- 2>/dev/null
+    expect 9 $? "$command without an output"
+done
 "$fdr" check "$examples/t1.csv" >&- 2>/dev/null
 expect 9 $? "check without an output"
 "$fdr" recover "$examples/ring.img" >&- 2>/dev/null

@@ -94,8 +94,10 @@ def functions(path):
                 at += 1
                 if ends:
                     break
-                if contract[-1].endswith(";") and contract[-1].startswith("    ensures"):
+                last = contract[-1]
+                if last.endswith(";") and last.startswith("    ensures") or last.endswith(" };") and last.startswith("        "):
                     contract[-1] = contract[-1][:-1]
+                    at -= 1
                     break
             yield owner, name, public == "pub " or (all_public and not public), contract
         at += 1
@@ -322,13 +324,16 @@ def check_edges():
 
 
 def outcomes():
-    """The statuses and texts of the outcomes, as specs/Outcome of fdr_top has them."""
+    """The statuses and texts of the outcomes, as specs/Outcome of fdr_top and the messages of faults have them."""
     text = (CRATES / "fdr_top" / "specs" / "Outcome.antt").read_text()
+    messages = (CRATES / "fdr_messages" / "specs" / "Messages.antt").read_text()
+    program = re.search(r'^program_name = (codes ".*")', text, re.M).group(1)
     statuses = dict(re.findall(r"^status_of \(?outcome\.(\w+)[^=]*= (\d+)", text, re.M))
-    bodies = dict(re.findall(r"^(\w+_text) [^=]*= (.*)", text, re.M))
+    bodies = dict(re.findall(r"^(\w+_message) program [^=]*= program (.*)", messages, re.M))
     inputs = re.findall(r'^input_text \S+ = codes "(.*)"', text, re.M)
     for name, says in re.findall(r"^text_of \(?outcome\.(\w+)[^=]*= (.*)", text, re.M):
-        words = bodies[says.split()[0]] if says.startswith("words_text") else says
+        message = bodies.get(says.split()[0])
+        words = says if message is None else f"{program} {message}"
         words = re.sub(r"decimal (\w+)", lambda number: f'"{number[1].upper()}"', re.sub(r"\w+ f$", '"FAULT"', words))
         for line in inputs if "input_text" in says else ["".join(re.findall(r'"(.*?)"', words))]:
             yield statuses[name], line

@@ -69,6 +69,13 @@ def test_a_silence_over_pieces_of_a_trace(flight, write):
     assert rows.splitlines()[2].split()[6:8] == ["78.000", "s"]
 
 
+def test_parameters_with_an_age(flight, write):
+    table = TABLE.replace("P,ONE,", "P,OK,0,203,1,11,1,V,1,1,0,0,16,2000000\nP,ONE,")
+    trace = encoder.trace_of([Word(0, 0, word_of(0o203, 1, 5))], SECOND)
+    rows = flight("check-trace", write("t.csv", table), write("t", trace)).out.decode().splitlines()
+    assert "OK" in [row.split()[0] for row in rows]
+
+
 def test_an_empty_trace(flight, write):
     out = flight("check-trace", encoder.TOP / "examples" / "t1.csv", write("t", encoder.trace_of([], 0))).out.decode()
     assert out.splitlines()[1].split() == ["ALT", "0", "203", "any", "0", "-", "0.000", "s", "0", "NONE", "CAME"]

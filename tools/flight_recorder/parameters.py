@@ -12,6 +12,7 @@ from .faults import Fault
 
 WORDS = (64, 128, 256, 512, 1024)
 SUPERFRAME = 16  # frames
+FIELDS = {"F": (4,), "P": (13, 14), "L": (10,)}  # a row of a parameter may have an age
 
 
 @dataclass(frozen=True)
@@ -76,7 +77,7 @@ def read_table(path: str) -> Table:
 
 def _with_row(table: Table | None, row: list[str]) -> Table:
     """The table with one more row. A ValueError, IndexError or KeyError says that the row is wrong."""
-    if (table is None) is not (row[0] == "F") or len(row) != {"F": 4, "P": 13, "L": 10}[row[0]]:
+    if (table is None) is not (row[0] == "F") or len(row) not in FIELDS[row[0]]:
         raise ValueError(row)
     if table is None:
         return Table(_number(row[1], WORDS), {})

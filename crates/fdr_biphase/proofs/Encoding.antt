@@ -11,12 +11,12 @@ use Rattle.fdr_lists.proofs.Ranges.{map-range-agree}
 use Rattle.fdr_bits.specs.Bits.{bits_in, bit_at}
 use Rattle.fdr_bits.proofs.AppendLemmas.{bit_at_append_left, bit_at_append_right}
 use Rattle.fdr_biphase.specs.Cells.{bits_of_bytes, cells_of, cell_end, level_after}
-use Rattle.fdr_biphase.specs.Packed.{packed_bits, low_bits}
+use Rattle.fdr_biphase.specs.Packed.{packed_bits, low_bits, byte_bits}
 use Rattle.fdr_biphase.proofs.CellLemmas.{length-cells, cells-append, level_after-append}
 use Rattle.fdr_biphase.proofs.Struck.{each_element}
 
 -- the lowest bit of a number as it is tested
-tested : (m n : ℕ) → m ≡ n → eqb (bit_and m 1) 1 ≡ (n % 2 == 1)
+pub tested : (m n : ℕ) → m ≡ n → eqb (bit_and m 1) 1 ≡ (n % 2 == 1)
 tested m n is = ap (λ k. eqb k 1) (and_mask m 1) ∙ ap (λ k. k % 2 == 1) is
 
 pub low_tested : (b : ℕ) → eqb (bit_and b 1) 1 ∷ eqb (bit_and (b / 2) 1) 1 ∷ eqb (bit_and (b / 4) 1) 1 ∷ eqb (bit_and (b / 8) 1) 1 ∷ [] ≡ low_bits b
@@ -57,20 +57,15 @@ unfolding level_after
 four_end l0 l1 l2 l3 l4 b0 b1 b2 b3 x0 x1 x2 x3 h0 h1 h2 h3 =
     h3.level ∙ ap (λ l. cell_end l b3) (h2.level ∙ ap (λ l. cell_end l b2) (h1.level ∙ ap (λ l. cell_end l b1) h0.level))
 
--- the bits of a byte
-byte_bits : ℕ → List Bool
-byte_bits b = map (λ j. b / 2 ^ j % 2 == 1) (range_with_len 0 8)
-
-one_byte : (b : ℕ) → bits_of_bytes (b ∷ []) ≡ byte_bits b
-unfolding byte_bits bit_at
+pub one_byte : (b : ℕ) → bits_of_bytes (b ∷ []) ≡ byte_bits b
+unfolding bit_at
 one_byte b = refl
 
 two_bytes : (x y : ℕ) → bits_of_bytes (x ∷ y ∷ []) ≡ byte_bits x ++ byte_bits y
-unfolding byte_bits bit_at
+unfolding bit_at
 two_bytes x y = refl
 
 high_bits : (b : ℕ) → byte_bits b ≡ low_bits b ++ low_bits (b / 16)
-unfolding byte_bits
 high_bits b =
     let t = λ (m : ℕ). (m % 2 == 1) in
     ap (λ m. low_bits b ++ t m ∷ t (b / 32) ∷ t (b / 64) ∷ t (b / 128) ∷ []) (let e : b / 16 ≡ b / 16 / 1 = omega arith in e)
@@ -103,7 +98,6 @@ packed_bit (bit ∷ bits) (suc j) within =
     ∙ packed_bit bits j (omega arith)
 
 unpacked : (bits : List Bool) → length bits ≡ 8 → byte_bits (packed_bits bits) ≡ bits
-unfolding byte_bits
 unpacked bits eight =
     map-range-agree (λ j. packed_bits bits / 2 ^ j % 2 == 1) (λ j. get_or bits j false) 0 8 (λ j low high. packed_bit bits j (omega arith))
     ∙ ap (λ n. map (λ j. get_or bits j false) (range_with_len 0 n)) (sym eight)
@@ -127,6 +121,14 @@ pub byte_end : (first between end : Bool) (b : ℕ) → between ≡ level_after 
 byte_end first between end b mid last =
     last ∙ ap (λ l. level_after l (low_bits (b / 16))) mid ∙ sym (level_after-append first (low_bits b) (low_bits (b / 16)))
     ∙ ap (level_after first) (sym (one_byte b ∙ high_bits b))
+
+-- the cells of a byte are those of its low bits and of its high ones
+pub cells_split : (level between : Bool) (b : ℕ) → between ≡ level_after level (low_bits b)
+    → cells_of level (low_bits b) ++ cells_of between (low_bits (b / 16)) ≡ cells_of level (bits_of_bytes (b ∷ []))
+cells_split level between b mid =
+    ap (λ l. cells_of level (low_bits b) ++ cells_of l (low_bits (b / 16))) mid
+    ∙ sym (cells-append level (low_bits b) (low_bits (b / 16)))
+    ∙ ap (cells_of level) (sym (one_byte b ∙ high_bits b))
 
 -- a bit of more bytes is one of the first of them, or of the last
 more_bit : (bytes : List ℕ) (b i : ℕ) → i < bits_in bytes + 8

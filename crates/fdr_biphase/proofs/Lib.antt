@@ -6,3 +6,6 @@ pub mod Turned
 pub mod Encoding
 pub mod Standing
 pub mod Staying
+pub mod Packing
+pub mod Packers
+pub mod Texts

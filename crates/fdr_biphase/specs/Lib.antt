@@ -1,4 +1,5 @@
 pub mod Cells
-pub mod Packed
 pub mod Phases
+pub mod Packed
 pub mod Past
+pub mod Reading

@@ -1,6 +1,9 @@
--- Bits as numbers.
-use Rattle.std.specs.Prelude.{ℕ, ◌+◌, ◌*◌, ◌/◌, ◌%◌, ◌^◌, ◌==◌, Bool, if◌then◌else◌, List, [], ◌∷◌, map}
+-- Bits as numbers and as bytes.
+use Rattle.std.specs.Prelude.{ℕ, ◌≡◌, ◌+◌, ◌*◌, ◌/◌, ◌%◌, ◌^◌, ◌<◌, ◌==◌, Bool, false}
+use Rattle.std.specs.Prelude.{if◌then◌else◌, List, [], ◌∷◌, ◌++◌, length, map, take, drop, Option, Some, None}
 use Rattle.std.specs.List.{range_with_len}
+use Rattle.fdr_biphase.specs.Cells.{bits_of_bytes, cells_of}
+use Rattle.fdr_biphase.specs.Phases.{cell_bits}
 
 -- the number that packs bits, the first of them as its least significant
 abbrev pub packed_bits : List Bool → ℕ
@@ -10,3 +13,24 @@ packed_bits (bit ∷ bits) = (if bit then 1 else 0) + 2 * packed_bits bits
 -- the four lowest bits of a byte
 abbrev pub low_bits : ℕ → List Bool
 low_bits b = map (λ j. b / 2 ^ j % 2 == 1) (range_with_len 0 4)
+
+-- the bits of a byte
+abbrev pub byte_bits : ℕ → List Bool
+byte_bits b = map (λ j. b / 2 ^ j % 2 == 1) (range_with_len 0 8)
+
+-- the bytes that pack bits, eight in each and the first as its least significant; zero bits fill the last byte
+unfoldable pub bytes_of_bits : List Bool → List ℕ
+bytes_of_bits bits = map (λ i. packed_bits (take 8 (drop (8 * i) bits))) (range_with_len 0 ((length bits + 7) / 8))
+
+-- the bytes that pack the cells of the bits of bytes, after this level
+abbrev pub encoded_bytes : Bool → List ℕ → List ℕ
+encoded_bytes first bytes = bytes_of_bits (cells_of first (bits_of_bytes bytes))
+
+-- the bytes that pack the bits of the levels that bytes pack
+abbrev pub decoded_bytes : List ℕ → List ℕ
+decoded_bytes levels = bytes_of_bits (cell_bits (bits_of_bytes levels))
+
+-- the byte that an answer gives, if it gives one
+abbrev pub answered_byte : Option ℕ → List ℕ
+answered_byte None = []
+answered_byte (Some byte) = byte ∷ []

@@ -84,6 +84,13 @@ impl Decoder {
         }
     }
 
+    /// Whether no further level may come.
+    pub(crate) fn has_ended(&self) -> bool
+        ensures { result ≡ self.now.ended }
+    {
+        self.ended
+    }
+
     /// Ends the levels, and answers the bit that waits, if one does.
     pub fn finish(&mut self) -> Option<bool>
         requires open { self.old.ended ≡ false }

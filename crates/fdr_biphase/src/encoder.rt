@@ -2,7 +2,7 @@
 
 ghost use Rattle.std.specs.Prelude.{◌≡◌, ◌<◌, ◌++◌, ◌∷◌, [], ℕ, Bool, List};
 ghost use Rattle.fdr_biphase.specs.Cells.{bits_of_bytes, cells_of, cell_end, level_after};
-ghost use Rattle.fdr_biphase.specs.Packed.{packed_bits, low_bits};
+ghost use Rattle.fdr_biphase.specs.Packed.{packed_bits, low_bits, encoded_bytes};
 ghost use Rattle.fdr_biphase.specs.Past.{RepresentsEncoder};
 
 /// Makes the cells of bytes.
@@ -25,6 +25,8 @@ impl Encoder {
         ensures cells { bits_of_bytes result ≡ cells_of self.old.level (bits_of_bytes (b ∷ [])) }
         ensures next { (first : Bool) (bytes : List ℕ) → RepresentsEncoder self.old first bytes
             → cells_of first (bits_of_bytes (bytes ++ b ∷ [])) ≡ cells_of first (bits_of_bytes bytes) ++ bits_of_bytes result }
+        ensures packed { (first : Bool) (bytes : List ℕ) → RepresentsEncoder self.old first bytes
+            → encoded_bytes first (bytes ++ b ∷ []) ≡ encoded_bytes first bytes ++ result }
         ensures stands { (first : Bool) (bytes : List ℕ) → RepresentsEncoder self.old first bytes
             → RepresentsEncoder self.new first (bytes ++ b ∷ []) }
     {

@@ -1,4 +1,4 @@
--- The words that stand in the three bytes of a pair.
+-- The words that are in the three bytes of a pair.
 use Rattle.std.proofs.Common.{◌≡◌, ℕ, suc, zero, ◌+◌, ◌*◌, ◌/◌, ◌%◌, ◌<◌, List, [], ◌∷◌, ◌∙◌, arith}
 use Rattle.fdr_bits.specs.Bits.{word_at}
 use Rattle.fdr_bits.proofs.WordLemmas.{AreBytes, word_at_by_bytes}

@@ -43,7 +43,7 @@ reversed_to_none word = refl
 shift_more : (word n : ℕ) → word / 2 ^ n / 2 ≡ word / 2 ^ (n + 1)
 shift_more word n = div-div-eq-div-mul word (2 ^ n) 2 ∙ ap (λ d. word / d) (sym (pow-add 2 n 1))
 
--- the bits up to one are counted, and what stands above it
+-- the bits up to one are counted, and what is above it
 count_ones-split : (word n : ℕ) → count_ones word ≡ ones_to word n + count_ones (word / 2 ^ n)
 count_ones-split word zero = rw ones_to_none (grind arith)
 count_ones-split word (suc n) =

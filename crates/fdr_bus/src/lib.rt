@@ -108,7 +108,7 @@ pub fn parse(bytes: &[u8; 16], before: u64) -> Result<BusRecord, TraceFault>
     Ok(record)
 }
 
-/// The label, which stands in bits 1 to 8 of an ARINC 429 word with its most significant bit in bit 1.
+/// The label, which is in bits 1 to 8 of an ARINC 429 word with its most significant bit in bit 1.
 pub fn label(word: u32) -> u8
     ensures { result ≡ label_of word }
 {

@@ -24,7 +24,7 @@ fn whole_trace(alloc: Global) -> Result<Vec<u8>, AllocError> {
     Ok(trace)
 }
 
-/// What is recorded of its first so many bytes, without the end: the words before the time of the last whole record. The
+/// What is recorded of its first `length` bytes, without the end: the words before the time of the last whole record. The
 /// first two records are of time 0, and the third ends a second, which is a subframe.
 fn recorded_of(alloc: Global, length: usize) -> Result<Vec<u8>, AllocError> {
     let mut frame = frame_with(alloc, &[(13, 0x50), (28, 0xe0), (29, 0xcd)])?;

@@ -14,7 +14,7 @@ fn three_frames(alloc: Global) -> Result<Vec<u8>, AllocError> {
     Ok(line)
 }
 
-/// A line without this bit: what comes behind it stands a bit earlier, and the last bit is zero.
+/// A line without this bit: what comes after it is a bit earlier, and the last bit is zero.
 fn without_bit(alloc: Global, line: &[u8], bit: usize) -> Result<Vec<u8>, AllocError> {
     let mut struck = vec![in alloc; 0; line.len()]?;
     for at in 0..line.len().saturating_mul(8) {

@@ -112,7 +112,7 @@ fn says_each_answer(rt: HostRuntime) -> Result<(), Fail> {
     for (fault, text) in faults {
         assert_eq!(rt; Outcome::TableRefused { row, fault }.text().bytes(), text);
     }
-    let answers: [(Outcome, u8, &[u8]); 22] = [
+    let answers: [(Outcome, u8, &[u8]); 24] = [
         (Outcome::Done, 0, b""),
         (Outcome::Usage, 1, b"fdr: usage"),
         (
@@ -212,6 +212,18 @@ fn says_each_answer(rt: HostRuntime) -> Result<(), Fail> {
         (Outcome::DiskFault, 10, b"fdr: disk fault"),
         (Outcome::TooLong, 11, b"fdr: input too long"),
         (Outcome::NoMemory, 12, b"fdr: no memory"),
+        (
+            Outcome::CellFault { at: 15 },
+            14,
+            b"fdr: no transition at level 15",
+        ),
+        (
+            Outcome::CellFault {
+                at: 18_446_744_073_709_551_615,
+            },
+            14,
+            b"fdr: no transition at level 18446744073709551615",
+        ),
     ];
     for (answer, status, text) in answers {
         assert_eq!(rt; answer.status(), status);

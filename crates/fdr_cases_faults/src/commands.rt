@@ -13,7 +13,7 @@ use std::test::Fail;
 /// Lines, images and streams of the commands.
 #[derive(Drop)]
 pub struct Inputs {
-    // Two frames behind five bits, and three bits behind them.
+    // Two frames after five bits, and three bits after them.
     frames: Vec<u8>,
     // A trace of a frame, and what it records.
     trace: Vec<u8>,

@@ -5,7 +5,7 @@ use fdr_top::Outcome;
 use std::alloc::{AllocError, Global};
 use std::test::Fail;
 
-/// The header of an image of 4 slots of 64 bytes for subframes of 64 words, but for the zeros at its end.
+/// The header of an image of 4 slots of 64 bytes for subframes of 64 words, except the zeros at its end.
 pub const HEADER: [u8; 20] = [
     0x5a, 0, 0x46, 0x44, 0x52, 0x37, 0x31, 0x37, 0, 0, 0, 4, 0, 0, 0, 64, 0, 0, 0, 64,
 ];
@@ -43,7 +43,7 @@ fn makes_an_image_once(rt: HostRuntime) -> Result<(), Fail> {
     Ok(())
 }
 
-// Sixteen slots of 80 bytes behind the header.
+// Sixteen slots of 80 bytes after the header.
 #[test]
 fn makes_an_image_of_options_in_other_spellings(rt: HostRuntime) -> Result<(), Fail> {
     let alloc = rt.alloc();
@@ -80,7 +80,7 @@ fn leaves_a_disk_that_it_does_not_make(rt: HostRuntime) -> Result<(), Fail> {
     Ok(())
 }
 
-// The calls are the size, the zeros, the header but for its gate, a sync, the gate, and a sync.
+// The calls are the size, the zeros, the header except its gate, a sync, the gate, and a sync.
 #[test]
 fn says_that_the_disk_failed(rt: HostRuntime) -> Result<(), Fail> {
     let alloc = rt.alloc();

@@ -52,7 +52,7 @@ fn lists_what_was_recorded(rt: HostRuntime) -> Result<(), Fail> {
     Ok(())
 }
 
-/// The image of 16 slots after so many recordings of six blocks.
+/// The image of 16 slots after this many recordings of six blocks.
 fn recorded(alloc: Global, times: usize) -> Result<Vec<u8>, Fail> {
     let mut deck = deck_of(alloc, &[], &[], &[])?;
     let words = [

@@ -48,7 +48,7 @@ fn calls_of_a_block(deck: &mut MemDeck, block: &[u8; 64]) -> Result<u64, RingFau
     Ok(deck.calls().saturating_sub(before))
 }
 
-// Block 6 comes into the slot of block 2, and the gate of block 3 behind it is open.
+// Block 6 comes into the slot of block 2, and the gate of block 3 after it is open.
 #[test]
 fn a_block_takes_at_most_six_calls(rt: HostRuntime) -> Result<(), Fail> {
     let alloc = rt.alloc();

@@ -1,4 +1,4 @@
-//! Lines of bits made by hand. A subframe has 64 words, so a frame has 3,072 bits, and its sync words stand at its bits
+//! Lines of bits made by hand. A subframe has 64 words, so a frame has 3,072 bits, and its sync words are at its bits
 //! 0, 768, 1,536 and 2,304.
 
 ghost use Rattle.std.specs.Prelude.{◌<◌};
@@ -39,7 +39,7 @@ pub fn frame(counter: u16, altitude: u16) -> [u8; 384] {
     bytes
 }
 
-/// A frame whose bit 48 is struck out, so that all that follows stands a bit earlier, and a zero bit at its end.
+/// A frame whose bit 48 is struck out, so that all that follows is a bit earlier, and a zero bit at its end.
 pub fn frame_with_a_bit_struck_out() -> [u8; 384] {
     let mut bytes = [0; 384];
     let words = [

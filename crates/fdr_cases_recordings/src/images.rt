@@ -12,12 +12,12 @@ pub const RECORD: [&str; 3] = ["record", "t1.csv", "flight.img"];
 /// An end before the first word.
 pub const END_AT_0: [u8; 16] = [2, 0, 0, 0, 0, 0, 0, 0, 0, 0, 0, 0, 0, 0, 0, 0];
 
-/// An image of so many slots of 64 bytes without blocks.
+/// An image of `slots` slots of 64 bytes without blocks.
 pub fn fresh(alloc: Global, slots: &str) -> Result<Vec<u8>, Fail> {
     formatted(alloc, slots, "64")
 }
 
-/// An image of so many slots of so many bytes without blocks.
+/// An image of `slots` slots of `payload` bytes without blocks.
 pub fn formatted(alloc: Global, slots: &str, payload: &str) -> Result<Vec<u8>, Fail> {
     let mut deck = deck_of(alloc, &[], &[], &[])?;
     let words = [

@@ -16,7 +16,7 @@ const WORD_AT_3999999: [u8; 16] = [
     1, 0, 0, 0, 0, 0, 0x14, 0xc1, 0, 0, 0, 0, 0, 0x3d, 0x08, 0xff,
 ];
 
-/// A trace that is recorded in a fresh image of so many slots of 64 bytes, what is answered, which number is announced,
+/// A trace that is recorded in a fresh image of this many slots of 64 bytes, what is answered, which number is announced,
 /// what is recovered, and what is listed.
 #[derive(Clone, Copy)]
 struct Case<'a> {
@@ -154,7 +154,7 @@ fn numbers_go_on_in_a_second_recording(rt: HostRuntime) -> Result<(), Fail> {
     Ok(())
 }
 
-// The second part of the position stands in the next frame.
+// The second part of the position is in the next frame.
 #[test]
 fn lists_a_recording_in_two_parts(rt: HostRuntime) -> Result<(), Fail> {
     let alloc = rt.alloc();

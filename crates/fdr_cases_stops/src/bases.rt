@@ -94,9 +94,9 @@ impl Base {
         image.len() == self.image.len() && image.get(..64) == self.image.get(..64)
     }
 
-    /// The number of the next block in what is left of the ring, where what stands in it is what is promised while this
+    /// The number of the next block in what is left of the ring, where what is in it is what is promised while this
     /// number is announced: blocks in a row up to the next one's number, of which none that is announced is missing and at
-    /// most one isn't announced; all of them, or two less than there are slots. A frame that is then recorded comes behind
+    /// most one isn't announced; all of them, or two less than there are slots. A frame that is then recorded comes after
     /// them, and takes the places of the oldest.
     pub fn next_in(
         &self,
@@ -161,7 +161,7 @@ pub fn in_sixteen_slots(alloc: Global) -> Result<Base, AllocError> {
     })
 }
 
-/// The same recording again, behind its six blocks.
+/// The same recording again, after its six blocks.
 pub fn behind_another(alloc: Global) -> Result<Base, Fail> {
     let mut base = in_sixteen_slots(alloc)?;
     let (_, deck) = base.run(alloc, &[])?;
@@ -214,7 +214,7 @@ pub fn drill_of_a_frame(alloc: Global) -> Result<Base, AllocError> {
     })
 }
 
-/// A drill of ten frames in four slots of 960 bytes. Its four blocks go round, and seven whole frames stand at its end.
+/// A drill of ten frames in four slots of 960 bytes. Its four blocks go round, and seven whole frames are at its end.
 pub fn drill_of_ten_frames(alloc: Global) -> Result<Base, Fail> {
     let drawn = altitudes(alloc, 1, 10)?;
     let mut sum: u64 = 0;
@@ -234,7 +234,7 @@ pub fn drill_of_ten_frames(alloc: Global) -> Result<Base, Fail> {
     })
 }
 
-/// A drill of ten frames in so many slots of 4,096 bytes. They are one block of 3,840 bytes.
+/// A drill of ten frames in a ring of `slots` slots of 4,096 bytes. They are one block of 3,840 bytes.
 pub fn drill_of_one_block(alloc: Global, slots: u16) -> Result<Base, AllocError> {
     let drawn = altitudes(alloc, 7, 10)?;
     let mut sum: u64 = 0;

@@ -12,7 +12,7 @@ use std::alloc::Global;
 use std::process::Abort;
 use std::test::Fail;
 
-/// The rings that were left, how many runs failed by the disk, how many by the line, and how many had announced so many
+/// The rings that were left, how many runs failed by the disk, how many by the line, and how many had announced this many
 /// blocks of their own.
 #[derive(Drop)]
 struct Seen {

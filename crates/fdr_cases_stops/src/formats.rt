@@ -59,7 +59,7 @@ fn check_image(rt: &impl Abort, alloc: Global, image: &[u8], seen: &mut Seen) ->
     Ok(())
 }
 
-// The calls are the size, the zeros, the header but for its gate, a sync, the gate, and a sync. The disk is empty before
+// The calls are the size, the zeros, the header except its gate, a sync, the gate, and a sync. The disk is empty before
 // the zeros. The gate's one byte has no half, and opens where it is new or filled with its own value.
 #[test]
 fn a_stop_leaves_no_image_or_a_whole_one(rt: HostRuntime) -> Result<(), Fail> {

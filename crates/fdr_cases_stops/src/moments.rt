@@ -8,7 +8,7 @@ use std::alloc::Global;
 use std::process::Abort;
 use std::test::Fail;
 
-/// How many stops there were, the rings that they left, and how many of them left so many blocks of the recording.
+/// How many stops there were, the rings that they left, and how many of them left this many blocks of the recording.
 #[derive(Drop)]
 struct Seen {
     stops: u64,

@@ -16,7 +16,7 @@ pub const TEARS: [Tear; 6] = [
     Tear::Fill(0xff),
 ];
 
-/// A ring of so many slots of so many bytes without blocks, for subframes of 64 words.
+/// A ring of `slots` slots of `payload` bytes without blocks, for subframes of 64 words.
 pub fn empty_ring(alloc: Global, slots: u16, payload: u16) -> Result<Vec<u8>, AllocError> {
     let mut image = Vec::new(alloc);
     image.extend_from_slice(&[0x5a, 0, b'F', b'D', b'R', b'7', b'1', b'7'])?;
@@ -50,7 +50,7 @@ fn blocks_in(alloc: Global, image: &[u8]) -> Result<Vec<u8>, Fail> {
     Ok(ran.written)
 }
 
-/// What stands in a ring: the blocks that are recovered, and after a frame more is recorded in it, the next number and the
+/// What is in a ring: the blocks that are recovered, and after a frame more is recorded in it, the next number and the
 /// blocks that are recovered then.
 #[derive(Drop)]
 pub struct Standing {
@@ -109,7 +109,7 @@ impl Rings {
         None
     }
 
-    /// What stands in a ring.
+    /// What is in a ring.
     pub fn open(&mut self, alloc: Global, image: &[u8]) -> Result<&Standing, Fail> {
         if self.standing(image).is_none() {
             let standing = opened(alloc, image)?;
@@ -128,7 +128,7 @@ pub fn left_by_stop(alloc: Global, deck: &MemDeck, call: u64, tear: Tear) -> Res
     Ok(deck.stop(alloc, call, tear)?)
 }
 
-/// The bytes of one image with the gates of another, where a block has so many bytes. Where a stop may leave both, it may
+/// The bytes of one image with the gates of another, where a block has `payload` bytes. Where a stop may leave both, it may
 /// leave this one too.
 pub fn with_gates(
     alloc: Global,

@@ -21,6 +21,11 @@ fn reports_on_sound_tables(rt: HostRuntime) -> Result<(), Fail> {
             "frame,64,2,12\nparam,A,8,even\nparam,B,4,even\n",
         ),
         ("F,1024,2,4\n", "frame,1024,0,0\n"),
+        // Two ages, one of them of a bit that tells freshness, and a field for an age that is empty.
+        (
+            "F,64,2,1\nP,A,0,1,,11,1,U,1,1,0,0,16,1\nL,A,1,1,20,0,1,1,0,1\nP,B,0,1,,11,1,V,1,1,0,0,16,64000000\nL,B,1,1,20,0,2,1,0,1\nP,C,0,2,,11,1,U,1,1,0,0,16,\nL,C,1,1,20,0,3,1,0,1\n",
+            "frame,64,3,48\nparam,A,16,even\nparam,B,16,even\nparam,C,16,even\n",
+        ),
         (
             ORDINARY,
             "frame,256,7,833
@@ -70,6 +75,39 @@ fn names_the_first_fault_of_the_rows(rt: HostRuntime) -> Result<(), Fail> {
             "F,64,2,1\nP,ALT,0,203,,11,12,U,1,1,0,0,16\nL,ALT,1,1,10,0,1,12,1,1\n",
             2,
             TableFault::Number { field: 8 },
+        ),
+    ];
+    for (table, row, fault) in cases {
+        let (outcome, written) = checked(rt.alloc(), table)?;
+        assert_eq!(rt; outcome, Outcome::TableRefused { row, fault }, "{table}");
+        assert_eq!(rt; written.len(), 0, "{table}");
+    }
+    Ok(())
+}
+
+#[test]
+fn names_the_faults_of_ages_and_signs(rt: HostRuntime) -> Result<(), Fail> {
+    let cases = [
+        // A parameter of two bits that would tell freshness.
+        (
+            "F,64,2,1\nP,ALT,0,203,,11,12,U,1,1,0,0,64,2000000\nL,ALT,1,1234,10,0,1,12,0,1\nP,OK,0,203,,11,2,V,1,1,0,0,64,2000000\nL,OK,1,1234,11,0,1,1,0,1\n",
+            3,
+            TableFault::Number { field: 7 },
+        ),
+        (
+            "F,64,2,1\nP,ALT,0,203,,11,12,U,1,1,0,0,64,0\nL,ALT,1,1234,10,0,1,12,0,1\n",
+            1,
+            TableFault::Number { field: 13 },
+        ),
+        (
+            "F,64,2,1\nP,ALT,0,203,,11,12,U,1,1,0,0,64,64000001\nL,ALT,1,1234,10,0,1,12,0,1\n",
+            1,
+            TableFault::Number { field: 13 },
+        ),
+        (
+            "F,64,2,1\nP,ALT,0,203,,11,12,U,1,1,0,0,64,2000000,\nL,ALT,1,1234,10,0,1,12,0,1\n",
+            1,
+            TableFault::Shape,
         ),
     ];
     for (table, row, fault) in cases {

@@ -53,7 +53,7 @@ fn two_frames(alloc: Global) -> Result<Vec<u8>, AllocError> {
     )
 }
 
-/// Zeros but for the sync words of two frames and their counters. A counter fills the upper half of byte 1 and byte 2.
+/// Zeros except the sync words of two frames and their counters. A counter fills the upper half of byte 1 and byte 2.
 fn two_counters(alloc: Global, first: u16, second: u16) -> Result<Vec<u8>, AllocError> {
     bytes_with(
         alloc,
@@ -73,7 +73,7 @@ fn two_counters(alloc: Global, first: u16, second: u16) -> Result<Vec<u8>, Alloc
     )
 }
 
-/// The bits with a zero bit put in before this one, and seven behind the last.
+/// The bits with a zero bit put in before this one, and seven after the last.
 fn with_a_bit_before(alloc: Global, bytes: &[u8], bit: usize) -> Result<Vec<u8>, AllocError> {
     let mut longer = vec![in alloc; 0; bytes.len()]?;
     longer.push(0)?;

@@ -15,12 +15,12 @@ const COUNTER_LAST: &[u8] = b"F,64,64,4\nP,ALT,0,203,,11,12,U,1,1,0,0,16\nL,ALT,
 
 const STREAM: &[&str] = &["stream", "t1.csv"];
 
-// Where the altitude 5 stands in a frame by the first table, and where it does in one by the second.
+// Where the altitude 5 is in a frame by the first table, and where it does in one by the second.
 const FIVE: &[(usize, u8)] = &[(13, 0x50)];
 
 const FIVE_SECOND: &[(usize, u8)] = &[(1, 0x52)];
 
-// Words of label 203 with the value 5, of odd parity but for the one before the last, and ends.
+// Words of label 203 with the value 5, of odd parity except the one before the last, and ends.
 const WORD_AT_15625: [u8; 16] = [1, 0, 0, 0, 0, 0, 0x14, 0xc1, 0, 0, 0, 0, 0, 0, 0x3d, 0x09];
 
 const WORD_AT_15626: [u8; 16] = [1, 0, 0, 0, 0, 0, 0x14, 0xc1, 0, 0, 0, 0, 0, 0, 0x3d, 0x0a];
@@ -33,7 +33,7 @@ const OTHER_KIND: [u8; 16] = [3, 0, 0, 0, 0, 0, 0, 0, 0, 0, 0, 0, 0, 0, 0, 0];
 
 const TOO_LATE: [u8; 16] = [2, 0, 0, 0, 0, 0, 0, 0, 0, 0, 1, 0x4f, 0x46, 0xb0, 0x40, 1];
 
-/// The bytes of a trace but for so many at its end.
+/// The bytes of a trace except the last `cut`.
 fn bytes_of(alloc: Global, records: &[[u8; 16]], cut: usize) -> Result<Vec<u8>, AllocError> {
     let mut bytes = Vec::new(alloc);
     for record in records {

@@ -112,7 +112,7 @@ stands_later : {X : Type 0} (b : Bool) (x d v : X) (rest : List X) → StandsIn 
 stands_later true x d v rest stands = (suc stands.0, omega (arith, stands.1), stands.2)
 stands_later false x d v rest stands = stands
 
--- an element that passes a filter stands in what it keeps
+-- an element that passes a filter is in what it keeps
 pub stands_kept : {X : Type 0} (f : X → Bool) (xs : List X) (i : ℕ) (d : X) → i < length xs → f (get_or xs i d) ≡ true
     → StandsIn (filter f xs) d (get_or xs i d)
 stands_kept f [] i d l kept = absurd (omega arith)

@@ -1,4 +1,4 @@
--- A table has no fault exactly where it is sound: the facts behind each fault.
+-- A table has no fault exactly where it is sound: the facts of each fault.
 use Rattle.std.proofs.Common.{◌≡◌, ℕ, ◌+◌, ◌*◌, ◌<◌, ◌≤◌, ◌==◌, ◌&&◌, max, Bool, true, false, cond, List, [], ◌∷◌, Option, Some, None, option_map, length}
 use Rattle.std.proofs.Common.{get_or, take, map, refl, subst, sym, ◌∙◌, zero, suc, arith}
 use Rattle.std.specs.List.{range_with_len, filter, find, list_all, enumerate_from, slice_get, All, AllPairs, fold}

@@ -7,6 +7,6 @@ use Rattle.fdr_table.specs.Rows.{PlaceRow}
 abbrev pub places_of : List PlaceRow → ℕ → List PlaceRow
 places_of places n = filter (λ (p : PlaceRow). p.param == n) places
 
--- the places of each of so many parameters
+-- the places of each of the first `count` parameters
 abbrev pub grouped : List PlaceRow → ℕ → List (List PlaceRow)
 grouped places count = map (places_of places) (range_with_len 0 count)

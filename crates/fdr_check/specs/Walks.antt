@@ -36,7 +36,7 @@ subframe_slots w p j = if occurs_in_subframe j p then slots_on w p (j * w) else 
 unfoldable pub frame_slots : ℕ → PlaceRow → ℕ → List ℕ
 frame_slots w p f = flat_map (subframe_slots w p) (range_with_len (4 * f) 4)
 
--- the place takes bit c of the words that it stands in
+-- the place takes bit c of the words that it is in
 abbrev pub takes_bit : PlaceRow → ℕ → Bool
 takes_bit p c = nat_le p.lsb (c + 1) && nat_lt (c + 1) (p.lsb + p.width)
 

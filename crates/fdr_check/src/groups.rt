@@ -57,7 +57,7 @@ fn empty_groups(alloc: Global, count: usize) -> Result<Vec<Group>, NoMemory>
     Ok(groups)
 }
 
-/// The places of each of so many parameters.
+/// The places of each of the first `count` parameters.
 pub fn places_by_param(
     alloc: Global,
     count: usize,

@@ -1,6 +1,6 @@
 //! The check of a parameter table: whether a recorder can be built from it.
 //!
-//! A table is sound where its places stand within a subframe, off the sync words and the counter, share no bit with one
+//! A table is sound where its places are within a subframe, off the sync words and the counter, share no bit with one
 //! another in a superframe of 16 frames, and where the parts of each parameter make up its width and occur as often as
 //! its rate declares.
 #![tactic(auto)]

@@ -81,7 +81,7 @@ fn add_line(
 }
 
 /// The report of a sound table: its frame's words, its numbers of parameters and parts, and for each parameter whether
-/// its samples stand at equal distances.
+/// its samples are at equal distances.
 pub fn report(alloc: Global, t: &Sound) -> Result<Vec<u8>, NoMemory>
     ensures { IfOk result (λ v. v.items ≡ report_of t.now) }
 {

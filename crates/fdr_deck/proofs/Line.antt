@@ -1,19 +1,19 @@
--- The line over more than one call.
+-- The input over more than one call.
 use Rattle.std.proofs.Common.{ℕ, List, [], ◌++◌, sym, ◌∙◌, ap, append_assoc, length-append, arith}
 use Rattle.fdr_deck.specs.State.{State, Tells}
-use Rattle.fdr_deck.specs.Pull.{KeepsLine, TakesLine}
+use Rattle.fdr_deck.specs.Pull.{KeepsInput, TakesInput}
 
--- a call that leaves the line took nothing
-pub TakesLine-from_keeps : (tells : Tells) (old new : State) → KeepsLine old new → TakesLine tells old new []
-TakesLine-from_keeps tells old new keeps = record {
+-- a call that leaves the input took nothing
+pub TakesInput-from_keeps : (tells : Tells) (old new : State) → KeepsInput old new → TakesInput tells old new []
+TakesInput-from_keeps tells old new keeps = record {
   taken = omega (arith, keeps.taken);
-  line = λ told. sym keeps.line;
+  input = λ told. sym keeps.input;
 }
 
 -- calls that took bytes, and then calls that took more
-pub TakesLine-then : (tells : Tells) (old middle new : State) (xs ys : List ℕ) → TakesLine tells old middle xs → TakesLine tells middle new ys
-    → TakesLine tells old new (xs ++ ys)
-TakesLine-then tells old middle new xs ys first second = record {
+pub TakesInput-then : (tells : Tells) (old middle new : State) (xs ys : List ℕ) → TakesInput tells old middle xs → TakesInput tells middle new ys
+    → TakesInput tells old new (xs ++ ys)
+TakesInput-then tells old middle new xs ys first second = record {
   taken = omega (arith, length-append xs ys, first.taken, second.taken);
-  line = λ told. first.line told ∙ ap (λ rest. xs ++ rest) (second.line told) ∙ sym (append_assoc xs ys new.line);
+  input = λ told. first.input told ∙ ap (λ rest. xs ++ rest) (second.input told) ∙ sym (append_assoc xs ys new.input);
 }

@@ -3,7 +3,7 @@ use Rattle.std.proofs.Common.{◌≡◌, ◌⊎◌, inl, inr, ⊎_elim, ℕ, suc
 use Rattle.fdr_deck.specs.State.{Moment}
 use Rattle.fdr_deck.specs.Disk.{IsZeros}
 use Rattle.fdr_deck.specs.Moments.{IsNow, IsInsideCall, Within, WithinProvide, Elapses, EachMoment}
-use Rattle.fdr_deck.specs.Calls.{KeepsTold, Passes}
+use Rattle.fdr_deck.specs.Calls.{KeepsAnnounced, Passes}
 use Rattle.fdr_deck.specs.Memory.{Memory, memory_state, memory_tells, held_in, left_in, held_by, left_by, left_within, held_after, left_after, IsBetween}
 use Rattle.fdr_deck.specs.Memory.{IsAmid, moments_after, IsEntered, KeepsPulled}
 use Rattle.fdr_deck.specs.MemorySound.{memory_is_sound}
@@ -36,7 +36,7 @@ earlier [] e now held leaves t m le is = inl (omega arith, inl is)
 earlier (x ∷ es) e now held leaves t m le (inl here) = inl here
 earlier (x ∷ es) e now held leaves t m le (inr since) = inr (earlier es e now (held_by x.call held) (left_by x.call held leaves) (t - 1) m (omega arith) since)
 
--- a moment since a call of a front part is one of that part, whatever its numbers are now, or of what is behind it
+-- a moment since a call of a front part is one of that part, whatever its numbers are now, or of what is after it
 pub no_more : (es rest : List Entry) (any now : Numbers) (held : List ℕ) (leaves : List ℕ → Type 0) (t : ℕ) (m : Moment) → t ≤ length es
     → moments_after (es ++ rest) now held leaves t m
     → moments_after es any held leaves t m ⊎ moments_after (es ++ rest) now held leaves (length es) m
@@ -64,7 +64,7 @@ last_call (x ∷ es) e now held leaves t m late (inr since) = last_call es e now
 falls : (es : List Entry) (e : Entry) (now : Numbers) (first : List ℕ) (t : ℕ) (m : Moment) → t ≤ length es
     → moments_after (es ++ e ∷ []) now first (λ image. image ≡ first) (length es) m → moments_after (es ++ e ∷ []) now first (λ image. image ≡ first) t m
 falls es e now first t m le since =
-    let d : Memory = record { first = first; entries = es ++ e ∷ []; numbers = now; line = []; disk_faults = 0; line_faults = 0; failing = [] } in
+    let d : Memory = record { first = first; entries = es ++ e ∷ []; numbers = now; input = []; disk_faults = 0; input_faults = 0; failing = [] } in
     (memory_is_sound d).falls refl t (length es) m le (omega (arith, length-append es (e ∷ []))) since
 
 module _ (call : Call) (old new : Memory) (entered : IsEntered call old new) where
@@ -99,23 +99,23 @@ module _ (call : Call) (old new : Memory) (entered : IsEntered call old new) whe
       m (omega arith) since)
 
   at_start : (m : Moment) → IsBetween (left_in old) old.numbers m → IsNow (memory_state old) m
-  at_start m is = record { image = is.image; least = is.least; greatest = is.greatest; pulled = record { taken = is.taken; before = is.before } }
+  at_start m is = record { image = is.image; least = is.least; greatest = is.greatest; pulled = record { taken = is.taken; pulled_before = is.pulled_before } }
 
   at_end : (m : Moment) → IsBetween (left_in new) new.numbers m → IsInsideCall (memory_state old) (memory_state new) m
   at_end m is = record {
     image = inr is.image;
-    told = omega (arith, is.least, is.greatest, entered.least, entered.greatest);
-    pulled = inr (record { taken = is.taken; before = is.before });
+    announced = omega (arith, is.least, is.greatest, entered.least, entered.greatest);
+    pulled = inr (record { taken = is.taken; pulled_before = is.pulled_before });
   }
 
-  pub told_entered : KeepsTold (memory_state old) (memory_state new)
-  told_entered = record { told = entered.told; numbers = inl (entered.least ∙ sym entered.told, entered.greatest ∙ sym entered.told) }
+  pub told_entered : KeepsAnnounced (memory_state old) (memory_state new)
+  told_entered = record { announced = entered.announced; numbers = inl (entered.least ∙ sym entered.announced, entered.greatest ∙ sym entered.announced) }
 
   pub passes_entered : KeepsPulled old new → old.disk_faults ≤ new.disk_faults → Passes memory_tells (memory_state old) (memory_state new)
   passes_entered kept faults = record {
-    line = record { line = kept.line; taken = kept.taken; before = kept.before };
-    line_faults = kept.line_faults;
-    told = told_entered;
+    input = record { input = kept.input; taken = kept.taken; pulled_before = kept.pulled_before };
+    input_faults = kept.input_faults;
+    announced = told_entered;
     disk_faults = faults;
     time = time_entered;
   }
@@ -129,8 +129,8 @@ module _ (call : Call) (old new : Memory) (entered : IsEntered call old new) whe
       (λ is. inl (at_start m is))
       (λ is. inr (record {
         image = ⊎_elim (λ was. inl was) (λ after. inr (entered_left m.image after)) (amid m.image is.image);
-        told = is.told;
-        pulled = inl (record { taken = is.taken; before = is.before });
+        announced = is.announced;
+        pulled = inl (record { taken = is.taken; pulled_before = is.pulled_before });
       }))
       early)
       (λ is. inr (at_end m is))
@@ -146,14 +146,14 @@ module _ (call : Call) (old new : Memory) (entered : IsEntered call old new) whe
       (λ is. inl (at_start m is))
       (λ is. inr (record {
         image = ⊎_elim (λ was. inl was) (λ zeros. inr (empty, zeros)) (amid m.image is.image);
-        told = is.told;
+        announced = is.announced;
         pulled =
-            record { taken = is.taken; before = is.before };
+            record { taken = is.taken; pulled_before = is.pulled_before };
       }))
       early)
       (λ is. inr (record {
         image = ⊎_elim (λ was. inl was) (λ zeros. inr (empty, zeros)) (after m.image (left_entered m.image is.image));
-        told = (at_end m is).told;
-        pulled = record { taken = is.taken ∙ kept.taken; before = is.before ∙ kept.before };
+        announced = (at_end m is).announced;
+        pulled = record { taken = is.taken ∙ kept.taken; pulled_before = is.pulled_before ∙ kept.pulled_before };
       }))
       (last_entered m since)

@@ -6,7 +6,7 @@ use Rattle.std.proofs.lemmas.List.{length-replicate, nil_from_length}
 use Rattle.fdr_deck.specs.State.{Moment}
 use Rattle.fdr_deck.specs.Disk.{Torn, IsZeros, KeepsDisk, IsSettled, Tears, Writes, Provides, Begins}
 use Rattle.fdr_deck.specs.Moments.{IsNow, Within, WithinProvide, Elapses, EachMoment}
-use Rattle.fdr_deck.specs.Calls.{KeepsTold, Passes}
+use Rattle.fdr_deck.specs.Calls.{KeepsAnnounced, Passes}
 use Rattle.fdr_deck.specs.Memory.{Memory, memory_state, memory_tells, held_in, left_in, IsEntered, IsUnentered, KeepsPulled}
 use Rattle.fdr_deck.specs.MemorySound.{memory_is_sound, holds_after}
 use Rattle.fdr_deck.specs.declared.calls.Call.TheVariants.{Pass, Write, FailedWrite, Sync, Provide, FailedProvide}
@@ -34,7 +34,7 @@ pub within_provide_pass : (size : ℕ) (old new : Memory) → IsEntered Pass old
     → EachMoment memory_tells (memory_state old) (memory_state new) (WithinProvide size (memory_state old) (memory_state new))
 within_provide_pass size old new entered kept told m since =
     Within-provide size (memory_state old) (memory_state new) m (keeps_disk_pass old new entered).no_more
-    (record { line = kept.line; taken = kept.taken; before = kept.before }) (within_pass old new entered told m since)
+    (record { input = kept.input; taken = kept.taken; pulled_before = kept.pulled_before }) (within_pass old new entered told m since)
 
 -- a sync
 pub within_sync : (old new : Memory) → IsEntered Sync old new
@@ -130,8 +130,8 @@ module _ (old new : Memory) (unentered : IsUnentered old new) where
   pub keeps_disk_unentered : KeepsDisk (memory_state old) (memory_state new)
   keeps_disk_unentered = rw (unentered.entries, unentered.first) (record { held = refl; no_more = λ image left. left; no_less = λ image left. left })
 
-  pub told_unentered : KeepsTold (memory_state old) (memory_state new)
-  told_unentered = rw unentered.numbers (record { told = refl; numbers = inr (refl, refl) })
+  pub told_unentered : KeepsAnnounced (memory_state old) (memory_state new)
+  told_unentered = rw unentered.numbers (record { announced = refl; numbers = inr (refl, refl) })
 
   pub time_unentered : Elapses memory_tells (memory_state old) (memory_state new)
   time_unentered =
@@ -141,9 +141,9 @@ module _ (old new : Memory) (unentered : IsUnentered old new) where
 
   pub passes_unentered : KeepsPulled old new → old.disk_faults ≤ new.disk_faults → Passes memory_tells (memory_state old) (memory_state new)
   passes_unentered kept faults = record {
-    line = record { line = kept.line; taken = kept.taken; before = kept.before };
-    line_faults = kept.line_faults;
-    told = told_unentered;
+    input = record { input = kept.input; taken = kept.taken; pulled_before = kept.pulled_before };
+    input_faults = kept.input_faults;
+    announced = told_unentered;
     disk_faults = faults;
     time = time_unentered;
   }

@@ -50,7 +50,7 @@ pub took_entered : (old mid new : Memory) → IsEntered Pass old mid → new.ent
     → new.numbers.announced ≡ mid.numbers.announced → IsEntered Pass old new
 took_entered old mid new entered entries first failing announced = record {
   entries = entries ∙ entered.entries;
-  told = ap (λ (a : Announced). a.told) announced ∙ entered.told;
+  announced = ap (λ (a : Announced). a.number) announced ∙ entered.announced;
   least = ap least_announced announced ∙ entered.least;
   greatest = ap greatest_announced announced ∙ entered.greatest;
   first = first ∙ entered.first;
@@ -81,7 +81,7 @@ module _ (count : ℕ) (old new : Memory) (entries : new.entries ≡ old.entries
     greatest = omega (arith, greatest, is.greatest);
     taken =
         is.taken ∙ sym pulled.taken;
-    before = is.before ∙ sym pulled.before;
+    pulled_before = is.pulled_before ∙ sym pulled.pulled_before;
   }
 
   pub disk_told : KeepsDisk (memory_state old) (memory_state new)

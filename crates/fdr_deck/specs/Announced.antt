@@ -3,7 +3,7 @@ use Rattle.std.specs.Prelude.{ℕ, min, max}
 use Rattle.fdr_deck.specs.declared.announced.Announced.{Announced}
 
 abbrev pub least_announced : Announced → ℕ
-least_announced a = min a.least a.told
+least_announced a = min a.least a.number
 
 abbrev pub greatest_announced : Announced → ℕ
-greatest_announced a = max a.greatest a.told
+greatest_announced a = max a.greatest a.number

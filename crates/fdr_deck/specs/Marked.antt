@@ -1,9 +1,9 @@
--- A record behind a mark.
+-- A record after a mark.
 use Rattle.std.specs.Prelude.{◌≡◌, ◌⊎◌, ℕ, ◌+◌, List, length, slice_index, slice_range, IsTrue}
 use Rattle.fdr_deck.specs.State.{State, Tells}
 use Rattle.fdr_deck.specs.Disk.{IsSettled}
 
--- the mark is 0, or the record behind it is whole
+-- the mark is 0, or the record after it is whole
 abbrev pub IsMarked : ℕ → List ℕ → List ℕ → Type 0
 IsMarked at bytes image = (slice_index image at ≡ 0) ⊎ (slice_range image (at + 1) (at + 1 + length bytes) ≡ bytes)
 

@@ -14,14 +14,14 @@ pub record Memory : Type 0 where
   pub first : List ℕ
   pub entries : List Entry
   pub numbers : Numbers
-  pub line : List ℕ
+  pub input : List ℕ
   pub disk_faults : ℕ
-  pub line_faults : ℕ
+  pub input_faults : ℕ
   pub failing : List ℕ
 
 -- it tells all
 abbrev pub memory_tells : Tells
-memory_tells = record { line = true; bytes = true; stops = true }
+memory_tells = record { input = true; bytes = true; stops = true }
 
 -- what is held after a call
 abbrev pub held_by : Call → List ℕ → List ℕ
@@ -67,17 +67,17 @@ left_after (e ∷ es) held leaves image = left_after es (held_by e.call held) (l
 -- a moment between two calls: the image is one of these, and each number announced since the call before may be told
 pub record IsBetween (leaves : List ℕ → Type 0) (numbers : Numbers) (m : Moment) : Type 0 where
   pub image : leaves m.image
-  pub least : least_announced numbers.announced ≤ m.told
-  pub greatest : m.told ≤ greatest_announced numbers.announced
+  pub least : least_announced numbers.announced ≤ m.announced
+  pub greatest : m.announced ≤ greatest_announced numbers.announced
   pub taken : m.taken ≡ numbers.taken
-  pub before : m.before ≡ numbers.before
+  pub pulled_before : m.pulled_before ≡ numbers.pulled_before
 
 -- a moment within a call that began with these numbers
 pub record IsAmid (leaves : List ℕ → Type 0) (numbers : Numbers) (m : Moment) : Type 0 where
   pub image : leaves m.image
-  pub told : m.told ≡ numbers.announced.told
+  pub announced : m.announced ≡ numbers.announced.number
   pub taken : m.taken ≡ numbers.taken
-  pub before : m.before ≡ numbers.before
+  pub pulled_before : m.pulled_before ≡ numbers.pulled_before
 
 -- the moments since the call of number t began, or those now where there was none
 unfoldable pub moments_after : List Entry → Numbers → List ℕ → (List ℕ → Type 0) → ℕ → Moment → Type 0
@@ -99,31 +99,31 @@ memory_state m = record {
   may_leave = left_in m;
   clock = length m.entries;
   since = moments_after m.entries m.numbers m.first (λ image. image ≡ m.first);
-  told = m.numbers.announced.told;
+  announced = m.numbers.announced.number;
   least = least_announced m.numbers.announced;
   greatest = greatest_announced m.numbers.announced;
-  line = m.line;
+  input = m.input;
   taken = m.numbers.taken;
-  before = m.numbers.before;
+  pulled_before = m.numbers.pulled_before;
   disk_faults = m.disk_faults;
-  line_faults = m.line_faults;
+  input_faults = m.input_faults;
 }
 
 -- one more call is entered, and no number was announced since
 pub record IsEntered (call : Call) (old new : Memory) : Type 0 where
   pub entries : new.entries ≡ old.entries ++ (record { call = call; numbers = old.numbers } ∷ [])
-  pub told : new.numbers.announced.told ≡ old.numbers.announced.told
-  pub least : least_announced new.numbers.announced ≡ old.numbers.announced.told
-  pub greatest : greatest_announced new.numbers.announced ≡ old.numbers.announced.told
+  pub announced : new.numbers.announced.number ≡ old.numbers.announced.number
+  pub least : least_announced new.numbers.announced ≡ old.numbers.announced.number
+  pub greatest : greatest_announced new.numbers.announced ≡ old.numbers.announced.number
   pub first : new.first ≡ old.first
   pub failing : new.failing ≡ old.failing
 
 -- where nothing was pulled
 pub record KeepsPulled (old new : Memory) : Type 0 where
-  pub line : new.line ≡ old.line
+  pub input : new.input ≡ old.input
   pub taken : new.numbers.taken ≡ old.numbers.taken
-  pub before : new.numbers.before ≡ old.numbers.before
-  pub line_faults : new.line_faults ≡ old.line_faults
+  pub pulled_before : new.numbers.pulled_before ≡ old.numbers.pulled_before
+  pub input_faults : new.input_faults ≡ old.input_faults
 
 -- no call was entered
 pub record IsUnentered (old new : Memory) : Type 0 where
@@ -144,7 +144,7 @@ HasOneCallMore old new = length new.entries ≡ length old.entries + 1
 abbrev pub IsFailedCall : Memory → Memory → Type 0
 IsFailedCall old new = (IsListed old × HasOneCallMore old new) ⊎ IsUnentered old new
 
--- what is held, where the first content was kept and a changed one stands beside it
+-- what is held, where the first content was kept and a changed one is beside it
 abbrev pub current : List ℕ → Option (Vec ℕ Global) → List ℕ
 current first None = first
 current first (Some changed) = changed.items

@@ -57,20 +57,20 @@ memory_is_sound d = record {
   stops_need_bytes = λ told. refl;
   size = λ told. refl;
   held = λ told. holds_after d.entries d.first (λ image. image ≡ d.first) refl;
-  least = min-le_right d.numbers.announced.least d.numbers.announced.told;
-  greatest = le-max_right d.numbers.announced.greatest d.numbers.announced.told;
+  least = min-le_right d.numbers.announced.least d.numbers.announced.number;
+  greatest = le-max_right d.numbers.announced.greatest d.numbers.announced.number;
   only_now = λ told m since.
       let is = only_now d.entries d.numbers d.first (λ image. image ≡ d.first) (length d.entries) m (le_refl (length d.entries)) since in
-      record { image = is.image; least = is.least; greatest = is.greatest; pulled = record { taken = is.taken; before = is.before } };
+      record { image = is.image; least = is.least; greatest = is.greatest; pulled = record { taken = is.taken; pulled_before = is.pulled_before } };
   counts_now = λ told m leaves same pulled.
       counts_now d.entries d.numbers d.first (λ image. image ≡ d.first) (length d.entries) m
       (record {
         image = leaves;
-        least = subst (λ (k : ℕ). least_announced d.numbers.announced ≤ k) (sym same) (min-le_right d.numbers.announced.least d.numbers.announced.told);
+        least = subst (λ (k : ℕ). least_announced d.numbers.announced ≤ k) (sym same) (min-le_right d.numbers.announced.least d.numbers.announced.number);
         greatest = subst (λ (k : ℕ). k ≤ greatest_announced d.numbers.announced) (sym same)
-            (le-max_right d.numbers.announced.greatest d.numbers.announced.told);
+            (le-max_right d.numbers.announced.greatest d.numbers.announced.number);
         taken = pulled.taken;
-        before = pulled.before;
+        pulled_before = pulled.pulled_before;
       });
   falls = λ told earlier t m le now since. falls d.entries d.numbers d.first (λ image. image ≡ d.first) earlier t m le since;
 }

@@ -4,16 +4,16 @@ use Rattle.fdr_deck.specs.State.{State, Tells, Moment}
 use Rattle.fdr_deck.specs.Disk.{IsZeros}
 
 -- the moment has the numbers of bytes pulled that stand now
-pub record HasPulled (d : State) (m : Moment) : Type 0 where
+pub record HasSamePulls (d : State) (m : Moment) : Type 0 where
   pub taken : m.taken ≡ d.taken
-  pub before : m.before ≡ d.before
+  pub pulled_before : m.pulled_before ≡ d.pulled_before
 
 -- a moment at which the deck may stop now
 pub record IsNow (d : State) (m : Moment) : Type 0 where
   pub image : d.may_leave m.image
-  pub least : d.least ≤ m.told
-  pub greatest : m.told ≤ d.greatest
-  pub pulled : HasPulled d m
+  pub least : d.least ≤ m.announced
+  pub greatest : m.announced ≤ d.greatest
+  pub pulled : HasSamePulls d m
 
 -- Time goes on: the moments since an earlier time are those from before and those of the call.
 pub record Elapses (tells : Tells) (old new : State) : Type 0 where
@@ -29,8 +29,8 @@ EachMoment tells old new P = IsTrue tells.stops → (m : Moment) → new.since o
 -- the inside of a call: an image from before it or after it, the announced number as it stands, and the numbers of bytes pulled from before it or after it
 pub record IsInsideCall (old new : State) (m : Moment) : Type 0 where
   pub image : old.may_leave m.image ⊎ new.may_leave m.image
-  pub told : m.told ≡ old.told
-  pub pulled : HasPulled old m ⊎ HasPulled new m
+  pub announced : m.announced ≡ old.announced
+  pub pulled : HasSamePulls old m ⊎ HasSamePulls new m
 
 -- a moment of a call: the one at which it began, or one inside it
 abbrev pub Within : State → State → Moment → Type 0
@@ -39,8 +39,8 @@ Within old new m = IsNow old m ⊎ IsInsideCall old new m
 -- the inside of a call that provides the disk
 pub record IsProviding (size : ℕ) (old : State) (m : Moment) : Type 0 where
   pub image : old.may_leave m.image ⊎ ((old.extent ≡ 0) × IsZeros size m.image)
-  pub told : m.told ≡ old.told
-  pub pulled : HasPulled old m
+  pub announced : m.announced ≡ old.announced
+  pub pulled : HasSamePulls old m
 
 abbrev pub WithinProvide : ℕ → State → State → Moment → Type 0
 WithinProvide size old new m = IsNow old m ⊎ IsProviding size old m
@@ -50,11 +50,11 @@ pub record IsSoundDeck (tells : Tells) (d : State) : Type 0 where
   pub stops_need_bytes : IsTrue tells.stops → IsTrue tells.bytes
   pub size : IsTrue tells.bytes → length d.held ≡ d.extent
   pub held : IsTrue tells.stops → d.may_leave d.held
-  pub least : d.least ≤ d.told
-  pub greatest : d.told ≤ d.greatest
+  pub least : d.least ≤ d.announced
+  pub greatest : d.announced ≤ d.greatest
   -- a moment since now is one at which the deck may stop now
   pub only_now : IsTrue tells.stops → (m : Moment) → d.since d.clock m → IsNow d m
   -- each image that a stop now may leave is, with the numbers now, a moment since now
-  pub counts_now : IsTrue tells.stops → (m : Moment) → d.may_leave m.image → m.told ≡ d.told → HasPulled d m → d.since d.clock m
+  pub counts_now : IsTrue tells.stops → (m : Moment) → d.may_leave m.image → m.announced ≡ d.announced → HasSamePulls d m → d.since d.clock m
   -- a moment since a time is one since each earlier time
   pub falls : IsTrue tells.stops → (earlier t : ℕ) (m : Moment) → earlier ≤ t → t ≤ d.clock → d.since t m → d.since earlier m

@@ -1,36 +1,36 @@
 -- What a deck means.
 use Rattle.std.specs.Prelude.{ℕ, Bool, List}
 
--- what a deck tells: its line, the bytes of its disk, and what a stop may leave
+-- what a deck tells: its input, the bytes of its disk, and what a stop may leave
 pub record Tells : Type 0 where
-  pub line : Bool
+  pub input : Bool
   pub bytes : Bool
   pub stops : Bool
 
--- what stands at one moment: the image on the disk, the announced number, the number of bytes pulled so far, and that
+-- what is at one moment: the image on the disk, the announced number, the number of bytes pulled so far, and that
 -- number as the last pull that gave bytes began
 pub record Moment : Type 0 where
   pub image : List ℕ
-  pub told : ℕ
+  pub announced : ℕ
   pub taken : ℕ
-  pub before : ℕ
+  pub pulled_before : ℕ
 
 -- The disk: its length, the bytes that a read gives, and the images that a stop now may leave.
 -- The past: the clock, and the moments since a time.
 -- The announced number, and the least and the greatest number announced since the last call that wasn't an announcement.
--- The rest of the input line; the number of bytes pulled so far; that number as it stood when the last pull that gave bytes began, or 0 where there was none.
--- The faults of the disk and those of the line.
+-- The rest of the input; the number of bytes pulled so far; that number as it stood when the last pull that gave bytes began, or 0 where there was none.
+-- The faults of the disk and those of the input.
 pub record State : Type 1 where
   pub extent : ℕ
   pub held : List ℕ
   pub may_leave : List ℕ → Type 0
   pub clock : ℕ
   pub since : ℕ → Moment → Type 0
-  pub told : ℕ
+  pub announced : ℕ
   pub least : ℕ
   pub greatest : ℕ
-  pub line : List ℕ
+  pub input : List ℕ
   pub taken : ℕ
-  pub before : ℕ
+  pub pulled_before : ℕ
   pub disk_faults : ℕ
-  pub line_faults : ℕ
+  pub input_faults : ℕ

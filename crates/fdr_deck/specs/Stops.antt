@@ -8,7 +8,7 @@ use Rattle.fdr_deck.specs.declared.calls.Entry.{Entry}
 use Rattle.fdr_deck.specs.declared.stops.Tear.{Tear}
 use Rattle.fdr_deck.specs.declared.stops.Tear.TheVariants.{Old, New, Half, Fill}
 
--- what has come to the disk of a write of these bytes; behind it the range holds what it held before
+-- what has come to the disk of a write of these bytes; after it the range holds what it held before
 abbrev pub come_of : Tear → List ℕ → List ℕ
 come_of Old bytes = []
 come_of New bytes = bytes

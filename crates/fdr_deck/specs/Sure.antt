@@ -10,14 +10,14 @@ use Rattle.fdr_deck.specs.declared.announced.Announced.{Announced}
 
 pub record Sure : Type 0 where
   pub image : List ℕ
-  pub line : List ℕ
+  pub input : List ℕ
   pub taken : ℕ
-  pub before : ℕ
+  pub pulled_before : ℕ
   pub announced : Announced
 
--- it tells its line and its bytes, and not its stops
+-- it tells its input and its bytes, and not its stops
 abbrev pub sure_tells : Tells
-sure_tells = record { line = true; bytes = true; stops = false }
+sure_tells = record { input = true; bytes = true; stops = false }
 
 abbrev pub sure_state : Sure → State
 sure_state s = record {
@@ -26,14 +26,14 @@ sure_state s = record {
   may_leave = λ image. ⊥;
   clock = 0;
   since = λ t m. ⊥;
-  told = s.announced.told;
+  announced = s.announced.number;
   least = least_announced s.announced;
   greatest = greatest_announced s.announced;
-  line = s.line;
+  input = s.input;
   taken = s.taken;
-  before = s.before;
+  pulled_before = s.pulled_before;
   disk_faults = 0;
-  line_faults = 0;
+  input_faults = 0;
 }
 
 pub sure_is_sound : (s : Sure) → IsSoundDeck sure_tells (sure_state s)
@@ -41,8 +41,8 @@ sure_is_sound s = record {
   stops_need_bytes = λ told. refl;
   size = λ told. refl;
   held = λ told. absurd (false≢true told);
-  least = min-le_right s.announced.least s.announced.told;
-  greatest = le-max_right s.announced.greatest s.announced.told;
+  least = min-le_right s.announced.least s.announced.number;
+  greatest = le-max_right s.announced.greatest s.announced.number;
   only_now = λ told m since. absurd since;
   counts_now = λ told m leaves same pulled. leaves;
   falls = λ told earlier t m le now since. since;

@@ -19,12 +19,12 @@ pub enum Call {
     FailedProvide { size: usize },
 }
 
-/// The numbers that stand at one moment.
+/// The numbers that are at one moment.
 #[derive(Clone, Copy, Debug)]
 pub struct Numbers {
     pub announced: Announced,
     pub taken: usize,
-    pub before: usize,
+    pub pulled_before: usize,
 }
 
 /// A call, with the numbers as it began.

@@ -5,12 +5,12 @@ ghost use Rattle.fdr_io.specs.Faults.{Rose};
 ghost use Rattle.fdr_deck.specs.State.{Tells, State};
 ghost use Rattle.fdr_deck.specs.Disk.{IsSettled, KeepsDisk, LearnsExtent, Reads, Tears, Writes, Provides, Begins};
 ghost use Rattle.fdr_deck.specs.Moments.{Elapses, EachMoment, IsNow, Within, WithinProvide, IsSoundDeck};
-ghost use Rattle.fdr_deck.specs.Pull.{Pulls, KeepsLine};
-ghost use Rattle.fdr_deck.specs.Calls.{Passes, KeepsTold, HasOneAnnounced, Succeeds, LeavesDisk, Announces};
+ghost use Rattle.fdr_deck.specs.Pull.{GivesPiece, KeepsInput};
+ghost use Rattle.fdr_deck.specs.Calls.{Passes, KeepsAnnounced, HasOneAnnounced, Succeeds, LeavesDisk, Announces};
 
 use fdr_io::Failed;
 
-/// A disk, a line of input and an announced number. The disk and the line may fail, and each counts
+/// A disk, an input and an announced number. The disk and the input may fail, and each counts
 /// its faults. The disk may stop at any moment: until a sync succeeds, a stop may leave any bytes in
 /// the ranges that were written since the last one that did.
 pub trait Deck {
@@ -91,23 +91,23 @@ pub trait Deck {
     fn announce(&mut self, count: u64)
         ensures announces { Announces count (state self.old) (state self.new) }
         ensures disk { LeavesDisk (state self.old) (state self.new) }
-        ensures line { KeepsLine (state self.old) (state self.new) }
-        ensures line_faults { (state self.new).line_faults ≡ (state self.old).line_faults }
+        ensures input { KeepsInput (state self.old) (state self.new) }
+        ensures input_faults { (state self.new).input_faults ≡ (state self.old).input_faults }
         ensures time { Elapses tells (state self.old) (state self.new) }
         ensures moments { EachMoment tells (state self.old) (state self.new) (IsNow (state self.new)) }
         ensures rest { same_rest self.old self.new };
 
-    /// Puts the next bytes of the line at the front of the buffer and answers how many, 0 at the
+    /// Puts the next bytes of the input at the front of the buffer and answers how many, 0 at the
     /// end alone. `Failed` took none.
     fn pull(&mut self, buf: &mut [u8]) -> Result<usize, Failed>
         requires { 0 < length buf.old }
         ensures bound { IfOk result (λ n. n ≤ length buf.new) }
-        ensures pulls { IfOk result (Pulls tells (state self.old) (state self.new) buf.new) }
-        ensures kept { OnErr result (KeepsLine (state self.old) (state self.new)) }
-        ensures cause { OnErr result (Rose (state self.old).line_faults (state self.new).line_faults) }
-        ensures monotone { (state self.old).line_faults ≤ (state self.new).line_faults }
+        ensures pulls { IfOk result (GivesPiece tells (state self.old) (state self.new) buf.new) }
+        ensures kept { OnErr result (KeepsInput (state self.old) (state self.new)) }
+        ensures cause { OnErr result (Rose (state self.old).input_faults (state self.new).input_faults) }
+        ensures monotone { (state self.old).input_faults ≤ (state self.new).input_faults }
         ensures disk { LeavesDisk (state self.old) (state self.new) }
-        ensures told { KeepsTold (state self.old) (state self.new) }
+        ensures announced { KeepsAnnounced (state self.old) (state self.new) }
         ensures fresh { OnOk result (HasOneAnnounced (state self.new)) }
         ensures time { Elapses tells (state self.old) (state self.new) }
         ensures moments { EachMoment tells (state self.old) (state self.new) (Within (state self.old) (state self.new)) }

@@ -1,4 +1,4 @@
-//! The deck: the disk of a recorder, and the line of input that it records. All that the product
+//! The deck: the disk of a recorder, and the input that it records. All that the product
 //! asks of the outside while it records goes through it.
 #![tactic(auto)]
 

@@ -7,8 +7,8 @@ ghost use Rattle.fdr_io.specs.Told.{Gives};
 ghost use Rattle.fdr_deck.specs.State.{State};
 ghost use Rattle.fdr_deck.specs.Disk.{IsSettled, KeepsDisk, LearnsExtent, Reads, Tears, Writes, Provides, Begins, Torn, IsZeros};
 ghost use Rattle.fdr_deck.specs.Moments.{Elapses, EachMoment, IsNow, Within, WithinProvide};
-ghost use Rattle.fdr_deck.specs.Pull.{Pulls, KeepsLine};
-ghost use Rattle.fdr_deck.specs.Calls.{Passes, KeepsTold, HasOneAnnounced, Succeeds, LeavesDisk, Announces};
+ghost use Rattle.fdr_deck.specs.Pull.{GivesPiece, KeepsInput};
+ghost use Rattle.fdr_deck.specs.Calls.{Passes, KeepsAnnounced, HasOneAnnounced, Succeeds, LeavesDisk, Announces};
 ghost use Rattle.fdr_deck.specs.Announced.{least_announced, greatest_announced};
 ghost use Rattle.fdr_deck.specs.Memory.{memory_state, memory_tells, held_in, left_in, held_by, current, FitsDisk, MayStopWithin, IsEntered, IsUnentered, IsListed, HasOneCallMore, IsFailedCall, KeepsPulled};
 ghost use Rattle.fdr_deck.specs.MemorySound.{memory_is_sound};
@@ -34,9 +34,9 @@ pub struct MemDeck {
     changed: Option<Vec<u8>>,
     entries: Vec<Entry>,
     numbers: Numbers,
-    line: Vec<u8>,
+    input: Vec<u8>,
     disk_faults: u64,
-    line_faults: u64,
+    input_faults: u64,
     failing: Vec<u64>,
 }
 
@@ -50,33 +50,33 @@ impl Model for MemDeck {
       first = d.first.items;
       entries = d.entries.items;
       numbers = d.numbers;
-      line = drop d.numbers.taken d.line.items;
+      input = drop d.numbers.taken d.input.items;
       disk_faults = d.disk_faults;
-      line_faults = d.line_faults;
+      input_faults = d.input_faults;
       failing = d.failing.items;
     } };
 
-    ghost invariant = { λ d. (d.numbers.taken ≤ length d.line.items)
+    ghost invariant = { λ d. (d.numbers.taken ≤ length d.input.items)
         × (held_after d.entries.items d.first.items ≡ current d.first.items d.changed)
         × AreInside d.entries.items d.first.items };
 }
 
 impl MemDeck {
-    /// A settled deck of this image and this line, of which nothing is pulled yet. The calls whose
+    /// A settled deck of this image and this input, of which nothing is pulled yet. The calls whose
     /// numbers are listed fail. Calls are numbered from 0, and announcements have no number; nor has
     /// a call that finds no memory, which fails and does nothing. It takes no memory yet.
     #[tactic(auto, unfolding(crate::specs::Memory::held_after, crate::specs::Memory::left_after, crate::specs::Memory::AreInside))]
-    pub fn new(alloc: Global, image: Vec<u8>, line: Vec<u8>, failing: Vec<u64>) -> MemDeck
+    pub fn new(alloc: Global, image: Vec<u8>, input: Vec<u8>, failing: Vec<u64>) -> MemDeck
         ensures image { held_in result ≡ image.items }
         ensures settled { IsSettled (memory_state result) }
-        ensures line { result.line ≡ line.items }
+        ensures input { result.input ≡ input.items }
         ensures taken { result.numbers.taken ≡ 0 }
-        ensures before { result.numbers.before ≡ 0 }
-        ensures told { result.numbers.announced.told ≡ 0 }
+        ensures pulled_before { result.numbers.pulled_before ≡ 0 }
+        ensures announced { result.numbers.announced.number ≡ 0 }
         ensures least { least_announced result.numbers.announced ≡ 0 }
         ensures greatest { greatest_announced result.numbers.announced ≡ 0 }
         ensures disk_faults { result.disk_faults ≡ 0 }
-        ensures line_faults { result.line_faults ≡ 0 }
+        ensures input_faults { result.input_faults ≡ 0 }
         ensures failing { result.failing ≡ failing.items }
         ensures next { result.entries ≡ [] }
     {
@@ -88,11 +88,11 @@ impl MemDeck {
             numbers: Numbers {
                 announced: Announced::new(),
                 taken: 0,
-                before: 0,
+                pulled_before: 0,
             },
-            line,
+            input,
             disk_faults: 0,
-            line_faults: 0,
+            input_faults: 0,
             failing,
         }
     }
@@ -109,7 +109,7 @@ impl MemDeck {
 
     /// The announced number.
     pub fn told(&self) -> u64
-        ensures { result ≡ self.now.numbers.announced.told }
+        ensures { result ≡ self.now.numbers.announced.number }
     {
         self.numbers.announced.told()
     }
@@ -187,7 +187,7 @@ impl MemDeck {
     fn put(&mut self, at: usize, bytes: &[u8]) -> Result<(), Failed>
         requires { at + length bytes.now ≤ length (held_in self.old) }
         ensures entered { OnOk result ((copy : Vec ℕ Global) × (copy.items ≡ bytes.now) × IsEntered (Write at copy) self.old self.new) }
-        ensures quiet { OnOk result (self.new.disk_faults ≡ self.old.disk_faults) }
+        ensures no_fault { OnOk result (self.new.disk_faults ≡ self.old.disk_faults) }
         ensures unentered { OnErr result (IsUnentered self.old self.new) }
         ensures disk_faults { OnErr result (self.new.disk_faults ≡ next_count self.old.disk_faults) }
         ensures monotone { self.old.disk_faults ≤ self.new.disk_faults }
@@ -206,7 +206,7 @@ impl MemDeck {
     fn make(&mut self, size: usize) -> Result<(), Failed>
         requires { length (held_in self.old) ≡ 0 }
         ensures entered { OnOk result (IsEntered (Provide size) self.old self.new) }
-        ensures quiet { OnOk result (self.new.disk_faults ≡ self.old.disk_faults) }
+        ensures no_fault { OnOk result (self.new.disk_faults ≡ self.old.disk_faults) }
         ensures unentered { OnErr result (IsUnentered self.old self.new) }
         ensures disk_faults { OnErr result (self.new.disk_faults ≡ next_count self.old.disk_faults) }
         ensures monotone { self.old.disk_faults ≤ self.new.disk_faults }
@@ -242,13 +242,13 @@ impl MemDeck {
     // Enters a pull, which fails where it is listed and where there is no memory for it.
     fn pass_pull(&mut self) -> Result<(), Failed>
         ensures entered { OnOk result (IsEntered Pass self.old self.new) }
-        ensures quiet { OnOk result (self.new.line_faults ≡ self.old.line_faults) }
+        ensures no_fault { OnOk result (self.new.input_faults ≡ self.old.input_faults) }
         ensures failed { OnErr result (IsEntered Pass self.old self.new ⊎ IsUnentered self.old self.new) }
-        ensures line_faults { OnErr result (self.new.line_faults ≡ next_count self.old.line_faults) }
-        ensures monotone { self.old.line_faults ≤ self.new.line_faults }
-        ensures line { self.new.line ≡ self.old.line }
+        ensures input_faults { OnErr result (self.new.input_faults ≡ next_count self.old.input_faults) }
+        ensures monotone { self.old.input_faults ≤ self.new.input_faults }
+        ensures input { self.new.input ≡ self.old.input }
         ensures taken { self.new.numbers.taken ≡ self.old.numbers.taken }
-        ensures before { self.new.numbers.before ≡ self.old.numbers.before }
+        ensures pulled_before { self.new.numbers.pulled_before ≡ self.old.numbers.pulled_before }
         ensures disk_faults { self.new.disk_faults ≡ self.old.disk_faults }
         ensures listed { IsListed self.old → IsErr result }
         ensures unlisted { OnErr result (IsFailedCall self.old self.new) }
@@ -257,7 +257,7 @@ impl MemDeck {
         let fails = self.fails();
         let entered = self.enter(Call::Pass).is_ok();
         if fails || !entered {
-            self.line_faults = self.line_faults.saturating_add(1);
+            self.input_faults = self.input_faults.saturating_add(1);
             return Err(Failed);
         }
         Ok(())
@@ -265,7 +265,7 @@ impl MemDeck {
 
     // Announces this number.
     fn tell(&mut self, count: u64)
-        ensures told { self.new.numbers.announced.told ≡ count }
+        ensures announced { self.new.numbers.announced.number ≡ count }
         ensures least { least_announced self.new.numbers.announced ≡ min (least_announced self.old.numbers.announced) count }
         ensures greatest { greatest_announced self.new.numbers.announced ≡ max (greatest_announced self.old.numbers.announced) count }
         ensures pulled { KeepsPulled self.old self.new }
@@ -277,26 +277,26 @@ impl MemDeck {
         self.numbers.announced.announce(count);
     }
 
-    // Takes the next bytes of the line.
+    // Takes the next bytes of the input.
     fn take_next(&mut self, buf: &mut [u8]) -> usize
         requires { 0 < length buf.old }
         ensures bound { result ≤ length buf.new }
-        ensures full { result ≡ min (length self.old.line) (length buf.new) }
-        ensures given { Gives self.old.line buf.new result }
-        ensures left { self.new.line ≡ drop result self.old.line }
+        ensures full { result ≡ min (length self.old.input) (length buf.new) }
+        ensures given { Gives self.old.input buf.new result }
+        ensures left { self.new.input ≡ drop result self.old.input }
         ensures taken { self.new.numbers.taken ≡ self.old.numbers.taken + result }
-        ensures began { 0 < result → self.new.numbers.before ≡ self.old.numbers.taken }
-        ensures ended { result ≡ 0 → self.new.numbers.before ≡ self.old.numbers.before }
+        ensures began { 0 < result → self.new.numbers.pulled_before ≡ self.old.numbers.taken }
+        ensures ended { result ≡ 0 → self.new.numbers.pulled_before ≡ self.old.numbers.pulled_before }
         ensures announced { self.new.numbers.announced ≡ self.old.numbers.announced }
         ensures entries { self.new.entries ≡ self.old.entries }
         ensures first { self.new.first ≡ self.old.first }
         ensures failing { self.new.failing ≡ self.old.failing }
         ensures disk_faults { self.new.disk_faults ≡ self.old.disk_faults }
-        ensures line_faults { self.new.line_faults ≡ self.old.line_faults }
+        ensures input_faults { self.new.input_faults ≡ self.old.input_faults }
     {
-        let n = copy_next(&self.line, self.numbers.taken, buf);
+        let n = copy_next(&self.input, self.numbers.taken, buf);
         if n > 0 {
-            self.numbers.before = self.numbers.taken;
+            self.numbers.pulled_before = self.numbers.taken;
         }
         self.numbers.taken += n;
         n
@@ -307,7 +307,7 @@ impl MemDeck {
         requires kept { (held : List ℕ) → held_by call held ≡ held }
         requires inside { FitsDisk call (held_in self.old) }
         ensures entered { OnOk result (IsEntered call self.old self.new) }
-        ensures quiet { OnOk result (self.new.disk_faults ≡ self.old.disk_faults) }
+        ensures no_fault { OnOk result (self.new.disk_faults ≡ self.old.disk_faults) }
         ensures failed { OnErr result (IsEntered Pass self.old self.new ⊎ IsUnentered self.old self.new) }
         ensures disk_faults { OnErr result (self.new.disk_faults ≡ next_count self.old.disk_faults) }
         ensures monotone { self.old.disk_faults ≤ self.new.disk_faults }
@@ -519,8 +519,8 @@ impl Deck for MemDeck {
     fn announce(&mut self, count: u64)
         ensures announces { Announces count (memory_state self.old) (memory_state self.new) }
         ensures disk { LeavesDisk (memory_state self.old) (memory_state self.new) }
-        ensures line { KeepsLine (memory_state self.old) (memory_state self.new) }
-        ensures line_faults { (memory_state self.new).line_faults ≡ (memory_state self.old).line_faults }
+        ensures input { KeepsInput (memory_state self.old) (memory_state self.new) }
+        ensures input_faults { (memory_state self.new).input_faults ≡ (memory_state self.old).input_faults }
         ensures time { Elapses memory_tells (memory_state self.old) (memory_state self.new) }
         ensures moments { EachMoment memory_tells (memory_state self.old) (memory_state self.new) (IsNow (memory_state self.new)) }
         ensures entries { self.new.entries ≡ self.old.entries }
@@ -533,12 +533,12 @@ impl Deck for MemDeck {
     fn pull(&mut self, buf: &mut [u8]) -> Result<usize, Failed>
         requires { 0 < length buf.old }
         ensures bound { IfOk result (λ n. n ≤ length buf.new) }
-        ensures pulls { IfOk result (Pulls memory_tells (memory_state self.old) (memory_state self.new) buf.new) }
-        ensures kept { OnErr result (KeepsLine (memory_state self.old) (memory_state self.new)) }
-        ensures cause { OnErr result (Rose (memory_state self.old).line_faults (memory_state self.new).line_faults) }
-        ensures monotone { (memory_state self.old).line_faults ≤ (memory_state self.new).line_faults }
+        ensures pulls { IfOk result (GivesPiece memory_tells (memory_state self.old) (memory_state self.new) buf.new) }
+        ensures kept { OnErr result (KeepsInput (memory_state self.old) (memory_state self.new)) }
+        ensures cause { OnErr result (Rose (memory_state self.old).input_faults (memory_state self.new).input_faults) }
+        ensures monotone { (memory_state self.old).input_faults ≤ (memory_state self.new).input_faults }
         ensures disk { LeavesDisk (memory_state self.old) (memory_state self.new) }
-        ensures told { KeepsTold (memory_state self.old) (memory_state self.new) }
+        ensures announced { KeepsAnnounced (memory_state self.old) (memory_state self.new) }
         ensures fresh { OnOk result (HasOneAnnounced (memory_state self.new)) }
         ensures time { Elapses memory_tells (memory_state self.old) (memory_state self.new) }
         ensures moments { EachMoment memory_tells (memory_state self.old) (memory_state self.new) (Within (memory_state self.old) (memory_state self.new)) }
@@ -548,7 +548,7 @@ impl Deck for MemDeck {
         ensures failing { self.new.failing ≡ self.old.failing }
         ensures entered { OnOk result (IsEntered Pass self.old self.new) }
         ensures failed { OnErr result (IsEntered Pass self.old self.new ⊎ IsUnentered self.old self.new) }
-        ensures full { IfOk result (λ n. n ≡ min (length self.old.line) (length buf.new)) }
+        ensures full { IfOk result (λ n. n ≡ min (length self.old.input) (length buf.new)) }
     {
         self.pass_pull()?;
         Ok(self.take_next(buf))

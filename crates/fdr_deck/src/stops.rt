@@ -18,7 +18,7 @@ pub enum Tear {
     Old,
     /// The bytes that were written.
     New,
-    /// The first half of the bytes of each write, rounded down, and behind it the old ones.
+    /// The first half of the bytes of each write, rounded down, and after it the old ones.
     Half,
     /// This byte throughout.
     Fill(u8),

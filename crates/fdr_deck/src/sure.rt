@@ -3,8 +3,8 @@
 ghost use Rattle.std.specs.Prelude.{◌≡◌, ℕ, ◌+◌, ◌<◌, ◌≤◌, List, length, min, vec_len, IfOk, IsOk, OnOk, OnErr, IsTrue, ⊤};
 ghost use Rattle.fdr_deck.specs.Disk.{IsSettled, KeepsDisk, LearnsExtent, Reads, Tears, Writes, Provides, Begins};
 ghost use Rattle.fdr_deck.specs.Moments.{Elapses, EachMoment, IsNow, Within, WithinProvide};
-ghost use Rattle.fdr_deck.specs.Pull.{Pulls, KeepsLine};
-ghost use Rattle.fdr_deck.specs.Calls.{Passes, KeepsTold, HasOneAnnounced, Succeeds, LeavesDisk, Announces};
+ghost use Rattle.fdr_deck.specs.Pull.{GivesPiece, KeepsInput};
+ghost use Rattle.fdr_deck.specs.Calls.{Passes, KeepsAnnounced, HasOneAnnounced, Succeeds, LeavesDisk, Announces};
 ghost use Rattle.fdr_deck.specs.Announced.{least_announced, greatest_announced};
 ghost use Rattle.fdr_deck.specs.Sure.{sure_state, sure_tells, sure_is_sound};
 ghost use Rattle.fdr_io.specs.Faults.{Rose};
@@ -14,14 +14,14 @@ use crate::{Announced, Deck};
 use fdr_io::{Failed, copy_next};
 use std::marker::Model;
 
-/// A deck in memory that tells its bytes and its line, and never fails.
+/// A deck in memory that tells its bytes and its input, and never fails.
 #[derive(Drop)]
 pub struct SureDeck {
     image: Vec<u8>,
-    line: Vec<u8>,
-    // How many bytes of the line were pulled.
+    input: Vec<u8>,
+    // How many bytes of the input were pulled.
     at: usize,
-    before: usize,
+    pulled_before: usize,
     announced: Announced,
 }
 
@@ -33,32 +33,32 @@ impl Model for SureDeck {
 
     ghost view = { λ d. record {
       image = d.image.items;
-      line = drop d.at d.line.items;
+      input = drop d.at d.input.items;
       taken = d.at;
-      before = d.before;
+      pulled_before = d.pulled_before;
       announced = d.announced;
     } };
 
-    ghost invariant = { λ d. (0 < length d.image.items) × (d.at ≤ length d.line.items) };
+    ghost invariant = { λ d. (0 < length d.image.items) × (d.at ≤ length d.input.items) };
 }
 
 impl SureDeck {
-    /// A deck of this image, which isn't empty, and this line, of which nothing is pulled yet.
-    pub fn new(image: Vec<u8>, line: Vec<u8>) -> SureDeck
+    /// A deck of this image, which isn't empty, and this input, of which nothing is pulled yet.
+    pub fn new(image: Vec<u8>, input: Vec<u8>) -> SureDeck
         requires { 0 < vec_len image }
         ensures image { result.image ≡ image.items }
-        ensures line { result.line ≡ line.items }
+        ensures input { result.input ≡ input.items }
         ensures taken { result.taken ≡ 0 }
-        ensures before { result.before ≡ 0 }
-        ensures told { result.announced.told ≡ 0 }
+        ensures pulled_before { result.pulled_before ≡ 0 }
+        ensures announced { result.announced.number ≡ 0 }
         ensures least { least_announced result.announced ≡ 0 }
         ensures greatest { greatest_announced result.announced ≡ 0 }
     {
         SureDeck {
             image,
-            line,
+            input,
             at: 0,
-            before: 0,
+            pulled_before: 0,
             announced: Announced::new(),
         }
     }
@@ -157,8 +157,8 @@ impl Deck for SureDeck {
     fn announce(&mut self, count: u64)
         ensures announces { Announces count (sure_state self.old) (sure_state self.new) }
         ensures disk { LeavesDisk (sure_state self.old) (sure_state self.new) }
-        ensures line { KeepsLine (sure_state self.old) (sure_state self.new) }
-        ensures line_faults { (sure_state self.new).line_faults ≡ (sure_state self.old).line_faults }
+        ensures input { KeepsInput (sure_state self.old) (sure_state self.new) }
+        ensures input_faults { (sure_state self.new).input_faults ≡ (sure_state self.old).input_faults }
         ensures time { Elapses sure_tells (sure_state self.old) (sure_state self.new) }
         ensures moments { EachMoment sure_tells (sure_state self.old) (sure_state self.new) (IsNow (sure_state self.new)) }
     {
@@ -168,22 +168,22 @@ impl Deck for SureDeck {
     fn pull(&mut self, buf: &mut [u8]) -> Result<usize, Failed>
         requires { 0 < length buf.old }
         ensures bound { IfOk result (λ n. n ≤ length buf.new) }
-        ensures pulls { IfOk result (Pulls sure_tells (sure_state self.old) (sure_state self.new) buf.new) }
-        ensures kept { OnErr result (KeepsLine (sure_state self.old) (sure_state self.new)) }
-        ensures cause { OnErr result (Rose (sure_state self.old).line_faults (sure_state self.new).line_faults) }
-        ensures monotone { (sure_state self.old).line_faults ≤ (sure_state self.new).line_faults }
+        ensures pulls { IfOk result (GivesPiece sure_tells (sure_state self.old) (sure_state self.new) buf.new) }
+        ensures kept { OnErr result (KeepsInput (sure_state self.old) (sure_state self.new)) }
+        ensures cause { OnErr result (Rose (sure_state self.old).input_faults (sure_state self.new).input_faults) }
+        ensures monotone { (sure_state self.old).input_faults ≤ (sure_state self.new).input_faults }
         ensures disk { LeavesDisk (sure_state self.old) (sure_state self.new) }
-        ensures told { KeepsTold (sure_state self.old) (sure_state self.new) }
+        ensures announced { KeepsAnnounced (sure_state self.old) (sure_state self.new) }
         ensures fresh { OnOk result (HasOneAnnounced (sure_state self.new)) }
         ensures time { Elapses sure_tells (sure_state self.old) (sure_state self.new) }
         ensures moments { EachMoment sure_tells (sure_state self.old) (sure_state self.new) (Within (sure_state self.old) (sure_state self.new)) }
         ensures sure { IsOk result }
-        ensures full { IfOk result (λ n. n ≡ min (length self.old.line) (length buf.new)) }
+        ensures full { IfOk result (λ n. n ≡ min (length self.old.input) (length buf.new)) }
     {
         self.announced.begin_anew();
-        let n = copy_next(&self.line, self.at, buf);
+        let n = copy_next(&self.input, self.at, buf);
         if n > 0 {
-            self.before = self.at;
+            self.pulled_before = self.at;
         }
         self.at += n;
         Ok(n)

@@ -25,10 +25,10 @@ sync_word s = slice_index sync_words (s - 1)
 abbrev pub is_sync : ℕ → ℕ → Bool
 is_sync w k = word_of w k == 1
 
--- whether slot k has the frame counter, which stands in word cword of subframe csub
+-- whether slot k has the frame counter, which is in word cword of subframe csub
 abbrev pub is_counter : ℕ → ℕ → ℕ → ℕ → Bool
 is_counter w cword csub k = (subframe_of w k == csub) && (word_of w k == cword)
 
--- what stands in slot k; a sync word comes before all else
+-- what is in slot k; a sync word comes before all else
 abbrev pub kind_of : ℕ → ℕ → ℕ → ℕ → SlotKind
 kind_of w cword csub k = if is_sync w k then Sync else (if is_counter w cword csub k then Counter else Plain)

@@ -10,7 +10,7 @@ pub const SYNC: [u16; 4] = [0o1107, 0o2670, 0o5107, 0o6670];
 // The same words in hexadecimal, as recorders' documents often write them.
 const _: () = prove!(SYNC[0] == 0x247 && SYNC[1] == 0x5b8 && SYNC[2] == 0xa47 && SYNC[3] == 0xdb8);
 
-/// What stands in a word slot.
+/// What is in a word slot.
 #[derive(Clone, Copy, PartialEq, Eq, Debug)]
 pub enum SlotKind {
     /// The sync word of the slot's subframe.

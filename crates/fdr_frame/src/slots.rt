@@ -6,7 +6,7 @@ ghost use Rattle.fdr_frame.specs.Slots.{frame_of, subframe_of, word_of, kind_of}
 
 use crate::SlotKind;
 
-/// How many whole subframes stand before word slot `k`: `k / words`. A number of words is a power of two, so that neither
+/// How many whole subframes are before word slot `k`: `k / words`. A number of words is a power of two, so that neither
 /// this nor the calls below divide.
 #[tactic(auto, using(crate::proofs::WordCounts::word_count_bounds))]
 pub fn subframes_before(k: u64, words: u32) -> u64
@@ -16,7 +16,7 @@ pub fn subframes_before(k: u64, words: u32) -> u64
     k >> words.trailing_zeros()
 }
 
-/// How many words of its subframe stand before word slot `k`: `k % words`.
+/// How many words of its subframe are before word slot `k`: `k % words`.
 #[tactic(auto, using(crate::proofs::WordCounts::word_count_bounds))]
 pub fn words_before(k: u64, words: u32) -> u64
     requires { IsWordCount words }
@@ -25,7 +25,7 @@ pub fn words_before(k: u64, words: u32) -> u64
     k & u64::from(words - 1)
 }
 
-/// How many whole frames stand before word slot `k`: `k / (4 * words)`.
+/// How many whole frames are before word slot `k`: `k / (4 * words)`.
 #[tactic(auto, using(crate::proofs::WordCounts::word_count_bounds))]
 pub fn frames_before(k: u64, words: u32) -> u64
     requires { IsWordCount words }
@@ -34,7 +34,7 @@ pub fn frames_before(k: u64, words: u32) -> u64
     k >> (words.trailing_zeros() + 2)
 }
 
-/// How many words of its frame stand before word slot `k`: `k % (4 * words)`.
+/// How many words of its frame are before word slot `k`: `k % (4 * words)`.
 #[tactic(auto, using(crate::proofs::WordCounts::word_count_bounds))]
 pub fn frame_words_before(k: u64, words: u32) -> u64
     requires { IsWordCount words }
@@ -44,7 +44,7 @@ pub fn frame_words_before(k: u64, words: u32) -> u64
     k & u64::from(4 * words - 1)
 }
 
-/// What stands in word slot `k`, where the frame counter has word `cword` of subframe `csub`.
+/// What is in word slot `k`, where the frame counter has word `cword` of subframe `csub`.
 #[tactic(auto, using(crate::proofs::WordCounts::word_count_bounds))]
 pub fn slot_kind(k: u64, words: u32, cword: u32, csub: u8) -> SlotKind
     requires { IsWordCount words }

@@ -38,7 +38,7 @@ pub record IsGeneratorKept (k : GeneratorKept) : Type 0 where
 abbrev pub words_given : GeneratorKept → ℕ
 words_given k = k.second * length k.senders + k.place
 
--- The value stands where it was made by this table, of this seed and for so many frames, and gave so many records.
+-- The value stands where it was made by this table, of this seed and for this many frames, and gave this many records.
 pub record RepresentsGenerator (k : GeneratorKept) (past : GeneratorPast) : Type 0 where
   pub senders : k.senders ≡ map sender_of past.table.params
   pub seconds : k.seconds ≡ 4 * past.frames

@@ -44,7 +44,7 @@ impl Model for Gen {
 }
 
 impl Gen {
-    /// A generator at the start of the trace of this table and seed, for so many frames. Fails only where memory ends.
+    /// A generator at the start of the trace of this table and seed, for `frames` frames. Fails only where memory ends.
     pub fn new(alloc: Global, t: &Sound, seed: u64, frames: u32) -> Result<Gen, NoMemory>
         requires some_frames { 1 ≤ frames }
         requires frame_limit { frames ≤ most_frames }

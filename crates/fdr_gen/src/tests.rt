@@ -1,4 +1,4 @@
-//! Worked traces. The words were computed by another program, but for the first one of seed 1.
+//! Worked traces. The words were computed by another program, except the first one of seed 1.
 
 use crate::Gen;
 use fdr_bus::{BusRecord, RecordKind};

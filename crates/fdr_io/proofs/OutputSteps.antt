@@ -44,7 +44,7 @@ EmitsPart-longer a b u s t part =
       written = part.written ∙ ap (λ (x : List ℕ). followed_by a x) front.1 ∙ ap (λ (x : List ℕ). followed_by a (take front.0 x)) (append_assoc u s t);
     }
 
--- a part of what waited is a part of it and the text behind it
+-- a part of what waited is a part of it and the text after it
 pub EmitsPart-waiting : (a b : Option (List ℕ)) (w text : List ℕ) → (k : ℕ) × (b ≡ followed_by a (take k w)) → EmitsPart a b w text
 EmitsPart-waiting a b w text sent =
     let front = take_of_front sent.0 w text in

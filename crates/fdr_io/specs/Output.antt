@@ -1,4 +1,4 @@
--- What went out to a sink behind a buffer.
+-- What went out to a sink through a buffer.
 use Rattle.std.specs.Prelude.{◌≡◌, ℕ, List, ◌++◌, take, Option}
 use Rattle.fdr_io.specs.Told.{followed_by}
 

@@ -2,11 +2,11 @@
 use Rattle.std.specs.Prelude.{◌≡◌, ℕ, ◌≤◌, ◌↔◌, List, [], ◌++◌, length, take, drop, Option}
 use Rattle.std.specs.Option.{option_map}
 
--- the told bytes, and these behind them
+-- the told bytes, and these after them
 unfoldable pub followed_by : Option (List ℕ) → List ℕ → Option (List ℕ)
 followed_by told bytes = option_map (λ before. before ++ bytes) told
 
--- the told bytes but for the first n
+-- the told bytes except the first n
 unfoldable pub without_first : ℕ → Option (List ℕ) → Option (List ℕ)
 without_first n told = option_map (drop n) told
 
@@ -16,6 +16,6 @@ pub record Gives (left buffer : List ℕ) (n : ℕ) : Type 0 where
   pub front : take n buffer ≡ take n left
   pub end : (n ≡ 0) ↔ (left ≡ [])
 
--- these bytes, and the told bytes behind them
+-- these bytes, and the told bytes after them
 unfoldable pub preceded_by : List ℕ → Option (List ℕ) → Option (List ℕ)
 preceded_by bytes told = option_map (λ left. bytes ++ left) told

@@ -48,7 +48,7 @@ impl OutBuffer {
         ensures dropped { OnErr result (self.new ≡ []) }
         ensures held { length self.new ≤ 65536 }
         ensures cause { OnErr result (Rose (S.faults out.old) (S.faults out.new)) }
-        ensures quiet { OnOk result (S.faults out.new ≡ S.faults out.old) }
+        ensures no_fault { OnOk result (S.faults out.new ≡ S.faults out.old) }
         ensures monotone { S.faults out.old ≤ S.faults out.new }
     {
         if bytes.len() <= CAPACITY - self.used {
@@ -70,7 +70,7 @@ impl OutBuffer {
         ensures part { OnErr result ((k : ℕ) × (S.written out.new ≡ followed_by (S.written out.old) (take k self.old))) }
         ensures empty { self.new ≡ [] }
         ensures cause { OnErr result (Rose (S.faults out.old) (S.faults out.new)) }
-        ensures quiet { OnOk result (S.faults out.new ≡ S.faults out.old) }
+        ensures no_fault { OnOk result (S.faults out.new ≡ S.faults out.old) }
         ensures monotone { S.faults out.old ≤ S.faults out.new }
     {
         let waiting = self.used;
@@ -78,7 +78,7 @@ impl OutBuffer {
         write_whole(out, &self.room[..waiting])
     }
 
-    /// Makes room for so many bytes more, and writes what waits where they don't fit. At `Failed` a front part of it went
+    /// Makes room for `count` bytes more, and writes what waits where they don't fit. At `Failed` a front part of it went
     /// out, and the rest is dropped.
     #[tactic(auto, using(crate::proofs::Telling::telling))]
     pub fn make_room<S: Sink>(&mut self, out: &mut S, count: usize) -> Result<(), Failed>
@@ -88,7 +88,7 @@ impl OutBuffer {
         ensures part { OnErr result (EmitsPart (S.written out.old) (S.written out.new) self.old []) }
         ensures dropped { OnErr result (self.new ≡ []) }
         ensures cause { OnErr result (Rose (S.faults out.old) (S.faults out.new)) }
-        ensures quiet { OnOk result (S.faults out.new ≡ S.faults out.old) }
+        ensures no_fault { OnOk result (S.faults out.new ≡ S.faults out.old) }
         ensures monotone { S.faults out.old ≤ S.faults out.new }
     {
         if CAPACITY - self.used < count {
@@ -108,7 +108,7 @@ impl OutBuffer {
         self.used = lay(&mut self.room, self.used, bytes, count);
     }
 
-    /// Puts three texts at the end, of each the first so many of its bytes, where room was made for all of them. What waits
+    /// Puts three texts at the end, of each as many of its first bytes as its number says, where room was made for all of them. What waits
     /// is counted once for the three.
     #[inline(always)]
     pub fn put_three<const A: usize, const B: usize, const C: usize>(
@@ -141,7 +141,7 @@ impl OutBuffer {
     }
 }
 
-/// Lays a text at a place of the room, and answers where the first so many of its bytes end there.
+/// Lays a text at a place of the room, and answers where its first `count` bytes end there.
 #[inline(always)]
 fn lay<const N: usize>(room: &mut [u8], at: usize, text: &[u8; N], count: usize) -> usize
     requires room { at + N ≤ length room.old }

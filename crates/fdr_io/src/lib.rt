@@ -24,6 +24,6 @@ pub struct Failed;
 pub enum Input {
     /// The table of parameters.
     Table,
-    /// The line of input, such as the bits of a recording.
+    /// The input, such as the bits of a recording.
     Line,
 }

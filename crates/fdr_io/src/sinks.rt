@@ -26,7 +26,7 @@ pub trait Sink {
         ensures kept { OnErr result (written self.new ≡ written self.old) }
         ensures tells { is_some (written self.new) ≡ is_some (written self.old) }
         ensures cause { OnErr result (Rose (faults self.old) (faults self.new)) }
-        ensures quiet { OnOk result (faults self.new ≡ faults self.old) }
+        ensures no_fault { OnOk result (faults self.new ≡ faults self.old) }
         ensures monotone { faults self.old ≤ faults self.new };
 }
 
@@ -36,7 +36,7 @@ pub fn write_whole<S: Sink>(out: &mut S, bytes: &[u8]) -> Result<(), Failed>
     ensures whole { OnOk result (S.written out.new ≡ followed_by (S.written out.old) bytes.now) }
     ensures part { OnErr result ((k : ℕ) × (S.written out.new ≡ followed_by (S.written out.old) (take k bytes.now))) }
     ensures cause { OnErr result (Rose (S.faults out.old) (S.faults out.new)) }
-    ensures quiet { OnOk result (S.faults out.new ≡ S.faults out.old) }
+    ensures no_fault { OnOk result (S.faults out.new ≡ S.faults out.old) }
     ensures monotone { S.faults out.old ≤ S.faults out.new }
 {
     let mut sent = 0;
@@ -109,7 +109,7 @@ impl Sink for MemSink {
         ensures taken { IfOk result (λ n. Some self.new.written ≡ followed_by (Some self.old.written) (take n bytes.now)) }
         ensures kept { OnErr result (self.new.written ≡ self.old.written) }
         ensures cause { OnErr result (self.new.faults ≡ next_count self.old.faults) }
-        ensures quiet { OnOk result (self.new.faults ≡ self.old.faults) }
+        ensures no_fault { OnOk result (self.new.faults ≡ self.old.faults) }
         ensures monotone { self.old.faults ≤ self.new.faults }
         ensures listed { Contains self.old.plan.failing self.old.plan.next → IsErr result }
         ensures counted { self.new.plan ≡ record self.old.plan { next = next_count self.old.plan.next } }

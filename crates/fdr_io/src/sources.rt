@@ -26,7 +26,7 @@ pub trait Source {
         ensures kept { OnErr result (rest self.new ≡ rest self.old) }
         ensures tells { is_some (rest self.new) ≡ is_some (rest self.old) }
         ensures cause { OnErr result (Rose (faults self.old) (faults self.new)) }
-        ensures quiet { OnOk result (faults self.new ≡ faults self.old) }
+        ensures no_fault { OnOk result (faults self.new ≡ faults self.old) }
         ensures monotone { faults self.old ≤ faults self.new };
 }
 
@@ -95,7 +95,7 @@ impl Source for MemSource {
         ensures taken { IfOk result (λ n. Some self.new.left ≡ without_first n (Some self.old.left)) }
         ensures kept { OnErr result (self.new.left ≡ self.old.left) }
         ensures cause { OnErr result (self.new.faults ≡ next_count self.old.faults) }
-        ensures quiet { OnOk result (self.new.faults ≡ self.old.faults) }
+        ensures no_fault { OnOk result (self.new.faults ≡ self.old.faults) }
         ensures monotone { self.old.faults ≤ self.new.faults }
         ensures full { IfOk result (λ n. n ≡ min (length self.old.left) (length buf.new)) }
         ensures listed { IsErr result ↔ Contains self.old.plan.failing self.old.plan.next }

@@ -67,7 +67,7 @@ none_marked b at next block m n before marks behind room clear q low high sync =
     absurd (omega (arith, bit, clear i (omega arith), marks q (omega arith) (omega arith) sync)))
     (cases_lt q (8 * next))
 
--- a lowest bit that is set stands within the block
+-- a lowest bit that is set is within the block
 pub lowest_within : (m d : ℕ) → m < 2 ^ 32 → 0 < m / 2 ^ d → m / 2 ^ d < 2 ^ 64 → d + trailing_zeros w64 (m / 2 ^ d) < 32
 lowest_within m d few some fits =
     let z = trailing_zeros w64 (m / 2 ^ d) in

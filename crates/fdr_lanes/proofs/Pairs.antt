@@ -1,4 +1,4 @@
--- Four numbers of 32 bits from a block of 16 bytes, each three bytes behind the one before.
+-- Four numbers of 32 bits from a block of 16 bytes, each three bytes after the one before.
 use Rattle.std.proofs.Common.{◌≡◌, ℕ, ◌+◌, ◌*◌, ◌/◌, ◌%◌, ◌^◌, ◌<◌, ◌≤◌, List, ◌++◌, length, get_or, replicate, bit_and, refl, sym, ap, ◌∙◌, arith}
 use Rattle.std.proofs.Common.{eqb, eqb→eq, w8, Fits}
 use Rattle.std.proofs.lemmas.List.{get_or-map, get_or_append_left, get_or_default}

@@ -1,4 +1,4 @@
--- Where the sync word of a first subframe stands in a bit list.
+-- Where the sync word of a first subframe is in a bit list.
 use Rattle.std.specs.Prelude.{ℕ, ◌≡◌, ◌+◌, ◌*◌, ◌<◌, ◌≤◌, List}
 use Rattle.fdr_bits.specs.Bits.{bits_in, word_at}
 use Rattle.fdr_frame.specs.Slots.{sync_word}

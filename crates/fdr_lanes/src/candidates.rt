@@ -1,6 +1,6 @@
 //! Bytes in which the sync word of a first subframe may begin, 32 of them at a time.
 //!
-//! The word has 12 bits and may begin at each of a byte's eight. So its bits stand in five halves of bytes: both of
+//! The word has 12 bits and may begin at each of a byte's eight. So its bits are in five halves of bytes: both of
 //! the byte in which it begins, both of the next, and the lower one of the third. A table for each says at which of
 //! the eight bits the word may begin, given that half. It begins at those on which all five agree.
 
@@ -59,7 +59,7 @@ fn by_high(table: [u8; 16], bytes: u8x32) -> u8x32
     table.swizzle_dyn_within::<16>(bytes >> u8x32::splat(4))
 }
 
-// At which bits of each first byte the word may begin, given the two bytes behind it.
+// At which bits of each first byte the word may begin, given the two bytes after it.
 #[inline(always)]
 fn places(first: u8x32, second: u8x32, third: u8x32) -> u8x32
     ensures len { length result ≡ 32 }

@@ -58,7 +58,7 @@ fn eight_words(block: u8x16, phase: u32) -> u16x8
     )
 }
 
-// Four numbers of 32 bits, each from three bytes behind the one before.
+// Four numbers of 32 bits, each from three bytes after the one before.
 #[inline(always)]
 fn pairs(block: u8x16) -> u32x4
     ensures len { length result ≡ 4 }

@@ -1,4 +1,4 @@
--- Lists that stand one after another in a flat list.
+-- Lists that are one after another in a flat list.
 use Rattle.std.proofs.Common.{◌≡◌, ℕ, ◌+◌, ◌-◌, ◌*◌, ◌<◌, ◌≤◌, Bool, true, false, ◌||◌, cond, List, [], ◌∷◌, ◌++◌, Option, Some, map, length, get_or}
 use Rattle.std.proofs.Common.{take, drop, option_map}
 use Rattle.std.proofs.Common.{inl, inr, refl, sym, ap, ◌∙◌, zero, suc, zero-add, arith}

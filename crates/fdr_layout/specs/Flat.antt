@@ -1,4 +1,4 @@
--- Lists that stand one after another in a flat list, by where each begins and where the last ends.
+-- Lists that are one after another in a flat list, by where each begins and where the last ends.
 use Rattle.std.specs.Prelude.{ℕ, ◌+◌, ◌-◌, ◌<◌, ◌≤◌, List, length, map, slice_index, slice_range}
 use Rattle.std.specs.List.{range_with_len}
 

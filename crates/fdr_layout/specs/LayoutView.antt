@@ -25,7 +25,7 @@ sample_numbered starts parts ending n = record {
   parts = parts_numbered starts parts n;
 }
 
--- how the samples stand in these flat lists
+-- how the samples are in these flat lists
 abbrev pub laid : FlatLists → Laid
 laid l = record {
   cycles = map (λ (es : List ListedSample). map (listed_sample l.sample_starts.items l.by_sample.items) es) (segments l.cycle_starts.items l.ending.items);

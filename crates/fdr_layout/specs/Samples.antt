@@ -1,4 +1,4 @@
--- Where the parts of the samples stand in a superframe of 16 frames.
+-- Where the parts of the samples are in a superframe of 16 frames.
 --
 -- A bit of the superframe is counted from 0 at its start: bit 12 k is the least significant bit of word slot k. A table's
 -- frame has four subframes of w words.
@@ -15,14 +15,14 @@ pub record Carrier : Type 0 where
 abbrev pub carrier_of : ℕ → List PlaceRow → ℕ → ℕ → Carrier
 carrier_of w places param part = record { occurrences = part_occurrences w places param part; shift = shift_of places param part }
 
--- A part of a sample: where its lowest bit stands in the superframe, how many bits it has, and how many bits of the
+-- A part of a sample: where its lowest bit is in the superframe, how many bits it has, and how many bits of the
 -- raw value are below them.
 pub record Part : Type 0 where
   pub at : ℕ
   pub width : ℕ
   pub shift : ℕ
 
--- a part of sample i, where there is one: it stands at the i-th occurrence
+-- a part of sample i, where there is one: it is at the i-th occurrence
 abbrev pub part_at : ℕ → Carrier → Option Part
 part_at i c = option_map (λ (o : Occurrence). record { at = o.at; width = o.width; shift = c.shift }) (slice_get c.occurrences i)
 

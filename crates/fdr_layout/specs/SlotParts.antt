@@ -1,4 +1,4 @@
--- The parts of all samples by the word slot that they stand in.
+-- The parts of all samples by the word slot that they are in.
 use Rattle.std.specs.Prelude.{ℕ, ◌*◌, ◌<◌, ◌==◌, ◌^◌, List, filter, length, map}
 use Rattle.std.specs.List.{All, flat_map, range_with_len, enumerate_from}
 use Rattle.fdr_table.specs.Rows.{TableRows}
@@ -30,11 +30,11 @@ all_parts t = parts_among (samples t)
 abbrev pub parts_at : List SlotPart → ℕ → List SlotPart
 parts_at parts x = filter (λ (a : SlotPart). a.part.at == x) parts
 
--- those that stand in word slot k, by lowest bit
+-- those that are in word slot k, by lowest bit
 unfoldable pub parts_of_slot : List SlotPart → ℕ → List SlotPart
 parts_of_slot parts k = flat_map (parts_at parts) (range_with_len (12 * k) 12)
 
--- the parts of a table's samples that stand in word slot k of the superframe, by lowest bit
+-- the parts of a table's samples that are in word slot k of the superframe, by lowest bit
 abbrev pub parts_in : TableRows → ℕ → List SlotPart
 parts_in t k = parts_of_slot (all_parts t) k
 
@@ -44,7 +44,7 @@ pub record Laid : Type 0 where
   pub samples : List Sample
   pub slots : List (List SlotPart)
 
--- how a table's samples stand in its superframe of 16 cycles and 64 w word slots
+-- how a table's samples are in its superframe of 16 cycles and 64 w word slots
 abbrev pub laid_of : TableRows → Laid
 laid_of t = record {
   cycles = map (ending_in t) (range_with_len 0 16);

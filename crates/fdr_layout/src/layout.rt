@@ -12,7 +12,7 @@ use fdr_table::NoMemory;
 use std::alloc::Global;
 use std::marker::Model;
 
-/// Where the samples of a table stand in a superframe: by the cycle in which they end, and the parts by word slot and by
+/// Where the samples of a table are in a superframe: by the cycle in which they end, and the parts by word slot and by
 /// sample.
 #[derive(Drop)]
 pub struct Layout {
@@ -42,7 +42,7 @@ impl Layout {
         })
     }
 
-    /// The parts that stand in word slot `k` of the superframe, by lowest bit. Takes no memory.
+    /// The parts that are in word slot `k` of the superframe, by lowest bit. Takes no memory.
     pub fn at_slot(&self, k: u32) -> &[Part]
         requires { k < length self.now.slots }
         ensures parts { slice_get self.now.slots k ≡ Some result.now }
@@ -84,7 +84,7 @@ impl Layout {
     }
 }
 
-/// List `k` of several that stand one after another.
+/// List `k` of several that are one after another.
 fn segment<'a, T>(starts: &[u32], items: &'a [T], k: u32) -> &'a [T]
     requires starts { AreStarts starts.now (length items.now) }
     requires within { k + 1 < length starts.now }

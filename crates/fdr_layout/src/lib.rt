@@ -1,4 +1,4 @@
-//! Where the samples of a parameter table stand in a superframe: by the cycle in which they end, and by word slot.
+//! Where the samples of a parameter table are in a superframe: by the cycle in which they end, and by word slot.
 //!
 //! A superframe is 16 frames. A place of the table occurs in some of its word slots and puts some bits there; sample
 //! `i` of a parameter takes the `i`-th occurrence of each of the parameter's parts. A bit of the superframe is counted

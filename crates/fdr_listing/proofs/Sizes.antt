@@ -7,7 +7,7 @@ use Rattle.std.proofs.lemmas.Option.{get_or_from_slice_get, slice_get_within}
 use Rattle.fdr_listing.specs.Text.{fraction_text, size_text}
 use Rattle.fdr_listing.specs.Numbers.{ReadyFractions, ready_fractions, fraction_end}
 
--- a whole part, and behind it a fraction with the line's end
+-- a whole part, and after it a fraction with the line's end
 pub size_made : (whole end : List ℕ) (n d : ℕ) → whole ≡ decimal (n / 10 ^ d) → end ≡ fraction_end d (n % 10 ^ d)
     → whole ++ end ≡ size_text n d ++ codes "\n"
 unfolding size_text fraction_end
@@ -21,7 +21,7 @@ pub ready_text : (f : ℕ → List ℕ) (texts : List (List ℕ)) (count n : ℕ
 ready_text f texts count n text ready within at =
     at ∙ ap (λ (ys : List (List ℕ)). get_or ys n text) ready ∙ get_or-map-range_with_len f 0 count n n text within (zero-add n)
 
--- the fractions that are found for a number of digits are those of so many
+-- the fractions that are found for a number of digits are those of that number
 pub ready_for : (all : List ReadyFractions) (d : ℕ) (found : ReadyFractions) → all ≡ map ready_fractions (range_with_len 0 4)
     → slice_get all d ≡ Some found → found ≡ ready_fractions d
 ready_for all d found ready at =

@@ -3,7 +3,7 @@ use Rattle.std.specs.Prelude.{ℕ, ◌≡◌, ◌^◌, ◌++◌, List, codes, ma
 use Rattle.std.specs.List.{range_with_len}
 use Rattle.fdr_listing.specs.Text.{fraction_text}
 
--- what ends a line behind a whole part: a point and the d digits of n, or nothing for no digits, and the line feed
+-- what ends a line after a whole part: a point and the d digits of n, or nothing for no digits, and the line feed
 unfoldable pub fraction_end : ℕ → ℕ → List ℕ
 fraction_end d n = fraction_text n d ++ codes "\n"
 

@@ -18,7 +18,7 @@ const WHOLE: u32 = 4096;
 /// The most digits of a fraction whose text is ready.
 const MAX_DIGITS: u8 = 3;
 
-/// What ends a line behind the whole part of a value, for each fraction of so many digits.
+/// What ends a line after the whole part of a value, for each fraction of `digits` digits.
 #[derive(Drop)]
 struct Fractions {
     // Ten to the power of the number of digits.
@@ -117,7 +117,7 @@ fn all_fractions(alloc: Global) -> Result<Vec<Fractions>, NoMemory>
     Ok(all)
 }
 
-/// What ends a line behind the whole part of a value, for each fraction of so many digits.
+/// What ends a line after the whole part of a value, for each fraction of `digits` digits.
 fn fraction_ends(alloc: Global, digits: u8, unit: u32) -> Result<Vec<ShortText>, NoMemory>
     requires digits { digits ≤ 3 }
     requires unit { unit ≡ 10 ^ digits }

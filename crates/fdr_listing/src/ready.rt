@@ -4,10 +4,10 @@ ghost use Rattle.std.specs.Prelude.{◌≡◌, ◌+◌, ◌≤◌, ◌<◌, ◌^
 ghost use Rattle.fdr_listing.specs.Text.{row_start_text, row_place_text, row_line_text, fraction_text, size_text, value_text};
 ghost use Rattle.fdr_listing.specs.Numbers.{fraction_end};
 
-use crate::line::Line;
 use crate::numbers::NumberTexts;
 use crate::text::{add_fraction, unit};
 use fdr_io::OutBuffer;
+use fdr_line::Line;
 use fdr_recon::Row;
 use fdr_table::Name;
 use itoa::Buffer;
@@ -35,7 +35,7 @@ impl Model for ShortText {
 
 impl ShortText {
     /// `row,COUNTER`, with which the lines of a frame's rows begin.
-    #[tactic(auto, using(crate::proofs::Lengths::numbers), unfolding(crate::specs::Text::row_start_text))]
+    #[tactic(auto, using(fdr_line::proofs::Lengths::numbers), unfolding(crate::specs::Text::row_start_text))]
     pub fn row_start(counter: u16) -> ShortText
         requires { counter < 4096 }
         ensures { result ≡ row_start_text counter }
@@ -47,7 +47,7 @@ impl ShortText {
     }
 
     /// `,SUBFRAME,WORD,`, which follows it.
-    #[tactic(auto, using(crate::proofs::Lengths::numbers), unfolding(crate::specs::Text::row_place_text))]
+    #[tactic(auto, using(fdr_line::proofs::Lengths::numbers), unfolding(crate::specs::Text::row_place_text))]
     pub fn row_place(subframe: u8, word: u32) -> ShortText
         requires subframe { subframe ≤ 4 }
         requires word { word ≤ 1024 }
@@ -63,7 +63,7 @@ impl ShortText {
     }
 
     /// The digits of a number.
-    #[tactic(auto, using(crate::proofs::Lengths::numbers))]
+    #[tactic(auto, using(fdr_line::proofs::Lengths::numbers))]
     pub(crate) fn number(n: u32) -> ShortText
         requires { n < 4096 }
         ensures { result ≡ decimal n }
@@ -73,7 +73,7 @@ impl ShortText {
         ShortText::of(&line)
     }
 
-    /// A point and exactly so many digits, or nothing where they are none, and the end of the line.
+    /// A point and `digits` digits of `n`, or nothing where `digits` is 0, and the end of the line.
     #[tactic(auto, unfolding(crate::specs::Numbers::fraction_end))]
     pub(crate) fn fraction_end(n: u32, digits: u8) -> ShortText
         requires three_digits { digits ≤ 3 }
@@ -86,7 +86,7 @@ impl ShortText {
         ShortText::of(&line)
     }
 
-    /// The text with bytes behind it, and how many are its own.
+    /// The text with bytes after it, and how many are its own.
     pub(crate) fn padded(&self) -> (&[u8; 8], usize)
         ensures text { take result.1 result.0.now ≡ self.now }
         ensures length { result.1 ≤ 8 }
@@ -118,7 +118,7 @@ pub(crate) fn put_number(buffer: &mut OutBuffer, n: u64)
     buffer.put_all(digits.format(n).as_bytes());
 }
 
-/// Puts so many zeros.
+/// Puts this many zeros.
 fn put_zeros(buffer: &mut OutBuffer, zeros: usize)
     requires room { length buffer.old + 9 ≤ 65536 }
     requires nine_zeros { zeros ≤ 9 }
@@ -149,7 +149,7 @@ fn put_fraction(buffer: &mut OutBuffer, n: u64, decimals: u8)
 }
 
 /// Puts the size of a value in units of `10^-decimals`.
-#[tactic(auto, using(crate::proofs::Lengths::numbers), unfolding(crate::specs::Text::size_text))]
+#[tactic(auto, using(fdr_line::proofs::Lengths::numbers), unfolding(crate::specs::Text::size_text))]
 pub(crate) fn put_long_size(buffer: &mut OutBuffer, size: u64, decimals: u8)
     requires room { length buffer.old + 60 ≤ 65536 }
     requires nine_decimals { decimals ≤ 9 }

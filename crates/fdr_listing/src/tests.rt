@@ -28,7 +28,7 @@ fn writes_values(rt: HostRuntime) {
     }
 }
 
-#[tactic(auto, using(crate::proofs::Lengths::numbers))]
+#[tactic(auto, using(fdr_line::proofs::Lengths::numbers))]
 #[test]
 fn writes_lines(rt: HostRuntime) -> Result<(), Fail> {
     let name = Name::new(b"VRTG").ok_or("name")?;

@@ -1,12 +1,12 @@
 ghost use Rattle.std.specs.Prelude.{◌≡◌, ◌≤◌, ◌<◌, ◌++◌, ◌+◌, ◌^◌, ℕ, length, replicate};
 ghost use Rattle.fdr_listing.specs.Text.{gap_text, row_text, size_text, fraction_text, value_text as value_bytes};
 
-use crate::line::Line;
+use fdr_line::Line;
 use fdr_recon::Row;
 use fdr_table::Name;
 
 /// The line `gap,AT,BITS` of a gap that begins at bit `at` and has `bits` bits.
-#[tactic(auto, using(crate::proofs::Lengths::numbers), unfolding(crate::specs::Text::gap_text))]
+#[tactic(auto, using(fdr_line::proofs::Lengths::numbers), unfolding(crate::specs::Text::gap_text))]
 pub fn gap_line(at: u64, bits: u64) -> Line
     ensures { result ≡ gap_text at bits }
 {
@@ -29,7 +29,7 @@ pub(crate) fn unit(decimals: u8) -> u64
     10u64.pow(u32::from(decimals))
 }
 
-/// Adds so many zeros.
+/// Adds this many zeros.
 fn add_zeros(line: &mut Line, zeros: usize)
     requires room { length line.old ≤ 81 }
     requires nine_zeros { zeros ≤ 9 }
@@ -60,7 +60,7 @@ pub(crate) fn add_fraction(line: &mut Line, n: u64, decimals: u8)
 }
 
 /// Adds the size of a value in units of `10^-decimals`.
-#[tactic(auto, using(crate::proofs::Lengths::numbers), unfolding(crate::specs::Text::size_text))]
+#[tactic(auto, using(fdr_line::proofs::Lengths::numbers), unfolding(crate::specs::Text::size_text))]
 fn add_size(line: &mut Line, size: u64, decimals: u8)
     requires room { length line.old ≤ 60 }
     requires nine_decimals { decimals ≤ 9 }
@@ -88,7 +88,7 @@ pub fn value_text(v: i64, decimals: u8) -> Line
 }
 
 /// The line `row,COUNTER,SUBFRAME,WORD,NAME,VALUE` of a row of the parameter with this name and number of decimals.
-#[tactic(auto, using(crate::proofs::Lengths::numbers), unfolding(crate::specs::Text::row_text))]
+#[tactic(auto, using(fdr_line::proofs::Lengths::numbers), unfolding(crate::specs::Text::row_text))]
 pub fn row_line(r: &Row, name: &Name, decimals: u8) -> Line
     requires nine_decimals { decimals ≤ 9 }
     requires counter { r.now.counter < 4096 }

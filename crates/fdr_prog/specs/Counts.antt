@@ -12,13 +12,13 @@ pub record Counts : Type 0 where
   pub extent : ℕ
   pub announced : Announced
   pub taken : ℕ
-  pub before : ℕ
+  pub pulled_before : ℕ
   pub disk_faults : ℕ
-  pub line_faults : ℕ
+  pub input_faults : ℕ
 
--- neither the line nor the disk is told
+-- neither the input nor the disk is told
 abbrev pub telling_nothing : Tells
-telling_nothing = record { line = false; bytes = false; stops = false }
+telling_nothing = record { input = false; bytes = false; stops = false }
 
 abbrev pub counts_state : Counts → State
 counts_state c = record {
@@ -27,14 +27,14 @@ counts_state c = record {
   may_leave = λ image. ⊥;
   clock = 0;
   since = λ t m. ⊥;
-  told = c.announced.told;
+  announced = c.announced.number;
   least = least_announced c.announced;
   greatest = greatest_announced c.announced;
-  line = [];
+  input = [];
   taken = c.taken;
-  before = c.before;
+  pulled_before = c.pulled_before;
   disk_faults = c.disk_faults;
-  line_faults = c.line_faults;
+  input_faults = c.input_faults;
 }
 
 pub counts_are_sound : (c : Counts) → IsSoundDeck telling_nothing (counts_state c)
@@ -42,8 +42,8 @@ counts_are_sound c = record {
   stops_need_bytes = λ told. told;
   size = λ told. absurd (false≢true told);
   held = λ told. absurd (false≢true told);
-  least = min-le_right c.announced.least c.announced.told;
-  greatest = le-max_right c.announced.greatest c.announced.told;
+  least = min-le_right c.announced.least c.announced.number;
+  greatest = le-max_right c.announced.greatest c.announced.number;
   only_now = λ told m since. absurd since;
   counts_now = λ told m leaves same pulled. leaves;
   falls = λ told earlier t m le now since. since;

@@ -15,7 +15,7 @@ pub const AHEAD: usize = 65536;
 /// slots alone stand farther apart, and what is between them isn't asked for.
 const NEAR: u64 = 512;
 
-/// A line of input that is read as it is pulled, or ahead of that. It never waits for more than one read gives.
+/// An input that is read as it is pulled, or ahead of that. It never waits for more than one read gives.
 #[derive(Drop)]
 pub enum LineReader<L: Read + Drop> {
     /// What a pull doesn't ask for stays with the reader.

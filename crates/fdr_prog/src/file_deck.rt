@@ -1,4 +1,4 @@
-//! The deck over a line of input and a file.
+//! The deck over an input and a file.
 
 ghost use Rattle.std.specs.Prelude.{◌≡◌, ⊤};
 ghost use Rattle.fdr_deck.specs.Announced.{least_announced, greatest_announced};
@@ -15,17 +15,17 @@ use std::io::{ErrorKind, Read, Write};
 use std::marker::Model;
 use std::rt::Files;
 
-// The line comes in pieces of a page.
+// The input comes in pieces of a page.
 const PIECE: usize = 4096;
 
 /// The line of an announcement, `ack COUNT`, which goes out in one write.
-#[tactic(auto, using(fdr_listing::proofs::Lengths::numbers))]
+#[tactic(auto, using(fdr_line::proofs::Lengths::numbers))]
 pub fn ack_line(count: u64) -> Line {
-    let mut line = Line::new();
-    line.add(b"ack ");
-    line.add_number(count);
-    line.add(b"\n");
-    line
+    let mut input = Line::new();
+    input.add(b"ack ");
+    input.add_number(count);
+    input.add(b"\n");
+    input
 }
 
 /// The deck of a program: its disk is a file, its line a reader such as standard input, and its announcements are lines
@@ -33,13 +33,13 @@ pub fn ack_line(count: u64) -> Line {
 #[derive(Drop)]
 pub struct FileDeck<'a, R: Files<File = File>, L: Read + Drop, A: Write + Drop> {
     image: ImageFile<'a, R>,
-    line: L,
+    input: L,
     acknowledgements: A,
     announced: Announced,
     taken: u64,
-    before: u64,
+    pulled_before: u64,
     disk_faults: u64,
-    line_faults: u64,
+    input_faults: u64,
 }
 
 impl<'a, R: Files<File = File>, L: Read + Drop, A: Write + Drop> Model for FileDeck<'a, R, L, A> {
@@ -51,33 +51,33 @@ impl<'a, R: Files<File = File>, L: Read + Drop, A: Write + Drop> Model for FileD
       extent = d.image;
       announced = d.announced;
       taken = d.taken;
-      before = d.before;
+      pulled_before = d.pulled_before;
       disk_faults = d.disk_faults;
-      line_faults = d.line_faults;
+      input_faults = d.input_faults;
     } };
 }
 
 impl<'a, R: Files<File = File>, L: Read + Drop, A: Write + Drop> FileDeck<'a, R, L, A> {
-    /// A deck over this file, whose line is what this reader gives.
-    pub fn new(image: ImageFile<'a, R>, line: L, acknowledgements: A) -> Self
+    /// A deck over this file, whose input is what this reader gives.
+    pub fn new(image: ImageFile<'a, R>, input: L, acknowledgements: A) -> Self
         ensures extent { result.extent ≡ image.entry }
-        ensures told { result.announced.told ≡ 0 }
+        ensures announced { result.announced.number ≡ 0 }
         ensures least { least_announced result.announced ≡ 0 }
         ensures greatest { greatest_announced result.announced ≡ 0 }
         ensures taken { result.taken ≡ 0 }
-        ensures before { result.before ≡ 0 }
+        ensures pulled_before { result.pulled_before ≡ 0 }
         ensures disk_faults { result.disk_faults ≡ 0 }
-        ensures line_faults { result.line_faults ≡ 0 }
+        ensures input_faults { result.input_faults ≡ 0 }
     {
         FileDeck {
             image,
-            line,
+            input,
             acknowledgements,
             announced: Announced::new(),
             taken: 0,
-            before: 0,
+            pulled_before: 0,
             disk_faults: 0,
-            line_faults: 0,
+            input_faults: 0,
         }
     }
 
@@ -135,12 +135,12 @@ impl<R: Files<File = File>, L: Read + Drop, A: Write + Drop> Deck for FileDeck<'
     fn pull(&mut self, buf: &mut [u8]) -> Result<usize, Failed> {
         self.announced.begin_anew();
         let room = buf.len().min(PIECE);
-        let read = read_on(&mut self.line, &mut buf[..room]);
-        let n = count(&mut self.line_faults, read)?;
+        let read = read_on(&mut self.input, &mut buf[..room]);
+        let n = count(&mut self.input_faults, read)?;
         let sum = self.taken.checked_add(n as u64);
-        let taken = count(&mut self.line_faults, sum.ok_or(ErrorKind::Other.into()))?;
+        let taken = count(&mut self.input_faults, sum.ok_or(ErrorKind::Other.into()))?;
         if n > 0 {
-            self.before = self.taken;
+            self.pulled_before = self.taken;
         }
         self.taken = taken;
         Ok(n)

@@ -48,7 +48,7 @@ fn image_of<'a>(rt: &'a HostRuntime, request: &'a Request) -> ImageFile<'a, Host
     }
 }
 
-/// The line of a command: one that records reads no further than it pulls.
+/// The input of a command: one that records reads no further than it pulls.
 fn line_of(rt: &HostRuntime, request: &Request) -> LineReader<Stdin> {
     match BufReader::with_capacity(rt.alloc(), AHEAD, rt.stdin()) {
         Ok(line) if !request.writes() => LineReader::Ahead(line),

@@ -68,7 +68,7 @@ pub fn read_on<L: Read>(reader: &mut L, buf: &mut [u8]) -> io::Result<usize>
 pub fn count<T: Drop>(faults: &mut u64, outcome: io::Result<T>) -> Result<T, Failed>
     ensures value { IfOk result (λ x. outcome ≡ Ok x) }
     ensures failed { OnErr result (IsErr outcome) }
-    ensures quiet { OnOk result (faults.new ≡ faults.old) }
+    ensures no_fault { OnOk result (faults.new ≡ faults.old) }
     ensures counted { OnErr result (faults.new ≡ next_count faults.old) }
     ensures monotone { faults.old ≤ faults.new }
 {

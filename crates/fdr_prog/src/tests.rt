@@ -46,7 +46,7 @@ fn read_eight<D: Deck>(deck: &mut D, at: u64) -> Result<[u8; 8], Failed> {
 
 const SIZE: u64 = 4100;
 
-// The calls of a deck stand in functions without clauses, so that the tests are proved without those of a deck.
+// The calls of a deck are in functions without clauses, so that the tests are proved without those of a deck.
 
 fn make_some<D: Deck>(deck: &mut D) -> Result<(), Failed> {
     deck.provide(SIZE)
@@ -61,7 +61,7 @@ fn announce_some<D: Deck>(deck: &mut D) {
     deck.announce(281_474_976_710_656);
 }
 
-// Two bytes over the border of a page, and what stands around them then.
+// Two bytes over the border of a page, and what is around them then.
 fn store_some<D: Deck>(deck: &mut D) -> Result<[u8; 4], Failed> {
     if deck.size()? < SIZE {
         return Err(Failed);
@@ -73,7 +73,7 @@ fn store_some<D: Deck>(deck: &mut D) -> Result<[u8; 4], Failed> {
     Ok(bytes)
 }
 
-// Without a line, and with announcements that nobody reads.
+// Without an input, and with announcements that nobody reads.
 fn deck_over<'a, R: Files<File = File>>(
     files: &'a R,
     path: &'a str,

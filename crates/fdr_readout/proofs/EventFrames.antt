@@ -27,7 +27,7 @@ All_behind : {X : Type 0} (P : X → Type 0) (xs ys : List X) → All P (xs ++ y
 All_behind P [] ys all = all
 All_behind P (x ∷ xs) ys all = All_behind P xs ys (All-tail P x (xs ++ ys) all)
 
--- the elements before one of a list, and those behind it
+-- the elements before one of a list, and those after it
 pairs_before : {X : Type 0} (R : X → X → Type 0) (xs : List X) (a : X) (ys : List X) → AllPairs R (xs ++ a ∷ ys) → All (λ x. R x a) xs
 pairs_before R [] a ys pairs = All-nil (λ x. R x a)
 pairs_before R (x ∷ xs) a ys pairs =
@@ -109,7 +109,7 @@ module _ (t : TableRows) (b : List ℕ) (taken es : List Event) (e : Event) (aft
       (append-nil (entries_at t b e) ∙ sym (entries_as_read t b (taken ++ es) e after read count ahead as_read))
       ∙ append_assoc (entries_in t b taken) entries (event_entries t read e)
 
-  -- and those behind it
+  -- and those after it
   pub entries_rest : entries_of t b ≡ (entries_in t b taken ++ (entries ++ event_entries t read e)) ++ entries_in t b after
   unfolding entries_of
   entries_rest =

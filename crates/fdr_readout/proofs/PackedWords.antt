@@ -8,7 +8,7 @@ use Rattle.fdr_bits.proofs.WordLemmas.{number_of-same, number_of-bits}
 use Rattle.fdr_sampler.specs.Stream.{packed}
 use Rattle.fdr_sampler.proofs.Packing.{IsWord, length-packed, bit_at-packed}
 
--- a word's bits stand in the bytes from bit 12 k on
+-- a word's bits are in the bytes from bit 12 k on
 word_bits : (words : List ℕ) (k j : ℕ) → k < length words → j < 12 → bit_at (packed words) (12 * k + j) ≡ nat_bit (slice_index words k) j
 word_bits words k j within few =
     let at : (12 * k + j) / 12 ≡ k = omega arith in

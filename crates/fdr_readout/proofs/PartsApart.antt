@@ -1,4 +1,4 @@
--- A part of a slot's word reads back, where each other part of the word stands apart from it.
+-- A part of a slot's word reads back, where each other part of the word is apart from it.
 use Rattle.std.proofs.Common.{◌≡◌, ℕ, ◌+◌, ◌/◌, ◌%◌, ◌^◌, ◌<◌, ◌≤◌, ◌⊎◌, zero, suc, List, [], ◌∷◌, fold, length, get_or, sym, ap, ◌∙◌, subst, inl, inr, ⊎_elim}
 use Rattle.std.proofs.Common.{arith}
 use Rattle.std.specs.Prelude.{All, Contains}
@@ -25,7 +25,7 @@ carries_itself : (value : ℕ → ℕ) (word : ℕ) (a : SlotPart) → Carries v
 unfolding Carries
 carries_itself value word a = field_of-with_field word (a.part.at % 12) a.part.width (piece_of (value a.sample) a.part) (piece_fits value a)
 
--- parts that stand apart in one slot share no bit of its word
+-- parts that are apart in one slot share no bit of its word
 bits_apart : (a b : SlotPart) → b.part.at / 12 ≡ a.part.at / 12 → AreApart a b →
     (a.part.at % 12 + a.part.width ≤ b.part.at % 12) ⊎ (b.part.at % 12 + b.part.width ≤ a.part.at % 12)
 bits_apart a b slot apart =

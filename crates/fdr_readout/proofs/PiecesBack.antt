@@ -1,6 +1,6 @@
 -- Each piece of a sample's raw value reads back from the word of its slot, and the pieces make up the value.
-use Rattle.std.proofs.Common.{◌≡◌, ℕ, ◌+◌, ◌-◌, ◌*◌, ◌/◌, ◌%◌, ◌^◌, ◌<◌, ◌==◌, List, get_or, sum_by, Some, refl, sym, ap, ◌∙◌, subst, arith}
-use Rattle.std.specs.Prelude.{All, Contains, slice_get, Option, None}
+use Rattle.std.proofs.Common.{◌≡◌, ℕ, ◌+◌, ◌-◌, ◌*◌, ◌/◌, ◌%◌, ◌^◌, ◌<◌, ◌==◌, List, get_or, sum_by, Some, lit<, refl, sym, ap, ◌∙◌, subst, arith}
+use Rattle.std.specs.Prelude.{All, Contains, IsTrue, Bool, true, false, if◌then◌else◌, is_some, slice_get, Option, None}
 use Rattle.std.specs.Option.{option_map_or}
 use Rattle.std.specs.List.{range_with_len, enumerate_from}
 use Rattle.std.proofs.lemmas.Nat.{mod_below, pow_pos}
@@ -14,7 +14,7 @@ use Rattle.fdr_check.specs.Occurrences.{frame_bits}
 use Rattle.fdr_layout.specs.Samples.{Part, Sample, samples, ending_in}
 use Rattle.fdr_layout.proofs.ByLastPart.{ending_at}
 use Rattle.fdr_layout.proofs.SlotLemmas.{parts_of_slot_hold}
-use Rattle.fdr_sampler.specs.Held.{Source, source_of, held_record, raw_of_record, raw_value, first_part_slot}
+use Rattle.fdr_sampler.specs.Held.{Source, HeldWord, source_of, held_word, is_fresh, field_held, raw_of_held, raw_value, first_part_slot}
 use Rattle.fdr_sampler.specs.SlotWord.{numbered_value, piece_of, data_word}
 use Rattle.fdr_sampler.proofs.Lists.{Contains-map, Contains-filter, Contains-flat_map, Contains-range, Contains-enumerate}
 use Rattle.fdr_sampler.proofs.DataWords.{IsWithin}
@@ -74,17 +74,31 @@ part_placed t n s p h got here = All-contains (λ (a : SlotPart). IsPlaced t.fra
 -- ---- the raw value
 
 -- a raw value is below 2 to the power of its width
-raw_of-below : (s : Source) (held : Option BusRecord) → raw_of_record s held < 2 ^ s.width
-raw_of-below s None = pow_pos s.width
-raw_of-below s (Some r) = mod_below (r.word / 2 ^ (s.lsb - 1)) (2 ^ s.width) (pow_pos s.width)
+field-below : (s : Source) (held : Option HeldWord) → field_held s held < 2 ^ s.width
+field-below s None = pow_pos s.width
+field-below s (Some h) = mod_below (h.word / 2 ^ (s.lsb - 1)) (2 ^ s.width) (pow_pos s.width)
 
-raw_value-below : (t : TableRows) (records : List BusRecord) (start : ℕ) (s : Sample) (p : ParamRow) → slice_get t.params s.param ≡ Some p
+raw-below : (tells aged fresh : Bool) (field width : ℕ) → field < 2 ^ width → (IsTrue tells → width ≡ 1)
+    → (if tells then (if fresh then 1 else 0) else if aged then (if fresh then field else 2 ^ width - 1) else field) < 2 ^ width
+raw-below true aged true field width low one = subst (λ n. 1 < 2 ^ n) (sym (one refl)) (lit< tt)
+raw-below true aged false field width low one = pow_pos width
+raw-below false true true field width low one = low
+raw-below false true false field width low one = let some = pow_pos width in omega arith
+raw-below false false fresh field width low one = low
+
+raw_of-below : (w : ℕ) (s : Source) (k : ℕ) (held : Option HeldWord) → (IsTrue s.tells → s.width ≡ 1) → raw_of_held w s k held < 2 ^ s.width
+unfolding raw_of_held
+raw_of-below w s k held one = raw-below s.tells (is_some s.age) (is_fresh w s k held) (field_held s held) s.width (field-below s held) one
+
+raw_value-below : (t : TableRows) (records : List BusRecord) (start : ℕ) (s : Sample) (p : ParamRow) → IsRecordable t → slice_get t.params s.param ≡ Some p
     → raw_value t records start s < 2 ^ p.width
 unfolding raw_value
-raw_value-below t records start s p got =
-    subst (λ (o : Option ParamRow). option_map_or (λ (p : ParamRow). raw_of_record (source_of p)
-    (held_record t.frame.words (source_of p) records (start + first_part_slot s))) o 0 < 2 ^ p.width) (sym got)
-    (raw_of-below (source_of p) (held_record t.frame.words (source_of p) records (start + first_part_slot s)))
+raw_value-below t records start s p h got =
+    let w = t.frame.words in
+    let k = start + first_part_slot s in
+    subst (λ (o : Option ParamRow). option_map_or (λ (p : ParamRow). raw_of_held w (source_of p) k (held_word w (source_of p) records k)) o 0 < 2 ^ p.width)
+    (sym got)
+    (raw_of-below w (source_of p) k (held_word w (source_of p) records k) (h.telling s.param p got))
 
 -- bits of parts that are the pieces of a sample's raw value make it up
 pub pieces_make_up : (t : TableRows) (records : List BusRecord) (start n : ℕ) (s : Sample) (bits : Part → ℕ) → IsRecordable t → slice_get (samples t) n ≡ Some s
@@ -97,7 +111,7 @@ pieces_make_up t records start n s bits h got each =
     sum_by-agree (λ (p : Part). bits p * 2 ^ p.shift) (λ (p : Part). piece_of raw p * 2 ^ p.shift) s.parts
     (All-weaker (λ (p : Part). bits p ≡ piece_of raw p) (λ (p : Part). bits p * 2 ^ p.shift ≡ piece_of raw p * 2 ^ p.shift)
     (λ p is. ap (λ b. b * 2 ^ p.shift) is) s.parts each)
-    ∙ param.2 raw (raw_value-below t records start s param.0 param.1)
+    ∙ param.2 raw (raw_value-below t records start s param.0 h param.1)
 
 -- ---- a sample that ends in a cycle is one of the table's
 

@@ -1,4 +1,4 @@
--- The listing of a recording's bytes has its sampled rows and at most one gap, behind them.
+-- The listing of a recording's bytes has its sampled rows and at most one gap, after them.
 use Rattle.std.proofs.Common.{◌≡◌, ℕ, zero, suc, ◌+◌, ◌*◌, ◌<◌, List, ◌++◌, sym, ap, ◌∙◌, arith}
 use Rattle.std.specs.List.{range_with_len, flat_map}
 use Rattle.std.proofs.lemmas.List.{append_assoc}

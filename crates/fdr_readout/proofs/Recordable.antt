@@ -1,5 +1,5 @@
 -- The tables whose samples can be read back from their frames.
-use Rattle.std.specs.Prelude.{◌≡◌, ℕ, ◌+◌, ◌*◌, ◌/◌, ◌%◌, ◌^◌, ◌<◌, ◌≤◌, ◌⊎◌, List, Some, All, Contains, slice_get, sum_by}
+use Rattle.std.specs.Prelude.{◌≡◌, ℕ, ◌+◌, ◌*◌, ◌/◌, ◌%◌, ◌^◌, ◌<◌, ◌≤◌, ◌⊎◌, List, Some, All, Contains, IsTrue, slice_get, sum_by}
 use Rattle.fdr_frame.specs.declared.SlotKind.TheVariants.{Plain}
 use Rattle.fdr_frame.specs.Slots.{kind_of}
 use Rattle.fdr_frame.specs.WordCount.{IsWordCount}
@@ -31,3 +31,4 @@ pub record IsRecordable (t : TableRows) : Type 0 where
   pub placed : All (λ (a : SlotPart). IsPlaced t.frame a.part) (all_parts t)
   pub apart : (a b : SlotPart) → Contains (all_parts t) a → Contains (all_parts t) b → (b ≡ a) ⊎ AreApart a b
   pub whole : (n : ℕ) (s : Sample) → slice_get (samples t) n ≡ Some s → (p : ParamRow) × (slice_get t.params s.param ≡ Some p) × AreWhole p s.parts
+  pub telling : (n : ℕ) (p : ParamRow) → slice_get t.params n ≡ Some p → IsTrue p.tells → p.width ≡ 1

@@ -12,14 +12,14 @@ use Rattle.fdr_lists.proofs.Ranges.{list_all-range}
 
 -- Frame n of those that were read is frame j of the recording, and so are the d frames before it: they have the words of the
 -- recording's slots, and each but the first of them begins where the one before it ends.
-pub record AreRecorded (t : TableRows) (records : List BusRecord) (frames : List ReadFrame) (n j d : ℕ) : Type 0 where
+pub record AddsToRun (t : TableRows) (records : List BusRecord) (frames : List ReadFrame) (n j d : ℕ) : Type 0 where
   pub read : d ≤ n
   pub recorded : d ≤ j
   pub words : (e place : ℕ) → e ≤ d → place < 4 * t.frame.words →
       slice_index (frame_at frames (n - e)).words place ≡ slot_word t records (4 * t.frame.words * (j - e) + place)
   pub adjacent : (e : ℕ) → e < d → (frame_at frames (n - e)).adjacent ≡ true
 
-module _ (t : TableRows) (records : List BusRecord) (frames : List ReadFrame) (n j d : ℕ) (h : IsRecordable t) (are : AreRecorded t records frames n j d) where
+module _ (t : TableRows) (records : List BusRecord) (frames : List ReadFrame) (n j d : ℕ) (h : IsRecordable t) (are : AddsToRun t records frames n j d) where
   -- the counter of the frame that stands e before frame n
   pub recorded_counter : (e : ℕ) → e ≤ d → counter_in t.frame (frame_at frames (n - e)).words ≡ (j - e) % 4096
   recorded_counter e near = are.words e (counter_place t.frame) near (counter_place-within t h) ∙ slot_word-counter t records (j - e) h

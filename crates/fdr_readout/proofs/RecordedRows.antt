@@ -22,11 +22,11 @@ use Rattle.fdr_readout.specs.SampledRows.{superframe_start, sampled_row, sampled
 use Rattle.fdr_readout.specs.Survival.{AreAmong, sampled_since}
 use Rattle.fdr_readout.proofs.SlotKinds.{slot_word-plain}
 use Rattle.fdr_readout.proofs.Among.{among_filtered}
-use Rattle.fdr_readout.proofs.Recorded.{AreRecorded, recorded_counter, recorded_cycle, recorded_joined}
+use Rattle.fdr_readout.proofs.Recorded.{AddsToRun, recorded_counter, recorded_cycle, recorded_joined}
 use Rattle.fdr_readout.proofs.PiecesBack.{data_word-piece, part_placed, pieces_make_up, ending_in-samples, contained_get}
 use Rattle.fdr_lists.proofs.Filters.{map-agree}
 
--- the slot of a place of the frame that stands as many before frame j as cycle c does before that of frame j
+-- the slot of a place of the frame that is as many before frame j as cycle c does before that of frame j
 slot_back : (w j c q : ℕ) → c ≤ j % 16 → 4 * w * (j - (j % 16 - c)) + q ≡ 64 * w * (j / 16) + (4 * w * c + q)
 slot_back w j c q low =
     let back : j - (j % 16 - c) ≡ 16 * (j / 16) + c = omega arith in
@@ -44,7 +44,7 @@ filter_map-some : {X Y : Type 0} (g : X → Y) (xs : List X) → filter_map (λ 
 filter_map-some g [] = refl
 filter_map-some g (x ∷ xs) = ap (λ ys. g x ∷ ys) (filter_map-some g xs)
 
-module _ (t : TableRows) (records : List BusRecord) (frames : List ReadFrame) (n j d : ℕ) (h : IsRecordable t) (are : AreRecorded t records frames n j d) where
+module _ (t : TableRows) (records : List BusRecord) (frames : List ReadFrame) (n j d : ℕ) (h : IsRecordable t) (are : AddsToRun t records frames n j d) where
   -- the word of a part is that of its slot in the superframe of frame j
   part_word : (k : ℕ) (s : Sample) (p : Part) → slice_get (samples t) k ≡ Some s → Contains s.parts p →
       cycle_of t.frame.words p.at ≤ j % 16 → j % 16 - cycle_of t.frame.words p.at ≤ d →

@@ -111,7 +111,7 @@ module _ (t : TableRows) (records : List BusRecord) (b : List ℕ) (q j m : ℕ)
       let there : 48 * w * j + (48 * w * i + x) ≡ 48 * w * (j + i) + x = omega arith in
       ap (bit_at b) here ∙ survives.stand.same (48 * w * i + x) (omega (arith, frame_fits i early)) ∙ ap (bit_at (stream_of t records)) there
 
-  -- so a frame stands there
+  -- so a frame is there
   pub run_position : (i : ℕ) → i < m → IsFramePosition b t.frame.words (q + 48 * t.frame.words * i)
   run_position i early =
       let w = t.frame.words in
@@ -175,7 +175,7 @@ module _ (t : TableRows) (records : List BusRecord) (b : List ℕ) (q j m : ℕ)
         here = λ later. refl;
       }
 
-  -- the accepted frames: those before the run, its frames one behind the other, and those behind it
+  -- the accepted frames: those before the run, its frames one after the other, and those after it
   pub run_accepted :
       accepted_frames b t.frame.words
       ≡ run_reached.frames ++ frames_from t.frame.words q m ++ accepted_from b t.frame.words (q + 48 * t.frame.words * (m - 1) + 48 * t.frame.words)

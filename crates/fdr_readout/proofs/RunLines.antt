@@ -50,7 +50,7 @@ module _ (t : TableRows) (records : List BusRecord) (b : List ℕ) (q j m : ℕ)
       ∙ ap (λ (lines : List ℕ). lines_at t b p ++ lines) (lines_from_run (i + 1) d (omega arith))
       ∙ sym (append_assoc (lines_at t b p) (flat_map (lines_at t b) (map (λ k. q + 48 * w * k) (range_with_len (i + 1) d))) _)
 
-  -- the lines of the run stand together in the listing
+  -- the lines of the run are together in the listing
   pub run_lines : (front : List ℕ) × (back : List ℕ) × (listing_of t b ≡ front ++ flat_map (lines_at t b) (frames_from t.frame.words q m) ++ back)
   unfolding listing_of lines_from
   run_lines =

@@ -17,7 +17,7 @@ use Rattle.fdr_readout.specs.Survival.{Survives, frames_from, AreAcceptedInARow,
 use Rattle.fdr_readout.proofs.Recordable.{IsRecordable}
 use Rattle.fdr_readout.proofs.RecordedWords.{word_at-stream}
 use Rattle.fdr_readout.proofs.StreamFrames.{frame_place, slot_within_frames}
-use Rattle.fdr_readout.proofs.Recorded.{AreRecorded, recorded_joined}
+use Rattle.fdr_readout.proofs.Recorded.{AddsToRun, recorded_joined}
 use Rattle.fdr_readout.proofs.RecordedRows.{recorded_rows, recorded_since}
 use Rattle.fdr_readout.proofs.RunFrames.{run_reached, run_bit, run_accepted, accepted_to_run, run_adjacent}
 
@@ -26,7 +26,7 @@ module _ (t : TableRows) (records : List BusRecord) (b : List ℕ) (q j m : ℕ)
   before_run : List ℕ
   before_run = (run_reached t records b q j m h survives).frames
 
-  -- frame i of the run as it is read, with frames before and behind
+  -- frame i of the run as it is read, with frames before and after
   frame_at-run : (i k : ℕ) (rest : List ℕ) → i < k →
       frame_at (map (frame_read b t.frame.words) (before_run ++ frames_from t.frame.words q k ++ rest)) (length before_run + i)
       ≡ frame_read b t.frame.words (q + 48 * t.frame.words * i)
@@ -63,7 +63,7 @@ module _ (t : TableRows) (records : List BusRecord) (b : List ℕ) (q j m : ℕ)
 
   -- so it is read as it was recorded, and so are those of the run before it
   run_recorded : (i k : ℕ) (rest : List ℕ) → i < k → k ≤ m →
-      AreRecorded t records (map (frame_read b t.frame.words) (before_run ++ frames_from t.frame.words q k ++ rest)) (length before_run + i) (j + i) i
+      AddsToRun t records (map (frame_read b t.frame.words) (before_run ++ frames_from t.frame.words q k ++ rest)) (length before_run + i) (j + i) i
   run_recorded i k rest early within =
       let w = t.frame.words in
       let frames = map (frame_read b w) (before_run ++ frames_from w q k ++ rest) in

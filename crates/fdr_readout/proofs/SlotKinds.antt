@@ -1,4 +1,4 @@
--- The word of a slot of a recording, by what stands in the slot.
+-- The word of a slot of a recording, by what is in the slot.
 use Rattle.std.proofs.Common.{◌≡◌, ℕ, ◌+◌, ◌-◌, ◌*◌, ◌%◌, ◌<◌, List, ap, ◌∙◌, arith}
 use Rattle.std.proofs.lemmas.Nat.{mul-add-lt}
 use Rattle.fdr_bus.specs.declared.BusRecord.{BusRecord}

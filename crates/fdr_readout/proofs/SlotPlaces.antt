@@ -1,4 +1,4 @@
--- What stands in a slot, by its place.
+-- What is in a slot, by its place.
 use Rattle.std.proofs.Common.{◌≡◌, ℕ, ◌+◌, ◌-◌, ◌*◌, ◌/◌, ◌%◌, ◌<◌, ◌≤◌, ap, ◌∙◌, arith}
 use Rattle.std.proofs.lemmas.Bool.{eq-eqb, ne_eqb, and_from, cond-true, cond-false}
 use Rattle.fdr_frame.specs.declared.SlotKind.TheVariants.{Sync, Counter}

@@ -1,4 +1,4 @@
--- The occurrences of a sound table's places share no bit, and stand in words of data.
+-- The occurrences of a sound table's places share no bit, and are in words of data.
 use Rattle.std.proofs.Common.{◌≡◌, ◌≢◌, ℕ, ◌+◌, ◌-◌, ◌*◌, ◌/◌, ◌%◌, ◌<◌, ◌≤◌, ◌⊎◌, inl, inr, ⊎_elim, true, false, eqb, List, get_or, eqb-true, sym, ap, ◌∙◌}
 use Rattle.std.proofs.Common.{subst, arith}
 use Rattle.std.specs.Prelude.{◌&&◌, ◌==◌, nat_le, nat_lt, All, AllPairs, Contains, filter}

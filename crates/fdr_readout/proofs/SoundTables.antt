@@ -1,12 +1,12 @@
 -- The samples of a sound table can be read back from their frames.
 use Rattle.std.proofs.Common.{◌≡◌, ℕ, ◌+◌, ◌%◌, ◌<◌, ◌≤◌, ◌⊎◌, inl, inr, ⊎_elim, List, Option, Some, None, get_or, refl, sym, ap, ◌∙◌, subst, arith}
-use Rattle.std.specs.Prelude.{All, AllPairs, Contains, slice_get, option_map}
+use Rattle.std.specs.Prelude.{All, AllPairs, Contains, IsTrue, slice_get, option_map}
 use Rattle.std.specs.List.{range_with_len, enumerate_from}
 use Rattle.std.proofs.lemmas.Bool.{cases_order}
 use Rattle.std.proofs.lemmas.Option.{slice_get_within, get_or_from_slice_get, same_Some}
 use Rattle.std.proofs.lemmas.List.Elements.{All-map, All-weaker, All-contains}
 use Rattle.std.proofs.Math.Nat.{mod-eq_of_lt}
-use Rattle.fdr_table.specs.Ranges.{IsInRange}
+use Rattle.fdr_table.specs.Ranges.{IsParamInRange, IsInRange}
 use Rattle.fdr_table.specs.Rows.{ParamRow, TableRows}
 use Rattle.fdr_layout.specs.SlotParts.{SlotPart, parts_of_sample, parts_among, all_parts}
 use Rattle.fdr_check.specs.Occurrences.{Occurrence, part_occurrences, shift_of}
@@ -145,7 +145,7 @@ two_of R xs i j x y pairs before at_i at_j =
 turned : (o e : Occurrence) → OccurrencesApart o e → OccurrencesApart e o
 turned o e apart = ⊎_elim (λ below. inr below) (λ above. inl above) apart
 
--- parts of one number of one parameter are those of two samples that stand apart, or the same
+-- parts of one number of one parameter are those of two samples that are apart, or the same
 same_part : (t : TableRows) (a b : SlotPart) → IsInRange t → IsSound t → (first : IsFrom t a) (second : IsFrom t b) →
     first.sample.param ≡ second.sample.param → first.number ≡ second.number → (b ≡ a) ⊎ AreApart a b
 same_part t a b range sound first second param number =
@@ -221,6 +221,12 @@ samples_whole t n s range sound stands =
     let h : IsSampleOf t.params s = subst (IsSampleOf t.params) (get_or_from_slice_get (samples t) n s s stands) (samples_sound t range sound n s within) in
     (h.param, h.found, sample_whole t s h)
 
+-- a parameter that tells freshness has one bit
+telling_bit : (t : TableRows) (n : ℕ) (p : ParamRow) → IsInRange t → slice_get t.params n ≡ Some p → IsTrue p.tells → p.width ≡ 1
+telling_bit t n p range got =
+    let here : IsParamInRange p = subst IsParamInRange (get_or_from_slice_get t.params n p p got) (range.params n p (slice_get_within t.params n p got)) in
+    here.tells_width
+
 -- the samples of a sound table can be read back from their frames
 pub sound_recordable : (t : TableRows) → IsInRange t → IsSound t → IsRecordable t
 sound_recordable t range sound = record {
@@ -232,4 +238,5 @@ sound_recordable t range sound = record {
   placed = All-weaker (IsFrom t) (λ (a : SlotPart). IsPlaced t.frame a.part) (λ a from. part_is_placed t a range sound from) (all_parts t) (all_from t);
   apart = λ a b at_a at_b. parts_same_or_apart t a b range sound at_a at_b;
   whole = λ n s stands. samples_whole t n s range sound stands;
+  telling = λ n p got. telling_bit t n p range got;
 }

@@ -1,4 +1,4 @@
--- The frames of a recording's bytes: one after another from the first bit on, and none behind the last whole one.
+-- The frames of a recording's bytes: one after another from the first bit on, and none after the last whole one.
 use Rattle.std.proofs.Common.{◌≡◌, ℕ, zero, suc, ◌+◌, ◌-◌, ◌*◌, ◌%◌, ◌<◌, ◌≤◌, List, [], ◌∷◌, ◌++◌, map, length, sym, ap, ◌∙◌, subst, arith}
 use Rattle.std.specs.List.{range_with_len}
 use Rattle.std.proofs.lemmas.Nat.{mod_below, mul-le, div-add-mod'}
@@ -30,7 +30,7 @@ module _ (t : TableRows) (records : List BusRecord) (h : IsRecordable t) where
   pub some_words : 0 < t.frame.words
   some_words = word_count_some t.frame.words h.words
 
-  -- less than a frame remains behind the whole ones
+  -- less than a frame remains after the whole ones
   whole_frames-bounds :
       (4 * t.frame.words * whole_frames t records ≤ length (stream_words t records))
       × (length (stream_words t records) < 4 * t.frame.words * whole_frames t records + 4 * t.frame.words)
@@ -80,7 +80,7 @@ module _ (t : TableRows) (records : List BusRecord) (h : IsRecordable t) where
       ∙ and_from _ _ (and_from _ _ (and_from _ _ (eq-eqb _ _ first) (eq-eqb _ _ second)) (eq-eqb _ _ (sync_stands j 2 early (omega arith))))
       (eq-eqb _ _ (sync_stands j 3 early (omega arith)))
 
-  -- too few bits remain behind the last whole frame for another one
+  -- too few bits remain after the last whole frame for another one
   pub none_behind : HasNoFrameFrom (stream_of t records) t.frame.words (frame_place t.frame.words (whole_frames t records))
   none_behind q behind position = omega (arith, behind, frame_within (stream_of t records) t.frame.words q position, stream-bits t records, whole_frames-bounds)
 

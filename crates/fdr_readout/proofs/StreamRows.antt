@@ -19,7 +19,7 @@ use Rattle.fdr_readout.specs.SampledRows.{sampled_rows, sampled_lines, whole_fra
 use Rattle.fdr_readout.proofs.SoFarLemmas.{accepted_to_next, adjacent_next}
 use Rattle.fdr_readout.proofs.RecordedWords.{word_at-stream}
 use Rattle.fdr_readout.proofs.StreamFrames.{frame_place, frame_places, some_words, slot_within_frames, next_frame, frames_so_far}
-use Rattle.fdr_readout.proofs.Recorded.{AreRecorded}
+use Rattle.fdr_readout.proofs.Recorded.{AddsToRun}
 use Rattle.fdr_readout.proofs.RecordedRows.{recorded_rows}
 
 module _ (t : TableRows) (records : List BusRecord) (h : IsRecordable t) where
@@ -61,7 +61,7 @@ module _ (t : TableRows) (records : List BusRecord) (h : IsRecordable t) where
       ∙ and_from (ltb 0 p) (eqb p p) (lt-ltb 0 p (omega arith)) (eq-eqb p p (omega arith))
 
   -- so the frames up to a whole one are read as they were recorded
-  are_recorded : (j : ℕ) → j < whole_frames t records → AreRecorded t records (frames_read (j + 1)) j j j
+  are_recorded : (j : ℕ) → j < whole_frames t records → AddsToRun t records (frames_read (j + 1)) j j j
   are_recorded j early = record {
     read = omega arith;
     recorded = omega arith;

@@ -18,7 +18,7 @@ place_text_is subframe word low first last =
     let v : (1024 * (subframe - 1) + (word - 1)) % 1024 + 1 ≡ word = omega arith in
     ap (λ n. row_place_text n ((1024 * (subframe - 1) + (word - 1)) % 1024 + 1)) s ∙ ap (λ n. row_place_text subframe n) v
 
--- the text that stands among the ready ones for that place
+-- the text that is among the ready ones for that place
 pub ready_at : (texts : List (List ℕ)) (subframe word : ℕ) (text : List ℕ) → texts ≡ map place_text (range_with_len 0 4096)
     → 1 ≤ subframe → subframe ≤ 4 → 1 ≤ word → word ≤ 1024 → text ≡ get_or texts (1024 * (subframe - 1) + (word - 1)) text
     → text ≡ row_place_text subframe word
@@ -28,7 +28,7 @@ ready_at texts subframe word text ready low high first last at =
     at ∙ ap (λ (ys : List (List ℕ)). get_or ys n text) ready ∙ get_or-map-range_with_len place_text 0 4096 n n text within (zero-add n)
     ∙ place_text_is subframe word low first last
 
--- what stands among the ready starts for that counter
+-- what is among the ready starts for that counter
 pub start_at : (starts : List (List ℕ)) (counter : ℕ) (start : List ℕ) → starts ≡ map row_start_text (range_with_len 0 4096) → counter < 4096
     → start ≡ get_or starts counter start → start ≡ row_start_text counter
 start_at starts counter start ready within at =

@@ -1,4 +1,4 @@
--- What bits hold, entry by entry: their gaps, their accepted frames, and behind each frame its rows.
+-- What bits hold, entry by entry: their gaps, their accepted frames, and after each frame its rows.
 use Rattle.std.specs.Prelude.{ℕ, ◌-◌, Bool, true, false, List, [], ◌∷◌, length, map, Option, Some, None}
 use Rattle.std.specs.List.{flat_map}
 use Rattle.fdr_sync.specs.Events.{Event, Frame, Gap, events_of}
@@ -8,7 +8,7 @@ use Rattle.fdr_recon.specs.Rows.{ReadFrame, rows_looked_at}
 use Rattle.fdr_listing.specs.Text.{gap_text}
 use Rattle.fdr_readout.specs.Listing.{rows_at, row_line_of}
 
--- a gap that begins at a bit and has so many bits, a frame, or a row of the frame before
+-- a gap, by its first bit and its number of bits, a frame, or a row of the frame before
 pub data Entry : Type 0 where
   GapEntry : ℕ → ℕ → Entry
   FrameEntry : Entry

@@ -47,7 +47,7 @@ unfoldable pub decided_listing : TableRows → List ℕ → List ℕ
 decided_listing t b = flat_map (lines_of t b) (decided_events b t.frame.words)
 
 -- The listing is that of the accepted frames and the gaps, of which the bits have exactly one list: it has the lines of
--- those events, one behind another.
+-- those events, one after another.
 pub record ListsEvents (t : TableRows) (b : List ℕ) : Type 0 where
   pub unique : EventsAreUnique b t.frame.words
   pub lines : (es : List Event) → AreEvents b t.frame.words es → listing_of t b ≡ flat_map (lines_of t b) es

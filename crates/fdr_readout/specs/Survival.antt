@@ -1,6 +1,6 @@
 -- What of a recording survives in other bits, and how it is listed from them.
 --
--- A run is some frames of the recording, one behind the other. The bits round it may be any: others struck out, put in or
+-- A run is some frames of the recording, one after the other. The bits round it may be any: others struck out, put in or
 -- turned, or no recording at all.
 use Rattle.std.specs.Prelude.{◌≡◌, ℕ, ◌+◌, ◌-◌, ◌*◌, ◌%◌, ◌<◌, ◌≤◌, nat_le, IsTrue, ◌⊎◌, List, [], ◌∷◌, ◌++◌, length, map, filter}
 use Rattle.std.specs.List.{flat_map, range_with_len}
@@ -18,7 +18,7 @@ use Rattle.fdr_readout.specs.SampledRows.{sampled_row, sampled_rows, whole_frame
 
 -- ---- the premise
 
--- The n bits of a from bit p on stand in b from bit q on.
+-- The n bits of a from bit p on are in b from bit q on.
 pub record StandIn (a : List ℕ) (p n : ℕ) (b : List ℕ) (q : ℕ) : Type 0 where
   pub within : q + n ≤ bits_in b
   pub same : (x : ℕ) → x < n → bit_at b (q + x) ≡ bit_at a (p + x)
@@ -27,7 +27,7 @@ pub record StandIn (a : List ℕ) (p n : ℕ) (b : List ℕ) (q : ℕ) : Type 0 
 abbrev pub IsClearBefore : List ℕ → ℕ → ℕ → Type 0
 IsClearBefore b w q = (p : ℕ) → p < q → q < p + 48 * w → ¬ IsFramePosition b w p
 
--- Frames j to j + m - 1 of the recording, all of them whole, survive in b from bit q on: their exact bits stand there, and
+-- Frames j to j + m - 1 of the recording, all of them whole, survive in b from bit q on: their exact bits are there, and
 -- no frame position of b reaches into them from before.
 pub record Survives (t : TableRows) (records : List BusRecord) (b : List ℕ) (q j m : ℕ) : Type 0 where
   pub not_empty : 1 ≤ m
@@ -63,7 +63,7 @@ unfoldable pub lines_at : TableRows → List ℕ → ℕ → List ℕ
 lines_at t b a = flat_map (row_line_of t) (rows_at t b a)
 
 -- Frames j to j + m - 1 of the recording are listed from bit q of b on: they are accepted and joined; the listing has the
--- lines of their rows, one frame's behind the other's and nothing between them; among the rows of each are those that were
+-- lines of their rows, one frame's after the other's and nothing between them; among the rows of each are those that were
 -- sampled from frame j on; and a frame whose superframe begins at frame j or later has its sampled rows and no others.
 pub record AreListed (t : TableRows) (records : List BusRecord) (b : List ℕ) (q j m : ℕ) : Type 0 where
   pub accepted : AreAcceptedInARow t b q m

@@ -34,7 +34,7 @@ fn take_row<O: Sink, T: Taker<O>>(
     ensures all { OnOk result (T.took table.now taker.old out.old taker.new out.new (row_entries row)) }
     ensures part { OnErr result (T.failed_in table.now taker.old out.old out.new (row_entries row)) }
     ensures cause { OnErr result (Rose (O.faults out.old) (O.faults out.new)) }
-    ensures quiet { OnOk result (O.faults out.new ≡ O.faults out.old) }
+    ensures no_fault { OnOk result (O.faults out.new ≡ O.faults out.old) }
     ensures monotone { O.faults out.old ≤ O.faults out.new }
 {
     match row {
@@ -56,7 +56,7 @@ fn take_frame<O: Sink, T: Taker<O>>(
     ensures part { (past : List ReadFrame) → 0 < length past → RepresentsRebuild rebuild.now table.now past
         → OnErr result (T.failed_in table.now taker.old out.old out.new (last_frame_entries table.now past)) }
     ensures cause { OnErr result (Rose (O.faults out.old) (O.faults out.new)) }
-    ensures quiet { OnOk result (O.faults out.new ≡ O.faults out.old) }
+    ensures no_fault { OnOk result (O.faults out.new ≡ O.faults out.old) }
     ensures monotone { O.faults out.old ≤ O.faults out.new }
 {
     taker.frame();
@@ -83,7 +83,7 @@ fn take_event<O: Sink, T: Taker<O>>(
         → (IsSome (answered_frame (Some event)) → 0 < length read)
         → OnErr result (T.failed_in table.now taker.old out.old out.new (event_entries table.now read (answered_event event))) }
     ensures cause { OnErr result (Rose (O.faults out.old) (O.faults out.new)) }
-    ensures quiet { OnOk result (O.faults out.new ≡ O.faults out.old) }
+    ensures no_fault { OnOk result (O.faults out.new ≡ O.faults out.old) }
     ensures monotone { O.faults out.old ≤ O.faults out.new }
 {
     match event {
@@ -113,7 +113,7 @@ fn take_known<O: Sink, T: Taker<O>>(
     ensures pushed { bytes_pushed reader.new.scanner ≡ bytes_pushed reader.old.scanner }
     ensures ended { reader.new.scanner.ended ≡ reader.old.scanner.ended }
     ensures cause { OnErr result (Rose (O.faults out.old) (O.faults out.new)) }
-    ensures quiet { OnOk result (O.faults out.new ≡ O.faults out.old) }
+    ensures no_fault { OnOk result (O.faults out.new ≡ O.faults out.old) }
     ensures monotone { O.faults out.old ≤ O.faults out.new }
 {
     while let Some(event) = reader.next() {
@@ -143,7 +143,7 @@ pub fn take_piece<O: Sink, T: Taker<O>>(
     ensures step { OnOk result ((entries : List Entry) × T.took table.now taker.old out.old taker.new out.new entries) }
     ensures step_part { OnErr result ((entries : List Entry) × T.failed_in table.now taker.old out.old out.new entries) }
     ensures cause { OnErr result (Rose (O.faults out.old) (O.faults out.new)) }
-    ensures quiet { OnOk result (O.faults out.new ≡ O.faults out.old) }
+    ensures no_fault { OnOk result (O.faults out.new ≡ O.faults out.old) }
     ensures monotone { O.faults out.old ≤ O.faults out.new }
 {
     reader.push(piece);
@@ -171,7 +171,7 @@ pub fn take_rest<O: Sink, T: Taker<O>>(
     ensures step { OnOk result ((entries : List Entry) × T.took table.now taker.old out.old taker.new out.new entries) }
     ensures step_part { OnErr result ((entries : List Entry) × T.failed_in table.now taker.old out.old out.new entries) }
     ensures cause { OnErr result (Rose (O.faults out.old) (O.faults out.new)) }
-    ensures quiet { OnOk result (O.faults out.new ≡ O.faults out.old) }
+    ensures no_fault { OnOk result (O.faults out.new ≡ O.faults out.old) }
     ensures monotone { O.faults out.old ≤ O.faults out.new }
 {
     events_are_unique();

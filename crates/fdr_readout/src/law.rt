@@ -34,9 +34,9 @@ pub fn survives()
 {}
 
 /// A law, and no work: damage elsewhere changes nothing of what is listed of a surviving run. The run may survive in two bit
-/// lists, wherever it stands in each. Then the rows of its samples, those whose parts all lie inside it, have the
+/// lists, wherever it is in each. Then the rows of its samples, those whose parts all lie inside it, have the
 /// same lines in both listings; and each frame whose superframe begins inside it has the same lines and no others. It does
-/// survive wherever its bits stand, unless what stands before them there looks like a frame that reaches into them.
+/// survive wherever its bits stand, unless what is before them there looks like a frame that reaches into them.
 pub fn damage_elsewhere()
     ensures survives { (t : TableRows) (records : List BusRecord) (b c : List ℕ) (q r j m : ℕ) → Survives t records b q j m
         → StandIn b q (48 * t.frame.words * m) c r → IsClearBefore c t.frame.words r → Survives t records c r j m }

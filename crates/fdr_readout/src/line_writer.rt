@@ -76,7 +76,7 @@ impl LineWriter {
         ensures part { OnErr result ((k : ℕ) × (S.written out.new ≡ followed_by (S.written out.old) (take k self.old))) }
         ensures empty { self.new ≡ [] }
         ensures cause { OnErr result (Rose (S.faults out.old) (S.faults out.new)) }
-        ensures quiet { OnOk result (S.faults out.new ≡ S.faults out.old) }
+        ensures no_fault { OnOk result (S.faults out.new ≡ S.faults out.old) }
         ensures monotone { S.faults out.old ≤ S.faults out.new }
     {
         self.buffer.finish(out)

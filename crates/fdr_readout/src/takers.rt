@@ -20,12 +20,12 @@ pub trait Taker<O: Sink> {
     // The taker failed in these entries.
     ghost failed_in: { TableRows → Self → O → O → List Entry → Type 0 };
 
-    /// Takes a gap that begins at a bit and has so many bits.
+    /// Takes a gap of `bits` bits that begins at bit `from`.
     fn gap(&mut self, from: u64, bits: u64, out: &mut O) -> Result<(), Failed>
         ensures all { (t : TableRows) → OnOk result (took t self.old out.old self.new out.new (GapEntry from bits ∷ [])) }
         ensures part { (t : TableRows) → OnErr result (failed_in t self.old out.old out.new (GapEntry from bits ∷ [])) }
         ensures cause { OnErr result (Rose (O.faults out.old) (O.faults out.new)) }
-        ensures quiet { OnOk result (O.faults out.new ≡ O.faults out.old) }
+        ensures no_fault { OnOk result (O.faults out.new ≡ O.faults out.old) }
         ensures monotone { O.faults out.old ≤ O.faults out.new };
 
     /// Takes a frame.
@@ -38,7 +38,7 @@ pub trait Taker<O: Sink> {
         ensures all { OnOk result (took table.now self.old out.old self.new out.new (RowEntry row.now ∷ [])) }
         ensures part { OnErr result (failed_in table.now self.old out.old out.new (RowEntry row.now ∷ [])) }
         ensures cause { OnErr result (Rose (O.faults out.old) (O.faults out.new)) }
-        ensures quiet { OnOk result (O.faults out.new ≡ O.faults out.old) }
+        ensures no_fault { OnOk result (O.faults out.new ≡ O.faults out.old) }
         ensures monotone { O.faults out.old ≤ O.faults out.new };
 
     ghost laws: { TakerLaws took failed_in };

@@ -43,7 +43,7 @@ keep_last-append c xs ys =
     let sum : a + b ≡ length (xs ++ ys) - c = omega (arith, length-append (drop a xs) ys, length-append xs ys, length-drop a xs) in
     ap (drop b) moved ∙ drop-drop b a (xs ++ ys) ∙ ap (λ n. drop n (xs ++ ys)) sum
 
--- Among the last 64 w words there are whole frames of 4 w words: those of a frame that stands fewer than 16 before the last.
+-- Among the last 64 w words there are whole frames of 4 w words: those of a frame that is fewer than 16 before the last.
 pub from_end-within : (w m back place : ℕ) (xs : List ℕ) → length xs ≡ 4 * w * (m + back + 1) → back < 16 → place < 4 * w →
     from_end w back place < length (keep_last (64 * w) xs)
 from_end-within w m back place xs len few low =

@@ -45,7 +45,7 @@ link-zero f frames i =
     let later : suc i - 0 ≡ suc i = omega arith in
     ap (λ x. are_linked f (frame_at frames x) (frame_at frames (suc i - 0))) earlier ∙ ap (λ x. are_linked f (frame_at frames i) (frame_at frames x)) later
 
--- each of the d frames before frame i is linked to the next, where so many are joined with it
+-- each of the d frames before frame i is linked to the next, where d are joined with it
 all_linked : FrameRow → List ReadFrame → ℕ → ℕ → Bool
 all_linked f frames i d = nat_le d i && list_all (link f frames i) (range_with_len 0 d)
 

@@ -51,7 +51,7 @@ planned_raw_is k cycle (p ∷ parts) some ends =
       sum_by-cons (λ (q : Part). kept_bits k cycle q * 2 ^ q.shift) p parts,
     )
 
--- ---- the plans of a superframe, one cycle behind another
+-- ---- the plans of a superframe, one cycle after another
 
 pub plans_on : (l : Laid) (w : ℕ) (rows added : List RowPlan) (cycle : ℕ) → rows ≡ flat_map (cycle_plans l w) (range_with_len 0 cycle)
     → added ≡ rows ++ cycle_plans l w cycle → added ≡ flat_map (cycle_plans l w) (range_with_len 0 (cycle + 1))

@@ -11,7 +11,7 @@ use Rattle.fdr_recon.specs.Past.{RepresentsRebuild, read_frame}
 use Rattle.fdr_recon.proofs.FrameWords.{words_of, length-words_of, get_or-words_of, from_end-within, keep_last-from_end, kept_last}
 use Rattle.fdr_recon.proofs.KeptWords.{kept_word-past}
 
--- a kept word is that of the frame, where fewer than 16 frames stand behind it
+-- a kept word is that of the frame, where fewer than 16 frames are after it
 pub kept_word-stands : (k : RebuildKept) (t : TableRows) (past : List ReadFrame) (m back place : ℕ) → RepresentsRebuild k t past → length past ≡ m + back + 1
     → back < 16 →
     kept_word k back place ≡ slice_index (frame_at past m).words place

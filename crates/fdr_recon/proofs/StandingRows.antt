@@ -26,7 +26,7 @@ use Rattle.fdr_recon.proofs.FrameWords.{words_of, length-words_of}
 use Rattle.fdr_recon.proofs.Standing.{kept_word-stands, kept_counter-stands, kept_cycle-stands}
 use Rattle.fdr_lists.proofs.Sums.{sum_by-agree}
 
--- the bits of a part that stands few enough frames before frame i, the last
+-- the bits of a part that is few enough frames before frame i, the last
 kept_bits-stands : (k : RebuildKept) (t : TableRows) (past : List ReadFrame) (i cycle : ℕ) (p : Part) → RepresentsRebuild k t past → length past ≡ suc i →
     cycle - cycle_of t.frame.words p.at ≤ i → cycle < 16 → kept_bits k cycle p ≡ bits_of t.frame.words past i cycle p
 unfolding kept_bits

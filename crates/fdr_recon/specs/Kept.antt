@@ -41,11 +41,11 @@ pub record EndsInCycle (w cycle : ℕ) (s : Sample) : Type 0 where
 abbrev pub word_back : RebuildKept → ℕ → ℕ
 word_back k n = if nat_lt n (length k.words) then slice_index k.words (length k.words - n - 1) else 0
 
--- which word counts as the given one, from the last word back, of the frame that stands this many frames before the last
+-- which word counts as the given one, from the last word back, of the frame that is this many frames before the last
 abbrev pub from_end : ℕ → ℕ → ℕ → ℕ
 from_end w back place = 4 * w * back + (4 * w - 1 - place)
 
--- the word at a place of the frame that stands this many frames before the last, or 0 where there is none
+-- the word at a place of the frame that is this many frames before the last, or 0 where there is none
 unfoldable pub kept_word : RebuildKept → ℕ → ℕ → ℕ
 kept_word k back place =
     if nat_lt place (4 * k.frame.words) && nat_lt (from_end k.frame.words back place) (length k.words)
@@ -56,7 +56,7 @@ abbrev pub kept_counter : RebuildKept → ℕ → ℕ
 kept_counter k back = kept_word k back (counter_place k.frame)
 
 -- what holds of every value, whose words have room for this many, and which has this counter of the last frame, where rows
--- are planned for so many words a subframe
+-- are planned for the frame's words a subframe
 pub record IsRebuildKept (k : RebuildKept) (capacity counter planned : ℕ) : Type 0 where
   pub planned_for : planned ≡ k.frame.words
   pub some_words : 0 < k.frame.words

@@ -40,7 +40,7 @@ row_plan w cycle s = record {
 abbrev pub cycle_plans : Laid → ℕ → ℕ → List RowPlan
 cycle_plans l w cycle = map (row_plan w cycle) (slice_index_or l.cycles cycle [])
 
--- the plans of all cycles, one cycle behind another, and where those of each begin and those of the last end
+-- the plans of all cycles, one cycle after another, and where those of each begin and those of the last end
 pub record ArePlans (l : Laid) (w : ℕ) (starts : List ℕ) (plans : List RowPlan) : Type 0 where
   pub rows : plans ≡ flat_map (cycle_plans l w) (range_with_len 0 16)
   pub begins : starts ≡ map (λ c. length (flat_map (cycle_plans l w) (range_with_len 0 c))) (range_with_len 0 17)

@@ -18,7 +18,7 @@ pub record ReadFrame : Type 0 where
 abbrev pub frame_at : List ReadFrame → ℕ → ReadFrame
 frame_at frames i = slice_index_or frames i (record { adjacent = false; words = [] })
 
--- where the counter's word stands among the words of a frame
+-- where the counter's word is among the words of a frame
 abbrev pub counter_place : FrameRow → ℕ
 counter_place f = f.words * (f.csub - 1) + (f.cword - 1)
 
@@ -33,7 +33,7 @@ cycle_of_frame f words = counter_in f words % 16
 unfoldable pub are_linked : FrameRow → ReadFrame → ReadFrame → Bool
 are_linked f earlier later = later.adjacent && (counter_in f later.words == (counter_in f earlier.words + 1) % 4096)
 
--- frame i stands behind at least d others, and each neighbouring two of these d + 1 frames are linked
+-- frame i is after at least d others, and each neighbouring two of these d + 1 frames are linked
 unfoldable pub are_joined : FrameRow → List ReadFrame → ℕ → ℕ → Bool
 are_joined f frames i d =
     nat_le d i && list_all (λ e. are_linked f (frame_at frames (i - (e + 1))) (frame_at frames (i - e))) (range_with_len 0 d)
@@ -66,6 +66,8 @@ no_param = record {
   decimals =
       0;
   rate = 0;
+  age = None;
+  tells = false;
   row = 0;
 }
 

@@ -207,7 +207,7 @@ impl Rebuild {
         })
     }
 
-    /// The word at a place of the frame that stands this many frames before the last, or 0 where there is none.
+    /// The word at a place of the frame that is this many frames before the last, or 0 where there is none.
     fn word(&self, back: u32, place: u32) -> u16
         requires { back < 16 }
         ensures word { result ≡ kept_word self.now back place }
@@ -290,7 +290,7 @@ fn frame_words(frame: Frame) -> u32
     frame.words
 }
 
-/// Where the counter's word stands among the words of a frame.
+/// Where the counter's word is among the words of a frame.
 fn counter_place(frame: Frame) -> u32
     ensures place { result ≡ counter_place frame }
     ensures twelve_bits { result < 4096 }

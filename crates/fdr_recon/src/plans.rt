@@ -25,7 +25,7 @@ const MOST_PARTS: usize = 4;
 /// The bits of a part.
 #[derive(Clone, Copy)]
 pub(crate) struct Field {
-    /// How many words stand behind its word, up to the end of the frame in which its sample ends.
+    /// How many words are after its word, up to the end of the frame in which its sample ends.
     pub(crate) back: u32,
     /// As many ones as it has bits.
     pub(crate) ones: u16,
@@ -52,7 +52,7 @@ pub(crate) struct RowPlan {
     pub(crate) word: u32,
     /// The subframe of that part, 1 to 4.
     pub(crate) subframe: u8,
-    /// How many frames that part stands before the last part.
+    /// How many frames that part is before the last part.
     pub(crate) reach: u8,
     count: u8,
     fields: [Field; MOST_PARTS],
@@ -173,7 +173,7 @@ impl Model for Plans {
 }
 
 impl Plans {
-    /// The plans of a layout's samples, where a subframe has so many words.
+    /// The plans of a layout's samples, where a subframe has `words` words.
     pub(crate) fn of(alloc: Global, layout: Layout, words: u32) -> Result<Plans, NoMemory>
         requires count { IsWordCount words }
         requires word_limit { words ≤ 1024 }
@@ -206,7 +206,7 @@ impl Plans {
     }
 }
 
-/// The plans of a cycle, which stand in a list of those of all cycles.
+/// The plans of a cycle, which are in a list of those of all cycles.
 fn plans_at<'a>(starts: &[usize], rows: &'a [RowPlan], cycle: u8) -> &'a [RowPlan]
     requires starts { AreStarts starts.now (length rows.now) }
     requires within { cycle + 1 < length starts.now }

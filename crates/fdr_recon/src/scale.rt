@@ -125,7 +125,7 @@ fn steps_over(below: u64, den: u64) -> u64
     (below + (den - 1)) / den
 }
 
-/// A parameter's offset, less so many.
+/// A parameter's offset, less `steps`.
 fn offset_below(param: &Param, steps: u64) -> i64
     requires { steps < 2 ^ 62 }
     ensures value { result +ℤ pos steps ≡ param.now.offset }

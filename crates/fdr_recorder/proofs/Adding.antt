@@ -3,19 +3,19 @@ use Rattle.std.proofs.Common.{◌≡◌, ◌≤◌, ⊎_elim, ℕ, ◌+◌, ◌-
 use Rattle.std.specs.Prelude.{IsTrue}
 use Rattle.fdr_deck.specs.State.{State, Tells}
 use Rattle.fdr_deck.specs.Disk.{IsSettled}
-use Rattle.fdr_deck.specs.Pull.{KeepsLine}
-use Rattle.fdr_deck.specs.Moments.{HasPulled, IsNow, Elapses, EachMoment, IsSoundDeck}
-use Rattle.fdr_deck.specs.Calls.{IsQuiet, Succeeds, Announces, LeavesDisk}
-use Rattle.fdr_deck.proofs.Moments.{EachMoment-then, Elapses-then, KeepsTold-least, KeepsTold-greatest, KeepsTold-then}
+use Rattle.fdr_deck.specs.Pull.{KeepsInput}
+use Rattle.fdr_deck.specs.Moments.{HasSamePulls, IsNow, Elapses, EachMoment, IsSoundDeck}
+use Rattle.fdr_deck.specs.Calls.{IsDiskWork, Succeeds, Announces, LeavesDisk}
+use Rattle.fdr_deck.proofs.Moments.{EachMoment-then, Elapses-then, KeepsAnnounced-least, KeepsAnnounced-greatest, KeepsAnnounced-then}
 use Rattle.fdr_slot.specs.declared.image.Header.{Header}
 use Rattle.fdr_slot.specs.Limits.{IsInLimits}
 use Rattle.fdr_recover.specs.Blocks.{Block}
 use Rattle.fdr_recover.specs.Images.{recovered_run, next_of}
-use Rattle.fdr_ring.specs.Gates.{IsClosed, waiting}
+use Rattle.fdr_ring.specs.Gates.{IsClosed, waiting_block}
 use Rattle.fdr_ring.specs.Runs.{KeepsRun, HasSame, HasAdded, last_blocks}
 use Rattle.fdr_ring.specs.Rings.{IsRing, IsSureRing, IsPreparing, IsCommitting, OfSettled}
-use Rattle.fdr_recorder.specs.Keeping.{Keeps, KeepsAll}
-use Rattle.fdr_recorder.specs.Recording.{IsReady, IsNear, IsRecording, IsClose, Records, HasRecorded}
+use Rattle.fdr_recorder.specs.Keeping.{RecoversPrefix, RecoversAll}
+use Rattle.fdr_recorder.specs.Recording.{IsReady, IsNear, IsRecordingMoment, IsClose, RecordsFirstOf, RecordsAllOf}
 use Rattle.fdr_recorder.proofs.Steps.{keeps_run, keeps_may, keeps_added, all_added, last_one_more}
 
 -- the fact of a ring after an announcement
@@ -35,14 +35,14 @@ IsSureRing-told tells h number old new leaves sure = record {
 
 module _ (tells : Tells) (h : Header) (next size : ℕ) (d0 d1 : State) (sound : IsSoundDeck tells d0) (ring : IsRing tells h next d0)
     (extent : d1.extent ≡ d0.extent)
-    (quiet : IsQuiet tells (OfSettled d0 (IsPreparing h next size)) d0 d1)
+    (quiet : IsDiskWork tells (OfSettled d0 (IsPreparing h next size)) d0 d1)
   where
     number : IsTrue tells.stops → next ≡ next_of h d0.held
     number stops = ring.next (sound.stops_need_bytes stops)
 
-    preparing : (new : List Block) → IsReady next d0 → EachMoment tells d0 d1 (IsRecording h d0 new)
+    preparing : (new : List Block) → IsReady next d0 → EachMoment tells d0 d1 (IsRecordingMoment h d0 new)
     preparing new ready stops m since = let q = quiet.moments stops m since in record {
-      image = keeps_run h d0.held m.image new m.told (q.image ready.settled).run (omega (arith, q.greatest, ready.greatest, number stops));
+      image = keeps_run h d0.held m.image new m.announced (q.image ready.settled).run (omega (arith, q.greatest, ready.greatest, number stops));
       least = q.least;
       pulled = q.pulled;
     }
@@ -51,24 +51,24 @@ module _ (tells : Tells) (h : Header) (next size : ℕ) (d0 d1 : State) (sound :
     preparing_close mark ready near stops m since = let q = quiet.moments stops m since in
         omega (arith, (q.image ready.settled).run.next, number stops, near.least, q.least)
 
-    preparing_pulled : EachMoment tells d0 d1 (HasPulled d0)
+    preparing_pulled : EachMoment tells d0 d1 (HasSamePulls d0)
     preparing_pulled stops m since = (quiet.moments stops m since).pulled
 
     least1 : d0.least ≤ d1.least
-    least1 = KeepsTold-least tells d0 d1 sound quiet.passes.told
+    least1 = KeepsAnnounced-least tells d0 d1 sound quiet.passes.announced
 
     greatest1 : d1.greatest ≤ d0.greatest
-    greatest1 = KeepsTold-greatest tells d0 d1 sound quiet.passes.told
+    greatest1 = KeepsAnnounced-greatest tells d0 d1 sound quiet.passes.announced
 
     -- the block wasn't prepared
-    pub Records-unprepared : (new : List Block) → Records tells h next new d0 d1
-    Records-unprepared new = record {
+    pub RecordsFirstOf-unprepared : (new : List Block) → RecordsFirstOf tells h next new d0 d1
+    RecordsFirstOf-unprepared new = record {
       time = quiet.passes.time;
       moments = preparing new;
       close = preparing_close;
       pulled = preparing_pulled;
-      line = quiet.passes.line;
-      line_faults = quiet.passes.line_faults;
+      input = quiet.passes.input;
+      input_faults = quiet.passes.input_faults;
       disk_faults = quiet.passes.disk_faults;
       extent = extent;
       least = λ le. least1;
@@ -78,22 +78,22 @@ module _ (tells : Tells) (h : Header) (next size : ℕ) (d0 d1 : State) (sound :
     module _ (b : Block) (settled : IsTrue tells.stops → IsSettled d1) (succeeds : Succeeds d0 d1) (keeps : IsTrue tells.bytes
         → IsPreparing h next size d0.held d1.held)
         (waits : IsTrue tells.bytes
-        → waiting h d1.held next ≡ Some b) (d2 : State) (extent2 : d2.extent ≡ d1.extent) (quiet2 : IsQuiet tells (OfSettled d1
+        → waiting_block h d1.held next ≡ Some b) (d2 : State) (extent2 : d2.extent ≡ d1.extent) (quiet2 : IsDiskWork tells (OfSettled d1
         (IsCommitting h next)) d1 d2)
       where
         run1 : IsTrue tells.stops → KeepsRun h (h.slots - 2) d0.held d1.held
         run1 stops = (keeps (sound.stops_need_bytes stops)).run
 
-        told1 : d1.told ≡ d0.told
-        told1 = quiet.passes.told.told
+        told1 : d1.announced ≡ d0.announced
+        told1 = quiet.passes.announced.announced
 
-        committing_pulled : EachMoment tells d1 d2 (HasPulled d0)
+        committing_pulled : EachMoment tells d1 d2 (HasSamePulls d0)
         committing_pulled stops m since = let q = quiet2.moments stops m since in
-            record { taken = q.pulled.taken ∙ quiet.passes.line.taken; before = q.pulled.before ∙ quiet.passes.line.before }
+            record { taken = q.pulled.taken ∙ quiet.passes.input.taken; pulled_before = q.pulled.pulled_before ∙ quiet.passes.input.pulled_before }
 
-        committing : IsReady next d0 → EachMoment tells d1 d2 (IsRecording h d0 (b ∷ []))
+        committing : IsReady next d0 → EachMoment tells d1 d2 (IsRecordingMoment h d0 (b ∷ []))
         committing ready stops m since = let q = quiet2.moments stops m since in record {
-          image = keeps_may h b d0.held d1.held m.image m.told (run1 stops) ((q.image (settled stops)).run b (waits (sound.stops_need_bytes stops)))
+          image = keeps_may h b d0.held d1.held m.image m.announced (run1 stops) ((q.image (settled stops)).run b (waits (sound.stops_need_bytes stops)))
               (omega (arith, q.greatest, succeeds.fresh.greatest, told1, sound.greatest, ready.greatest, number stops));
           least = omega (arith, q.least, succeeds.fresh.least, told1, sound.least);
           pulled = committing_pulled stops m since;
@@ -102,13 +102,22 @@ module _ (tells : Tells) (h : Header) (next size : ℕ) (d0 d1 : State) (sound :
         committing_close : (mark : ℕ) → IsNear next mark d0 → EachMoment tells d1 d2 (IsClose h mark)
         committing_close mark near stops m since = let q = quiet2.moments stops m since in
             ⊎_elim {C = IsClose h mark m}
-            (λ (same : HasSame h d1.held m.image). omega (arith, same.next, (run1 stops).next, number stops, near.told, q.least, succeeds.fresh.least, told1))
+            (λ (same : HasSame h d1.held m.image). omega (
+              arith,
+              same.next,
+              (run1 stops).next,
+              number stops,
+              near.announced,
+              q.least,
+              succeeds.fresh.least,
+              told1,
+            ))
             (λ (added : HasAdded h b d1.held m.image). omega (
               arith,
               added.next,
               (run1 stops).next,
               number stops,
-              near.told,
+              near.announced,
               q.least,
               succeeds.fresh.least,
               told1,
@@ -116,26 +125,26 @@ module _ (tells : Tells) (h : Header) (next size : ℕ) (d0 d1 : State) (sound :
             ((q.image (settled stops)).run b (waits (sound.stops_need_bytes stops)))
 
         least2 : d0.least ≤ d2.least
-        least2 = KeepsTold-least tells d0 d2 sound (KeepsTold-then d0 d1 d2 quiet.passes.told quiet2.passes.told)
+        least2 = KeepsAnnounced-least tells d0 d2 sound (KeepsAnnounced-then d0 d1 d2 quiet.passes.announced quiet2.passes.announced)
 
         greatest2 : d2.greatest ≤ d0.greatest
-        greatest2 = KeepsTold-greatest tells d0 d2 sound (KeepsTold-then d0 d1 d2 quiet.passes.told quiet2.passes.told)
+        greatest2 = KeepsAnnounced-greatest tells d0 d2 sound (KeepsAnnounced-then d0 d1 d2 quiet.passes.announced quiet2.passes.announced)
 
         -- the block wasn't committed, or it wasn't announced yet
-        pub Records-prepared : Records tells h next (b ∷ []) d0 d2
-        Records-prepared = record {
+        pub RecordsFirstOf-prepared : RecordsFirstOf tells h next (b ∷ []) d0 d2
+        RecordsFirstOf-prepared = record {
           time = Elapses-then tells d0 d1 d2 quiet.passes.time quiet2.passes.time;
-          moments = λ ready. EachMoment-then tells d0 d1 d2 (IsRecording h d0 (b ∷ [])) quiet.passes.time quiet2.passes.time (preparing
+          moments = λ ready. EachMoment-then tells d0 d1 d2 (IsRecordingMoment h d0 (b ∷ [])) quiet.passes.time quiet2.passes.time (preparing
               (b ∷ []) ready) (committing ready);
           close = λ mark ready near. EachMoment-then tells d0 d1 d2 (IsClose h mark) quiet.passes.time quiet2.passes.time
               (preparing_close mark ready near) (committing_close mark near);
-          pulled = EachMoment-then tells d0 d1 d2 (HasPulled d0) quiet.passes.time quiet2.passes.time preparing_pulled committing_pulled;
-          line = record {
-            line = quiet2.passes.line.line ∙ quiet.passes.line.line;
-            taken = quiet2.passes.line.taken ∙ quiet.passes.line.taken;
-            before = quiet2.passes.line.before ∙ quiet.passes.line.before;
+          pulled = EachMoment-then tells d0 d1 d2 (HasSamePulls d0) quiet.passes.time quiet2.passes.time preparing_pulled committing_pulled;
+          input = record {
+            input = quiet2.passes.input.input ∙ quiet.passes.input.input;
+            taken = quiet2.passes.input.taken ∙ quiet.passes.input.taken;
+            pulled_before = quiet2.passes.input.pulled_before ∙ quiet.passes.input.pulled_before;
           };
-          line_faults = quiet2.passes.line_faults ∙ quiet.passes.line_faults;
+          input_faults = quiet2.passes.input_faults ∙ quiet.passes.input_faults;
           disk_faults = omega (arith, quiet.passes.disk_faults, quiet2.passes.disk_faults);
           extent = extent2 ∙ extent;
           least = λ le. least2;
@@ -146,24 +155,25 @@ module _ (tells : Tells) (h : Header) (next size : ℕ) (d0 d1 : State) (sound :
             (run : IsTrue tells.bytes → recovered_run h d1.held ≡ last_blocks (h.slots - 2) (recovered_run h d0.held))
             (added : IsTrue tells.bytes → HasAdded h b d1.held d2.held) (d3 : State) (announces : Announces (next + 1) d2 d3) (leaves : LeavesDisk d2 d3)
           where
-            told2 : d2.told ≡ d1.told
-            told2 = quiet2.passes.told.told
+            told2 : d2.announced ≡ d1.announced
+            told2 = quiet2.passes.announced.announced
 
-            announcing_pulled : KeepsLine d2 d3 → EachMoment tells d2 d3 (IsNow d3) → EachMoment tells d2 d3 (HasPulled d0)
+            announcing_pulled : KeepsInput d2 d3 → EachMoment tells d2 d3 (IsNow d3) → EachMoment tells d2 d3 (HasSamePulls d0)
             announcing_pulled line3 moments stops m since =
                 let now = moments stops m since in
                 record {
-                  taken = now.pulled.taken ∙ line3.taken ∙ quiet2.passes.line.taken ∙ quiet.passes.line.taken;
-                  before = now.pulled.before ∙ line3.before ∙ quiet2.passes.line.before ∙ quiet.passes.line.before;
+                  taken = now.pulled.taken ∙ line3.taken ∙ quiet2.passes.input.taken ∙ quiet.passes.input.taken;
+                  pulled_before = now.pulled.pulled_before ∙ line3.pulled_before ∙ quiet2.passes.input.pulled_before ∙ quiet.passes.input.pulled_before;
                 }
 
-            announcing : (line3 : KeepsLine d2 d3) → EachMoment tells d2 d3 (IsNow d3) → IsReady next d0 → EachMoment tells d2 d3 (IsRecording h d0 (b ∷ []))
+            announcing : (line3 : KeepsInput d2 d3) → EachMoment tells d2 d3 (IsNow d3) → IsReady next d0 → EachMoment tells d2 d3
+                (IsRecordingMoment h d0 (b ∷ []))
             announcing line3 moments ready stops m since =
                 let now = moments stops m since in
                 let image : m.image ≡ d2.held = settled2 stops m.image (leaves.disk.no_more m.image now.image) in
                 record {
-                  image = subst (λ (l : List ℕ). Keeps h d0.held (recovered_run h d0.held) (b ∷ []) m.told l) (sym image)
-                      (keeps_added h b d0.held d1.held d2.held m.told (run1 stops) (added (sound.stops_need_bytes stops))
+                  image = subst (λ (l : List ℕ). RecoversPrefix h d0.held (recovered_run h d0.held) (b ∷ []) m.announced l) (sym image)
+                      (keeps_added h b d0.held d1.held d2.held m.announced (run1 stops) (added (sound.stops_need_bytes stops))
                       (omega (arith, now.greatest, announces.greatest, succeeds2.fresh.greatest, told2, told1, sound.greatest, ready.greatest, number stops)));
                   least = omega (arith, now.least, announces.least, succeeds2.fresh.least, told2, told1, sound.least, sound.greatest, ready.greatest);
                   pulled = announcing_pulled line3 moments stops m since;
@@ -185,7 +195,7 @@ module _ (tells : Tells) (h : Header) (next size : ℕ) (d0 d1 : State) (sound :
                   succeeds2.fresh.least,
                   told2,
                   told1,
-                  near.told,
+                  near.announced,
                 )
 
             announced_least : d0.greatest ≤ next → d0.least ≤ d3.least
@@ -194,43 +204,49 @@ module _ (tells : Tells) (h : Header) (next size : ℕ) (d0 d1 : State) (sound :
             announced_greatest : d0.greatest ≤ next → d3.greatest ≤ next + 1
             announced_greatest le = omega (arith, announces.greatest, succeeds2.fresh.greatest, told2, told1, sound.greatest, le)
 
-            Records-added : KeepsLine d2 d3 → d3.line_faults ≡ d2.line_faults → Elapses tells d2 d3 → EachMoment tells d2 d3 (IsNow d3)
-                → Records tells h next (b ∷ []) d0 d3
-            Records-added line3 line_faults3 time3 moments = let was = Records-prepared in record {
+            RecordsFirstOf-added : KeepsInput d2 d3 → d3.input_faults ≡ d2.input_faults → Elapses tells d2 d3 → EachMoment tells d2 d3 (IsNow d3)
+                → RecordsFirstOf tells h next (b ∷ []) d0 d3
+            RecordsFirstOf-added line3 line_faults3 time3 moments = let was = RecordsFirstOf-prepared in record {
               time = Elapses-then tells d0 d2 d3 was.time time3;
-              moments = λ ready. EachMoment-then tells d0 d2 d3 (IsRecording h d0 (b ∷ [])) was.time time3 (was.moments ready) (announcing line3 moments ready);
+              moments = λ ready. EachMoment-then tells d0 d2 d3 (IsRecordingMoment h d0 (b ∷ [])) was.time time3 (was.moments ready)
+                  (announcing line3 moments ready);
               close = λ mark ready near. EachMoment-then tells d0 d2 d3 (IsClose h mark) was.time time3 (was.close mark ready near)
                   (announcing_close moments mark near);
-              pulled = EachMoment-then tells d0 d2 d3 (HasPulled d0) was.time time3 was.pulled (announcing_pulled line3 moments);
-              line = record { line = line3.line ∙ was.line.line; taken = line3.taken ∙ was.line.taken; before = line3.before ∙ was.line.before };
-              line_faults = line_faults3 ∙ was.line_faults;
+              pulled = EachMoment-then tells d0 d2 d3 (HasSamePulls d0) was.time time3 was.pulled (announcing_pulled line3 moments);
+              input = record {
+                input = line3.input ∙ was.input.input;
+                taken = line3.taken ∙ was.input.taken;
+                pulled_before = line3.pulled_before
+                    ∙ was.input.pulled_before;
+              };
+              input_faults = line_faults3 ∙ was.input_faults;
               disk_faults = omega (arith, was.disk_faults, leaves.disk_faults);
               extent = leaves.extent ∙ was.extent;
               least = announced_least;
               greatest = announced_greatest;
             }
 
-            HasRecorded-added : HasRecorded tells h next (b ∷ []) d0 d3
-            HasRecorded-added = record {
+            RecordsAllOf-added : RecordsAllOf tells h next (b ∷ []) d0 d3
+            RecordsAllOf-added = record {
               fact = λ is. IsRing-told tells h (next + 1) d2 d3 leaves sure2.ring;
               sure = λ is. IsSureRing-told tells h (next + 1) d2 d3 leaves sure2;
-              keeps = λ told. subst (λ (l : List ℕ). KeepsAll h d0.held (recovered_run h d0.held) (b ∷ []) l) (sym leaves.disk.held)
+              keeps = λ told. subst (λ (l : List ℕ). RecoversAll h d0.held (recovered_run h d0.held) (b ∷ []) l) (sym leaves.disk.held)
                   (all_added h b d0.held d1.held d2.held (keeps told).run (added told));
               last = λ told whole is. ap (λ (l : List ℕ). recovered_run h l) leaves.disk.held ∙ (added told).run
                   ∙ ap (λ (l : List Block). l ++ b ∷ []) (run told)
                   ∙ last_one_more h.slots whole (recovered_run h d0.held) b (omega (arith, limits.least_slots)) is;
               settled = λ stops is image left. settled2 stops image (leaves.disk.no_more image left) ∙ sym leaves.disk.held;
-              told = λ is. announces.told;
+              announced = λ is. announces.announced;
               greatest = announced_greatest;
               least = announced_least;
               near = λ mark near. record {
-                told = announces.told;
-                least = omega (arith, announces.least, succeeds2.fresh.least, told2, told1, near.told);
+                announced = announces.announced;
+                least = omega (arith, announces.least, succeeds2.fresh.least, told2, told1, near.announced);
               };
               disk_faults = leaves.disk_faults ∙ succeeds2.disk_faults ∙ succeeds.disk_faults;
             }
 
             -- both at once
-            pub recorded-added : KeepsLine d2 d3 → d3.line_faults ≡ d2.line_faults → Elapses tells d2 d3 → EachMoment tells d2 d3 (IsNow d3)
-                → Records tells h next (b ∷ []) d0 d3 × HasRecorded tells h next (b ∷ []) d0 d3
-            recorded-added line3 line_faults3 time3 moments = (Records-added line3 line_faults3 time3 moments, HasRecorded-added)
+            pub recorded-added : KeepsInput d2 d3 → d3.input_faults ≡ d2.input_faults → Elapses tells d2 d3 → EachMoment tells d2 d3 (IsNow d3)
+                → RecordsFirstOf tells h next (b ∷ []) d0 d3 × RecordsAllOf tells h next (b ∷ []) d0 d3
+            recorded-added line3 line_faults3 time3 moments = (RecordsFirstOf-added line3 line_faults3 time3 moments, RecordsAllOf-added)

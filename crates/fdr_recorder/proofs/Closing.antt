@@ -4,22 +4,24 @@ use Rattle.fdr_deck.specs.State.{State, Tells}
 use Rattle.fdr_slot.specs.declared.image.Header.{Header}
 use Rattle.fdr_recover.specs.Blocks.{Block}
 use Rattle.fdr_stream.specs.Blocks.{cut_block, blocks_of}
-use Rattle.fdr_recorder.specs.Recording.{HasRecorded, HasEnded}
-use Rattle.fdr_recorder.specs.Past.{SessionPast, session_bytes, due, blocks_from, rest_of}
-use Rattle.fdr_recorder.proofs.Composing.{HasRecorded-here}
+use Rattle.fdr_recorder.specs.Recording.{RecordsAllOf, HasEnded}
+use Rattle.fdr_recorder.specs.Past.{RecordingPast, recorded_bytes, due_count, blocks_from, rest_of}
+use Rattle.fdr_recorder.proofs.Composing.{RecordsAllOf-here}
 
-pub rest-none : (past : SessionPast) (n : ℕ) → length (blocks_of past.header.payload (session_bytes past)) ≡ due past + min n 1 → n ≡ 0 → rest_of past ≡ []
+pub rest-none : (past : RecordingPast) (n : ℕ) → length (blocks_of past.header.payload (recorded_bytes past)) ≡ due_count past + min n 1 → n ≡ 0
+    → rest_of past ≡ []
 rest-none past n count none =
-    let zero : length (blocks_of past.header.payload (session_bytes past)) - due past ≡ 0 = omega (arith, count, none) in
-    ap (λ m. blocks_from past (due past) m) zero
+    let zero : length (blocks_of past.header.payload (recorded_bytes past)) - due_count past ≡ 0 = omega (arith, count, none) in
+    ap (λ m. blocks_from past (due_count past) m) zero
 
-pub rest-one : (past : SessionPast) (n next : ℕ) (bytes : List ℕ) → length (blocks_of past.header.payload (session_bytes past)) ≡ due past + min n 1 → 0 < n
-    → next ≡ past.first + due past
-    → bytes ≡ cut_block past.header.payload (session_bytes past) (due past) → rest_of past ≡ record { number = next; payload = bytes } ∷ []
+pub rest-one : (past : RecordingPast) (n next : ℕ) (bytes : List ℕ) → length
+    (blocks_of past.header.payload (recorded_bytes past)) ≡ due_count past + min n 1 → 0 < n
+    → next ≡ past.first + due_count past
+    → bytes ≡ cut_block past.header.payload (recorded_bytes past) (due_count past) → rest_of past ≡ record { number = next; payload = bytes } ∷ []
 rest-one past n next bytes count some at is =
-    let one : length (blocks_of past.header.payload (session_bytes past)) - due past ≡ 1 = omega (arith, count, some) in
-    ap (λ m. blocks_from past (due past) m) one
-    ∙ ap (λ (k : ℕ). record { number = k; payload = cut_block past.header.payload (session_bytes past) (due past) } ∷ []) (sym at)
+    let one : length (blocks_of past.header.payload (recorded_bytes past)) - due_count past ≡ 1 = omega (arith, count, some) in
+    ap (λ m. blocks_from past (due_count past) m) one
+    ∙ ap (λ (k : ℕ). record { number = k; payload = cut_block past.header.payload (recorded_bytes past) (due_count past) } ∷ []) (sym at)
     ∙ ap (λ (l : List ℕ). record { number = next; payload = l } ∷ []) (sym is)
 
 -- there was no number for it
@@ -28,5 +30,5 @@ HasEnded-rest tells h next b d ends =
     let none : 2 ^ 48 - next ≡ 0 = omega (arith, ends) in
     record {
       beyond = omega (arith, ends);
-      recorded = subst (λ n. HasRecorded tells h next (take n (b ∷ [])) d d) (sym none) (HasRecorded-here tells h next d);
+      recorded = subst (λ n. RecordsAllOf tells h next (take n (b ∷ [])) d d) (sym none) (RecordsAllOf-here tells h next d);
     }

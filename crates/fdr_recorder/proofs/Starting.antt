@@ -3,9 +3,9 @@ use Rattle.std.proofs.Common.{◌≡◌, ℕ, ◌+◌, ◌-◌, ◌≤◌, List,
 use Rattle.std.specs.Prelude.{IsTrue}
 use Rattle.fdr_deck.specs.State.{State, Tells, Moment}
 use Rattle.fdr_deck.specs.Disk.{IsSettled, KeepsDisk}
-use Rattle.fdr_deck.specs.Pull.{KeepsLine}
-use Rattle.fdr_deck.specs.Moments.{HasPulled, IsNow, Elapses, EachMoment, IsSoundDeck}
-use Rattle.fdr_deck.specs.Calls.{HasOneAnnounced, IsQuiet, Passes, Announces, LeavesDisk}
+use Rattle.fdr_deck.specs.Pull.{KeepsInput}
+use Rattle.fdr_deck.specs.Moments.{HasSamePulls, IsNow, Elapses, EachMoment, IsSoundDeck}
+use Rattle.fdr_deck.specs.Calls.{HasOneAnnounced, IsDiskWork, Passes, Announces, LeavesDisk}
 use Rattle.fdr_deck.proofs.Moments.{EachMoment-then, Elapses-then}
 use Rattle.fdr_slot.specs.declared.image.Header.{Header}
 use Rattle.fdr_recover.specs.Images.{recovered_run, next_of}
@@ -33,20 +33,20 @@ attaching_same h image = record {
 }
 
 -- an image that may be left while the session starts
-starting : (h : Header) (entry : State) (m : Moment) → IsAttaching h entry.held m.image → m.told ≤ next_of h entry.held → entry.least ≤ m.told
-    → HasPulled entry m → IsStarting h entry m
+starting : (h : Header) (entry : State) (m : Moment) → IsAttaching h entry.held m.image → m.announced ≤ next_of h entry.held → entry.least ≤ m.announced
+    → HasSamePulls entry m → IsStarting h entry m
 starting h entry m image told least pulled = record {
-  recording = record { image = keeps_run h entry.held m.image [] m.told (weaker h entry.held m.image image.run) told; least = least; pulled = pulled };
+  recording = record { image = keeps_run h entry.held m.image [] m.announced (weaker h entry.held m.image image.run) told; least = least; pulled = pulled };
   image = image;
 }
 
-module _ (tells : Tells) (h : Header) (d0 d1 : State) (sound : IsSoundDeck tells d0) (quiet : IsQuiet tells d0.may_leave d0 d1) where
+module _ (tells : Tells) (h : Header) (d0 d1 : State) (sound : IsSoundDeck tells d0) (quiet : IsDiskWork tells d0.may_leave d0 d1) where
   looking : IsReady (next_of h d0.held) d0 → EachMoment tells d0 d1 (IsStarting h d0)
   looking ready stops m since = let q = quiet.moments stops m since in
       starting h d0 m (subst (λ (l : List ℕ). IsAttaching h d0.held l) (sym (ready.settled m.image q.image)) (attaching_same h d0.held))
       (omega (arith, q.greatest, ready.greatest)) q.least q.pulled
 
-  looking_pulled : EachMoment tells d0 d1 (HasPulled d0)
+  looking_pulled : EachMoment tells d0 d1 (HasSamePulls d0)
   looking_pulled stops m since = (quiet.moments stops m since).pulled
 
   -- only the header was read
@@ -55,24 +55,24 @@ module _ (tells : Tells) (h : Header) (d0 d1 : State) (sound : IsSoundDeck tells
     time = quiet.passes.time;
     moments = looking;
     pulled = looking_pulled;
-    line = quiet.passes.line;
-    line_faults = quiet.passes.line_faults;
+    input = quiet.passes.input;
+    input_faults = quiet.passes.input_faults;
     disk_faults = quiet.passes.disk_faults;
   }
 
   module _ (disk : KeepsDisk d0 d1) (fresh : HasOneAnnounced d1) (d2 : State) (passes2 : Passes tells d1 d2) (quiet2 : IsTrue tells.stops
-      → IsQuiet tells (OfSettled d1 (IsAttaching h)) d1 d2) where
+      → IsDiskWork tells (OfSettled d1 (IsAttaching h)) d1 d2) where
     settled1 : IsSettled d0 → IsSettled d1
     settled1 settled image left = settled image (disk.no_more image left) ∙ sym disk.held
 
-    attaching_pulled : EachMoment tells d1 d2 (HasPulled d0)
+    attaching_pulled : EachMoment tells d1 d2 (HasSamePulls d0)
     attaching_pulled stops m since = let q = (quiet2 stops).moments stops m since in
-        record { taken = q.pulled.taken ∙ quiet.passes.line.taken; before = q.pulled.before ∙ quiet.passes.line.before }
+        record { taken = q.pulled.taken ∙ quiet.passes.input.taken; pulled_before = q.pulled.pulled_before ∙ quiet.passes.input.pulled_before }
 
     attaching : IsReady (next_of h d0.held) d0 → EachMoment tells d1 d2 (IsStarting h d0)
     attaching ready stops m since =
         let q = (quiet2 stops).moments stops m since in
-        let told = quiet.passes.told.told in
+        let told = quiet.passes.announced.announced in
         starting h d0 m (subst (λ (l : List ℕ). IsAttaching h l m.image) disk.held (q.image (settled1 ready.settled)))
         (omega (arith, q.greatest, fresh.greatest, told, sound.greatest, ready.greatest))
         (omega (arith, q.least, fresh.least, told, sound.least))
@@ -83,19 +83,19 @@ module _ (tells : Tells) (h : Header) (d0 d1 : State) (sound : IsSoundDeck tells
     Starts-attached = record {
       time = Elapses-then tells d0 d1 d2 quiet.passes.time passes2.time;
       moments = λ ready. EachMoment-then tells d0 d1 d2 (IsStarting h d0) quiet.passes.time passes2.time (looking ready) (attaching ready);
-      pulled = EachMoment-then tells d0 d1 d2 (HasPulled d0) quiet.passes.time passes2.time looking_pulled attaching_pulled;
-      line = record {
-        line = passes2.line.line ∙ quiet.passes.line.line;
-        taken = passes2.line.taken ∙ quiet.passes.line.taken;
-        before = passes2.line.before ∙ quiet.passes.line.before;
+      pulled = EachMoment-then tells d0 d1 d2 (HasSamePulls d0) quiet.passes.time passes2.time looking_pulled attaching_pulled;
+      input = record {
+        input = passes2.input.input ∙ quiet.passes.input.input;
+        taken = passes2.input.taken ∙ quiet.passes.input.taken;
+        pulled_before = passes2.input.pulled_before ∙ quiet.passes.input.pulled_before;
       };
-      line_faults = passes2.line_faults ∙ quiet.passes.line_faults;
+      input_faults = passes2.input_faults ∙ quiet.passes.input_faults;
       disk_faults = omega (arith, quiet.passes.disk_faults, passes2.disk_faults);
     }
 
     module _ (fresh2 : HasOneAnnounced d2) (next : ℕ) (d3 : State) (announces : Announces next d2 d3) where
-      told2 : d2.told ≡ d0.told
-      told2 = passes2.told.told ∙ quiet.passes.told.told
+      told2 : d2.announced ≡ d0.announced
+      told2 = passes2.announced.announced ∙ quiet.passes.announced.announced
 
       pub greatest-started : d0.greatest ≤ next → d3.greatest ≤ next
       greatest-started le = omega (arith, announces.greatest, fresh2.greatest, told2, sound.greatest, le)
@@ -104,12 +104,16 @@ module _ (tells : Tells) (h : Header) (d0 d1 : State) (sound : IsSoundDeck tells
       least-started le = omega (arith, announces.least, fresh2.least, told2, sound.least, sound.greatest, le)
 
       pub Starts-announced : (IsTrue tells.stops → IsSettled d2) → (IsTrue tells.stops → IsAttaching h d1.held d2.held) → (IsTrue tells.stops
-          → next ≡ next_of h d1.held) → LeavesDisk d2 d3 → KeepsLine d2 d3 →
-          d3.line_faults ≡ d2.line_faults → Elapses tells d2 d3 → EachMoment tells d2 d3 (IsNow d3) → Starts tells h d0 d3
+          → next ≡ next_of h d1.held) → LeavesDisk d2 d3 → KeepsInput d2 d3 →
+          d3.input_faults ≡ d2.input_faults → Elapses tells d2 d3 → EachMoment tells d2 d3 (IsNow d3) → Starts tells h d0 d3
       Starts-announced settled2 keeps number leaves line3 line_faults3 time3 moments =
           let was = Starts-attached in
-          let announced_pulled : EachMoment tells d2 d3 (HasPulled d0) = λ stops m since. let now = moments stops m since in
-          record { taken = now.pulled.taken ∙ line3.taken ∙ was.line.taken; before = now.pulled.before ∙ line3.before ∙ was.line.before } in
+          let announced_pulled : EachMoment tells d2 d3 (HasSamePulls d0) = λ stops m since. let now = moments stops m since in
+          record {
+            taken = now.pulled.taken ∙ line3.taken ∙ was.input.taken;
+            pulled_before = now.pulled.pulled_before ∙ line3.pulled_before
+                ∙ was.input.pulled_before;
+          } in
           record {
             time = Elapses-then tells d0 d2 d3 was.time time3;
             moments = λ ready. EachMoment-then tells d0 d2 d3 (IsStarting h d0) was.time time3 (was.moments ready) (λ stops m since.
@@ -121,9 +125,14 @@ module _ (tells : Tells) (h : Header) (d0 d1 : State) (sound : IsSoundDeck tells
                 (omega (arith, now.greatest, announces.greatest, fresh2.greatest, told2, sound.greatest, ready.greatest, at))
                 (omega (arith, now.least, announces.least, fresh2.least, told2, sound.least, sound.greatest, ready.greatest, at))
                 (announced_pulled stops m since));
-            pulled = EachMoment-then tells d0 d2 d3 (HasPulled d0) was.time time3 was.pulled announced_pulled;
-            line = record { line = line3.line ∙ was.line.line; taken = line3.taken ∙ was.line.taken; before = line3.before ∙ was.line.before };
-            line_faults = line_faults3 ∙ was.line_faults;
+            pulled = EachMoment-then tells d0 d2 d3 (HasSamePulls d0) was.time time3 was.pulled announced_pulled;
+            input = record {
+              input = line3.input ∙ was.input.input;
+              taken = line3.taken ∙ was.input.taken;
+              pulled_before = line3.pulled_before
+                  ∙ was.input.pulled_before;
+            };
+            input_faults = line_faults3 ∙ was.input_faults;
             disk_faults = omega (arith, was.disk_faults, leaves.disk_faults);
           }
 

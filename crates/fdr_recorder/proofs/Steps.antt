@@ -6,7 +6,7 @@ use Rattle.fdr_slot.specs.declared.image.Header.{Header}
 use Rattle.fdr_recover.specs.Blocks.{Block}
 use Rattle.fdr_recover.specs.Images.{recovered_run, next_of}
 use Rattle.fdr_ring.specs.Runs.{IsTail, KeepsRun, HasSame, HasAdded, MayAdd, last_blocks}
-use Rattle.fdr_recorder.specs.Keeping.{Keeps, KeepsAll, KeepsBehind}
+use Rattle.fdr_recorder.specs.Keeping.{RecoversPrefix, RecoversAll, RecoversPrefixAfter}
 use Rattle.fdr_ring.proofs.Turning.{KeepsHeader-then}
 
 pub tail_on : (m : ℕ) (whole part more rest : List Block) → IsTail m whole part → IsTail m (part ++ more) rest → IsTail m (whole ++ more) rest
@@ -26,7 +26,7 @@ tail_same m whole = record { lost = 0; within = omega arith; tail = refl; enough
 
 -- nothing was added
 pub keeps_run : (h : Header) (entry image : List ℕ) (new : List Block) (told : ℕ) → KeepsRun h (h.slots - 2) entry image → told ≤ next_of h entry
-    → Keeps h entry (recovered_run h entry) new told image
+    → RecoversPrefix h entry (recovered_run h entry) new told image
 keeps_run h entry image new told keeps le = record {
   kept = keeps.kept;
   count = 0;
@@ -38,7 +38,7 @@ keeps_run h entry image new told keeps le = record {
 
 -- with an added block
 pub all_added : (h : Header) (b : Block) (entry middle image : List ℕ) → KeepsRun h (h.slots - 2) entry middle → HasAdded h b middle image
-    → KeepsAll h entry (recovered_run h entry) (b ∷ []) image
+    → RecoversAll h entry (recovered_run h entry) (b ∷ []) image
 all_added h b entry middle image keeps added = record {
   kept = KeepsHeader-then entry middle image keeps.kept added.kept;
   run = tail_on (h.slots - 2) (recovered_run h entry) (recovered_run h middle) (b ∷ []) (recovered_run h image) keeps.run
@@ -48,7 +48,7 @@ all_added h b entry middle image keeps added = record {
 
 -- the block was added, or it wasn't
 pub keeps_added : (h : Header) (b : Block) (entry middle image : List ℕ) (told : ℕ) → KeepsRun h (h.slots - 2) entry middle
-    → HasAdded h b middle image → told ≤ next_of h entry + 1 → Keeps h entry (recovered_run h entry) (b ∷ []) told image
+    → HasAdded h b middle image → told ≤ next_of h entry + 1 → RecoversPrefix h entry (recovered_run h entry) (b ∷ []) told image
 keeps_added h b entry middle image told keeps added le = let all = all_added h b entry middle image keeps added in record {
   kept = all.kept;
   count = 1;
@@ -59,7 +59,7 @@ keeps_added h b entry middle image told keeps added le = let all = all_added h b
 }
 
 pub keeps_same : (h : Header) (entry middle image : List ℕ) (new : List Block) (told : ℕ) → KeepsRun h (h.slots - 2) entry middle
-    → HasSame h middle image → told ≤ next_of h entry → Keeps h entry (recovered_run h entry) new told image
+    → HasSame h middle image → told ≤ next_of h entry → RecoversPrefix h entry (recovered_run h entry) new told image
 keeps_same h entry middle image new told keeps same le = keeps_run h entry image new told (record {
   kept = KeepsHeader-then entry middle image keeps.kept same.kept;
   run = subst (λ (l : List Block). IsTail (h.slots - 2) (recovered_run h entry) l) (sym same.run) keeps.run;
@@ -67,7 +67,7 @@ keeps_same h entry middle image new told keeps same le = keeps_run h entry image
 }) le
 
 pub keeps_may : (h : Header) (b : Block) (entry middle image : List ℕ) (told : ℕ) → KeepsRun h (h.slots - 2) entry middle → MayAdd h b middle image
-    → told ≤ next_of h entry → Keeps h entry (recovered_run h entry) (b ∷ []) told image
+    → told ≤ next_of h entry → RecoversPrefix h entry (recovered_run h entry) (b ∷ []) told image
 keeps_may h b entry middle image told keeps may le = ⊎_elim
     (λ same. keeps_same h entry middle image (b ∷ []) told keeps same le)
     (λ added. keeps_added h b entry middle image told keeps added (omega (arith, le)))
@@ -78,8 +78,8 @@ take_all [] ys n = let e : 0 + n ≡ n = omega arith in ap (λ (m : ℕ). take m
 take_all (x ∷ xs) ys n = let e : suc (length xs) + n ≡ suc (length xs + n) = omega arith in ap (λ (m : ℕ). take m (x ∷ (xs ++ ys))) e
     ∙ ap (λ (l : List Block). x ∷ l) (take_all xs ys n)
 
-pub keeps_on : (h : Header) (entry middle image : List ℕ) (old new more : List Block) (told : ℕ) → KeepsAll h entry old new middle
-    → Keeps h middle (recovered_run h middle) more told image → Keeps h entry old (new ++ more) told image
+pub keeps_on : (h : Header) (entry middle image : List ℕ) (old new more : List Block) (told : ℕ) → RecoversAll h entry old new middle
+    → RecoversPrefix h middle (recovered_run h middle) more told image → RecoversPrefix h entry old (new ++ more) told image
 keeps_on h entry middle image old new more told has keeps = record {
   kept = KeepsHeader-then entry middle image has.kept keeps.kept;
   count = length new + keeps.count;
@@ -91,8 +91,8 @@ keeps_on h entry middle image old new more told has keeps = record {
   announced = keeps.announced;
 }
 
-pub keeps_more : (h : Header) (entry image : List ℕ) (old new more : List Block) (told : ℕ) → Keeps h entry old new told image
-    → Keeps h entry old (new ++ more) told image
+pub keeps_more : (h : Header) (entry image : List ℕ) (old new more : List Block) (told : ℕ) → RecoversPrefix h entry old new told image
+    → RecoversPrefix h entry old (new ++ more) told image
 keeps_more h entry image old new more told keeps = record {
   kept = keeps.kept;
   count = keeps.count;
@@ -102,8 +102,8 @@ keeps_more h entry image old new more told keeps = record {
   announced = keeps.announced;
 }
 
-pub all_on : (h : Header) (entry middle image : List ℕ) (old new more : List Block) → KeepsAll h entry old new middle
-    → KeepsAll h middle (recovered_run h middle) more image → KeepsAll h entry old (new ++ more) image
+pub all_on : (h : Header) (entry middle image : List ℕ) (old new more : List Block) → RecoversAll h entry old new middle
+    → RecoversAll h middle (recovered_run h middle) more image → RecoversAll h entry old (new ++ more) image
 all_on h entry middle image old new more has also = record {
   kept = KeepsHeader-then entry middle image has.kept also.kept;
   run = subst (λ (l : List Block). IsTail (h.slots - 2) l (recovered_run h image)) (append_assoc old new more) (tail_on (h.slots - 2) (old ++ new)
@@ -115,7 +115,7 @@ pub same_run : (h : Header) (image : List ℕ) → KeepsRun h (h.slots - 2) imag
 same_run h image = record { kept = record { size = refl; header = refl }; run = tail_same (h.slots - 2) (recovered_run h image); next = refl }
 
 -- before the first block
-pub keeps_none : (h : Header) (image : List ℕ) → KeepsAll h image (recovered_run h image) [] image
+pub keeps_none : (h : Header) (image : List ℕ) → RecoversAll h image (recovered_run h image) [] image
 keeps_none h image = record {
   kept = record { size = refl; header = refl };
   run = subst (λ (l : List Block). IsTail (h.slots - 2) l (recovered_run h image)) (sym (append-nil (recovered_run h image))) (tail_same
@@ -124,7 +124,7 @@ keeps_none h image = record {
 }
 
 pub keeps_behind : (h : Header) (entry image : List ℕ) (whole old new : List Block) (told : ℕ) → IsTail (h.slots - 2) whole old
-    → Keeps h entry old new told image → KeepsBehind h whole new image
+    → RecoversPrefix h entry old new told image → RecoversPrefixAfter h whole new image
 keeps_behind h entry image whole old new told tail keeps = record {
   count = keeps.count;
   fits = keeps.fits;

@@ -12,63 +12,63 @@ use Rattle.fdr_stream.specs.Past.{StreamPast, RepresentsStream}
 use Rattle.fdr_recorder.specs.declared.session.Session.{Session}
 
 -- The table, the header of the image and its next number as the session was started, and the records that were fed.
-pub record SessionPast : Type 0 where
+pub record RecordingPast : Type 0 where
   pub table : TableRows
   pub header : Header
   pub first : ℕ
   pub records : List BusRecord
 
-abbrev pub started : TableRows → Header → ℕ → SessionPast
-started t h first = record { table = t; header = h; first = first; records = [] }
+abbrev pub past_at_start : TableRows → Header → ℕ → RecordingPast
+past_at_start t h first = record { table = t; header = h; first = first; records = [] }
 
-abbrev pub session_with_record : SessionPast → BusRecord → SessionPast
-session_with_record past r = record past { records = past.records ++ r ∷ [] }
+abbrev pub recording_with_record : RecordingPast → BusRecord → RecordingPast
+recording_with_record past r = record past { records = past.records ++ r ∷ [] }
 
 -- the record is a good next one
-pub record MayFeedSession (past : SessionPast) (r : BusRecord) : Type 0 where
+pub record MayFeedRecording (past : RecordingPast) (r : BusRecord) : Type 0 where
   pub order : time_of past.records ≤ r.time
   pub in_time : r.time ≤ last_time
   pub unended : has_end past.records ≡ false
 
 -- the bytes that the records give
-abbrev pub session_bytes : SessionPast → List ℕ
-session_bytes past = stream_of past.table past.records
+abbrev pub recorded_bytes : RecordingPast → List ℕ
+recorded_bytes past = stream_of past.table past.records
 
 -- how many blocks are due at them
-abbrev pub due : SessionPast → ℕ
-due past = due_blocks past.table past.header.payload past.records
+abbrev pub due_count : RecordingPast → ℕ
+due_count past = due_blocks past.table past.header.payload past.records
 
 -- block i of the bytes, with its number in the image
-abbrev pub numbered_block : SessionPast → ℕ → Block
-numbered_block past i = record { number = past.first + i; payload = cut_block past.header.payload (session_bytes past) i }
+abbrev pub numbered_block : RecordingPast → ℕ → Block
+numbered_block past i = record { number = past.first + i; payload = cut_block past.header.payload (recorded_bytes past) i }
 
 -- this many blocks, from block `from` on
-abbrev pub blocks_from : SessionPast → ℕ → ℕ → List Block
+abbrev pub blocks_from : RecordingPast → ℕ → ℕ → List Block
 blocks_from past from count = map (numbered_block past) (range_with_len from count)
 
 -- the blocks that are due
-abbrev pub recorded_of : SessionPast → List Block
-recorded_of past = blocks_from past 0 (due past)
+abbrev pub recorded_of : RecordingPast → List Block
+recorded_of past = blocks_from past 0 (due_count past)
 
 -- all blocks of the stream
-abbrev pub all_blocks : SessionPast → List Block
-all_blocks past = blocks_from past 0 (length (blocks_of past.header.payload (session_bytes past)))
+abbrev pub all_blocks : RecordingPast → List Block
+all_blocks past = blocks_from past 0 (length (blocks_of past.header.payload (recorded_bytes past)))
 
 -- the blocks that become due by a record
-abbrev pub due_at : SessionPast → BusRecord → List Block
-due_at past r = blocks_from (session_with_record past r) (due past) (due (session_with_record past r) - due past)
+abbrev pub blocks_due_at : RecordingPast → BusRecord → List Block
+blocks_due_at past r = blocks_from (recording_with_record past r) (due_count past) (due_count (recording_with_record past r) - due_count past)
 
 -- the blocks that aren't due yet: none, or a last one
-abbrev pub rest_of : SessionPast → List Block
-rest_of past = blocks_from past (due past) (length (blocks_of past.header.payload (session_bytes past)) - due past)
+abbrev pub rest_of : RecordingPast → List Block
+rest_of past = blocks_from past (due_count past) (length (blocks_of past.header.payload (recorded_bytes past)) - due_count past)
 
 -- the stream was fed these records and has given all blocks that are due
-abbrev pub stream_past : SessionPast → StreamPast
-stream_past past = record { table = past.table; payload = past.header.payload; records = past.records; begun = None; blocks = due past }
+abbrev pub stream_past : RecordingPast → StreamPast
+stream_past past = record { table = past.table; payload = past.header.payload; records = past.records; begun = None; blocks = due_count past }
 
 -- The session was started on this and fed these records, and the due blocks were recorded. It has room for a block.
-pub record RepresentsSession (s : Session) (past : SessionPast) : Type 0 where
+pub record RepresentsRecording (s : Session) (past : RecordingPast) : Type 0 where
   pub header : s.ring.header ≡ past.header
   pub stream : RepresentsStream s.stream.value (stream_past past)
-  pub next : s.ring.next ≡ past.first + due past
+  pub next : s.ring.next ≡ past.first + due_count past
   pub room : past.header.payload ≤ length s.block.value

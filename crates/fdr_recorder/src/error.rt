@@ -1,6 +1,6 @@
 //! Why a session is refused.
 
-use fdr_recover::RingFault;
+use fdr_recover::{HeaderFault, RingFault};
 use fdr_slot::ImageFault;
 use fdr_table::NoMemory;
 
@@ -36,6 +36,21 @@ impl From<RingFault> for SessionFault {
             RingFault::SeqEnd => SessionFault::SeqEnd,
             // Only an image that is made answers that the disk isn't empty.
             RingFault::NotEmpty | RingFault::DiskFault => SessionFault::DiskFault,
+        }
+    }
+}
+
+impl From<HeaderFault> for SessionFault {
+    ghost use Rattle.std.specs.Prelude.{◌≡◌};
+    ghost use Rattle.fdr_recorder.specs.Faults.{session_header_fault};
+
+    ghost from_gives = { λ why result. result ≡ session_header_fault why };
+
+    fn from(why: HeaderFault) -> SessionFault {
+        match why {
+            HeaderFault::Image(why) => SessionFault::Image(why),
+            HeaderFault::WordsDiffer { image, table } => SessionFault::WordsDiffer { image, table },
+            HeaderFault::DiskFault => SessionFault::DiskFault,
         }
     }
 }

@@ -6,19 +6,19 @@ ghost use Rattle.fdr_slot.specs.Limits.{IsInLimits};
 ghost use Rattle.fdr_slot.specs.declared.image.Header.{Header};
 ghost use Rattle.fdr_recover.specs.Blocks.{Block};
 ghost use Rattle.fdr_ring.specs.Runs.{IsTail};
-ghost use Rattle.fdr_recorder.specs.Keeping.{Keeps, KeepsBehind};
-ghost use Rattle.fdr_recorder.specs.Past.{SessionPast, MayFeedSession, session_with_record, recorded_of, due_at};
+ghost use Rattle.fdr_recorder.specs.Keeping.{RecoversPrefix, RecoversPrefixAfter};
+ghost use Rattle.fdr_recorder.specs.Past.{RecordingPast, MayFeedRecording, recording_with_record, recorded_of, blocks_due_at};
 
 /// What is promised doesn't wear away over recordings of which each begins on the image that the one before it left, however
 /// it was stopped. It does no work.
 pub fn keeps_chain()
     ensures { (h : Header) (entry image : List ℕ) (whole old new : List Block) (told : ℕ)
-        → IsTail (h.slots - 2) whole old → Keeps h entry old new told image → KeepsBehind h whole new image }
+        → IsTail (h.slots - 2) whole old → RecoversPrefix h entry old new told image → RecoversPrefixAfter h whole new image }
 {}
 
 /// A further record changes none of the blocks that were due before it: those of all records one after another are those of
 /// the whole stream. It does no work.
 pub fn blocks_join()
-    ensures { (past : SessionPast) (r : BusRecord) → IsInLimits past.header → MayFeedSession past r
-        → recorded_of (session_with_record past r) ≡ recorded_of past ++ due_at past r }
+    ensures { (past : RecordingPast) (r : BusRecord) → IsInLimits past.header → MayFeedRecording past r
+        → recorded_of (recording_with_record past r) ≡ recorded_of past ++ blocks_due_at past r }
 {}

@@ -3,20 +3,20 @@
 ghost use Rattle.std.specs.Prelude.{◌≡◌, ◌≢◌, ◌⊎◌, ◌↔◌, ◌<◌, ◌≤◌, ◌^◌, ◌+◌, ℕ, [], ◌∷◌, ◌++◌, Err, Some, None, length, IfOk, OnOk, OnErr, IsTrue};
 ghost use Rattle.fdr_io.specs.Faults.{Rose};
 ghost use Rattle.fdr_deck.specs.Disk.{KeepsDisk, LearnsExtent};
-ghost use Rattle.fdr_deck.specs.Calls.{KeepsTold};
+ghost use Rattle.fdr_deck.specs.Calls.{KeepsAnnounced};
 ghost use Rattle.fdr_slot.specs.declared.image.ImageFault.{ImageFault};
 ghost use Rattle.fdr_slot.specs.declared.image.ImageFault.TheVariants as image_fault;
-ghost use Rattle.fdr_recover.specs.ImageHeader.{image_fault_of, header_in};
+ghost use Rattle.fdr_recover.specs.ImageHeader.{IsFor, image_fault_of, header_in};
 ghost use Rattle.fdr_ring.specs.Rings.{IsRing, IsSureRing};
-ghost use Rattle.fdr_recorder.specs.Recording.{Records, HasRecorded, HasEnded};
-ghost use Rattle.fdr_recorder.specs.Past.{SessionPast, MayFeedSession, RepresentsSession, session_with_record, due_at, rest_of, recorded_of, all_blocks};
-ghost use Rattle.fdr_recorder.specs.Starting.{Starts, IsFor, IsStarted};
+ghost use Rattle.fdr_recorder.specs.Recording.{RecordsFirstOf, RecordsAllOf, HasEnded};
+ghost use Rattle.fdr_recorder.specs.Past.{RecordingPast, MayFeedRecording, RepresentsRecording, recording_with_record, blocks_due_at, rest_of, recorded_of, all_blocks};
+ghost use Rattle.fdr_recorder.specs.Starting.{Starts, IsStarted};
 
 use crate::SessionFault;
 use fdr_bus::BusRecord;
 use fdr_check::Sound;
 use fdr_deck::Deck;
-use fdr_recover::{RingFault, read_image_header};
+use fdr_recover::{RingFault, read_header_for};
 use fdr_ring::Ring;
 use fdr_stream::{Fed, Stream};
 use fdr_table::NoMemory;
@@ -58,24 +58,18 @@ impl Session {
         ensures good { IsTrue D.tells.bytes → OnOk result (IsFor sound.now.frame.words (D.state deck.old).held) }
         ensures started { IfOk result (λ s. IsStarted D.tells sound.now s (D.state deck.old) (D.state deck.new)) }
         ensures starts { Starts D.tells (header_in (D.state deck.old).held) (D.state deck.old) (D.state deck.new) }
-        ensures refused { OnErr result (KeepsTold (D.state deck.old) (D.state deck.new)) }
+        ensures refused { OnErr result (KeepsAnnounced (D.state deck.old) (D.state deck.new)) }
         ensures learns { LearnsExtent D.tells (D.state deck.old) (D.state deck.new) }
         ensures untouched { result ≢ Err SessionFault.DiskFault
             → OnErr result (KeepsDisk (D.state deck.old) (D.state deck.new)) }
-        ensures quiet { result ≢ Err SessionFault.DiskFault
+        ensures no_fault { result ≢ Err SessionFault.DiskFault
             → (D.state deck.new).disk_faults ≡ (D.state deck.old).disk_faults }
         ensures cause { result ≡ Err SessionFault.DiskFault
             → Rose (D.state deck.old).disk_faults (D.state deck.new).disk_faults }
         ensures rest { D.same_rest deck.old deck.new }
     {
-        let header = read_image_header(deck)?;
         let words = sound.table().frame().words;
-        if header.words != words {
-            return Err(SessionFault::WordsDiffer {
-                image: header.words,
-                table: words,
-            });
-        }
+        let header = read_header_for(deck, words)?;
         let stream = Stream::new(alloc, sound, header.payload)?;
         let stream = boxed(alloc, stream)?;
         let block = boxed(alloc, [0; MAX_PAYLOAD])?;
@@ -93,23 +87,23 @@ impl Session {
     /// is inlined: at most records no block is due.
     #[inline(always)]
     pub fn feed<D: Deck>(self, deck: &mut D, r: &BusRecord) -> Result<Session, SessionFault>
-        requires stands { (past : SessionPast) × RepresentsSession self past × MayFeedSession past r.now }
+        requires stands { (past : RecordingPast) × RepresentsRecording self past × MayFeedRecording past r.now }
         requires fact { IsRing D.tells self.ring.header self.ring.next (D.state deck.old) }
         ensures only { OnErr result (result ≡ Err SessionFault.DiskFault ⊎ result ≡ Err SessionFault.SeqEnd) }
-        ensures stands { (past : SessionPast) → RepresentsSession self past → MayFeedSession past r.now
-            → IfOk result (λ s. RepresentsSession s (session_with_record past r.now)) }
+        ensures stands { (past : RecordingPast) → RepresentsRecording self past → MayFeedRecording past r.now
+            → IfOk result (λ s. RepresentsRecording s (recording_with_record past r.now)) }
         ensures header { IfOk result (λ s. s.ring.header ≡ self.ring.header) }
-        ensures next { (past : SessionPast) → RepresentsSession self past → MayFeedSession past r.now
-            → IfOk result (λ s. s.ring.next ≡ self.ring.next + length (due_at past r.now)) }
+        ensures next { (past : RecordingPast) → RepresentsRecording self past → MayFeedRecording past r.now
+            → IfOk result (λ s. s.ring.next ≡ self.ring.next + length (blocks_due_at past r.now)) }
         ensures fact { IfOk result (λ s. IsRing D.tells s.ring.header s.ring.next (D.state deck.new)) }
-        ensures records { (past : SessionPast) → RepresentsSession self past → MayFeedSession past r.now
-            → Records D.tells self.ring.header self.ring.next (due_at past r.now) (D.state deck.old) (D.state deck.new) }
-        ensures recorded { (past : SessionPast) → RepresentsSession self past → MayFeedSession past r.now → OnOk result
-            (HasRecorded D.tells self.ring.header self.ring.next (due_at past r.now) (D.state deck.old) (D.state deck.new)) }
-        ensures seq_end { (past : SessionPast) → RepresentsSession self past → MayFeedSession past r.now → result ≡ Err SessionFault.SeqEnd
-            → HasEnded D.tells self.ring.header self.ring.next (due_at past r.now) (D.state deck.old) (D.state deck.new) }
-        ensures room { (past : SessionPast) → RepresentsSession self past → MayFeedSession past r.now
-            → OnOk result (self.ring.next + length (due_at past r.now) ≤ 2 ^ 48) }
+        ensures records { (past : RecordingPast) → RepresentsRecording self past → MayFeedRecording past r.now
+            → RecordsFirstOf D.tells self.ring.header self.ring.next (blocks_due_at past r.now) (D.state deck.old) (D.state deck.new) }
+        ensures recorded { (past : RecordingPast) → RepresentsRecording self past → MayFeedRecording past r.now → OnOk result
+            (RecordsAllOf D.tells self.ring.header self.ring.next (blocks_due_at past r.now) (D.state deck.old) (D.state deck.new)) }
+        ensures seq_end { (past : RecordingPast) → RepresentsRecording self past → MayFeedRecording past r.now → result ≡ Err SessionFault.SeqEnd
+            → HasEnded D.tells self.ring.header self.ring.next (blocks_due_at past r.now) (D.state deck.old) (D.state deck.new) }
+        ensures room { (past : RecordingPast) → RepresentsRecording self past → MayFeedRecording past r.now
+            → OnOk result (self.ring.next + length (blocks_due_at past r.now) ≤ 2 ^ 48) }
         ensures cause { result ≡ Err SessionFault.DiskFault
             → Rose (D.state deck.old).disk_faults (D.state deck.new).disk_faults }
         ensures rest { D.same_rest deck.old deck.new }
@@ -139,17 +133,17 @@ impl Session {
     /// Ends the recording: what is left of the stream is added as a last block, and announced. Answers the next number of
     /// the image.
     pub fn close<D: Deck>(self, deck: &mut D) -> Result<u64, SessionFault>
-        requires stands { (past : SessionPast) × RepresentsSession self past }
+        requires stands { (past : RecordingPast) × RepresentsRecording self past }
         requires fact { IsRing D.tells self.ring.header self.ring.next (D.state deck.old) }
         ensures only { OnErr result (result ≡ Err SessionFault.DiskFault ⊎ result ≡ Err SessionFault.SeqEnd) }
-        ensures all { (past : SessionPast) → RepresentsSession self past → all_blocks past ≡ recorded_of past ++ rest_of past }
-        ensures next { (past : SessionPast) → RepresentsSession self past
+        ensures all { (past : RecordingPast) → RepresentsRecording self past → all_blocks past ≡ recorded_of past ++ rest_of past }
+        ensures next { (past : RecordingPast) → RepresentsRecording self past
             → IfOk result (λ n. n ≡ self.ring.next + length (rest_of past)) }
-        ensures records { (past : SessionPast) → RepresentsSession self past
-            → Records D.tells self.ring.header self.ring.next (rest_of past) (D.state deck.old) (D.state deck.new) }
-        ensures recorded { (past : SessionPast) → RepresentsSession self past → OnOk result
-            (HasRecorded D.tells self.ring.header self.ring.next (rest_of past) (D.state deck.old) (D.state deck.new)) }
-        ensures seq_end { (past : SessionPast) → RepresentsSession self past → result ≡ Err SessionFault.SeqEnd
+        ensures records { (past : RecordingPast) → RepresentsRecording self past
+            → RecordsFirstOf D.tells self.ring.header self.ring.next (rest_of past) (D.state deck.old) (D.state deck.new) }
+        ensures recorded { (past : RecordingPast) → RepresentsRecording self past → OnOk result
+            (RecordsAllOf D.tells self.ring.header self.ring.next (rest_of past) (D.state deck.old) (D.state deck.new)) }
+        ensures seq_end { (past : RecordingPast) → RepresentsRecording self past → result ≡ Err SessionFault.SeqEnd
             → HasEnded D.tells self.ring.header self.ring.next (rest_of past) (D.state deck.old) (D.state deck.new) }
         ensures room { IfOk result (λ n. n ≤ 2 ^ 48) }
         ensures cause { result ≡ Err SessionFault.DiskFault
@@ -198,9 +192,9 @@ fn add<D: Deck>(ring: Ring, deck: &mut D, bytes: &[u8]) -> Result<Ring, RingFaul
     ensures only { OnErr result (result ≡ Err RingFault.SeqEnd ⊎ result ≡ Err RingFault.DiskFault) }
     ensures ring { IfOk result (λ r. (r.header ≡ ring.header) × (r.next ≡ ring.next + 1)) }
     ensures fact { IfOk result (λ r. IsRing D.tells r.header r.next (D.state deck.new)) }
-    ensures records { Records D.tells ring.header ring.next
+    ensures records { RecordsFirstOf D.tells ring.header ring.next
         (record { number = ring.next; payload = bytes.now } ∷ []) (D.state deck.old) (D.state deck.new) }
-    ensures recorded { OnOk result (HasRecorded D.tells ring.header ring.next
+    ensures recorded { OnOk result (RecordsAllOf D.tells ring.header ring.next
         (record { number = ring.next; payload = bytes.now } ∷ []) (D.state deck.old) (D.state deck.new)) }
     ensures cause { result ≡ Err RingFault.DiskFault
         → Rose (D.state deck.old).disk_faults (D.state deck.new).disk_faults }

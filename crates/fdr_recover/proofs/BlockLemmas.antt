@@ -100,7 +100,7 @@ block_at-some h image number slot head own is valid same =
     let there = block_in-valid h image slot (ap (is_valid h slot) (sym is) ∙ valid) ∙ ap (λ x. Some (block_of h image slot x)) (sym is) in
     in_own_slot h image number slot (Some (block_of h image slot head)) own there ∙ numbered_same number (block_of h image slot head) same
 
--- the bytes behind the head, read into the front of a buffer
+-- the bytes after the head, read into the front of a buffer
 pub read_payload : (h : Header) (image mid buf rest : List ℕ) (number slot len at : ℕ) (head : SlotHead)
     → block_numbered h image number ≡ Some (block_of h image slot head) → mid ≡ image → at ≡ slot_at h slot + 16 → len ≡ head.len → length buf ≡ len
     → buf ≡ slice_range mid at (at + length buf) → take len (buf ++ rest) ≡ payload_at h image number

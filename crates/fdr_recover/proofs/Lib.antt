@@ -6,3 +6,4 @@ pub mod Nexts
 pub mod Runs
 pub mod Walking
 pub mod BlockLemmas
+pub mod RunPayloads

@@ -4,19 +4,20 @@ use Rattle.std.proofs.Common.{length-append}
 use Rattle.std.specs.Prelude.{All}
 use Rattle.std.proofs.lemmas.Bool.{cases_lt}
 use Rattle.std.proofs.lemmas.List.Elements.{All-append, All-nil, All-cons, All-head, All-tail}
-use Rattle.fdr_recover.specs.Blocks.{Block, Slots, StandsInSlot, AreNumberedFrom, IsNextOfBlocks, IsRun, IsLongestRun, standing, continued, run_below}
-use Rattle.fdr_recover.proofs.Standing.{standing-stands, stands-standing}
+use Rattle.fdr_recover.specs.Blocks.{Block, Slots, StandsInSlot, AreNumberedFrom, IsNextOfBlocks}
+use Rattle.fdr_recover.specs.Blocks.{IsRun, IsLongestRun, standing_block, blocks_with_next, run_below}
+use Rattle.fdr_recover.proofs.Standing.{standing_block-stands, stands-standing_block}
 use Rattle.fdr_recover.proofs.Nexts.{IsNext-one}
 use Rattle.fdr_lists.proofs.Options.{some_or_none}
 
-pub run_below-none : (n : ℕ) (slots : Slots) (number : ℕ) → standing n slots number ≡ None → run_below n slots (suc number) ≡ []
-run_below-none n slots number none = ap (continued (run_below n slots number)) none
+pub run_below-none : (n : ℕ) (slots : Slots) (number : ℕ) → standing_block n slots number ≡ None → run_below n slots (suc number) ≡ []
+run_below-none n slots number none = ap (blocks_with_next (run_below n slots number)) none
 
-pub run_below-some : (n : ℕ) (slots : Slots) (number : ℕ) (b : Block) → standing n slots number ≡ Some b
+pub run_below-some : (n : ℕ) (slots : Slots) (number : ℕ) (b : Block) → standing_block n slots number ≡ Some b
     → run_below n slots (suc number) ≡ run_below n slots number ++ b ∷ []
-run_below-some n slots number b some = ap (continued (run_below n slots number)) some
+run_below-some n slots number b some = ap (blocks_with_next (run_below n slots number)) some
 
-pub length-run_below : (n : ℕ) (slots : Slots) (number : ℕ) (b : Block) → standing n slots number ≡ Some b
+pub length-run_below : (n : ℕ) (slots : Slots) (number : ℕ) (b : Block) → standing_block n slots number ≡ Some b
     → length (run_below n slots (suc number)) ≡ length (run_below n slots number) + 1
 length-run_below n slots number b some =
     ap length (run_below-some n slots number b some) ∙ length-append (run_below n slots number) (b ∷ [])
@@ -26,7 +27,7 @@ run_below-short n slots zero = omega arith
 run_below-short n slots (suc number) = ⊎_elim
     (λ none. omega (arith, ap length (run_below-none n slots number none)))
     (λ some. omega (arith, length-run_below n slots number some.0 some.1, run_below-short n slots number))
-    (some_or_none (standing n slots number))
+    (some_or_none (standing_block n slots number))
 
 -- one block more
 IsNumbered-more : (first : ℕ) (xs : List Block) (b : Block) → AreNumberedFrom first xs → b.number ≡ first + length xs → AreNumberedFrom first (xs ++ b ∷ [])
@@ -40,10 +41,10 @@ run_below-numbered n slots (suc number) first is = ⊎_elim
     (λ none. subst (AreNumberedFrom first) (sym (run_below-none n slots number none)) tt)
     (λ some. let longer = length-run_below n slots number some.0 some.1 in
     let rest : first + length (run_below n slots number) ≡ number = omega arith in
-    let block = standing-stands n slots number some.0 some.1 in
+    let block = standing_block-stands n slots number some.0 some.1 in
     subst (AreNumberedFrom first) (sym (run_below-some n slots number some.0 some.1))
     (IsNumbered-more first (run_below n slots number) some.0 (run_below-numbered n slots number first rest) (block.0 ∙ sym rest)))
-    (some_or_none (standing n slots number))
+    (some_or_none (standing_block n slots number))
 
 run_below-stands : (n : ℕ) (slots : Slots) (number : ℕ) → All (StandsInSlot n slots) (run_below n slots number)
 run_below-stands n slots zero = All-nil (StandsInSlot n slots)
@@ -51,19 +52,19 @@ run_below-stands n slots (suc number) = ⊎_elim
     (λ none. subst (All (StandsInSlot n slots)) (sym (run_below-none n slots number none)) (All-nil (StandsInSlot n slots)))
     (λ some. subst (All (StandsInSlot n slots)) (sym (run_below-some n slots number some.0 some.1))
     (All-append (StandsInSlot n slots) (run_below n slots number) (some.0 ∷ []) (run_below-stands n slots number)
-    (All-cons (StandsInSlot n slots) some.0 [] (standing-stands n slots number some.0 some.1).1 (All-nil (StandsInSlot n slots)))))
-    (some_or_none (standing n slots number))
+    (All-cons (StandsInSlot n slots) some.0 [] (standing_block-stands n slots number some.0 some.1).1 (All-nil (StandsInSlot n slots)))))
+    (some_or_none (standing_block n slots number))
 
 -- the number before the first doesn't stand
-run_below-ends : (n : ℕ) (slots : Slots) (number first : ℕ) → suc first + length (run_below n slots number) ≡ number → standing n slots first ≡ None
+run_below-ends : (n : ℕ) (slots : Slots) (number first : ℕ) → suc first + length (run_below n slots number) ≡ number → standing_block n slots first ≡ None
 run_below-ends n slots zero first is = absurd (omega arith)
 run_below-ends n slots (suc number) first is = ⊎_elim
     (λ none. let empty = ap length (run_below-none n slots number none) in
     let same : first ≡ number = omega arith in
-    ap (standing n slots) same ∙ none)
+    ap (standing_block n slots) same ∙ none)
     (λ some. let longer = length-run_below n slots number some.0 some.1 in
     run_below-ends n slots number first (omega arith))
-    (some_or_none (standing n slots number))
+    (some_or_none (standing_block n slots number))
 
 -- each number of a run stands
 run_at : (n : ℕ) (slots : Slots) (first : ℕ) (run : List Block) (number : ℕ) → AreNumberedFrom first run → All (StandsInSlot n slots) run → first ≤ number
@@ -94,7 +95,7 @@ run_below-longest n slots next other is_next is_run = ⊎_elim
     let before : ℕ = (next - length (run_below n slots next)) - 1 in
     let stops = run_below-ends n slots next before (omega arith) in
     let held = run_at n slots is_run.first other before is_run.numbered is_run.stand (omega arith) (omega arith) in
-    let stands = stands-standing n slots before held.0 held.1.0 held.1.1 in
+    let stands = stands-standing_block n slots before held.0 held.1.0 held.1.1 in
     absurd (cc))
     (λ short. short)
     (cases_lt (length (run_below n slots next)) (length other))
@@ -112,8 +113,8 @@ same_run n slots first [] [] numbered stand numbered_too stand_too long = refl
 same_run n slots first [] (y ∷ ys) numbered stand numbered_too stand_too long = absurd (omega arith)
 same_run n slots first (x ∷ xs) [] numbered stand numbered_too stand_too long = absurd (omega arith)
 same_run n slots first (x ∷ xs) (y ∷ ys) numbered stand numbered_too stand_too long =
-    let one = stands-standing n slots first x (All-head (StandsInSlot n slots) x xs stand) numbered.0 in
-    let two = stands-standing n slots first y (All-head (StandsInSlot n slots) y ys stand_too) numbered_too.0 in
+    let one = stands-standing_block n slots first x (All-head (StandsInSlot n slots) x xs stand) numbered.0 in
+    let two = stands-standing_block n slots first y (All-head (StandsInSlot n slots) y ys stand_too) numbered_too.0 in
     let found : Some x ≡ Some y = sym one ∙ two in
     let block : x ≡ y = cc in
     let rest = same_run n slots (first + 1) xs ys numbered.1 (All-tail (StandsInSlot n slots) x xs stand) numbered_too.1

@@ -1,9 +1,9 @@
--- Which blocks stand in their slots.
+-- Which blocks are in their slots.
 use Rattle.std.proofs.Common.{◌≡◌, ◌≢◌, ⊎_elim, ℕ, ◌+◌, ◌%◌, true, false, Option, Some, None, refl, sym, ap, ◌∙◌, arith}
 use Rattle.std.specs.Prelude.{◌==◌, ◌↔◌, IsTrue, IsSome}
 use Rattle.std.proofs.lemmas.Bool.{cases_eq}
 use Rattle.std.proofs.lemmas.Bool.Decides.{nat_tests}
-use Rattle.fdr_recover.specs.Blocks.{Block, Slots, StandsInSlot, number_after, if_numbered, standing}
+use Rattle.fdr_recover.specs.Blocks.{Block, Slots, StandsInSlot, number_after, if_numbered, standing_block}
 
 pub numbered_same : (number : ℕ) (b : Block) → b.number ≡ number → if_numbered number (Some b) ≡ Some b
 numbered_same number b same =
@@ -26,13 +26,15 @@ numbered-is number (Some x) b is = ⊎_elim
     (λ no. let there = numbered_other number x no in absurd (cc))
     (cases_eq x.number number)
 
-pub standing-stands : (n : ℕ) (slots : Slots) (number : ℕ) (b : Block) → standing n slots number ≡ Some b → (b.number ≡ number) × StandsInSlot n slots b
-standing-stands n slots number b is =
+pub standing_block-stands : (n : ℕ) (slots : Slots) (number : ℕ) (b : Block) → standing_block n slots number ≡ Some b →
+    (b.number ≡ number) × StandsInSlot n slots b
+standing_block-stands n slots number b is =
     let found = numbered-is number (slots (number % n)) b is in
     (found.0, ap (λ k. slots (k % n)) found.0 ∙ found.1)
 
-pub stands-standing : (n : ℕ) (slots : Slots) (number : ℕ) (b : Block) → StandsInSlot n slots b → b.number ≡ number → standing n slots number ≡ Some b
-stands-standing n slots number b stands same =
+pub stands-standing_block : (n : ℕ) (slots : Slots) (number : ℕ) (b : Block) → StandsInSlot n slots b → b.number ≡ number
+    → standing_block n slots number ≡ Some b
+stands-standing_block n slots number b stands same =
     ap (if_numbered number) (ap (λ k. slots (k % n)) (sym same) ∙ stands) ∙ numbered_same number b same
 
 -- a slot holds the block with a number exactly where one more than its number is one more than this

@@ -51,15 +51,15 @@ if_numbered number None = None
 if_numbered number (Some b) = if b.number == number then Some b else None
 
 -- the block with this number, where its slot holds it
-abbrev pub standing : ℕ → Slots → ℕ → Option Block
-standing n slots number = if_numbered number (slots (number % n))
+abbrev pub standing_block : ℕ → Slots → ℕ → Option Block
+standing_block n slots number = if_numbered number (slots (number % n))
 
--- these blocks and the one behind them, or none where it isn't there
-abbrev pub continued : List Block → Option Block → List Block
-continued earlier None = []
-continued earlier (Some b) = earlier ++ b ∷ []
+-- these blocks and the one after them, or none where it isn't there
+abbrev pub blocks_with_next : List Block → Option Block → List Block
+blocks_with_next earlier None = []
+blocks_with_next earlier (Some b) = earlier ++ b ∷ []
 
 -- the blocks below a number, down to the first that doesn't stand
 abbrev pub run_below : ℕ → Slots → ℕ → List Block
 run_below n slots zero = []
-run_below n slots (suc number) = continued (run_below n slots number) (standing n slots number)
+run_below n slots (suc number) = blocks_with_next (run_below n slots number) (standing_block n slots number)

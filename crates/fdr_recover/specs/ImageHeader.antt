@@ -1,5 +1,5 @@
 -- The header of an image, and its faults.
-use Rattle.std.specs.Prelude.{List, ℕ, length, take, Option}
+use Rattle.std.specs.Prelude.{◌≡◌, List, ℕ, length, take, Option, None}
 use Rattle.fdr_slot.specs.declared.image.Header.{Header}
 use Rattle.fdr_slot.specs.declared.image.ImageFault.{ImageFault}
 use Rattle.fdr_slot.specs.Headers.{header_of, image_fault}
@@ -11,3 +11,8 @@ image_fault_of image = image_fault (take 64 image) (length image)
 -- what the header of an image says
 abbrev pub header_in : List ℕ → Header
 header_in image = header_of (take 64 image)
+
+-- the image has no fault, and is for so many words
+pub record IsFor (count : ℕ) (image : List ℕ) : Type 0 where
+  pub no_fault : image_fault_of image ≡ None
+  pub words : (header_in image).words ≡ count

@@ -4,13 +4,13 @@ use Rattle.fdr_slot.specs.declared.image.Header.{Header}
 use Rattle.fdr_slot.specs.declared.head.SlotHead.{SlotHead}
 use Rattle.fdr_slot.specs.Places.{slot_at}
 use Rattle.fdr_slot.specs.Heads.{head_of, is_valid}
-use Rattle.fdr_recover.specs.Blocks.{Block, IsNextOfBlocks, IsLongestRun, next_among, standing, run_below}
+use Rattle.fdr_recover.specs.Blocks.{Block, IsNextOfBlocks, IsLongestRun, next_among, standing_block, run_below}
 
 -- the head of slot i
 unfoldable pub head_at : Header → List ℕ → ℕ → SlotHead
 head_at h image i = head_of (slice_range image (slot_at h i) (slot_at h i + 16))
 
--- the first n bytes behind the head of slot i
+-- the first n bytes after the head of slot i
 unfoldable pub bytes_in : Header → List ℕ → ℕ → ℕ → List ℕ
 bytes_in h image i n = slice_range image (slot_at h i + 16) (slot_at h i + 16 + n)
 
@@ -25,7 +25,7 @@ block_in h image i =
 
 -- the block with this number, where its slot holds it
 unfoldable pub block_numbered : Header → List ℕ → ℕ → Option Block
-block_numbered h image number = standing h.slots (block_in h image) number
+block_numbered h image number = standing_block h.slots (block_in h image) number
 
 -- its bytes, or none
 abbrev pub payload_of : Option Block → List ℕ

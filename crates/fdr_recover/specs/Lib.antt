@@ -2,3 +2,5 @@ pub mod ImageHeader
 pub mod Blocks
 pub mod Images
 pub mod Looks
+pub mod HeaderFaults
+pub mod Payloads

@@ -6,7 +6,7 @@ ghost use Rattle.fdr_slot.specs.declared.image.Header.{Header};
 ghost use Rattle.fdr_recover.specs.Blocks.{Block};
 ghost use Rattle.fdr_recover.specs.Images.{next_of, IsNextNumber, recovered_run, IsRecovered};
 
-/// Whatever the bytes of an image are, its recovered run is the longest list of blocks that stand with consecutive numbers
+/// Whatever the bytes of an image are, its recovered run is the longest list of blocks that are with consecutive numbers
 /// up to the greatest, and there is no other such list. It does no work.
 #[tactic(auto, using(crate::proofs::BlockLemmas::recovered))]
 pub fn recovered_run_is_longest()

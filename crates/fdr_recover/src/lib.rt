@@ -4,17 +4,21 @@
 #![tactic(auto)]
 
 mod error;
+mod header;
 mod laws;
 mod open;
 mod payload;
 mod run;
 mod slots;
+mod walk;
 
-pub use error::RingFault;
+pub use error::{HeaderFault, RingFault};
+pub use header::read_header_for;
 pub use laws::recovered_run_is_longest;
 pub use open::read_image_header;
 pub use payload::block;
 pub use run::{Found, scan};
+pub use walk::{BlockTaker, BlocksFault, walk_blocks};
 
 #[cfg(test)]
 mod tests;

@@ -3,7 +3,7 @@
 ghost use Rattle.std.specs.Prelude.{◌≡◌, ◌≢◌, ◌≤◌, ◌<◌, ◌↔◌, ℕ, take, None, Some, Err, IfOk, OnOk, IsTrue};
 ghost use Rattle.fdr_io.specs.Faults.{Rose};
 ghost use Rattle.fdr_deck.specs.Disk.{KeepsDisk, LearnsExtent};
-ghost use Rattle.fdr_deck.specs.Calls.{IsQuiet, Succeeds};
+ghost use Rattle.fdr_deck.specs.Calls.{IsDiskWork, Succeeds};
 ghost use Rattle.fdr_slot.specs.Limits.{IsInLimits};
 ghost use Rattle.fdr_slot.specs.Places.{image_size};
 ghost use Rattle.fdr_slot.specs.declared.image.ImageFault.{ImageFault};
@@ -29,7 +29,7 @@ pub fn read_image_header<D: Deck>(deck: &mut D) -> Result<Header, RingFault>
 
     ensures learns { LearnsExtent D.tells (D.state deck.old) (D.state deck.new) }
     ensures disk { KeepsDisk (D.state deck.old) (D.state deck.new) }
-    ensures quiet { IsQuiet D.tells (D.state deck.old).may_leave (D.state deck.old) (D.state deck.new) }
+    ensures disk_work { IsDiskWork D.tells (D.state deck.old).may_leave (D.state deck.old) (D.state deck.new) }
     ensures succeeds { result ≢ Err RingFault.DiskFault → Succeeds (D.state deck.old) (D.state deck.new) }
     ensures cause { result ≡ Err RingFault.DiskFault → Rose (D.state deck.old).disk_faults (D.state deck.new).disk_faults }
     ensures rest { D.same_rest deck.old deck.new }

@@ -42,7 +42,7 @@ fn next_number<D: Deck>(deck: &mut D, h: &Header) -> Result<u64, Failed>
     Ok(next)
 }
 
-/// The number of the first of the blocks that stand below `next`, one behind another.
+/// The number of the first of the blocks that are below `next`, one after another.
 fn first_number<D: Deck>(deck: &mut D, h: &Header, next: u64) -> Result<u64, Failed>
     requires limits { IsInLimits h.now }
     requires fits { next ≤ 2 ^ 48 }

@@ -11,7 +11,7 @@ const SMALL: Header = Header {
     version: 1,
 };
 
-/// What stands in a slot: whether its gate is open, its length and its number.
+/// What is in a slot: whether its gate is open, its length and its number.
 type Slot = (bool, u16, u64);
 
 /// An image of four slots. Each payload byte is the slot's number.
@@ -31,7 +31,7 @@ fn image_of(alloc: Global, slots: [Slot; 4]) -> Result<Vec<u8>, AllocError> {
 #[test]
 fn finds_the_run(rt: HostRuntime) -> Result<(), Fail> {
     let held = (true, 64, 0);
-    // what stands in the slots, and the run
+    // what is in the slots, and the run
     for (slots, first, next) in [
         ([(false, 0, 0); 4], 0, 0),
         (

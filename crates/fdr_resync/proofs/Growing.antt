@@ -98,7 +98,7 @@ pub events_extend : (b more : List ℕ) (w : ℕ) → 0 < w → (next : List Eve
 unfolding Extends
 events_extend b more w some = let e = extends true b more w some in (e.0, sym (rest_from-all (b ++ more) w 0) ∙ e.1)
 
--- frames of longer bytes that begin where these have none end behind these
+-- frames of longer bytes that begin where these have none end after these
 all_behind : (b more : List ℕ) (w from : ℕ) → 0 < w → HasNoFrameFrom b w from → All (λ x. bits_in b < x + 48 * w) (accepted_from (b ++ more) w from)
 all_behind b more w from some none = λ k d within.
     let x = get_or (accepted_from (b ++ more) w from) k d in

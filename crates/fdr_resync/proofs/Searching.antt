@@ -30,7 +30,7 @@ clear_without_syncs b w from at next clear none within = record {
       (cases_lt q at);
 }
 
--- the search goes on a bit behind a place where no frame begins
+-- the search goes on a bit after a place where no frame begins
 pub clear_past : (b : List ℕ) (w from at : ℕ) → 0 < w → IsClear b w from at → at + 48 * w ≤ bits_in b → (IsFramePosition b w at → ⊥) → IsClear b w from (at + 1)
 clear_past b w from at some clear within fails = record {
   none = λ more q low high h. ⊎_elim

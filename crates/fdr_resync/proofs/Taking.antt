@@ -13,7 +13,7 @@ use Rattle.fdr_resync.proofs.Following.{rest_from, rest_frame, rest_gap, rest_de
 use Rattle.fdr_resync.proofs.Standing.{stands_events, known_next, known_not_all, known_all, none_left}
 use Rattle.fdr_resync.proofs.Windows.{first_ahead}
 
--- the search stands at a frame that lies within the bytes
+-- the search is at a frame that lies within the bytes
 pub record IsAtFrame (k : ScannerKept) : Type 0 where
   pub frame : IsFramePosition k.window k.words (k.from - 8 * k.before)
 

@@ -1,4 +1,4 @@
--- What a scanner finds in its window stands in all the bytes that came.
+-- What a scanner finds in its window is in all the bytes that came.
 use Rattle.std.proofs.Common.{◌≡◌, ℕ, ◌+◌, ◌-◌, ◌*◌, ◌<◌, ◌≤◌, List, ◌++◌, take, map, sym, ap, ◌∙◌, subst, arith}
 use Rattle.std.proofs.Common.{append_assoc, length-append}
 use Rattle.std.specs.List.{range_with_len}

@@ -10,7 +10,7 @@ ghost use Rattle.fdr_resync.specs.Past.{ScannerKept, ScannerPast, RepresentsScan
 ghost use Rattle.fdr_resync.specs.Adjacency.{ends_with_frame};
 
 /// A law, and no work: what is decided of bytes stays so, however they go on and wherever they end, and nothing else does: any
-/// events that all longer bytes begin with are among the first decided ones. Further accepted frames end behind these bytes. The events that a scanner has given are the first of those that are known, and the next one is
+/// events that all longer bytes begin with are among the first decided ones. Further accepted frames end after these bytes. The events that a scanner has given are the first of those that are known, and the next one is
 /// next among all events, whatever comes.
 pub fn stays_decided()
     ensures frames { (bytes more : List ℕ) (w : ℕ) → IsWordCount w → (next : List ℕ)

@@ -198,7 +198,7 @@ impl Scanner {
         Event::Frame { at }
     }
 
-    /// The gap behind the last frame, where no further byte comes and no further frame begins.
+    /// The gap after the last frame, where no further byte comes and no further frame begins.
     fn last_gap(&mut self) -> Option<Event>
         requires ended { self.old.ended ≡ true }
         requires searched { 8 * bytes_pushed self.old < self.old.from + 48 * self.old.words }

@@ -4,14 +4,14 @@ use Rattle.std.specs.Prelude.{IsTrue}
 use Rattle.fdr_deck.specs.State.{State, Tells}
 use Rattle.fdr_deck.specs.Disk.{IsSettled, KeepsDisk}
 use Rattle.fdr_deck.specs.Moments.{IsSoundDeck}
-use Rattle.fdr_deck.specs.Calls.{IsQuiet}
-use Rattle.fdr_deck.proofs.Quiet.{IsQuiet-then}
+use Rattle.fdr_deck.specs.Calls.{IsDiskWork}
+use Rattle.fdr_deck.proofs.Quiet.{IsDiskWork-then}
 use Rattle.fdr_slot.specs.declared.image.Header.{Header}
 use Rattle.fdr_slot.specs.Limits.{IsInLimits}
 use Rattle.fdr_slot.specs.Places.{image_size}
 use Rattle.fdr_recover.specs.Images.{next_of, recovered_run}
 use Rattle.fdr_ring.specs.Gates.{gate_at, IsClosed}
-use Rattle.fdr_ring.specs.Closing.{IsTurned, Closing, shut}
+use Rattle.fdr_ring.specs.Closing.{IsTurned, Closing, image_with_closed_gate}
 use Rattle.fdr_ring.specs.Runs.{last_blocks}
 use Rattle.fdr_ring.specs.Rings.{IsSureRing, IsAttaching, OfSettled}
 use Rattle.fdr_ring.proofs.Bytes.{IsTurned-here, Closing-settled, shut_turned, shut_gate}
@@ -48,11 +48,11 @@ looking_image h number old new found same =
 -- a look at the image, and then the close of the gate
 pub attaching_quiet : (tells : Tells) (h : Header) (number at : ℕ) (old mid new : State) → IsSoundDeck tells old
     → (IsTrue tells.bytes → IsFound h number old.held)
-    → at ≡ gate_at h number → KeepsDisk old mid → IsQuiet tells old.may_leave old mid
-    → IsQuiet tells (Closing at mid) mid new
-    → IsQuiet tells (OfSettled old (IsAttaching h)) old new
+    → at ≡ gate_at h number → KeepsDisk old mid → IsDiskWork tells old.may_leave old mid
+    → IsDiskWork tells (Closing at mid) mid new
+    → IsDiskWork tells (OfSettled old (IsAttaching h)) old new
 attaching_quiet tells h number at old mid new sound found here looks first second =
-    IsQuiet-then tells old.may_leave (Closing at mid) (OfSettled old (IsAttaching h)) old mid new sound first second
+    IsDiskWork-then tells old.may_leave (Closing at mid) (OfSettled old (IsAttaching h)) old mid new sound first second
     (λ told image leaves settled. looking_image h number old.held image (found (sound.stops_need_bytes told))
     (settled image leaves))
     (λ told image closing settled.
@@ -66,11 +66,11 @@ attached_gate : (h : Header) (number : ℕ) (old : List ℕ) → IsFound h numbe
 attached_gate h number old found = omega (arith, gate_within h number old found.limits found.whole)
 
 attached_closed : (h : Header) (number : ℕ) (old new : List ℕ) → IsFound h number old
-    → new ≡ shut (gate_at h number) old → IsClosed h new number
+    → new ≡ image_with_closed_gate (gate_at h number) old → IsClosed h new number
 attached_closed h number old new found is =
     subst (λ l. IsClosed h l number) (sym is) (shut_gate (gate_at h number) old (attached_gate h number old found))
 
-attached_image : (h : Header) (number : ℕ) (old new : List ℕ) → IsFound h number old → new ≡ shut (gate_at h number) old
+attached_image : (h : Header) (number : ℕ) (old new : List ℕ) → IsFound h number old → new ≡ image_with_closed_gate (gate_at h number) old
     → IsAttaching h old new
 attached_image h number old new found is =
     attaching_image h number (gate_at h number) old new found refl
@@ -78,7 +78,7 @@ attached_image h number old new found is =
     (shut_turned (gate_at h number) old (attached_gate h number old found)))
 
 pub attached_run : (h : Header) (number : ℕ) (old new : List ℕ) → IsFound h number old
-    → new ≡ shut (gate_at h number) old
+    → new ≡ image_with_closed_gate (gate_at h number) old
     → recovered_run h new ≡ last_blocks (h.slots - 1) (recovered_run h old)
 attached_run h number old new found is =
     exact_run h 0 number old new found.limits (omega arith) found.next (attached_image h number old new found is).run
@@ -88,7 +88,7 @@ attached_run h number old new found is =
 pub attached_ring : (tells : Tells) (h : Header) (number : ℕ) (old new : State) → IsSoundDeck tells old
     → image_size h ≤ new.extent
     → (IsTrue tells.bytes → IsFound h number old.held)
-    → (IsTrue tells.bytes → new.held ≡ shut (gate_at h number) old.held)
+    → (IsTrue tells.bytes → new.held ≡ image_with_closed_gate (gate_at h number) old.held)
     → (IsTrue tells.stops → IsSettled new) → IsSureRing tells h number new
 attached_ring tells h number old new sound extent found held settled = record {
   ring = record {

@@ -9,9 +9,9 @@ use Rattle.std.proofs.lemmas.List.{get_or-append_right, length-take-le, take_at,
 use Rattle.fdr_deck.specs.State.{State}
 use Rattle.fdr_deck.specs.Disk.{Torn, IsSettled, patched}
 use Rattle.fdr_deck.proofs.Torn.{Torn-same, Torn-patched}
-use Rattle.fdr_ring.specs.Closing.{IsTurned, Closing, shut}
+use Rattle.fdr_ring.specs.Closing.{IsTurned, Closing, image_with_closed_gate}
 
--- one tear behind another in the same range
+-- one tear after another in the same range
 pub Torn-then : (at n : ℕ) (old mid new : List ℕ) → Torn at n old mid → Torn at n mid new → Torn at n old new
 Torn-then at n old mid new first second = record {
   size = second.size ∙ first.size;
@@ -44,7 +44,7 @@ range_front at n s m old new within torn =
     ∙ take-take (s + m) at old within in
     range_take s m new ∙ ap (drop s) part ∙ sym (range_take s m old)
 
--- and one behind it
+-- and one after it
 pub range_behind : (at n s m : ℕ) (old new : List ℕ) → at + n ≤ s → Torn at n old new
     → slice_range new s (s + m) ≡ slice_range old s (s + m)
 range_behind at n s m old new within torn =
@@ -101,10 +101,10 @@ pub Torn-of-same : (at n : ℕ) (old new : List ℕ) → new ≡ old → Torn at
 Torn-of-same at n old new same = subst (Torn at n old) (sym same) (Torn-same at n old)
 
 -- a gate that is shut
-pub shut_open : (at : ℕ) (old : List ℕ) → slice_index old at ≡ 0x5a → shut at old ≡ patched at (0 ∷ []) old
+pub shut_open : (at : ℕ) (old : List ℕ) → slice_index old at ≡ 0x5a → image_with_closed_gate at old ≡ patched at (0 ∷ []) old
 shut_open at old is = let test : nat_eq (slice_index old at) 0x5a ≡ true = grind (arith, nat_tests) in rw test refl
 
-pub shut_closed : (at : ℕ) (old : List ℕ) → slice_index old at ≢ 0x5a → shut at old ≡ old
+pub shut_closed : (at : ℕ) (old : List ℕ) → slice_index old at ≢ 0x5a → image_with_closed_gate at old ≡ old
 shut_closed at old closed = let test : nat_eq (slice_index old at) 0x5a ≡ false = grind (arith, nat_tests) in rw test refl
 
 -- the byte that was written
@@ -114,19 +114,19 @@ patched_byte at b old within =
     get_or-append_right (take at old) (b ∷ drop (at + 1) old) at at 0 (length-take-le at old within) (omega arith)
     ∙ ap (λ k. get_or (b ∷ drop (at + 1) old) k 0) none
 
-pub shut_turned : (at : ℕ) (old : List ℕ) → at < length old → IsTurned at old (shut at old)
+pub shut_turned : (at : ℕ) (old : List ℕ) → at < length old → IsTurned at old (image_with_closed_gate at old)
 shut_turned at old within = ⊎_elim
     (λ is. let shut_is = shut_open at old is in
     record {
       torn = subst (Torn at 1 old) (sym shut_is) (Torn-patched at (0 ∷ []) old (omega arith));
       same = λ closed. absurd (closed is);
     })
-    (λ closed. IsTurned-here at old (shut at old) (shut_closed at old closed))
+    (λ closed. IsTurned-here at old (image_with_closed_gate at old) (shut_closed at old closed))
     (cases_eq (slice_index old at) 0x5a)
 
-pub shut_gate : (at : ℕ) (old : List ℕ) → at < length old → slice_index (shut at old) at ≢ 0x5a
+pub shut_gate : (at : ℕ) (old : List ℕ) → at < length old → slice_index (image_with_closed_gate at old) at ≢ 0x5a
 shut_gate at old within open_gate = ⊎_elim
-    (λ is. let first : slice_index (shut at old) at ≡ 0 =
+    (λ is. let first : slice_index (image_with_closed_gate at old) at ≡ 0 =
     ap (λ (l : List ℕ). slice_index l at) (shut_open at old is) ∙ patched_byte at 0 old (omega arith) in
     absurd (omega (arith, first, open_gate)))
     (λ closed. absurd (closed (sym (ap (λ (l : List ℕ). slice_index l at) (shut_closed at old closed)) ∙ open_gate)))

@@ -1,27 +1,27 @@
--- The ring behind a block that has come.
+-- The ring after a block that has come.
 use Rattle.std.proofs.Common.{◌≡◌, ℕ, ◌+◌, ◌%◌, ◌≤◌, List, length}
 use Rattle.std.proofs.Common.{Some, sym, ap, ◌∙◌, subst, arith}
 use Rattle.std.specs.Prelude.{IsTrue, slice_index}
 use Rattle.fdr_deck.specs.State.{State, Tells}
 use Rattle.fdr_deck.specs.Disk.{Torn, IsSettled}
 use Rattle.fdr_deck.specs.Moments.{IsSoundDeck}
-use Rattle.fdr_deck.specs.Calls.{IsQuiet}
-use Rattle.fdr_deck.proofs.Quiet.{IsQuiet-weaken}
+use Rattle.fdr_deck.specs.Calls.{IsDiskWork}
+use Rattle.fdr_deck.proofs.Quiet.{IsDiskWork-weaken}
 use Rattle.fdr_slot.specs.declared.image.Header.{Header}
 use Rattle.fdr_slot.specs.Limits.{IsInLimits}
 use Rattle.fdr_slot.specs.Places.{slot_size, image_size}
 use Rattle.fdr_recover.specs.Blocks.{Block}
 use Rattle.fdr_recover.specs.Images.{next_of}
-use Rattle.fdr_ring.specs.Gates.{gate_at, IsClosed, opened, waiting}
+use Rattle.fdr_ring.specs.Gates.{gate_at, IsClosed, image_with_open_gate, waiting_block}
 use Rattle.fdr_ring.specs.Runs.{HasAdded}
 use Rattle.fdr_ring.specs.Rings.{IsSureRing, IsPrepared, IsCommitting, OfSettled}
 use Rattle.fdr_ring.proofs.Bytes.{patched_byte}
 use Rattle.fdr_ring.proofs.Turning.{gate_within, commit_image, opened_torn, opened_image, next_slot, other_gate}
 use Rattle.fdr_lists.proofs.Options.{some_is}
 
--- the waiting block has come behind the run
+-- the waiting block has come after the run
 pub committed : (h : Header) (number : ℕ) (b : Block) (old new : List ℕ) → IsInLimits h → number ≡ next_of h old
-    → IsClosed h old number → image_size h ≤ length old → waiting h old number ≡ Some b → new ≡ opened h old number
+    → IsClosed h old number → image_size h ≤ length old → waiting_block h old number ≡ Some b → new ≡ image_with_open_gate h old number
     → HasAdded h b old new
 committed h number b old new limits next closed whole waits is =
     let within : gate_at h number + slot_size h ≤ length old = gate_within h number old limits whole in
@@ -33,12 +33,12 @@ committed h number b old new limits next closed whole waits is =
 -- what the ring knows then
 pub committed_ring : (tells : Tells) (h : Header) (number : ℕ) (old new : State) → IsInLimits h → IsSoundDeck tells old
     → IsPrepared tells h number old → new.extent ≡ old.extent
-    → (IsTrue tells.bytes → new.held ≡ opened h old.held number)
+    → (IsTrue tells.bytes → new.held ≡ image_with_open_gate h old.held number)
     → (IsTrue tells.stops → IsSettled new) → IsSureRing tells h (number + 1) new
 committed_ring tells h number old new limits sound prepared extent held settled = record {
   ring = record {
     extent = omega (arith, prepared.ring.extent, extent);
-    next = λ told. let b = some_is (waiting h old.held number) (prepared.waits told) in
+    next = λ told. let b = some_is (waiting_block h old.held number) (prepared.waits told) in
         let added = committed h number b.0 old.held new.held limits (prepared.ring.next told)
         (prepared.ring.closed told) (whole told) b.1 (held told) in
         ap (λ k. k + 1) (prepared.ring.next told) ∙ sym added.next;
@@ -79,10 +79,10 @@ committing_deck tells h number at old image limits sound prepared here told =
 -- the same at each moment
 pub committing_quiet : (tells : Tells) (h : Header) (number at : ℕ) (old new : State) → IsInLimits h → IsSoundDeck tells old
     → IsPrepared tells h number old
-    → at ≡ gate_at h number → IsQuiet tells (λ image. IsSettled old → Torn at 1 old.held image) old new
-    → IsQuiet tells (OfSettled old (IsCommitting h number)) old new
+    → at ≡ gate_at h number → IsDiskWork tells (λ image. IsSettled old → Torn at 1 old.held image) old new
+    → IsDiskWork tells (OfSettled old (IsCommitting h number)) old new
 committing_quiet tells h number at old new limits sound prepared here quiet =
-    IsQuiet-weaken tells (λ image. IsSettled old → Torn at 1 old.held image)
+    IsDiskWork-weaken tells (λ image. IsSettled old → Torn at 1 old.held image)
     (OfSettled old (IsCommitting h number)) old new quiet
     (λ told image torn settled. committing_deck tells h number at old image limits sound prepared here
     (sound.stops_need_bytes told) (torn settled))

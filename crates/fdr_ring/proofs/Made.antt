@@ -9,9 +9,9 @@ use Rattle.std.proofs.lemmas.List.{length-take-le}
 use Rattle.fdr_deck.specs.State.{State, Tells}
 use Rattle.fdr_deck.specs.Disk.{Torn, Tears, IsSettled, IsZeros, KeepsDisk, patched}
 use Rattle.fdr_deck.specs.Moments.{IsSoundDeck, EachMoment, Within, WithinProvide}
-use Rattle.fdr_deck.specs.Calls.{Passes, IsQuiet}
-use Rattle.fdr_deck.proofs.Moments.{IsQuiet-here, IsQuiet-write}
-use Rattle.fdr_deck.proofs.Quiet.{IsQuiet-look, IsQuiet-then, IsQuiet-provide}
+use Rattle.fdr_deck.specs.Calls.{Passes, IsDiskWork}
+use Rattle.fdr_deck.proofs.Moments.{IsDiskWork-here, IsDiskWork-write}
+use Rattle.fdr_deck.proofs.Quiet.{IsDiskWork-look, IsDiskWork-then, IsDiskWork-provide}
 use Rattle.fdr_slot.specs.declared.image.Header.{Header}
 use Rattle.fdr_slot.specs.Limits.{IsInLimits}
 use Rattle.fdr_slot.specs.Places.{slot_at, slot_size, image_size}
@@ -47,13 +47,13 @@ zeros_stop h most image is =
     let first : slice_index image 0 ≡ 0 = ap (λ (l : List ℕ). slice_index l 0) is.zeros ∙ zeros_first (length image) in
     closed_stop h image (λ open_gate. omega (arith, first, open_gate))
 
--- zeros whose bytes behind the first are torn
+-- zeros whose bytes after the first are torn
 pub torn_stop : (h : Header) (n few : ℕ) (image : List ℕ) → Torn 1 few (replicate n 0) image → FormattingStop h image
 torn_stop h n few image torn =
     let first : slice_index image 0 ≡ 0 = byte_front 1 few 0 (replicate n 0) image (omega arith) torn ∙ zeros_first n in
     closed_stop h image (λ open_gate. omega (arith, first, open_gate))
 
--- the bytes of a header behind its gate
+-- the bytes of a header after its gate
 header_tail : (h : Header) → header_bytes h ≡ 0x5a ∷ take 63 (drop 1 (header_bytes h))
 unfolding header_bytes
 header_tail h = refl
@@ -132,14 +132,14 @@ gate_stop h held image limits is some torn = ⊎_elim
     (λ closed. closed_stop h image closed)
     (cases_eq (slice_index image 0) 0x5a)
 
--- the write of the header behind its gate
+-- the write of the header after its gate
 pub lays_tail : (tells : Tells) (size n : ℕ) (old new : State) → IsSoundDeck tells old → (IsTrue tells.bytes → old.held ≡ replicate size 0)
     → (IsTrue tells.stops → IsSettled old) → n ≤ 63
     → Passes tells old new → EachMoment tells old new (Within old new) → Tears tells 1 n old new
-    → IsQuiet tells (Torn 1 63 (replicate size 0)) old new
+    → IsDiskWork tells (Torn 1 63 (replicate size 0)) old new
 lays_tail tells size n old new sound zeros settled few passes moments tears =
-    IsQuiet-write tells (Torn 1 63 (replicate size 0)) old old new 1 n sound sound
-    (IsQuiet-here tells (Torn 1 63 (replicate size 0)) old sound
+    IsDiskWork-write tells (Torn 1 63 (replicate size 0)) old old new 1 n sound sound
+    (IsDiskWork-here tells (Torn 1 63 (replicate size 0)) old sound
     (λ told image leaves. Torn-of-same 1 63 (replicate size 0) image (settled told image leaves ∙ zeros (sound.stops_need_bytes told))))
     passes moments tears
     (λ told from image leaves has torn. Torn-then 1 63 (replicate size 0) from image has
@@ -181,18 +181,18 @@ kept_image tells h d image sound told leaves = record {
 
 -- the length is asked for
 pub asks_length : (tells : Tells) (h : Header) (old new : State) → IsSoundDeck tells old → KeepsDisk old new → Passes tells old new
-    → EachMoment tells old new (Within old new) → IsQuiet tells (Making h old) old new
+    → EachMoment tells old new (Within old new) → IsDiskWork tells (Making h old) old new
 asks_length tells h old new sound disk passes moments =
-    IsQuiet-look tells (Making h old) old new sound disk passes moments
+    IsDiskWork-look tells (Making h old) old new sound disk passes moments
     (λ told image leaves. kept_image tells h old image sound told leaves)
 
 -- then the disk is provided
 pub provides_zeros : (tells : Tells) (h : Header) (size : ℕ) (old mid new : State) → IsSoundDeck tells old → IsSoundDeck tells mid
-    → (IsTrue tells.stops → old.extent ≡ 0) → KeepsDisk old mid → IsQuiet tells (Making h old) old mid
-    → Passes tells mid new → EachMoment tells mid new (WithinProvide size mid new) → IsQuiet tells (Making h old) old new
+    → (IsTrue tells.stops → old.extent ≡ 0) → KeepsDisk old mid → IsDiskWork tells (Making h old) old mid
+    → Passes tells mid new → EachMoment tells mid new (WithinProvide size mid new) → IsDiskWork tells (Making h old) old new
 provides_zeros tells h size old mid new sound sound_mid none disk first passes moments =
-    IsQuiet-then tells (Making h old) (λ image. mid.may_leave image ⊎ IsZeros size image) (Making h old) old mid new sound first
-    (IsQuiet-provide tells size mid new sound_mid passes moments)
+    IsDiskWork-then tells (Making h old) (λ image. mid.may_leave image ⊎ IsZeros size image) (Making h old) old mid new sound first
+    (IsDiskWork-provide tells size mid new sound_mid passes moments)
     (λ told image has. has)
     (λ told image. ⊎_elim
     (λ leaves. kept_image tells h old image sound told (disk.no_more image leaves))
@@ -200,8 +200,8 @@ provides_zeros tells h size old mid new sound sound_mid none disk first passes m
 
 -- and then the header is laid
 pub lays_header : (tells : Tells) (h : Header) (old mid new : State) → IsSoundDeck tells old → (IsTrue tells.stops → old.extent ≡ 0)
-    → IsQuiet tells (Making h old) old mid → IsQuiet tells (FormattingStop h) mid new → IsQuiet tells (Making h old) old new
+    → IsDiskWork tells (Making h old) old mid → IsDiskWork tells (FormattingStop h) mid new → IsDiskWork tells (Making h old) old new
 lays_header tells h old mid new sound none first second =
-    IsQuiet-then tells (Making h old) (FormattingStop h) (Making h old) old mid new sound first second
+    IsDiskWork-then tells (Making h old) (FormattingStop h) (Making h old) old mid new sound first second
     (λ told image has. has)
     (λ told image has. record { made = λ empty settled. has; kept = λ some. absurd (omega (arith, some, none told)) })

@@ -67,7 +67,7 @@ block_in-closed h image i closed =
     let invalid : is_valid h i (head_at h image i) ≡ false = rw gate refl in
     block_in-invalid h image i invalid
 
--- a tear behind a closed gate, within its slot
+-- a tear after a closed gate, within its slot
 pub body_torn : (h : Header) (i j : ℕ) (old new : List ℕ) → slice_index old (slot_at h i) ≢ 0x5a
     → Torn (slot_at h i + 1) (15 + h.payload) old new → block_in h new j ≡ block_in h old j
 body_torn h i j old new closed torn = ⊎_elim

@@ -1,4 +1,4 @@
--- A block that is placed behind the closed gate of its slot.
+-- A block that is placed after the closed gate of its slot.
 use Rattle.std.proofs.Common.{◌≡◌, ℕ, ◌+◌, ◌-◌, ◌<◌, ◌≤◌, ◌^◌, List, ◌++◌}
 use Rattle.std.proofs.Common.{length, take, drop, Some}
 use Rattle.std.proofs.Common.{refl, sym, ap, ◌∙◌, subst, arith, length-append}
@@ -7,18 +7,18 @@ use Rattle.std.proofs.lemmas.List.{take_at}
 use Rattle.fdr_deck.specs.State.{State, Tells}
 use Rattle.fdr_deck.specs.Disk.{Torn, IsSettled, patched}
 use Rattle.fdr_deck.specs.Moments.{IsSoundDeck}
-use Rattle.fdr_deck.specs.Calls.{IsQuiet}
-use Rattle.fdr_deck.proofs.Moments.{IsQuiet-now}
-use Rattle.fdr_deck.proofs.Quiet.{IsQuiet-weaken, IsQuiet-then}
+use Rattle.fdr_deck.specs.Calls.{IsDiskWork}
+use Rattle.fdr_deck.proofs.Moments.{IsDiskWork-now}
+use Rattle.fdr_deck.proofs.Quiet.{IsDiskWork-weaken, IsDiskWork-then}
 use Rattle.fdr_deck.proofs.Torn.{Torn-patched, length-patched}
 use Rattle.fdr_slot.specs.declared.image.Header.{Header}
 use Rattle.fdr_slot.specs.Limits.{IsInLimits}
 use Rattle.fdr_slot.specs.Places.{slot_size, image_size}
 use Rattle.fdr_slot.specs.Heads.{head_bytes}
 use Rattle.fdr_recover.specs.Images.{next_of, recovered_run}
-use Rattle.fdr_ring.specs.Gates.{gate_at, IsClosed, waiting}
-use Rattle.fdr_ring.specs.Closing.{IsTurned, Closing, shut}
-use Rattle.fdr_ring.specs.Bodies.{body_bytes, placed, prepared}
+use Rattle.fdr_ring.specs.Gates.{gate_at, IsClosed, waiting_block}
+use Rattle.fdr_ring.specs.Closing.{IsTurned, Closing, image_with_closed_gate}
+use Rattle.fdr_ring.specs.Bodies.{body_bytes, image_with_body, image_to_commit}
 use Rattle.fdr_ring.specs.Runs.{last_blocks}
 use Rattle.fdr_ring.specs.Rings.{IsRing, IsPrepared, IsPreparing, OfSettled}
 use Rattle.fdr_ring.proofs.Bytes.{Torn-within, IsTurned-here, patched_append, shut_turned, shut_gate}
@@ -35,7 +35,7 @@ body_length number bytes =
     length-append (drop 1 (head_bytes (length bytes) 0 number)) bytes
     ∙ ap (λ n. n + length bytes) (tail_length (length bytes) number)
 
--- the front of an array, in which a head and the payload behind it were put
+-- the front of an array, in which a head and the payload after it were put
 pub body_front : (number : ℕ) (bytes head zeros first room : List ℕ) → head ≡ head_bytes (length bytes) 0 number
     → first ≡ patched 0 (take 15 (drop 1 head)) zeros → room ≡ patched 15 bytes first
     → take (15 + length bytes) room ≡ body_bytes number bytes
@@ -97,10 +97,10 @@ body_image h number size old new ready body =
 -- the same at each moment
 pub body_quiet : (tells : Tells) (h : Header) (number size : ℕ) (old new : State) → IsSoundDeck tells old
     → (IsTrue tells.bytes → IsReady h number size old.held)
-    → IsQuiet tells (λ image. IsSettled old → Torn (gate_at h number + 1) (15 + size) old.held image) old new
-    → IsQuiet tells (OfSettled old (IsPreparing h number size)) old new
+    → IsDiskWork tells (λ image. IsSettled old → Torn (gate_at h number + 1) (15 + size) old.held image) old new
+    → IsDiskWork tells (OfSettled old (IsPreparing h number size)) old new
 body_quiet tells h number size old new sound ready quiet =
-    IsQuiet-weaken tells (λ image. IsSettled old → Torn (gate_at h number + 1) (15 + size) old.held image)
+    IsDiskWork-weaken tells (λ image. IsSettled old → Torn (gate_at h number + 1) (15 + size) old.held image)
     (OfSettled old (IsPreparing h number size)) old new quiet
     (λ told image torn settled. body_image h number size old.held image (ready (sound.stops_need_bytes told))
     (torn settled))
@@ -110,17 +110,17 @@ pub placing_quiet : (tells : Tells) (h : Header) (number size at : ℕ) (old mid
     → IsSoundDeck tells mid
     → (IsTrue tells.bytes → IsReady h number size old.held) → at ≡ gate_at h (number + 1)
     → (IsTrue tells.bytes → Torn (gate_at h number + 1) (15 + size) old.held mid.held)
-    → IsQuiet tells (λ image. IsSettled old → Torn (gate_at h number + 1) (15 + size) old.held image) old mid
-    → IsQuiet tells (Closing at mid) mid new
-    → IsQuiet tells (OfSettled old (IsPreparing h number size)) old new
+    → IsDiskWork tells (λ image. IsSettled old → Torn (gate_at h number + 1) (15 + size) old.held image) old mid
+    → IsDiskWork tells (Closing at mid) mid new
+    → IsDiskWork tells (OfSettled old (IsPreparing h number size)) old new
 placing_quiet tells h number size at old mid new sound sound_mid ready there held first second =
-    IsQuiet-then tells Body (Closing at mid) (OfSettled old (IsPreparing h number size)) old mid new sound first second
+    IsDiskWork-then tells Body (Closing at mid) (OfSettled old (IsPreparing h number size)) old mid new sound first second
     (λ told image torn settled. body_image h number size old.held image (ready (sound.stops_need_bytes told))
     (torn settled))
     (λ told image closing settled.
     let bytes = sound.stops_need_bytes told in
     let body : Torn (gate_at h number + 1) (15 + size) old.held closing.from =
-    IsQuiet-now tells Body old mid sound_mid first told closing.from closing.left settled in
+    IsDiskWork-now tells Body old mid sound_mid first told closing.from closing.left settled in
     placing_image h number size at old.held closing.from image (ready bytes) body there
     (record {
       torn = closing.torn;
@@ -141,62 +141,62 @@ placing_quiet tells h number size at old mid new sound sound_mid ready there hel
 
 -- the body is placed, the following gate is shut, and a sync changes no byte
 pub prepared_held : (h : Header) (number at : ℕ) (payload old mid closed new : List ℕ) → at ≡ gate_at h (number + 1)
-    → mid ≡ placed h number payload old
-    → closed ≡ shut at mid → new ≡ closed → new ≡ prepared h number payload old
+    → mid ≡ image_with_body h number payload old
+    → closed ≡ image_with_closed_gate at mid → new ≡ closed → new ≡ image_to_commit h number payload old
 prepared_held h number at payload old mid closed new there body shuts same =
-    same ∙ shuts ∙ ap (shut at) body ∙ ap (λ k. shut k (placed h number payload old)) there
+    same ∙ shuts ∙ ap (image_with_closed_gate at) body ∙ ap (λ k. image_with_closed_gate k (image_with_body h number payload old)) there
 
 -- the gate of the following slot, in an image in which the body is placed
 following_within : (h : Header) (number : ℕ) (payload old : List ℕ) → IsReady h number (length payload) old
-    → gate_at h (number + 1) < length (placed h number payload old)
+    → gate_at h (number + 1) < length (image_with_body h number payload old)
 following_within h number payload old ready =
     let room : gate_at h number + slot_size h ≤ length old = gate_within h number old ready.limits ready.whole in
     let next_room : gate_at h (number + 1) + slot_size h ≤ length old =
     gate_within h (number + 1) old ready.limits ready.whole in
-    let long : length (placed h number payload old) ≡ length old =
+    let long : length (image_with_body h number payload old) ≡ length old =
     length-patched (gate_at h number + 1) (body_bytes number payload) old
     (omega (arith, body_length number payload, room, ready.fits)) in
     omega (arith, long, next_room)
 
 placed_torn : (h : Header) (number : ℕ) (payload old : List ℕ) → IsReady h number (length payload) old
-    → Torn (gate_at h number + 1) (15 + length payload) old (placed h number payload old)
+    → Torn (gate_at h number + 1) (15 + length payload) old (image_with_body h number payload old)
 placed_torn h number payload old ready =
     let room : gate_at h number + slot_size h ≤ length old = gate_within h number old ready.limits ready.whole in
-    subst (λ n. Torn (gate_at h number + 1) n old (placed h number payload old)) (body_length number payload)
+    subst (λ n. Torn (gate_at h number + 1) n old (image_with_body h number payload old)) (body_length number payload)
     (Torn-patched (gate_at h number + 1) (body_bytes number payload) old
     (omega (arith, body_length number payload, room, ready.fits)))
 
 following_turned : (h : Header) (number : ℕ) (payload old new : List ℕ) → IsReady h number (length payload) old
-    → new ≡ prepared h number payload old
-    → IsTurned (gate_at h (number + 1)) (placed h number payload old) new
+    → new ≡ image_to_commit h number payload old
+    → IsTurned (gate_at h (number + 1)) (image_with_body h number payload old) new
 following_turned h number payload old new ready is =
-    subst (IsTurned (gate_at h (number + 1)) (placed h number payload old)) (sym is)
-    (shut_turned (gate_at h (number + 1)) (placed h number payload old) (following_within h number payload old ready))
+    subst (IsTurned (gate_at h (number + 1)) (image_with_body h number payload old)) (sym is)
+    (shut_turned (gate_at h (number + 1)) (image_with_body h number payload old) (following_within h number payload old ready))
 
 following_closed : (h : Header) (number : ℕ) (payload old new : List ℕ) → IsReady h number (length payload) old
-    → new ≡ prepared h number payload old
+    → new ≡ image_to_commit h number payload old
     → IsClosed h new (number + 1)
 following_closed h number payload old new ready is =
     subst (λ l. IsClosed h l (number + 1)) (sym is)
-    (shut_gate (gate_at h (number + 1)) (placed h number payload old) (following_within h number payload old ready))
+    (shut_gate (gate_at h (number + 1)) (image_with_body h number payload old) (following_within h number payload old ready))
 
 prepared_image : (h : Header) (number : ℕ) (payload old new : List ℕ) → IsReady h number (length payload) old
-    → new ≡ prepared h number payload old
+    → new ≡ image_to_commit h number payload old
     → IsPreparing h number (length payload) old new
 prepared_image h number payload old new ready is =
-    placing_image h number (length payload) (gate_at h (number + 1)) old (placed h number payload old) new ready
+    placing_image h number (length payload) (gate_at h (number + 1)) old (image_with_body h number payload old) new ready
     (placed_torn h number payload old ready) refl (following_turned h number payload old new ready is)
 
 pub prepared_block : (h : Header) (number : ℕ) (payload old new : List ℕ) → IsReady h number (length payload) old
     → number < 2 ^ 48 → 0 < length payload
-    → new ≡ prepared h number payload old → waiting h new number ≡ Some (record { number = number; payload = payload })
+    → new ≡ image_to_commit h number payload old → waiting_block h new number ≡ Some (record { number = number; payload = payload })
 prepared_block h number payload old new ready small some is =
     waiting_written h number old
-    (placed h number payload old) new payload ready.limits small some ready.fits ready.whole refl
+    (image_with_body h number payload old) new payload ready.limits small some ready.fits ready.whole refl
     (following_turned h number payload old new ready is)
 
 pub prepared_run : (h : Header) (number : ℕ) (payload old new : List ℕ) → IsReady h number (length payload) old
-    → new ≡ prepared h number payload old
+    → new ≡ image_to_commit h number payload old
     → recovered_run h new ≡ last_blocks (h.slots - 2) (recovered_run h old)
 prepared_run h number payload old new ready is =
     exact_run h 1 number old new ready.limits (omega arith) ready.next
@@ -207,16 +207,16 @@ prepared_run h number payload old new ready is =
 pub prepared_ring : (tells : Tells) (h : Header) (number : ℕ) (payload : List ℕ) (old new : State)
     → (IsTrue tells.bytes → IsReady h number (length payload) old.held) → number < 2 ^ 48 → 0 < length payload
     → image_size h ≤ new.extent
-    → (IsTrue tells.bytes → new.held ≡ prepared h number payload old.held) → IsPrepared tells h number new
+    → (IsTrue tells.bytes → new.held ≡ image_to_commit h number payload old.held) → IsPrepared tells h number new
 prepared_ring tells h number payload old new ready small some extent held = record {
   ring = record {
     extent = extent;
     next = λ told. (ready told).next ∙ sym (prepared_image h number payload old.held new.held (ready told)
         (held told)).run.next;
-    closed = λ told. still_closed h number old.held (placed h number payload old.held) new.held (ready told).limits
+    closed = λ told. still_closed h number old.held (image_with_body h number payload old.held) new.held (ready told).limits
         (ready told).closed
         (Torn-within (gate_at h number + 1) (15 + h.payload) (gate_at h number + 1) (15 + length payload) old.held
-        (placed h number payload old.held)
+        (image_with_body h number payload old.held)
         (omega arith) (omega (arith, (ready told).fits)) (placed_torn h number payload old.held (ready told)))
         (following_turned h number payload old.held new.held (ready told) (held told));
   };

@@ -5,8 +5,8 @@ use Rattle.std.specs.Prelude.{max, min}
 use Rattle.std.proofs.Math.Nat.{mod-lt, div-add-mod, mul-le-mul_left}
 use Rattle.std.proofs.lemmas.Bool.{cases_lt, cases_eq}
 use Rattle.std.proofs.lemmas.List.{drop-append-le}
-use Rattle.fdr_recover.specs.Blocks.{Block, Slots, IsNextOfBlocks, number_after, next_among, if_numbered, standing, continued, run_below}
-use Rattle.fdr_recover.proofs.Standing.{stands-standing, numbered_other}
+use Rattle.fdr_recover.specs.Blocks.{Block, Slots, IsNextOfBlocks, number_after, next_among, if_numbered, standing_block, blocks_with_next, run_below}
+use Rattle.fdr_recover.proofs.Standing.{stands-standing_block, numbered_other}
 use Rattle.fdr_recover.proofs.Runs.{run_below-none, run_below-some, length-run_below, run_below-short}
 use Rattle.fdr_ring.specs.Runs.{IsTail, last_blocks}
 use Rattle.fdr_lists.proofs.Options.{some_or_none}
@@ -24,13 +24,13 @@ turn_apart n a b same less = ⊎_elim
     absurd (omega (arith, whole, first, second, same)))
     (cases_lt (a / n) (b / n))
 
--- the same blocks stand below a number
-pub run_below-same : (n : ℕ) (old new : Slots) (number : ℕ) → ((m : ℕ) → m < number → standing n new m ≡ standing n old m)
+-- the same blocks are below a number
+pub run_below-same : (n : ℕ) (old new : Slots) (number : ℕ) → ((m : ℕ) → m < number → standing_block n new m ≡ standing_block n old m)
     → run_below n new number ≡ run_below n old number
 run_below-same n old new zero same = refl
 run_below-same n old new (suc number) same =
-    ap (λ r. continued r (standing n new number)) (run_below-same n old new number (λ m less. same m (omega arith)))
-    ∙ ap (continued (run_below n old number)) (same number (omega arith))
+    ap (λ r. blocks_with_next r (standing_block n new number)) (run_below-same n old new number (λ m less. same m (omega arith)))
+    ∙ ap (blocks_with_next (run_below n old number)) (same number (omega arith))
 
 pub next_among-same : (old new : Slots) (i : ℕ) → ((j : ℕ) → j < i → new j ≡ old j) → next_among i new ≡ next_among i old
 next_among-same old new zero same = refl
@@ -43,11 +43,11 @@ pub record IsEmptied (n k : ℕ) (old new : Slots) : Type 0 where
   pub others : (j : ℕ) → j < n → j ≢ k → new j ≡ old j
   pub here : new k ≡ None
 
-standing-elsewhere : (n k : ℕ) (old new : Slots) (m : ℕ) → 0 < n → IsEmptied n k old new → m % n ≢ k → standing n new m ≡ standing n old m
-standing-elsewhere n k old new m some emptied other = ap (if_numbered m) (emptied.others (m % n) (mod-lt m some) other)
+standing_block-elsewhere : (n k : ℕ) (old new : Slots) (m : ℕ) → 0 < n → IsEmptied n k old new → m % n ≢ k → standing_block n new m ≡ standing_block n old m
+standing_block-elsewhere n k old new m some emptied other = ap (if_numbered m) (emptied.others (m % n) (mod-lt m some) other)
 
-standing-here : (n k : ℕ) (old new : Slots) (m : ℕ) → IsEmptied n k old new → m % n ≡ k → standing n new m ≡ None
-standing-here n k old new m emptied same = ap (λ j. if_numbered m (new j)) same ∙ ap (if_numbered m) emptied.here
+standing_block-here : (n k : ℕ) (old new : Slots) (m : ℕ) → IsEmptied n k old new → m % n ≡ k → standing_block n new m ≡ None
+standing_block-here n k old new m emptied same = ap (λ j. if_numbered m (new j)) same ∙ ap (if_numbered m) emptied.here
 
 -- what is left of the blocks below a number, of which those below the limit may be gone
 record IsCut (limit number : ℕ) (whole part : List Block) : Type 0 where
@@ -69,7 +69,7 @@ cut_below n k limit old new zero some emptied late = record { lost = 0; within =
 cut_below n k limit old new (suc number) some emptied late =
     let before = cut_below n k limit old new number some emptied (λ m less same. late m (omega arith) same) in
     ⊎_elim
-    (λ gone. let empty = run_below-none n new number (standing-here n k old new number emptied gone) in
+    (λ gone. let empty = run_below-none n new number (standing_block-here n k old new number emptied gone) in
     let far = late number (omega arith) gone in
     record {
       lost = length (run_below n old (suc number));
@@ -78,7 +78,7 @@ cut_below n k limit old new (suc number) some emptied late =
           ∙ sym (drop-whole (run_below n old (suc number)));
       enough = omega (arith, far);
     })
-    (λ kept. let same = standing-elsewhere n k old new number some emptied kept in
+    (λ kept. let same = standing_block-elsewhere n k old new number some emptied kept in
     ⊎_elim
     (λ none. let whole = run_below-none n old number none in
     let part = run_below-none n new number (same ∙ none) in
@@ -94,7 +94,7 @@ cut_below n k limit old new (suc number) some emptied late =
           ∙ ap (drop before.lost) (sym whole);
       enough = omega (arith, before.enough, long, left);
     })
-    (some_or_none (standing n old number)))
+    (some_or_none (standing_block n old number)))
     (cases_eq (number % n) k)
 
 -- the slot of the number that is so far ahead of the next one is emptied
@@ -127,7 +127,7 @@ emptied_next n ahead old new next some less emptied is = record {
 }
 
 -- a number that doesn't stand ends the blocks below
-pub length-run_below-from : (n : ℕ) (slots : Slots) (number m : ℕ) → m < number → standing n slots m ≡ None
+pub length-run_below-from : (n : ℕ) (slots : Slots) (number m : ℕ) → m < number → standing_block n slots m ≡ None
     → length (run_below n slots number) + m + 1 ≤ number
 length-run_below-from n slots zero m less none = absurd (omega arith)
 length-run_below-from n slots (suc number) m less none = ⊎_elim
@@ -136,9 +136,9 @@ length-run_below-from n slots (suc number) m less none = ⊎_elim
     ⊎_elim
     (λ below. let rest = length-run_below-from n slots number m below none in omega (arith, rest, long))
     (λ above. let same : m ≡ number = omega arith in absurd
-    (let found : None ≡ Some held.0 = sym none ∙ ap (standing n slots) same ∙ held.1 in cc))
+    (let found : None ≡ Some held.0 = sym none ∙ ap (standing_block n slots) same ∙ held.1 in cc))
     (cases_lt m number))
-    (some_or_none (standing n slots number))
+    (some_or_none (standing_block n slots number))
 
 -- a closed slot so far ahead of the next number bounds the run
 pub run_below-bound : (n ahead : ℕ) (slots : Slots) (next : ℕ) → ahead < n → slots ((next + ahead) % n) ≡ None
@@ -148,7 +148,7 @@ run_below-bound n ahead slots next less none turn = ⊎_elim
     (λ late. let m : ℕ = next + ahead - n in
     let whole : m + n ≡ next + ahead = omega arith in
     let same = turn m whole in
-    let gone : standing n slots m ≡ None = ap (λ j. if_numbered m (slots j)) same ∙ ap (if_numbered m) none in
+    let gone : standing_block n slots m ≡ None = ap (λ j. if_numbered m (slots j)) same ∙ ap (if_numbered m) none in
     let bound = length-run_below-from n slots next m (omega arith) gone in
     omega (arith, bound))
     (cases_lt (next + ahead) n)
@@ -163,21 +163,21 @@ IsTail-exact most whole part tail short =
 -- the slot of the next number, which was empty, gets its block
 pub record IsAdded (n : ℕ) (b : Block) (old new : Slots) : Type 0 where
   pub others : (j : ℕ) → j < n → j ≢ b.number % n → new j ≡ old j
-  pub before : old (b.number % n) ≡ None
+  pub pulled_before : old (b.number % n) ≡ None
   pub here : new (b.number % n) ≡ Some b
 
 added_below : (n : ℕ) (b : Block) (old new : Slots) (m : ℕ) → 0 < n → IsAdded n b old new → m < b.number
-    → standing n new m ≡ standing n old m
+    → standing_block n new m ≡ standing_block n old m
 added_below n b old new m some added less = ⊎_elim
     (λ same. ap (λ j. if_numbered m (new j)) same ∙ ap (if_numbered m) added.here ∙ numbered_other m b (λ equal. omega (arith, equal, less))
-    ∙ sym (ap (λ j. if_numbered m (old j)) same ∙ ap (if_numbered m) added.before))
+    ∙ sym (ap (λ j. if_numbered m (old j)) same ∙ ap (if_numbered m) added.pulled_before))
     (λ other. ap (if_numbered m) (added.others (m % n) (mod-lt m some) other))
     (cases_eq (m % n) (b.number % n))
 
 pub added_run : (n : ℕ) (b : Block) (old new : Slots) → 0 < n → IsAdded n b old new
     → run_below n new (b.number + 1) ≡ run_below n old b.number ++ b ∷ []
 added_run n b old new some added =
-    let here : standing n new b.number ≡ Some b = stands-standing n new b.number b added.here refl in
+    let here : standing_block n new b.number ≡ Some b = stands-standing_block n new b.number b added.here refl in
     let one : b.number + 1 ≡ suc b.number = omega arith in
     ap (run_below n new) one ∙ run_below-some n new b.number b here
     ∙ ap (λ r. r ++ b ∷ []) (run_below-same n old new b.number (λ m less. added_below n b old new m some added less))

@@ -19,16 +19,16 @@ use Rattle.fdr_recover.specs.Images.{head_at, bytes_in, block_of, block_in, bloc
 use Rattle.fdr_recover.proofs.Placing.{slot_within}
 use Rattle.fdr_recover.proofs.Standing.{numbered-is, numbered_same}
 use Rattle.fdr_recover.proofs.BlockLemmas.{block_in-valid}
-use Rattle.fdr_ring.specs.Gates.{gate_at, IsClosed, opened, waiting, KeepsHeader}
+use Rattle.fdr_ring.specs.Gates.{gate_at, IsClosed, image_with_open_gate, waiting_block, KeepsHeader}
 use Rattle.fdr_ring.specs.Closing.{IsTurned}
-use Rattle.fdr_ring.specs.Bodies.{body_bytes, placed}
+use Rattle.fdr_ring.specs.Bodies.{body_bytes, image_with_body}
 use Rattle.fdr_ring.specs.Runs.{IsTail, KeepsRun, HasAdded, MayAdd, last_blocks}
 use Rattle.fdr_ring.proofs.Bytes.{range_outside, range_front, byte_front, torn_byte, take_front, patched_append}
 use Rattle.fdr_ring.proofs.Slots.{IsEmptied, turn_apart, run_below-bound, IsTail-exact}
 use Rattle.fdr_ring.proofs.Places.{slots_apart, block_in-closed, body_torn, gate_torn, turned_slots, same_slots, same_image, emptied_image}
 use Rattle.fdr_ring.proofs.Places.{added_image}
 
--- the image is as long, and has its header, where it is torn behind it
+-- the image is as long, and has its header, where it is torn after it
 pub torn_header : (at n : ℕ) (old new : List ℕ) → 64 ≤ at → Torn at n old new → KeepsHeader old new
 torn_header at n old new behind torn = record { size = torn.size; header = take_front at n 64 old new behind torn }
 
@@ -43,7 +43,7 @@ KeepsRun-then h least old mid new kept run next then = record {
   next = then.next ∙ next;
 }
 
--- the body of the next block is torn behind its closed gate
+-- the body of the next block is torn after its closed gate
 body_same : (h : Header) (number : ℕ) (old new : List ℕ) → IsInLimits h → IsClosed h old number
     → Torn (gate_at h number + 1) (15 + h.payload) old new → (recovered_run h new ≡ recovered_run h old) × (next_of h new ≡ next_of h old)
 body_same h number old new limits closed torn = same_slots h old new limits
@@ -65,7 +65,7 @@ close_image h ahead number old new limits few whole next turned =
     (subst (λ k. IsEmptied h.slots ((k + ahead) % h.slots) (block_in h old) (block_in h new)) next emptied))
     (turned_slots h ((number + ahead) % h.slots) old new within turned)
 
--- the same behind a torn body
+-- the same after a torn body
 pub close_after_body : (h : Header) (number : ℕ) (old mid new : List ℕ) → IsInLimits h → image_size h ≤ length old → number ≡ next_of h old
     → IsClosed h old number → Torn (gate_at h number + 1) (15 + h.payload) old mid → IsTurned (gate_at h (number + 1)) mid new
     → KeepsRun h (h.slots - 2) old new
@@ -74,7 +74,7 @@ close_after_body h number old mid new limits whole next closed torn turned =
     KeepsRun-then h (h.slots - 2) old mid new (torn_header (gate_at h number + 1) (15 + h.payload) old mid (omega arith) torn) same.0 same.1
     (close_image h 1 number mid new limits (omega arith) (omega (arith, whole, torn.size)) (next ∙ sym same.1) turned)
 
--- a byte behind the tear
+-- a byte after the tear
 byte_behind : (at n s : ℕ) (old new : List ℕ) → at + n ≤ s → Torn at n old new → slice_index new s ≡ slice_index old s
 byte_behind at n s old new after torn =
     let whole : at + n + (s - (at + n)) ≡ s = omega arith in
@@ -82,7 +82,7 @@ byte_behind at n s old new after torn =
     ∙ sym (get_or-drop (at + n) xs (s - (at + n)) 0) in
     later new ∙ ap (λ (l : List ℕ). get_or l (s - (at + n)) 0) torn.behind ∙ sym (later old)
 
--- the slots of a number and of the one behind it
+-- the slots of a number and of the one after it
 pub next_slot : (h : Header) (number : ℕ) → IsInLimits h → number % h.slots ≢ (number + 1) % h.slots
 next_slot h number limits same = absurd (omega (arith, turn_apart h.slots number (number + 1) same (omega arith)))
 
@@ -94,7 +94,7 @@ other_gate h i j old new other torn = ⊎_elim
     (λ behind. byte_behind (slot_at h j) 1 (slot_at h i) old new (omega (arith, behind)) torn)
     (slots_apart h i j other)
 
--- the gate of the slot behind a torn body stays
+-- the gate of the slot after a torn body stays
 pub far_gate : (h : Header) (number size : ℕ) (old new : List ℕ) → IsInLimits h → size ≤ h.payload
     → Torn (gate_at h number + 1) (15 + size) old new
     → slice_index new (gate_at h (number + 1)) ≡ slice_index old (gate_at h (number + 1))
@@ -126,7 +126,7 @@ exact_run h ahead number old new limits few next keeps closed =
     IsTail-exact (h.slots - (1 + ahead)) (recovered_run h old) (recovered_run h new) keeps.run
     (run_bound h ahead new limits few (subst (λ k. IsClosed h new (k + ahead)) (next ∙ sym keeps.next) closed))
 
--- what was written stands there
+-- what was written is there
 range_patched : (at : ℕ) (bytes old : List ℕ) → at ≤ length old → slice_range (patched at bytes old) at (at + length bytes) ≡ bytes
 range_patched at bytes old within =
     let rest : List ℕ = drop (at + length bytes) old in
@@ -134,7 +134,7 @@ range_patched at bytes old within =
     ap (take (at + length bytes - at)) (drop_at (take at old) (bytes ++ rest) at (length-take-le at old within))
     ∙ ap (λ k. take k (bytes ++ rest)) count ∙ take_at bytes rest (length bytes) refl
 
--- the head behind an opened gate
+-- the head after an opened gate
 abbrev opened_as : SlotHead → SlotHead
 opened_as head = record { gate = true; len = head.len; session = head.session; seq = head.seq }
 
@@ -168,19 +168,19 @@ opened_range at n image within =
     ∙ ap (λ k. 0x5a ∷ take k (drop (at + 1) image)) (sym rest)
 
 pub opened_torn : (h : Header) (number : ℕ) (image : List ℕ) → gate_at h number < length image
-    → Torn (gate_at h number) 1 image (opened h image number)
+    → Torn (gate_at h number) 1 image (image_with_open_gate h image number)
 opened_torn h number image within = Torn-patched (gate_at h number) (0x5a ∷ []) image (omega arith)
 
--- the block behind a closed gate, by its bytes
+-- the block after a closed gate, by its bytes
 pub waiting_is : (h : Header) (number : ℕ) (image bytes : List ℕ) → IsInLimits h → number < 2 ^ 48 → 0 < length bytes
     → length bytes ≤ h.payload → gate_at h number < length image
     → slice_range image (gate_at h number + 1) (gate_at h number + 1 + 15) ≡ drop 1 (head_bytes (length bytes) 0 number)
     → slice_range image (gate_at h number + 16) (gate_at h number + 16 + length bytes) ≡ bytes
-    → waiting h image number ≡ Some (record { number = number; payload = bytes })
-unfolding waiting block_numbered head_at bytes_in
+    → waiting_block h image number ≡ Some (record { number = number; payload = bytes })
+unfolding waiting_block block_numbered head_at bytes_in
 waiting_is h number image bytes limits small some fits within head payload =
     let i : ℕ = number % h.slots in
-    let open_image : List ℕ = opened h image number in
+    let open_image : List ℕ = image_with_open_gate h image number in
     let head_is : head_at h open_image i ≡ record { gate = true; len = length bytes; session = 0; seq = number } =
     ap head_of (opened_range (gate_at h number) 15 image within ∙ ap (λ l. 0x5a ∷ l) head)
     ∙ opened_head (length bytes) number (omega arith) (omega arith) in
@@ -197,11 +197,11 @@ pub tail_length : (len seq : ℕ) → length (drop 1 (head_bytes len 0 seq)) ≡
 unfolding head_bytes
 tail_length len seq = refl
 
--- what was written behind the gate of the next number, and then another gate was torn
+-- what was written after the gate of the next number, and then another gate was torn
 pub waiting_written : (h : Header) (number : ℕ) (old mid new bytes : List ℕ) → IsInLimits h → number < 2 ^ 48 → 0 < length bytes
     → length bytes ≤ h.payload
-    → image_size h ≤ length old → mid ≡ placed h number bytes old → IsTurned (gate_at h (number + 1)) mid new
-    → waiting h new number ≡ Some (record { number = number; payload = bytes })
+    → image_size h ≤ length old → mid ≡ image_with_body h number bytes old → IsTurned (gate_at h (number + 1)) mid new
+    → waiting_block h new number ≡ Some (record { number = number; payload = bytes })
 unfolding body_bytes
 waiting_written h number old mid new bytes limits small some fits whole written turned =
     let at : ℕ = gate_at h number in
@@ -233,24 +233,24 @@ waiting_written h number old mid new bytes limits small some fits whole written 
 
 -- the gate of the next number is open
 pub opened_image : (h : Header) (number : ℕ) (b : Block) (old new : List ℕ) → IsInLimits h → number ≡ next_of h old → IsClosed h old number
-    → image_size h ≤ length old → waiting h old number ≡ Some b → Torn (gate_at h number) 1 old new
+    → image_size h ≤ length old → waiting_block h old number ≡ Some b → Torn (gate_at h number) 1 old new
     → slice_index new (gate_at h number) ≡ 0x5a → HasAdded h b old new
-unfolding waiting block_numbered
+unfolding waiting_block block_numbered
 opened_image h number b old new limits next closed whole waits torn is =
     let within : gate_at h number < length old = omega (arith, gate_within h number old limits whole) in
-    let same : new ≡ opened h old number = torn_byte (gate_at h number) old new 0x5a within torn is in
-    let found = numbered-is number (block_in h (opened h old number) (number % h.slots)) b waits in
+    let same : new ≡ image_with_open_gate h old number = torn_byte (gate_at h number) old new 0x5a within torn is in
+    let found = numbered-is number (block_in h (image_with_open_gate h old number) (number % h.slots)) b waits in
     let slot : b.number % h.slots ≡ number % h.slots = ap (λ k. k % h.slots) found.0 in
     added_image h b old new limits (torn_header (gate_at h number) 1 old new (omega arith) torn) (found.0 ∙ next)
     (record {
       others = λ j below other. gate_torn h (number % h.slots) j old new (λ here. other (here ∙ sym slot)) torn;
-      before = ap (block_in h old) slot ∙ block_in-closed h old (number % h.slots) closed;
+      pulled_before = ap (block_in h old) slot ∙ block_in-closed h old (number % h.slots) closed;
       here = ap (block_in h new) slot ∙ ap (λ (l : List ℕ). block_in h l (number % h.slots)) same ∙ found.1;
     })
 
 -- the gate of the next number is torn
 pub commit_image : (h : Header) (number : ℕ) (b : Block) (old new : List ℕ) → IsInLimits h → number ≡ next_of h old → IsClosed h old number
-    → image_size h ≤ length old → waiting h old number ≡ Some b → Torn (gate_at h number) 1 old new
+    → image_size h ≤ length old → waiting_block h old number ≡ Some b → Torn (gate_at h number) 1 old new
     → MayAdd h b old new
 commit_image h number b old new limits next closed whole waits torn = ⊎_elim
     (λ is. inr (opened_image h number b old new limits next closed whole waits torn is))

@@ -1,22 +1,22 @@
--- What stands in a slot behind its gate.
+-- What is in a slot after its gate.
 use Rattle.std.specs.Prelude.{ℕ, ◌+◌, List, ◌++◌, length, drop}
 use Rattle.fdr_deck.specs.Disk.{Torn, patched}
 use Rattle.fdr_slot.specs.declared.image.Header.{Header}
 use Rattle.fdr_slot.specs.Heads.{head_bytes}
 use Rattle.fdr_ring.specs.Gates.{gate_at}
-use Rattle.fdr_ring.specs.Closing.{IsTurned, shut}
+use Rattle.fdr_ring.specs.Closing.{IsTurned, image_with_closed_gate}
 
--- the 15 bytes of the head behind the gate, and the payload
+-- the 15 bytes of the head after the gate, and the payload
 unfoldable pub body_bytes : ℕ → List ℕ → List ℕ
 body_bytes number payload = drop 1 (head_bytes (length payload) 0 number) ++ payload
 
--- the image with these behind the gate of the number's slot
-abbrev pub placed : Header → ℕ → List ℕ → List ℕ → List ℕ
-placed h number payload image = patched (gate_at h number + 1) (body_bytes number payload) image
+-- the image with these after the gate of the number's slot
+abbrev pub image_with_body : Header → ℕ → List ℕ → List ℕ → List ℕ
+image_with_body h number payload image = patched (gate_at h number + 1) (body_bytes number payload) image
 
 -- the same, and the gate of the following slot is 00 where it was open
-abbrev pub prepared : Header → ℕ → List ℕ → List ℕ → List ℕ
-prepared h number payload image = shut (gate_at h (number + 1)) (placed h number payload image)
+abbrev pub image_to_commit : Header → ℕ → List ℕ → List ℕ → List ℕ
+image_to_commit h number payload image = image_with_closed_gate (gate_at h (number + 1)) (image_with_body h number payload image)
 
 -- Only bytes 1 to 15 + size of the number's slot may be others, and the gate of the following slot where it was open.
 pub record IsPlacing (h : Header) (number size : ℕ) (old new : List ℕ) : Type 0 where

@@ -4,15 +4,15 @@ use Rattle.fdr_deck.specs.State.{State}
 use Rattle.fdr_deck.specs.Disk.{Torn, patched}
 
 -- the image with the gate 00 where it was open, and as it was elsewhere
-abbrev pub shut : ℕ → List ℕ → List ℕ
-shut at image = if slice_index image at == 0x5a then patched at (0 ∷ []) image else image
+abbrev pub image_with_closed_gate : ℕ → List ℕ → List ℕ
+image_with_closed_gate at image = if slice_index image at == 0x5a then patched at (0 ∷ []) image else image
 
 -- only this gate may be another, and only where it was open
 pub record IsTurned (at : ℕ) (old new : List ℕ) : Type 0 where
   pub torn : Torn at 1 old new
   pub same : slice_index old at ≢ 0x5a → new ≡ old
 
--- an image that a stop at entry could leave, but for this gate where the disk held it open
+-- an image that a stop at entry could leave, except this gate where the disk held it open
 pub record Closing (at : ℕ) (entry : State) (image : List ℕ) : Type 0 where
   pub from : List ℕ
   pub left : entry.may_leave from

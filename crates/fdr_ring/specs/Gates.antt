@@ -15,12 +15,12 @@ abbrev pub IsClosed : Header → List ℕ → ℕ → Type 0
 IsClosed h image number = slice_index image (gate_at h number) ≢ 0x5a
 
 -- the image with this gate open
-abbrev pub opened : Header → List ℕ → ℕ → List ℕ
-opened h image number = patched (gate_at h number) (0x5a ∷ []) image
+abbrev pub image_with_open_gate : Header → List ℕ → ℕ → List ℕ
+image_with_open_gate h image number = patched (gate_at h number) (0x5a ∷ []) image
 
--- the block of this number that stands in its slot once the gate is opened
-unfoldable pub waiting : Header → List ℕ → ℕ → Option Block
-waiting h image number = block_numbered h (opened h image number) number
+-- the block of this number that is in its slot once the gate is opened
+unfoldable pub waiting_block : Header → List ℕ → ℕ → Option Block
+waiting_block h image number = block_numbered h (image_with_open_gate h image number) number
 
 -- the length of the image and its header are as they were
 pub record KeepsHeader (old new : List ℕ) : Type 0 where

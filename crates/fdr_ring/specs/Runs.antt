@@ -5,7 +5,7 @@ use Rattle.fdr_recover.specs.Blocks.{Block}
 use Rattle.fdr_recover.specs.Images.{recovered_run, next_of}
 use Rattle.fdr_ring.specs.Gates.{KeepsHeader}
 
--- The blocks but for the oldest, at least this many where there are so many.
+-- The blocks except the oldest, at least `least` of them where there are as many.
 pub record IsTail (least : ℕ) (whole part : List Block) : Type 0 where
   pub lost : ℕ
   pub within : lost ≤ length whole
@@ -16,7 +16,7 @@ pub record IsTail (least : ℕ) (whole part : List Block) : Type 0 where
 abbrev pub last_blocks : ℕ → List Block → List Block
 last_blocks most run = drop (length run - most) run
 
--- the run but for its oldest blocks, and the same next number
+-- the run except its oldest blocks, and the same next number
 pub record KeepsRun (h : Header) (least : ℕ) (old new : List ℕ) : Type 0 where
   pub kept : KeepsHeader old new
   pub run : IsTail least (recovered_run h old) (recovered_run h new)
@@ -28,7 +28,7 @@ pub record HasSame (h : Header) (old new : List ℕ) : Type 0 where
   pub run : recovered_run h new ≡ recovered_run h old
   pub next : next_of h new ≡ next_of h old
 
--- the run with the block behind it
+-- the run with the block after it
 pub record HasAdded (h : Header) (b : Block) (old new : List ℕ) : Type 0 where
   pub kept : KeepsHeader old new
   pub run : recovered_run h new ≡ recovered_run h old ++ b ∷ []

@@ -3,7 +3,7 @@
 //!
 //! A ring of N slots promises the last N - 2 blocks. A block takes at most six calls of the deck, of
 //! which two are syncs. A ring takes no memory, and holds no deck: each call is handed the deck anew.
-//! Between two calls the deck may be read, synced and asked for its length, its line may be pulled,
+//! Between two calls the deck may be read, synced and asked for its length, its input may be pulled,
 //! and numbers may be announced.
 #![tactic(auto)]
 

@@ -3,7 +3,7 @@
 ghost use Rattle.std.specs.Prelude.{◌≡◌, ◌≢◌, ◌⊎◌, ℕ, ◌+◌, ◌≤◌, ◌<◌, [], ◌∷◌, Err, OnOk, IfOk, OnErr, IsTrue, drop, replicate};
 ghost use Rattle.fdr_io.specs.Faults.{Rose};
 ghost use Rattle.fdr_deck.specs.Disk.{IsSettled, LearnsExtent, KeepsDisk, patched};
-ghost use Rattle.fdr_deck.specs.Calls.{IsQuiet, Succeeds};
+ghost use Rattle.fdr_deck.specs.Calls.{IsDiskWork, Succeeds};
 ghost use Rattle.fdr_slot.specs.Limits.{IsInLimits};
 ghost use Rattle.fdr_slot.specs.Places.{image_size};
 ghost use Rattle.fdr_slot.specs.Headers.{header_bytes};
@@ -17,13 +17,13 @@ use fdr_deck::Deck;
 use fdr_io::Failed;
 use fdr_slot::{Header, image_size, write_header};
 
-/// Writes a header behind its closed gate and makes that durable, and then opens the gate.
+/// Writes a header after its closed gate and makes that durable, and then opens the gate.
 fn lay_header<D: Deck>(deck: &mut D, h: &Header) -> Result<(), Failed>
     requires limits { IsInLimits h.now }
     requires extent { (D.state deck.old).extent ≡ image_size h.now }
     requires zeros { IsTrue D.tells.bytes → (D.state deck.old).held ≡ replicate (image_size h.now) 0 }
     requires settled { IsTrue D.tells.stops → IsSettled (D.state deck.old) }
-    ensures quiet { IsQuiet D.tells (FormattingStop h.now) (D.state deck.old) (D.state deck.new) }
+    ensures disk_work { IsDiskWork D.tells (FormattingStop h.now) (D.state deck.old) (D.state deck.new) }
     ensures held { OnOk result (IsTrue D.tells.bytes → (D.state deck.new).held ≡ fresh_image h.now) }
     ensures settled { OnOk result (IsTrue D.tells.stops → IsSettled (D.state deck.new)) }
     ensures extent { (D.state deck.new).extent ≡ (D.state deck.old).extent }
@@ -54,7 +54,7 @@ pub fn format<D: Deck>(deck: &mut D, h: &Header) -> Result<Ring, RingFault>
     ensures run { OnOk result (IsTrue D.tells.bytes → recovered_run h.now (D.state deck.new).held ≡ []) }
     ensures settled { OnOk result (IsTrue D.tells.stops → IsSettled (D.state deck.new)) }
     ensures extent { OnOk result ((D.state deck.new).extent ≡ image_size h.now) }
-    ensures quiet { IsQuiet D.tells (Making h.now (D.state deck.old)) (D.state deck.old) (D.state deck.new) }
+    ensures disk_work { IsDiskWork D.tells (Making h.now (D.state deck.old)) (D.state deck.old) (D.state deck.new) }
     ensures succeeds { result ≢ Err RingFault.DiskFault → Succeeds (D.state deck.old) (D.state deck.new) }
     ensures cause { result ≡ Err RingFault.DiskFault → Rose (D.state deck.old).disk_faults (D.state deck.new).disk_faults }
     ensures rest { D.same_rest deck.old deck.new }

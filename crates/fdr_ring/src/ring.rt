@@ -19,7 +19,7 @@ pub struct Ring {
     ghost bound: { next ≤ 2 ^ 48 },
 }
 
-/// A block that is written behind a closed gate.
+/// A block that is written after a closed gate.
 #[derive(Drop)]
 pub struct Prepared {
     header: Header,
@@ -53,15 +53,15 @@ impl Ring {
     ghost use Rattle.std.specs.Prelude.{◌≡◌, ◌⊎◌, ◌↔◌, ◌<◌, ◌≤◌, ◌^◌, ◌-◌, Err, Some, length, IfOk, OnOk, OnErr, IsTrue};
     ghost use Rattle.fdr_io.specs.Faults.{Rose};
     ghost use Rattle.fdr_deck.specs.Disk.{IsSettled};
-    ghost use Rattle.fdr_deck.specs.Calls.{IsQuiet, Succeeds};
+    ghost use Rattle.fdr_deck.specs.Calls.{IsDiskWork, Succeeds};
     ghost use Rattle.fdr_recover.specs.Images.{recovered_run};
-    ghost use Rattle.fdr_ring.specs.Gates.{waiting};
-    ghost use Rattle.fdr_ring.specs.Bodies.{prepared};
+    ghost use Rattle.fdr_ring.specs.Gates.{waiting_block};
+    ghost use Rattle.fdr_ring.specs.Bodies.{image_to_commit};
     ghost use Rattle.fdr_ring.specs.Runs.{last_blocks};
     ghost use Rattle.fdr_ring.specs.Rings.{IsRing, IsPrepared, IsPreparing, OfSettled};
 
-    /// Writes a block of 1 to `payload` bytes behind the closed gate of its slot, and closes the gate
-    /// of the slot behind it, and makes both durable by one sync. Nothing else is written. At every
+    /// Writes a block of 1 to `payload` bytes after the closed gate of its slot, and closes the gate
+    /// of the slot after it, and makes both durable by one sync. Nothing else is written. At every
     /// moment a stop leaves all blocks but the two oldest. `SeqEnd` is answered, without a call of the
     /// deck, exactly where there is no number left, and otherwise `DiskFault`.
     pub fn prepare<D: Deck>(self, deck: &mut D, bytes: &[u8]) -> Result<Prepared, RingFault>
@@ -73,10 +73,10 @@ impl Ring {
         ensures only { OnErr result (result ≡ Err RingFault.SeqEnd ⊎ result ≡ Err RingFault.DiskFault) }
         ensures prepared { IfOk result (λ p. (p.header ≡ self.header) × (p.next ≡ self.next)) }
         ensures held { OnOk result (IsTrue D.tells.bytes
-            → (D.state deck.new).held ≡ prepared self.header self.next bytes.now (D.state deck.old).held) }
+            → (D.state deck.new).held ≡ image_to_commit self.header self.next bytes.now (D.state deck.old).held) }
         ensures fact { IfOk result (λ p. IsPrepared D.tells p.header p.next (D.state deck.new)) }
         ensures block { OnOk result (IsTrue D.tells.bytes
-            → waiting self.header (D.state deck.new).held self.next
+            → waiting_block self.header (D.state deck.new).held self.next
             ≡ Some (record { number = self.next; payload = bytes.now })) }
         ensures run { OnOk result (IsTrue D.tells.bytes → recovered_run self.header (D.state deck.new).held
             ≡ last_blocks (self.header.slots - 2) (recovered_run self.header (D.state deck.old).held)) }
@@ -84,7 +84,7 @@ impl Ring {
             (D.state deck.old).held (D.state deck.new).held }
         ensures settled { OnOk result (IsTrue D.tells.stops → IsSettled (D.state deck.new)) }
         ensures extent { (D.state deck.new).extent ≡ (D.state deck.old).extent }
-        ensures quiet { IsQuiet D.tells
+        ensures disk_work { IsDiskWork D.tells
             (OfSettled (D.state deck.old) (IsPreparing self.header self.next (length bytes.now)))
             (D.state deck.old) (D.state deck.new) }
         ensures succeeds { OnOk result (Succeeds (D.state deck.old) (D.state deck.new)) }
@@ -107,12 +107,12 @@ impl Ring {
     ghost use Rattle.std.specs.Prelude.{◌≡◌, ◌≤◌, ◌-◌, Err, IfOk, OnOk, OnErr, IsTrue};
     ghost use Rattle.fdr_io.specs.Faults.{Rose};
     ghost use Rattle.fdr_deck.specs.Disk.{IsSettled};
-    ghost use Rattle.fdr_deck.specs.Calls.{IsQuiet, Succeeds};
+    ghost use Rattle.fdr_deck.specs.Calls.{IsDiskWork, Succeeds};
     ghost use Rattle.fdr_slot.specs.Limits.{IsInLimits};
     ghost use Rattle.fdr_slot.specs.Places.{image_size};
     ghost use Rattle.fdr_recover.specs.Images.{next_of, recovered_run};
     ghost use Rattle.fdr_ring.specs.Gates.{gate_at};
-    ghost use Rattle.fdr_ring.specs.Closing.{shut};
+    ghost use Rattle.fdr_ring.specs.Closing.{image_with_closed_gate};
     ghost use Rattle.fdr_ring.specs.Runs.{last_blocks};
     ghost use Rattle.fdr_ring.specs.Rings.{IsSureRing, IsAttaching, OfSettled};
 
@@ -127,14 +127,14 @@ impl Ring {
         ensures header { IfOk result (λ r. r.header ≡ h) }
         ensures next { IsTrue D.tells.bytes → IfOk result (λ r. r.next ≡ next_of h (D.state deck.old).held) }
         ensures held { OnOk result (IsTrue D.tells.bytes → (D.state deck.new).held
-            ≡ shut (gate_at h (next_of h (D.state deck.old).held)) (D.state deck.old).held) }
+            ≡ image_with_closed_gate (gate_at h (next_of h (D.state deck.old).held)) (D.state deck.old).held) }
         ensures fact { IfOk result (λ r. IsSureRing D.tells r.header r.next (D.state deck.new)) }
         ensures run { OnOk result (IsTrue D.tells.bytes → recovered_run h (D.state deck.new).held
             ≡ last_blocks (h.slots - 1) (recovered_run h (D.state deck.old).held)) }
         ensures keeps { IsTrue D.tells.bytes → IsAttaching h (D.state deck.old).held (D.state deck.new).held }
         ensures settled { OnOk result (IsTrue D.tells.stops → IsSettled (D.state deck.new)) }
         ensures extent { (D.state deck.new).extent ≡ (D.state deck.old).extent }
-        ensures quiet { IsQuiet D.tells (OfSettled (D.state deck.old) (IsAttaching h))
+        ensures disk_work { IsDiskWork D.tells (OfSettled (D.state deck.old) (IsAttaching h))
             (D.state deck.old) (D.state deck.new) }
         ensures succeeds { OnOk result (Succeeds (D.state deck.old) (D.state deck.new)) }
         ensures cause { OnErr result (Rose (D.state deck.old).disk_faults (D.state deck.new).disk_faults) }
@@ -149,13 +149,13 @@ impl Prepared {
     ghost use Rattle.std.specs.Prelude.{◌≡◌, ◌+◌, Err, Some, IfOk, OnOk, OnErr, IsTrue};
     ghost use Rattle.fdr_io.specs.Faults.{Rose};
     ghost use Rattle.fdr_deck.specs.Disk.{IsSettled};
-    ghost use Rattle.fdr_deck.specs.Calls.{IsQuiet, Succeeds};
+    ghost use Rattle.fdr_deck.specs.Calls.{IsDiskWork, Succeeds};
     ghost use Rattle.fdr_recover.specs.Blocks.{Block};
-    ghost use Rattle.fdr_ring.specs.Gates.{opened, waiting};
+    ghost use Rattle.fdr_ring.specs.Gates.{image_with_open_gate, waiting_block};
     ghost use Rattle.fdr_ring.specs.Runs.{HasAdded};
     ghost use Rattle.fdr_ring.specs.Rings.{IsPrepared, IsSureRing, IsCommitting, OfSettled};
 
-    /// Opens the gate of the prepared block and makes that durable: the block is behind the run, and
+    /// Opens the gate of the prepared block and makes that durable: the block is after the run, and
     /// the ring's next number is one more. Nothing else is written. At every moment a stop leaves the
     /// run as it was, or with the block. Only `DiskFault` is answered besides.
     pub fn commit<D: Deck>(self, deck: &mut D) -> Result<Ring, RingFault>
@@ -163,16 +163,16 @@ impl Prepared {
         ensures only { OnErr result (result ≡ Err RingFault.DiskFault) }
         ensures ring { IfOk result (λ r. (r.header ≡ self.header) × (r.next ≡ self.next + 1)) }
         ensures held { OnOk result (IsTrue D.tells.bytes
-            → (D.state deck.new).held ≡ opened self.header (D.state deck.old).held self.next) }
+            → (D.state deck.new).held ≡ image_with_open_gate self.header (D.state deck.old).held self.next) }
         ensures fact { IfOk result (λ r. IsSureRing D.tells r.header r.next (D.state deck.new)) }
         ensures added { OnOk result (IsTrue D.tells.bytes
-            → (b : Block) → waiting self.header (D.state deck.old).held self.next ≡ Some b
+            → (b : Block) → waiting_block self.header (D.state deck.old).held self.next ≡ Some b
             → HasAdded self.header b (D.state deck.old).held (D.state deck.new).held) }
         ensures keeps { IsTrue D.tells.bytes
             → IsCommitting self.header self.next (D.state deck.old).held (D.state deck.new).held }
         ensures settled { OnOk result (IsTrue D.tells.stops → IsSettled (D.state deck.new)) }
         ensures extent { (D.state deck.new).extent ≡ (D.state deck.old).extent }
-        ensures quiet { IsQuiet D.tells (OfSettled (D.state deck.old) (IsCommitting self.header self.next))
+        ensures disk_work { IsDiskWork D.tells (OfSettled (D.state deck.old) (IsCommitting self.header self.next))
             (D.state deck.old) (D.state deck.new) }
         ensures succeeds { OnOk result (Succeeds (D.state deck.old) (D.state deck.new)) }
         ensures cause { OnErr result (Rose (D.state deck.old).disk_faults (D.state deck.new).disk_faults) }

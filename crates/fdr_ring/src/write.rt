@@ -3,11 +3,11 @@
 ghost use Rattle.std.specs.Prelude.{◌≡◌, ℕ, ◌+◌, ◌≤◌, ◌<◌, ◌^◌, List, [], ◌∷◌, take, length, OnOk, OnErr, IsTrue};
 ghost use Rattle.fdr_io.specs.Faults.{Rose};
 ghost use Rattle.fdr_deck.specs.Disk.{IsSettled, Torn, patched};
-ghost use Rattle.fdr_deck.specs.Calls.{IsQuiet, Succeeds};
+ghost use Rattle.fdr_deck.specs.Calls.{IsDiskWork, Succeeds};
 ghost use Rattle.fdr_slot.specs.Limits.{IsInLimits};
 ghost use Rattle.fdr_slot.specs.Places.{image_size};
 ghost use Rattle.fdr_ring.specs.Gates.{gate_at};
-ghost use Rattle.fdr_ring.specs.Bodies.{body_bytes, placed};
+ghost use Rattle.fdr_ring.specs.Bodies.{body_bytes, image_with_body};
 
 use fdr_deck::Deck;
 use fdr_io::Failed;
@@ -23,7 +23,7 @@ pub fn gate_at(h: &Header, seq: u64) -> u64
     slot_at(h, (seq % u64::from(h.slots)) as u32)
 }
 
-/// The rest of a head behind its gate, and the largest payload.
+/// The rest of a head after its gate, and the largest payload.
 const MAX_BODY: usize = 15 + 4_096;
 
 /// Puts the bytes there.
@@ -34,7 +34,7 @@ fn put(room: &mut [u8], at: usize, bytes: &[u8])
     room[at..at + bytes.len()].copy_from_slice(bytes);
 }
 
-/// What stands behind the gate of a block's slot, at the front of an array that has room for the
+/// What is after the gate of a block's slot, at the front of an array that has room for the
 /// largest.
 fn body_of(seq: u64, bytes: &[u8]) -> [u8; MAX_BODY]
     requires { length bytes.now ≤ 4096 }
@@ -47,19 +47,19 @@ fn body_of(seq: u64, bytes: &[u8]) -> [u8; MAX_BODY]
     body
 }
 
-/// Writes what stands behind the gate of a block's slot, in one write. It isn't durable yet.
+/// Writes what is after the gate of a block's slot, in one write. It isn't durable yet.
 pub fn write_body<D: Deck>(deck: &mut D, h: &Header, seq: u64, bytes: &[u8]) -> Result<(), Failed>
     requires limits { IsInLimits h.now }
     requires fits { length bytes.now ≤ h.now.payload }
     requires whole { image_size h.now ≤ (D.state deck.old).extent }
-    ensures quiet { IsQuiet D.tells
+    ensures disk_work { IsDiskWork D.tells
         (λ image. IsSettled (D.state deck.old)
         → Torn (gate_at h.now seq + 1) (15 + length bytes.now) (D.state deck.old).held image)
         (D.state deck.old) (D.state deck.new) }
     ensures torn { IsTrue D.tells.bytes
         → Torn (gate_at h.now seq + 1) (15 + length bytes.now) (D.state deck.old).held (D.state deck.new).held }
     ensures written { OnOk result (IsTrue D.tells.bytes
-        → (D.state deck.new).held ≡ placed h.now seq bytes.now (D.state deck.old).held) }
+        → (D.state deck.new).held ≡ image_with_body h.now seq bytes.now (D.state deck.old).held) }
     ensures extent { (D.state deck.new).extent ≡ (D.state deck.old).extent }
     ensures succeeds { OnOk result (Succeeds (D.state deck.old) (D.state deck.new)) }
     ensures cause { OnErr result (Rose (D.state deck.old).disk_faults (D.state deck.new).disk_faults) }
@@ -72,7 +72,7 @@ pub fn write_body<D: Deck>(deck: &mut D, h: &Header, seq: u64, bytes: &[u8]) -> 
 /// Opens a gate, and makes it durable.
 pub fn open_gate<D: Deck>(deck: &mut D, at: u64) -> Result<(), Failed>
     requires { at + 1 ≤ (D.state deck.old).extent }
-    ensures quiet { IsQuiet D.tells (λ image. IsSettled (D.state deck.old) → Torn at 1 (D.state deck.old).held image)
+    ensures disk_work { IsDiskWork D.tells (λ image. IsSettled (D.state deck.old) → Torn at 1 (D.state deck.old).held image)
         (D.state deck.old) (D.state deck.new) }
     ensures torn { IsTrue D.tells.bytes → Torn at 1 (D.state deck.old).held (D.state deck.new).held }
     ensures written { OnOk result (IsTrue D.tells.bytes

@@ -1,14 +1,14 @@
 -- The sources' words, as they are given one source after another, and what is held in them before any bus word came.
-use Rattle.std.proofs.Common.{◌≡◌, ℕ, ◌+◌, ◌-◌, ◌%◌, ◌^◌, ◌<◌, List, [], ◌∷◌, ◌++◌, length, map, get_or, take, replicate, refl, sym, ap, ◌∙◌, arith}
+use Rattle.std.proofs.Common.{◌≡◌, ℕ, ◌+◌, ◌-◌, ◌%◌, ◌^◌, ◌<◌, List, [], ◌∷◌, ◌++◌, length, map, get_or, take, replicate, None, zero, suc}
+use Rattle.std.proofs.Common.{refl, sym, ap, ◌∙◌, arith}
 use Rattle.std.specs.Prelude.{slice_index}
 use Rattle.std.proofs.lemmas.List.{length-replicate, map-append, take_more}
 use Rattle.std.proofs.lemmas.List.Elements.{All-append, All-nil, All-cons, All-weaker}
-use Rattle.std.proofs.Math.Nat.{zero-div, zero-mod}
-use Rattle.fdr_bus.specs.Words.{bits_at}
 use Rattle.fdr_table.specs.Rows.{ParamRow}
 use Rattle.fdr_sampler.specs.declared.held_words.HeldSource.{HeldSource}
+use Rattle.fdr_sampler.specs.declared.timed_word.TimedWord.{TimedWord}
 use Rattle.fdr_sampler.specs.Held.{source_of}
-use Rattle.fdr_sampler.specs.HeldWords.{bus_labels, place_of, number_held, AreLabelStarts, HasWord, AreHeldWords}
+use Rattle.fdr_sampler.specs.HeldWords.{bus_labels, place_of, as_held_word, no_word, own_held, AreLabelStarts, HasWord, AreHeldWords}
 use Rattle.fdr_sampler.proofs.EmptyRuns.{zeros_read}
 
 -- ---- one source after another
@@ -59,12 +59,15 @@ sources_more held h params i p low is before own =
 
 -- ---- before any word came
 
-pub numbers_none : (words : List ℕ) (count : ℕ) → words ≡ replicate count 0 → (held : List HeldSource)
-    → map (number_held words) held ≡ replicate (length held) 0
-numbers_none words count none [] = refl
-numbers_none words count none (h ∷ held) =
-    let s = h.source in
-    let word : slice_index words h.at ≡ 0 = ap (λ xs. slice_index xs h.at) none ∙ zeros_read count h.at in
-    let here : number_held words h ≡ 0 =
-    ap (λ w. bits_at w s.lsb s.width) word ∙ ap (λ x. x % 2 ^ s.width) (zero-div (2 ^ (s.lsb - 1))) ∙ zero-mod (2 ^ s.width) in
-    ap (λ x. x ∷ map (number_held words) held) here ∙ ap (λ xs. 0 ∷ xs) (numbers_none words count none held)
+none_read : {X : Type 0} (n k : ℕ) (none : X) → get_or (replicate n none) k none ≡ none
+none_read zero k none = refl
+none_read (suc n) zero none = refl
+none_read (suc n) (suc k) none = none_read n k none
+
+pub none_held : (words : List TimedWord) (count : ℕ) → words ≡ replicate count no_word → (held : List HeldSource)
+    → map (own_held words) held ≡ replicate (length held) None
+none_held words count none [] = refl
+none_held words count none (h ∷ held) =
+    let read : get_or words h.at no_word ≡ no_word = ap (λ (xs : List TimedWord). get_or xs h.at no_word) none ∙ none_read count h.at no_word in
+    let here : own_held words h ≡ None = ap as_held_word read in
+    ap (λ x. x ∷ map (own_held words) held) here ∙ ap (λ xs. None ∷ xs) (none_held words count none held)

@@ -8,7 +8,7 @@ below_count x k below = omega arith
 above_count : (x k : ℕ) → (x + 999999) / 1000000 ≤ k → x ≤ k * 1000000
 above_count x k above = omega arith
 
--- exactly so many slots come before the time
+-- exactly this many slots come before the time
 pub slot_count-below : (w time k : ℕ) → k < slot_count w time → k * 1000000 < time * w
 slot_count-below w time k below = below_count (time * w) k below
 

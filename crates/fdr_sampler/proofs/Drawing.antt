@@ -60,12 +60,13 @@ IsDrawn-more value parts i a before raws after word next raw l is so_far raw_is 
     })
 
 -- the raw value that the code takes for a part
-pub value_taken : (value : ℕ → ℕ) (l : Laid) (slot : ℕ) (held before raws : List ℕ) (n : ℕ) (s : Sample) (raw : ℕ) → value_at l slot held before n ≡ value n →
+pub value_taken : (value : ℕ → ℕ) (l : Laid) (slot : ℕ) (number : ℕ → ℕ) (before raws : List ℕ) (n : ℕ) (s : Sample) (raw : ℕ)
+    → value_at l slot number before n ≡ value n →
     slice_get l.samples n ≡ Some s → ((m : ℕ) → slice_index before m ≡ value m → slice_index raws m ≡ value m) →
-    raw ≡ (if first_part_slot s == slot then slice_index held s.param else slice_index raws n) → raw ≡ value n
-value_taken value l slot held before raws n s raw is got keeps raw_is =
-    let at : (if first_part_slot s == slot then slice_index held s.param else slice_index before n) ≡ value n =
-    sym (ap (λ o. option_map_or (λ (s : Sample). if first_part_slot s == slot then slice_index held s.param else slice_index before n) o 0) got) ∙ is in
+    raw ≡ (if first_part_slot s == slot then number s.param else slice_index raws n) → raw ≡ value n
+value_taken value l slot number before raws n s raw is got keeps raw_is =
+    let at : (if first_part_slot s == slot then number s.param else slice_index before n) ≡ value n =
+    sym (ap (λ o. option_map_or (λ (s : Sample). if first_part_slot s == slot then number s.param else slice_index before n) o 0) got) ∙ is in
     raw_is ∙ ⊎_elim
     (λ holds. cond-true _ _ _ holds ∙ sym (cond-true _ _ _ holds) ∙ at)
     (λ no. cond-false _ _ _ no ∙ keeps n (sym (cond-false _ _ _ no) ∙ at))
@@ -89,7 +90,7 @@ first_read l n parts first below own is =
     ∙ ap (λ (x : Sample). map first_part_slot (before ++ x ∷ [])) (sym (get_or_from_slice_get l.samples n s.0 s.0 s.1))
     ∙ ap (map first_part_slot) (sym (take_more l.samples n s.0 below))
 
--- the parameter that is read is one of so many
+-- the parameter that is read is one of that many
 pub param_within : (l : Laid) (n count : ℕ) (owners : List ℕ) → n < length l.samples → owners ≡ map (λ (s : Sample). s.param) l.samples
     → All (λ (s : Sample). s.param < count) l.samples → get_or owners n 0 < count
 param_within l n count owners below owned each =
@@ -99,15 +100,15 @@ param_within l n count owners below owned each =
     subst (λ m. m < count) (sym is) (subst (λ (x : Sample). x.param < count) at (each n s.0 below))
 
 -- the same, where the sample's first slot and its parameter are read under its number
-pub value_read : (value : ℕ → ℕ) (l : Laid) (slot : ℕ) (held before raws : List ℕ) (n : ℕ) (firsts owners : List ℕ) (first param raw : ℕ)
-    → value_at l slot held before n ≡ value n → n < length l.samples
+pub value_read : (value : ℕ → ℕ) (l : Laid) (slot : ℕ) (number : ℕ → ℕ) (before raws : List ℕ) (n : ℕ) (firsts owners : List ℕ) (first param raw : ℕ)
+    → value_at l slot number before n ≡ value n → n < length l.samples
     → firsts ≡ map first_part_slot l.samples → first ≡ get_or firsts n 0
     → owners ≡ map (λ (s : Sample). s.param) l.samples → param ≡ get_or owners n 0
     → ((m : ℕ) → slice_index before m ≡ value m → slice_index raws m ≡ value m)
-    → raw ≡ (if first == slot then slice_index held param else slice_index raws n) → raw ≡ value n
-value_read value l slot held before raws n firsts owners first param raw is below begun first_read owned read keeps raw_is =
+    → raw ≡ (if first == slot then number param else slice_index raws n) → raw ≡ value n
+value_read value l slot number before raws n firsts owners first param raw is below begun first_read owned read keeps raw_is =
     let s = slice_get_some l.samples n below in
     let first_is : first ≡ first_part_slot s.0 = of_sample first_part_slot l n firsts first s.0 s.1 below begun first_read in
     let param_is : param ≡ s.0.param = of_sample (λ (x : Sample). x.param) l n owners param s.0 s.1 below owned read in
-    let P : ℕ → ℕ → Type 0 = λ f p. raw ≡ (if f == slot then slice_index held p else slice_index raws n) in
-    value_taken value l slot held before raws n s.0 raw is s.1 keeps (subst (λ f. P f s.0.param) first_is (subst (P first) param_is raw_is))
+    let P : ℕ → ℕ → Type 0 = λ f p. raw ≡ (if f == slot then number p else slice_index raws n) in
+    value_taken value l slot number before raws n s.0 raw is s.1 keeps (subst (λ f. P f s.0.param) first_is (subst (P first) param_is raw_is))

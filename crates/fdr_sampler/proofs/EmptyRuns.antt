@@ -116,7 +116,7 @@ run_past f l slot run none past = record {
 after : (k slot : ℕ) → slot ≤ k → (k ≡ slot → ⊥) → slot + 1 ≤ k
 after k slot from other = ⊎_elim (λ (less : slot < k). omega (arith, less)) (λ (le : k ≤ slot). absurd (other (omega (arith, le, from)))) (cases_lt slot k)
 
--- where the run of one slot is put before those behind it
+-- where the run of one slot is put before those after it
 pub run_put : (f : FrameRow) (l : Laid) (runs : List ℕ) (slot run : ℕ) → slot < length runs → IsEmptyRun f l slot run
     → ((k : ℕ) → slot + 1 ≤ k → IsEmptyRun f l k (slice_index runs k)) → (k : ℕ) → slot ≤ k → IsEmptyRun f l k (slice_index (set runs slot run) k)
 run_put f l runs slot run room here each k from =
@@ -166,7 +166,7 @@ next_word_none k n at =
     (sym (kind_within f.words f.cword f.csub (k.drawn + n) (omega (arith, at.0)))
     ∙ ap (kind_of f.words f.cword f.csub) (within_more f.words k.drawn n at.0) ∙ at.1.plain)
 
--- the value after so many empty slots
+-- the value after n empty slots
 pub Stands-empty : (k : SamplerKept) (past : SamplerPast) (n : ℕ) → RepresentsSampler k past
     → HasEmptyRun k.frame k.laid (slot_within k.frame.words k.drawn) n → RepresentsSampler (drawn_on k n) (sampler_with_words past n)
 Stands-empty k past zero st run =

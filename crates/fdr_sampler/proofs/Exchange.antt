@@ -1,7 +1,7 @@
--- Two bus words that came at one time may stand in either order.
+-- Two bus words that came at one time may be in either order.
 use Rattle.std.proofs.Common.{◌≡◌, ℕ, ◌+◌, ⊎_elim, Bool, true, false, List, [], ◌∷◌, ◌++◌, Option, Some, None, fold, map, reverse, refl, sym, ap, ◌∙◌, get_or}
 use Rattle.std.specs.Prelude.{◌&&◌, slice_get}
-use Rattle.std.specs.Option.{option_or, option_map_or}
+use Rattle.std.specs.Option.{option_or, option_map, option_map_or}
 use Rattle.std.specs.List.{find, range_with_len}
 use Rattle.std.proofs.lemmas.Bool.{and_parts}
 use Rattle.std.proofs.lemmas.List.{reverse-append}
@@ -12,7 +12,7 @@ use Rattle.fdr_bus.specs.Records.{time_of}
 use Rattle.fdr_table.specs.Rows.{TableRows}
 use Rattle.fdr_layout.specs.Samples.{Sample, samples}
 use Rattle.fdr_layout.specs.SlotParts.{parts_in}
-use Rattle.fdr_sampler.specs.Held.{Source, source_of, is_from, counts_for, held_record, raw_of_record, raw_value, first_part_slot}
+use Rattle.fdr_sampler.specs.Held.{Source, source_of, is_from, counts_for, held_record, word_and_time, raw_of_held, raw_value, first_part_slot}
 use Rattle.fdr_sampler.specs.SlotWord.{numbered_value, slot_within, start_of, word_with, slot_word}
 use Rattle.fdr_sampler.specs.Stream.{slot_count, packed, stream_of}
 use Rattle.fdr_sampler.specs.Exchange.{AreTogether, AreExchanged}
@@ -62,8 +62,10 @@ raw_value-exchanged : (t : TableRows) (start : ℕ) (before : List BusRecord) (a
     raw_value t (before ++ a ∷ b ∷ after) start s ≡ raw_value t (before ++ b ∷ a ∷ after) start s
 unfolding raw_value
 raw_value-exchanged t start before a b after s together =
+    let w = t.frame.words in
+    let k = start + first_part_slot s in
     map_or_agree _ _ (slice_get t.params s.param) 0
-    (λ p. ap (raw_of_record (source_of p)) (held_record-exchanged t.frame.words (start + first_part_slot s) (source_of p) before a b after together))
+    (λ p. ap (λ o. raw_of_held w (source_of p) k (option_map word_and_time o)) (held_record-exchanged w k (source_of p) before a b after together))
 
 numbered_value-exchanged : (t : TableRows) (start n : ℕ) (before : List BusRecord) (a b : BusRecord) (after : List BusRecord) → AreTogether a b →
     numbered_value t (before ++ a ∷ b ∷ after) start n ≡ numbered_value t (before ++ b ∷ a ∷ after) start n

@@ -67,7 +67,7 @@ byte_of_pair words a b i first second fits few =
     (λ j low. bit_of_pair words a b (8 * i + j) first second fits (omega arith) ∙ ap (λ x. x % 2) (sym (shr-shr both (8 * i) j)))
     ∙ number_of-bits (both / 2 ^ (8 * i)) 8
 
--- the bytes behind a pair are those of the words behind it
+-- the bytes after a pair are those of the words after it
 byte_of_later : (a b : ℕ) (words : List ℕ) (i : ℕ) → byte_of (a ∷ b ∷ words) (3 + i) ≡ byte_of words i
 unfolding byte_of
 byte_of_later a b words i =
@@ -95,7 +95,7 @@ packed-one a fits =
     let high : byte_of (a ∷ []) 1 ≡ a / 256 = byte_of_pair (a ∷ []) a 0 1 refl refl fits (omega arith) ∙ omega arith in
     packed_is (a ∷ []) 2 refl ∙ ap (λ x. x ∷ byte_of (a ∷ []) 1 ∷ []) low ∙ ap (λ x. a % 256 ∷ x ∷ []) high
 
--- a pair of words fills three bytes, and the words behind it are packed by themselves
+-- a pair of words fills three bytes, and the words after it are packed by themselves
 pub packed-pair : (a b : ℕ) (words : List ℕ) → IsWord a → IsWord b → packed (a ∷ b ∷ words) ≡ pair_bytes a b ++ packed words
 packed-pair a b words a_fits b_fits =
     let all = a ∷ b ∷ words in

@@ -1,7 +1,7 @@
 -- For which past a value stands.
-use Rattle.std.proofs.Common.{◌≡◌, ℕ, suc, ◌+◌, ◌*◌, ◌/◌, ◌%◌, ◌<◌, ◌≤◌, ◌⊎◌, inl, inr, ⊎_elim, ◌==◌, List, [], ◌∷◌, ◌++◌, Option, Some, length, get_or, refl}
-use Rattle.std.proofs.Common.{sym, ap, ◌∙◌, subst, arith, add-one}
-use Rattle.std.specs.Prelude.{if◌then◌else◌, IsTrue, slice_get, slice_index}
+use Rattle.std.proofs.Common.{◌≡◌, ℕ, suc, ◌+◌, ◌*◌, ◌/◌, ◌%◌, ◌<◌, ◌≤◌, ◌⊎◌, inl, inr, ⊎_elim, ◌==◌, List, [], ◌∷◌, ◌++◌, Option, Some, None, length}
+use Rattle.std.proofs.Common.{get_or, refl, sym, ap, ◌∙◌, subst, arith, add-one}
+use Rattle.std.specs.Prelude.{if◌then◌else◌, IsTrue, slice_get, slice_index, slice_index_or}
 use Rattle.std.specs.Option.{option_map, option_map_or}
 use Rattle.std.specs.List.{All}
 use Rattle.std.proofs.lemmas.Bool.{cases_lt, cases_eq, cases_Bool, cond-true, cond-false, eq-eqb, ne_eqb, le-leb}
@@ -16,9 +16,10 @@ use Rattle.fdr_table.specs.Rows.{FrameRow, ParamRow, TableRows}
 use Rattle.fdr_layout.specs.SlotParts.{SlotPart, Laid, laid_of, parts_among, parts_in}
 use Rattle.fdr_layout.specs.Samples.{Sample, samples, first_at}
 use Rattle.fdr_layout.proofs.Endings.{samples_params}
-use Rattle.fdr_sampler.specs.Held.{Source, source_of, is_from, counts_for, held_record, raw_of_record, raw_value, first_part_slot}
+use Rattle.fdr_sampler.specs.Held.{Source, HeldWord, source_of, is_from, counts_for, held_record, word_and_time, held_word, raw_of_held, raw_value}
+use Rattle.fdr_sampler.specs.Held.{first_part_slot}
 use Rattle.fdr_sampler.specs.SlotWord.{numbered_value, slot_within, start_of, data_of, data_word, word_with, slot_word}
-use Rattle.fdr_sampler.specs.Kept.{SamplerKept, sampler_at_start, number_held_after, HasHeld, value_at, slot_parts, HaveValues, IsDrawn}
+use Rattle.fdr_sampler.specs.Kept.{SamplerKept, sampler_at_start, held_word_after, HasHeld, raw_number_at, value_at, slot_parts, HaveValues, IsDrawn}
 use Rattle.fdr_sampler.specs.Past.{SamplerPast, sampler_made, sampler_with_record, sampler_with_word, MayTake, RepresentsSampler}
 use Rattle.fdr_lists.proofs.Numbered.{slice_get_some}
 use Rattle.fdr_sampler.proofs.SlotFacts.{IsOfSample, parts_in_of, parts_of_slot_in, beginning_holds}
@@ -27,10 +28,13 @@ use Rattle.fdr_sampler.proofs.HeldFacts.{counts_later, held_record-next, held_re
 -- ---- raw values
 
 raw_value_at : (t : TableRows) (records : List BusRecord) (start : ℕ) (s : Sample) (p : ParamRow) → slice_get t.params s.param ≡ Some p →
-    raw_value t records start s ≡ raw_of_record (source_of p) (held_record t.frame.words (source_of p) records (start + first_part_slot s))
+    raw_value t records start s ≡ raw_of_held t.frame.words (source_of p) (start + first_part_slot s)
+    (held_word t.frame.words (source_of p) records (start + first_part_slot s))
 unfolding raw_value
-raw_value_at t records start s p got = ap (λ o. option_map_or
-    (λ (p : ParamRow). raw_of_record (source_of p) (held_record t.frame.words (source_of p) records (start + first_part_slot s))) o 0) got
+raw_value_at t records start s p got =
+    let w = t.frame.words in
+    let k = start + first_part_slot s in
+    ap (λ o. option_map_or (λ (p : ParamRow). raw_of_held w (source_of p) k (held_word w (source_of p) records k)) o 0) got
 
 pub numbered_value_at : (t : TableRows) (records : List BusRecord) (start n : ℕ) (s : Sample) → slice_get (samples t) n ≡ Some s
     → numbered_value t records start n ≡ raw_value t records start s
@@ -49,8 +53,10 @@ pub raw_value-late : (t : TableRows) (records : List BusRecord) (start n : ℕ) 
     (start + first_part_slot s) * 1000000 < r.time * t.frame.words → raw_value t (records ++ r ∷ []) start s ≡ raw_value t records start s
 raw_value-late t records start n s r got late =
     let p = param_of t n s got in
+    let w = t.frame.words in
+    let k = start + first_part_slot s in
     raw_value_at t (records ++ r ∷ []) start s p.0 p.1
-    ∙ ap (raw_of_record (source_of p.0)) (held_record-late t.frame.words (start + first_part_slot s) (source_of p.0) records r late)
+    ∙ ap (λ o. raw_of_held w (source_of p.0) k (option_map word_and_time o)) (held_record-late w k (source_of p.0) records r late)
     ∙ sym (raw_value_at t records start s p.0 p.1)
 
 -- ---- slots of a superframe
@@ -86,27 +92,45 @@ slot_parts-laid : (k : SamplerKept) (t : TableRows) (slot : ℕ) → k.laid ≡ 
 slot_parts-laid k t slot laid below =
     ap (λ (l : Laid). slot_parts l slot) laid ∙ get_or-map-range_with_len (parts_in t) 0 (64 * t.frame.words) slot slot [] below (omega arith)
 
+-- the raw numbers of the parameters at the next slot
+abbrev pub number_kept : SamplerKept → ℕ → ℕ
+number_kept k = raw_number_at k.frame.words k.drawn k.sources k.held
+
+number_stands : (k : SamplerKept) (past : SamplerPast) (n : ℕ) (p : ParamRow) → RepresentsSampler k past → slice_get past.table.params n ≡ Some p
+    → number_kept k n ≡ raw_of_held past.table.frame.words (source_of p) past.drawn
+    (held_word past.table.frame.words (source_of p) past.records past.drawn)
+unfolding raw_number_at
+number_stands k past n p st got =
+    let t = past.table in
+    let s = source_of p in
+    let from : slice_get k.sources n ≡ Some s = ap (λ xs. slice_get xs n) st.sources ∙ slice_get-map source_of t.params n
+    ∙ ap (option_map source_of) got in
+    ap (λ o. option_map_or (λ (x : Source). raw_of_held k.frame.words x k.drawn (slice_index_or k.held n None)) o 0) from
+    ∙ ap (λ (f : FrameRow). raw_of_held f.words s k.drawn (slice_index_or k.held n None)) st.frame
+    ∙ ap (λ d. raw_of_held t.frame.words s d (slice_index_or k.held n None)) st.drawn
+    ∙ ap (raw_of_held t.frame.words s past.drawn) (st.held n p got)
+
 -- a sample with a part in the next slot
 value_stands : (k : SamplerKept) (past : SamplerPast) (n : ℕ) (s : Sample) → RepresentsSampler k past → slice_get (samples past.table) n ≡ Some s
     → 0 < length s.parts →
     first_part_slot s ≤ slot_within past.table.frame.words past.drawn →
-    value_at k.laid (slot_within past.table.frame.words past.drawn) k.held k.raws n ≡ numbered_value past.table past.records
+    value_at k.laid (slot_within past.table.frame.words past.drawn) (number_kept k) k.raws n ≡ numbered_value past.table past.records
     (start_of past.table.frame.words past.drawn) n
 value_stands k past n s st got some low =
     let t = past.table in
     let w = t.frame.words in
     let slot = slot_within w past.drawn in
     let start = start_of w past.drawn in
-    let choice : Sample → ℕ = λ s. if first_part_slot s == slot then slice_index k.held s.param else slice_index k.raws n in
-    let here : value_at k.laid slot k.held k.raws n ≡ choice s =
-    ap (λ (l : Laid). value_at l slot k.held k.raws n) st.laid ∙ ap (λ o. option_map_or choice o 0) got in
+    let choice : Sample → ℕ = λ s. if first_part_slot s == slot then number_kept k s.param else slice_index k.raws n in
+    let here : value_at k.laid slot (number_kept k) k.raws n ≡ choice s =
+    ap (λ (l : Laid). value_at l slot (number_kept k) k.raws n) st.laid ∙ ap (λ o. option_map_or choice o 0) got in
     let value : raw_value t past.records start s ≡ numbered_value t past.records start n = sym (numbered_value_at t past.records start n s got) in
     here ∙ ⊎_elim
     (λ (begins : first_part_slot s ≡ slot).
     let p = param_of t n s got in
     let now : start + first_part_slot s ≡ past.drawn = ap (λ x. start + x) begins ∙ start_and_within w past.drawn in
-    cond-true _ _ _ (eq-eqb (first_part_slot s) slot begins) ∙ st.held s.param p.0 p.1
-    ∙ ap (λ x. raw_of_record (source_of p.0) (held_record w (source_of p.0) past.records x)) (sym now)
+    cond-true _ _ _ (eq-eqb (first_part_slot s) slot begins) ∙ number_stands k past s.param p.0 st p.1
+    ∙ ap (λ x. raw_of_held w (source_of p.0) x (held_word w (source_of p.0) past.records x)) (sym now)
     ∙ sym (raw_value_at t past.records start s p.0 p.1) ∙ value)
     (λ (before : first_part_slot s ≡ slot → ⊥).
     let less : first_part_slot s < slot = omega arith in
@@ -116,12 +140,12 @@ value_stands k past n s st got some low =
 -- the samples in the next slot have the raw values of the definition
 pub HaveValues-stands : (k : SamplerKept) (past : SamplerPast) → RepresentsSampler k past → 0 < past.table.frame.words →
     HaveValues (numbered_value past.table past.records (start_of past.table.frame.words past.drawn)) k.laid (slot_within past.table.frame.words past.drawn)
-    k.held k.raws
+    (number_kept k) k.raws
 HaveValues-stands k past st some =
     let t = past.table in
     let slot = slot_within t.frame.words past.drawn in
     let value = numbered_value t past.records (start_of t.frame.words past.drawn) in
-    let P : SlotPart → Type 0 = λ a. value_at k.laid slot k.held k.raws a.sample ≡ value a.sample in
+    let P : SlotPart → Type 0 = λ a. value_at k.laid slot (number_kept k) k.raws a.sample ≡ value a.sample in
     let parts = parts_in t slot in
     All-same P (slot_parts k.laid slot) parts (slot_parts-laid k t slot st.laid (within_below t.frame.words past.drawn some))
     (λ i d l.
@@ -151,8 +175,8 @@ Stands-made t l laid = record {
   laid = laid;
   drawn = refl;
   records = All-nil (λ (r : BusRecord). IsTrue (counts_for t.frame.words 0 r));
-  held = λ n p got. get_or-replicate (length t.params) n 0 0 (slice_get_within t.params n p got)
-      ∙ sym (ap (raw_of_record (source_of p)) (held_record-none t.frame.words 0 (source_of p)));
+  held = λ n p got. get_or-replicate (length t.params) n None None (slice_get_within t.params n p got)
+      ∙ sym (ap (option_map word_and_time) (held_record-none t.frame.words 0 (source_of p)));
   raws = λ n s got some low. absurd (omega (arith, zero-mod (64 * t.frame.words)));
 }
 
@@ -192,8 +216,8 @@ Stands-word k k' past word st some drawn frame sources laid held count =
       drawn = count ∙ ap (λ n. n + 1) st.drawn;
       records = All-weaker (λ (r : BusRecord). IsTrue (counts_for w past.drawn r)) (λ (r : BusRecord). IsTrue (counts_for w (past.drawn + 1) r))
           (counts_later w past.drawn) past.records st.records;
-      held = λ n p got. ap (λ xs. slice_index xs n) held ∙ st.held n p got
-          ∙ ap (raw_of_record (source_of p)) (sym (held_record-next w past.drawn (source_of p) past.records st.records));
+      held = λ n p got. ap (λ (xs : List (Option HeldWord)). slice_index_or xs n None) held ∙ st.held n p got
+          ∙ ap (option_map word_and_time) (sym (held_record-next w past.drawn (source_of p) past.records st.records));
       raws = λ n s got parts below. ⊎_elim
           (λ (none : slot_within w (past.drawn + 1) ≡ 0). absurd (omega arith))
           (λ (next : (slot_within w (past.drawn + 1) ≡ slot + 1) × (start_of w (past.drawn + 1) ≡ start)).
@@ -201,17 +225,17 @@ Stands-word k k' past word st some drawn frame sources laid held count =
           (next_slot w past.drawn some);
     }
 
-raw_after : (s : Source) (r : BusRecord) (before : Option BusRecord)
-    → number_held_after s r (raw_of_record s before) ≡ raw_of_record s (if is_from s r then Some r else before)
-raw_after s r before =
+word_after : (s : Source) (r : BusRecord) (before : Option BusRecord)
+    → held_word_after s r (option_map word_and_time before) ≡ option_map word_and_time (if is_from s r then Some r else before)
+word_after s r before =
     ⊎_elim
-    (λ holds. cond-true _ _ _ holds ∙ sym (ap (raw_of_record s) (cond-true _ _ _ holds)))
-    (λ no. cond-false _ _ _ no ∙ sym (ap (raw_of_record s) (cond-false _ _ _ no)))
+    (λ holds. cond-true _ _ _ holds ∙ sym (ap (option_map word_and_time) (cond-true _ _ _ holds)))
+    (λ no. cond-false _ _ _ no ∙ sym (ap (option_map word_and_time) (cond-false _ _ _ no)))
     (cases_Bool (is_from s r))
 
 -- after a record was given
 pub Stands-record : (k k' : SamplerKept) (past : SamplerPast) (r : BusRecord) → RepresentsSampler k past → MayTake past r →
-    ((n : ℕ) (s : Source) → slice_get k.sources n ≡ Some s → slice_index k'.held n ≡ number_held_after s r (slice_index k.held n)) →
+    ((n : ℕ) (s : Source) → slice_get k.sources n ≡ Some s → slice_index_or k'.held n None ≡ held_word_after s r (slice_index_or k.held n None)) →
     k'.frame ≡ k.frame → k'.sources ≡ k.sources → k'.laid ≡ k.laid → k'.raws ≡ k.raws → k'.drawn ≡ k.drawn → RepresentsSampler k' (sampler_with_record past r)
 Stands-record k k' past r st may held frame sources laid raws count =
     let t = past.table in
@@ -227,8 +251,8 @@ Stands-record k k' past r st may held frame sources laid raws count =
           let s = source_of p in
           let from : slice_get k.sources n ≡ Some s = ap (λ xs. slice_get xs n) st.sources ∙ slice_get-map source_of t.params n
           ∙ ap (option_map source_of) got in
-          held n s from ∙ ap (number_held_after s r) (st.held n p got) ∙ raw_after s r (held_record w s past.records past.drawn)
-          ∙ ap (raw_of_record s) (sym (held_record-counted w past.drawn s past.records r counts));
+          held n s from ∙ ap (held_word_after s r) (st.held n p got) ∙ word_after s r (held_record w s past.records past.drawn)
+          ∙ ap (option_map word_and_time) (sym (held_record-counted w past.drawn s past.records r counts));
       raws = λ n s got parts below.
           let start = start_of w past.drawn in
           let before : start + first_part_slot s < past.drawn = omega (arith, start_and_within w past.drawn) in
@@ -241,7 +265,7 @@ pub Stands-held : (k k' : SamplerKept) (past : SamplerPast) (r : BusRecord) → 
     → RepresentsSampler k' (sampler_with_record past r)
 Stands-held k k' past r st may held =
     subst (λ x. RepresentsSampler x (sampler_with_record past r)) (sym held.others)
-    (Stands-record k (record k { held = k'.held }) past r st may held.numbers refl refl refl refl refl)
+    (Stands-record k (record k { held = k'.held }) past r st may held.words refl refl refl refl refl)
 
 -- ---- a word that is drawn for every raw value that the samples may have
 
@@ -254,7 +278,7 @@ some_words k past slot st below =
 pub record DrawsData (k : SamplerKept) (slot : ℕ) (after : List ℕ) (plain : ℕ) : Type 0 where
   pub slot_is : slot ≡ slot_within k.frame.words k.drawn
   pub below : slot < 64 * k.frame.words
-  pub drawn : (value : ℕ → ℕ) → HaveValues value k.laid slot k.held k.raws → IsDrawn value (slot_parts k.laid slot) k.raws after plain
+  pub drawn : (value : ℕ → ℕ) → HaveValues value k.laid slot (number_kept k) k.raws → IsDrawn value (slot_parts k.laid slot) k.raws after plain
 
 drawn_for : (k : SamplerKept) (past : SamplerPast) (slot : ℕ) (after : List ℕ) (plain : ℕ) → RepresentsSampler k past → DrawsData k slot after plain →
     IsDrawn (numbered_value past.table past.records (start_of past.table.frame.words past.drawn))
@@ -264,7 +288,8 @@ drawn_for k past slot after plain st draws =
     let value = numbered_value past.table past.records (start_of w past.drawn) in
     let is : slot ≡ slot_within w past.drawn = draws.slot_is ∙ ap (λ (f : FrameRow). slot_within f.words k.drawn) st.frame ∙ ap (slot_within w) st.drawn in
     subst (λ x. IsDrawn value (slot_parts k.laid x) k.raws after plain) is
-    (draws.drawn value (subst (λ x. HaveValues value k.laid x k.held k.raws) (sym is) (HaveValues-stands k past st (some_words k past slot st draws.below))))
+    (draws.drawn value (subst (λ x. HaveValues value k.laid x (number_kept k) k.raws) (sym is)
+    (HaveValues-stands k past st (some_words k past slot st draws.below))))
 
 -- the word of the next slot
 pub slot_word-stands : (k : SamplerKept) (past : SamplerPast) (slot : ℕ) (after : List ℕ) (plain word : ℕ) → RepresentsSampler k past

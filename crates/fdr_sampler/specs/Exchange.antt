@@ -11,7 +11,7 @@ pub record AreTogether (a b : BusRecord) : Type 0 where
   pub time : a.time ≡ b.time
   pub apart : (a.bus ≢ b.bus) ⊎ (label_of a.word ≢ label_of b.word)
 
--- the same records, but for the order of two neighbours that came at one time
+-- the same records, except the order of two neighbours that came at one time
 pub record AreExchanged (records others : List BusRecord) : Type 0 where
   pub before : List BusRecord
   pub a : BusRecord

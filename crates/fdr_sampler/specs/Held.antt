@@ -1,6 +1,7 @@
--- The bus word that is held for a parameter, and the raw value that a sample takes from it.
-use Rattle.std.specs.Prelude.{ℕ, ◌+◌, ◌*◌, ◌/◌, ◌==◌, Bool, true, not, ◌&&◌, nat_le, List, reverse, find, slice_get, Option}
-use Rattle.std.specs.Option.{option_map_or}
+-- The bus word that is held for a parameter, whether it is fresh, and the raw value that a sample takes from it.
+use Rattle.std.specs.Prelude.{ℕ, ◌+◌, ◌-◌, ◌*◌, ◌/◌, ◌^◌, ◌==◌, Bool, true, false, not, ◌&&◌, nat_le, if◌then◌else◌, List, reverse, find, slice_get, Option}
+use Rattle.std.specs.Prelude.{is_some}
+use Rattle.std.specs.Option.{option_map, option_map_or}
 use Rattle.fdr_bus.specs.declared.BusRecord.{BusRecord}
 use Rattle.fdr_bus.specs.Records.{is_end}
 use Rattle.fdr_bus.specs.Words.{bits_at, is_odd, label_of, sdi_of}
@@ -8,16 +9,19 @@ use Rattle.fdr_table.specs.Rows.{ParamRow, TableRows}
 use Rattle.fdr_layout.specs.Samples.{Sample, first_at}
 
 -- Where a parameter comes from: the words of a bus with a label, and with an SDI where one is given, and the field of
--- such a word that has its raw number.
+-- such a word that has its raw number; for how many microseconds a word is fresh, where that ends; and whether the raw
+-- number tells just this, and isn't the field.
 pub record Source : Type 0 where
   pub bus : ℕ
   pub label : ℕ
   pub sdi : Option ℕ
   pub lsb : ℕ
   pub width : ℕ
+  pub age : Option ℕ
+  pub tells : Bool
 
 abbrev pub source_of : ParamRow → Source
-source_of p = record { bus = p.bus; label = p.label; sdi = p.sdi; lsb = p.lsb; width = p.width }
+source_of p = record { bus = p.bus; label = p.label; sdi = p.sdi; lsb = p.lsb; width = p.width; age = p.age; tells = p.tells }
 
 -- a bus word of odd parity with the source's bus and label, and with its SDI where one is given
 abbrev pub is_from : Source → BusRecord → Bool
@@ -32,9 +36,33 @@ counts_for w k r = nat_le (r.time * w) (k * 1000000)
 unfoldable pub held_record : ℕ → Source → List BusRecord → ℕ → Option BusRecord
 held_record w s records k = find (λ r. is_from s r && counts_for w k r) (reverse records)
 
--- the source's field of a record, or 0 where there is none
-abbrev pub raw_of_record : Source → Option BusRecord → ℕ
-raw_of_record s held = option_map_or (λ (r : BusRecord). bits_at r.word s.lsb s.width) held 0
+-- a bus word that is held, with the time that it came at
+pub record HeldWord : Type 0 where
+  pub word : ℕ
+  pub time : ℕ
+
+abbrev pub word_and_time : BusRecord → HeldWord
+word_and_time r = record { word = r.word; time = r.time }
+
+-- the word that is held at slot k, with its time
+abbrev pub held_word : ℕ → Source → List BusRecord → ℕ → Option HeldWord
+held_word w s records k = option_map word_and_time (held_record w s records k)
+
+-- what is held is fresh at slot k: there is a word, and words of the source have no age, or it isn't older than that
+abbrev pub is_fresh : ℕ → Source → ℕ → Option HeldWord → Bool
+is_fresh w s k held = option_map_or (λ (h : HeldWord). option_map_or (λ age. nat_le (k * 1000000) ((h.time + age) * w)) s.age true) held false
+
+-- the source's field of what is held, or 0 where nothing is
+abbrev pub field_held : Source → Option HeldWord → ℕ
+field_held s held = option_map_or (λ (h : HeldWord). bits_at h.word s.lsb s.width) held 0
+
+-- The raw number of a source at slot k, where this is held: whether it is fresh, where the source tells that; of another
+-- source whose words have an age the field where it is fresh, and else all ones; of all others the field.
+unfoldable pub raw_of_held : ℕ → Source → ℕ → Option HeldWord → ℕ
+raw_of_held w s k held =
+    if s.tells then (if is_fresh w s k held then 1 else 0)
+    else if is_some s.age then (if is_fresh w s k held then field_held s held else 2 ^ s.width - 1)
+    else field_held s held
 
 -- the word slot of the superframe in which a sample's earliest part stands
 abbrev pub first_part_slot : Sample → ℕ
@@ -44,5 +72,6 @@ first_part_slot s = first_at s.parts / 12
 -- earliest part
 unfoldable pub raw_value : TableRows → List BusRecord → ℕ → Sample → ℕ
 raw_value t records start s =
-    option_map_or (λ (p : ParamRow). raw_of_record (source_of p) (held_record t.frame.words (source_of p) records (start + first_part_slot s)))
-    (slice_get t.params s.param) 0
+    let w = t.frame.words in
+    let k = start + first_part_slot s in
+    option_map_or (λ (p : ParamRow). raw_of_held w (source_of p) k (held_word w (source_of p) records k)) (slice_get t.params s.param) 0

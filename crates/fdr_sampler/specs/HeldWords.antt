@@ -1,31 +1,39 @@
 -- The bus words that are held for sources.
-use Rattle.std.specs.Prelude.{ℕ, ◌≡◌, ◌<◌, ◌≤◌, ◌+◌, ◌*◌, ◌%◌, List, Option, Some, length, map, slice_index}
+use Rattle.std.specs.Prelude.{ℕ, ◌≡◌, ◌<◌, ◌≤◌, ◌+◌, ◌*◌, ◌%◌, ◌==◌, if◌then◌else◌, List, Option, Some, None, length, map, slice_index, slice_index_or}
 use Rattle.std.specs.List.{All}
 use Rattle.std.specs.Option.{unwrap_or}
-use Rattle.fdr_bus.specs.Words.{bits_at, label_of}
+use Rattle.fdr_bus.specs.Words.{label_of}
 use Rattle.fdr_sampler.specs.declared.held_words.HeldSource.{HeldSource}
-use Rattle.fdr_sampler.specs.Held.{Source}
+use Rattle.fdr_sampler.specs.declared.timed_word.TimedWord.{TimedWord}
+use Rattle.fdr_sampler.specs.Held.{Source, HeldWord}
 
 -- how many pairs of a bus and a label there are
 abbrev pub bus_labels : ℕ
 bus_labels = 65536
 
--- where a source stands in the order of buses and of the first bytes of bus words, which have their labels the other way
+-- where a source is in the order of buses and of the first bytes of bus words, which have their labels the other way
 -- round
 abbrev pub place_of : Source → ℕ
 place_of s = s.bus * 256 + label_of s.label
 
--- sources, and the raw number of each
-pub record HeldNumbers : Type 0 where
+-- sources, and the word that is held for each
+pub record HeldBySource : Type 0 where
   pub sources : List Source
-  pub numbers : List ℕ
+  pub words : List (Option HeldWord)
 
--- the raw number of a source in its word
-abbrev pub number_held : List ℕ → HeldSource → ℕ
-number_held words h = bits_at (slice_index words h.at) h.source.lsb h.source.width
+-- what a word that is kept stands for: none where it is 0, since a word that is held has odd parity
+abbrev pub as_held_word : TimedWord → Option HeldWord
+as_held_word t = if t.word == 0 then None else Some (record { word = t.word; time = t.time })
 
-abbrev pub held_numbers : List HeldSource → List ℕ → HeldNumbers
-held_numbers held words = record { sources = map (λ (h : HeldSource). h.source) held; numbers = map (number_held words) held }
+abbrev pub no_word : TimedWord
+no_word = record { word = 0; time = 0 }
+
+-- the word that is held for a source, of all words that are kept
+abbrev pub own_held : List TimedWord → HeldSource → Option HeldWord
+own_held words h = as_held_word (slice_index_or words h.at no_word)
+
+abbrev pub held_by_source : List HeldSource → List TimedWord → HeldBySource
+held_by_source held words = record { sources = map (λ (h : HeldSource). h.source) held; words = map (own_held words) held }
 
 -- Which of the words of a bus and a label is a source's: the one of its SDI, or the last one, which is of any SDI.
 abbrev pub own_word : Option ℕ → ℕ
@@ -47,7 +55,7 @@ pub record HasWord (starts : List ℕ) (h : HeldSource) : Type 0 where
   pub at : h.at ≡ slice_index starts (place_of h.source) + own_word h.source.sdi
   pub two_bits : (sdi : ℕ) → h.source.sdi ≡ Some sdi → sdi < 4
 
--- each source has its word among so many
+-- each source has its word among `count` of them
 pub record AreHeldWords (held : List HeldSource) (starts : List ℕ) (count : ℕ) : Type 0 where
   pub begin : AreLabelStarts starts count
   pub words : All (HasWord starts) held

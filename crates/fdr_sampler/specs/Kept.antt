@@ -1,26 +1,26 @@
 -- What is kept of a table and of the records that were given.
-use Rattle.std.specs.Prelude.{ℕ, ◌≡◌, ◌<◌, ◌≤◌, ◌+◌, ◌*◌, ◌==◌, if◌then◌else◌, List, [], Some, length, map, replicate, slice_get, slice_index}
+use Rattle.std.specs.Prelude.{ℕ, ◌≡◌, ◌<◌, ◌≤◌, ◌+◌, ◌*◌, ◌==◌, if◌then◌else◌, List, [], Option, Some, None, length, map, replicate, slice_get, slice_index}
 use Rattle.std.specs.List.{All, enumerate_from, flat_map, range_with_len, slice_index_or}
 use Rattle.std.specs.Option.{option_map_or}
 use Rattle.fdr_bus.specs.declared.BusRecord.{BusRecord}
-use Rattle.fdr_bus.specs.Words.{bits_at}
 use Rattle.fdr_table.specs.Rows.{FrameRow, ParamRow}
 use Rattle.fdr_layout.specs.Samples.{Sample}
 use Rattle.fdr_layout.specs.SlotParts.{SlotPart, Laid}
-use Rattle.fdr_sampler.specs.Held.{Source, source_of, is_from, first_part_slot}
+use Rattle.fdr_sampler.specs.Held.{Source, HeldWord, source_of, is_from, word_and_time, raw_of_held, first_part_slot}
 use Rattle.fdr_sampler.specs.SlotWord.{data_of}
 
 -- how many word slots a recording has at most: 1,440,000 seconds of 1024 words
 abbrev pub most_word_slots : ℕ
 most_word_slots = 1474560000
 
--- The table's frame, where its parameters come from and where their samples stand; the raw number of each parameter that is
--- held at the next slot; the raw value that each sample was begun with; and how many slots were drawn.
+-- The table's frame, where its parameters come from and where their samples stand; the word that is held for each
+-- parameter, with its time; the raw value that each sample was begun with; and how many slots were drawn. What is held
+-- doesn't change with the slots, though what it gives does.
 pub record SamplerKept : Type 0 where
   pub frame : FrameRow
   pub sources : List Source
   pub laid : Laid
-  pub held : List ℕ
+  pub held : List (Option HeldWord)
   pub raws : List ℕ
   pub drawn : ℕ
 
@@ -33,32 +33,37 @@ pub record IsSamplerKept (k : SamplerKept) : Type 0 where
   pub raws : length k.raws ≡ length k.laid.samples
   pub drawn : k.drawn ≤ most_word_slots
 
--- the raw number that is held for a source after a record, where it was `before`
-abbrev pub number_held_after : Source → BusRecord → ℕ → ℕ
-number_held_after s r before = if is_from s r then bits_at r.word s.lsb s.width else before
+-- what is held for a source after a record, where it was `before`
+abbrev pub held_word_after : Source → BusRecord → Option HeldWord → Option HeldWord
+held_word_after s r before = if is_from s r then Some (word_and_time r) else before
 
 -- the record is held for each of the sources that it is from, and nothing else changed
 pub record HasHeld (before after : SamplerKept) (r : BusRecord) : Type 0 where
   pub others : after ≡ record before { held = after.held }
-  pub numbers : (n : ℕ) (s : Source) → slice_get before.sources n ≡ Some s → slice_index after.held n ≡ number_held_after s r (slice_index before.held n)
+  pub words : (n : ℕ) (s : Source) → slice_get before.sources n ≡ Some s
+      → slice_index_or after.held n None ≡ held_word_after s r (slice_index_or before.held n None)
 
--- what is kept so many slots on, where nothing was drawn for them
+-- what is kept n slots on, where nothing was drawn for them
 abbrev pub drawn_on : SamplerKept → ℕ → SamplerKept
 drawn_on k n = record k { drawn = k.drawn + n }
 
--- the raw value of sample n at a slot of its superframe: what is held there for its parameter where it begins in this
--- slot, and what it was begun with elsewhere
-abbrev pub value_at : Laid → ℕ → List ℕ → List ℕ → ℕ → ℕ
-value_at l slot held raws n =
-    option_map_or (λ (s : Sample). if first_part_slot s == slot then slice_index held s.param else slice_index raws n) (slice_get l.samples n) 0
+-- the raw number of source n at slot k of a recording, by what is held for it
+unfoldable pub raw_number_at : ℕ → ℕ → List Source → List (Option HeldWord) → ℕ → ℕ
+raw_number_at w k sources held n = option_map_or (λ (s : Source). raw_of_held w s k (slice_index_or held n None)) (slice_get sources n) 0
 
--- the parts that stand in a slot
+-- the raw value of sample n at a slot of its superframe, where these are the raw numbers of the parameters there: that of
+-- its own where it begins in this slot, and what it was begun with elsewhere
+abbrev pub value_at : Laid → ℕ → (ℕ → ℕ) → List ℕ → ℕ → ℕ
+value_at l slot number raws n =
+    option_map_or (λ (s : Sample). if first_part_slot s == slot then number s.param else slice_index raws n) (slice_get l.samples n) 0
+
+-- the parts that are in a slot
 abbrev pub slot_parts : Laid → ℕ → List SlotPart
 slot_parts l slot = slice_index_or l.slots slot []
 
 -- the samples with parts in this slot have these raw values
-abbrev pub HaveValues : (ℕ → ℕ) → Laid → ℕ → List ℕ → List ℕ → Type 0
-HaveValues value l slot held raws = All (λ (a : SlotPart). value_at l slot held raws a.sample ≡ value a.sample) (slot_parts l slot)
+abbrev pub HaveValues : (ℕ → ℕ) → Laid → ℕ → (ℕ → ℕ) → List ℕ → Type 0
+HaveValues value l slot number raws = All (λ (a : SlotPart). value_at l slot number raws a.sample ≡ value a.sample) (slot_parts l slot)
 
 -- A word of data was drawn for these parts: it has their pieces of the raw values, each of their samples is now kept
 -- with its raw value, and so is each that was before.
@@ -77,7 +82,7 @@ sampler_at_start frame params l = record {
   frame = frame;
   sources = map source_of params;
   laid = l;
-  held = replicate (length params) 0;
+  held = replicate (length params) None;
   raws = replicate (length l.samples) 0;
   drawn = 0;
 }

@@ -1,5 +1,5 @@
 -- What a sampler was made from, and what it was given and asked for since.
-use Rattle.std.specs.Prelude.{ℕ, ◌≡◌, ◌<◌, ◌≤◌, ◌+◌, ◌*◌, IsTrue, List, [], ◌∷◌, ◌++◌, Some, length, map, slice_get, slice_index}
+use Rattle.std.specs.Prelude.{ℕ, ◌≡◌, ◌<◌, ◌≤◌, ◌+◌, ◌*◌, IsTrue, List, [], ◌∷◌, ◌++◌, Some, None, length, map, slice_get, slice_index, slice_index_or}
 use Rattle.std.specs.List.{All}
 use Rattle.fdr_bus.specs.declared.BusRecord.{BusRecord}
 use Rattle.fdr_bus.specs.declared.RecordKind.TheVariants.{Word}
@@ -7,7 +7,7 @@ use Rattle.fdr_bus.specs.Records.{time_of, last_time}
 use Rattle.fdr_table.specs.Rows.{ParamRow, TableRows}
 use Rattle.fdr_layout.specs.Samples.{Sample, samples}
 use Rattle.fdr_layout.specs.SlotParts.{laid_of}
-use Rattle.fdr_sampler.specs.Held.{source_of, counts_for, held_record, raw_of_record, raw_value, first_part_slot}
+use Rattle.fdr_sampler.specs.Held.{source_of, counts_for, held_word, raw_value, first_part_slot}
 use Rattle.fdr_sampler.specs.SlotWord.{slot_within, start_of}
 use Rattle.fdr_sampler.specs.Kept.{SamplerKept}
 
@@ -38,7 +38,7 @@ pub record MayTake (past : SamplerPast) (r : BusRecord) : Type 0 where
   pub none_due : r.time * past.table.frame.words ≤ past.drawn * 1000000
   pub counts_for_none : (k : ℕ) → k < past.drawn → k * 1000000 < r.time * past.table.frame.words
 
--- The value stands where it was made from this table, and was given these records and asked for so many words. All the
+-- The value stands where it was made from this table, and was given these records and asked for this many words. All the
 -- records count for the next slot.
 pub record RepresentsSampler (k : SamplerKept) (past : SamplerPast) : Type 0 where
   pub frame : k.frame ≡ past.table.frame
@@ -47,7 +47,7 @@ pub record RepresentsSampler (k : SamplerKept) (past : SamplerPast) : Type 0 whe
   pub drawn : k.drawn ≡ past.drawn
   pub records : All (λ (r : BusRecord). IsTrue (counts_for past.table.frame.words past.drawn r)) past.records
   pub held : (n : ℕ) (p : ParamRow) → slice_get past.table.params n ≡ Some p →
-      slice_index k.held n ≡ raw_of_record (source_of p) (held_record past.table.frame.words (source_of p) past.records past.drawn)
+      slice_index_or k.held n None ≡ held_word past.table.frame.words (source_of p) past.records past.drawn
   pub raws : (n : ℕ) (s : Sample) → slice_get (samples past.table) n ≡ Some s → 0 < length s.parts →
       first_part_slot s < slot_within past.table.frame.words past.drawn →
       slice_index k.raws n ≡ raw_value past.table past.records (start_of past.table.frame.words past.drawn) s

@@ -34,7 +34,7 @@ steps_in owners firsts l slot = map (step_of owners firsts slot) (slot_parts l s
 abbrev pub slot_steps : Laid → ℕ → List SlotStep
 slot_steps l slot = steps_in (map (λ (s : Sample). s.param) l.samples) (map first_part_slot l.samples) l slot
 
--- the steps of all slots, one slot behind another, and where those of each begin and those of the last end
+-- the steps of all slots, one slot after another, and where those of each begin and those of the last end
 pub record IsSchedule (l : Laid) (begins : List ℕ) (flat : List SlotStep) : Type 0 where
   pub steps : flat ≡ flat_map (slot_steps l) (range_with_len 0 (length l.slots))
   pub starts : begins ≡ map (λ k. length (flat_map (slot_steps l) (range_with_len 0 k))) (range_with_len 0 (length l.slots + 1))

@@ -18,7 +18,7 @@ numbered_value t records start n = option_map_or (raw_value t records start) (sl
 abbrev pub piece_of : ℕ → Part → ℕ
 piece_of raw p = raw / 2 ^ p.shift % 2 ^ p.width
 
--- the part has bit b of the word that it stands in
+-- the part has bit b of the word that it is in
 abbrev pub has_bit : ℕ → SlotPart → Bool
 has_bit b a = nat_le (a.part.at % 12) b && nat_lt b (a.part.at % 12 + a.part.width)
 

@@ -7,7 +7,7 @@ sampler_kept s = record {
   frame = s.frame;
   sources = s.held.sources;
   laid = s.schedule;
-  held = s.held.numbers;
+  held = s.held.words;
   raws = s.raws.items;
   drawn = s.drawn;
 }

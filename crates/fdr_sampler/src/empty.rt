@@ -21,7 +21,7 @@ fn is_empty(frame: Frame, layout: &Layout, slot: u32) -> bool
         }
 }
 
-/// How many empty slots follow one another from a slot on, where so many do from the next one on.
+/// How many empty slots follow one another from a slot on, where `next` do from the next one on.
 fn run_from(frame: Frame, layout: &Layout, slot: u32, next: u32) -> u32
     requires slots { length layout.now.slots ≡ 64 * frame.words }
     requires slot { slot < 64 * frame.words }

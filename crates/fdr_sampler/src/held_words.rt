@@ -1,13 +1,15 @@
 //! The bus words that are held for the parameters.
 
-ghost use Rattle.std.specs.Prelude.{◌≡◌, ◌<◌, ◌≤◌, ◌+◌, ◌*◌, ◌^◌, ℕ, IfOk, Some, length, map, replicate, slice_get, slice_index};
+ghost use Rattle.std.specs.Prelude.{◌≡◌, ◌<◌, ◌≤◌, ◌+◌, ◌*◌, ◌^◌, ℕ, IfOk, Some, None, length, map, replicate, slice_get, slice_index, slice_index_or};
 ghost use Rattle.fdr_bus.specs.declared.RecordKind.TheVariants.{Word};
 ghost use Rattle.fdr_sampler.specs.Held.{Source, source_of};
-ghost use Rattle.fdr_sampler.specs.HeldWords.{bus_labels, AreLabelStarts};
-ghost use Rattle.fdr_sampler.specs.Kept.{number_held_after};
+ghost use Rattle.fdr_sampler.specs.HeldWords.{bus_labels, no_word, AreLabelStarts};
+ghost use Rattle.fdr_sampler.specs.Kept.{held_word_after, raw_number_at};
 
+use crate::moment::Moment;
 use crate::sampler::zeros;
 use crate::source::{ANY_SDI, Source, place};
+use crate::timed_word::TimedWord;
 use fdr_bus::{BusRecord, is_odd, sdi};
 use fdr_check::push;
 use fdr_table::{NoMemory, Param};
@@ -34,15 +36,15 @@ pub(crate) struct HeldWords {
     // Where the words of each bus and label begin; 0 where no parameter is from there.
     starts: Vec<u32>,
     // The first five are of no parameter.
-    words: Vec<u32>,
+    words: Vec<TimedWord>,
 }
 
 impl Model for HeldWords {
-    ghost use Rattle.fdr_sampler.specs.HeldWords.{HeldNumbers, held_numbers, AreHeldWords};
+    ghost use Rattle.fdr_sampler.specs.HeldWords.{HeldBySource, held_by_source, AreHeldWords};
 
-    ghost Value = { HeldNumbers };
+    ghost Value = { HeldBySource };
 
-    ghost view = { λ h. held_numbers h.sources.items h.words.items };
+    ghost view = { λ h. held_by_source h.sources.items h.words.items };
 
     ghost invariant = { λ h. AreHeldWords h.sources.items h.starts.items h.words.len };
 }
@@ -52,7 +54,7 @@ impl HeldWords {
     pub(crate) fn of(alloc: Global, params: &[Param]) -> Result<HeldWords, NoMemory>
         requires { length params.now ≤ 2 ^ 24 }
         ensures sources { IfOk result (λ h. h.sources ≡ map source_of params.now) }
-        ensures numbers { IfOk result (λ h. h.numbers ≡ replicate (length params.now) 0) }
+        ensures words { IfOk result (λ h. h.words ≡ replicate (length params.now) None) }
     {
         let mut starts = zeros(alloc, BUS_LABELS)?;
         let mut sources = Vec::with_capacity(alloc, params.len())?;
@@ -64,7 +66,7 @@ impl HeldWords {
             let at = starts[place as usize] + source.own_word();
             push(&mut sources, HeldSource { source, at })?;
         }
-        let words = zeros(alloc, end as usize)?;
+        let words = no_words(alloc, end as usize)?;
         Ok(HeldWords {
             sources,
             starts,
@@ -76,30 +78,42 @@ impl HeldWords {
     pub(crate) fn hold(&mut self, r: &BusRecord)
         requires { r.now.kind ≡ Word }
         ensures sources { self.new.sources ≡ self.old.sources }
-        ensures long { length self.new.numbers ≡ length self.old.numbers }
-        ensures numbers { (n : ℕ) (s : Source) → slice_get self.old.sources n ≡ Some s →
-            slice_index self.new.numbers n ≡ number_held_after s r.now (slice_index self.old.numbers n) }
+        ensures long { length self.new.words ≡ length self.old.words }
+        ensures words { (n : ℕ) (s : Source) → slice_get self.old.sources n ≡ Some s →
+            slice_index_or self.new.words n None ≡ held_word_after s r.now (slice_index_or self.old.words n None) }
     {
         let start = if is_odd(r.word) {
             self.starts[place(r.bus, (r.word % 256) as u8) as usize] as usize
         } else {
             0
         };
-        self.words[start + usize::from(sdi(r.word))] = r.word;
-        self.words[start + ANY_SDI as usize] = r.word;
+        let word = TimedWord {
+            word: r.word,
+            time: r.time,
+        };
+        self.words[start + usize::from(sdi(r.word))] = word;
+        self.words[start + ANY_SDI as usize] = word;
     }
 
-    /// The raw number of a source in the word that is held for it; 0 where none came.
-    pub(crate) fn number(&self, source: u32) -> u32
+    /// The raw number of a source at a moment, by the word that is held for it.
+    pub(crate) fn raw_number(&self, source: u32, moment: Moment) -> u32
         requires { source < length self.now.sources }
-        ensures { result ≡ slice_index self.now.numbers source }
+        ensures { result ≡ raw_number_at moment.words moment.slot self.now.sources self.now.words source }
     {
         let held = &self.sources[source as usize];
-        held.source.raw(self.words[held.at as usize])
+        held.source.raw_at(self.words[held.at as usize], moment)
     }
 }
 
-/// Gives a bus and a label words of their own, where they have none, from `end` on, which is behind those of the others.
+/// So many words, none of which came.
+fn no_words(alloc: Global, count: usize) -> Result<Vec<TimedWord>, NoMemory>
+    ensures { IfOk result (λ v. v.items ≡ replicate count no_word) }
+{
+    let none = TimedWord { word: 0, time: 0 };
+    vec![in alloc; none; count].map_err(|_| NoMemory)
+}
+
+/// Gives a bus and a label words of their own, where they have none, from `end` on, which is after those of the others.
 /// Answers where the words end then.
 fn begin(starts: &mut [u32], place: u32, end: u32) -> u32
     requires starts { AreLabelStarts starts.old end }

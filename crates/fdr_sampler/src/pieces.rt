@@ -5,9 +5,10 @@ ghost use Rattle.fdr_bits.specs.Fields.{with_field};
 ghost use Rattle.fdr_layout.specs.Samples.{earliest_of, first_at};
 ghost use Rattle.fdr_layout.specs.SlotParts.{plain_parts};
 ghost use Rattle.fdr_sampler.specs.Held.{first_part_slot};
-ghost use Rattle.fdr_sampler.specs.Kept.{slot_parts, HaveValues, IsDrawn};
+ghost use Rattle.fdr_sampler.specs.Kept.{raw_number_at, slot_parts, HaveValues, IsDrawn};
 
 use crate::held_words::HeldWords;
+use crate::moment::Moment;
 use crate::schedule::{Schedule, Step};
 use fdr_check::push;
 use fdr_layout::{Layout, Part};
@@ -47,15 +48,16 @@ pub(crate) fn first_slots(alloc: Global, layout: &Layout) -> Result<Vec<u32>, No
 }
 
 /// The raw value of the sample of a step: it is kept from the slot that the sample begins in.
-fn value_at(step: &Step, held: &HeldWords, raws: &mut [u32]) -> u32
+fn value_at(step: &Step, held: &HeldWords, moment: Moment, raws: &mut [u32]) -> u32
     requires param { step.now.param < length held.now.sources }
     requires number { step.now.sample < length raws.old }
-    ensures value { result ≡ (if step.now.begins then slice_index held.now.numbers step.now.param else slice_index raws.old step.now.sample) }
+    ensures value { result ≡ (if step.now.begins then raw_number_at moment.words moment.slot held.now.sources held.now.words step.now.param
+        else slice_index raws.old step.now.sample) }
     ensures kept { raws.new ≡ slice_set raws.old step.now.sample result }
 {
     let number = step.sample as usize;
     if step.begins {
-        raws[number] = held.number(step.param);
+        raws[number] = held.raw_number(step.param, moment);
     }
     raws[number]
 }
@@ -77,18 +79,24 @@ fn with_piece(word: u16, step: &Step, raw: u32) -> u16
     (word & !step.mask) | (piece_of(raw, step) << step.low)
 }
 
-/// The pieces of the parts in a slot of the superframe, with 0 in all other bits.
-pub(crate) fn data_word(schedule: &Schedule, slot: u32, held: &HeldWords, raws: &mut [u32]) -> u16
+/// The pieces of the parts in a slot of the superframe, which is sampled at this moment, with 0 in all other bits.
+pub(crate) fn data_word(
+    schedule: &Schedule,
+    slot: u32,
+    held: &HeldWords,
+    moment: Moment,
+    raws: &mut [u32],
+) -> u16
     requires slot { slot < length schedule.now.slots }
     requires params { All (λ s. s.param < length held.now.sources) schedule.now.samples }
     requires raws { length raws.old ≡ length schedule.now.samples }
-    ensures drawn { (value : ℕ → ℕ) → HaveValues value schedule.now slot held.now.numbers raws.old →
-        IsDrawn value (slot_parts schedule.now slot) raws.old raws.new result }
+    ensures drawn { (value : ℕ → ℕ) → HaveValues value schedule.now slot
+        (raw_number_at moment.words moment.slot held.now.sources held.now.words) raws.old → IsDrawn value (slot_parts schedule.now slot) raws.old raws.new result }
     ensures twelve_bits { result < 4096 }
 {
     let mut word = 0;
     for step in schedule.at_slot(slot) {
-        let raw = value_at(step, held, raws);
+        let raw = value_at(step, held, moment, raws);
         word = with_piece(word, step, raw);
     }
     word

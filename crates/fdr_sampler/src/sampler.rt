@@ -13,6 +13,7 @@ ghost use Rattle.fdr_sampler.specs.Stream.{slot_count};
 
 use crate::empty::empty_runs;
 use crate::held_words::HeldWords;
+use crate::moment::Moment;
 use crate::pieces::data_word;
 use crate::schedule::Schedule;
 use fdr_bus::BusRecord;
@@ -101,7 +102,11 @@ impl Sampler {
     {
         let frame = self.frame;
         let slot = slot_within(frame, self.drawn);
-        let plain = data_word(&self.schedule, slot, &self.held, &mut self.raws);
+        let moment = Moment {
+            slot: self.drawn,
+            words: frame.words,
+        };
+        let plain = data_word(&self.schedule, slot, &self.held, moment, &mut self.raws);
         let word = word_with(frame, self.drawn, plain);
         self.drawn += 1;
         self.empty_next = self.empty_runs[slot_within(frame, self.drawn) as usize];
@@ -123,7 +128,7 @@ impl Sampler {
         time * u64::from(self.frame.words)
     }
 
-    /// How many slots come before the one so many behind the next, in millionths of a slot. Takes no memory.
+    /// How many slots come before the one that is this many after the next, in millionths of a slot. Takes no memory.
     pub fn slots_before(&self, behind: u32) -> u64
         ensures { result ≡ (self.now.drawn + behind) * 1000000 }
     {
@@ -131,7 +136,7 @@ impl Sampler {
     }
 
     /// Draws slots that have no part, no sync word and no counter, as long as they come next in the superframe, and at most
-    /// so many. Their words are 0. Answers how many it drew. Takes no memory.
+    /// `most`. Their words are 0. Answers how many it drew. Takes no memory.
     pub fn draw_empty(&mut self, most: u32) -> u32
         requires { self.old.drawn + most ≤ most_word_slots }
         ensures most { result ≤ most }
@@ -177,7 +182,7 @@ impl Sampler {
     }
 }
 
-/// So many zeros.
+/// A vector of `count` zeros.
 pub(crate) fn zeros(alloc: Global, count: usize) -> Result<Vec<u32>, NoMemory>
     ensures { IfOk result (λ v. v.items ≡ replicate count 0) }
 {

@@ -70,7 +70,7 @@ impl Step {
     }
 }
 
-/// The steps of all slots of a superframe, one slot behind another, with where those of each slot begin and where those of
+/// The steps of all slots of a superframe, one slot after another, with where those of each slot begin and where those of
 /// the last end.
 #[derive(Drop)]
 pub(crate) struct Schedule {
@@ -111,7 +111,7 @@ fn add_steps(
 }
 
 impl Schedule {
-    /// The schedule of a layout of so many slots.
+    /// The schedule of a layout, slot by slot.
     pub(crate) fn of(
         alloc: Global,
         layout: Layout,
@@ -149,7 +149,7 @@ impl Schedule {
     }
 }
 
-/// The steps of a slot, which stand in a list of those of all slots.
+/// The steps of a slot, which are in a list of those of all slots.
 fn steps_at<'a>(starts: &[usize], steps: &'a [Step], slot: u32) -> &'a [Step]
     requires starts { AreStarts starts.now (length steps.now) }
     requires within { slot + 1 < length starts.now }

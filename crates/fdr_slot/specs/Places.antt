@@ -6,7 +6,7 @@ use Rattle.fdr_slot.specs.declared.image.Header.{Header}
 abbrev pub slot_size : Header → ℕ
 slot_size h = 16 + h.payload
 
--- where slot i begins, behind the 64 bytes of the header
+-- where slot i begins, after the 64 bytes of the header
 abbrev pub slot_at : Header → ℕ → ℕ
 slot_at h i = 64 + i * slot_size h
 

@@ -1,6 +1,6 @@
 //! The image of a recording: its header, and the heads of its slots.
 //!
-//! An image has a header of 64 bytes, and behind it slots of one size. A slot has a head of 16 bytes
+//! An image has a header of 64 bytes, and after it slots of one size. A slot has a head of 16 bytes
 //! and room for a block's payload. Numbers are big-endian.
 #![tactic(auto)]
 

@@ -1,4 +1,4 @@
--- Empty slots that are drawn later than the records behind them are taken.
+-- Empty slots that are drawn later than the records after them are taken.
 use Rattle.std.proofs.Common.{◌≡◌, ℕ, ◌+◌, ◌-◌, ◌*◌, ◌/◌, ◌<◌, ◌≤◌, List, [], ◌++◌, Option, Some, None, length, replicate, refl, sym, ap, ◌∙◌, subst, arith}
 use Rattle.std.proofs.Common.{append_assoc, append-nil, length-append, ⊎_elim}
 use Rattle.std.proofs.lemmas.List.{replicate-append-replicate, length-replicate}
@@ -66,7 +66,7 @@ caught_up-none k =
     let none : undrawn k 0 ≡ 0 = omega arith in
     ap (with_zeros k) none ∙ with_zeros-none k
 
--- ---- what stands after empty slots
+-- ---- what is after empty slots
 
 -- what comes next of k is empty
 EmptyNext : StreamKept → ℕ → Type 0
@@ -146,7 +146,7 @@ HasSampled-caught_up k k' time r taken =
     let After : StreamKept = record k { sampler = record k.sampler { held = k'.sampler.held } } in
     subst (λ (x : StreamKept). HasSampled (caught_up k time) (caught_up x time) r) (sym taken.others) (record {
       others = refl;
-      word = λ word. record { others = refl; numbers = (taken.word word).numbers };
+      word = λ word. record { others = refl; words = (taken.word word).words };
     })
 
 pub IsBehind-taken : (k k' : StreamKept) (time time' ahead before : ℕ) (r : BusRecord) → HasSampled k k' r → IsBehind k time ahead before
@@ -163,7 +163,7 @@ IsBehind-taken k k' time time' ahead before r taken is within in_time =
 
 -- ---- what comes next
 
--- so many empty slots are in a run of them
+-- a run of empty slots begins with this many
 pub HasEmptyAhead-run : (k : StreamKept) (run n : ℕ) → IsEmptyRun k.sampler.frame k.sampler.laid (slot_within k.sampler.frame.words k.sampler.drawn) run
     → n ≤ run → n ≤ 2 * (k.payload - 1 - length k.bytes) / 3 → length k.bytes < k.payload → HasEmptyAhead k n
 HasEmptyAhead-run k run n is few fits room =
@@ -204,7 +204,7 @@ zeros_fit k n is =
     let many : length zeros ≡ n = length-replicate {A = ℕ} n 0 in
     omega (arith, is.room, length-append k.bytes (filled_by k.odd zeros), length-filled_by k.odd zeros, many)
 
--- where so many slots come next at the least, no fewer are drawn
+-- where this many slots come next at the least, no fewer are drawn
 pub all_drawn : (k : SamplerKept) (n count : ℕ) → HasEmptyRun k.frame k.laid (slot_within k.frame.words k.drawn) n → count ≤ n
     → (count < n → IsEmptyRun k.frame k.laid (slot_within k.frame.words k.drawn) count) → count ≡ n
 all_drawn k n count run few all =

@@ -50,7 +50,7 @@ length-whole_bytes [] = refl
 length-whole_bytes (a ∷ []) = refl
 length-whole_bytes (a ∷ b ∷ words) = omega (arith, length-whole_bytes words)
 
--- so many bytes are whole of further words
+-- this many bytes are whole of further words
 pub length-filled_by : (odd : Option ℕ) (words : List ℕ) → (3 * length words / 2 ≤ length (filled_by odd words))
     × (length (filled_by odd words) ≤ (3 * length words + 1) / 2)
 unfolding filled_by
@@ -67,7 +67,7 @@ bytes_after (Some bits) (b ∷ more) = (bits + 16 * (b % 16)) ∷ b / 16 ∷ pac
 tail_fits : (a b : ℕ) (words : List ℕ) → All IsWord (a ∷ b ∷ words) → All IsWord words
 tail_fits a b words fit = All-tail IsWord b words (All-tail IsWord a (b ∷ words) fit)
 
--- a pair of words, and those behind it
+-- a pair of words, and those after it
 pair_first : (a b : ℕ) (words : List ℕ) → All IsWord (a ∷ b ∷ words) → packed (a ∷ b ∷ words) ≡ pair_bytes a b ++ packed words
 pair_first a b words fit = packed-pair a b words (fit 0 0 (omega arith)) (fit 1 0 (omega arith))
 

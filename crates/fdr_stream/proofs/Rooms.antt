@@ -14,7 +14,7 @@ use Rattle.fdr_stream.proofs.ZeroWords.{zero_bytes, zero_waits, none_waits}
 later : (x : ℕ) (xs : List ℕ) (n : ℕ) → IsZeroFrom (x ∷ xs) (suc n) → IsZeroFrom xs n
 later x xs n each k from = each (suc k) (omega (arith, from))
 
--- the bytes behind the first n are zeros
+-- the bytes after the first n are zeros
 zeros_behind : (xs : List ℕ) (n m : ℕ) → n + m ≤ length xs → IsZeroFrom xs n → take (n + m) xs ≡ take n xs ++ replicate m 0
 zeros_behind [] zero zero fits each = refl
 zeros_behind [] zero (suc m) fits each = absurd (omega (arith, fits))
@@ -34,7 +34,7 @@ even_or_odd h = elim (cases_lt (h % 2) 1) [
   | inr high ↦ inr (omega (arith, high))
 ]
 
--- what waits behind the whole bytes
+-- what waits after the whole bytes
 odd_waits : (room : List ℕ) (h : ℕ) → h % 2 ≡ 1 → (waiting_of room h).odd ≡ Some (slice_index room (h / 2))
 odd_waits room h is = ap (λ e. cond (e == 1) (Some (slice_index room (h / 2))) None) is
 
@@ -80,7 +80,7 @@ zeros_even room h n is fits even =
       capacity = length room;
     } in w) (sym (even_waits room h even))
 
--- the byte behind the whole bytes
+-- the byte after the whole bytes
 next_byte : (room : List ℕ) (q : ℕ) → q < length room → take (q + 1) room ≡ take q room ++ slice_index room q ∷ []
 next_byte room q within = take_more room q 0 within
 
@@ -125,7 +125,7 @@ zeros_pushed room h n is fits = elim (even_or_odd h) [
   | inr odd ↦ zeros_odd room h n is fits odd
 ]
 
--- the room keeps its zeros behind more
+-- the room keeps its zeros after more
 pub IsWaiting-more : (room : List ℕ) (h more : ℕ) → IsWaiting room h → h + more ≤ 2 * length room → IsWaiting room (h + more)
 IsWaiting-more room h more is fits = record {
   within = fits;
@@ -148,7 +148,7 @@ IsWaiting-more room h more is fits = record {
 pub length_whole : (room : List ℕ) (h : ℕ) → IsWaiting room h → length (take (h / 2) room) ≡ h / 2
 length_whole room h is = length-take-le (h / 2) room (omega (arith, is.within))
 
--- two bytes that are written behind the first q
+-- two bytes that are written after the first q
 two_written : (room : List ℕ) (q x y : ℕ) → q + 2 ≤ length room → take (q + 2) (slice_set (slice_set room q x) (q + 1) y) ≡ take q room ++ x ∷ y ∷ []
 two_written room q x y fits =
     let once = slice_set room q x in
@@ -204,14 +204,14 @@ pushed_odd room h word x y is fits odd low high =
       capacity = length room;
     } in w) (sym (odd_waits room h odd))
 
--- the two bytes of a word behind whole bytes, and behind four bits
+-- the two bytes of a word after whole bytes, and after four bits
 shifted_even : (word e : ℕ) → word < 4096 → e ≡ 0 → word * 2 ^ (4 * e) % 65536 ≡ word
 shifted_even word e small even = ap (λ n. word * 2 ^ (4 * n) % 65536) even ∙ omega (arith, small)
 
 shifted_odd : (word e : ℕ) → word < 4096 → e ≡ 1 → word * 2 ^ (4 * e) % 65536 ≡ word * 16
 shifted_odd word e small odd = ap (λ n. word * 2 ^ (4 * n) % 65536) odd ∙ omega (arith, small)
 
--- the sum of the byte behind the whole ones and of the word's first bits fits
+-- the sum of the byte after the whole ones and of the word's first bits fits
 pub first_fits : (room : List ℕ) (h word : ℕ) → IsWaiting room h → word < 4096
     → slice_index room (h / 2) + bit_and (word * 2 ^ (4 * (h % 2)) % 65536) 255 < 256
 first_fits room h word is small =

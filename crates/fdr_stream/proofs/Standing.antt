@@ -234,7 +234,7 @@ few_left k past items st is =
     let len = ap (λ (xs : List ℕ). length xs) is ∙ length-append k.bytes (last_byte k.odd) in
     omega (arith, len, length-last_byte k.odd, st.within_payload)
 
--- how many blocks there are, where so many bytes follow the whole ones
+-- how many blocks there are, where n bytes follow the whole ones
 blocks_and_rest : (payload blocks rest len : ℕ) → 0 < payload → rest ≤ payload → len ≡ payload * blocks + rest
     → (len + payload - 1) / payload ≡ blocks + min rest 1
 blocks_and_rest payload blocks zero len some few is =

@@ -31,7 +31,7 @@ with_packed k words = record k { odd = unpaired_after k.odd words; bytes = k.byt
 abbrev pub padded : StreamKept → StreamKept
 padded k = record k { odd = None; bytes = k.bytes ++ last_byte k.odd }
 
--- what is kept after so many empty slots
+-- what is kept after n empty slots
 abbrev pub with_zeros : StreamKept → ℕ → StreamKept
 with_zeros k n = with_packed (record k { sampler = drawn_on k.sampler n }) (replicate n 0)
 
@@ -43,13 +43,13 @@ undrawn k time = slot_count k.sampler.frame.words time - k.sampler.drawn
 abbrev pub caught_up : StreamKept → ℕ → StreamKept
 caught_up k time = with_zeros k (undrawn k time)
 
--- so many empty slots come next, and the block has room for them
+-- `ahead` empty slots come next, and the block has room for them
 pub record HasEmptyAhead (k : StreamKept) (ahead : ℕ) : Type 0 where
   pub empty : HasEmptyRun k.sampler.frame k.sampler.laid (slot_within k.sampler.frame.words k.sampler.drawn) ahead
   pub room : length (with_zeros k ahead).bytes < k.payload
 
--- What holds where the slots before `time` count as drawn, `ahead` empty slots come next, and so many slots stand before
--- the one behind them, in millionths of a slot.
+-- What holds where the slots before `time` count as drawn, `ahead` empty slots come next, and `before` slots are before
+-- the one after them, in millionths of a slot.
 pub record IsBehind (k : StreamKept) (time ahead before : ℕ) : Type 0 where
   pub empty : HasEmptyAhead k ahead
   pub before_is : before ≡ (k.sampler.drawn + ahead) * 1000000

@@ -70,7 +70,7 @@ pub record IsDrawing (k : StreamKept) (past : StreamPast) (time : ℕ) : Type 0 
   pub packed : IsPacked k past
   pub undrawn : k.sampler.drawn ≤ slot_count past.table.frame.words time
 
--- The value stands where it was made of this table for blocks of this size, where these records were taken and so many
+-- The value stands where it was made of this table for blocks of this size, where these records were taken and this many
 -- blocks given. No whole block waits. The sampler needs no end record, since nothing is fed after it.
 pub record RepresentsStream (k : StreamKept) (past : StreamPast) : Type 0 where
   pub low : 64 ≤ past.payload

@@ -2,7 +2,7 @@
 use Rattle.std.specs.Prelude.{ℕ, ◌≡◌, ◌<◌, ◌≤◌, ◌+◌, ◌*◌, ◌/◌, ◌%◌, ◌^◌, ◌==◌, List, ◌++◌, Option, Some, None, length, take, slice_index, if◌then◌else◌}
 use Rattle.fdr_stream.specs.Packing.{filled_by, unpaired_after}
 
--- the whole bytes that wait, the four bits behind them, where there are some, and how many bytes there may be
+-- the whole bytes that wait, the four bits after them, where there are some, and how many bytes there may be
 pub record WaitingBytes : Type 0 where
   pub items : List ℕ
   pub odd : Option ℕ
@@ -20,7 +20,7 @@ waiting_of room halves = record {
 abbrev pub IsZeroFrom : List ℕ → ℕ → Type 0
 IsZeroFrom bytes n = (k : ℕ) → n ≤ k → slice_index bytes k ≡ 0
 
--- the bits that wait are four, and all behind them is 0
+-- the bits that wait are four, and all after them is 0
 pub record IsWaiting (room : List ℕ) (halves : ℕ) : Type 0 where
   pub within : halves ≤ 2 * length room
   pub bits : slice_index room (halves / 2) < 16 ^ (halves % 2)

@@ -71,14 +71,14 @@ impl Drawing {
         self.sampler.slots_at(time)
     }
 
-    /// How many slots come before the one so many behind the next, in millionths of a slot.
+    /// How many slots come before the one that is this many after the next, in millionths of a slot.
     pub(crate) fn slots_before(&self, behind: u32) -> u64
         ensures { result ≡ (self.now.sampler.drawn + behind) * 1000000 }
     {
         self.sampler.slots_before(behind)
     }
 
-    /// Draws so many empty slots.
+    /// Draws `count` empty slots.
     fn pass(&mut self, count: u32)
         requires empty { HasEmptyAhead self.old count }
         requires slots { self.old.sampler.drawn + count ≤ most_word_slots }
@@ -132,7 +132,7 @@ impl Drawing {
         }
     }
 
-    /// Packs so many words that are 0.
+    /// Packs `count` words that are 0.
     fn pack_zeros(&mut self, count: u32)
         requires within_block { count ≤ 4096 }
         requires room { length self.old.bytes + 3 * count / 2 ≤ self.old.payload + 1 }

@@ -32,9 +32,9 @@ pub struct Stream {
     drawing: Drawing,
     // All slots before this time count as drawn; those that weren't are empty.
     time: u64,
-    // So many empty slots come next, and the block has room for them.
+    // How many empty slots come next, and the block has room for them.
     ahead: u32,
-    // So many slots come before the one behind them, in millionths of a slot.
+    // How many slots come before the one after them, in millionths of a slot.
     before: u64,
 }
 

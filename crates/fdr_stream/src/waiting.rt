@@ -8,7 +8,7 @@ use fdr_table::NoMemory;
 use std::alloc::Global;
 use std::marker::Model;
 
-/// Words of 12 bits that wait, packed one after another, in room for a block and two bytes. Behind them the room is 0, so
+/// Words of 12 bits that wait, packed one after another, in room for a block and two bytes. After them the room is 0, so
 /// that further words that are 0 cost nothing.
 #[derive(Drop)]
 pub(crate) struct Waiting {
@@ -28,7 +28,7 @@ impl Model for Waiting {
 }
 
 impl Waiting {
-    /// Room for so many bytes.
+    /// Room for `capacity` bytes.
     pub(crate) fn with_capacity(alloc: Global, capacity: usize) -> Result<Waiting, NoMemory>
         ensures { IfOk result (λ w. w ≡ record { items = []; odd = None; capacity = capacity }) }
     {
@@ -46,7 +46,7 @@ impl Waiting {
         self.halves / 2
     }
 
-    /// Puts a word behind those that wait.
+    /// Puts a word after those that wait.
     pub(crate) fn push(&mut self, word: u16)
         requires twelve_bits { word < 4096 }
         requires room { length self.old.items + 2 ≤ self.old.capacity }
@@ -59,7 +59,7 @@ impl Waiting {
         self.halves += 3;
     }
 
-    /// Puts so many words that are 0 behind those that wait.
+    /// Puts `count` words that are 0 after those that wait.
     pub(crate) fn push_zeros(&mut self, count: usize)
         requires few { count ≤ 4096 }
         requires room { length self.old.items + 3 * count / 2 + 1 ≤ self.old.capacity }
@@ -76,7 +76,7 @@ impl Waiting {
         self.halves += self.halves % 2;
     }
 
-    /// Moves the first `count` bytes to the front of `out`. At most one byte and four bits are behind them.
+    /// Moves the first `count` bytes to the front of `out`. At most one byte and four bits are after them.
     pub(crate) fn give(&mut self, count: usize, out: &mut [u8])
         requires whole { count ≤ length self.old.items }
         requires few_left { length self.old.items ≤ count + 1 }

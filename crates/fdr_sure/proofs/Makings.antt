@@ -3,11 +3,11 @@ use Rattle.std.proofs.Common.{◌≡◌, ◌⊎◌, inl, inr, ⊎_elim, ℕ, Lis
 use Rattle.fdr_io.specs.declared.Input.TheVariants as input
 use Rattle.fdr_table.specs.declared.fault.TableFault.{TableFault}
 use Rattle.fdr_words.specs.Forms.{Form, format_image}
-use Rattle.fdr_top.specs.Complete.{IsFaultless, IsQuietCount}
+use Rattle.fdr_top.specs.Complete.{IsFaultless, CountsNoFault}
 use Rattle.fdr_top.specs.Runs.{CommandRun}
 use Rattle.fdr_top.specs.Answers.{MayAnswer}
 use Rattle.fdr_top.specs.Stages.{IsPastTable}
-use Rattle.fdr_top.specs.Tables.{IsAccepted, IsTableRefused}
+use Rattle.fdr_load.specs.Tables.{IsAccepted, IsTableRefused}
 use Rattle.fdr_top.specs.declared.outcome.Outcome.{Outcome}
 use Rattle.fdr_top.specs.declared.outcome.Outcome.TheVariants as outcome
 
@@ -29,10 +29,10 @@ making_sure path image slots payload bytes outcome.DiskFault may refused accepte
 making_sure path image slots payload bytes answer may refused accepted read disk there = absurd may
 
 -- nothing failed of what a command uses
-pub faultless : (form : Form) (r : CommandRun) → IsQuietCount r.table_before r.table_now
-    → IsQuietCount r.work.old.line_faults r.work.new.line_faults → IsQuietCount r.work.old.disk_faults r.work.new.disk_faults
-    → IsQuietCount r.work.sink_before r.work.sink_now → IsFaultless form r
+pub faultless : (form : Form) (r : CommandRun) → CountsNoFault r.table_before r.table_now
+    → CountsNoFault r.work.old.input_faults r.work.new.input_faults → CountsNoFault r.work.old.disk_faults r.work.new.disk_faults
+    → CountsNoFault r.work.sink_before r.work.sink_now → IsFaultless form r
 faultless form r table line disk sink = record {
   table = λ reads. table;
-  work = record { line = λ pulls. line; disk = λ image. disk; sink = λ text. sink };
+  work = record { input = λ pulls. line; disk = λ image. disk; sink = λ text. sink };
 }

@@ -13,16 +13,16 @@ use fdr_io::{Sink, Source};
 use fdr_top::{Outcome, run};
 use std::alloc::Global;
 
-/// A deck in memory of this image and this line, whose calls with these numbers fail. What `record` and `drill` promise of
+/// A deck in memory of this image and this input, whose calls with these numbers fail. What `record` and `drill` promise of
 /// stops holds of it, whatever these are.
-pub fn made_deck(alloc: Global, image: Vec<u8>, line: Vec<u8>, failing: Vec<u64>) -> MemDeck
+pub fn made_deck(alloc: Global, image: Vec<u8>, input: Vec<u8>, failing: Vec<u64>) -> MemDeck
     ensures may_record { MayRecord (memory_state result) }
     ensures image { held_in result ≡ image.items }
-    ensures line { result.line ≡ line.items }
+    ensures input { result.input ≡ input.items }
     ensures failing { result.failing ≡ failing.items }
     ensures unused { result.entries ≡ [] }
 {
-    MemDeck::new(alloc, image, line, failing)
+    MemDeck::new(alloc, image, input, failing)
 }
 
 /// What a command answered, and the deck in memory that it used.
@@ -39,14 +39,14 @@ pub fn run_in_memory<T: Source, O: Sink>(
     words: &[String],
     table: &mut T,
     image: Vec<u8>,
-    line: Vec<u8>,
+    input: Vec<u8>,
     failing: Vec<u64>,
     out: &mut O,
 ) -> Ran
     ensures { (path at : List ℕ) → form_of (map string_bytes words.now) ≡ Some (record_line path at)
-        → ByTable (T.rest table.old) (λ (t : TableRows). IsRecordedInMemory t image.items line.items result.answer result.deck) }
+        → ByTable (T.rest table.old) (λ (t : TableRows). IsRecordedInMemory t image.items input.items result.answer result.deck) }
 {
-    let mut deck = made_deck(alloc, image, line, failing);
+    let mut deck = made_deck(alloc, image, input, failing);
     let answer = run(alloc, words, table, &mut deck, out);
     Ran { answer, deck }
 }

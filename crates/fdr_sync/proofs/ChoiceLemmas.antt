@@ -81,7 +81,7 @@ accepted_is_chosen b w free = refl
 pub accepted_none : (b : List ℕ) (w free : ℕ) → HasNoFrameFrom b w free → accepted_from b w free ≡ []
 accepted_none b w free none = accepted_is_chosen b w free ∙ chosen_none (is_frame_position b w) (48 * w) free 0 (bits_in b) none
 
--- the first frame position is accepted, and the search goes on behind that frame
+-- the first frame position is accepted, and the search goes on after that frame
 pub accepted_first : (b : List ℕ) (w free p : ℕ) → 0 < w → IsFirstFrameFrom b w free p → accepted_from b w free ≡ p ∷ accepted_from b w (p + 48 * w)
 accepted_first b w free p some h =
     let within = frame_within b w p h.position in

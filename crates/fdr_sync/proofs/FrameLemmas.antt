@@ -24,7 +24,7 @@ frame_by_syncs b w p h =
 pub none_in_few_bytes : (b : List ℕ) (w from : ℕ) → bits_in b < 48 * w → HasNoFrameFrom b w from
 none_in_few_bytes b w from few q behind h = omega (arith, frame_within b w q h)
 
--- a subframe of no words has no frame: two sync words would stand at one bit
+-- a subframe of no words has no frame: two sync words would be at one bit
 pub some_words : (b : List ℕ) (w p : ℕ) → IsFramePosition b w p → 0 < w
 unfolding is_frame_position
 some_words b w p h =

@@ -16,7 +16,7 @@ use Rattle.fdr_sync.proofs.EventLemmas.{gap_some, gap_empty}
 pub word_count_some : (w : ℕ) → IsWordCount w → 0 < w
 word_count_some w h = omega (arith, word_count_bounds w h)
 
--- a frame that was found ends within the bytes, and behind `free`
+-- a frame that was found ends within the bytes, and after `free`
 pub found_within : (b : List ℕ) (w free p : ℕ) → IsWordCount w → IsFirstFrameFrom b w free p → (p + 48 * w ≤ bits_in b) × (free < p + 48 * w)
 found_within b w free p count h = (frame_within b w p h.position, omega (arith, word_count_bounds w count, h.behind))
 
@@ -66,13 +66,13 @@ pub gaps_more_none : (b : List ℕ) (w free p next : ℕ) (xs all : List (ℕ ×
 gaps_more_none b w free p next xs all count h empty behind before =
     goes_on (gaps_from b w) free (p + 48 * w) next xs [] xs all behind (gaps_first b w free p [] count h (gap_empty free p empty)) (sym (append-nil xs)) before
 
--- the gap behind the last frame was taken
+-- the gap after the last frame was taken
 pub gaps_all_gap : (b : List ℕ) (w free : ℕ) (xs ys all : List (ℕ × ℕ)) → HasNoFrameFrom b w free → free < bits_in b → ys ≡ xs ++ (free, bits_in b - free) ∷ []
     → xs ++ gaps_from b w free ≡ all → ys ≡ all
 gaps_all_gap b w free xs ys all none some pushed before =
     ends (gaps_from b w free) xs ((free, bits_in b - free) ∷ []) ys all (gaps_last b w free _ none (gap_some free (bits_in b) some)) pushed before
 
--- there is no gap behind the last frame
+-- there is no gap after the last frame
 pub gaps_all_none : (b : List ℕ) (w free : ℕ) (xs all : List (ℕ × ℕ)) → HasNoFrameFrom b w free → bits_in b ≤ free → xs ++ gaps_from b w free ≡ all → xs ≡ all
 gaps_all_none b w free xs all none empty before =
     ends (gaps_from b w free) xs [] xs all (gaps_last b w free [] none (gap_empty free (bits_in b) empty)) (sym (append-nil xs)) before

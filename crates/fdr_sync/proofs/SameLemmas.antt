@@ -1,4 +1,4 @@
--- Frame positions of bits that stand elsewhere too.
+-- Frame positions of bits that are elsewhere too.
 use Rattle.std.proofs.Common.{◌≡◌, ℕ, ◌+◌, ◌*◌, ◌<◌, ◌≤◌, ◌==◌, ◌&&◌, List, ◌++◌, sym, ap, ◌∙◌, arith, length-append}
 use Rattle.fdr_bits.specs.Bits.{bits_in, bit_at, word_at}
 use Rattle.fdr_bits.proofs.WordLemmas.{word_at_same}

@@ -4,7 +4,7 @@ use Rattle.std.specs.List.{filter_map}
 use Rattle.fdr_bits.specs.Bits.{bits_in}
 use Rattle.fdr_sync.specs.Accepted.{accepted_from, accepted_frames, AreAcceptedFrames}
 
--- a frame that begins at a bit, or a gap that begins at a bit and has so many bits
+-- a frame that begins at a bit, or a gap, by its first bit and its number of bits
 pub data Event : Type 0 where
   Frame : ℕ → Event
   Gap : ℕ → ℕ → Event

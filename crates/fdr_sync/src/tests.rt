@@ -97,7 +97,7 @@ fn finds_frames_behind_five_bits(rt: HostRuntime) -> Result<(), Fail> {
 #[test]
 fn finds_no_frame_where_a_bit_is_struck_out(rt: HostRuntime) -> Result<(), Fail> {
     let mut bytes = [0u8; 384];
-    // Bit 48 of a frame is left out, so all that follows it stands a bit earlier.
+    // Bit 48 of a frame is left out, so all that follows it is a bit earlier.
     let words = [
         (0, 0x247),
         (107, 5),

@@ -109,7 +109,7 @@ param_named-push above row q e =
     ap (λ (i : Option ℕ). unwrap_or i 0)
     (ap (position (λ other. bytes_eq other q)) (names-push above row) ∙ position-more (λ other. bytes_eq other q) (names_of above) (names_of (row ∷ [])) e)
 
--- a place's parameter stands above it, so that further rows name the same
+-- a place's parameter is above it, so that further rows name the same
 abbrev pub IsNamed : List Row → Row → Type 0
 IsNamed rows row = is_place (row_kind row) ≡ true → has_name rows (name_in row) ≡ true
 

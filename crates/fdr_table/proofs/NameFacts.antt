@@ -33,7 +33,7 @@ after-insert m n key x name false h e =
     others (same_key key) (λ k. bytes_eq name k.items) m.entries n.entries h.3
     (λ k l. nat_list_eq_equiv.congr name k.items l.items) (λ k. apart key.items name k.items e)
 
--- where a name stands after one more parameter
+-- where a name is after one more parameter
 index-push : (params : List ParamRow) (p : ParamRow) (name : List ℕ) (b c : Bool) → index_named params p.name ≡ None → bytes_eq p.name name ≡ b
     → list_any (λ (q : ParamRow). bytes_eq q.name name) params ≡ c
     → index_named (params ++ p ∷ []) name ≡ cond b (Some (length params)) (index_named params name)

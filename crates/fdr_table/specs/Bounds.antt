@@ -1,4 +1,4 @@
--- The bounds of a table and of the fields of its rows. The numbers of words in a subframe stand in fdr_frame.
+-- The bounds of a table and of the fields of its rows. The numbers of words in a subframe are in fdr_frame.
 use Rattle.std.specs.Prelude.{ℕ, List, [], ◌∷◌}
 
 -- how many bytes, parameters and places a table may have
@@ -56,6 +56,10 @@ most_decimals = 9
 
 abbrev pub most_rate : ℕ
 most_rate = 262144
+
+-- for how many microseconds a bus word may count as fresh at most, where that ends
+abbrev pub most_age : ℕ
+most_age = 64000000
 
 -- how many parts a parameter may have
 abbrev pub most_parts : ℕ

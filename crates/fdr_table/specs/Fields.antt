@@ -4,7 +4,9 @@ use Rattle.std.specs.Prelude.{sum_by, codes, bytes_eq, Option, Some, None, optio
 use Rattle.std.specs.List.{list_all, list_any}
 use Rattle.std.specs.Str.Parse.{digits_value, starts_with_minus}
 use Rattle.fdr_frame.specs.WordCount.{is_word_count}
-use Rattle.fdr_table.specs.Bounds.{most_label, most_name_bytes, most_sdi}
+use Rattle.fdr_table.specs.Bounds.{most_label, most_name_bytes, most_sdi, most_age}
+use Rattle.fdr_table.specs.declared.sign.Sign.{Sign}
+use Rattle.fdr_table.specs.declared.sign.Sign.TheVariants as sign
 
 abbrev pub is_digit : ℕ → Bool
 is_digit byte = nat_le 48 byte && nat_le byte 57
@@ -71,9 +73,28 @@ unfoldable pub subframes_of : List ℕ → Option ℕ
 subframes_of field =
     if nat_le 1 (length field) && list_all is_subframe_digit field && is_increasing field then Some (sum_by subframe_bit field) else None
 
--- whether a parameter is signed: `S`, or `U` for unsigned
-unfoldable pub sign_of : List ℕ → Option Bool
-sign_of field = if bytes_eq field (codes "U") then Some false else if bytes_eq field (codes "S") then Some true else None
+-- the sign of a parameter with so many bits: `U` for unsigned, `S` for signed, or `V`, which has one bit, where it tells
+-- whether its word is fresh
+unfoldable pub sign_of : ℕ → List ℕ → Option Sign
+sign_of width field =
+    if bytes_eq field (codes "U") then Some sign.Unsigned
+    else if bytes_eq field (codes "S") then Some sign.Signed
+    else if bytes_eq field (codes "V") && (width == 1) then Some sign.Telling
+    else None
+
+abbrev pub is_signed : Sign → Bool
+is_signed sign.Unsigned = false
+is_signed sign.Signed = true
+is_signed sign.Telling = false
+
+abbrev pub is_telling : Sign → Bool
+is_telling sign.Unsigned = false
+is_telling sign.Signed = false
+is_telling sign.Telling = true
+
+-- the age up to which a bus word is fresh: any, where the field is empty, or so many microseconds
+unfoldable pub age_field : List ℕ → Option (Option ℕ)
+age_field field = if length field == 0 then Some None else option_map (λ age. Some age) (number_in 1 most_age field)
 
 -- letters, digits, `_`, `-` and `.`
 abbrev pub is_name_byte : ℕ → Bool

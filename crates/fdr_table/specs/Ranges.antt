@@ -1,9 +1,9 @@
 -- The ranges that the fields of a table keep.
-use Rattle.std.specs.Prelude.{◌≢◌, ◌+◌, ◌<◌, ◌≤◌, neg_ℤ, pos, ◌≤ℤ◌, List, IsTrue, true, nat_le, length, All, AllPairs}
+use Rattle.std.specs.Prelude.{◌≡◌, ◌≢◌, ◌+◌, ◌<◌, ◌≤◌, neg_ℤ, pos, ◌≤ℤ◌, List, IsTrue, true, false, ◌&&◌, nat_le, length, All, AllPairs}
 use Rattle.std.specs.Option.{option_map_or}
 use Rattle.fdr_frame.specs.WordCount.{IsWordCount}
 use Rattle.fdr_table.specs.Bounds.{most_params, most_places, most_words, subframe_count, least_counter_word, frame_word_bits, most_parts, periods}
-use Rattle.fdr_table.specs.Bounds.{bus_word_bits, most_bus, most_label, most_sdi, most_scale, most_offset, most_decimals, most_rate}
+use Rattle.fdr_table.specs.Bounds.{bus_word_bits, most_bus, most_label, most_sdi, most_scale, most_offset, most_decimals, most_rate, most_age}
 use Rattle.fdr_table.specs.Fields.{is_among, is_name}
 use Rattle.fdr_table.specs.Rows.{FrameRow, ParamRow, PlaceRow, TableRows}
 
@@ -14,6 +14,7 @@ pub record IsFrameInRange (f : FrameRow) : Type 0 where
   pub csub_low : 1 ≤ f.csub
   pub csub_high : f.csub ≤ subframe_count
 
+-- a parameter that tells whether its word is fresh has one bit, which has no sign
 pub record IsParamInRange (p : ParamRow) : Type 0 where
   pub bus : p.bus ≤ most_bus
   pub label : p.label ≤ most_label
@@ -30,6 +31,9 @@ pub record IsParamInRange (p : ParamRow) : Type 0 where
   pub decimals : p.decimals ≤ most_decimals
   pub rate_low : 1 ≤ p.rate
   pub rate_high : p.rate ≤ most_rate
+  pub age : IsTrue (option_map_or (λ age. nat_le 1 age && nat_le age most_age) p.age true)
+  pub tells_width : IsTrue p.tells → p.width ≡ 1
+  pub tells_sign : IsTrue p.tells → p.signed ≡ false
 
 -- a set of subframes has some of the bits of subframes 1 to 4, so it is 1 to 15
 pub record IsPlaceInRange (p : PlaceRow) : Type 0 where

@@ -1,12 +1,15 @@
 -- What the rows of a table say. Rows and fields are numbered from 0; field 0 is the letter.
-use Rattle.std.specs.Prelude.{ℕ, ◌+◌, ◌-◌, ◌==◌, ◌&&◌, Bool, true, false, if◌then◌else◌, List, [], ◌∷◌, length, codes, bytes_eq, slice_index_or, map, filter}
-use Rattle.std.specs.Prelude.{filter_map, ℤ, pos, Option, Some, None, is_none, unwrap_or, position}
+use Rattle.std.specs.Prelude.{ℕ, ◌+◌, ◌-◌, ◌==◌, ◌&&◌, ◌||◌, Bool, true, false, if◌then◌else◌, List, [], ◌∷◌, length, codes, bytes_eq, slice_index_or}
+use Rattle.std.specs.Prelude.{map, filter, filter_map, ℤ, pos, Option, Some, None, is_none, unwrap_or, position}
 use Rattle.std.specs.List.{enumerate_from}
 use Rattle.csv.specs.Reading.{default_config, records, strip_bom}
 use Rattle.fdr_table.specs.Rows.{FrameRow, ParamRow, PlaceRow, TableRows}
 use Rattle.fdr_table.specs.Bounds.{most_words, subframe_count, least_counter_word, frame_word_bits, most_parts, periods}
 use Rattle.fdr_table.specs.Bounds.{bus_word_bits, most_bus, most_scale, most_offset, most_decimals, most_rate}
-use Rattle.fdr_table.specs.Fields.{number_in, number_among, word_count_of, signed_within, label_field, sdi_field, subframes_of, sign_of, is_name}
+use Rattle.fdr_table.specs.Fields.{number_in, number_among, word_count_of, signed_within, label_field, sdi_field, subframes_of, age_field, is_name}
+use Rattle.fdr_table.specs.Fields.{sign_of, is_signed, is_telling}
+use Rattle.fdr_table.specs.declared.sign.Sign.{Sign}
+use Rattle.fdr_table.specs.declared.sign.Sign.TheVariants as sign
 use Rattle.fdr_table.specs.declared.row.RowKind.{RowKind}
 use Rattle.fdr_table.specs.declared.row.RowKind.TheVariants as kind
 use Rattle.fdr_table.specs.declared.fault.TableFault.{TableFault}
@@ -24,11 +27,11 @@ records_of bytes = records default_config (strip_bom bytes)
 unfoldable pub field : Row → ℕ → List ℕ
 field fields i = slice_index_or fields i []
 
--- a row of each kind has its letter and its count of fields
+-- a row of each kind has its letter and its count of fields; a parameter's may end before its last field
 unfoldable pub row_kind : Row → Option RowKind
 row_kind fields =
     if bytes_eq (field fields 0) (codes "F") && (length fields == 4) then Some kind.Frame
-    else if bytes_eq (field fields 0) (codes "P") && (length fields == 13) then Some kind.Param
+    else if bytes_eq (field fields 0) (codes "P") && (length fields == 13 || length fields == 14) then Some kind.Param
     else if bytes_eq (field fields 0) (codes "L") && (length fields == 10) then Some kind.Place
     else None
 
@@ -113,8 +116,8 @@ bus_lsb_in fields = number_in 1 bus_word_bits (field fields 5)
 abbrev pub bus_width_in : Row → Option ℕ
 bus_width_in fields = number_in 1 (bits_from bus_word_bits (bus_lsb_in fields)) (field fields 6)
 
-abbrev pub sign_in : Row → Option Bool
-sign_in fields = sign_of (field fields 7)
+abbrev pub sign_in : Row → Option Sign
+sign_in fields = sign_of (unwrap_or (bus_width_in fields) 0) (field fields 7)
 
 abbrev pub num_in : Row → Option ℤ
 num_in fields = signed_within most_scale (field fields 8)
@@ -131,6 +134,9 @@ decimals_in fields = number_in 0 most_decimals (field fields 11)
 abbrev pub rate_in : Row → Option ℕ
 rate_in fields = number_in 1 most_rate (field fields 12)
 
+abbrev pub age_in : Row → Option (Option ℕ)
+age_in fields = age_field (field fields 13)
+
 -- the first field of a parameter's row that isn't right, the name aside
 unfoldable pub param_misread : Row → Option TableFault
 param_misread fields = first_some (
@@ -144,7 +150,8 @@ param_misread fields = first_some (
     ∷ misread 9 (den_in fields)
     ∷ misread 10 (offset_in fields)
     ∷ misread 11 (decimals_in fields)
-    ∷ misread 12 (rate_in fields) ∷ [])
+    ∷ misread 12 (rate_in fields)
+    ∷ misread 13 (age_in fields) ∷ [])
 
 unfoldable pub misnamed : Row → Option TableFault
 misnamed fields = if is_name (field fields 1) then None else Some fault.Name
@@ -159,12 +166,14 @@ param_row number fields =
       sdi = unwrap_or (sdi_in fields) None;
       lsb = unwrap_or (bus_lsb_in fields) 0;
       width = unwrap_or (bus_width_in fields) 0;
-      signed = unwrap_or (sign_in fields) false;
+      signed = is_signed (unwrap_or (sign_in fields) sign.Unsigned);
       num = unwrap_or (num_in fields) (pos 0);
       den = pos (unwrap_or (den_in fields) 0);
       offset = unwrap_or (offset_in fields) (pos 0);
       decimals = unwrap_or (decimals_in fields) 0;
       rate = unwrap_or (rate_in fields) 0;
+      age = unwrap_or (age_in fields) None;
+      tells = is_telling (unwrap_or (sign_in fields) sign.Unsigned);
       row = number;
     }) else None
 

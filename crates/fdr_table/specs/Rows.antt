@@ -7,7 +7,8 @@ pub record FrameRow : Type 0 where
   pub cword : ℕ
   pub csub : ℕ
 
--- a parameter: the field of a bus word that it is read from, its scale, and its samples in a superframe
+-- a parameter: the field of a bus word that it is read from, its scale, and its samples in a superframe; for how many
+-- microseconds a bus word counts as fresh, where that ends at all; and whether it tells just that
 pub record ParamRow : Type 0 where
   pub name : List ℕ
   pub bus : ℕ
@@ -21,6 +22,8 @@ pub record ParamRow : Type 0 where
   pub offset : ℤ
   pub decimals : ℕ
   pub rate : ℕ
+  pub age : Option ℕ
+  pub tells : Bool
   pub row : ℕ
 
 -- where a part of a parameter stands; bit s - 1 of `subs` says that subframe s is in the set

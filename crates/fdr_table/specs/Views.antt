@@ -21,6 +21,8 @@ param_view p = record {
   offset = p.offset;
   decimals = p.decimals;
   rate = p.rate;
+  age = p.age;
+  tells = p.tells;
   row = p.row;
 }
 

@@ -18,19 +18,19 @@ impl From<AllocError> for NoMemory {
 pub enum TableFault {
     /// The row's letter isn't `F`, `P` or `L`, or the row has another count of fields.
     Shape,
-    /// The field isn't a value that may stand there. Fields are counted from 0, the letter's.
+    /// The field isn't a value that may be there. Fields are counted from 0, the letter's.
     Number {
         field: u8,
     },
-    /// No frame row stands above the row, or the table has no row.
+    /// No frame row is above the row, or the table has no row.
     NoFrame,
     /// A second frame row.
     TwoFrames,
     /// The parameter's name isn't 1 to 16 letters, digits, `_`, `-` and `.`.
     Name,
-    /// The parameter's name stands in a row above.
+    /// The parameter's name is in a row above.
     Twice,
-    /// The place's name stands in no parameter's row above.
+    /// The place's name is in no parameter's row above.
     Unknown,
     /// The table has too many bytes, parameters or places.
     Size,

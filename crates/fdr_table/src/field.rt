@@ -1,10 +1,10 @@
-ghost use Rattle.std.specs.Prelude.{◌≡◌, ◌<◌, ◌≤◌, ◌^◌, ◌≤ℤ◌, neg_ℤ, pos, IsTrue, IfSome, length, nat_le, true};
+ghost use Rattle.std.specs.Prelude.{◌≡◌, ◌<◌, ◌≤◌, ◌^◌, ◌≤ℤ◌, neg_ℤ, pos, IsTrue, IfSome, length, ◌&&◌, nat_le, true};
 ghost use Rattle.std.specs.List.{list_all};
 ghost use Rattle.std.specs.Option.{option_map_or};
 ghost use Rattle.std.specs.Str.Parse.{digits_value};
 ghost use Rattle.fdr_frame.specs.WordCount.{is_word_count, IsWordCount};
-ghost use Rattle.fdr_table.specs.Bounds.{most_sdi};
-ghost use Rattle.fdr_table.specs.Fields.{is_digit, is_octal_digit, decimal_of, number_in, number_among, word_count_of, is_among, signed_within, label_field, sdi_field, is_subframe_digit, subframe_bit, subframes_of, sign_of};
+ghost use Rattle.fdr_table.specs.Bounds.{most_sdi, most_age};
+ghost use Rattle.fdr_table.specs.Fields.{is_digit, is_octal_digit, decimal_of, number_in, number_among, word_count_of, is_among, signed_within, label_field, sdi_field, is_subframe_digit, subframe_bit, subframes_of, age_field};
 
 /// The number that digits write to a base.
 fn value(digits: &[u8], base: u64) -> u64
@@ -80,7 +80,7 @@ pub(crate) fn number_of(field: &[u8], allowed: &[u64]) -> Option<u64>
     }
 }
 
-/// Whether a subframe may have so many words.
+/// Whether a subframe may have `number` words.
 fn is_word_count(number: u64) -> bool
     ensures { result ≡ is_word_count number }
 {
@@ -173,16 +173,15 @@ pub(crate) fn subframes(field: &[u8]) -> Option<u8>
     Some(set)
 }
 
-/// Whether a parameter is signed: `U` or `S`.
-#[tactic(auto, unfolding(crate::specs::Fields::sign_of))]
-pub(crate) fn sign(field: &[u8]) -> Option<bool>
-    ensures { result ≡ sign_of field.now }
+/// An age from 1 to 64,000,000 microseconds, or any where the field is empty.
+#[tactic(auto, unfolding(crate::specs::Fields::age_field))]
+pub(crate) fn age(field: &[u8]) -> Option<Option<u64>>
+    ensures exactly { result ≡ age_field field.now }
+    ensures within { IfSome result (λ age. IsTrue (option_map_or (λ n. nat_le 1 n && nat_le n most_age) age true)) }
 {
-    if field == b"U".as_slice() {
-        Some(false)
-    } else if field == b"S".as_slice() {
-        Some(true)
-    } else {
-        None
+    if field.is_empty() {
+        return Some(None);
     }
+    let age = number_in(field, 1, 64_000_000)?;
+    Some(Some(age))
 }

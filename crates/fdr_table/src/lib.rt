@@ -15,6 +15,7 @@ mod path;
 mod place;
 mod row;
 mod rows;
+mod sign;
 mod table;
 
 pub use fault::{NoMemory, Refusal, TableError, TableFault};

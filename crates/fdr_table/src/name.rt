@@ -50,7 +50,7 @@ impl Name {
         &self.bytes[..self.len]
     }
 
-    /// The name's bytes with others behind them, and how many are its own. A copy of all sixteen, whose number the compiler
+    /// The name's bytes with others after them, and how many are its own. A copy of all sixteen, whose number the compiler
     /// knows, is faster than one of as many as the name has.
     pub fn padded(&self) -> (&[u8; 16], usize)
         ensures bytes { take result.1 result.0.now ≡ self.now }

@@ -20,7 +20,7 @@ pub struct Param {
     pub lsb: u8,
     /// Bits of the field, 1 to 32, none above bit 32.
     pub width: u8,
-    /// Whether the field is two's complement.
+    /// Whether the field is two's complement: exactly with the sign `S`.
     pub signed: bool,
     /// The scale: a raw number counts `num / den`, and `offset` is added. `num` is at most
     /// 1,000,000,000 in size.
@@ -33,6 +33,11 @@ pub struct Param {
     pub decimals: u8,
     /// Samples in a superframe, 1 to 262,144.
     pub rate: u32,
+    /// For how many microseconds a bus word counts as fresh, 1 to 64,000,000; none where it does for
+    /// good.
+    pub age: Option<u64>,
+    /// Whether the parameter tells that its word is fresh, by one bit: exactly with the sign `V`.
+    pub tells: bool,
     /// The parameter's row in the table, counted from 0.
     pub row: u32,
 }
@@ -68,6 +73,8 @@ impl Param {
             offset: self.offset,
             decimals: self.decimals,
             rate: self.rate,
+            age: self.age,
+            tells: self.tells,
             row: self.row,
         }
     }

@@ -1,6 +1,6 @@
 use std::marker::Model;
 
-/// Where a part of a parameter stands in the frames.
+/// Where a part of a parameter is in the frames.
 #[derive(Clone, Copy, Debug)]
 pub struct Place {
     /// The index of the parameter.

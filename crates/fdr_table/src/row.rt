@@ -11,6 +11,7 @@ use crate::frame::Frame;
 use crate::name::Name;
 use crate::param::Param;
 use crate::place::Place;
+use crate::sign::Sign;
 use csv::ByteRecord;
 
 /// What a row is for.
@@ -85,12 +86,13 @@ pub(crate) fn read_param_row(row: &ByteRecord, number: u32) -> Result<Option<Par
     let sdi = field::sdi(field_at(row, 4)).ok_or(TableFault::Number { field: 4 })?;
     let lsb = number_in(row, 5, 1, 32)?;
     let width = number_in(row, 6, 1, 33 - lsb)?;
-    let signed = field::sign(field_at(row, 7)).ok_or(TableFault::Number { field: 7 })?;
+    let sign = Sign::of(width, field_at(row, 7)).ok_or(TableFault::Number { field: 7 })?;
     let num = signed_within(row, 8, 1_000_000_000)?;
     let den = number_in(row, 9, 1, 1_000_000_000)?;
     let offset = signed_within(row, 10, 1_000_000_000_000_000)?;
     let decimals = number_in(row, 11, 0, 9)?;
     let rate = number_in(row, 12, 1, 262_144)?;
+    let age = field::age(field_at(row, 13)).ok_or(TableFault::Number { field: 13 })?;
     let Some(name) = Name::new(field_at(row, 1)) else {
         return Ok(None);
     };
@@ -101,12 +103,14 @@ pub(crate) fn read_param_row(row: &ByteRecord, number: u32) -> Result<Option<Par
         sdi,
         lsb: lsb as u8,
         width: width as u8,
-        signed,
+        signed: sign.is_signed(),
         num,
         den: den as i64,
         offset,
         decimals: decimals as u8,
         rate: rate as u32,
+        age,
+        tells: sign.is_telling(),
         row: number,
     }))
 }
@@ -161,7 +165,7 @@ pub(crate) fn kind_of(row: &ByteRecord) -> Option<RowKind>
     let count = row.len();
     if letter == b"F".as_slice() && count == 4 {
         Some(RowKind::Frame)
-    } else if letter == b"P".as_slice() && count == 13 {
+    } else if letter == b"P".as_slice() && (count == 13 || count == 14) {
         Some(RowKind::Param)
     } else if letter == b"L".as_slice() && count == 10 {
         Some(RowKind::Place)

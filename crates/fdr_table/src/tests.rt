@@ -22,6 +22,7 @@ fn reads_a_table(rt: HostRuntime) -> Result<(), Fail> {
     assert_eq!(rt; (param.lsb, param.width, param.signed), (11, 12, false));
     assert_eq!(rt; (param.num, param.den, param.offset), (1, 1, 0));
     assert_eq!(rt; (param.decimals, param.rate, param.row), (0, 16, 1));
+    assert_eq!(rt; (param.age, param.tells), (None, false));
     assert_eq!(rt; table.places().len(), 1);
     let place = &table.places()[0];
     assert_eq!(rt; (place.param, place.part, place.subs), (0, 1, 1));
@@ -66,6 +67,53 @@ fn finds_the_parameter_of_a_place(rt: HostRuntime) -> Result<(), Fail> {
     assert_eq!(rt; (second.param, second.part, second.subs), (0, 1, 15));
     assert_eq!(rt; (second.word, second.step), (1, 1024));
     assert_eq!(rt; (second.cycle, second.period, second.row), (15, 16, 4));
+    Ok(())
+}
+
+/// A table whose second row is that of a parameter with this width, this sign and these fields after its rate.
+fn with_param(alloc: Global, width: &str, sign: &str, rest: &str) -> Result<String, AllocError> {
+    format!(in alloc; "F,64,2,1\nP,OK,0,203,,11,{width},{sign},1,1,0,0,16{rest}\n")
+}
+
+#[test]
+fn reads_signs_and_ages(rt: HostRuntime) -> Result<(), Fail> {
+    let cases = [
+        ("12", "U", "", false, None, false),
+        ("12", "S", ",", true, None, false),
+        ("1", "U", ",1", false, Some(1), false),
+        ("1", "S", ",064000000", true, Some(64_000_000), false),
+        ("1", "V", "", false, None, true),
+        ("1", "V", ",2000000", false, Some(2_000_000), true),
+    ];
+    for (width, sign, rest, signed, age, tells) in cases {
+        let text = with_param(rt.alloc(), width, sign, rest)?;
+        let table = Table::read(rt.alloc(), text.as_bytes())?;
+        let param = table.params().first().ok_or("a parameter")?;
+        assert_eq!(rt;
+            (param.signed, param.age, param.tells),
+            (signed, age, tells),
+            "{text}"
+        );
+    }
+    Ok(())
+}
+
+#[test]
+fn refuses_signs_and_ages(rt: HostRuntime) -> Result<(), Fail> {
+    let cases = [
+        ("2", "V", "", TableFault::Number { field: 7 }),
+        ("33", "V", "", TableFault::Number { field: 6 }),
+        ("1", "v", "", TableFault::Number { field: 7 }),
+        ("1", "V", ",0", TableFault::Number { field: 13 }),
+        ("1", "V", ",64000001", TableFault::Number { field: 13 }),
+        ("1", "U", ",-1", TableFault::Number { field: 13 }),
+        ("1", "U", ", ", TableFault::Number { field: 13 }),
+        ("1", "U", ",1,", TableFault::Shape),
+    ];
+    for (width, sign, rest, fault) in cases {
+        let text = with_param(rt.alloc(), width, sign, rest)?;
+        assert!(rt; is_refused(rt.alloc(), text.as_bytes(), 1, fault), "{text}");
+    }
     Ok(())
 }
 
@@ -179,7 +227,7 @@ fn refuses_the_first_of_many_wrong_rows(rt: HostRuntime) -> Result<(), Fail> {
     Ok(())
 }
 
-/// A table with the first row and then so many rows with a parameter each.
+/// A table with the first row and then `count` rows with a parameter each.
 fn with_params(alloc: Global, count: u32) -> Result<String, AllocError> {
     let mut text = "F,64,2,1\n".to_string(alloc)?;
     for i in 0..count {
@@ -189,7 +237,7 @@ fn with_params(alloc: Global, count: u32) -> Result<String, AllocError> {
     Ok(text)
 }
 
-/// The table `ALT` without its place, and then so many places.
+/// The table `ALT` without its place, and then `count` places.
 fn with_places(alloc: Global, count: u32) -> Result<String, AllocError> {
     let mut text = "F,64,2,1\nP,ALT,0,203,,11,12,U,1,1,0,0,16\n".to_string(alloc)?;
     for _ in 0..count {

@@ -19,7 +19,7 @@ use Rattle.fdr_top.specs.Streaming.{past_of, due_text, ComesNext, IsStreamed}
 use Rattle.fdr_sampler.proofs.StreamWords.{length-stream_words}
 use Rattle.fdr_bus.proofs.TraceLemmas.{time_of-push}
 
--- while a record is fed: so many blocks were given, and at which record the last one was
+-- while a record is fed: how many blocks were given, and at which record the last one was
 abbrev pub giving : TableRows → List BusRecord → Option BusRecord → ℕ → StreamPast
 giving t records begun blocks = record { table = t; payload = 4096; records = records; begun = begun; blocks = blocks }
 
@@ -30,7 +30,7 @@ pub record IsGiving (k : StreamKept) (t : TableRows) (records : List BusRecord) 
   pub rises : i ≤ blocks
   pub due : (i ≡ 0) ⊎ (blocks ≤ due_blocks t 4096 (records ++ r ∷ []))
 
--- the text of so many blocks
+-- the text of the first blocks
 abbrev pub blocks_text : TableRows → List BusRecord → ℕ → List ℕ
 blocks_text t records n = take (4096 * n) (stream_of t records)
 
@@ -113,7 +113,7 @@ due_blocks-few t records r words in_time =
     let most : r.time * t.frame.words ≤ 1440000000000 * 1024 = mul-le r.time t.frame.words 1440000000000 1024 in_time words in
     omega (arith, count, most)
 
--- the bytes behind the blocks that are due
+-- the bytes after the blocks that are due
 pub text-rest : (before before_rest now : Option (List ℕ)) (t : TableRows) (records : List BusRecord) (block : List ℕ) (count : ℕ)
     → take count block ≡ drop (4096 * due_blocks t 4096 records) (stream_of t records) →
     before_rest ≡ followed_by before (due_text t records) → now ≡ followed_by before_rest (take count block) → now ≡ followed_by before (stream_of t records)

@@ -9,16 +9,19 @@ use Rattle.fdr_deck.specs.Moments.{IsSoundDeck}
 use Rattle.fdr_check.specs.Soundness.{IsSound}
 use Rattle.fdr_table.specs.Bounds.{most_table_bytes}
 use Rattle.fdr_table.specs.Rows.{TableRows}
-use Rattle.fdr_words.specs.Forms.{Form, check_table, stream_line, list_bits, format_image, record_line, recover_image, list_image, drill_image}
+use Rattle.fdr_words.specs.Forms.{Form, check_table, stream_line, list_bits, encode_bytes}
+use Rattle.fdr_words.specs.Forms.{decode_levels, format_image, record_line, recover_image, list_image, drill_image}
 use Rattle.fdr_words.specs.Forms.{table_path}
 use Rattle.fdr_top.specs.Stages.{IsOfTable}
-use Rattle.fdr_top.specs.Answers.{IsOwn, KeepsLineAndFaults, ReadsTable}
+use Rattle.fdr_top.specs.Answers.{IsOwn, KeepsInputAndFaults, ReadsTable}
 use Rattle.fdr_top.specs.Commands.{ByItsTable, CarriesOut, RunsCommand, Works}
 use Rattle.fdr_top.specs.Complete.{ByAccepted, TellsAccepted}
 use Rattle.fdr_top.specs.Leaves.{HasCause, LeavesAll, LeavesUnused, PassesOverNoFault}
-use Rattle.fdr_top.specs.Limits.{TakesAtMost, piece_bytes}
+use Rattle.fdr_load.specs.Limits.{TakesAtMost}
+use Rattle.fdr_top.specs.Limits.{piece_bytes}
 use Rattle.fdr_top.specs.Runs.{CommandRun, WorkRun}
-use Rattle.fdr_top.specs.Tables.{IsAccepted, ReadsItsTable, table_in}
+use Rattle.fdr_load.specs.Tables.{IsAccepted, table_in}
+use Rattle.fdr_top.specs.Tables.{ReadsItsTable}
 use Rattle.fdr_top.specs.declared.outcome.Outcome.{Outcome}
 use Rattle.fdr_top.specs.declared.outcome.Outcome.TheVariants as outcome
 use Rattle.fdr_top.specs.Check.{Reports}
@@ -29,7 +32,7 @@ use Rattle.fdr_top.proofs.Images.{recovers_nothing}
 use Rattle.fdr_top.proofs.ItsTable.{accepted_left, by_table, read_accepted}
 use Rattle.fdr_top.proofs.ListedImages.{lists_nothing}
 use Rattle.fdr_top.proofs.Making.{makes_nothing, table_or, table_told}
-use Rattle.fdr_top.proofs.Pieces.{TakesAtMost-none}
+use Rattle.fdr_load.proofs.Pieces.{TakesAtMost-none}
 use Rattle.fdr_top.proofs.Readable.{records_nothing}
 use Rattle.fdr_top.proofs.TableAnswers.{table_not_past, taken_is_all}
 
@@ -46,8 +49,8 @@ idle tells d written s answer = record {
   answer = answer;
 }
 
-keeps_line : (d : State) → KeepsLineAndFaults d d
-keeps_line d = record { line = refl; taken = refl; before = refl; faults = refl }
+keeps_line : (d : State) → KeepsInputAndFaults d d
+keeps_line d = record { input = refl; taken = refl; pulled_before = refl; faults = refl }
 
 pub idle_leaves_all : (tells : Tells) (d : State) (written : Option (List ℕ)) (s : ℕ) (answer : Outcome) → LeavesAll (idle tells d written s answer)
 idle_leaves_all tells d written s answer = record {
@@ -55,21 +58,21 @@ idle_leaves_all tells d written s answer = record {
   faults = refl;
   disk = record { held = refl; no_more = λ image leaves. leaves; no_less = λ image leaves. leaves };
   extent = record { bytes = λ told. refl; stops = λ told. refl; known = λ some. refl };
-  told = refl;
-  line = λ first. keeps_line d;
+  announced = refl;
+  input = λ first. keeps_line d;
 }
 
 -- a run that leaves the deck as it was uses nothing of it
 pub still_unused : (form : Form) (tells : Tells) (d : State) (before now : Option (List ℕ)) (s t : ℕ) (answer : Outcome)
     → LeavesUnused form (record { tells = tells; old = d; new = d; written_before = before; written_now = now; sink_before = s; sink_now = t; answer = answer })
 still_unused form tells d before now s t answer = record {
-  line = λ unused. keeps_line d;
+  input = λ unused. keeps_line d;
   disk = λ unused. record {
     disk = record { held = refl; no_more = λ image leaves. leaves; no_less = λ image leaves. leaves };
     extent = refl;
     disk_faults = refl;
   };
-  told = λ unused. refl;
+  announced = λ unused. refl;
   memory = λ pulls none. keeps_line d;
   bits = λ pulls. omega arith;
 }
@@ -78,14 +81,14 @@ still_unused form tells d before now s t answer = record {
 pub table_has_cause : (tells : Tells) (d : State) (written : Option (List ℕ)) (s : ℕ) (answer : Outcome) → IsOfTable answer
     → HasCause (idle tells d written s answer)
 table_has_cause tells d written s answer of = record {
-  line = λ e. absurd (rw e at of);
+  input = λ e. absurd (rw e at of);
   write = λ e. absurd (rw e at of);
   disk = λ e. absurd (rw e at of);
 }
 
 idle_passes : (form : Form) (tells : Tells) (d : State) (written : Option (List ℕ)) (s : ℕ) (answer : Outcome)
     → PassesOverNoFault form (idle tells d written s answer)
-idle_passes form tells d written s answer = record { line = λ read covers. refl; write = λ other covers. refl; disk = λ other. refl }
+idle_passes form tells d written s answer = record { input = λ read covers. refl; write = λ other covers. refl; disk = λ other. refl }
 
 -- a report of a table is the work of `check`
 pub check_works : (path : List ℕ) (t : TableRows) (tells : Tells) (d : State) (before now : Option (List ℕ)) (s u : ℕ) (answer : Outcome)
@@ -109,14 +112,14 @@ check_works path t tells d before now s u answer own reports sink quiet memory =
         faults = quiet (λ e. absurd (let c : outcome.WriteFault ≡ outcome.NoMemory = sym e ∙ ended in cc));
         disk = record { held = refl; no_more = λ image leaves. leaves; no_less = λ image leaves. leaves };
         extent = record { bytes = λ told. refl; stops = λ told. refl; known = λ some. refl };
-        told = refl;
-        line = λ first. keeps_line d;
+        announced = refl;
+        input = λ first. keeps_line d;
       })
       (λ of. absurd (own_begun (check_table path) answer (λ none. none) (λ none. none) (λ none. none) of nothing))
       own;
   unused = still_unused (check_table path) tells d before now s u answer;
   causes = has_cause (check_table path) _ own (λ pulls. absurd pulls) (λ text. sink) (λ image. absurd image);
-  no_fault_passed_over = record { line = λ read covers. refl; write = λ other covers. quiet other; disk = λ other. refl };
+  no_fault_passed_over = record { input = λ read covers. refl; write = λ other covers. quiet other; disk = λ other. refl };
   does = λ past. reports;
   complete = λ whole faultless. report_done path answer own (λ e. faultless.sink tt (sink e));
 }
@@ -155,7 +158,7 @@ carried form r t reads read end sound bounded quiet works = record {
   refusal = works.refusal;
   unused = works.unused;
   table_cause = λ e. absurd (own_not_table form r.work.answer works.answer e);
-  table_quiet = λ other. quiet;
+  no_table_fault = λ other. quiet;
   causes = works.causes;
   no_fault_passed_over = works.no_fault_passed_over;
   carries_out = its_table (table_path form) r.rest_before r.rest_now t _ reads read end works.does;
@@ -173,7 +176,7 @@ carried_alone form r none quiet bounded works = record {
   refusal = (works (table_or None)).refusal;
   unused = (works (table_or None)).unused;
   table_cause = λ e. absurd (own_not_table form r.work.answer (works (table_or None)).answer e);
-  table_quiet = λ other. quiet;
+  no_table_fault = λ other. quiet;
   causes = (works (table_or None)).causes;
   no_fault_passed_over = (works (table_or None)).no_fault_passed_over;
   carries_out = rw none (λ t. (works t).does);
@@ -189,6 +192,8 @@ does_nothing (stream_line path) r tells d written s answer same sound reads of =
     (table_or r.rest_before, table_told r.rest_before, rw same (λ past. absurd (table_not_past answer of past)))
 does_nothing (list_bits path) r tells d written s answer same sound reads of =
     (table_or r.rest_before, table_told r.rest_before, rw same (λ past. absurd (table_not_past answer of past)))
+does_nothing encode_bytes r tells d written s answer same sound reads of = absurd (let e : false ≡ true = reads in cc)
+does_nothing decode_levels r tells d written s answer same sound reads of = absurd (let e : false ≡ true = reads in cc)
 does_nothing (format_image path image slots payload) r tells d written s answer same sound reads of =
     rw same (makes_nothing tells r.rest_before slots payload d answer sound (inr of))
 does_nothing (record_line path image) r tells d written s answer same sound reads of =
@@ -212,7 +217,7 @@ table_refused form r tells d written s answer same sound reads of table bounded 
   refusal = λ nothing. rw same (idle_leaves_all tells d written s answer);
   unused = rw same (still_unused form tells d written written s s answer);
   table_cause = rw same cause;
-  table_quiet = rw same quiet;
+  no_table_fault = rw same quiet;
   causes = rw same (table_has_cause tells d written s answer of);
   no_fault_passed_over = rw same (idle_passes form tells d written s answer);
   carries_out = does_nothing form r tells d written s answer same sound reads of;
@@ -224,6 +229,8 @@ table_refused form r tells d written s answer same sound reads of table bounded 
 nothing_carried : (form : Form) (r : CommandRun) (tells : Tells) (d : State) (written : Option (List ℕ)) (s : ℕ)
     → r.work ≡ idle tells d written s outcome.NoMemory → IsSoundDeck tells d → CarriesOut form r
 nothing_carried (recover_image image) r tells d written s same sound = rw same (λ t. recovers_nothing tells d written sound)
+nothing_carried encode_bytes r tells d written s same sound = rw same (λ t past. absurd past)
+nothing_carried decode_levels r tells d written s same sound = rw same (λ t past. absurd past)
 nothing_carried form r tells d written s same sound = does_nothing form r tells d written s outcome.NoMemory same sound refl tt
 
 nothing_read : (rest : Option (List ℕ)) → ReadsItsTable rest rest outcome.NoMemory
@@ -248,7 +255,7 @@ nothing_done form r tells d written s same rest quiet sound = record {
   refusal = λ nothing. rw same (idle_leaves_all tells d written s outcome.NoMemory);
   unused = rw same (still_unused form tells d written written s s outcome.NoMemory);
   table_cause = rw same (λ e. absurd (cc));
-  table_quiet = λ other. quiet;
+  no_table_fault = λ other. quiet;
   causes = rw same (table_has_cause tells d written s outcome.NoMemory tt);
   no_fault_passed_over = rw same (idle_passes form tells d written s outcome.NoMemory);
   carries_out = nothing_carried form r tells d written s same sound;

@@ -11,10 +11,10 @@ use Rattle.std.specs.Prelude.{IfSome}
 use Rattle.fdr_top.specs.declared.outcome.Outcome.{Outcome}
 use Rattle.fdr_top.specs.declared.outcome.Outcome.TheVariants as outcome
 use Rattle.fdr_top.specs.Stages.{EndsBeforeDeck, IsOfTable, IsPastTable, WritesNothing}
-use Rattle.fdr_top.specs.Answers.{HasImage, IsOwn, MayAnswer, PullsLine, ReadsTable, WritesText}
-use Rattle.fdr_top.specs.Answers.{KeepsLineAndFaults, MakesImage, ReadsBoth, ReadsImage}
+use Rattle.fdr_top.specs.Answers.{HasImage, IsOwn, MayAnswer, PullsInput, ReadsTable, WritesText}
+use Rattle.fdr_top.specs.Answers.{KeepsInputAndFaults, MakesImage, ReadsBoth, ReadsImage}
 use Rattle.fdr_deck.specs.State.{State}
-use Rattle.fdr_top.specs.Leaves.{CoversLineFault}
+use Rattle.fdr_top.specs.Leaves.{CoversInputFault}
 use Rattle.fdr_top.specs.Check.{Reports}
 use Rattle.fdr_io.proofs.Telling.{followed_by-nil}
 use Rattle.fdr_table.specs.Rows.{TableRows}
@@ -64,14 +64,14 @@ pub own_not_memory : (form : Form) (answer : Outcome) → IsOwn form answer → 
 own_not_memory form answer own e = rw e at own
 
 -- nor is one that it doesn't give, other than want of memory
-own_not : (form : Form) (answer other : Outcome) → (answer ≡ outcome.NoMemory) ⊎ IsOwn form answer → (other ≡ outcome.NoMemory → ⊥)
+pub own_not : (form : Form) (answer other : Outcome) → (answer ≡ outcome.NoMemory) ⊎ IsOwn form answer → (other ≡ outcome.NoMemory → ⊥)
     → (IsOwn form other → ⊥) → answer ≡ other → ⊥
 own_not form answer other of left not e = ⊎_elim
     (λ (memory : answer ≡ outcome.NoMemory). left (sym e ∙ memory))
     (λ (own : IsOwn form answer). not (rw e at own))
     of
 
-pub own_not_line : (form : Form) (answer : Outcome) → (answer ≡ outcome.NoMemory) ⊎ IsOwn form answer → (PullsLine form → ⊥)
+pub own_not_line : (form : Form) (answer : Outcome) → (answer ≡ outcome.NoMemory) ⊎ IsOwn form answer → (PullsInput form → ⊥)
     → answer ≡ outcome.ReadFault input.Line → ⊥
 own_not_line form answer of = own_not form answer (outcome.ReadFault input.Line) of (λ e. absurd (cc))
 
@@ -95,25 +95,28 @@ own_begun form (outcome.ReadFault input.Table) reads makes both own nothing = ow
 own_begun form outcome.NoMemory reads makes both own nothing = own
 own_begun form answer reads makes both own nothing = nothing
 
--- where an answer covers no fault of the line, none was met
+-- where an answer covers no fault of the input, none was met
 pub uncovered_line : (form : Form) (old new : State) (answer : Outcome) → (answer ≡ outcome.NoMemory) ⊎ IsOwn form answer
-    → (answer ≡ outcome.NoMemory → KeepsLineAndFaults old new) → (IsOwn form answer → answer ≢ outcome.WriteFault → new.line_faults ≡ old.line_faults)
-    → (CoversLineFault answer → ⊥) → new.line_faults ≡ old.line_faults
+    → (answer ≡ outcome.NoMemory → KeepsInputAndFaults old new) → (IsOwn form answer → answer ≢ outcome.WriteFault → new.input_faults ≡ old.input_faults)
+    → (CoversInputFault answer → ⊥) → new.input_faults ≡ old.input_faults
 uncovered_line form old new answer of memory quiet covers = ⊎_elim
     (λ none. (memory none).faults)
-    (λ own. quiet own (λ e. covers (subst CoversLineFault (sym e) tt)))
+    (λ own. quiet own (λ e. covers (subst CoversInputFault (sym e) tt)))
     of
 
--- each request but one has a table
-pub request_reads : (r : Request) → ((image : PathText) → r ≡ request.RecoverImage image → ⊥) → ReadsTable (form_of_request r)
-request_reads (request.CheckTable table) other = refl
-request_reads (request.StreamLine table) other = refl
-request_reads (request.ListBits table) other = refl
-request_reads (request.FormatImage table image slots payload) other = refl
-request_reads (request.RecordLine table image) other = refl
-request_reads (request.RecoverImage image) other = absurd (other image refl)
-request_reads (request.ListImage table image) other = refl
-request_reads (request.Drill table image seed frames) other = refl
+-- each request but three has a table
+pub request_reads : (r : Request) → (r ≡ request.Encode → ⊥) → (r ≡ request.Decode → ⊥)
+    → ((image : PathText) → r ≡ request.RecoverImage image → ⊥) → ReadsTable (form_of_request r)
+request_reads (request.CheckTable table) encode decode recover = refl
+request_reads (request.StreamLine table) encode decode recover = refl
+request_reads (request.ListBits table) encode decode recover = refl
+request_reads request.Encode encode decode recover = absurd (encode refl)
+request_reads request.Decode encode decode recover = absurd (decode refl)
+request_reads (request.FormatImage table image slots payload) encode decode recover = refl
+request_reads (request.RecordLine table image) encode decode recover = refl
+request_reads (request.RecoverImage image) encode decode recover = absurd (recover image refl)
+request_reads (request.ListImage table image) encode decode recover = refl
+request_reads (request.Drill table image seed frames) encode decode recover = refl
 
 -- what holds of each form holds of the one that words are of
 pub of_form : (asked : Option Form) (P : Form → Type 0) → ((form : Form) → P form) → IfSome asked P

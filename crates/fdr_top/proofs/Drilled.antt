@@ -19,13 +19,14 @@ use Rattle.fdr_readout.specs.Summary.{summary_of}
 use Rattle.fdr_recorder.proofs.Starting.{Starts-looked}
 use Rattle.fdr_words.specs.Forms.{drill_image}
 use Rattle.fdr_top.specs.Stages.{EndsReading, EndsRecording, IsPastTable}
-use Rattle.fdr_top.specs.Answers.{IsOwn, KeepsLineAndFaults}
+use Rattle.fdr_top.specs.Answers.{IsOwn, KeepsInputAndFaults}
 use Rattle.fdr_top.specs.Complete.{HasRoom}
 use Rattle.fdr_top.specs.Drill.{DrillsImage, drill_line, drill_text}
 use Rattle.fdr_top.specs.List.{RefusesOpening}
-use Rattle.fdr_top.specs.Record.{RecordsBlocks, RefusesSession, new_blocks, next_in}
+use Rattle.fdr_top.specs.Record.{RecordsStream, RefusesRecording, new_blocks, next_in}
 use Rattle.fdr_top.specs.Recording.{RecordsSupply}
-use Rattle.fdr_top.specs.Recover.{OnlyLooks, payloads_of, run_in}
+use Rattle.fdr_recover.specs.Payloads.{payloads_of, run_in}
+use Rattle.fdr_top.specs.Recover.{OnlyLooks}
 use Rattle.fdr_top.specs.Refusals.{RefusesImage}
 use Rattle.fdr_top.specs.Supply.{RepresentsSupply, drawn_trace}
 use Rattle.fdr_top.specs.Tables.{ByTable}
@@ -33,15 +34,15 @@ use Rattle.fdr_top.specs.declared.outcome.Outcome.{Outcome}
 use Rattle.fdr_top.specs.declared.outcome.Outcome.TheVariants as outcome
 use Rattle.fdr_top.specs.declared.supply.RecordSource.{RecordSource}
 use Rattle.fdr_top.specs.declared.supply.RecordSource.TheVariants as source
-use Rattle.fdr_top.proofs.Drills.{RecordsBlocks-after, RecordsBlocks-before}
+use Rattle.fdr_top.proofs.Drills.{RecordsStream-after, RecordsStream-before}
 use Rattle.fdr_top.proofs.ListedImages.{IsOfBlocks}
 use Rattle.fdr_top.proofs.Making.{table_or, table_told}
 use Rattle.fdr_top.proofs.Readable.{lists_survivors, lists_undamaged}
-use Rattle.fdr_top.proofs.RecordLines.{no_differ, no_first, RecordsBlocks-nothing, RecordsBlocks-unbegun, all_past}
+use Rattle.fdr_top.proofs.RecordLines.{no_differ, no_first, RecordsStream-nothing, RecordsStream-unbegun, all_past}
 
 -- what was recorded, and what was written of it
 drills : (t : TableRows) (seed frames : ℕ) (tells : Tells) (old new : State) (before now : Option (List ℕ)) (answer : Outcome) → IsInRange t → IsSound t
-    → RecordsBlocks t tells (generated_trace t seed frames) old new answer
+    → RecordsStream t tells (generated_trace t seed frames) old new answer
     → (answer ≡ outcome.Done → IsTrue tells.bytes → now
     ≡ followed_by before (drill_line t (length (new_blocks t old.held (generated_trace t seed frames))) new.held))
     → (answer ≡ outcome.WriteFault → IsTrue tells.bytes → (k : ℕ) × (now ≡ followed_by before
@@ -74,7 +75,7 @@ pub drill_shut : (t : TableRows) (seed frames : ℕ) (tells : Tells) (old new : 
     → DrillsImage t seed frames tells old new written written answer
 drill_shut t seed frames tells old new written answer range sound deck looks shut image =
     drills t seed frames tells old new written written answer range sound
-    (RecordsBlocks-unbegun t tells (generated_trace t seed frames) old new answer (Starts-looked tells (header_in old.held) old new deck looks.quiet)
+    (RecordsStream-unbegun t tells (generated_trace t seed frames) old new answer (Starts-looked tells (header_in old.held) old new deck looks.disk_work)
     (shut_records_none answer shut) (shut_not_end answer shut) image)
     (λ done. absurd (shut_records_none answer shut (subst EndsRecording (sym done) tt)))
     (λ fails. absurd (shut_records_none answer shut (subst EndsRecording (sym fails) tt)))
@@ -82,7 +83,7 @@ drill_shut t seed frames tells old new written answer range sound deck looks shu
 
 -- ---- where the recording was cut short
 
-pub session_not_all : (answer : Outcome) → RefusesSession answer → EndsRecording answer → ⊥
+pub session_not_all : (answer : Outcome) → RefusesRecording answer → EndsRecording answer → ⊥
 session_not_all (outcome.ImageRefused why) refuses all = all
 session_not_all (outcome.WordsDiffer image table) refuses all = all
 session_not_all outcome.DiskFault refuses all = all
@@ -92,12 +93,12 @@ session_not_all answer refuses all = refuses
 
 -- a trace that is generated is pulled of nothing
 drawn_blocks : (t : TableRows) (seed frames : ℕ) (tells : Tells) (a b c : State) (answer : Outcome) → IsSoundDeck tells a → OnlyLooks tells a b
-    → RecordsSupply (drawn_trace t seed frames) t tells b c answer → RecordsBlocks t tells (generated_trace t seed frames) a c answer
+    → RecordsSupply (drawn_trace t seed frames) t tells b c answer → RecordsStream t tells (generated_trace t seed frames) a c answer
 drawn_blocks t seed frames tells a b c answer sound looks is =
-    RecordsBlocks-before t tells (generated_trace t seed frames) a b c answer sound looks is.blocks
+    RecordsStream-before t tells (generated_trace t seed frames) a b c answer sound looks is.blocks
 
 pub drill_cut : (t : TableRows) (seed frames : ℕ) (tells : Tells) (a b c : State) (written : Option (List ℕ)) (answer : Outcome) → IsInRange t → IsSound t
-    → IsSoundDeck tells a → OnlyLooks tells a b → RefusesSession answer → RecordsSupply (drawn_trace t seed frames) t tells b c answer
+    → IsSoundDeck tells a → OnlyLooks tells a b → RefusesRecording answer → RecordsSupply (drawn_trace t seed frames) t tells b c answer
     → DrillsImage t seed frames tells a c written written answer
 drill_cut t seed frames tells a b c written answer range sound deck looks refuses is =
     drills t seed frames tells a c written written answer range sound (drawn_blocks t seed frames tells a b c answer deck looks is)
@@ -110,14 +111,14 @@ drill_cut t seed frames tells a b c written answer range sound deck looks refuse
 module _ (t : TableRows) (seed frames : ℕ) (tells : Tells) (a b c d : State) (h : Header) (count : ℕ) (was answer : Outcome) (before now : Option (List ℕ))
     (sound_a : IsSoundDeck tells a) (sound_c : IsSoundDeck tells c) (first : OnlyLooks tells a b)
     (is : RecordsSupply (drawn_trace t seed frames) t tells b c was) (reading : EndsReading was) (last : Looks tells c d) (of : IsOfBlocks answer)
-    (header : IsTrue tells.bytes → h ≡ header_in a.held) (blocks : IsTrue tells.bytes → next_in b.held + count ≡ c.told)
+    (header : IsTrue tells.bytes → h ≡ header_in a.held) (blocks : IsTrue tells.bytes → next_in b.held + count ≡ c.announced)
   where
-    done : RecordsBlocks t tells (generated_trace t seed frames) a c outcome.Done
+    done : RecordsStream t tells (generated_trace t seed frames) a c outcome.Done
     done = drawn_blocks t seed frames tells a b c outcome.Done sound_a first
         (subst (λ (x : Outcome). RecordsSupply (drawn_trace t seed frames) t tells b c x) (is.ends.1 reading) is)
 
-    whole : RecordsBlocks t tells (generated_trace t seed frames) a d answer
-    whole = RecordsBlocks-after t tells (generated_trace t seed frames) a c d answer sound_a sound_c done last of
+    whole : RecordsStream t tells (generated_trace t seed frames) a d answer
+    whole = RecordsStream-after t tells (generated_trace t seed frames) a c d answer sound_a sound_c done last of
 
     same_run : IsTrue tells.bytes → recovered_run h c.held ≡ run_in d.held
     same_run told =
@@ -127,7 +128,7 @@ module _ (t : TableRows) (seed frames : ℕ) (tells : Tells) (a b c d : State) (
 
     same_count : IsTrue tells.bytes → count ≡ length (new_blocks t a.held (generated_trace t seed frames))
     same_count told =
-        let stands = (done.recorded tt told).told in
+        let stands = (done.recorded tt told).announced in
         omega (arith, blocks told, stands, ap next_in first.disk.held)
 
     same_line : IsTrue tells.bytes → drill_text count (summary_of t (payloads_of (recovered_run h c.held)))
@@ -157,7 +158,7 @@ drills_nothing seed frames tells rest d written answer sound early =
       t,
       table_told rest,
       record {
-        blocks = RecordsBlocks-nothing t tells (generated_trace t seed frames) d answer sound early;
+        blocks = RecordsStream-nothing t tells (generated_trace t seed frames) d answer sound early;
         text = λ done. absurd (early (subst IsPastTable (sym done) tt));
         part = λ fails. absurd (early (subst IsPastTable (sym fails) tt));
         silent = λ done fails. refl;
@@ -198,11 +199,11 @@ begun_generator t seed frames g s same stands few =
 
 -- ---- one stretch of calls after another
 
-pub lines_then : (a b c : State) → KeepsLineAndFaults a b → KeepsLineAndFaults b c → KeepsLineAndFaults a c
+pub lines_then : (a b c : State) → KeepsInputAndFaults a b → KeepsInputAndFaults b c → KeepsInputAndFaults a c
 lines_then a b c first next = record {
-  line = next.line ∙ first.line;
+  input = next.input ∙ first.input;
   taken = next.taken ∙ first.taken;
-  before = next.before ∙ first.before;
+  pulled_before = next.pulled_before ∙ first.pulled_before;
   faults = next.faults ∙ first.faults;
 }
 

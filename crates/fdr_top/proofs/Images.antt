@@ -16,23 +16,24 @@ use Rattle.fdr_recover.specs.Looks.{Looks}
 use Rattle.fdr_recover.specs.ImageHeader.{image_fault_of, header_in}
 use Rattle.fdr_recover.specs.declared.error.RingFault.{RingFault}
 use Rattle.fdr_recover.specs.declared.error.RingFault.TheVariants as ring
-use Rattle.fdr_deck.proofs.Moments.{IsQuiet-here}
-use Rattle.fdr_deck.proofs.Quiet.{IsQuiet-then}
+use Rattle.fdr_deck.proofs.Moments.{IsDiskWork-here}
+use Rattle.fdr_deck.proofs.Quiet.{IsDiskWork-then}
 use Rattle.fdr_top.specs.declared.outcome.Outcome.{Outcome}
 use Rattle.fdr_top.specs.declared.outcome.Outcome.TheVariants as outcome
 use Rattle.fdr_words.specs.Forms.{recover_image}
 use Rattle.fdr_top.specs.Answers.{IsOwn}
-use Rattle.fdr_top.specs.Recover.{OnlyLooks, Recovers, RecoversImage, header_refusal, payloads_of, run_in}
+use Rattle.fdr_recover.specs.Payloads.{payloads_of, run_in}
+use Rattle.fdr_top.specs.Recover.{OnlyLooks, Recovers, RecoversImage, header_refusal}
 
 -- no look yet
 pub OnlyLooks-here : (tells : Tells) (d : State) → IsSoundDeck tells d → OnlyLooks tells d d
 OnlyLooks-here tells d sound = record {
   learns = record { bytes = λ told. refl; stops = λ told. refl; known = λ some. refl };
   disk = record { held = refl; no_more = λ image leaves. leaves; no_less = λ image leaves. leaves };
-  quiet = IsQuiet-here tells d.may_leave d sound (λ told image leaves. leaves);
+  disk_work = IsDiskWork-here tells d.may_leave d sound (λ told image leaves. leaves);
 }
 
--- one look behind another
+-- one look after another
 pub OnlyLooks-then : (tells : Tells) (old mid new : State) → IsSoundDeck tells old → OnlyLooks tells old mid → Looks tells mid new → OnlyLooks tells old new
 OnlyLooks-then tells old mid new sound first second = record {
   learns = record {
@@ -45,7 +46,7 @@ OnlyLooks-then tells old mid new sound first second = record {
     no_more = λ image leaves. first.disk.no_more image (second.disk.no_more image leaves);
     no_less = λ image leaves. second.disk.no_less image (first.disk.no_less image leaves);
   };
-  quiet = IsQuiet-then tells old.may_leave mid.may_leave old.may_leave old mid new sound first.quiet second.quiet
+  disk_work = IsDiskWork-then tells old.may_leave mid.may_leave old.may_leave old mid new sound first.disk_work second.disk_work
       (λ told image leaves. leaves) (λ told image leaves. first.disk.no_more image leaves);
 }
 

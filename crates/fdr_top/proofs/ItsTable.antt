@@ -10,7 +10,8 @@ use Rattle.fdr_table.specs.declared.fault.TableFault.{TableFault}
 use Rattle.fdr_top.specs.Stages.{IsOfTable, IsPastTable}
 use Rattle.fdr_top.specs.Complete.{TellsAccepted}
 use Rattle.fdr_top.specs.Limits.{piece_bytes}
-use Rattle.fdr_top.specs.Tables.{ByTable, IsAccepted, IsTableRefused, ReadsItsTable, table_in}
+use Rattle.fdr_load.specs.Tables.{IsAccepted, IsTableRefused, table_in}
+use Rattle.fdr_top.specs.Tables.{ByTable, ReadsItsTable}
 use Rattle.fdr_top.specs.declared.outcome.Outcome.{Outcome}
 use Rattle.fdr_top.specs.declared.outcome.Outcome.TheVariants as outcome
 use Rattle.fdr_top.proofs.TableAnswers.{taken_is_all, told_all, not_both, refused_told, taken_to_end, memory_is_left, table_not_past}

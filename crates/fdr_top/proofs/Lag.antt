@@ -6,12 +6,12 @@ use Rattle.std.proofs.Math.Seq.{take-append-add}
 use Rattle.fdr_bus.specs.declared.BusRecord.{BusRecord}
 use Rattle.fdr_bus.specs.Records.{good_prefix}
 use Rattle.fdr_deck.specs.State.{State, Tells, Moment}
-use Rattle.fdr_deck.specs.Calls.{KeepsTold, HasOneAnnounced}
+use Rattle.fdr_deck.specs.Calls.{KeepsAnnounced, HasOneAnnounced}
 use Rattle.fdr_deck.specs.Moments.{EachMoment, IsSoundDeck}
 use Rattle.fdr_deck.proofs.Moments.{EachMoment-weaken}
 use Rattle.fdr_top.specs.Lag.{IsInTime, IsLagMoment, KeepsUp}
-use Rattle.fdr_trace.specs.Moments.{IsLastPull, IsTraceMoment, PullsFor}
-use Rattle.fdr_trace.specs.Pulls.{PullsMore}
+use Rattle.fdr_trace.specs.Moments.{IsNeededPull, IsTraceMoment, PullsForRecord}
+use Rattle.fdr_trace.specs.Pulls.{PullsUntilDecided}
 
 pub IsInTime-more : (owed : List BusRecord → ℕ) (start : ℕ) (bytes more : List ℕ) (told told' before taken : ℕ)
     → told ≤ told' → IsInTime owed start bytes told before taken
@@ -32,7 +32,7 @@ IsInTime-more owed start bytes more told told' before taken le is =
 -- a pull made while the next record was read
 pub IsInTime-pull : (owed : List BusRecord → ℕ) (start at : ℕ) (bytes more : List ℕ) (records : List BusRecord)
     (told before taken : ℕ)
-    → at ≡ start + length bytes → owed records ≤ told → IsLastPull at bytes more records before taken
+    → at ≡ start + length bytes → owed records ≤ told → IsNeededPull at bytes more records before taken
     → IsInTime owed start (bytes ++ more) told before taken
 IsInTime-pull owed start at bytes more records told before taken is enough last =
     let n : length bytes + (before - at) ≡ before - start = omega (arith, is, last.begins) in
@@ -51,25 +51,25 @@ IsInTime-pull owed start at bytes more records told before taken is enough last 
 module _ (owed : List BusRecord → ℕ) (tells : Tells) (first old new : State)
     (bytes more : List ℕ) (records : List BusRecord) (sound : IsSoundDeck tells old)
     (up : KeepsUp owed tells first old bytes records)
-    (pulls : PullsMore tells old new bytes more) (reads : PullsFor tells old new bytes more records)
-    (told : KeepsTold old new) (fresh : old.taken < new.taken → HasOneAnnounced new) where
+    (pulls : PullsUntilDecided tells old new bytes more) (reads : PullsForRecord tells old new bytes more records)
+    (told : KeepsAnnounced old new) (fresh : old.taken < new.taken → HasOneAnnounced new) where
   pub at_moment : (m : Moment) → IsTraceMoment old bytes more records m → IsLagMoment owed first (bytes ++ more) m
   at_moment m is = record {
     pulled = ⊎_elim
         (λ here. ⊎_elim
         (λ some.
-        let now = IsInTime-more owed first.taken bytes more old.least m.told old.before old.taken is.least
+        let now = IsInTime-more owed first.taken bytes more old.least m.announced old.pulled_before old.taken is.least
         (up.least some) in
-        inr (subst (λ n. IsInTime owed first.taken (bytes ++ more) m.told n m.taken) (sym here.before)
-        (subst (λ n. IsInTime owed first.taken (bytes ++ more) m.told old.before n) (sym here.taken) now)))
+        inr (subst (λ n. IsInTime owed first.taken (bytes ++ more) m.announced n m.taken) (sym here.pulled_before)
+        (subst (λ n. IsInTime owed first.taken (bytes ++ more) m.announced old.pulled_before n) (sym here.taken) now)))
         (λ none. inl (record {
           taken = omega (arith, here.taken, up.pulls.takes.taken, none);
-          before = here.before
+          pulled_before = here.pulled_before
               ∙ up.pulls.none (omega (arith, none));
         }))
         (cases_lt 0 (length bytes)))
-        (λ pulling. inr (IsInTime-pull owed first.taken old.taken bytes more records m.told m.before m.taken
-        up.pulls.takes.taken (omega (arith, up.told, pulling.told)) pulling.last))
+        (λ pulling. inr (IsInTime-pull owed first.taken old.taken bytes more records m.announced m.pulled_before m.taken
+        up.pulls.takes.taken (omega (arith, up.announced, pulling.announced)) pulling.last))
         is.pulled;
   }
 
@@ -78,20 +78,20 @@ module _ (owed : List BusRecord → ℕ) (tells : Tells) (first old new : State)
   moments_up = EachMoment-weaken tells old new (IsTraceMoment old bytes more records)
       (IsLagMoment owed first (bytes ++ more)) at_moment reads.moments
 
-  -- behind the next record, before it is fed
-  pub least_up : 0 < length (bytes ++ more) → IsInTime owed first.taken (bytes ++ more) new.least new.before new.taken
+  -- after the next record, before it is fed
+  pub least_up : 0 < length (bytes ++ more) → IsInTime owed first.taken (bytes ++ more) new.least new.pulled_before new.taken
   least_up some = ⊎_elim
       (λ here.
       let anew = fresh (omega (arith, pulls.takes.taken, here)) in
-      IsInTime-pull owed first.taken old.taken bytes more records new.least new.before new.taken up.pulls.takes.taken
-      (omega (arith, anew.least, told.told, up.told)) (reads.last here))
+      IsInTime-pull owed first.taken old.taken bytes more records new.least new.pulled_before new.taken up.pulls.takes.taken
+      (omega (arith, anew.least, told.announced, up.announced)) (reads.last here))
       (λ none.
       let was = up.least (omega (arith, length-append bytes more, none, some)) in
-      let least : old.least ≤ new.least = ⊎_elim (λ anew. omega (arith, anew.0, told.told, sound.least))
+      let least : old.least ≤ new.least = ⊎_elim (λ anew. omega (arith, anew.0, told.announced, sound.least))
       (λ kept. omega (arith, kept.0)) told.numbers in
-      let now = IsInTime-more owed first.taken bytes more old.least new.least old.before old.taken least was in
+      let now = IsInTime-more owed first.taken bytes more old.least new.least old.pulled_before old.taken least was in
       let taken : old.taken ≡ new.taken = omega (arith, pulls.takes.taken, none) in
       let before = sym (pulls.none (omega (arith, none))) in
       subst (λ n. IsInTime owed first.taken (bytes ++ more) new.least n new.taken) before
-      (subst (λ n. IsInTime owed first.taken (bytes ++ more) new.least old.before n) taken now))
+      (subst (λ n. IsInTime owed first.taken (bytes ++ more) new.least old.pulled_before n) taken now))
       (cases_lt 0 (length more))

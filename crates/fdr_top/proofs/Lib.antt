@@ -1,10 +1,8 @@
-pub mod Pieces
 pub mod TableAnswers
 pub mod Longer
 pub mod Blocks
 pub mod Records
 pub mod TraceAnswers
-pub mod Lengths
 pub mod Commands
 pub mod Recovery
 pub mod Images
@@ -19,8 +17,10 @@ pub mod SessionEnds
 pub mod RecordLines
 pub mod OneRun
 pub mod Readable
-pub mod ListedRuns
+pub mod InputTexts
 pub mod ListedLines
+pub mod Coding
+pub mod Coded
 pub mod ListedImages
 pub mod Drills
 pub mod Drilled

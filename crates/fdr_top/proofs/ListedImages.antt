@@ -12,73 +12,73 @@ use Rattle.fdr_slot.specs.declared.image.ImageFault.{ImageFault}
 use Rattle.fdr_slot.specs.declared.image.ImageFault.TheVariants as fault
 use Rattle.fdr_recover.specs.Images.{recovered_run}
 use Rattle.fdr_recover.specs.Looks.{Looks}
-use Rattle.fdr_recover.specs.ImageHeader.{image_fault_of, header_in}
-use Rattle.fdr_recover.specs.declared.error.RingFault.{RingFault}
-use Rattle.fdr_recover.specs.declared.error.RingFault.TheVariants as ring
+use Rattle.fdr_recover.specs.ImageHeader.{image_fault_of, header_in, IsFor}
+use Rattle.fdr_recover.specs.declared.error.HeaderFault.{HeaderFault}
+use Rattle.fdr_recover.specs.declared.error.HeaderFault.TheVariants as header
 use Rattle.fdr_table.specs.Rows.{TableRows}
 use Rattle.fdr_readout.specs.Listing.{listing_of}
-use Rattle.fdr_recorder.specs.Starting.{IsFor}
 use Rattle.fdr_words.specs.Forms.{drill_image, list_image}
 use Rattle.fdr_top.specs.Stages.{IsOfTable, IsPastTable, WritesNothing}
 use Rattle.fdr_top.specs.Answers.{IsOwn}
-use Rattle.fdr_top.specs.List.{RefusesOpening, ListsImage}
+use Rattle.fdr_top.specs.List.{RefusesOpening, ListsImage, opening_refusal}
 use Rattle.fdr_top.specs.Refusals.{RefusesImage}
-use Rattle.fdr_top.specs.Recover.{OnlyLooks, header_refusal, payloads_of, run_in}
-use Rattle.fdr_top.specs.Tables.{ByTable, table_in}
+use Rattle.fdr_recover.specs.Payloads.{payloads_of, run_in}
+use Rattle.fdr_top.specs.Recover.{OnlyLooks}
+use Rattle.fdr_load.specs.Tables.{table_in}
+use Rattle.fdr_top.specs.Tables.{ByTable}
 use Rattle.fdr_top.specs.declared.outcome.Outcome.{Outcome}
 use Rattle.fdr_top.specs.declared.outcome.Outcome.TheVariants as outcome
 use Rattle.fdr_top.proofs.Images.{OnlyLooks-here, OnlyLooks-then, run_same}
 use Rattle.fdr_top.proofs.RecordLines.{disk_failed, image_refused, no_differ, no_first, refuses_nothing, takes_image}
 use Rattle.fdr_top.proofs.TableAnswers.{past_not_memory, table_not_past}
 
--- where the header isn't read
-pub header_refused : (t : TableRows) (tells : Tells) (old new : State) (f : RingFault) → (f ≡ ring.NotEmpty → ⊥) → (f ≡ ring.SeqEnd → ⊥)
-    → (IsTrue tells.bytes → (why : ImageFault) → f ≡ ring.Image why → image_fault_of old.held ≡ Some why)
-    → ((why : ImageFault) → f ≡ ring.Image why → (why ≡ fault.Small) ↔ (new.extent < 64))
-    → RefusesImage t tells old new (header_refusal f)
-header_refused t tells old new ring.NotEmpty not_empty not_end first small = absurd (not_empty refl)
-header_refused t tells old new (ring.Image found) not_empty not_end first small =
-    image_refused t tells old new found (λ told. first told found refl) (small found refl)
-header_refused t tells old new ring.DiskFault not_empty not_end first small = disk_failed t tells old new
-header_refused t tells old new ring.SeqEnd not_empty not_end first small = absurd (not_end refl)
-
-pub header_shut : (f : RingFault) → RefusesOpening (header_refusal f)
-header_shut ring.NotEmpty = tt
-header_shut (ring.Image why) = tt
-header_shut ring.DiskFault = tt
-header_shut ring.SeqEnd = tt
-
 -- where the image is for frames of other words
-pub words_refused : (t : TableRows) (tells : Tells) (old new : State) (h : Header) → (IsTrue tells.bytes → h ≡ header_in old.held)
-    → (IsTrue tells.bytes → image_fault_of old.held ≡ None) → image_size h ≤ new.extent → h.words ≢ t.frame.words
-    → RefusesImage t tells old new (outcome.WordsDiffer h.words t.frame.words)
-words_refused t tells old new h header good long other = record {
+words_refused : (t : TableRows) (tells : Tells) (old new : State) (image : ℕ) → 64 ≤ new.extent
+    → (IsTrue tells.bytes → IsFor image old.held) → image ≢ t.frame.words → RefusesImage t tells old new (outcome.WordsDiffer image t.frame.words)
+words_refused t tells old new image long for other = record {
   header = record {
     refused = λ why e told. absurd (cc);
     small = λ why e. absurd (cc);
     small_always = λ past short. absurd (omega (arith, short, long));
-    refused_always = λ why past told some. absurd (no_first old.held why (good told) some);
+    refused_always = λ why past told some. absurd (no_first old.held why (for told).no_fault some);
   };
-  words = λ image table e. same_words image table e;
-  words_always = λ image past told for differs. inl
-      (ap (λ (n : ℕ). outcome.WordsDiffer n t.frame.words) (ap (λ (x : Header). x.words) (header told) ∙ for.words));
+  words = λ found table e. same_words found table e;
+  words_always = λ found past told held differs. inl (ap (λ (n : ℕ). outcome.WordsDiffer n t.frame.words) (sym (for told).words ∙ held.words));
 }
   where
-    same_words : (image table : ℕ) → outcome.WordsDiffer h.words t.frame.words ≡ outcome.WordsDiffer image table
-        → (table ≡ t.frame.words) × (image ≢ table) × (IsTrue tells.bytes → IsFor image old.held)
-    same_words image table e =
-        let first : h.words ≡ image = cc in
+    same_words : (found table : ℕ) → outcome.WordsDiffer image t.frame.words ≡ outcome.WordsDiffer found table
+        → (table ≡ t.frame.words) × (found ≢ table) × (IsTrue tells.bytes → IsFor found old.held)
+    same_words found table e =
+        let first : image ≡ found = cc in
         let second : t.frame.words ≡ table = cc in (
           sym second,
           λ same. other (first ∙ same ∙ sym second),
-          λ told. record { no_fault = good told; words = sym (ap (λ (x : Header). x.words) (header told)) ∙ first },
+          λ told. subst (λ (n : ℕ). IsFor n old.held) first (for told),
         )
 
--- the header that was read is for the table's frames
-pub read_for : (t : TableRows) (tells : Tells) (old : State) (h : Header) → (IsTrue tells.bytes → h ≡ header_in old.held)
-    → (IsTrue tells.bytes → image_fault_of old.held ≡ None) → h.words ≡ t.frame.words → IsTrue tells.bytes → IsFor t.frame.words old.held
-read_for t tells old h header good same told =
-    record { no_fault = good told; words = sym (ap (λ (x : Header). x.words) (header told)) ∙ same }
+-- where no header for the table's frames is answered
+pub header_refused : (t : TableRows) (tells : Tells) (old new : State) (f : HeaderFault)
+    → (IsTrue tells.bytes → (why : ImageFault) → f ≡ header.Image why → image_fault_of old.held ≡ Some why)
+    → ((why : ImageFault) → f ≡ header.Image why → (why ≡ fault.Small) ↔ (new.extent < 64))
+    → ((image table : ℕ) → f ≡ header.WordsDiffer image table
+    → (table ≡ t.frame.words) × (image ≢ table) × (64 ≤ new.extent) × (IsTrue tells.bytes → IsFor image old.held))
+    → RefusesImage t tells old new (opening_refusal f)
+header_refused t tells old new (header.Image found) first small differ =
+    image_refused t tells old new found (λ told. first told found refl) (small found refl)
+header_refused t tells old new (header.WordsDiffer image table) first small differ =
+    let here = differ image table refl in
+    rw here.0 (words_refused t tells old new image here.2 here.3 (λ same. here.1 (same ∙ sym here.0)))
+header_refused t tells old new header.DiskFault first small differ = disk_failed t tells old new
+
+pub header_shut : (f : HeaderFault) → RefusesOpening (opening_refusal f)
+header_shut (header.Image why) = tt
+header_shut (header.WordsDiffer image table) = tt
+header_shut header.DiskFault = tt
+
+pub opening_not_memory : (f : HeaderFault) → opening_refusal f ≡ outcome.NoMemory → ⊥
+opening_not_memory (header.Image why) e = cc
+opening_not_memory (header.WordsDiffer image table) e = cc
+opening_not_memory header.DiskFault e = cc
 
 shut_not_done : (answer : Outcome) → RefusesOpening answer → answer ≡ outcome.Done → ⊥
 shut_not_done answer shut e = rw e at shut

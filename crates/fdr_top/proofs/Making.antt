@@ -2,14 +2,15 @@
 use Rattle.std.proofs.Common.{◌≡◌, ◌⊎◌, ⊎_elim, ℕ, List, [], Option, Some, None, refl, sym, ◌∙◌}
 use Rattle.fdr_deck.specs.State.{State, Tells}
 use Rattle.fdr_deck.specs.Moments.{IsSoundDeck}
-use Rattle.fdr_deck.proofs.Moments.{IsQuiet-here}
+use Rattle.fdr_deck.proofs.Moments.{IsDiskWork-here}
 use Rattle.fdr_slot.specs.declared.image.Header.{Header}
 use Rattle.fdr_ring.specs.Formatting.{Making}
 use Rattle.fdr_ring.proofs.Made.{empty_stop}
 use Rattle.fdr_table.specs.Rows.{TableRows}
 use Rattle.fdr_top.specs.Stages.{IsOfTable, IsPastTable}
 use Rattle.fdr_top.specs.Format.{Makes, new_header}
-use Rattle.fdr_top.specs.Tables.{ByTable, table_in}
+use Rattle.fdr_load.specs.Tables.{table_in}
+use Rattle.fdr_top.specs.Tables.{ByTable}
 use Rattle.fdr_top.specs.declared.outcome.Outcome.{Outcome}
 use Rattle.fdr_top.specs.declared.outcome.Outcome.TheVariants as outcome
 use Rattle.fdr_top.proofs.TableAnswers.{past_not_memory, table_not_past}
@@ -52,7 +53,7 @@ makes_nothing tells rest slots payload d answer sound either =
         not_empty = λ e. absurd (some e);
         learns = λ e. absurd (some e);
         kept = λ e. absurd (some e);
-        quiet = IsQuiet-here tells (Making h d) d sound
+        disk_work = IsDiskWork-here tells (Making h d) d sound
             (λ told image leaves. record { made = λ none settled. empty_stop tells h d image sound told none settled leaves; kept = λ some. leaves });
         cause = λ e. absurd (failed e);
         not_empty_always = λ past more. absurd (early past);

@@ -23,15 +23,15 @@ use Rattle.fdr_table.specs.Ranges.{IsInRange}
 use Rattle.fdr_table.specs.Rows.{TableRows}
 use Rattle.fdr_stream.specs.Blocks.{cut_block, blocks_of}
 use Rattle.fdr_stream.proofs.Later.{take-block}
-use Rattle.fdr_recorder.specs.Past.{SessionPast, all_blocks, session_bytes, numbered_block}
+use Rattle.fdr_recorder.specs.Past.{RecordingPast, all_blocks, recorded_bytes, numbered_block}
 use Rattle.fdr_readout.specs.Listing.{listing_of}
 use Rattle.fdr_readout.proofs.ReadsBack.{stream_lists_back}
 use Rattle.fdr_readout.proofs.Surviving.{surviving_run_listed}
 use Rattle.fdr_top.specs.Stages.{EndsRecording, IsPastTable}
-use Rattle.fdr_top.specs.Record.{ListsSurvivors, ListsUndamaged, RecordsBlocks, RecordsLine, new_blocks, next_in}
+use Rattle.fdr_top.specs.Record.{ListsSurvivors, ListsUndamaged, RecordsStream, RecordsTrace, new_blocks, next_in}
 use Rattle.fdr_top.specs.Recording.{RecordsSupply}
 use Rattle.fdr_top.specs.Supply.{line_trace}
-use Rattle.fdr_top.specs.Recover.{payloads_of, run_in}
+use Rattle.fdr_recover.specs.Payloads.{payloads_of, run_in}
 use Rattle.fdr_top.specs.Tables.{ByTable}
 use Rattle.fdr_top.specs.declared.outcome.Outcome.{Outcome}
 use Rattle.fdr_top.proofs.Making.{table_or, table_told}
@@ -56,10 +56,10 @@ joined p bytes (suc n) =
     ∙ sym (take-block p bytes n) ∙ ap (λ m. take (p * m) bytes) (sym one)
 
 -- the payloads of all blocks of a recording are its stream
-payloads_all : (past : SessionPast) → IsInLimits past.header → payloads_of (all_blocks past) ≡ session_bytes past
+payloads_all : (past : RecordingPast) → IsInLimits past.header → payloads_of (all_blocks past) ≡ recorded_bytes past
 payloads_all past limits =
     let p = past.header.payload in
-    let bytes = session_bytes past in
+    let bytes = recorded_bytes past in
     let n = (length bytes + p - 1) / p in
     let count : length (blocks_of p bytes) ≡ n = length-map-range_with_len (cut_block p bytes) 0 n in
     let low : 64 ≤ p = limits.least_payload in
@@ -76,10 +76,10 @@ all_left most old new none fits =
 
 -- what was recorded lists as what was sampled
 pub lists_undamaged : (t : TableRows) (tells : Tells) (records : List BusRecord) (old new : State) (answer : Outcome) → IsInRange t → IsSound t
-    → RecordsBlocks t tells records old new answer → EndsRecording answer → ListsUndamaged t tells records old new
+    → RecordsStream t tells records old new answer → EndsRecording answer → ListsUndamaged t tells records old new
 lists_undamaged t tells records old new answer range sound blocks all bytes none fits =
     let has = blocks.recorded all bytes in
-    let past : SessionPast = record { table = t; header = header_in old.held; first = next_in old.held; records = records } in
+    let past : RecordingPast = record { table = t; header = header_in old.held; first = next_in old.held; records = records } in
     let limits = limits_in old.held (blocks.good (inl all) bytes).no_fault in
     let run : run_in new.held ≡ new_blocks t old.held records =
     ap (λ h. recovered_run h new.held) has.header ∙ has.run ∙ all_left _ _ _ none fits in
@@ -92,7 +92,7 @@ pub lists_survivors : (t : TableRows) (records : List BusRecord) → IsInRange t
 lists_survivors t records range sound b q j m it = surviving_run_listed t records b q j m range sound it
 
 pub records_line : (t : TableRows) (tells : Tells) (old new : State) (answer : Outcome) → IsInRange t → IsSound t
-    → RecordsSupply line_trace t tells old new answer → RecordsLine t tells old new answer
+    → RecordsSupply line_trace t tells old new answer → RecordsTrace t tells old new answer
 records_line t tells old new answer range sound is = record {
   pulled = is.pulled;
   pulls = is.pulls;
@@ -107,7 +107,7 @@ records_line t tells old new answer range sound is = record {
 
 -- where the table isn't read, the deck isn't touched and nothing is recorded
 pub records_nothing : (tells : Tells) (rest : Option (List ℕ)) (d : State) (answer : Outcome) → IsSoundDeck tells d
-    → (IsPastTable answer → ⊥) → ByTable rest (λ (t : TableRows). RecordsLine t tells d d answer)
+    → (IsPastTable answer → ⊥) → ByTable rest (λ (t : TableRows). RecordsTrace t tells d d answer)
 records_nothing tells rest d answer sound early =
     let t = table_or rest in
     let is = RecordsSupply-nothing line_trace t tells d answer sound early in (

@@ -20,11 +20,11 @@ use Rattle.fdr_stream.specs.Kept.{StreamKept}
 use Rattle.fdr_stream.specs.Past.{RepresentsStream, stream_made}
 use Rattle.fdr_stream.proofs.Later.{due_blocks-fill}
 use Rattle.fdr_trace.specs.Kept.{TraceKept}
-use Rattle.fdr_trace.specs.Pulls.{PullsMore}
+use Rattle.fdr_trace.specs.Pulls.{PullsUntilDecided}
 use Rattle.fdr_trace.specs.Reading.{RepresentsTrace, IsNextRecord, IsTraceStopped}
 use Rattle.fdr_trace.specs.declared.TraceStop.{TraceStop}
 use Rattle.fdr_trace.specs.declared.TraceStop.TheVariants as stop
-use Rattle.fdr_trace.proofs.Pulling.{PullsMore-then}
+use Rattle.fdr_trace.proofs.Pulling.{PullsUntilDecided-then}
 use Rattle.fdr_trace.proofs.Records.{Reads-counts}
 use Rattle.fdr_top.specs.declared.outcome.Outcome.{Outcome}
 use Rattle.fdr_top.specs.declared.outcome.Outcome.TheVariants as outcome
@@ -52,14 +52,15 @@ ComesNext-read k k' bytes more records r reads next = record {
   unended = ap has_end reads.good ∙ reads.unended.unended;
 }
 
-pub PullsMore-next : (tells : Tells) (a b c : State) (bytes more : List ℕ) → PullsMore tells a b [] bytes → PullsMore tells b c bytes more
-    → PullsMore tells a c [] (bytes ++ more)
-PullsMore-next tells a b c bytes more first second = PullsMore-then tells a b c [] bytes more first second
+pub PullsUntilDecided-next : (tells : Tells) (a b c : State) (bytes more : List ℕ) → PullsUntilDecided tells a b [] bytes
+    → PullsUntilDecided tells b c bytes more
+    → PullsUntilDecided tells a c [] (bytes ++ more)
+PullsUntilDecided-next tells a b c bytes more first second = PullsUntilDecided-then tells a b c [] bytes more first second
 
 -- after the end record
 pub IsStreamedTo-end : (t : TableRows) (tells : Tells) (a c : State) (k : StreamKept) (bytes : List ℕ) (records : List BusRecord) (r : BusRecord)
-    (before now : Option (List ℕ)) → PullsMore tells a c [] bytes → good_prefix bytes ≡ records ++ r ∷ [] → is_end r ≡ true
-    → IsStreamed k t (records ++ r ∷ []) before now → c.line_faults ≡ a.line_faults →
+    (before now : Option (List ℕ)) → PullsUntilDecided tells a c [] bytes → good_prefix bytes ≡ records ++ r ∷ [] → is_end r ≡ true
+    → IsStreamed k t (records ++ r ∷ []) before now → c.input_faults ≡ a.input_faults →
     IsStreamedTo t tells a c k before now outcome.Done
 IsStreamedTo-end t tells a c k bytes records r before now pulls good ends streamed quiet = record {
   pulled = bytes;
@@ -72,7 +73,7 @@ IsStreamedTo-end t tells a c k bytes records r before now pulls good ends stream
   truncated = λ index e. absurd (cc);
   undecided = λ e. absurd (cc);
   cause = λ e. absurd (cc);
-  quiet = λ not. quiet;
+  no_fault = λ not. quiet;
 }
 
 -- the refusal of a trace that an answer names
@@ -89,12 +90,13 @@ same_cause index i why w e = cc
 
 -- where no further record comes
 pub IsStreamedTo-stop : (t : TableRows) (tells : Tells) (a b c : State) (k : StreamKept) (bytes more : List ℕ) (records : List BusRecord) (s : TraceStop)
-    (before now : Option (List ℕ)) → PullsMore tells a b [] bytes → PullsMore tells b c bytes more → IsTraceStopped tells b c (bytes ++ more) records s
-    → IsStreamed k t records before now → b.line_faults ≡ a.line_faults → (s ≢ stop.Failed → c.line_faults ≡ b.line_faults) →
+    (before now : Option (List ℕ)) → PullsUntilDecided tells a b [] bytes → PullsUntilDecided tells b c bytes more → IsTraceStopped tells b c
+    (bytes ++ more) records s
+    → IsStreamed k t records before now → b.input_faults ≡ a.input_faults → (s ≢ stop.Failed → c.input_faults ≡ b.input_faults) →
     IsStreamedTo t tells a c k before now (answer_of_stop s)
 IsStreamedTo-stop t tells a b c k bytes more records (stop.Refused index why) before now first second stopped streamed before_quiet quiet = record {
   pulled = bytes ++ more;
-  pulls = PullsMore-next tells a b c bytes more first second;
+  pulls = PullsUntilDecided-next tells a b c bytes more first second;
   streamed = subst (λ (x : List BusRecord). IsStreamed k t x before now) (sym stopped.good) streamed;
   own = λ path. tt;
   whole = λ e. absurd (cc);
@@ -103,11 +105,11 @@ IsStreamedTo-stop t tells a b c k bytes more records (stop.Refused index why) be
   truncated = λ i e told. stopped.end (same_cause index i why trace.Truncated e) told;
   undecided = λ e. absurd (cc);
   cause = λ e. absurd (cc);
-  quiet = λ not. quiet (λ e. absurd (cc)) ∙ before_quiet;
+  no_fault = λ not. quiet (λ e. absurd (cc)) ∙ before_quiet;
 }
 IsStreamedTo-stop t tells a b c k bytes more records stop.Failed before now first second stopped streamed before_quiet quiet = record {
   pulled = bytes ++ more;
-  pulls = PullsMore-next tells a b c bytes more first second;
+  pulls = PullsUntilDecided-next tells a b c bytes more first second;
   streamed = subst (λ (x : List BusRecord). IsStreamed k t x before now) (sym stopped.good) streamed;
   own = λ path. tt;
   whole = λ e. absurd (cc);
@@ -116,7 +118,7 @@ IsStreamedTo-stop t tells a b c k bytes more records stop.Failed before now firs
   truncated = λ i e. absurd (cc);
   undecided = λ e. stopped.undecided;
   cause = λ e. omega (arith, first.faults, stopped.cause);
-  quiet = λ not. absurd (not refl);
+  no_fault = λ not. absurd (not refl);
 }
 
 shorter : (t : TableRows) (bytes : List ℕ) (records later : List BusRecord) (m : ℕ) → good_prefix bytes ≡ records ++ later
@@ -129,8 +131,8 @@ shorter t bytes records later m good =
 
 -- where a block of a record couldn't be written
 pub IsStreamedPart-next : (t : TableRows) (tells : Tells) (a c : State) (bytes : List ℕ) (records later : List BusRecord) (before now : Option (List ℕ)) (m : ℕ)
-    → PullsMore tells a c [] bytes → good_prefix bytes ≡ records ++ later → now ≡ followed_by before (take m (due_text t records))
-    → c.line_faults ≡ a.line_faults → IsStreamedPart t tells a c before now
+    → PullsUntilDecided tells a c [] bytes → good_prefix bytes ≡ records ++ later → now ≡ followed_by before (take m (due_text t records))
+    → c.input_faults ≡ a.input_faults → IsStreamedPart t tells a c before now
 IsStreamedPart-next t tells a c bytes records later before now m pulls good part quiet =
     let all = 4096 * due_blocks t 4096 records in
     record {
@@ -138,15 +140,15 @@ IsStreamedPart-next t tells a c bytes records later before now m pulls good part
       pulls = pulls;
       part = (min m all, part ∙ ap (followed_by before) (shorter t bytes records later m good));
       part_of_whole = λ told.
-          let grown = good_prefix-append bytes c.line in
-          let whole : good_prefix (bytes ++ c.line) ≡ records ++ (later ++ grown.0) =
+          let grown = good_prefix-append bytes c.input in
+          let whole : good_prefix (bytes ++ c.input) ≡ records ++ (later ++ grown.0) =
           grown.1 ∙ ap (λ (x : List BusRecord). x ++ grown.0) good ∙ append_assoc records later grown.0 in
-          let line : a.line ≡ bytes ++ c.line = pulls.takes.line told in (
+          let line : a.input ≡ bytes ++ c.input = pulls.takes.input told in (
             min m all,
-            part ∙ ap (followed_by before) (shorter t (bytes ++ c.line) records (later ++ grown.0) m whole)
+            part ∙ ap (followed_by before) (shorter t (bytes ++ c.input) records (later ++ grown.0) m whole)
                 ∙ ap (λ (x : List ℕ). followed_by before (take (min m all) (stream_of t (good_prefix x)))) (sym line),
           );
-      quiet = quiet;
+      no_fault = quiet;
     }
 
 -- the good records of the bytes begin with those that were read
@@ -178,8 +180,8 @@ count_rises k k' bytes bytes' records r before after =
 
 -- ---- what was streamed when the answer is given
 
-streams_failed : (t : TableRows) (tells : Tells) (a c : State) (before now : Option (List ℕ)) (pulled : List ℕ) → PullsMore tells a c [] pulled
-    → (k : ℕ) × (now ≡ followed_by before (take k (stream_of t (good_prefix pulled)))) → (IsDecided pulled → c.line_faults ≡ a.line_faults)
+streams_failed : (t : TableRows) (tells : Tells) (a c : State) (before now : Option (List ℕ)) (pulled : List ℕ) → PullsUntilDecided tells a c [] pulled
+    → (k : ℕ) × (now ≡ followed_by before (take k (stream_of t (good_prefix pulled)))) → (IsDecided pulled → c.input_faults ≡ a.input_faults)
     → Streams t tells a c before now outcome.WriteFault
 streams_failed t tells a c before now pulled pulls part decided = record {
   pulled = pulled;
@@ -191,7 +193,7 @@ streams_failed t tells a c before now pulled pulls part decided = record {
     refused = λ index why e. absurd (cc);
     truncated = λ index e. absurd (cc);
     undecided = λ e. absurd (cc);
-    quiet = λ reading read. absurd reading;
+    no_fault = λ reading read. absurd reading;
     decided = decided;
   };
 }
@@ -199,9 +201,9 @@ streams_failed t tells a c before now pulled pulls part decided = record {
 pub Streams-part : (t : TableRows) (tells : Tells) (a c : State) (before now : Option (List ℕ)) → IsStreamedPart t tells a c before now
     → Streams t tells a c before now outcome.WriteFault
 Streams-part t tells a c before now streamed =
-    streams_failed t tells a c before now streamed.pulled streamed.pulls streamed.part (λ known. streamed.quiet)
+    streams_failed t tells a c before now streamed.pulled streamed.pulls streamed.part (λ known. streamed.no_fault)
 
--- where the trace is decided, no fault of the line was met
+-- where the trace is decided, no fault of the input was met
 streamed_decided : (pulled : List ℕ) (d d' : ℕ) (answer : Outcome) → (answer ≡ outcome.ReadFault input.Line → IsDecided pulled → ⊥)
     → (answer ≢ outcome.ReadFault input.Line → d' ≡ d) → IsDecided pulled → d' ≡ d
 streamed_decided pulled d d' (outcome.ReadFault input.Line) undecided quiet known = absurd (undecided refl known)
@@ -218,13 +220,14 @@ streamed_decided pulled d d' outcome.WriteFault undecided quiet known = quiet (�
 streamed_decided pulled d d' outcome.DiskFault undecided quiet known = quiet (λ e. absurd (cc))
 streamed_decided pulled d d' outcome.TooLong undecided quiet known = quiet (λ e. absurd (cc))
 streamed_decided pulled d d' outcome.NoMemory undecided quiet known = quiet (λ e. absurd (cc))
+streamed_decided pulled d d' (outcome.CellFault at) undecided quiet known = quiet (λ e. absurd (cc))
 
 pub Streams-failed : (t : TableRows) (tells : Tells) (a c : State) (k : StreamKept) (before middle now : Option (List ℕ)) (answer : Outcome)
     (streamed : IsStreamedTo t tells a c k before middle answer) → (m : ℕ) × (now ≡ followed_by before (take m (stream_of t (good_prefix streamed.pulled)))) →
     Streams t tells a c before now outcome.WriteFault
 Streams-failed t tells a c k before middle now answer streamed part =
     streams_failed t tells a c before now streamed.pulled streamed.pulls part
-    (streamed_decided streamed.pulled a.line_faults c.line_faults answer streamed.undecided streamed.quiet)
+    (streamed_decided streamed.pulled a.input_faults c.input_faults answer streamed.undecided streamed.no_fault)
 
 pub Streams-all : (t : TableRows) (tells : Tells) (a c : State) (k : StreamKept) (before middle now : Option (List ℕ)) (answer : Outcome)
     (streamed : IsStreamedTo t tells a c k before middle answer) → now ≡ followed_by before (stream_of t (good_prefix streamed.pulled)) →
@@ -241,7 +244,7 @@ Streams-all t tells a c k before middle now answer streamed all =
         refused = streamed.refused;
         truncated = streamed.truncated;
         undecided = streamed.undecided;
-        quiet = λ reading read. streamed.quiet read;
-        decided = streamed_decided streamed.pulled a.line_faults c.line_faults answer streamed.undecided streamed.quiet;
+        no_fault = λ reading read. streamed.no_fault read;
+        decided = streamed_decided streamed.pulled a.input_faults c.input_faults answer streamed.undecided streamed.no_fault;
       };
     }

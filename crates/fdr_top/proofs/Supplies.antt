@@ -18,27 +18,27 @@ use Rattle.fdr_gen.specs.Trace.{generated_trace, sender_of}
 use Rattle.fdr_gen.proofs.Following.{trace_ends, trace_follows, trace_rises}
 use Rattle.fdr_gen.proofs.Tracing.{length-trace}
 use Rattle.fdr_trace.specs.Kept.{TraceKept}
-use Rattle.fdr_trace.specs.Moments.{PullsFor}
-use Rattle.fdr_trace.specs.Pulls.{PullsMore}
+use Rattle.fdr_trace.specs.Moments.{PullsForRecord}
+use Rattle.fdr_trace.specs.Pulls.{PullsUntilDecided}
 use Rattle.fdr_trace.specs.Reading.{IsNextRecord, RepresentsTrace}
-use Rattle.fdr_trace.proofs.Pulling.{PullsMore-none}
-use Rattle.fdr_recorder.specs.Past.{SessionPast, MayFeedSession}
-use Rattle.fdr_trace.proofs.PullMoments.{PullsFor-none}
-use Rattle.fdr_top.specs.Recording.{fed}
-use Rattle.fdr_top.specs.Supply.{RecordSupply, GivesNext, HasGenerated, RepresentsSupply, drawn_trace, line_trace, records_left, supplied}
+use Rattle.fdr_trace.proofs.Pulling.{PullsUntilDecided-none}
+use Rattle.fdr_recorder.specs.Past.{RecordingPast, MayFeedRecording}
+use Rattle.fdr_trace.proofs.PullMoments.{PullsForRecord-none}
+use Rattle.fdr_top.specs.Recording.{past_fed}
+use Rattle.fdr_top.specs.Supply.{RecordSupply, GivesNext, HasGenerated, RepresentsSupply, drawn_trace, line_trace, records_left, supplied_records}
 use Rattle.fdr_top.specs.declared.supply.RecordSource.{RecordSource}
 use Rattle.fdr_top.specs.declared.supply.RecordSource.TheVariants as source
 use Rattle.fdr_top.proofs.Longer.{InOrder-good_prefix}
 use Rattle.fdr_top.proofs.Records.{count_rises, good_so_far}
 
 -- no record that is given comes before the one before it
-pub supplied-rises : (from : RecordSupply) (bytes : List ℕ) → Rises 0 (supplied from bytes)
-supplied-rises line_trace bytes = InOrder-good_prefix bytes
-supplied-rises (drawn_trace t seed frames) bytes = trace_rises t seed frames
+pub supplied_records-rises : (from : RecordSupply) (bytes : List ℕ) → Rises 0 (supplied_records from bytes)
+supplied_records-rises line_trace bytes = InOrder-good_prefix bytes
+supplied_records-rises (drawn_trace t seed frames) bytes = trace_rises t seed frames
 
 -- all that is given begins with what was given so far
 pub supplied_so_far : (from : RecordSupply) (s : RecordSource) (bytes : List ℕ) (records : List BusRecord) → RepresentsSupply from s bytes records
-    → (later : List BusRecord) × (supplied from bytes ≡ records ++ later)
+    → (later : List BusRecord) × (supplied_records from bytes ≡ records ++ later)
 supplied_so_far line_trace (source.Line trace) bytes records is = good_so_far trace bytes records is
 supplied_so_far line_trace (source.Generator g) bytes records is = absurd is
 supplied_so_far (drawn_trace t seed frames) (source.Line trace) bytes records is = absurd is
@@ -49,18 +49,18 @@ supplied_so_far (drawn_trace t seed frames) (source.Generator g) bytes records i
 
 -- and with the next record
 pub supplied_with_next : (from : RecordSupply) (s : RecordSource) (bytes : List ℕ) (records : List BusRecord) (r : BusRecord) → GivesNext from s bytes records r
-    → (later : List BusRecord) × (supplied from bytes ≡ (records ++ r ∷ []) ++ later)
+    → (later : List BusRecord) × (supplied_records from bytes ≡ (records ++ r ∷ []) ++ later)
 supplied_with_next from s bytes records r next = ⊎_elim
     (λ (ends : is_end r ≡ true). ([], next.ends ends ∙ sym (append-nil (records ++ r ∷ []))))
     (λ (goes_on : is_end r ≡ false). supplied_so_far from s bytes (records ++ r ∷ []) (next.more goes_on))
     (cases_Bool (is_end r))
 
 -- a session may be fed the next record
-pub may_feed : (past : SessionPast) (from : RecordSupply) (s : RecordSource) (bytes : List ℕ) (records : List BusRecord) (r : BusRecord)
-    → GivesNext from s bytes records r → MayFeedSession (fed past records) r
+pub may_feed : (past : RecordingPast) (from : RecordSupply) (s : RecordSource) (bytes : List ℕ) (records : List BusRecord) (r : BusRecord)
+    → GivesNext from s bytes records r → MayFeedRecording (past_fed past records) r
 may_feed past from s bytes records r next = record { order = next.order; in_time = next.in_time; unended = next.unended }
 
--- ---- the next record of a trace on the line
+-- ---- the next record of a trace on the input
 
 pub next_of_line : (k k' : TraceKept) (bytes more : List ℕ) (records : List BusRecord) (r : BusRecord) (s : RecordSource) → s ≡ source.Line k'
     → RepresentsTrace k bytes records → IsNextRecord k' (bytes ++ more) records r → GivesNext line_trace s (bytes ++ more) records r
@@ -172,14 +172,14 @@ GivesOne g g' r = (past : GeneratorPast) → RepresentsGenerator g past
 
 pub generator_gives : (from : RecordSupply) (g g' : GeneratorKept) (bytes : List ℕ) (records : List BusRecord) (r : BusRecord) (s : RecordSource)
     (tells : Tells) (d : State) → IsSoundDeck tells d → s ≡ source.Generator g' → RepresentsSupply from (source.Generator g) bytes records → GivesOne g g' r
-    → (more : List ℕ) × PullsMore tells d d bytes more × GivesNext from s (bytes ++ more) records r × PullsFor tells d d bytes more records
+    → (more : List ℕ) × PullsUntilDecided tells d d bytes more × GivesNext from s (bytes ++ more) records r × PullsForRecord tells d d bytes more records
 generator_gives line_trace g g' bytes records r s tells d sound same is one = absurd is
 generator_gives (drawn_trace t seed frames) g g' bytes records r s tells d sound same is one =
     let at = one (record { table = t; seed = seed; frames = frames; given = length records }) is.stands in (
       [],
-      PullsMore-none tells d bytes,
+      PullsUntilDecided-none tells d bytes,
       next_of_generator g g' t seed frames bytes records r is (sym at.0) at.1 s same,
-      PullsFor-none tells d bytes records sound,
+      PullsForRecord-none tells d bytes records sound,
     )
 
 pub generator_fewer : (from : RecordSupply) (g g' : GeneratorKept) (bytes : List ℕ) (records : List BusRecord) (r : BusRecord)

@@ -16,11 +16,10 @@ use Rattle.fdr_table.specs.declared.fault.TableFault.{TableFault}
 use Rattle.fdr_table.specs.declared.fault.TableFault.TheVariants as fault
 use Rattle.fdr_top.specs.declared.outcome.Outcome.{Outcome}
 use Rattle.fdr_top.specs.declared.outcome.Outcome.TheVariants as outcome
-use Rattle.fdr_top.specs.Limits.{most_line_bytes}
+use Rattle.fdr_top.specs.Limits.{most_input_bytes}
 use Rattle.fdr_top.specs.Stages.{IsOfTable, IsPastTable}
-use Rattle.fdr_top.specs.Listbits.{Lists}
 use Rattle.fdr_readout.specs.Listing.{listing_of}
-use Rattle.fdr_top.specs.Tables.{IsAccepted, IsTableRefused, fault_in}
+use Rattle.fdr_load.specs.Tables.{IsAccepted, IsTableRefused, fault_in}
 
 -- what was taken to the end is all that was told
 pub taken_is_all : (old new : Option (List ℕ)) (taken bytes : List ℕ) → old ≡ preceded_by taken new → IfSome new (λ left. left ≡ []) → old ≡ Some bytes
@@ -91,12 +90,3 @@ table_not_past (outcome.TableRefused row f) of_table past = past
 table_not_past (outcome.ReadFault input.Table) of_table past = past
 table_not_past outcome.NoMemory of_table past = past
 table_not_past answer of_table past = of_table
-
--- all that was told of a line was listed
-pub whole_line : (t : TableRows) (tells : Tells) (old new : State) (before now : Option (List ℕ)) (answer : Outcome) → Lists t tells old new before now answer
-    → answer ≡ outcome.Done → IsTrue tells.line
-    → now ≡ followed_by before (listing_of t old.line)
-whole_line t tells old new before now answer lists done told =
-    let line : old.line ≡ lists.pulled = lists.takes.line told ∙ ap (λ (x : List ℕ). lists.pulled ++ x) (lists.end done told) ∙ append-nil lists.pulled in
-    lists.text (λ e. let c : outcome.Done ≡ outcome.WriteFault = sym done ∙ e in cc)
-    ∙ ap (λ (x : List ℕ). followed_by before (listing_of t x)) (take_all most_line_bytes lists.pulled (lists.done_within_limit done) ∙ sym line)

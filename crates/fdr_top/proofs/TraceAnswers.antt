@@ -1,4 +1,4 @@
--- The answers to a trace on a line that is told.
+-- The answers to a trace on an input that is told.
 use Rattle.std.proofs.Common.{◌≡◌, ◌≢◌, ℕ, ◌+◌, ◌*◌, ◌≤◌, ◌⊎◌, inl, inr, ⊎_elim, true, false, List, []}
 use Rattle.std.proofs.Common.{◌++◌, length, take, Option, Some, None, ap, sym, refl, ◌∙◌}
 use Rattle.std.proofs.Common.{eqb-true, length-append, arith}
@@ -15,7 +15,7 @@ use Rattle.fdr_bus.specs.Records.{IsDecided, fault_after, good_prefix, has_end, 
 use Rattle.fdr_bus.proofs.TraceLemmas.{good_prefix-decided, trace_fault-ended}
 use Rattle.fdr_bus.proofs.WholeRecords.{record_bytes-append}
 use Rattle.fdr_deck.specs.State.{State, Tells}
-use Rattle.fdr_trace.specs.Pulls.{PullsMore}
+use Rattle.fdr_trace.specs.Pulls.{PullsUntilDecided}
 use Rattle.fdr_words.specs.Forms.{stream_line}
 use Rattle.fdr_table.specs.Rows.{TableRows}
 use Rattle.fdr_sampler.specs.Stream.{stream_of}
@@ -83,50 +83,50 @@ unfolding trace_fault
 trace_fault-decided bytes more decided =
     ap (λ good. fault_after good (bytes ++ more)) (good_prefix-decided bytes more decided) ∙ fault_after-decided (good_prefix bytes) bytes more decided
 
--- the refusal of the part that was pulled is that of the whole line
-pub refused_line : (tells : Tells) (old new : State) (pulled : List ℕ) (index : ℕ) (why : TraceFault) → PullsMore tells old new [] pulled
-    → trace_fault pulled ≡ Some (index, why) → (why ≡ trace.Truncated → new.line ≡ []) → IsTrue tells.line → trace_fault old.line ≡ Some (index, why)
+-- the refusal of the part that was pulled is that of the whole input
+pub refused_line : (tells : Tells) (old new : State) (pulled : List ℕ) (index : ℕ) (why : TraceFault) → PullsUntilDecided tells old new [] pulled
+    → trace_fault pulled ≡ Some (index, why) → (why ≡ trace.Truncated → new.input ≡ []) → IsTrue tells.input → trace_fault old.input ≡ Some (index, why)
 refused_line tells old new pulled index why pulls first end told =
-    ap trace_fault (pulls.takes.line told) ∙ ⊎_elim
+    ap trace_fault (pulls.takes.input told) ∙ ⊎_elim
     (λ (short : why ≡ trace.Truncated). ap trace_fault (ap (λ (x : List ℕ). pulled ++ x) (end short) ∙ append-nil pulled) ∙ first)
-    (λ (decided : IsDecided pulled). trace_fault-decided pulled new.line decided ∙ first)
+    (λ (decided : IsDecided pulled). trace_fault-decided pulled new.input decided ∙ first)
     (refused_decides pulled index why first)
 
--- a line with an end record isn't refused
+-- an input with an end record isn't refused
 pub ended_unrefused : (line : List ℕ) (index : ℕ) (why : TraceFault) → has_end (good_prefix line) ≡ true → trace_fault line ≡ Some (index, why) → ⊥
 ended_unrefused line index why ended first =
     let c : ◌≡◌ {A = Option (ℕ × TraceFault)} None (Some (index, why)) = sym (trace_fault-ended line ended) ∙ first in cc
 
--- the fault that is answered is that of the whole line
+-- the fault that is answered is that of the whole input
 pub told_fault : (t : TableRows) (tells : Tells) (old new : State) (before now : Option (List ℕ)) (answer : Outcome) (index : ℕ) (why : TraceFault)
-    → Streams t tells old new before now answer → answer ≡ outcome.TraceRefused index why → IsTrue tells.line →
-    trace_fault old.line ≡ Some (index, why)
+    → Streams t tells old new before now answer → answer ≡ outcome.TraceRefused index why → IsTrue tells.input →
+    trace_fault old.input ≡ Some (index, why)
 told_fault t tells old new before now answer index why streams refused told =
     refused_line tells old new streams.pulled index why streams.pulls (streams.ends.refused index why refused)
     (λ short. streams.ends.truncated index (refused ∙ ap (outcome.TraceRefused index) short) told) told
 
 ended_line : (t : TableRows) (tells : Tells) (old new : State) (before now : Option (List ℕ)) (answer : Outcome)
-    (streams : Streams t tells old new before now answer) → answer ≡ outcome.Done → IsTrue tells.line →
-    good_prefix old.line ≡ good_prefix streams.pulled
+    (streams : Streams t tells old new before now answer) → answer ≡ outcome.Done → IsTrue tells.input →
+    good_prefix old.input ≡ good_prefix streams.pulled
 ended_line t tells old new before now answer streams done told =
-    ap good_prefix (streams.pulls.takes.line told) ∙ good_prefix-decided streams.pulled new.line (inl (streams.ends.ended done))
+    ap good_prefix (streams.pulls.takes.input told) ∙ good_prefix-decided streams.pulled new.input (inl (streams.ends.ended done))
 
 -- the whole recording was written
 pub told_stream : (t : TableRows) (tells : Tells) (old new : State) (before now : Option (List ℕ)) (answer : Outcome)
-    → Streams t tells old new before now answer → answer ≡ outcome.Done → IsTrue tells.line →
-    now ≡ followed_by before (stream_of t (good_prefix old.line))
+    → Streams t tells old new before now answer → answer ≡ outcome.Done → IsTrue tells.input →
+    now ≡ followed_by before (stream_of t (good_prefix old.input))
 told_stream t tells old new before now answer streams done told =
     streams.text (λ e. let c : outcome.Done ≡ outcome.WriteFault = sym done ∙ e in cc)
     ∙ ap (λ (x : List BusRecord). followed_by before (stream_of t x)) (sym (ended_line t tells old new before now answer streams done told))
 
--- where the line is refused, so it is answered, unless a fault came first
+-- where the input is refused, so it is answered, unless a fault came first
 pub fault_answered : (path : List ℕ) (t : TableRows) (tells : Tells) (old new : State) (before now : Option (List ℕ)) (answer : Outcome) (index : ℕ)
-    (why : TraceFault) → Streams t tells old new before now answer → IsOwn (stream_line path) answer → IsTrue tells.line
-    → trace_fault old.line ≡ Some (index, why) →
+    (why : TraceFault) → Streams t tells old new before now answer → IsOwn (stream_line path) answer → IsTrue tells.input
+    → trace_fault old.input ≡ Some (index, why) →
     (answer ≡ outcome.TraceRefused index why) ⊎ ((answer ≡ outcome.ReadFault input.Line) ⊎ (answer ≡ outcome.WriteFault))
 unfolding answer_to
 fault_answered path t tells old new before now outcome.Done index why streams own told first =
-    absurd (ended_unrefused old.line index why
+    absurd (ended_unrefused old.input index why
     (ap has_end (ended_line t tells old new before now outcome.Done streams refl told) ∙ streams.ends.ended refl) first)
 fault_answered path t tells old new before now (outcome.TraceRefused i w) index why streams own told first =
     let here = told_fault t tells old new before now (outcome.TraceRefused i w) i w streams refl told in
@@ -138,34 +138,34 @@ fault_answered path t tells old new before now answer index why streams own told
 
 -- a trace with an end record is streamed whole, where no fault came
 pub stream_done : (path : List ℕ) (t : TableRows) (tells : Tells) (old new : State) (before now : Option (List ℕ)) (answer : Outcome)
-    → Streams t tells old new before now answer → IsOwn (stream_line path) answer → IsTrue tells.line → has_end (good_prefix old.line) ≡ true →
+    → Streams t tells old new before now answer → IsOwn (stream_line path) answer → IsTrue tells.input → has_end (good_prefix old.input) ≡ true →
     (answer ≡ outcome.ReadFault input.Line → ⊥) → (answer ≡ outcome.WriteFault → ⊥) → answer ≡ outcome.Done
-stream_done path t tells old new before now outcome.Done streams own told ended line_quiet sink_quiet = refl
-stream_done path t tells old new before now (outcome.TraceRefused i w) streams own told ended line_quiet sink_quiet =
-    absurd (ended_unrefused old.line i w ended (told_fault t tells old new before now (outcome.TraceRefused i w) i w streams refl told))
-stream_done path t tells old new before now (outcome.ReadFault input.Line) streams own told ended line_quiet sink_quiet = absurd (line_quiet refl)
-stream_done path t tells old new before now outcome.WriteFault streams own told ended line_quiet sink_quiet = absurd (sink_quiet refl)
-stream_done path t tells old new before now answer streams own told ended line_quiet sink_quiet = absurd own
+stream_done path t tells old new before now outcome.Done streams own told ended no_input_fault no_sink_fault = refl
+stream_done path t tells old new before now (outcome.TraceRefused i w) streams own told ended no_input_fault no_sink_fault =
+    absurd (ended_unrefused old.input i w ended (told_fault t tells old new before now (outcome.TraceRefused i w) i w streams refl told))
+stream_done path t tells old new before now (outcome.ReadFault input.Line) streams own told ended no_input_fault no_sink_fault = absurd (no_input_fault refl)
+stream_done path t tells old new before now outcome.WriteFault streams own told ended no_input_fault no_sink_fault = absurd (no_sink_fault refl)
+stream_done path t tells old new before now answer streams own told ended no_input_fault no_sink_fault = absurd own
 
--- where no pull failed, the records that were streamed are all good ones of the line
+-- where no pull failed, the records that were streamed are all good ones of the input
 pub streamed_all : (path : List ℕ) (t : TableRows) (tells : Tells) (old new : State) (k : StreamKept) (before now : Option (List ℕ)) (answer : Outcome)
-    (streamed : IsStreamedTo t tells old new k before now answer) → IsOwn (stream_line path) answer → IsTrue tells.line
-    → (Rose old.line_faults new.line_faults → ⊥) → good_prefix streamed.pulled ≡ good_prefix old.line
+    (streamed : IsStreamedTo t tells old new k before now answer) → IsOwn (stream_line path) answer → IsTrue tells.input
+    → (Rose old.input_faults new.input_faults → ⊥) → good_prefix streamed.pulled ≡ good_prefix old.input
 streamed_all path t tells old new k before now outcome.Done streamed own told quiet =
-    sym (ap good_prefix (streamed.pulls.takes.line told) ∙ good_prefix-decided streamed.pulled new.line (inl (streamed.ended refl)))
+    sym (ap good_prefix (streamed.pulls.takes.input told) ∙ good_prefix-decided streamed.pulled new.input (inl (streamed.ended refl)))
 streamed_all path t tells old new k before now (outcome.TraceRefused index why) streamed own told quiet = sym (
-    ap good_prefix (streamed.pulls.takes.line told) ∙ ⊎_elim
+    ap good_prefix (streamed.pulls.takes.input told) ∙ ⊎_elim
     (λ (short : why ≡ trace.Truncated). ap good_prefix (ap (λ (x : List ℕ). streamed.pulled ++ x)
     (streamed.truncated index (ap (outcome.TraceRefused index) short) told) ∙ append-nil streamed.pulled))
-    (λ (decided : IsDecided streamed.pulled). good_prefix-decided streamed.pulled new.line decided)
+    (λ (decided : IsDecided streamed.pulled). good_prefix-decided streamed.pulled new.input decided)
     (refused_decides streamed.pulled index why (streamed.refused index why refl)))
 streamed_all path t tells old new k before now (outcome.ReadFault input.Line) streamed own told quiet = absurd (quiet (streamed.cause refl))
 streamed_all path t tells old new k before now outcome.WriteFault streamed own told quiet = absurd (streamed.whole refl)
 streamed_all path t tells old new k before now answer streamed own told quiet = absurd own
 
--- so what was written of their recording is a front part of that of the line
+-- so what was written of their recording is a front part of that of the input
 pub streamed_part : (path : List ℕ) (t : TableRows) (tells : Tells) (old new : State) (k : StreamKept) (before middle now : Option (List ℕ)) (answer : Outcome)
-    (streamed : IsStreamedTo t tells old new k before middle answer) → IsTrue tells.line → (Rose old.line_faults new.line_faults → ⊥)
+    (streamed : IsStreamedTo t tells old new k before middle answer) → IsTrue tells.input → (Rose old.input_faults new.input_faults → ⊥)
     → (m : ℕ) × (now ≡ followed_by before (take m (stream_of t (good_prefix streamed.pulled)))) → WritesStreamPart t old before now
 streamed_part path t tells old new k before middle now answer streamed told quiet part = (
   part.0,

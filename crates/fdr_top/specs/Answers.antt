@@ -2,10 +2,9 @@
 use Rattle.std.specs.Prelude.{◌≡◌, ◌⊎◌, Bool, true, false, IsSome}
 use Rattle.fdr_io.specs.declared.Input.TheVariants as input
 use Rattle.fdr_deck.specs.State.{State}
-use Rattle.fdr_table.specs.declared.fault.TableError.{TableError}
-use Rattle.fdr_table.specs.declared.fault.TableError.TheVariants as error
 use Rattle.fdr_words.specs.Forms.{Form, command_uses, table_path}
-use Rattle.fdr_words.specs.Forms.{InputUse, takes_nothing, takes_trace, takes_bits, ImageUse, has_no_image, makes_image, records_in_image, reads_image}
+use Rattle.fdr_words.specs.Forms.{InputUse, takes_nothing, takes_trace, takes_bits, takes_levels}
+use Rattle.fdr_words.specs.Forms.{ImageUse, has_no_image, makes_image, records_in_image, reads_image}
 use Rattle.fdr_top.specs.Stages.{Stage, at_words, at_table, at_image, at_work, out_of_memory, stage_of}
 use Rattle.fdr_top.specs.declared.outcome.Outcome.{Outcome}
 use Rattle.fdr_top.specs.declared.outcome.Outcome.TheVariants as outcome
@@ -19,16 +18,26 @@ abbrev pub IsTraceTaken : InputUse → Type 0
 IsTraceTaken takes_nothing = ⊥
 IsTraceTaken takes_trace = Unit {0}
 IsTraceTaken takes_bits = ⊥
+IsTraceTaken takes_levels = ⊥
 
+-- the input is pulled to its end, bits or levels of bits
 abbrev pub AreBitsTaken : InputUse → Type 0
 AreBitsTaken takes_nothing = ⊥
 AreBitsTaken takes_trace = ⊥
 AreBitsTaken takes_bits = Unit {0}
+AreBitsTaken takes_levels = Unit {0}
+
+abbrev pub AreLevelsTaken : InputUse → Type 0
+AreLevelsTaken takes_nothing = ⊥
+AreLevelsTaken takes_trace = ⊥
+AreLevelsTaken takes_bits = ⊥
+AreLevelsTaken takes_levels = Unit {0}
 
 abbrev pub IsInputTaken : InputUse → Type 0
 IsInputTaken takes_nothing = ⊥
 IsInputTaken takes_trace = Unit {0}
 IsInputTaken takes_bits = Unit {0}
+IsInputTaken takes_levels = Unit {0}
 
 abbrev pub IsImageUsed : ImageUse → Type 0
 IsImageUsed has_no_image = ⊥
@@ -74,13 +83,17 @@ HasImage form = IsImageUsed (command_uses form).work
 abbrev pub PullsTrace : Form → Type 0
 PullsTrace form = IsTraceTaken (command_uses form).input
 
--- the commands that pull the line to its end
+-- the commands that pull the input to its end
 abbrev pub PullsBits : Form → Type 0
 PullsBits form = AreBitsTaken (command_uses form).input
 
--- the commands that pull the line
-abbrev pub PullsLine : Form → Type 0
-PullsLine form = IsInputTaken (command_uses form).input
+-- the commands that pull levels
+abbrev pub PullsLevels : Form → Type 0
+PullsLevels form = AreLevelsTaken (command_uses form).input
+
+-- the commands that pull the input
+abbrev pub PullsInput : Form → Type 0
+PullsInput form = IsInputTaken (command_uses form).input
 
 -- the commands that write to the sink
 abbrev pub WritesText : Form → Type 0
@@ -108,7 +121,7 @@ ListsBlocks form = ReadsBoth form × IsImageOnlyRead (command_uses form).work
 
 -- the commands that use the deck
 abbrev pub UsesDeck : Form → Type 0
-UsesDeck form = HasImage form ⊎ PullsLine form
+UsesDeck form = HasImage form ⊎ PullsInput form
 
 -- which command may give an answer
 abbrev pub MayAnswer : Form → Outcome → Type 0
@@ -121,11 +134,12 @@ MayAnswer form outcome.NotEmpty = MakesImage form
 MayAnswer form (outcome.WordsDiffer image table) = ReadsBoth form
 MayAnswer form outcome.SeqEnd = RecordsImage form
 MayAnswer form (outcome.ReadFault input.Table) = ReadsTable form
-MayAnswer form (outcome.ReadFault input.Line) = PullsLine form
+MayAnswer form (outcome.ReadFault input.Line) = PullsInput form
 MayAnswer form outcome.WriteFault = WritesText form
 MayAnswer form outcome.DiskFault = HasImage form
 MayAnswer form outcome.TooLong = PullsBits form
 MayAnswer form outcome.NoMemory = Unit {0}
+MayAnswer form (outcome.CellFault at) = PullsLevels form
 
 -- an answer that a command gives once its words and its table are right, want of memory aside
 abbrev pub OwnAt : Stage → Type 0 → Type 0
@@ -138,14 +152,9 @@ OwnAt out_of_memory may = ⊥
 abbrev pub IsOwn : Form → Outcome → Type 0
 IsOwn form answer = OwnAt (stage_of answer) (MayAnswer form answer)
 
--- the line's state is as it was
-pub record KeepsLineAndFaults (old new : State) : Type 0 where
-  pub line : new.line ≡ old.line
+-- the input's state is as it was
+pub record KeepsInputAndFaults (old new : State) : Type 0 where
+  pub input : new.input ≡ old.input
   pub taken : new.taken ≡ old.taken
-  pub before : new.before ≡ old.before
-  pub faults : new.line_faults ≡ old.line_faults
-
--- the answer where a table isn't read, or isn't sound
-abbrev pub refusal : TableError → Outcome
-refusal (error.Refused r) = outcome.TableRefused r.row r.fault
-refusal error.NoMemory = outcome.NoMemory
+  pub pulled_before : new.pulled_before ≡ old.pulled_before
+  pub faults : new.input_faults ≡ old.input_faults

@@ -4,32 +4,38 @@ use Rattle.fdr_io.specs.Faults.{Rose}
 use Rattle.fdr_io.specs.declared.Input.TheVariants as input
 use Rattle.fdr_table.specs.Bounds.{most_table_bytes}
 use Rattle.fdr_table.specs.Rows.{TableRows}
-use Rattle.fdr_words.specs.Forms.{Form, check_table, stream_line, list_bits, format_image, record_line, recover_image, list_image, drill_image}
+use Rattle.fdr_words.specs.Forms.{Form, check_table, stream_line, list_bits, encode_bytes, decode_levels}
+use Rattle.fdr_words.specs.Forms.{format_image, record_line, recover_image, list_image, drill_image}
 use Rattle.fdr_words.specs.Forms.{table_path}
 use Rattle.fdr_top.specs.Stages.{IsPastTable, WritesNothing}
 use Rattle.fdr_top.specs.Answers.{IsOwn, MayAnswer, ReadsTable}
 use Rattle.fdr_top.specs.Check.{Reports}
 use Rattle.fdr_top.specs.Complete.{IsFaultless, IsFaultlessWork, IsWholeInput, IsWholeWork}
+use Rattle.fdr_top.specs.Decode.{DecodesLevels}
 use Rattle.fdr_top.specs.Drill.{DrillsImage}
+use Rattle.fdr_top.specs.Encode.{EncodesInput}
 use Rattle.fdr_top.specs.Format.{Makes, new_header}
 use Rattle.fdr_top.specs.Leaves.{HasCause, LeavesAll, LeavesUnused, PassesOverNoFault}
-use Rattle.fdr_top.specs.Limits.{TakesAtMost, piece_bytes}
+use Rattle.fdr_load.specs.Limits.{TakesAtMost}
+use Rattle.fdr_top.specs.Limits.{piece_bytes}
 use Rattle.fdr_top.specs.List.{ListsImage}
-use Rattle.fdr_top.specs.Listbits.{ListsLine}
-use Rattle.fdr_top.specs.Record.{RecordsLine}
+use Rattle.fdr_top.specs.Listbits.{ListsInput}
+use Rattle.fdr_top.specs.Record.{RecordsTrace}
 use Rattle.fdr_top.specs.Recover.{RecoversImage}
 use Rattle.fdr_top.specs.Runs.{CommandRun, WorkRun}
-use Rattle.fdr_top.specs.Stream.{StreamsLine}
+use Rattle.fdr_top.specs.Stream.{StreamsTrace}
 use Rattle.fdr_top.specs.Tables.{ByTable, ReadsItsTable}
 use Rattle.fdr_top.specs.declared.outcome.Outcome.TheVariants as outcome
 
 -- what the work of the command of a form does by a table
 abbrev pub DoesWork : Form → TableRows → WorkRun → Type 0
 DoesWork (check_table path) t r = IsPastTable r.answer → Reports t r.written_before r.written_now r.answer
-DoesWork (stream_line path) t r = IsPastTable r.answer → StreamsLine t r.tells r.old r.new r.written_before r.written_now r.answer
-DoesWork (list_bits path) t r = IsPastTable r.answer → ListsLine t r.tells r.old r.new r.written_before r.written_now r.answer
+DoesWork (stream_line path) t r = IsPastTable r.answer → StreamsTrace t r.tells r.old r.new r.written_before r.written_now r.answer
+DoesWork (list_bits path) t r = IsPastTable r.answer → ListsInput t r.tells r.old r.new r.written_before r.written_now r.answer
+DoesWork encode_bytes t r = IsPastTable r.answer → EncodesInput r.tells r.old r.new r.written_before r.written_now r.answer
+DoesWork decode_levels t r = IsPastTable r.answer → DecodesLevels r.tells r.old r.new r.written_before r.written_now r.answer
 DoesWork (format_image path image slots payload) t r = Makes (new_header slots payload t.frame.words) r.tells r.old r.new r.answer
-DoesWork (record_line path image) t r = RecordsLine t r.tells r.old r.new r.answer
+DoesWork (record_line path image) t r = RecordsTrace t r.tells r.old r.new r.answer
 DoesWork (recover_image image) t r = RecoversImage r.tells r.old r.new r.written_before r.written_now r.answer
 DoesWork (list_image path image) t r = ListsImage t r.tells r.old r.new r.written_before r.written_now r.answer
 DoesWork (drill_image path image seed frames) t r =
@@ -66,7 +72,7 @@ pub record RunsCommand (form : Form) (r : CommandRun) : Type 0 where
   pub refusal : WritesNothing r.work.answer → LeavesAll r.work
   pub unused : LeavesUnused form r.work
   pub table_cause : r.work.answer ≡ outcome.ReadFault input.Table → Rose r.table_before r.table_now
-  pub table_quiet : r.work.answer ≢ outcome.ReadFault input.Table → r.table_now ≡ r.table_before
+  pub no_table_fault : r.work.answer ≢ outcome.ReadFault input.Table → r.table_now ≡ r.table_before
   pub causes : HasCause r.work
   pub no_fault_passed_over : PassesOverNoFault form r.work
   -- What it does.

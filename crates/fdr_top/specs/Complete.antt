@@ -1,20 +1,22 @@
 -- When a command does all that it is asked, or memory ends.
 use Rattle.std.specs.Prelude.{◌≡◌, ℕ, ◌+◌, ◌^◌, ◌≤◌, true, List, length, Option, Some, None, IsTrue}
 use Rattle.fdr_io.specs.Faults.{Rose}
+use Rattle.fdr_biphase.specs.Cells.{bits_of_bytes}
+use Rattle.fdr_biphase.specs.Phases.{missing_place}
 use Rattle.fdr_bus.specs.declared.BusRecord.{BusRecord}
 use Rattle.fdr_bus.specs.Records.{good_prefix, has_end}
 use Rattle.fdr_deck.specs.State.{State, Tells}
-use Rattle.fdr_recover.specs.ImageHeader.{image_fault_of}
-use Rattle.fdr_words.specs.Forms.{Form, check_table, stream_line, list_bits, format_image, record_line, recover_image, list_image, drill_image}
+use Rattle.fdr_recover.specs.ImageHeader.{image_fault_of, IsFor}
+use Rattle.fdr_words.specs.Forms.{Form, check_table, stream_line, list_bits, encode_bytes, decode_levels}
+use Rattle.fdr_words.specs.Forms.{format_image, record_line, recover_image, list_image, drill_image}
 use Rattle.fdr_words.specs.Forms.{table_path}
-use Rattle.fdr_top.specs.Answers.{HasImage, PullsLine, ReadsTable, WritesText}
+use Rattle.fdr_top.specs.Answers.{HasImage, PullsInput, ReadsTable, WritesText}
 use Rattle.fdr_top.specs.Runs.{CommandRun, WorkRun}
-use Rattle.fdr_top.specs.Limits.{most_line_bytes}
+use Rattle.fdr_top.specs.Limits.{most_input_bytes}
 use Rattle.fdr_gen.specs.Trace.{generated_trace}
 use Rattle.fdr_table.specs.Rows.{TableRows}
-use Rattle.fdr_recorder.specs.Starting.{IsFor}
 use Rattle.fdr_top.specs.Record.{new_blocks, next_in}
-use Rattle.fdr_top.specs.Tables.{IsAccepted, table_in}
+use Rattle.fdr_load.specs.Tables.{IsAccepted, table_in}
 
 -- a source that tells its bytes, whose table is accepted
 abbrev pub TellsAccepted : Option (List ℕ) → Type 0
@@ -28,11 +30,14 @@ pub record HasRoom (t : TableRows) (d : State) (records : List BusRecord) : Type
 -- what the work of the command of a form needs is whole, where it is done by this table
 abbrev pub IsWholeWork : Form → TableRows → Tells → State → Type 0
 IsWholeWork (check_table path) t tells d = Unit {0}
-IsWholeWork (stream_line path) t tells d = IsTrue tells.line × (has_end (good_prefix d.line) ≡ true)
-IsWholeWork (list_bits path) t tells d = IsTrue tells.line × (length d.line ≤ most_line_bytes)
+IsWholeWork (stream_line path) t tells d = IsTrue tells.input × (has_end (good_prefix d.input) ≡ true)
+IsWholeWork (list_bits path) t tells d = IsTrue tells.input × (length d.input ≤ most_input_bytes)
+IsWholeWork encode_bytes t tells d = IsTrue tells.input × (length d.input ≤ most_input_bytes)
+IsWholeWork decode_levels t tells d =
+    IsTrue tells.input × (length d.input ≤ most_input_bytes) × (missing_place (bits_of_bytes d.input) ≡ None)
 IsWholeWork (format_image path image slots payload) t tells d = IsTrue tells.bytes × (d.extent ≡ 0)
 IsWholeWork (record_line path image) t tells d =
-    IsTrue tells.line × (has_end (good_prefix d.line) ≡ true) × IsTrue tells.bytes × HasRoom t d (good_prefix d.line)
+    IsTrue tells.input × (has_end (good_prefix d.input) ≡ true) × IsTrue tells.bytes × HasRoom t d (good_prefix d.input)
 IsWholeWork (recover_image image) t tells d = IsTrue tells.bytes × (image_fault_of d.held ≡ None)
 IsWholeWork (list_image path image) t tells d = IsTrue tells.bytes × IsFor t.frame.words d.held
 IsWholeWork (drill_image path image seed frames) t tells d = IsTrue tells.bytes × HasRoom t d (generated_trace t seed frames)
@@ -47,16 +52,16 @@ abbrev pub IsWholeInput : Form → Option (List ℕ) → Tells → State → Typ
 IsWholeInput form rest tells d = ByAccepted (table_path form) rest (λ (t : TableRows). IsWholeWork form t tells d)
 
 -- no fault was counted
-abbrev pub IsQuietCount : ℕ → ℕ → Type 0
-IsQuietCount before now = Rose before now → ⊥
+abbrev pub CountsNoFault : ℕ → ℕ → Type 0
+CountsNoFault before now = Rose before now → ⊥
 
 -- of what the work of a form's command uses, nothing failed
 pub record IsFaultlessWork (form : Form) (r : WorkRun) : Type 0 where
-  pub line : PullsLine form → IsQuietCount r.old.line_faults r.new.line_faults
-  pub disk : HasImage form → IsQuietCount r.old.disk_faults r.new.disk_faults
-  pub sink : WritesText form → IsQuietCount r.sink_before r.sink_now
+  pub input : PullsInput form → CountsNoFault r.old.input_faults r.new.input_faults
+  pub disk : HasImage form → CountsNoFault r.old.disk_faults r.new.disk_faults
+  pub sink : WritesText form → CountsNoFault r.sink_before r.sink_now
 
 -- of what a form's command uses, nothing failed
 pub record IsFaultless (form : Form) (r : CommandRun) : Type 0 where
-  pub table : ReadsTable form → IsQuietCount r.table_before r.table_now
+  pub table : ReadsTable form → CountsNoFault r.table_before r.table_now
   pub work : IsFaultlessWork form r.work

@@ -7,8 +7,8 @@ use Rattle.fdr_table.specs.Rows.{TableRows}
 use Rattle.fdr_readout.specs.Summary.{summary_of}
 use Rattle.fdr_readout.specs.declared.tally.Summary.{Summary}
 use Rattle.fdr_top.specs.Stages.{EndsRecording, IsPastTable}
-use Rattle.fdr_top.specs.Record.{ListsSurvivors, ListsUndamaged, RecordsBlocks, new_blocks}
-use Rattle.fdr_top.specs.Recover.{payloads_of, run_in}
+use Rattle.fdr_top.specs.Record.{ListsSurvivors, ListsUndamaged, RecordsStream, new_blocks}
+use Rattle.fdr_recover.specs.Payloads.{payloads_of, run_in}
 use Rattle.fdr_top.specs.declared.outcome.Outcome.{Outcome}
 use Rattle.fdr_top.specs.declared.outcome.Outcome.TheVariants as outcome
 
@@ -22,14 +22,14 @@ unfoldable pub drill_text : ℕ → Summary → List ℕ
 drill_text blocks s =
     codes "drill" ++ field_text blocks ++ field_text s.frames ++ field_text s.rows ++ field_text s.sum ++ 10 ∷ []
 
--- the line of a drill that leaves this image, where it recorded so many blocks
+-- the line of a drill that leaves this image, where it recorded `blocks` blocks
 abbrev pub drill_line : TableRows → ℕ → List ℕ → List ℕ
 drill_line t blocks image = drill_text blocks (summary_of t (payloads_of (run_in image)))
 
 -- The trace of a seed was recorded, and the line written.
 pub record DrillsImage (t : TableRows) (seed frames : ℕ) (tells : Tells) (old new : State) (written_before written_now : Option (List ℕ))
     (answer : Outcome) : Type 0 where
-  pub blocks : RecordsBlocks t tells (generated_trace t seed frames) old new answer
+  pub blocks : RecordsStream t tells (generated_trace t seed frames) old new answer
   pub text : answer ≡ outcome.Done → IsTrue tells.bytes → written_now
       ≡ followed_by written_before (drill_line t (length (new_blocks t old.held (generated_trace t seed frames))) new.held)
   pub part : answer ≡ outcome.WriteFault → IsTrue tells.bytes → (k : ℕ) × (written_now ≡ followed_by written_before

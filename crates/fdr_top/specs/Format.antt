@@ -2,7 +2,7 @@
 use Rattle.std.specs.Prelude.{◌≡◌, ◌⊎◌, ℕ, ◌<◌, IsTrue}
 use Rattle.fdr_io.specs.Faults.{Rose}
 use Rattle.fdr_deck.specs.State.{State, Tells}
-use Rattle.fdr_deck.specs.Calls.{IsQuiet}
+use Rattle.fdr_deck.specs.Calls.{IsDiskWork}
 use Rattle.fdr_deck.specs.Disk.{IsSettled, KeepsDisk, LearnsExtent}
 use Rattle.fdr_slot.specs.declared.image.Header.{Header}
 use Rattle.fdr_slot.specs.Places.{image_size}
@@ -25,6 +25,6 @@ pub record Makes (h : Header) (tells : Tells) (old new : State) (answer : Outcom
   pub not_empty : answer ≡ outcome.NotEmpty → 0 < new.extent
   pub learns : answer ≡ outcome.NotEmpty → LearnsExtent tells old new
   pub kept : answer ≡ outcome.NotEmpty → KeepsDisk old new
-  pub quiet : IsQuiet tells (Making h old) old new
+  pub disk_work : IsDiskWork tells (Making h old) old new
   pub cause : answer ≡ outcome.DiskFault → Rose old.disk_faults new.disk_faults
   pub not_empty_always : IsPastTable answer → 0 < old.extent → (answer ≡ outcome.NotEmpty) ⊎ (answer ≡ outcome.DiskFault)

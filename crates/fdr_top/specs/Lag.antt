@@ -3,8 +3,8 @@ use Rattle.std.specs.Prelude.{◌⊎◌, ℕ, ◌+◌, ◌-◌, ◌<◌, ◌≤�
 use Rattle.fdr_bus.specs.declared.BusRecord.{BusRecord}
 use Rattle.fdr_bus.specs.Records.{good_prefix}
 use Rattle.fdr_deck.specs.State.{State, Tells, Moment}
-use Rattle.fdr_deck.specs.Moments.{HasPulled}
-use Rattle.fdr_trace.specs.Pulls.{PullsMore}
+use Rattle.fdr_deck.specs.Moments.{HasSamePulls}
+use Rattle.fdr_trace.specs.Pulls.{PullsUntilDecided}
 use Rattle.fdr_top.specs.Limits.{piece_bytes}
 
 -- The last pull that gave bytes gave at most 4,096 of these, and what is owed for the good records of those before it is
@@ -18,11 +18,11 @@ pub record IsInTime (owed : List BusRecord → ℕ) (start : ℕ) (bytes : List 
 
 -- a moment at which nothing was pulled yet, or at which what is owed is announced
 pub record IsLagMoment (owed : List BusRecord → ℕ) (first : State) (bytes : List ℕ) (m : Moment) : Type 0 where
-  pub pulled : HasPulled first m ⊎ IsInTime owed first.taken bytes m.told m.before m.taken
+  pub pulled : HasSamePulls first m ⊎ IsInTime owed first.taken bytes m.announced m.pulled_before m.taken
 
--- between two records: also the least number may be what stands at a moment, and what is owed for these records is announced
+-- between two records: also the least number may be what is at a moment, and what is owed for these records is announced
 pub record KeepsUp (owed : List BusRecord → ℕ) (tells : Tells) (first now : State) (bytes : List ℕ)
     (records : List BusRecord) : Type 0 where
-  pub pulls : PullsMore tells first now [] bytes
-  pub least : 0 < length bytes → IsInTime owed first.taken bytes now.least now.before now.taken
-  pub told : owed records ≤ now.told
+  pub pulls : PullsUntilDecided tells first now [] bytes
+  pub least : 0 < length bytes → IsInTime owed first.taken bytes now.least now.pulled_before now.taken
+  pub announced : owed records ≤ now.announced

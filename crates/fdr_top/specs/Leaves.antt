@@ -5,34 +5,34 @@ use Rattle.fdr_io.specs.declared.Input.TheVariants as input
 use Rattle.fdr_deck.specs.Calls.{LeavesDisk}
 use Rattle.fdr_deck.specs.Disk.{KeepsDisk, LearnsExtent}
 use Rattle.fdr_words.specs.Forms.{Form}
-use Rattle.fdr_top.specs.Stages.{IsBeforeLine, IsWorkEnded, stage_of}
-use Rattle.fdr_top.specs.Stages.{Ending, all_done, input_ended, input_too_long, output_cut, recording_cut}
-use Rattle.fdr_top.specs.Answers.{HasImage, KeepsLineAndFaults, ListsBlocks, PullsBits, PullsLine, RecordsImage}
-use Rattle.fdr_top.specs.Limits.{most_line_bytes, piece_bytes}
+use Rattle.fdr_top.specs.Stages.{IsBeforeInput, IsWorkEnded, stage_of}
+use Rattle.fdr_top.specs.Stages.{Ending, all_done, input_ended, input_too_long, input_without_cells, output_cut, recording_cut}
+use Rattle.fdr_top.specs.Answers.{HasImage, KeepsInputAndFaults, ListsBlocks, PullsBits, PullsInput, RecordsImage}
+use Rattle.fdr_top.specs.Limits.{most_input_bytes, piece_bytes}
 use Rattle.fdr_top.specs.Runs.{WorkRun}
 use Rattle.fdr_top.specs.declared.outcome.Outcome.{Outcome}
 use Rattle.fdr_top.specs.declared.outcome.Outcome.TheVariants as outcome
 
--- Nothing was written and no device changed; before the line is pulled, the line is as it was too.
+-- Nothing was written and no device changed; before the input is pulled, the input is as it was too.
 pub record LeavesAll (r : WorkRun) : Type 0 where
   pub written : r.written_now ≡ r.written_before
   pub faults : r.sink_now ≡ r.sink_before
   pub disk : KeepsDisk r.old r.new
   pub extent : LearnsExtent r.tells r.old r.new
-  pub told : r.new.told ≡ r.old.told
-  pub line : IsBeforeLine r.answer → KeepsLineAndFaults r.old r.new
+  pub announced : r.new.announced ≡ r.old.announced
+  pub input : IsBeforeInput r.answer → KeepsInputAndFaults r.old r.new
 
 -- What the command of this form doesn't use of the deck is as it was, and no more is pulled than its most.
 pub record LeavesUnused (form : Form) (r : WorkRun) : Type 0 where
-  pub line : (PullsLine form → ⊥) → KeepsLineAndFaults r.old r.new
+  pub input : (PullsInput form → ⊥) → KeepsInputAndFaults r.old r.new
   pub disk : (HasImage form → ⊥) → LeavesDisk r.old r.new
-  pub told : (RecordsImage form → ⊥) → r.new.told ≡ r.old.told
-  pub memory : PullsLine form → r.answer ≡ outcome.NoMemory → KeepsLineAndFaults r.old r.new
-  pub bits : PullsBits form → r.new.taken ≤ r.old.taken + most_line_bytes + piece_bytes
+  pub announced : (RecordsImage form → ⊥) → r.new.announced ≡ r.old.announced
+  pub memory : PullsInput form → r.answer ≡ outcome.NoMemory → KeepsInputAndFaults r.old r.new
+  pub bits : PullsBits form → r.new.taken ≤ r.old.taken + most_input_bytes + piece_bytes
 
 -- A fault of the deck or the sink that is answered was counted by what failed.
 pub record HasCause (r : WorkRun) : Type 0 where
-  pub line : r.answer ≡ outcome.ReadFault input.Line → Rose r.old.line_faults r.new.line_faults
+  pub input : r.answer ≡ outcome.ReadFault input.Line → Rose r.old.input_faults r.new.input_faults
   pub write : r.answer ≡ outcome.WriteFault → Rose r.sink_before r.sink_now
   pub disk : r.answer ≡ outcome.DiskFault → Rose r.old.disk_faults r.new.disk_faults
 
@@ -41,12 +41,13 @@ abbrev pub IsCutWork : Ending → Type 0
 IsCutWork all_done = ⊥
 IsCutWork input_ended = ⊥
 IsCutWork input_too_long = ⊥
+IsCutWork input_without_cells = ⊥
 IsCutWork output_cut = Unit {0}
 IsCutWork recording_cut = Unit {0}
 
--- the answers that may come in place of a fault of the line
-abbrev pub CoversLineFault : Outcome → Type 0
-CoversLineFault answer = IsWorkEnded IsCutWork (stage_of answer)
+-- the answers that may come in place of a fault of the input
+abbrev pub CoversInputFault : Outcome → Type 0
+CoversInputFault answer = IsWorkEnded IsCutWork (stage_of answer)
 
 -- an answer that may come in place of a fault of the sink: where the disk fails, what a command listed of the blocks before is
 -- still written
@@ -55,6 +56,6 @@ CoversSinkFault form answer = ListsBlocks form × (answer ≡ outcome.DiskFault)
 
 -- No fault is passed over: unless the answer is a fault of it, or covers one, the count of each object is as it was.
 pub record PassesOverNoFault (form : Form) (r : WorkRun) : Type 0 where
-  pub line : r.answer ≢ outcome.ReadFault input.Line → (CoversLineFault r.answer → ⊥) → r.new.line_faults ≡ r.old.line_faults
+  pub input : r.answer ≢ outcome.ReadFault input.Line → (CoversInputFault r.answer → ⊥) → r.new.input_faults ≡ r.old.input_faults
   pub write : r.answer ≢ outcome.WriteFault → (CoversSinkFault form r.answer → ⊥) → r.sink_now ≡ r.sink_before
   pub disk : r.answer ≢ outcome.DiskFault → r.new.disk_faults ≡ r.old.disk_faults

@@ -9,13 +9,17 @@ pub mod Traces
 pub mod Lag
 pub mod Streaming
 pub mod Check
+pub mod InputTexts
 pub mod Listbits
+pub mod Encode
+pub mod Decode
 pub mod Stream
 pub mod Format
 pub mod Recover
 pub mod Record
 pub mod List
 pub mod Drill
+pub mod Coding
 pub mod Supply
 pub mod Recording
 pub mod Leaves

@@ -4,13 +4,15 @@ use Rattle.fdr_io.specs.Told.{followed_by}
 use Rattle.fdr_deck.specs.State.{State, Tells}
 use Rattle.fdr_slot.specs.Limits.{IsInLimits}
 use Rattle.fdr_slot.specs.Places.{image_size}
-use Rattle.fdr_recover.specs.ImageHeader.{header_in}
+use Rattle.fdr_recover.specs.ImageHeader.{header_in, IsFor}
+use Rattle.fdr_recover.specs.declared.error.HeaderFault.{HeaderFault}
+use Rattle.fdr_recover.specs.declared.error.HeaderFault.TheVariants as header
 use Rattle.fdr_table.specs.Rows.{TableRows}
 use Rattle.fdr_readout.specs.Listing.{listing_of}
 use Rattle.fdr_readout.specs.Reading.{ReadsEvents, decided_past}
-use Rattle.fdr_recorder.specs.Starting.{IsFor}
 use Rattle.fdr_top.specs.Refusals.{RefusesImage}
-use Rattle.fdr_top.specs.Recover.{OnlyLooks, payloads_of, run_in}
+use Rattle.fdr_recover.specs.Payloads.{payloads_of, run_in}
+use Rattle.fdr_top.specs.Recover.{OnlyLooks}
 use Rattle.fdr_top.specs.declared.listing.ImageReader.{ImageReader}
 use Rattle.fdr_top.specs.declared.outcome.Outcome.{Outcome}
 use Rattle.fdr_top.specs.declared.outcome.Outcome.TheVariants as outcome
@@ -35,6 +37,12 @@ pub record IsOpened (t : TableRows) (tells : Tells) (old new : State) (r : Image
   pub image : IsTrue tells.bytes → IsFor t.frame.words old.held
   pub fresh : ReadsEvents t r.events (decided_past t.frame.words [])
 
+-- the answer where no header for the table's frames is answered
+abbrev pub opening_refusal : HeaderFault → Outcome
+opening_refusal (header.Image why) = outcome.ImageRefused why
+opening_refusal (header.WordsDiffer image table) = outcome.WordsDiffer image table
+opening_refusal header.DiskFault = outcome.DiskFault
+
 -- the answers where no image is opened
 abbrev pub RefusesOpening : Outcome → Type 0
 RefusesOpening outcome.Done = ⊥
@@ -50,3 +58,4 @@ RefusesOpening outcome.WriteFault = ⊥
 RefusesOpening outcome.DiskFault = Unit {0}
 RefusesOpening outcome.TooLong = ⊥
 RefusesOpening outcome.NoMemory = Unit {0}
+RefusesOpening (outcome.CellFault at) = ⊥

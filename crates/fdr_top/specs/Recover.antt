@@ -1,43 +1,27 @@
 -- What `recover` promises: the payloads of the recovered run of what the disk holds.
-use Rattle.std.specs.Prelude.{◌≡◌, ℕ, ◌+◌, ◌<◌, ◌≤◌, ◌↔◌, List, Option, Some, None, IsTrue, length, take}
-use Rattle.std.specs.List.{flat_map}
+use Rattle.std.specs.Prelude.{◌≡◌, ℕ, ◌<◌, ◌≤◌, ◌↔◌, List, Option, Some, None, IsTrue, take}
 use Rattle.fdr_io.specs.Faults.{Rose}
 use Rattle.fdr_io.specs.Told.{followed_by}
 use Rattle.fdr_deck.specs.State.{State, Tells}
-use Rattle.fdr_deck.specs.Calls.{IsQuiet}
+use Rattle.fdr_deck.specs.Calls.{IsDiskWork}
 use Rattle.fdr_deck.specs.Disk.{KeepsDisk, LearnsExtent}
-use Rattle.fdr_slot.specs.declared.image.Header.{Header}
 use Rattle.fdr_slot.specs.declared.image.ImageFault.{ImageFault}
 use Rattle.fdr_slot.specs.declared.image.ImageFault.TheVariants as fault
 use Rattle.fdr_recover.specs.Blocks.{Block}
-use Rattle.fdr_recover.specs.Images.{recovered_run, next_of, IsNextNumber, IsRecovered}
+use Rattle.fdr_recover.specs.Images.{IsRecovered}
 use Rattle.fdr_recover.specs.declared.error.RingFault.{RingFault}
 use Rattle.fdr_recover.specs.declared.error.RingFault.TheVariants as ring
 use Rattle.fdr_recover.specs.ImageHeader.{image_fault_of, header_in}
+use Rattle.fdr_recover.specs.Payloads.{payloads_of, run_in}
 use Rattle.fdr_top.specs.Refusals.{RefusesHeader}
 use Rattle.fdr_top.specs.declared.outcome.Outcome.{Outcome}
 use Rattle.fdr_top.specs.declared.outcome.Outcome.TheVariants as outcome
 
--- the payloads of blocks, one behind another
-abbrev pub payloads_of : List Block → List ℕ
-payloads_of blocks = flat_map (λ (b : Block). b.payload) blocks
-
--- the recovered run of an image, by its own header
-abbrev pub run_in : List ℕ → List Block
-run_in image = recovered_run (header_in image) image
-
--- The run of an image is the longest list of blocks that stand in it with consecutive numbers up to the greatest, and no other
+-- The run of an image is the longest list of blocks that are in it with consecutive numbers up to the greatest, and no other
 -- list is.
 pub record HasOneRun (image : List ℕ) : Type 0 where
   pub recovered : IsRecovered (header_in image) image (run_in image)
   pub only : (run : List Block) → IsRecovered (header_in image) image run → run ≡ run_in image
-
--- The blocks from the first number to the next one are the recovered run.
-pub record IsFoundRun (h : Header) (image : List ℕ) (first next : ℕ) : Type 0 where
-  pub count : first + length (recovered_run h image) ≡ next
-  pub is_next : next ≡ next_of h image
-  pub greatest : IsNextNumber h image (next_of h image)
-  pub recovered : IsRecovered h image (recovered_run h image)
 
 -- the answer where the header of an image isn't read; only a fault of the image or of the disk comes then
 abbrev pub header_refusal : RingFault → Outcome
@@ -46,11 +30,11 @@ header_refusal ring.NotEmpty = outcome.DiskFault
 header_refusal ring.DiskFault = outcome.DiskFault
 header_refusal ring.SeqEnd = outcome.DiskFault
 
--- The disk was only looked at: it is as it was, but for a length that is asked for the first time, and a stop leaves what it could leave.
+-- The disk was only looked at: it is as it was, except a length that is asked for the first time, and a stop leaves what it could leave.
 pub record OnlyLooks (tells : Tells) (old new : State) : Type 0 where
   pub learns : LearnsExtent tells old new
   pub disk : KeepsDisk old new
-  pub quiet : IsQuiet tells old.may_leave old new
+  pub disk_work : IsDiskWork tells old.may_leave old new
 
 -- The payloads of the image's run were written, or a front part of them and the answer says why.
 pub record Recovers (tells : Tells) (old new : State) (written_before written_now : Option (List ℕ)) (answer : Outcome) : Type 0 where

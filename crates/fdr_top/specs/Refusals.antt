@@ -3,9 +3,8 @@ use Rattle.std.specs.Prelude.{◌≡◌, ◌≢◌, ◌⊎◌, ◌↔◌, ◌<�
 use Rattle.fdr_deck.specs.State.{State, Tells}
 use Rattle.fdr_slot.specs.declared.image.ImageFault.{ImageFault}
 use Rattle.fdr_slot.specs.declared.image.ImageFault.TheVariants as fault
-use Rattle.fdr_recover.specs.ImageHeader.{image_fault_of}
+use Rattle.fdr_recover.specs.ImageHeader.{image_fault_of, IsFor}
 use Rattle.fdr_table.specs.Rows.{TableRows}
-use Rattle.fdr_recorder.specs.Starting.{IsFor}
 use Rattle.fdr_top.specs.Stages.{IsPastTable}
 use Rattle.fdr_top.specs.declared.outcome.Outcome.{Outcome}
 use Rattle.fdr_top.specs.declared.outcome.Outcome.TheVariants as outcome

@@ -4,11 +4,13 @@ use Rattle.fdr_io.specs.declared.Input.TheVariants as input
 use Rattle.fdr_top.specs.declared.outcome.Outcome.{Outcome}
 use Rattle.fdr_top.specs.declared.outcome.Outcome.TheVariants as outcome
 
--- how the work of a command ended: all of it was done; its input ended otherwise, or is too long; its output or its recording was cut short
+-- how the work of a command ended: all of it was done; its input ended otherwise, is too long, or isn't made of cells;
+-- its output or its recording was cut short
 pub data Ending : Type 0 where
   all_done : Ending
   input_ended : Ending
   input_too_long : Ending
+  input_without_cells : Ending
   output_cut : Ending
   recording_cut : Ending
 
@@ -35,6 +37,7 @@ stage_of outcome.WriteFault = at_work output_cut
 stage_of outcome.DiskFault = at_work recording_cut
 stage_of outcome.TooLong = at_work input_too_long
 stage_of outcome.NoMemory = out_of_memory
+stage_of (outcome.CellFault at) = at_work input_without_cells
 
 -- the words and the table are right
 abbrev pub IsStagePastTable : Stage → Type 0
@@ -89,6 +92,7 @@ abbrev pub HasReadInput : Ending → Type 0
 HasReadInput all_done = Unit {0}
 HasReadInput input_ended = Unit {0}
 HasReadInput input_too_long = ⊥
+HasReadInput input_without_cells = ⊥
 HasReadInput output_cut = ⊥
 HasReadInput recording_cut = ⊥
 
@@ -97,6 +101,7 @@ abbrev pub HasRecordedAll : Ending → Type 0
 HasRecordedAll all_done = Unit {0}
 HasRecordedAll input_ended = Unit {0}
 HasRecordedAll input_too_long = ⊥
+HasRecordedAll input_without_cells = ⊥
 HasRecordedAll output_cut = Unit {0}
 HasRecordedAll recording_cut = ⊥
 
@@ -104,6 +109,7 @@ abbrev pub IsCutRecording : Ending → Type 0
 IsCutRecording all_done = ⊥
 IsCutRecording input_ended = ⊥
 IsCutRecording input_too_long = ⊥
+IsCutRecording input_without_cells = ⊥
 IsCutRecording output_cut = ⊥
 IsCutRecording recording_cut = Unit {0}
 
@@ -115,9 +121,9 @@ IsOfTable answer = IsStageOfTable (stage_of answer)
 abbrev pub IsPastTable : Outcome → Type 0
 IsPastTable answer = IsStagePastTable (stage_of answer)
 
--- the answers that come before the line is pulled, want of memory aside
-abbrev pub IsBeforeLine : Outcome → Type 0
-IsBeforeLine answer = IsStageBeforeWork (stage_of answer)
+-- the answers that come before the input is pulled, want of memory aside
+abbrev pub IsBeforeInput : Outcome → Type 0
+IsBeforeInput answer = IsStageBeforeWork (stage_of answer)
 
 -- the answers before which the deck isn't asked for anything, want of memory aside
 abbrev pub EndsBeforeDeck : Outcome → Type 0

@@ -1,4 +1,4 @@
--- What `stream` promises: the recording of the good records of the line.
+-- What `stream` promises: the recording of the good records of the input.
 use Rattle.std.specs.Prelude.{◌≡◌, ◌≢◌, ◌⊎◌, ℕ, List, [], take, Option, Some, IsTrue}
 use Rattle.fdr_io.specs.Faults.{Rose}
 use Rattle.fdr_io.specs.Told.{followed_by}
@@ -13,7 +13,7 @@ use Rattle.fdr_sampler.specs.Exchange.{AreExchanged}
 use Rattle.fdr_sampler.specs.Stream.{stream_of}
 use Rattle.fdr_readout.specs.Listing.{listing_of}
 use Rattle.fdr_readout.specs.SampledRows.{sampled_listing}
-use Rattle.fdr_trace.specs.Pulls.{PullsMore}
+use Rattle.fdr_trace.specs.Pulls.{PullsUntilDecided}
 use Rattle.fdr_trace.specs.declared.TraceStop.{TraceStop}
 use Rattle.fdr_trace.specs.declared.TraceStop.TheVariants as stop
 use Rattle.fdr_top.specs.Traces.{EndsTrace}
@@ -25,31 +25,31 @@ abbrev pub answer_of_stop : TraceStop → Outcome
 answer_of_stop (stop.Refused index why) = outcome.TraceRefused index why
 answer_of_stop stop.Failed = outcome.ReadFault input.Line
 
--- a front part of the recording of all good records that the line has was written
+-- a front part of the recording of all good records that the input has was written
 abbrev pub WritesStreamPart : TableRows → State → Option (List ℕ) → Option (List ℕ) → Type 0
-WritesStreamPart t d before now = (k : ℕ) × (now ≡ followed_by before (take k (stream_of t (good_prefix d.line))))
+WritesStreamPart t d before now = (k : ℕ) × (now ≡ followed_by before (take k (stream_of t (good_prefix d.input))))
 
--- Of the line these bytes were pulled as those of a trace, and of the stream of their good records a front part was
+-- Of the input these bytes were pulled as those of a trace, and of the stream of their good records a front part was
 -- written, all of it but where the answer is a fault of writing.
 pub record Streams (t : TableRows) (tells : Tells) (old new : State) (written_before written_now : Option (List ℕ)) (answer : Outcome) : Type 0 where
   pub pulled : List ℕ
-  pub pulls : PullsMore tells old new [] pulled
+  pub pulls : PullsUntilDecided tells old new [] pulled
   pub text : answer ≢ outcome.WriteFault → written_now ≡ followed_by written_before (stream_of t (good_prefix pulled))
   pub part : (k : ℕ) × (written_now ≡ followed_by written_before (take k (stream_of t (good_prefix pulled))))
   pub ends : EndsTrace tells old new pulled answer
 
 -- The trace was recorded: what was pulled, what was written, that it lists back, and which refusal is answered.
-pub record StreamsLine (t : TableRows) (tells : Tells) (old new : State) (written_before written_now : Option (List ℕ)) (answer : Outcome) : Type 0 where
+pub record StreamsTrace (t : TableRows) (tells : Tells) (old new : State) (written_before written_now : Option (List ℕ)) (answer : Outcome) : Type 0 where
   pub streams : Streams t tells old new written_before written_now answer
-  pub whole : answer ≡ outcome.Done → IsTrue tells.line
-      → written_now ≡ followed_by written_before (stream_of t (good_prefix old.line))
-  -- where no pull failed, nothing was written that isn't in the recording of all of the line
-  pub part_of_whole : IsTrue tells.line → (Rose old.line_faults new.line_faults → ⊥) → WritesStreamPart t old written_before written_now
-  pub lists_back : listing_of t (stream_of t (good_prefix old.line)) ≡ sampled_listing t (good_prefix old.line)
+  pub whole : answer ≡ outcome.Done → IsTrue tells.input
+      → written_now ≡ followed_by written_before (stream_of t (good_prefix old.input))
+  -- where no pull failed, nothing was written that isn't in the recording of all of the input
+  pub part_of_whole : IsTrue tells.input → (Rose old.input_faults new.input_faults → ⊥) → WritesStreamPart t old written_before written_now
+  pub lists_back : listing_of t (stream_of t (good_prefix old.input)) ≡ sampled_listing t (good_prefix old.input)
   -- Words of one time on different buses or with different labels may come in either order.
-  pub exchanged : (others : List BusRecord) → AreExchanged (good_prefix old.line) others
-      → stream_of t (good_prefix old.line) ≡ stream_of t others
-  pub refused : (index : ℕ) (why : TraceFault) → answer ≡ outcome.TraceRefused index why → IsTrue tells.line
-      → trace_fault old.line ≡ Some (index, why)
-  pub refused_always : (index : ℕ) (why : TraceFault) → IsTrue tells.line → trace_fault old.line ≡ Some (index, why)
+  pub exchanged : (others : List BusRecord) → AreExchanged (good_prefix old.input) others
+      → stream_of t (good_prefix old.input) ≡ stream_of t others
+  pub refused : (index : ℕ) (why : TraceFault) → answer ≡ outcome.TraceRefused index why → IsTrue tells.input
+      → trace_fault old.input ≡ Some (index, why)
+  pub refused_always : (index : ℕ) (why : TraceFault) → IsTrue tells.input → trace_fault old.input ≡ Some (index, why)
       → (answer ≡ outcome.TraceRefused index why) ⊎ ((answer ≡ outcome.ReadFault input.Line) ⊎ (answer ≡ outcome.WriteFault))

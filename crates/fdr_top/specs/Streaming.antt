@@ -8,7 +8,7 @@ use Rattle.fdr_deck.specs.State.{State, Tells}
 use Rattle.fdr_bus.specs.declared.TraceFault.{TraceFault}
 use Rattle.fdr_bus.specs.declared.TraceFault.TheVariants as trace
 use Rattle.fdr_bus.specs.Records.{IsDecided, good_prefix, has_end, last_time, time_of, trace_fault}
-use Rattle.fdr_trace.specs.Pulls.{PullsMore}
+use Rattle.fdr_trace.specs.Pulls.{PullsUntilDecided}
 use Rattle.fdr_trace.specs.Reading.{RepresentsTrace}
 use Rattle.fdr_words.specs.Forms.{stream_line}
 use Rattle.fdr_top.specs.Answers.{IsOwn}
@@ -50,21 +50,21 @@ pub record IsUnbegun (r : Recording) (t : TableRows) : Type 0 where
 pub record IsStreamedTo (t : TableRows) (tells : Tells) (old new : State) (k : StreamKept) (written_before written_now : Option (List ℕ)) (answer : Outcome)
     : Type 0 where
   pub pulled : List ℕ
-  pub pulls : PullsMore tells old new [] pulled
+  pub pulls : PullsUntilDecided tells old new [] pulled
   pub streamed : IsStreamed k t (good_prefix pulled) written_before written_now
   pub own : (path : List ℕ) → IsOwn (stream_line path) answer
   pub whole : answer ≢ outcome.WriteFault
   pub ended : answer ≡ outcome.Done → has_end (good_prefix pulled) ≡ true
   pub refused : (index : ℕ) (why : TraceFault) → answer ≡ outcome.TraceRefused index why → trace_fault pulled ≡ Some (index, why)
-  pub truncated : (index : ℕ) → answer ≡ outcome.TraceRefused index trace.Truncated → IsTrue tells.line → new.line ≡ []
+  pub truncated : (index : ℕ) → answer ≡ outcome.TraceRefused index trace.Truncated → IsTrue tells.input → new.input ≡ []
   pub undecided : answer ≡ outcome.ReadFault input.Line → IsDecided pulled → ⊥
-  pub cause : answer ≡ outcome.ReadFault input.Line → Rose old.line_faults new.line_faults
-  pub quiet : answer ≢ outcome.ReadFault input.Line → new.line_faults ≡ old.line_faults
+  pub cause : answer ≡ outcome.ReadFault input.Line → Rose old.input_faults new.input_faults
+  pub no_fault : answer ≢ outcome.ReadFault input.Line → new.input_faults ≡ old.input_faults
 
 -- a front part of the stream of these bytes' good records was written
 pub record IsStreamedPart (t : TableRows) (tells : Tells) (old new : State) (written_before written_now : Option (List ℕ)) : Type 0 where
   pub pulled : List ℕ
-  pub pulls : PullsMore tells old new [] pulled
+  pub pulls : PullsUntilDecided tells old new [] pulled
   pub part : (k : ℕ) × (written_now ≡ followed_by written_before (take k (stream_of t (good_prefix pulled))))
-  pub part_of_whole : IsTrue tells.line → WritesStreamPart t old written_before written_now
-  pub quiet : new.line_faults ≡ old.line_faults
+  pub part_of_whole : IsTrue tells.input → WritesStreamPart t old written_before written_now
+  pub no_fault : new.input_faults ≡ old.input_faults

@@ -16,17 +16,17 @@ use Rattle.fdr_top.specs.declared.outcome.Outcome.TheVariants as outcome
 use Rattle.fdr_top.specs.declared.supply.RecordSource.{RecordSource}
 use Rattle.fdr_top.specs.declared.supply.RecordSource.TheVariants as source
 
--- the trace on the line, or the one that a seed generates for so many frames
+-- the trace on the input, or the one that a seed generates for a number of frames
 pub data RecordSupply : Type 0 where
   line_trace : RecordSupply
   drawn_trace : (t : TableRows) (seed frames : ℕ) → RecordSupply
 
--- all records that it gives, where these bytes are what was pulled of the line
-abbrev pub supplied : RecordSupply → List ℕ → List BusRecord
-supplied line_trace bytes = good_prefix bytes
-supplied (drawn_trace t seed frames) bytes = generated_trace t seed frames
+-- all records that it gives, where these bytes are what was pulled of the input
+abbrev pub supplied_records : RecordSupply → List ℕ → List BusRecord
+supplied_records line_trace bytes = good_prefix bytes
+supplied_records (drawn_trace t seed frames) bytes = generated_trace t seed frames
 
--- nothing is pulled but for the trace on the line
+-- nothing is pulled except the trace on the input
 abbrev pub PullsNothing : RecordSupply → List ℕ → Type 0
 PullsNothing line_trace bytes = Unit {0}
 PullsNothing (drawn_trace t seed frames) bytes = bytes ≡ []
@@ -63,13 +63,13 @@ pub record GivesNext (from : RecordSupply) (s : RecordSource) (bytes : List ℕ)
   pub in_time : r.time ≤ last_time
   pub unended : has_end records ≡ false
   pub more : is_end r ≡ false → RepresentsSupply from s bytes (records ++ r ∷ [])
-  pub ends : is_end r ≡ true → supplied from bytes ≡ records ++ r ∷ []
+  pub ends : is_end r ≡ true → supplied_records from bytes ≡ records ++ r ∷ []
   pub unpulled : PullsNothing from bytes
 
--- No further record comes, which only a trace on the line can do before its end.
+-- No further record comes, which only a trace on the input can do before its end.
 pub record HasRunOut (from : RecordSupply) (tells : Tells) (old new : State) (bytes : List ℕ) (records : List BusRecord) (answer : Outcome)
     : Type 0 where
-  pub line : from ≡ line_trace
+  pub input : from ≡ line_trace
   pub stop : TraceStop
   pub answered : answer ≡ answer_of_stop stop
   pub stopped : IsTraceStopped tells old new bytes records stop

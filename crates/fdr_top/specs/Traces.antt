@@ -1,4 +1,4 @@
--- How the trace on the line ended.
+-- How the trace on the input ended.
 use Rattle.std.specs.Prelude.{◌≡◌, ◌≢◌, ℕ, true, List, [], Some, IsTrue}
 use Rattle.fdr_io.specs.declared.Input.TheVariants as input
 use Rattle.fdr_bus.specs.Records.{IsDecided, good_prefix, has_end, trace_fault}
@@ -14,8 +14,8 @@ pub record EndsTrace (tells : Tells) (old new : State) (pulled : List ℕ) (answ
   pub ended : answer ≡ outcome.Done → has_end (good_prefix pulled) ≡ true
   pub refused : (index : ℕ) (why : TraceFault) → answer ≡ outcome.TraceRefused index why
       → trace_fault pulled ≡ Some (index, why)
-  pub truncated : (index : ℕ) → answer ≡ outcome.TraceRefused index trace.Truncated → IsTrue tells.line → new.line ≡ []
+  pub truncated : (index : ℕ) → answer ≡ outcome.TraceRefused index trace.Truncated → IsTrue tells.input → new.input ≡ []
   pub undecided : answer ≡ outcome.ReadFault input.Line → IsDecided pulled → ⊥
-  pub quiet : EndsReading answer → answer ≢ outcome.ReadFault input.Line → new.line_faults ≡ old.line_faults
-  -- once the trace is decided, no fault of the line is met
-  pub decided : IsDecided pulled → new.line_faults ≡ old.line_faults
+  pub no_fault : EndsReading answer → answer ≢ outcome.ReadFault input.Line → new.input_faults ≡ old.input_faults
+  -- once the trace is decided, no fault of the input is met
+  pub decided : IsDecided pulled → new.input_faults ≡ old.input_faults

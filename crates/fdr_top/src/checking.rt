@@ -17,7 +17,7 @@ pub fn write_report<O: Sink>(alloc: Global, sound: &Sound, out: &mut O) -> Outco
     ensures answer { (path : List ℕ) → (result ≡ Outcome.NoMemory) ⊎ IsOwn (check_table path) result }
     ensures reports { Reports sound.now (O.written out.old) (O.written out.new) result }
     ensures write_fault { result ≡ Outcome.WriteFault → Rose (O.faults out.old) (O.faults out.new) }
-    ensures write_quiet { result ≢ Outcome.WriteFault → O.faults out.new ≡ O.faults out.old }
+    ensures no_write_fault { result ≢ Outcome.WriteFault → O.faults out.new ≡ O.faults out.old }
     ensures no_memory { result ≡ Outcome.NoMemory → out.new ≡ out.old }
 {
     let text = match report(alloc, sound) {

@@ -11,18 +11,18 @@ ghost use Rattle.fdr_recover.specs.Images.{recovered_run};
 ghost use Rattle.fdr_recover.specs.Looks.{Looks};
 ghost use Rattle.fdr_gen.specs.Trace.{most_frames};
 ghost use Rattle.fdr_readout.specs.Reading.{ReadsEvents, decided_past};
-ghost use Rattle.fdr_readout.specs.Summary.{summary_of};
+ghost use Rattle.fdr_readout.specs.Summary.{no_summary, summary_of};
 ghost use Rattle.fdr_table.specs.Ranges.{IsInRange};
 ghost use Rattle.fdr_check.specs.Soundness.{IsSound};
 ghost use Rattle.fdr_words.specs.Forms.{drill_image};
 ghost use Rattle.fdr_top.specs.Stages.{WritesNothing};
-ghost use Rattle.fdr_top.specs.Answers.{IsOwn, KeepsLineAndFaults};
+ghost use Rattle.fdr_top.specs.Answers.{IsOwn, KeepsInputAndFaults};
 ghost use Rattle.fdr_top.specs.Drill.{DrillsImage, drill_text, field_text};
-ghost use Rattle.fdr_top.specs.Recover.{payloads_of};
+ghost use Rattle.fdr_recover.specs.Payloads.{payloads_of};
 ghost use Rattle.fdr_top.specs.Commands.{Works};
 ghost use Rattle.fdr_top.specs.Refusals.{HasHeader};
 
-use crate::listing::{BlocksFault, ImageReader, open_image, take_blocks};
+use crate::listing::{BlockReader, ImageReader, open_image, take_blocks};
 use crate::outcome::Outcome;
 use crate::recording::record_source;
 use crate::supply::RecordSource;
@@ -30,12 +30,14 @@ use fdr_check::Sound;
 use fdr_deck::Deck;
 use fdr_gen::Gen;
 use fdr_io::{Failed, NullSink, Sink, write_whole};
-use fdr_listing::Line;
+use fdr_line::Line;
 use fdr_readout::Summary;
+use fdr_recover::BlocksFault;
+use fdr_slot::Header;
 use std::alloc::Global;
 
 /// Adds a comma and a number, where there is room for the longest.
-#[tactic(auto, using(fdr_listing::proofs::Lengths::numbers))]
+#[tactic(auto, using(fdr_line::proofs::Lengths::numbers))]
 fn add_field(line: &mut Line, number: u64)
     requires { length line.old ≤ 75 }
     ensures text { line.new ≡ line.old ++ field_text number }
@@ -45,7 +47,7 @@ fn add_field(line: &mut Line, number: u64)
     line.add_number(number);
 }
 
-/// The line of a drill that recorded so many blocks: what the image then lists as.
+/// The line of a drill that recorded `blocks` blocks: what the image then lists as.
 #[tactic(auto, unfolding(crate::specs::Drill::drill_text))]
 fn drill_line(blocks: u64, summary: &Summary) -> Line
     ensures { result ≡ drill_text blocks summary.now }
@@ -62,42 +64,38 @@ fn drill_line(blocks: u64, summary: &Summary) -> Line
 
 /// Reads the blocks that an opened image holds, and writes the line of what they list as.
 fn write_summary<D: Deck, O: Sink>(
-    reader: &mut ImageReader,
+    header: &Header,
+    reader: &mut BlockReader<'_, Summary>,
     sound: &Sound,
     blocks: u64,
     deck: &mut D,
     out: &mut O,
 ) -> Outcome
-    requires fresh { ReadsEvents sound.now reader.old.events (decided_past sound.now.frame.words []) }
-    requires limits { IsInLimits reader.old.header }
-    requires whole { image_size reader.old.header ≤ (D.state deck.old).extent }
+    requires table { reader.old.table.now ≡ sound.now }
+    requires fresh { ReadsEvents reader.old.table.now reader.old.events (decided_past reader.old.table.now.frame.words []) }
+    requires nothing { reader.old.taker ≡ no_summary }
+    requires limits { IsInLimits header.now }
+    requires whole { image_size header.now ≤ (D.state deck.old).extent }
     ensures answer { (result ≡ Outcome.Done) ⊎ ((result ≡ Outcome.WriteFault) ⊎ (result ≡ Outcome.DiskFault)) }
     ensures text { result ≡ Outcome.Done → IsTrue D.tells.bytes → O.written out.new ≡ followed_by (O.written out.old)
-        (drill_text blocks (summary_of sound.now (payloads_of (recovered_run reader.old.header (D.state deck.old).held)))) }
+        (drill_text blocks (summary_of sound.now (payloads_of (recovered_run header.now (D.state deck.old).held)))) }
     ensures part { result ≡ Outcome.WriteFault → IsTrue D.tells.bytes → (k : ℕ) × (O.written out.new ≡ followed_by (O.written out.old)
-        (take k (drill_text blocks (summary_of sound.now (payloads_of (recovered_run reader.old.header (D.state deck.old).held)))))) }
+        (take k (drill_text blocks (summary_of sound.now (payloads_of (recovered_run header.now (D.state deck.old).held)))))) }
     ensures looks { Looks D.tells (D.state deck.old) (D.state deck.new) }
     ensures unread { result ≡ Outcome.DiskFault → out.new ≡ out.old }
     ensures disk_fault { result ≡ Outcome.DiskFault
         → Rose (D.state deck.old).disk_faults (D.state deck.new).disk_faults }
     ensures write_fault { result ≡ Outcome.WriteFault → Rose (O.faults out.old) (O.faults out.new) }
-    ensures disk_quiet { result ≢ Outcome.DiskFault → (D.state deck.new).disk_faults ≡ (D.state deck.old).disk_faults }
-    ensures write_quiet { result ≢ Outcome.WriteFault → O.faults out.new ≡ O.faults out.old }
+    ensures no_disk_fault { result ≢ Outcome.DiskFault → (D.state deck.new).disk_faults ≡ (D.state deck.old).disk_faults }
+    ensures no_write_fault { result ≢ Outcome.WriteFault → O.faults out.new ≡ O.faults out.old }
 {
     sound.holds();
-    let mut summary = Summary::new();
-    match take_blocks(
-        reader,
-        sound.table(),
-        deck,
-        &mut summary,
-        &mut NullSink::new(),
-    ) {
+    match take_blocks(header, reader, deck, &mut NullSink::new()) {
         Ok(()) => {}
         Err(BlocksFault::Disk) => return Outcome::DiskFault,
         Err(BlocksFault::Taker) => unreachable!(),
     }
-    match write_whole(out, drill_line(blocks, &summary).bytes()) {
+    match write_whole(out, drill_line(blocks, &reader.taker).bytes()) {
         Ok(()) => Outcome::Done,
         Err(Failed) => Outcome::WriteFault,
     }
@@ -122,18 +120,18 @@ fn drill_image<D: Deck, O: Sink>(
     ensures drills { DrillsImage sound.now seed frames D.tells (D.state deck.old) (D.state deck.new)
         (O.written out.old) (O.written out.new) result }
     ensures untouched { WritesNothing result → KeepsDisk (D.state deck.old) (D.state deck.new) }
-    ensures told { WritesNothing result → (D.state deck.new).told ≡ (D.state deck.old).told }
-    ensures line { KeepsLineAndFaults (D.state deck.old) (D.state deck.new) }
+    ensures announced { WritesNothing result → (D.state deck.new).announced ≡ (D.state deck.old).announced }
+    ensures input { KeepsInputAndFaults (D.state deck.old) (D.state deck.new) }
     ensures learns { LearnsExtent D.tells (D.state deck.old) (D.state deck.new) }
     ensures disk_fault { result ≡ Outcome.DiskFault
         → Rose (D.state deck.old).disk_faults (D.state deck.new).disk_faults }
     ensures write_fault { result ≡ Outcome.WriteFault → Rose (O.faults out.old) (O.faults out.new) }
-    ensures disk_quiet { result ≢ Outcome.DiskFault → (D.state deck.new).disk_faults ≡ (D.state deck.old).disk_faults }
-    ensures write_quiet { result ≢ Outcome.WriteFault → O.faults out.new ≡ O.faults out.old }
+    ensures no_disk_fault { result ≢ Outcome.DiskFault → (D.state deck.new).disk_faults ≡ (D.state deck.old).disk_faults }
+    ensures no_write_fault { result ≢ Outcome.WriteFault → O.faults out.new ≡ O.faults out.old }
     ensures memory { result ≡ Outcome.NoMemory → HasHeader D.tells (D.state deck.old) (D.state deck.new) }
     ensures unwritten { result ≢ Outcome.Done → result ≢ Outcome.WriteFault → out.new ≡ out.old }
 {
-    let mut reader = match open_image(alloc, sound, deck) {
+    let reader = match open_image(alloc, sound, deck) {
         Ok(reader) => reader,
         Err(answer) => return answer,
     };
@@ -145,7 +143,13 @@ fn drill_image<D: Deck, O: Sink>(
         Ok(recorded) => recorded,
         Err(answer) => return answer,
     };
-    write_summary(&mut reader, sound, recorded.blocks, deck, out)
+    let ImageReader { header, events } = reader;
+    let mut reader = BlockReader {
+        events,
+        table: sound.table(),
+        taker: Summary::new(),
+    };
+    write_summary(&header, &mut reader, sound, recorded.blocks, deck, out)
 }
 
 /// `drill`: records the trace of a seed in the deck's image by a table, and writes a line of what the image then lists as.

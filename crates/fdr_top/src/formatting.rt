@@ -35,7 +35,7 @@ fn make_image<D: Deck>(sound: &Sound, slots: u32, payload: u32, deck: &mut D) ->
     requires word_count { IsWordCount sound.now.frame.words }
     ensures answer { (path image : List ℕ) → IsOwn (format_image path image slots payload) result }
     ensures makes { Makes (new_header slots payload sound.now.frame.words) D.tells (D.state deck.old) (D.state deck.new) result }
-    ensures disk_quiet { result ≢ Outcome.DiskFault → (D.state deck.new).disk_faults ≡ (D.state deck.old).disk_faults }
+    ensures no_disk_fault { result ≢ Outcome.DiskFault → (D.state deck.new).disk_faults ≡ (D.state deck.old).disk_faults }
 {
     let header = new_header(sound, slots, payload);
     match fdr_ring::format(deck, &header) {

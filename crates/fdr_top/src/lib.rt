@@ -1,18 +1,19 @@
 //! The commands of the recorder.
 //!
-//! `run` carries out one command over a source that gives the table, a deck that gives the line of input and the disk, and
+//! `run` carries out one command over a source that gives the table, a deck that gives the input and the disk, and
 //! a sink that takes the output.
 #![tactic(auto)]
 
 mod checking;
+mod decoding;
 mod drilling;
+mod encoding;
 mod formatting;
+mod input_end;
 mod list_bits;
 mod listing;
 mod load;
 mod outcome;
-mod pulling;
-mod reading;
 mod recording;
 mod recovering;
 mod streaming;

@@ -1,20 +1,20 @@
-//! Recording the trace of a deck's line in the image on its disk.
+//! Recording the trace of a deck's input in the image on its disk.
 
 ghost use Rattle.std.specs.Prelude.{◌≡◌, ◌≢◌, ◌⊎◌, ◌+◌, ◌≤◌, ℕ, List, [], Option, IfOk, IfErr, IsTrue};
 ghost use Rattle.fdr_io.specs.Faults.{Rose};
 ghost use Rattle.fdr_deck.specs.Disk.{KeepsDisk, LearnsExtent};
-ghost use Rattle.fdr_recorder.specs.Past.{SessionPast};
+ghost use Rattle.fdr_recorder.specs.Past.{RecordingPast};
 ghost use Rattle.fdr_words.specs.Forms.{record_line};
 ghost use Rattle.fdr_top.specs.Stages.{CutsRecording, EndsReading, WritesNothing};
-ghost use Rattle.fdr_top.specs.Answers.{IsOwn, KeepsLineAndFaults};
-ghost use Rattle.fdr_top.specs.Record.{RefusesSession, next_in, session_refusal};
+ghost use Rattle.fdr_top.specs.Answers.{IsOwn, KeepsInputAndFaults};
+ghost use Rattle.fdr_top.specs.Record.{RefusesRecording, next_in, session_refusal};
 ghost use Rattle.fdr_top.specs.Recording.{Continues, HasFedAll, IsBegun, RecordsSupply};
 ghost use Rattle.fdr_top.specs.Refusals.{HasHeader};
 ghost use Rattle.fdr_top.specs.Supply.{RecordSupply, IsGenerator, RepresentsSupply, line_trace};
 ghost use Rattle.fdr_top.specs.Commands.{Works};
 ghost use Rattle.fdr_table.specs.Ranges.{IsInRange};
 ghost use Rattle.fdr_check.specs.Soundness.{IsSound};
-ghost use Rattle.fdr_top.specs.Leaves.{CoversLineFault};
+ghost use Rattle.fdr_top.specs.Leaves.{CoversInputFault};
 
 use crate::outcome::Outcome;
 use crate::supply::RecordSource;
@@ -66,20 +66,20 @@ fn record_records<D: Deck>(
     source: &mut RecordSource,
     deck: &mut D,
 ) -> Result<Fed, Outcome>
-    requires { (from : RecordSupply) × (past : SessionPast) × IsBegun D.tells from session source.old past (D.state deck.old) }
-    ensures fed { (from : RecordSupply) (past : SessionPast) → IsBegun D.tells from session source.old past (D.state deck.old)
+    requires { (from : RecordSupply) × (past : RecordingPast) × IsBegun D.tells from session source.old past (D.state deck.old) }
+    ensures fed { (from : RecordSupply) (past : RecordingPast) → IsBegun D.tells from session source.old past (D.state deck.old)
         → IfOk result (λ f. HasFedAll from D.tells past f.session (D.state deck.old) (D.state deck.new) f.answer) }
-    ensures ended { (from : RecordSupply) (past : SessionPast) → IsBegun D.tells from session source.old past (D.state deck.old)
+    ensures ended { (from : RecordSupply) (past : RecordingPast) → IsBegun D.tells from session source.old past (D.state deck.old)
         → IfErr result (Continues from D.tells past (D.state deck.old) (D.state deck.new)) }
     ensures only { IfErr result CutsRecording }
-    ensures line_fault { IfOk result (λ f. f.answer ≡ Outcome.ReadFault Input.Line
-        → Rose (D.state deck.old).line_faults (D.state deck.new).line_faults) }
+    ensures input_fault { IfOk result (λ f. f.answer ≡ Outcome.ReadFault Input.Line
+        → Rose (D.state deck.old).input_faults (D.state deck.new).input_faults) }
     ensures disk_fault { IfErr result (λ answer. answer ≡ Outcome.DiskFault
         → Rose (D.state deck.old).disk_faults (D.state deck.new).disk_faults) }
-    ensures disk_quiet { IfOk result (λ f. (D.state deck.new).disk_faults ≡ (D.state deck.old).disk_faults) }
-    ensures cut_quiet { IfErr result (λ answer. answer ≢ Outcome.DiskFault
+    ensures no_disk_fault { IfOk result (λ f. (D.state deck.new).disk_faults ≡ (D.state deck.old).disk_faults) }
+    ensures no_fault_if_cut { IfErr result (λ answer. answer ≢ Outcome.DiskFault
         → (D.state deck.new).disk_faults ≡ (D.state deck.old).disk_faults) }
-    ensures unpulled { IsGenerator source.old → KeepsLineAndFaults (D.state deck.old) (D.state deck.new) }
+    ensures unpulled { IsGenerator source.old → KeepsInputAndFaults (D.state deck.old) (D.state deck.new) }
     ensures extent { (D.state deck.new).extent ≡ (D.state deck.old).extent }
 {
     loop {
@@ -107,23 +107,23 @@ fn record_all<D: Deck>(
     source: &mut RecordSource,
     deck: &mut D,
 ) -> Result<Closed, Outcome>
-    requires { (from : RecordSupply) × (past : SessionPast) × IsBegun D.tells from session source.old past (D.state deck.old) }
-    ensures closed { (from : RecordSupply) (past : SessionPast) → IsBegun D.tells from session source.old past (D.state deck.old)
+    requires { (from : RecordSupply) × (past : RecordingPast) × IsBegun D.tells from session source.old past (D.state deck.old) }
+    ensures closed { (from : RecordSupply) (past : RecordingPast) → IsBegun D.tells from session source.old past (D.state deck.old)
         → IfOk result (λ r. Continues from D.tells past (D.state deck.old) (D.state deck.new) r.answer) }
-    ensures ended { (from : RecordSupply) (past : SessionPast) → IsBegun D.tells from session source.old past (D.state deck.old)
+    ensures ended { (from : RecordSupply) (past : RecordingPast) → IsBegun D.tells from session source.old past (D.state deck.old)
         → IfErr result (Continues from D.tells past (D.state deck.old) (D.state deck.new)) }
-    ensures next { IfOk result (λ r. r.next ≡ (D.state deck.new).told) }
+    ensures next { IfOk result (λ r. r.next ≡ (D.state deck.new).announced) }
     ensures later { IfOk result (λ r. session.ring.next ≤ r.next) }
     ensures all { IfOk result (λ r. EndsReading r.answer) }
     ensures only { IfErr result CutsRecording }
-    ensures line_fault { IfOk result (λ r. r.answer ≡ Outcome.ReadFault Input.Line
-        → Rose (D.state deck.old).line_faults (D.state deck.new).line_faults) }
+    ensures input_fault { IfOk result (λ r. r.answer ≡ Outcome.ReadFault Input.Line
+        → Rose (D.state deck.old).input_faults (D.state deck.new).input_faults) }
     ensures disk_fault { IfErr result (λ answer. answer ≡ Outcome.DiskFault
         → Rose (D.state deck.old).disk_faults (D.state deck.new).disk_faults) }
-    ensures disk_quiet { IfOk result (λ r. (D.state deck.new).disk_faults ≡ (D.state deck.old).disk_faults) }
-    ensures cut_quiet { IfErr result (λ answer. answer ≢ Outcome.DiskFault
+    ensures no_disk_fault { IfOk result (λ r. (D.state deck.new).disk_faults ≡ (D.state deck.old).disk_faults) }
+    ensures no_fault_if_cut { IfErr result (λ answer. answer ≢ Outcome.DiskFault
         → (D.state deck.new).disk_faults ≡ (D.state deck.old).disk_faults) }
-    ensures unpulled { IsGenerator source.old → KeepsLineAndFaults (D.state deck.old) (D.state deck.new) }
+    ensures unpulled { IsGenerator source.old → KeepsInputAndFaults (D.state deck.old) (D.state deck.new) }
     ensures extent { (D.state deck.new).extent ≡ (D.state deck.old).extent }
 {
     let fed = record_records(session, source, deck)?;
@@ -147,22 +147,22 @@ pub fn record_source<D: Deck>(
         → IfOk result (λ r. RecordsSupply from sound.now D.tells (D.state deck.old) (D.state deck.new) r.answer) }
     ensures ended { (from : RecordSupply) → RepresentsSupply from source.old [] []
         → IfErr result (RecordsSupply from sound.now D.tells (D.state deck.old) (D.state deck.new)) }
-    ensures blocks { IfOk result (λ r. IsTrue D.tells.bytes → next_in (D.state deck.old).held + r.blocks ≡ (D.state deck.new).told) }
+    ensures blocks { IfOk result (λ r. IsTrue D.tells.bytes → next_in (D.state deck.old).held + r.blocks ≡ (D.state deck.new).announced) }
     ensures all { IfOk result (λ r. EndsReading r.answer) }
-    ensures refused { IfErr result RefusesSession }
+    ensures refused { IfErr result RefusesRecording }
     ensures memory { IfErr result (λ answer. answer ≡ Outcome.NoMemory → HasHeader D.tells (D.state deck.old) (D.state deck.new)) }
     ensures untouched { IfErr result (λ answer. WritesNothing answer → KeepsDisk (D.state deck.old) (D.state deck.new)) }
-    ensures told { IfErr result (λ answer. WritesNothing answer → (D.state deck.new).told ≡ (D.state deck.old).told) }
-    ensures line { IfErr result (λ answer. WritesNothing answer
-        → KeepsLineAndFaults (D.state deck.old) (D.state deck.new)) }
-    ensures unpulled { IsGenerator source.old → KeepsLineAndFaults (D.state deck.old) (D.state deck.new) }
+    ensures announced { IfErr result (λ answer. WritesNothing answer → (D.state deck.new).announced ≡ (D.state deck.old).announced) }
+    ensures input { IfErr result (λ answer. WritesNothing answer
+        → KeepsInputAndFaults (D.state deck.old) (D.state deck.new)) }
+    ensures unpulled { IsGenerator source.old → KeepsInputAndFaults (D.state deck.old) (D.state deck.new) }
     ensures learns { LearnsExtent D.tells (D.state deck.old) (D.state deck.new) }
-    ensures line_fault { IfOk result (λ r. r.answer ≡ Outcome.ReadFault Input.Line
-        → Rose (D.state deck.old).line_faults (D.state deck.new).line_faults) }
+    ensures input_fault { IfOk result (λ r. r.answer ≡ Outcome.ReadFault Input.Line
+        → Rose (D.state deck.old).input_faults (D.state deck.new).input_faults) }
     ensures disk_fault { IfErr result (λ answer. answer ≡ Outcome.DiskFault
         → Rose (D.state deck.old).disk_faults (D.state deck.new).disk_faults) }
-    ensures disk_quiet { IfOk result (λ r. (D.state deck.new).disk_faults ≡ (D.state deck.old).disk_faults) }
-    ensures cut_quiet { IfErr result (λ answer. answer ≢ Outcome.DiskFault
+    ensures no_disk_fault { IfOk result (λ r. (D.state deck.new).disk_faults ≡ (D.state deck.old).disk_faults) }
+    ensures no_fault_if_cut { IfErr result (λ answer. answer ≢ Outcome.DiskFault
         → (D.state deck.new).disk_faults ≡ (D.state deck.old).disk_faults) }
 {
     let session = match Session::start(alloc, sound, deck) {
@@ -177,22 +177,22 @@ pub fn record_source<D: Deck>(
     })
 }
 
-/// Records the trace of the deck's line by a table. All memory is taken before the disk is written.
+/// Records the trace of the deck's input by a table. All memory is taken before the disk is written.
 fn record_line<D: Deck>(alloc: Global, sound: &Sound, deck: &mut D) -> Outcome
     ensures memory { result ≡ Outcome.NoMemory → (deck.new ≡ deck.old) ⊎ HasHeader D.tells (D.state deck.old) (D.state deck.new) }
     ensures records { RecordsSupply line_trace sound.now D.tells (D.state deck.old) (D.state deck.new) result }
     ensures answer { (path image : List ℕ) → (result ≡ Outcome.NoMemory) ⊎ IsOwn (record_line path image) result }
     ensures untouched { WritesNothing result → KeepsDisk (D.state deck.old) (D.state deck.new) }
-    ensures told { WritesNothing result → (D.state deck.new).told ≡ (D.state deck.old).told }
-    ensures line { WritesNothing result → KeepsLineAndFaults (D.state deck.old) (D.state deck.new) }
+    ensures announced { WritesNothing result → (D.state deck.new).announced ≡ (D.state deck.old).announced }
+    ensures input { WritesNothing result → KeepsInputAndFaults (D.state deck.old) (D.state deck.new) }
     ensures learns { LearnsExtent D.tells (D.state deck.old) (D.state deck.new) }
-    ensures line_fault { result ≡ Outcome.ReadFault Input.Line
-        → Rose (D.state deck.old).line_faults (D.state deck.new).line_faults }
+    ensures input_fault { result ≡ Outcome.ReadFault Input.Line
+        → Rose (D.state deck.old).input_faults (D.state deck.new).input_faults }
     ensures disk_fault { result ≡ Outcome.DiskFault
         → Rose (D.state deck.old).disk_faults (D.state deck.new).disk_faults }
-    ensures disk_quiet { result ≢ Outcome.DiskFault → (D.state deck.new).disk_faults ≡ (D.state deck.old).disk_faults }
-    ensures line_quiet { result ≢ Outcome.ReadFault Input.Line → (CoversLineFault result → ⊥)
-        → (D.state deck.new).line_faults ≡ (D.state deck.old).line_faults }
+    ensures no_disk_fault { result ≢ Outcome.DiskFault → (D.state deck.new).disk_faults ≡ (D.state deck.old).disk_faults }
+    ensures no_input_fault { result ≢ Outcome.ReadFault Input.Line → (CoversInputFault result → ⊥)
+        → (D.state deck.new).input_faults ≡ (D.state deck.old).input_faults }
 {
     let Ok(trace) = TraceLine::new(alloc) else {
         return Outcome::NoMemory;
@@ -204,7 +204,7 @@ fn record_line<D: Deck>(alloc: Global, sound: &Sound, deck: &mut D) -> Outcome
     }
 }
 
-/// `record`: records the trace of the line in the image by a table.
+/// `record`: records the trace of the input in the image by a table.
 pub fn record<D: Deck>(alloc: Global, sound: &Sound, deck: &mut D) -> Outcome
     requires in_range { IsInRange sound.now }
     requires sound { IsSound sound.now }

@@ -1,4 +1,4 @@
-//! The stream of the trace on a deck's line.
+//! The stream of the trace on a deck's input.
 
 ghost use Rattle.std.specs.Prelude.{◌≡◌, ◌≢◌, ◌≤◌, ◌+◌, ℕ, List, [], ◌∷◌, ◌++◌, Option, length, take, OnOk, OnErr, IfOk, IsTrue, ◌⊎◌};
 ghost use Rattle.fdr_io.specs.Faults.{Rose};
@@ -7,7 +7,7 @@ ghost use Rattle.fdr_deck.specs.Calls.{LeavesDisk};
 ghost use Rattle.fdr_sampler.specs.Stream.{stream_of};
 ghost use Rattle.fdr_bus.specs.declared.BusRecord.{BusRecord};
 ghost use Rattle.fdr_stream.specs.Past.{RepresentsStream};
-ghost use Rattle.fdr_top.specs.Answers.{IsOwn, KeepsLineAndFaults};
+ghost use Rattle.fdr_top.specs.Answers.{IsOwn, KeepsInputAndFaults};
 ghost use Rattle.fdr_top.specs.Stream.{Streams, answer_of_stop, WritesStreamPart};
 ghost use Rattle.fdr_top.specs.Streaming.{past_of, due_text, ComesNext, IsStreamed, IsStreamedTo, IsStreamedPart, IsUnbegun};
 ghost use Rattle.fdr_table.specs.Rows.{TableRows};
@@ -65,7 +65,7 @@ fn write_record<O: Sink>(
         → IsStreamed stream.old t records before (O.written out.old) → ComesNext records next.now
         → (k : ℕ) × (O.written out.new ≡ followed_by before (take k (due_text t (records ++ next.now ∷ []))))) }
     ensures cause { OnErr result (Rose (O.faults out.old) (O.faults out.new)) }
-    ensures quiet { OnOk result (O.faults out.new ≡ O.faults out.old) }
+    ensures no_fault { OnOk result (O.faults out.new ≡ O.faults out.old) }
     ensures monotone { O.faults out.old ≤ O.faults out.new }
 {
     for i in 0..MANY_BLOCKS {
@@ -88,7 +88,7 @@ fn write_rest<O: Sink>(stream: &mut Stream, block: &mut [u8], out: &mut O) -> Re
         → IsStreamed stream.old t records before (O.written out.old)
         → (k : ℕ) × (O.written out.new ≡ followed_by before (take k (stream_of t records)))) }
     ensures cause { OnErr result (Rose (O.faults out.old) (O.faults out.new)) }
-    ensures quiet { OnOk result (O.faults out.new ≡ O.faults out.old) }
+    ensures no_fault { OnOk result (O.faults out.new ≡ O.faults out.old) }
     ensures monotone { O.faults out.old ≤ O.faults out.new }
 {
     let count = stream.finish(block);
@@ -120,10 +120,10 @@ fn stream_records<D: Deck, O: Sink>(
     ensures part { (t : TableRows) → IsUnbegun recording.old t → OnErr result (
         IsStreamedPart t D.tells (D.state deck.old) (D.state deck.new) (O.written out.old) (O.written out.new)) }
     ensures cause { OnErr result (Rose (O.faults out.old) (O.faults out.new)) }
-    ensures quiet { OnOk result (O.faults out.new ≡ O.faults out.old) }
+    ensures no_fault { OnOk result (O.faults out.new ≡ O.faults out.old) }
     ensures monotone { O.faults out.old ≤ O.faults out.new }
     ensures disk { LeavesDisk (D.state deck.old) (D.state deck.new) }
-    ensures told { (D.state deck.new).told ≡ (D.state deck.old).told }
+    ensures announced { (D.state deck.new).announced ≡ (D.state deck.old).announced }
 {
     loop {
         let next = match recording.trace.next(deck) {
@@ -138,20 +138,20 @@ fn stream_records<D: Deck, O: Sink>(
     }
 }
 
-/// Streams the trace of the deck's line, and gives the answer.
+/// Streams the trace of the deck's input, and gives the answer.
 fn stream_trace<D: Deck, O: Sink>(recording: &mut Recording, deck: &mut D, out: &mut O) -> Outcome
     requires { (t : TableRows) × IsUnbegun recording.old t }
     ensures answer { (path : List ℕ) → IsOwn (stream_line path) result }
     ensures streams { (t : TableRows) → IsUnbegun recording.old t
         → Streams t D.tells (D.state deck.old) (D.state deck.new) (O.written out.old) (O.written out.new) result }
-    ensures line_fault { result ≡ Outcome.ReadFault Input.Line → Rose (D.state deck.old).line_faults (D.state deck.new).line_faults }
+    ensures input_fault { result ≡ Outcome.ReadFault Input.Line → Rose (D.state deck.old).input_faults (D.state deck.new).input_faults }
     ensures write_fault { result ≡ Outcome.WriteFault → Rose (O.faults out.old) (O.faults out.new) }
-    ensures write_quiet { result ≢ Outcome.WriteFault → O.faults out.new ≡ O.faults out.old }
-    ensures part_of_whole { (t : TableRows) → IsUnbegun recording.old t → IsTrue D.tells.line
-        → (Rose (D.state deck.old).line_faults (D.state deck.new).line_faults → ⊥)
+    ensures no_write_fault { result ≢ Outcome.WriteFault → O.faults out.new ≡ O.faults out.old }
+    ensures part_of_whole { (t : TableRows) → IsUnbegun recording.old t → IsTrue D.tells.input
+        → (Rose (D.state deck.old).input_faults (D.state deck.new).input_faults → ⊥)
         → WritesStreamPart t (D.state deck.old) (O.written out.old) (O.written out.new) }
     ensures disk { LeavesDisk (D.state deck.old) (D.state deck.new) }
-    ensures told { (D.state deck.new).told ≡ (D.state deck.old).told }
+    ensures announced { (D.state deck.new).announced ≡ (D.state deck.old).announced }
 {
     let mut block = [0; PAYLOAD];
     let answer = match stream_records(recording, &mut block, deck, out) {
@@ -164,7 +164,7 @@ fn stream_trace<D: Deck, O: Sink>(recording: &mut Recording, deck: &mut D, out: 
     }
 }
 
-/// Streams the trace of the deck's line by a table.
+/// Streams the trace of the deck's input by a table.
 fn stream_sound<D: Deck, O: Sink>(
     alloc: Global,
     sound: &Sound,
@@ -174,17 +174,17 @@ fn stream_sound<D: Deck, O: Sink>(
     ensures answer { (path : List ℕ) → (result ≡ Outcome.NoMemory) ⊎ IsOwn (stream_line path) result }
     ensures streams { result ≢ Outcome.NoMemory
         → Streams sound.now D.tells (D.state deck.old) (D.state deck.new) (O.written out.old) (O.written out.new) result }
-    ensures line_fault { result ≡ Outcome.ReadFault Input.Line → Rose (D.state deck.old).line_faults (D.state deck.new).line_faults }
+    ensures input_fault { result ≡ Outcome.ReadFault Input.Line → Rose (D.state deck.old).input_faults (D.state deck.new).input_faults }
     ensures write_fault { result ≡ Outcome.WriteFault → Rose (O.faults out.old) (O.faults out.new) }
-    ensures write_quiet { result ≢ Outcome.WriteFault → O.faults out.new ≡ O.faults out.old }
-    ensures part_of_whole { result ≢ Outcome.NoMemory → IsTrue D.tells.line
-        → (Rose (D.state deck.old).line_faults (D.state deck.new).line_faults → ⊥)
+    ensures no_write_fault { result ≢ Outcome.WriteFault → O.faults out.new ≡ O.faults out.old }
+    ensures part_of_whole { result ≢ Outcome.NoMemory → IsTrue D.tells.input
+        → (Rose (D.state deck.old).input_faults (D.state deck.new).input_faults → ⊥)
         → WritesStreamPart sound.now (D.state deck.old) (O.written out.old) (O.written out.new) }
     ensures no_memory { result ≡ Outcome.NoMemory → O.written out.new ≡ O.written out.old }
     ensures no_memory_faults { result ≡ Outcome.NoMemory → O.faults out.new ≡ O.faults out.old }
-    ensures no_memory_line { result ≡ Outcome.NoMemory → KeepsLineAndFaults (D.state deck.old) (D.state deck.new) }
+    ensures no_memory_input { result ≡ Outcome.NoMemory → KeepsInputAndFaults (D.state deck.old) (D.state deck.new) }
     ensures disk { LeavesDisk (D.state deck.old) (D.state deck.new) }
-    ensures told { (D.state deck.new).told ≡ (D.state deck.old).told }
+    ensures announced { (D.state deck.new).announced ≡ (D.state deck.old).announced }
 {
     match Recording::new(alloc, sound) {
         Ok(mut recording) => stream_trace(&mut recording, deck, out),
@@ -192,7 +192,7 @@ fn stream_sound<D: Deck, O: Sink>(
     }
 }
 
-/// `stream`: streams the trace of the line by a table.
+/// `stream`: streams the trace of the input by a table.
 pub fn stream<D: Deck, O: Sink>(alloc: Global, sound: &Sound, deck: &mut D, out: &mut O) -> Outcome
     requires in_range { IsInRange sound.now }
     requires sound { IsSound sound.now }

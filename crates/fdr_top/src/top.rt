@@ -16,7 +16,9 @@ ghost use Rattle.fdr_top.specs.Refusals.{HasHeader};
 ghost use Rattle.fdr_table.specs.Rows.{TableRows};
 
 use crate::checking::write_report;
+use crate::decoding::decode;
 use crate::drilling::drill;
+use crate::encoding::encode;
 use crate::formatting::format;
 use crate::list_bits::listbits;
 use crate::listing::list;
@@ -67,7 +69,7 @@ fn work<D: Deck, O: Sink>(
         Request::RecordLine { .. } => record(alloc, sound, deck),
         Request::ListImage { .. } => list(alloc, sound, deck, out),
         Request::Drill { seed, frames, .. } => drill(alloc, sound, *seed, *frames, deck, out),
-        Request::RecoverImage { .. } => unreachable!(),
+        Request::Encode | Request::Decode | Request::RecoverImage { .. } => unreachable!(),
     }
 }
 
@@ -103,20 +105,24 @@ fn carry_out<T: Source, D: Deck, O: Sink>(
     ensures memory { ReadsImage (form_of_request request.now) → result ≡ Outcome.NoMemory
         → (deck.new ≡ deck.old) ⊎ HasHeader D.tells (D.state deck.old) (D.state deck.new) }
 {
-    if let Request::RecoverImage { .. } = request {
-        return recover(alloc, deck, out);
-    }
-    match load_table(alloc, table) {
-        Ok(sound) => work(alloc, request, &sound, deck, out),
-        Err(answer) => answer,
+    match request {
+        Request::Encode => encode(alloc, deck, out),
+        Request::Decode => decode(alloc, deck, out),
+        Request::RecoverImage { .. } => recover(alloc, deck, out),
+        _ => match load_table(alloc, table) {
+            Ok(sound) => work(alloc, request, &sound, deck, out),
+            Err(answer) => answer,
+        },
     }
 }
 
 /// Runs the command that the words after the program's name ask for.
 ///
 /// - `check TABLE` writes a report of the table to `out`.
-/// - `stream TABLE` pulls a trace of bus words from the deck's line and writes its recorded stream.
-/// - `listbits TABLE` pulls the line to its end and writes the listing of its bits.
+/// - `stream TABLE` pulls a trace of bus words from the deck's input and writes its recorded stream.
+/// - `listbits TABLE` pulls the input to its end and writes the listing of its bits.
+/// - `encode` pulls the input to its end and writes the Harvard biphase levels of its bits.
+/// - `decode` pulls the input to its end and writes the bits of its Harvard biphase levels.
 /// - `format TABLE IMAGE` makes an image without blocks on the deck's disk.
 /// - `record TABLE IMAGE` pulls a trace and records its stream in the image on the disk.
 /// - `recover IMAGE` writes the payloads of the blocks that the image holds.
@@ -127,18 +133,18 @@ fn carry_out<T: Source, D: Deck, O: Sink>(
 #[tactic(auto, using(crate::proofs::OneRun::one_run))]
 pub fn run<T: Source, D: Deck, O: Sink>(
     alloc: Global,
-    words: &[String],
+    args: &[String],
     table: &mut T,
     deck: &mut D,
     out: &mut O,
 ) -> Outcome
     // The words decide first, and where they are of no form nothing is touched.
-    ensures usage { (result ≡ Outcome.Usage) ↔ (form_of (map string_bytes words.now) ≡ None) }
-    ensures untouched { form_of (map string_bytes words.now) ≡ None
+    ensures usage { (result ≡ Outcome.Usage) ↔ (form_of (map string_bytes args.now) ≡ None) }
+    ensures untouched { form_of (map string_bytes args.now) ≡ None
         → (table.new ≡ table.old) × (deck.new ≡ deck.old) × (out.new ≡ out.old) }
 
     // What is promised of the command that they ask for.
-    ensures runs { IfSome (form_of (map string_bytes words.now)) (λ form. RunsCommand form (record {
+    ensures runs { IfSome (form_of (map string_bytes args.now)) (λ form. RunsCommand form (record {
       rest_before = T.rest table.old;
       rest_now = T.rest table.new;
       table_before = T.faults table.old;
@@ -156,12 +162,12 @@ pub fn run<T: Source, D: Deck, O: Sink>(
     })) }
 
     // Memory ends before the disk is asked for anything, or once the header of its image is known to be good.
-    ensures memory { result ≡ Outcome.NoMemory → IfSome (form_of (map string_bytes words.now)) (λ form. ReadsImage form
+    ensures memory { result ≡ Outcome.NoMemory → IfSome (form_of (map string_bytes args.now)) (λ form. ReadsImage form
         → (deck.new ≡ deck.old) ⊎ HasHeader D.tells (D.state deck.old) (D.state deck.new)) }
 
     // What it doesn't use isn't asked for anything.
     ensures deck_untouched { EndsBeforeDeck result → deck.new ≡ deck.old }
-    ensures left_alone { IfSome (form_of (map string_bytes words.now)) (λ form.
+    ensures left_alone { IfSome (form_of (map string_bytes args.now)) (λ form.
         ((ReadsTable form → ⊥) → table.new ≡ table.old) × ((UsesDeck form → ⊥) → deck.new ≡ deck.old)
         × ((WritesText form → ⊥) → out.new ≡ out.old)) }
 
@@ -170,7 +176,7 @@ pub fn run<T: Source, D: Deck, O: Sink>(
     ensures one_run { (image : List ℕ) → image_fault_of image ≡ None → HasOneRun image }
     ensures one_listing { (t : TableRows) (b : List ℕ) → ListsEvents t b }
 {
-    match read_words(alloc, words) {
+    match read_words(alloc, args) {
         Ok(request) => carry_out(alloc, &request, table, deck, out),
         Err(WordsFault::Usage) => Outcome::Usage,
         Err(WordsFault::NoMemory) => Outcome::NoMemory,

@@ -5,14 +5,14 @@ use Rattle.std.proofs.lemmas.List.{append-nil, take-append-le, take_at}
 use Rattle.fdr_bus.specs.declared.BusRecord.{BusRecord}
 use Rattle.fdr_bus.specs.Records.{IsDecided, good_prefix, most_records}
 use Rattle.fdr_deck.specs.State.{State, Tells, Moment}
-use Rattle.fdr_deck.specs.Calls.{KeepsTold, HasOneAnnounced, LeavesDisk}
-use Rattle.fdr_deck.specs.Moments.{HasPulled, IsNow, IsInsideCall, Within, Elapses, EachMoment, IsSoundDeck}
-use Rattle.fdr_deck.specs.Pull.{KeepsLine}
-use Rattle.fdr_deck.proofs.Moments.{Elapses-here, Elapses-then, EachMoment-then, EachMoment-weaken, KeepsTold-here, KeepsTold-then}
-use Rattle.fdr_deck.proofs.Moments.{KeepsTold-least, KeepsTold-greatest}
+use Rattle.fdr_deck.specs.Calls.{KeepsAnnounced, HasOneAnnounced, LeavesDisk}
+use Rattle.fdr_deck.specs.Moments.{HasSamePulls, IsNow, IsInsideCall, Within, Elapses, EachMoment, IsSoundDeck}
+use Rattle.fdr_deck.specs.Pull.{KeepsInput}
+use Rattle.fdr_deck.proofs.Moments.{Elapses-here, Elapses-then, EachMoment-then, EachMoment-weaken, KeepsAnnounced-here, KeepsAnnounced-then}
+use Rattle.fdr_deck.proofs.Moments.{KeepsAnnounced-least, KeepsAnnounced-greatest}
 use Rattle.fdr_trace.specs.Kept.{TraceKept}
-use Rattle.fdr_trace.specs.Moments.{IsLastPull, IsPulling, IsTraceMoment, PullsFor}
-use Rattle.fdr_trace.specs.Pulls.{Pulled, PullsMore}
+use Rattle.fdr_trace.specs.Moments.{IsNeededPull, IsPullMoment, IsTraceMoment, PullsForRecord}
+use Rattle.fdr_trace.specs.Pulls.{PullsPiece, PullsUntilDecided}
 use Rattle.fdr_trace.specs.Reading.{RepresentsTrace}
 use Rattle.fdr_trace.proofs.Pulling.{LeavesDisk-here, LeavesDisk-then}
 use Rattle.fdr_trace.proofs.Records.{Reads-good, Reads-undecided}
@@ -20,45 +20,45 @@ use Rattle.fdr_trace.proofs.Records.{Reads-good, Reads-undecided}
 -- what pulls leave of a deck
 pub record KeepsDeck (tells : Tells) (old new : State) : Type 0 where
   pub disk : LeavesDisk old new
-  pub told : KeepsTold old new
+  pub announced : KeepsAnnounced old new
   pub fresh : old.taken < new.taken → HasOneAnnounced new
   pub time : Elapses tells old new
 
 pub KeepsDeck-here : (tells : Tells) (d : State) → IsSoundDeck tells d → KeepsDeck tells d d
 KeepsDeck-here tells d sound = record {
   disk = LeavesDisk-here d;
-  told = KeepsTold-here d;
+  announced = KeepsAnnounced-here d;
   fresh = λ more. absurd (omega (arith, more));
   time = Elapses-here tells d sound;
 }
 
-pub KeepsDeck-then : (tells : Tells) (a b c : State) → KeepsDeck tells a b → LeavesDisk b c → KeepsTold b c
+pub KeepsDeck-then : (tells : Tells) (a b c : State) → KeepsDeck tells a b → LeavesDisk b c → KeepsAnnounced b c
     → (a.taken < c.taken → HasOneAnnounced c) → Elapses tells b c → KeepsDeck tells a c
 KeepsDeck-then tells a b c first disk told fresh time = record {
   disk = LeavesDisk-then a b c first.disk disk;
-  told = KeepsTold-then a b c first.told told;
+  announced = KeepsAnnounced-then a b c first.announced told;
   fresh = fresh;
   time = Elapses-then tells a b c first.time time;
 }
 
 -- a pull that took nothing leaves the numbers fresh
-fresh_kept : (a b c : State) → (a.taken < b.taken → HasOneAnnounced b) → KeepsLine b c → KeepsTold b c → a.taken < c.taken
+fresh_kept : (a b c : State) → (a.taken < b.taken → HasOneAnnounced b) → KeepsInput b c → KeepsAnnounced b c → a.taken < c.taken
     → HasOneAnnounced c
 fresh_kept a b c fresh line told more = ⊎_elim
     (λ anew. record { least = anew.0; greatest = anew.1 })
     (λ kept. let was = fresh (omega (arith, line.taken, more)) in
-    record { least = kept.0 ∙ was.least ∙ sym told.told; greatest = kept.1 ∙ was.greatest ∙ sym told.told })
+    record { least = kept.0 ∙ was.least ∙ sym told.announced; greatest = kept.1 ∙ was.greatest ∙ sym told.announced })
     told.numbers
 
-pub KeepsDeck-kept : (tells : Tells) (a b c : State) → KeepsDeck tells a b → LeavesDisk b c → KeepsTold b c
-    → KeepsLine b c → Elapses tells b c → KeepsDeck tells a c
+pub KeepsDeck-kept : (tells : Tells) (a b c : State) → KeepsDeck tells a b → LeavesDisk b c → KeepsAnnounced b c
+    → KeepsInput b c → Elapses tells b c → KeepsDeck tells a c
 KeepsDeck-kept tells a b c first disk told line time = KeepsDeck-then tells a b c first disk told
     (fresh_kept a b c first.fresh line told) time
 
--- bytes pulled behind the last pull leave it as it is
-pub IsLastPull-more : (start : ℕ) (bytes more later : List ℕ) (records : List BusRecord) (before taken : ℕ)
-    → IsLastPull start bytes more records before taken → IsLastPull start bytes (more ++ later) records before taken
-IsLastPull-more start bytes more later records before taken last =
+-- bytes pulled after the last pull leave it as it is
+pub IsNeededPull-more : (start : ℕ) (bytes more later : List ℕ) (records : List BusRecord) (before taken : ℕ)
+    → IsNeededPull start bytes more records before taken → IsNeededPull start bytes (more ++ later) records before taken
+IsNeededPull-more start bytes more later records before taken last =
     let inside : before - start ≤ length more = omega (arith, last.begins, last.gave_bytes, last.within) in
     let front = ap (λ (x : List ℕ). bytes ++ x) (take-append-le (before - start) more later inside) in
     record {
@@ -71,13 +71,13 @@ IsLastPull-more start bytes more later records before taken last =
     }
 
 pulled_more : (old : State) (bytes more later : List ℕ) (records : List BusRecord) (m : Moment)
-    → HasPulled old m ⊎ IsPulling old bytes more records m → HasPulled old m ⊎ IsPulling old bytes (more ++ later) records m
+    → HasSamePulls old m ⊎ IsPullMoment old bytes more records m → HasSamePulls old m ⊎ IsPullMoment old bytes (more ++ later) records m
 pulled_more old bytes more later records m pulled = ⊎_elim
     (λ here. inl here)
     (λ pulling. inr (record {
-      told = pulling.told;
-      last = IsLastPull-more old.taken bytes more later records
-          m.before m.taken pulling.last;
+      announced = pulling.announced;
+      last = IsNeededPull-more old.taken bytes more later records
+          m.pulled_before m.taken pulling.last;
     }))
     pulled
 
@@ -91,14 +91,14 @@ IsTraceMoment-more old bytes more later records m is = record {
 }
 
 -- a pull that gave bytes, where those before it held no whole record that wasn't read
-pub IsLastPull-pull : (tells : Tells) (a b c : State) (k : TraceKept) (bytes more piece : List ℕ) (records : List BusRecord)
+pub IsNeededPull-pull : (tells : Tells) (a b c : State) (k : TraceKept) (bytes more piece : List ℕ) (records : List BusRecord)
     → b.taken ≡ a.taken + length more → RepresentsTrace k (bytes ++ more) records → length k.waiting < 16
-    → length records < most_records → Pulled tells b c piece → 0 < length piece
-    → IsLastPull a.taken bytes (more ++ piece) records c.before c.taken
-IsLastPull-pull tells a b c k bytes more piece records taken reads waits few pull some =
+    → length records < most_records → PullsPiece tells b c piece → 0 < length piece
+    → IsNeededPull a.taken bytes (more ++ piece) records c.pulled_before c.taken
+IsNeededPull-pull tells a b c k bytes more piece records taken reads waits few pull some =
     let began = pull.began some in
-    let n : length more ≡ c.before - a.taken = omega (arith, began, taken) in
-    let front : take (c.before - a.taken) (more ++ piece) ≡ more = take_at more piece (c.before - a.taken) n in
+    let n : length more ≡ c.pulled_before - a.taken = omega (arith, began, taken) in
+    let front : take (c.pulled_before - a.taken) (more ++ piece) ≡ more = take_at more piece (c.pulled_before - a.taken) n in
     let before = ap (λ (x : List ℕ). bytes ++ x) front in
     record {
       begins = omega (arith, began, taken);
@@ -111,51 +111,51 @@ IsLastPull-pull tells a b c k bytes more piece records taken reads waits few pul
 
 -- the last pull after one pull more
 pub last_pulled : (tells : Tells) (a b c : State) (k : TraceKept) (bytes more piece : List ℕ) (records : List BusRecord)
-    → PullsMore tells a b bytes more → PullsFor tells a b bytes more records → RepresentsTrace k (bytes ++ more) records
+    → PullsUntilDecided tells a b bytes more → PullsForRecord tells a b bytes more records → RepresentsTrace k (bytes ++ more) records
     → length k.waiting < 16 → length records < most_records
-    → Pulled tells b c piece → 0 < length (more ++ piece) → IsLastPull a.taken bytes (more ++ piece) records c.before
+    → PullsPiece tells b c piece → 0 < length (more ++ piece) → IsNeededPull a.taken bytes (more ++ piece) records c.pulled_before
     c.taken
 last_pulled tells a b c k bytes more piece records pulls was reads waits few pull some = ⊎_elim
-    (λ here. IsLastPull-pull tells a b c k bytes more piece records pulls.takes.taken reads waits few pull here)
+    (λ here. IsNeededPull-pull tells a b c k bytes more piece records pulls.takes.taken reads waits few pull here)
     (λ none.
     let last = was.last (omega (arith, some, length-append more piece, none)) in
     let taken : b.taken ≡ c.taken = omega (arith, pull.takes.taken, none) in
     let before = sym (pull.none (omega (arith, none))) in
-    IsLastPull-more a.taken bytes more piece records c.before c.taken
-    (subst (λ n. IsLastPull a.taken bytes more records n c.taken) before
-    (subst (λ n. IsLastPull a.taken bytes more records b.before n) taken last)))
+    IsNeededPull-more a.taken bytes more piece records c.pulled_before c.taken
+    (subst (λ n. IsNeededPull a.taken bytes more records n c.taken) before
+    (subst (λ n. IsNeededPull a.taken bytes more records b.pulled_before n) taken last)))
     (cases_lt 0 (length piece))
 
 -- the last pull after one that failed
 pub last_kept : (tells : Tells) (a b c : State) (bytes more : List ℕ) (records : List BusRecord)
-    → PullsFor tells a b bytes more records → KeepsLine b c → 0 < length more
-    → IsLastPull a.taken bytes more records c.before c.taken
+    → PullsForRecord tells a b bytes more records → KeepsInput b c → 0 < length more
+    → IsNeededPull a.taken bytes more records c.pulled_before c.taken
 last_kept tells a b c bytes more records was line some =
-    subst (λ n. IsLastPull a.taken bytes more records n c.taken) (sym line.before)
-    (subst (λ n. IsLastPull a.taken bytes more records b.before n) (sym line.taken) (was.last some))
+    subst (λ n. IsNeededPull a.taken bytes more records n c.taken) (sym line.pulled_before)
+    (subst (λ n. IsNeededPull a.taken bytes more records b.pulled_before n) (sym line.taken) (was.last some))
 
 -- a moment whose numbers of bytes are those of a deck from which so much was pulled
 pulled_since : (tells : Tells) (a s : State) (bytes more : List ℕ) (records : List BusRecord) (m : Moment)
-    → PullsMore tells a s bytes more → (0 < length more → IsLastPull a.taken bytes more records s.before s.taken)
-    → (0 < length more → m.told ≡ a.told) → HasPulled s m
-    → HasPulled a m ⊎ IsPulling a bytes more records m
+    → PullsUntilDecided tells a s bytes more → (0 < length more → IsNeededPull a.taken bytes more records s.pulled_before s.taken)
+    → (0 < length more → m.announced ≡ a.announced) → HasSamePulls s m
+    → HasSamePulls a m ⊎ IsPullMoment a bytes more records m
 pulled_since tells a s bytes more records m pulls last told here = ⊎_elim
     (λ some. inr (record {
-      told = told some;
-      last = subst (λ n. IsLastPull a.taken bytes more records n m.taken) (sym here.before)
-          (subst (λ n. IsLastPull a.taken bytes more records s.before n) (sym here.taken) (last some));
+      announced = told some;
+      last = subst (λ n. IsNeededPull a.taken bytes more records n m.taken) (sym here.pulled_before)
+          (subst (λ n. IsNeededPull a.taken bytes more records s.pulled_before n) (sym here.taken) (last some));
     }))
     (λ none. inl (record {
       taken = omega (arith, here.taken, pulls.takes.taken, none);
-      before = here.before
+      pulled_before = here.pulled_before
           ∙ pulls.none (omega (arith, none));
     }))
     (cases_lt 0 (length more))
 
 -- Nothing was pulled yet.
-pub PullsFor-none : (tells : Tells) (d : State) (bytes : List ℕ) (records : List BusRecord) → IsSoundDeck tells d
-    → PullsFor tells d d bytes [] records
-PullsFor-none tells d bytes records sound = record {
+pub PullsForRecord-none : (tells : Tells) (d : State) (bytes : List ℕ) (records : List BusRecord) → IsSoundDeck tells d
+    → PullsForRecord tells d d bytes [] records
+PullsForRecord-none tells d bytes records sound = record {
   last = λ some. absurd (omega (arith, some));
   moments = λ told m since.
       let now = sound.only_now told m since in
@@ -163,13 +163,13 @@ PullsFor-none tells d bytes records sound = record {
 }
 
 -- One pull more, whatever it answered.
-pub PullsFor-then : (tells : Tells) (a b c : State) (bytes more piece : List ℕ) (records : List BusRecord)
-    → IsSoundDeck tells a → KeepsDeck tells a b → PullsMore tells a b bytes more → PullsFor tells a b bytes more records
+pub PullsForRecord-then : (tells : Tells) (a b c : State) (bytes more piece : List ℕ) (records : List BusRecord)
+    → IsSoundDeck tells a → KeepsDeck tells a b → PullsUntilDecided tells a b bytes more → PullsForRecord tells a b bytes more records
     → LeavesDisk b c → Elapses tells b c
-    → EachMoment tells b c (Within b c) → PullsMore tells a c bytes (more ++ piece)
-    → (0 < length (more ++ piece) → IsLastPull a.taken bytes (more ++ piece) records c.before c.taken) → PullsFor
+    → EachMoment tells b c (Within b c) → PullsUntilDecided tells a c bytes (more ++ piece)
+    → (0 < length (more ++ piece) → IsNeededPull a.taken bytes (more ++ piece) records c.pulled_before c.taken) → PullsForRecord
     tells a c bytes (more ++ piece) records
-PullsFor-then tells a b c bytes more piece records sound deck pulls was disk time moments pulls_now last = record {
+PullsForRecord-then tells a b c bytes more piece records sound deck pulls was disk time moments pulls_now last = record {
   last = last;
   moments = EachMoment-then tells a b c (IsTraceMoment a bytes (more ++ piece) records) deck.time time
       (EachMoment-weaken tells a b (IsTraceMoment a bytes more records)
@@ -179,19 +179,19 @@ PullsFor-then tells a b c bytes more piece records sound deck pulls was disk tim
 }
   where
     least : a.least ≤ b.least
-    least = KeepsTold-least tells a b sound deck.told
+    least = KeepsAnnounced-least tells a b sound deck.announced
 
     greatest : b.greatest ≤ a.greatest
-    greatest = KeepsTold-greatest tells a b sound deck.told
+    greatest = KeepsAnnounced-greatest tells a b sound deck.announced
 
-    widen : (m : Moment) → HasPulled a m ⊎ IsPulling a bytes more records m
-        → HasPulled a m ⊎ IsPulling a bytes (more ++ piece) records m
+    widen : (m : Moment) → HasSamePulls a m ⊎ IsPullMoment a bytes more records m
+        → HasSamePulls a m ⊎ IsPullMoment a bytes (more ++ piece) records m
     widen = pulled_more a bytes more piece records
 
-    told_fresh : (m : Moment) → IsNow b m → 0 < length more → m.told ≡ a.told
+    told_fresh : (m : Moment) → IsNow b m → 0 < length more → m.announced ≡ a.announced
     told_fresh m now some =
         let fresh = deck.fresh (omega (arith, pulls.takes.taken, some)) in
-        omega (arith, now.least, now.greatest, fresh.least, fresh.greatest, deck.told.told)
+        omega (arith, now.least, now.greatest, fresh.least, fresh.greatest, deck.announced.announced)
 
     at_start : (m : Moment) → IsNow b m → IsTraceMoment a bytes (more ++ piece) records m
     at_start m now = record {
@@ -203,7 +203,7 @@ PullsFor-then tells a b c bytes more piece records sound deck pulls was disk tim
 
     amid : (m : Moment) → IsInsideCall b c m → IsTraceMoment a bytes (more ++ piece) records m
     amid m inside =
-        let told : m.told ≡ a.told = inside.told ∙ deck.told.told in
+        let told : m.announced ≡ a.announced = inside.announced ∙ deck.announced.announced in
         record {
           image = ⊎_elim (λ left. deck.disk.disk.no_more m.image left)
               (λ left. deck.disk.disk.no_more m.image (disk.disk.no_more m.image left)) inside.image;
@@ -216,16 +216,16 @@ PullsFor-then tells a b c bytes more piece records sound deck pulls was disk tim
         }
 
 -- One pull more, which failed.
-pub PullsFor-kept : (tells : Tells) (a b c : State) (bytes more : List ℕ) (records : List BusRecord) → IsSoundDeck tells a
-    → KeepsDeck tells a b → PullsMore tells a b bytes more → PullsFor tells a b bytes more records → LeavesDisk b c
+pub PullsForRecord-kept : (tells : Tells) (a b c : State) (bytes more : List ℕ) (records : List BusRecord) → IsSoundDeck tells a
+    → KeepsDeck tells a b → PullsUntilDecided tells a b bytes more → PullsForRecord tells a b bytes more records → LeavesDisk b c
     → Elapses tells b c
-    → EachMoment tells b c (Within b c) → PullsMore tells a c bytes more → KeepsLine b c → PullsFor tells a c bytes
+    → EachMoment tells b c (Within b c) → PullsUntilDecided tells a c bytes more → KeepsInput b c → PullsForRecord tells a c bytes
     more records
-PullsFor-kept tells a b c bytes more records sound deck pulls was disk time moments pulls_now line =
+PullsForRecord-kept tells a b c bytes more records sound deck pulls was disk time moments pulls_now line =
     let nothing : more ++ [] ≡ more = append-nil more in
-    let now : PullsMore tells a c bytes (more ++ []) = subst (PullsMore tells a c bytes) (sym nothing) pulls_now in
-    let last : 0 < length (more ++ []) → IsLastPull a.taken bytes (more ++ []) records c.before c.taken = λ some.
-    subst (λ (x : List ℕ). IsLastPull a.taken bytes x records c.before c.taken) (sym nothing)
+    let now : PullsUntilDecided tells a c bytes (more ++ []) = subst (PullsUntilDecided tells a c bytes) (sym nothing) pulls_now in
+    let last : 0 < length (more ++ []) → IsNeededPull a.taken bytes (more ++ []) records c.pulled_before c.taken = λ some.
+    subst (λ (x : List ℕ). IsNeededPull a.taken bytes x records c.pulled_before c.taken) (sym nothing)
     (last_kept tells a b c bytes more records was line (subst (λ (x : List ℕ). 0 < length x) nothing some)) in
-    subst (λ (x : List ℕ). PullsFor tells a c bytes x records) nothing
-    (PullsFor-then tells a b c bytes more [] records sound deck pulls was disk time moments now last)
+    subst (λ (x : List ℕ). PullsForRecord tells a c bytes x records) nothing
+    (PullsForRecord-then tells a b c bytes more [] records sound deck pulls was disk time moments now last)

@@ -1,4 +1,4 @@
--- What was pulled of a trace, one pull behind another.
+-- What was pulled of a trace, one pull after another.
 use Rattle.std.proofs.Common.{◌≡◌, ℕ, ◌+◌, ◌-◌, ◌<◌, ◌≤◌, ⊎_elim, List, [], ◌++◌, length, take, ap, sym, refl, ◌∙◌, subst, append_assoc, length-append, arith}
 use Rattle.std.proofs.lemmas.Bool.{cases_lt}
 use Rattle.std.proofs.lemmas.List.{append-nil, nil_from_length}
@@ -6,9 +6,9 @@ use Rattle.std.proofs.Math.Seq.{take-append-add}
 use Rattle.fdr_bus.specs.Records.{IsDecided}
 use Rattle.fdr_deck.specs.State.{State, Tells}
 use Rattle.fdr_deck.specs.Calls.{LeavesDisk}
-use Rattle.fdr_deck.specs.Pull.{KeepsLine}
-use Rattle.fdr_deck.proofs.Line.{TakesLine-from_keeps, TakesLine-then}
-use Rattle.fdr_trace.specs.Pulls.{Pulled, PullsMore}
+use Rattle.fdr_deck.specs.Pull.{KeepsInput}
+use Rattle.fdr_deck.proofs.Line.{TakesInput-from_keeps, TakesInput-then}
+use Rattle.fdr_trace.specs.Pulls.{PullsPiece, PullsUntilDecided}
 
 pub LeavesDisk-here : (s : State) → LeavesDisk s s
 LeavesDisk-here s = record {
@@ -29,9 +29,9 @@ LeavesDisk-then a b c first second = record {
 }
 
 -- nothing was pulled yet
-pub PullsMore-none : (tells : Tells) (s : State) (bytes : List ℕ) → PullsMore tells s s bytes []
-PullsMore-none tells s bytes = record {
-  takes = TakesLine-from_keeps tells s s (record { line = refl; taken = refl; before = refl });
+pub PullsUntilDecided-none : (tells : Tells) (s : State) (bytes : List ℕ) → PullsUntilDecided tells s s bytes []
+PullsUntilDecided-none tells s bytes = record {
+  takes = TakesInput-from_keeps tells s s (record { input = refl; taken = refl; pulled_before = refl });
   none = λ e. refl;
   begins = λ some. absurd (omega (arith, some));
   gave_bytes = λ some. absurd (omega (arith, some));
@@ -54,11 +54,12 @@ nothing_more more later n none = ap (λ (x : List ℕ). take n (more ++ x)) (nil
 front_none : (taken before : ℕ) → before ≡ taken → before - taken ≡ 0
 front_none taken before same = omega arith
 
--- one stretch of pulls behind another
-pub PullsMore-then : (tells : Tells) (a b c : State) (bytes more later : List ℕ) → PullsMore tells a b bytes more → PullsMore tells b c (bytes ++ more) later
-    → PullsMore tells a c bytes (more ++ later)
-PullsMore-then tells a b c bytes more later first second = record {
-  takes = TakesLine-then tells a b c more later first.takes second.takes;
+-- one stretch of pulls after another
+pub PullsUntilDecided-then : (tells : Tells) (a b c : State) (bytes more later : List ℕ) → PullsUntilDecided tells a b bytes more
+    → PullsUntilDecided tells b c (bytes ++ more) later
+    → PullsUntilDecided tells a c bytes (more ++ later)
+PullsUntilDecided-then tells a b c bytes more later first second = record {
+  takes = TakesInput-then tells a b c more later first.takes second.takes;
   none = λ e. second.none (omega (arith, length-append more later)) ∙ first.none (omega (arith, length-append more later));
   begins = λ some. ⊎_elim
       (λ here. omega (arith, second.begins here, first.takes.taken))
@@ -79,9 +80,9 @@ PullsMore-then tells a b c bytes more later first second = record {
   undecided = λ some decided. ⊎_elim
       (λ here.
       let begins = second.begins here in
-      let from : length more ≤ c.before - a.taken = omega (arith, begins, first.takes.taken) in
-      let rest : c.before - a.taken - length more ≡ c.before - b.taken = omega (arith, begins, first.takes.taken) in
-      second.undecided here (subst IsDecided (front_of_both bytes more later (c.before - a.taken) from ∙ ap (λ n. (bytes ++ more) ++ take n later) rest)
+      let from : length more ≤ c.pulled_before - a.taken = omega (arith, begins, first.takes.taken) in
+      let rest : c.pulled_before - a.taken - length more ≡ c.pulled_before - b.taken = omega (arith, begins, first.takes.taken) in
+      second.undecided here (subst IsDecided (front_of_both bytes more later (c.pulled_before - a.taken) from ∙ ap (λ n. (bytes ++ more) ++ take n later) rest)
       decided))
       (λ none.
       let same = second.none (omega (arith, none)) in
@@ -89,36 +90,37 @@ PullsMore-then tells a b c bytes more later first second = record {
       let begins = first.begins some_first in
       let few = first.within_piece some_first in
       first.undecided some_first (subst IsDecided (ap (λ (x : List ℕ). bytes ++ x)
-      (ap (λ n. take n (more ++ later)) (ap (λ n. n - a.taken) same) ∙ nothing_more more later (b.before - a.taken) (omega (arith, none)))) decided))
+      (ap (λ n. take n (more ++ later)) (ap (λ n. n - a.taken) same) ∙ nothing_more more later (b.pulled_before - a.taken) (omega (arith, none)))) decided))
       (cases_lt 0 (length later));
   faults = omega (arith, first.faults, second.faults);
 }
 
 -- one pull more, where the bytes before it don't decide the trace
-pub PullsMore-pull : (tells : Tells) (a b c : State) (bytes more piece : List ℕ) → PullsMore tells a b bytes more
-    → (IsDecided (bytes ++ more) → ⊥) → Pulled tells b c piece → b.line_faults ≤ c.line_faults
-    → PullsMore tells a c bytes (more ++ piece)
-PullsMore-pull tells a b c bytes more piece first undecided pull faults =
-    PullsMore-then tells a b c bytes more piece first (record {
+pub PullsUntilDecided-pull : (tells : Tells) (a b c : State) (bytes more piece : List ℕ) → PullsUntilDecided tells a b bytes more
+    → (IsDecided (bytes ++ more) → ⊥) → PullsPiece tells b c piece → b.input_faults ≤ c.input_faults
+    → PullsUntilDecided tells a c bytes (more ++ piece)
+PullsUntilDecided-pull tells a b c bytes more piece first undecided pull faults =
+    PullsUntilDecided-then tells a b c bytes more piece first (record {
       takes = pull.takes;
       none = pull.none;
       begins = λ some. omega (arith, pull.began some);
       gave_bytes = λ some. omega (arith, pull.began some, pull.takes.taken, some);
       within_piece = λ some. omega (arith, pull.began some, pull.takes.taken, pull.within_piece);
       undecided = λ some decided. undecided (subst IsDecided
-          (ap (λ (x : List ℕ). (bytes ++ more) ++ x) (ap (λ n. take n piece) (front_none b.taken c.before (pull.began some))) ∙ append-nil (bytes ++ more))
+          (ap (λ (x : List ℕ). (bytes ++ more) ++ x) (ap (λ n. take n piece) (front_none b.taken c.pulled_before (pull.began some))) ∙ append-nil
+          (bytes ++ more))
           decided);
       faults = faults;
     })
 
 -- a pull that failed
-pub PullsMore-kept : (tells : Tells) (a b c : State) (bytes more : List ℕ) → PullsMore tells a b bytes more
-    → KeepsLine b c → b.line_faults ≤ c.line_faults → PullsMore tells a c bytes more
-PullsMore-kept tells a b c bytes more first kept faults =
-    subst (PullsMore tells a c bytes) (append-nil more)
-    (PullsMore-then tells a b c bytes more [] first (record {
-      takes = TakesLine-from_keeps tells b c kept;
-      none = λ e. kept.before;
+pub PullsUntilDecided-kept : (tells : Tells) (a b c : State) (bytes more : List ℕ) → PullsUntilDecided tells a b bytes more
+    → KeepsInput b c → b.input_faults ≤ c.input_faults → PullsUntilDecided tells a c bytes more
+PullsUntilDecided-kept tells a b c bytes more first kept faults =
+    subst (PullsUntilDecided tells a c bytes) (append-nil more)
+    (PullsUntilDecided-then tells a b c bytes more [] first (record {
+      takes = TakesInput-from_keeps tells b c kept;
+      none = λ e. kept.pulled_before;
       begins = λ some. absurd (omega (arith, some));
       gave_bytes = λ some. absurd (omega (arith, some));
       within_piece = λ some. absurd (omega (arith, some));

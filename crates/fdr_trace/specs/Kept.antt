@@ -1,4 +1,4 @@
--- What is kept of a trace that is read from a line.
+-- What is kept of a trace that is read from an input.
 use Rattle.std.specs.Prelude.{ℕ, ◌≡◌, ◌≤◌, List, length}
 
 -- the bytes that were pulled and not yet read, the time of the last record that was read, and how many were

@@ -3,12 +3,12 @@ use Rattle.std.specs.Prelude.{◌≡◌, ◌⊎◌, ℕ, ◌+◌, ◌-◌, ◌<�
 use Rattle.fdr_bus.specs.declared.BusRecord.{BusRecord}
 use Rattle.fdr_bus.specs.Records.{IsDecided, good_prefix}
 use Rattle.fdr_deck.specs.State.{State, Tells, Moment}
-use Rattle.fdr_deck.specs.Moments.{HasPulled, EachMoment}
+use Rattle.fdr_deck.specs.Moments.{HasSamePulls, EachMoment}
 
--- Behind these bytes, which were pulled up to `start`, more were pulled, and by the last pull that gave bytes those from
+-- After these bytes, which were pulled up to `start`, more were pulled, and by the last pull that gave bytes those from
 -- `before` to `taken`. No whole record was kept back then: the good ones of the bytes before that pull are those that had
 -- been read, and these bytes don't decide the trace.
-pub record IsLastPull (start : ℕ) (bytes more : List ℕ) (records : List BusRecord) (before taken : ℕ) : Type 0 where
+pub record IsNeededPull (start : ℕ) (bytes more : List ℕ) (records : List BusRecord) (before taken : ℕ) : Type 0 where
   pub begins : start ≤ before
   pub gave_bytes : before < taken
   pub within_piece : taken ≤ before + 4096
@@ -16,19 +16,19 @@ pub record IsLastPull (start : ℕ) (bytes more : List ℕ) (records : List BusR
   pub read : good_prefix (bytes ++ take (before - start) more) ≡ records
   pub undecided : IsDecided (bytes ++ take (before - start) more) → ⊥
 
--- a moment behind a pull made since that gave bytes
-pub record IsPulling (old : State) (bytes more : List ℕ) (records : List BusRecord) (m : Moment) : Type 0 where
-  pub told : m.told ≡ old.told
-  pub last : IsLastPull old.taken bytes more records m.before m.taken
+-- a moment after a pull made since that gave bytes
+pub record IsPullMoment (old : State) (bytes more : List ℕ) (records : List BusRecord) (m : Moment) : Type 0 where
+  pub announced : m.announced ≡ old.announced
+  pub last : IsNeededPull old.taken bytes more records m.pulled_before m.taken
 
 -- a moment while the record after these is read
 pub record IsTraceMoment (old : State) (bytes more : List ℕ) (records : List BusRecord) (m : Moment) : Type 0 where
   pub image : old.may_leave m.image
-  pub least : old.least ≤ m.told
-  pub greatest : m.told ≤ old.greatest
-  pub pulled : HasPulled old m ⊎ IsPulling old bytes more records m
+  pub least : old.least ≤ m.announced
+  pub greatest : m.announced ≤ old.greatest
+  pub pulled : HasSamePulls old m ⊎ IsPullMoment old bytes more records m
 
--- More was pulled behind these bytes for the record after these.
-pub record PullsFor (tells : Tells) (old new : State) (bytes more : List ℕ) (records : List BusRecord) : Type 0 where
-  pub last : 0 < length more → IsLastPull old.taken bytes more records new.before new.taken
+-- More was pulled after these bytes for the record after these.
+pub record PullsForRecord (tells : Tells) (old new : State) (bytes more : List ℕ) (records : List BusRecord) : Type 0 where
+  pub last : 0 < length more → IsNeededPull old.taken bytes more records new.pulled_before new.taken
   pub moments : EachMoment tells old new (IsTraceMoment old bytes more records)

@@ -2,24 +2,24 @@
 use Rattle.std.specs.Prelude.{◌≡◌, ℕ, ◌+◌, ◌-◌, ◌<◌, ◌≤◌, List, [], ◌++◌, length, take, IsTrue}
 use Rattle.fdr_bus.specs.Records.{IsDecided}
 use Rattle.fdr_deck.specs.State.{State, Tells}
-use Rattle.fdr_deck.specs.Pull.{TakesLine}
+use Rattle.fdr_deck.specs.Pull.{TakesInput}
 
--- one pull that gave these bytes, at most 4,096 of them; none only at the line's end
-pub record Pulled (tells : Tells) (old new : State) (piece : List ℕ) : Type 0 where
-  pub takes : TakesLine tells old new piece
+-- one pull that gave these bytes, at most 4,096 of them; none only at the input's end
+pub record PullsPiece (tells : Tells) (old new : State) (piece : List ℕ) : Type 0 where
+  pub takes : TakesInput tells old new piece
   pub within_piece : length piece ≤ 4096
-  pub began : 0 < length piece → new.before ≡ old.taken
-  pub none : length piece ≡ 0 → new.before ≡ old.before
-  pub end : length piece ≡ 0 → IsTrue tells.line → new.line ≡ []
-  pub faults : new.line_faults ≡ old.line_faults
+  pub began : 0 < length piece → new.pulled_before ≡ old.taken
+  pub none : length piece ≡ 0 → new.pulled_before ≡ old.pulled_before
+  pub end : length piece ≡ 0 → IsTrue tells.input → new.input ≡ []
+  pub faults : new.input_faults ≡ old.input_faults
 
--- Behind these bytes of the trace, more were pulled, at most 4,096 at a time, and none once the bytes before it decided the
+-- After these bytes of the trace, more were pulled, at most 4,096 at a time, and none once the bytes before it decided the
 -- trace.
-pub record PullsMore (tells : Tells) (old new : State) (bytes more : List ℕ) : Type 0 where
-  pub takes : TakesLine tells old new more
-  pub none : length more ≡ 0 → new.before ≡ old.before
-  pub begins : 0 < length more → old.taken ≤ new.before
-  pub gave_bytes : 0 < length more → new.before < new.taken
-  pub within_piece : 0 < length more → new.taken ≤ new.before + 4096
-  pub undecided : 0 < length more → IsDecided (bytes ++ take (new.before - old.taken) more) → ⊥
-  pub faults : old.line_faults ≤ new.line_faults
+pub record PullsUntilDecided (tells : Tells) (old new : State) (bytes more : List ℕ) : Type 0 where
+  pub takes : TakesInput tells old new more
+  pub none : length more ≡ 0 → new.pulled_before ≡ old.pulled_before
+  pub begins : 0 < length more → old.taken ≤ new.pulled_before
+  pub gave_bytes : 0 < length more → new.pulled_before < new.taken
+  pub within_piece : 0 < length more → new.taken ≤ new.pulled_before + 4096
+  pub undecided : 0 < length more → IsDecided (bytes ++ take (new.pulled_before - old.taken) more) → ⊥
+  pub faults : old.input_faults ≤ new.input_faults

@@ -30,20 +30,20 @@ pub record IsNextRecord (k : TraceKept) (bytes : List ℕ) (records : List BusRe
 pub record IsTraceRefused (tells : Tells) (new : State) (bytes : List ℕ) (records : List BusRecord) (index : ℕ) (why : TraceFault) : Type 0 where
   pub good : good_prefix bytes ≡ records
   pub first : trace_fault bytes ≡ Some (index, why)
-  pub end : why ≡ fault.Truncated → IsTrue tells.line → new.line ≡ []
+  pub end : why ≡ fault.Truncated → IsTrue tells.input → new.input ≡ []
 
 -- No more could be pulled after these records, which are all the good ones of these bytes and don't decide the trace.
 pub record IsCutOff (old new : State) (bytes : List ℕ) (records : List BusRecord) : Type 0 where
   pub good : good_prefix bytes ≡ records
   pub undecided : IsDecided bytes → ⊥
-  pub cause : Rose old.line_faults new.line_faults
+  pub cause : Rose old.input_faults new.input_faults
 
 -- why no record comes after these
 abbrev pub IsTraceStopped : Tells → State → State → List ℕ → List BusRecord → TraceStop → Type 0
 IsTraceStopped tells old new bytes records (stop.Refused index why) = IsTraceRefused tells new bytes records index why
 IsTraceStopped tells old new bytes records stop.Failed = IsCutOff old new bytes records
 
--- A whole record waits behind these records.
+-- A whole record waits after these records.
 pub record IsFilled (k : TraceKept) (bytes : List ℕ) (records : List BusRecord) : Type 0 where
   pub reads : RepresentsTrace k bytes records
   pub waits : 16 ≤ length k.waiting

@@ -1,15 +1,15 @@
-//! The records of a trace, pulled from a deck's line a piece at a time.
+//! The records of a trace, pulled from a deck's input a piece at a time.
 #![tactic(auto)]
 
 ghost use Rattle.std.specs.Prelude.{◌≡◌, ◌≢◌, ◌<◌, ◌≤◌, ◌+◌, ℕ, List, [], ◌++◌, length, Err, IfOk, IfErr, OnOk, OnErr, MatchResult, IsTrue};
 ghost use Rattle.fdr_io.specs.Faults.{Rose};
-ghost use Rattle.fdr_deck.specs.Calls.{KeepsTold, HasOneAnnounced, LeavesDisk};
+ghost use Rattle.fdr_deck.specs.Calls.{KeepsAnnounced, HasOneAnnounced, LeavesDisk};
 ghost use Rattle.fdr_deck.specs.Moments.{Elapses, EachMoment, Within};
-ghost use Rattle.fdr_deck.specs.Pull.{KeepsLine};
+ghost use Rattle.fdr_deck.specs.Pull.{KeepsInput};
 ghost use Rattle.fdr_bus.specs.Records.{most_records};
 ghost use Rattle.fdr_bus.specs.declared.BusRecord.{BusRecord};
-ghost use Rattle.fdr_trace.specs.Moments.{PullsFor};
-ghost use Rattle.fdr_trace.specs.Pulls.{Pulled, PullsMore};
+ghost use Rattle.fdr_trace.specs.Moments.{PullsForRecord};
+ghost use Rattle.fdr_trace.specs.Pulls.{PullsPiece, PullsUntilDecided};
 ghost use Rattle.fdr_trace.specs.Reading.{RepresentsTrace, IsNextRecord, IsTraceStopped, IsFilled, TakesRecord, RefusesRecord};
 
 use circular_buffer::HeapCircularBuffer;
@@ -31,13 +31,13 @@ const PIECE: usize = 4096;
 /// Why no further record of a trace comes.
 #[derive(Clone, Copy, Debug, PartialEq, Eq)]
 pub enum TraceStop {
-    /// The record after so many good ones isn't good.
+    /// The record of number `index`, after the good ones, isn't good.
     Refused { index: u64, fault: TraceFault },
-    /// The line couldn't be read: its count of faults rose.
+    /// The input couldn't be read: its count of faults rose.
     Failed,
 }
 
-/// Reads the records of a trace from a deck's line. It keeps less than a record beside the piece that was pulled last.
+/// Reads the records of a trace from a deck's input. It keeps less than a record beside the piece that was pulled last.
 #[derive(Drop)]
 pub struct TraceLine {
     waiting: HeapCircularBuffer<u8>,
@@ -76,13 +76,13 @@ impl TraceLine {
     pub fn next<D: Deck>(&mut self, deck: &mut D) -> Result<BusRecord, TraceStop>
         requires { (bytes : List ℕ) × (records : List BusRecord) × RepresentsTrace self.old bytes records }
         ensures next { (bytes : List ℕ) (records : List BusRecord) → RepresentsTrace self.old bytes records
-            → (more : List ℕ) × PullsMore D.tells (D.state deck.old) (D.state deck.new) bytes more
+            → (more : List ℕ) × PullsUntilDecided D.tells (D.state deck.old) (D.state deck.new) bytes more
             × MatchResult result (IsNextRecord self.new (bytes ++ more) records)
             (IsTraceStopped D.tells (D.state deck.old) (D.state deck.new) (bytes ++ more) records)
-            × PullsFor D.tells (D.state deck.old) (D.state deck.new) bytes more records }
-        ensures quiet { result ≢ Err TraceStop.Failed → (D.state deck.new).line_faults ≡ (D.state deck.old).line_faults }
+            × PullsForRecord D.tells (D.state deck.old) (D.state deck.new) bytes more records }
+        ensures no_fault { result ≢ Err TraceStop.Failed → (D.state deck.new).input_faults ≡ (D.state deck.old).input_faults }
         ensures disk { LeavesDisk (D.state deck.old) (D.state deck.new) }
-        ensures told { KeepsTold (D.state deck.old) (D.state deck.new) }
+        ensures announced { KeepsAnnounced (D.state deck.old) (D.state deck.new) }
         ensures fresh { (D.state deck.old).taken < (D.state deck.new).taken → HasOneAnnounced (D.state deck.new) }
         ensures time { Elapses D.tells (D.state deck.old) (D.state deck.new) }
         ensures rest { D.same_rest deck.old deck.new }
@@ -156,13 +156,13 @@ impl TraceLine {
         requires { (bytes : List ℕ) × (records : List BusRecord) × RepresentsTrace self.old bytes records × (length records < most_records) }
         ensures filled { (bytes : List ℕ) (records : List BusRecord) → RepresentsTrace self.old bytes records
             → length records < most_records
-            → (more : List ℕ) × PullsMore D.tells (D.state deck.old) (D.state deck.new) bytes more
+            → (more : List ℕ) × PullsUntilDecided D.tells (D.state deck.old) (D.state deck.new) bytes more
             × MatchResult result (λ done. IsFilled self.new (bytes ++ more) records)
             (IsTraceStopped D.tells (D.state deck.old) (D.state deck.new) (bytes ++ more) records)
-            × PullsFor D.tells (D.state deck.old) (D.state deck.new) bytes more records }
-        ensures quiet { result ≢ Err TraceStop.Failed → (D.state deck.new).line_faults ≡ (D.state deck.old).line_faults }
+            × PullsForRecord D.tells (D.state deck.old) (D.state deck.new) bytes more records }
+        ensures no_fault { result ≢ Err TraceStop.Failed → (D.state deck.new).input_faults ≡ (D.state deck.old).input_faults }
         ensures disk { LeavesDisk (D.state deck.old) (D.state deck.new) }
-        ensures told { KeepsTold (D.state deck.old) (D.state deck.new) }
+        ensures announced { KeepsAnnounced (D.state deck.old) (D.state deck.new) }
         ensures fresh { (D.state deck.old).taken < (D.state deck.new).taken → HasOneAnnounced (D.state deck.new) }
         ensures time { Elapses D.tells (D.state deck.old) (D.state deck.new) }
         ensures rest { D.same_rest deck.old deck.new }
@@ -177,19 +177,19 @@ impl TraceLine {
         Ok(())
     }
 
-    /// Pulls a piece behind what waits, and answers how many bytes came; none only at the line's end. It has room for the
+    /// Pulls a piece after what waits, and answers how many bytes came; none only at the input's end. It has room for the
     /// piece on the stack, which the calls that pull nothing don't pay for.
     #[inline(never)]
     fn pull<D: Deck>(&mut self, deck: &mut D) -> Result<usize, Failed>
         requires room { length self.old.waiting ≤ 16 }
         ensures pulled { IfOk result (λ n. (piece : List ℕ) × (length piece ≡ n) × (self.new.waiting ≡ self.old.waiting ++ piece)
-            × Pulled D.tells (D.state deck.old) (D.state deck.new) piece) }
-        ensures kept { OnErr result (KeepsLine (D.state deck.old) (D.state deck.new)) }
+            × PullsPiece D.tells (D.state deck.old) (D.state deck.new) piece) }
+        ensures kept { OnErr result (KeepsInput (D.state deck.old) (D.state deck.new)) }
         ensures same { OnErr result (self.new.waiting ≡ self.old.waiting) }
-        ensures cause { OnErr result (Rose (D.state deck.old).line_faults (D.state deck.new).line_faults) }
-        ensures monotone { (D.state deck.old).line_faults ≤ (D.state deck.new).line_faults }
+        ensures cause { OnErr result (Rose (D.state deck.old).input_faults (D.state deck.new).input_faults) }
+        ensures monotone { (D.state deck.old).input_faults ≤ (D.state deck.new).input_faults }
         ensures disk { LeavesDisk (D.state deck.old) (D.state deck.new) }
-        ensures told { KeepsTold (D.state deck.old) (D.state deck.new) }
+        ensures announced { KeepsAnnounced (D.state deck.old) (D.state deck.new) }
         ensures fresh { OnOk result (HasOneAnnounced (D.state deck.new)) }
         ensures time { Elapses D.tells (D.state deck.old) (D.state deck.new) }
         ensures moments { EachMoment D.tells (D.state deck.old) (D.state deck.new) (Within (D.state deck.old) (D.state deck.new)) }

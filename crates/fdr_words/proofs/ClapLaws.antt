@@ -1,4 +1,4 @@
--- What clap answers at the words, by what they give.
+-- What clap answers at the arguments, by what they give.
 use Rattle.std.proofs.Common.{◌≡◌, ◌∙◌, ◌++◌, ◌&&◌, ◌||◌, ap, ap₂, subst, sym, refl, Bool, true, false, not, codes, map, List, [], ◌∷◌, Option, Some, None}
 use Rattle.std.proofs.Common.{Result, append_assoc, append-nil}
 use Rattle.std.specs.Prelude.{if◌then◌else◌, bytes_eq, slice_get}
@@ -101,15 +101,15 @@ turned_uses xs =
     go true = ap (λ u. Some u) (uses_are xs)
     go false = refl
 
-ended_uses : (words : List Text) → are_known words ≡ true
-    → option_map uses_in (ended rules (standing nothing_held 1) words) ≡ uses_of words
-ended_uses words known = ap (option_map uses_in) (walks_from_start words known) ∙ go (placed words first) ∙ sym (uses_placed words)
+ended_uses : (args : List Text) → are_known args ≡ true
+    → option_map uses_in (ended rules (standing nothing_held 1) args) ≡ uses_of args
+ended_uses args known = ap (option_map uses_in) (walks_from_start args known) ∙ go (placed args first) ∙ sym (uses_placed args)
   where
     go : (o : Option Values) → option_map uses_in (option_and_then (λ xs. put_in_turn xs []) o) ≡ option_and_then gathered o
     go None = refl
     go (Some xs) = turned_uses xs
 
--- ---- what comes after the words fails nowhere
+-- ---- what comes after the arguments fails nowhere
 
 abbrev HaveNoDefaults : List Rule → Type 0
 HaveNoDefaults [] = Unit {0}
@@ -150,53 +150,53 @@ no_defaults = (refl, (refl, (refl, (refl, (refl, (refl, (refl, tt)))))))
 none_missing : (rows : List Row) → check_fault (shaped rules) rows false ≡ []
 none_missing rows = refl
 
-level_ended : (words : List Text) → unless (level_fault (shaped rules) [] nothing_held words false []) (finished rules (walk rules [] nothing_held words).held)
-    ≡ ended rules (standing nothing_held 1) words
+level_ended : (args : List Text) → unless (level_fault (shaped rules) [] nothing_held args false []) (finished rules (walk rules [] nothing_held args).held)
+    ≡ ended rules (standing nothing_held 1) args
 unfolding ended
-level_ended words =
-    let end = (walk rules [] nothing_held words).held in
-    walk_alone (walk_fault (shaped rules) [] (walk_from nothing_held) words) (settle_fault rules false end) (defaults_fault (settled rules end).rows rules)
+level_ended args =
+    let end = (walk rules [] nothing_held args).held in
+    walk_alone (walk_fault (shaped rules) [] (walk_from nothing_held) args) (settle_fault rules false end) (defaults_fault (settled rules end).rows rules)
     (check_fault (shaped rules) (finished rules end) false) (finished rules end) (settled rules end).rows
     (defaults_pass rules (settled rules end).rows no_defaults) (none_missing (finished rules end)) (defaults_keep rules (settled rules end).rows no_defaults)
 
-reader_ended : (words : List Text) → unless (reader_faults words) (reader_rows words) ≡ ended rules (standing nothing_held 1) words
+reader_ended : (args : List Text) → unless (reader_faults args) (reader_rows args) ≡ ended rules (standing nothing_held 1) args
 unfolding reader_faults reader_rows
-reader_ended words =
+reader_ended args =
     let leaf : App = record { top = shaped rules; subs = [] } in
-    ap (λ (ks : Kinds). unless ks (finished rules (walk rules [] nothing_held words).held)) (leaf_fault leaf nothing_held words refl) ∙ level_ended words
+    ap (λ (ks : Kinds). unless ks (finished rules (walk rules [] nothing_held args).held)) (leaf_fault leaf nothing_held args refl) ∙ level_ended args
 
 -- ---- the laws
 
-reader_uses : (words : List Text) → are_known words ≡ true
-    → option_map uses_in (unless (reader_faults words) (reader_rows words)) ≡ uses_of words
-reader_uses words known = ap (option_map uses_in) (reader_ended words) ∙ ended_uses words known
+reader_uses : (args : List Text) → are_known args ≡ true
+    → option_map uses_in (unless (reader_faults args) (reader_rows args)) ≡ uses_of args
+reader_uses args known = ap (option_map uses_in) (reader_ended args) ∙ ended_uses args known
 
--- where clap takes the words, their uses are those of its rows
-pub taken_uses : (words : List Text) (rows : List Row) → are_known words ≡ true → reader_faults words ≡ []
-    → rows ≡ reader_rows words → uses_of words ≡ Some (uses_in rows)
-taken_uses words rows known none same =
-    sym (reader_uses words known) ∙ ap (λ ks. option_map uses_in (unless ks (reader_rows words))) none ∙ ap (λ rs. Some (uses_in rs)) (sym same)
+-- where clap takes the arguments, their uses are those of its rows
+pub taken_uses : (args : List Text) (rows : List Row) → are_known args ≡ true → reader_faults args ≡ []
+    → rows ≡ reader_rows args → uses_of args ≡ Some (uses_in rows)
+taken_uses args rows known none same =
+    sym (reader_uses args known) ∙ ap (λ ks. option_map uses_in (unless ks (reader_rows args))) none ∙ ap (λ rs. Some (uses_in rs)) (sym same)
 
 -- where clap refuses them for what they are, they give nothing
-pub refused_uses : (words : List Text) (k : ErrorKind) → are_known words ≡ true → IsAmong k (reader_faults words)
-    → uses_of words ≡ None
-refused_uses words k known among = sym (reader_uses words known) ∙ go (reader_faults words) among
+pub refused_uses : (args : List Text) (k : ErrorKind) → are_known args ≡ true → IsAmong k (reader_faults args)
+    → uses_of args ≡ None
+refused_uses args k known among = sym (reader_uses args known) ∙ go (reader_faults args) among
   where
-    go : (ks : Kinds) → IsAmong k ks → option_map uses_in (unless ks (reader_rows words)) ≡ None
+    go : (ks : Kinds) → IsAmong k ks → option_map uses_in (unless ks (reader_rows args)) ≡ None
     go [] h = absurd h
     go (x ∷ xs) h = refl
 
 -- the same of a command that is the reader
-pub reader_fails : {T : Type 0} (a : App) (words : List Text) (r : Result T Error) → a ≡ reader → (is_simple_and_free a ≡ true → FailsBy (fault_of a words) r)
-    → FailsBy (reader_faults words) r
+pub reader_fails : {T : Type 0} (a : App) (args : List Text) (r : Result T Error) → a ≡ reader → (is_simple_and_free a ≡ true → FailsBy (fault_of a args) r)
+    → FailsBy (reader_faults args) r
 unfolding reader_faults
-reader_fails {T = T} a words r same fails = subst (λ (b : App). is_simple_and_free b ≡ true → FailsBy (fault_of b words) r) same fails refl
+reader_fails {T = T} a args r same fails = subst (λ (b : App). is_simple_and_free b ≡ true → FailsBy (fault_of b args) r) same fails refl
 
-pub reader_matches : (a : App) (words : List Text) (m : ArgMatches) → a ≡ reader → HasMatchesOf a words m → rows_of (found_of m) ≡ reader_rows words
+pub reader_matches : (a : App) (args : List Text) (m : ArgMatches) → a ≡ reader → HasMatchesOf a args m → rows_of (found_of m) ≡ reader_rows args
 unfolding reader_rows
-reader_matches a words m same has = (subst (λ (b : App). HasMatchesOf b words m) same has refl).0
+reader_matches a args m same has = (subst (λ (b : App). HasMatchesOf b args m) same has refl).0
 
--- ---- a word that no form has
+-- ---- an argument that no form has
 
 unknown_named : (o : OptionName) (v : Text) (b : Bool) (after : Option Uses) → (b ≡ true → after ≡ None)
     → (if b then option_and_then (with_value o v) after else None) ≡ None
@@ -219,8 +219,8 @@ unknown_rest : (a b : Bool) → (a && b) ≡ false → a ≡ true → b ≡ fals
 unknown_rest true b e is = e
 unknown_rest false b e is = cc
 
--- a word that no form has, somewhere
-pub unknown_word : (words : List Text) → are_known words ≡ false → uses_of words ≡ None
+-- an argument that no form has, somewhere
+pub unknown_word : (args : List Text) → are_known args ≡ false → uses_of args ≡ None
 unknown_word [] unknown = cc
 unknown_word (word ∷ []) unknown =
     unknown_followed word (word_meaning word) None (Some no_uses) None

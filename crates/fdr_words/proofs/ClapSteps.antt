@@ -1,4 +1,4 @@
--- What clap makes of one word, of a command whose arguments each take one value, once.
+-- What clap makes of one argument, of a command whose arguments each take one value, once.
 use Rattle.std.proofs.Common.{◌≡◌, ◌∙◌, ◌+◌, ◌++◌, ◌==◌, ◌&&◌, ap, ap₂, refl, ℕ, Bool, true, false, codes, List, [], ◌∷◌, Option, Some, None, length, min}
 use Rattle.std.proofs.Common.{nat_lt, append-nil}
 use Rattle.std.specs.Prelude.{if◌then◌else◌, bytes_eq}
@@ -67,7 +67,7 @@ shaped c = record {
   is_built = true;
 }
 
--- between two words, where no option waits for its value, and where one does
+-- between two arguments, where no option waits for its value, and where one does
 abbrev pub standing : Held → ℕ → Walk
 standing h p = record { held = h; waiting = idle; position = p; is_trailing = false; stopped = None }
 
@@ -96,11 +96,11 @@ passing (k ∷ ks) o = None
 abbrev pub settled_out : List Rule → Held → Option (List Row)
 settled_out c h = unless (settle_fault c false h) (settled c h).rows
 
--- the rows at the end of the words
+-- the rows at the end of the arguments
 unfoldable pub ended : List Rule → Walk → List Text → Option (List Row)
-ended c w words =
-    let end = (fold (walked c []) w words).held in
-    unless (or_else (walk_fault (shaped c) [] w words) (settle_fault c false end)) (settled c end).rows
+ended c w args =
+    let end = (fold (walked c []) w args).held in
+    unless (or_else (walk_fault (shaped c) [] w args) (settle_fault c false end)) (settled c end).rows
 
 abbrev pub put_row : List Row → Text → Text → Option (List Row)
 put_row rows id v = if has_row id rows then None else Some (rows ++ row_with id v ∷ [])
@@ -128,7 +128,7 @@ pub passing_both : (a b : Kinds) (o : Option (List Row)) → passing (or_else a 
 passing_both [] b o = refl
 passing_both (k ∷ ks) b o = refl
 
--- ---- what the words look like
+-- ---- what the arguments look like
 
 record IsValueWord (word : Text) : Type 0 where
   dashes : bytes_eq word (45 ∷ 45 ∷ []) ≡ false
@@ -145,7 +145,7 @@ pub record IsLongWord (word name : Text) (v : Option Text) : Type 0 where
   pub dashes : bytes_eq word (45 ∷ 45 ∷ []) ≡ false
   pub long : long_of word ≡ Some (name, v)
 
--- ---- one word
+-- ---- one argument
 
 module _ (c : List Rule) where
   pub ended_none : (w : Walk) → ended c w [] ≡ settled_out c w.held
@@ -163,7 +163,7 @@ module _ (c : List Rule) where
       → ended c w (word ∷ rest) ≡ passing turn (ended c v rest)
   ended_as w v word rest turn fault walk = ended_step w word rest ∙ ap₂ (λ ks x. passing ks (ended c x rest)) fault walk
 
-  -- ---- a word of the form
+  -- ---- an argument of the form
 
   plain_met : (word : Text) (h : Held) (p : ℕ) → IsValueWord word → word_met c [] false idle p word h ≡ (h, value)
   plain_met word h p is = rw (is.dashes, is.long, is.short) refl
@@ -194,7 +194,7 @@ module _ (c : List Rule) where
       ∙ ap (λ (o : Option Rule). to_positional c o word (standing h p) h) at
       ∙ ap₂ (λ (k : Held) (n : ℕ). standing (pushed id word k) n) (never_both (is_pending (ruled id None (Some p)) h.pending) h (settled c h)) past
 
-  -- a plain word, where a place is left
+  -- a plain argument, where a place is left
   pub plain_step : (word : Text) (rest : List Text) (h : Held) (p q : ℕ) (id : Text) → is_plain word ≡ true → arg_by_index c p ≡ Some (ruled id None (Some p))
       → min (p + 1) usize_max ≡ q
       → ended c (standing h p) (word ∷ rest) ≡ option_and_then (λ rows. ended c (standing (holding rows id (word ∷ []) h.skip) q) rest) (settled_out c h)
@@ -203,14 +203,14 @@ module _ (c : List Rule) where
       (plain_turn word h p id (value_word word is) at) (plain_walk word h p q id (value_word word is) at past)
       ∙ passing_then (settle_fault c false h) (settled c h).rows (λ rows. ended c (standing (holding rows id (word ∷ []) h.skip) q) rest)
 
-  -- a plain word, where none is left
+  -- a plain argument, where none is left
   pub stray_step : (word : Text) (rest : List Text) (h : Held) (p : ℕ) → is_plain word ≡ true → arg_by_index c p ≡ None
       → ended c (standing h p) (word ∷ rest) ≡ None
   stray_step word rest h p is none =
       ended_step (standing h p) word rest
       ∙ ap (λ ks. passing ks (ended c (walked c [] (standing h p) word) rest)) (turn_at word h p None (value_word word is) none)
 
-  -- ---- an option's word
+  -- ---- an option's argument
 
   long_met_as : (waiting : Waiting) (word name : Text) (v : Option Text) (a : Rule) (h : Held) (p : ℕ) → subcommand_met [] waiting word ≡ None
       → IsLongWord word name v
@@ -271,7 +271,7 @@ module _ (c : List Rule) where
   named_walk word name id l h p is found =
       ap (λ (m : Held × Step). after_step c word (standing h p) m.0 m.1) (long_met_as idle word name None (ruled id l None) h p refl is found)
 
-  -- an option whose value is the next word
+  -- an option whose value is the next argument
   pub named_step : (word name id : Text) (l : Option Text) (rest : List Text) (h : Held) (p : ℕ) → IsLongWord word name None
       → arg_by_long c name ≡ Some (ruled id l None)
       → ended c (standing h p) (word ∷ rest) ≡ option_and_then (λ rows. ended c (awaiting id (holding rows id [] h.skip) p) rest) (settled_out c h)
@@ -280,7 +280,7 @@ module _ (c : List Rule) where
       (named_turn word name id l h p is found) (named_walk word name id l h p is found)
       ∙ passing_then (settle_fault c false h) (settled c h).rows (λ rows. ended c (awaiting id (holding rows id [] h.skip) p) rest)
 
-  -- ---- the word after an option
+  -- ---- the argument after an option
 
   value_met : (word id : Text) (h : Held) (p : ℕ) (a : Rule) → IsValueWord word → arg_by_id c id ≡ Some a
       → word_met c [] false (option id) p word h ≡ ((option_word (Some a) id word h).0, next (option_word (Some a) id word h).1)

@@ -1,4 +1,4 @@
--- Where clap takes the words, its rows are their values by place; elsewhere it fails.
+-- Where clap takes the arguments, its rows are their values by place; elsewhere it fails.
 use Rattle.std.proofs.Common.{◌≡◌, ◌∙◌, ◌++◌, ◌&&◌, ap, ap₂, subst, sym, refl, ℕ, Bool, true, false, codes, List, [], ◌∷◌, Option, Some, None, length, take}
 use Rattle.std.proofs.Common.{drop, min, ◌+◌, nat_lt, take-append-drop}
 use Rattle.std.specs.Prelude.{if◌then◌else◌, bytes_eq}
@@ -19,7 +19,7 @@ use Rattle.fdr_words.proofs.ClapSteps.{IsLongWord, ruled, standing, holding, fre
 use Rattle.fdr_words.proofs.ClapSteps.{stray_step, given_step, named_step, value_step}
 use Rattle.fdr_words.proofs.ClapSteps.{no_value, option_for_value, use_is, holding_out}
 
--- ---- what a word's meaning says of its text
+-- ---- what an argument's meaning says of its text
 
 abbrev IsMeaning : List ℕ → Word → Type 0
 IsMeaning word plain = is_plain word ≡ true
@@ -152,10 +152,10 @@ rest_in_turn : (o : Option Values) (r : Option (List Row)) → option_and_then (
 rest_in_turn None r = none_of r
 rest_in_turn (Some xs) r = refl
 
--- ---- one word
+-- ---- one argument
 
 abbrev Walks : List Text → (Position → Option Values) → Type 0
-Walks words f = (h : Held) (p : Position) → ended rules (standing h (number p)) words ≡ through (f p) (settled_out rules h)
+Walks args f = (h : Held) (p : Position) → ended rules (standing h (number p)) args ≡ through (f p) (settled_out rules h)
 
 held_walks : (rest : List Text) (f : Position → Option Values) → Walks rest f → (id v : Text) (l : Option Text) (i : Option ℕ)
     → arg_by_id rules id ≡ Some (ruled id l i)
@@ -219,7 +219,7 @@ named_option word next o d v rest is other h p =
     rows h.skip (number p) other (by_long d) (by_id o) j) (settled_out rules h))
     ∙ none_of (settled_out rules h)
 
--- an option, and the word after it
+-- an option, and the argument after it
 named_walks : (word next : Text) (o : OptionName) (m : Word) (rest : List Text) (f : Position → Option Values) → IsLongWord word (option_id o) None
     → IsMeaning next m → has_meaning m ≡ true → (b : Bool) → is_plain next ≡ b → Walks rest f → (h : Held) (p : Position)
     → ended rules (standing h (number p)) (word ∷ next ∷ rest) ≡ through (if b then with_place (option_id o) next (f p) else None) (settled_out rules h)
@@ -229,7 +229,7 @@ named_walks word next o (named d) rest f is means known false e walks h p = name
 named_walks word next o (given d v) rest f is means known false e walks h p = named_option word next o d (Some v) rest is means h p
 named_walks word next o wrong rest f is means known false e walks h p = cc
 
--- ---- the words
+-- ---- the arguments
 
 last_walks : (word : Text) (m : Word) → IsMeaning word m → has_meaning m ≡ true → Walks [] (λ q. Some [])
     → Walks (word ∷ []) (λ p. placed_word word m None (λ q. Some []) None p)
@@ -250,7 +250,7 @@ word_walks word next wrong rest f g means known also walks more h p = cc
 nothing_walks : Walks [] (λ q. Some [])
 nothing_walks h p = ended_none rules (standing h (number p)) ∙ none_in_turn (settled_out rules h)
 
-walks_placed : (words : List Text) → are_known words ≡ true → Walks words (λ p. placed words p)
+walks_placed : (args : List Text) → are_known args ≡ true → Walks args (λ p. placed args p)
 walks_placed [] known h p = nothing_walks h p
 walks_placed (word ∷ []) known h p =
     let parts = and_parts (has_meaning (word_meaning word)) true known in
@@ -261,7 +261,7 @@ walks_placed (word ∷ next ∷ rest) known h p =
     word_walks word next (word_meaning word) rest (λ q. placed (next ∷ rest) q) (λ q. placed rest q) (meaning_is word) parts.0 also.0
     (λ k q. walks_placed (next ∷ rest) parts.1 k q) (λ k q. walks_placed rest also.1 k q) h p
 
--- from the first word on
-pub walks_from_start : (words : List Text) → are_known words ≡ true
-    → ended rules (standing nothing_held 1) words ≡ option_and_then (λ xs. put_in_turn xs []) (placed words first)
-walks_from_start words known = walks_placed words known nothing_held first
+-- from the first argument on
+pub walks_from_start : (args : List Text) → are_known args ≡ true
+    → ended rules (standing nothing_held 1) args ≡ option_and_then (λ xs. put_in_turn xs []) (placed args first)
+walks_from_start args known = walks_placed args known nothing_held first

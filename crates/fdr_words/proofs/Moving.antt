@@ -9,12 +9,12 @@ use Rattle.fdr_words.specs.declared.uses.OptionName.{OptionName}
 use Rattle.fdr_words.specs.declared.uses.OptionName.TheVariants as name
 use Rattle.fdr_words.specs.Words.{Word, plain, named, given, wrong, is_plain, word_meaning, value_after, Uses, no_uses, with_plain, with_value, followed}
 use Rattle.fdr_words.specs.Words.{uses_of, value_in}
-use Rattle.fdr_words.specs.Spelling.{option_word, Spelling, two_words, one_word, option_words, is_option_name, ends_in_option_name}
+use Rattle.fdr_words.specs.Spelling.{option_word, Spelling, two_words, one_word, option_args, is_option_name, ends_in_option_name}
 use Rattle.fdr_words.specs.Forms.{form_with, form_of_uses, form_of, format_form, drill_form, least_slots, most_slots, least_payload, most_payload}
 use Rattle.fdr_words.specs.Forms.{most_seed, least_drill_frames, most_drill_frames}
 use Rattle.fdr_words.proofs.UsesSteps.{given_step, then_some, where_some}
 
--- ---- the first word
+-- ---- the first argument
 
 plain_first : (word : List ℕ) (rest : List (List ℕ)) → word_meaning word ≡ plain → uses_of (word ∷ rest) ≡ option_and_then (with_plain word) (uses_of rest)
 plain_first word [] is = ap (λ (w : Word). followed word w None (Some no_uses) None) is
@@ -28,7 +28,7 @@ named_first : (word value : List ℕ) (rest : List (List ℕ)) (option : OptionN
     → uses_of (word ∷ value ∷ rest) ≡ (if is_plain value then option_and_then (with_value option value) (uses_of rest) else None)
 named_first word value rest option is = ap (λ (w : Word). followed word w (Some value) (uses_of (value ∷ rest)) (uses_of rest)) is
 
--- the first word, where there is one, is plain
+-- the first argument, where there is one, is plain
 abbrev starts_plain : List (List ℕ) → Bool
 starts_plain [] = false
 starts_plain (word ∷ rest) = is_plain word
@@ -40,9 +40,9 @@ bare_first word [] option is off = ap (λ (w : Word). followed word w None (Some
 bare_first word (next ∷ rest) option is off =
     named_first word next rest option is ∙ ap (λ (b : Bool). if b then option_and_then (with_value option next) (uses_of rest) else None) off
 
--- ---- what two lists of words give, with the same words in front
+-- ---- what two lists of arguments give, with the same arguments in front
 
--- a relation that another word in front keeps
+-- a relation that another argument in front keeps
 record IsKept (R : Option Uses → Option Uses → Type 0) : Type 0 where
   none : R None None
   plain : (word : List ℕ) (a b : Option Uses) → R a b → R (option_and_then (with_plain word) a) (option_and_then (with_plain word) b)
@@ -61,7 +61,7 @@ one_in_front R k xs ys h word (given option value) is off =
     both_are R _ _ _ _ (given_step word xs option value is) (given_step word ys option value is) (k.value option value (uses_of xs) (uses_of ys) h)
 one_in_front R k xs ys h word wrong is off = both_are R _ _ _ _ (wrong_first word xs is) (wrong_first word ys is) k.none
 
--- any word in front of words that are no option's value
+-- any argument in front of arguments that are no option's value
 any_in_front : (R : Option Uses → Option Uses → Type 0) → IsKept R → (xs ys : List (List ℕ)) → R (uses_of xs) (uses_of ys)
     → starts_plain xs ≡ false → starts_plain ys ≡ false → (word : List ℕ) (w : Word) → word_meaning word ≡ w → R (uses_of (word ∷ xs)) (uses_of (word ∷ ys))
 any_in_front R k xs ys h p q word plain is = one_in_front R k xs ys h word plain is refl
@@ -82,7 +82,7 @@ followed_both R k word (named option) next a b c d h g = go (is_plain next)
     go false = k.none
 followed_both R k word wrong next a b c d h g = k.none
 
--- what holds of the last word
+-- what holds of the last argument
 abbrev OfLast : (List ℕ → Type 0) → List (List ℕ) → Type 0
 OfLast P [] = Unit {0}
 OfLast P (word ∷ []) = P word
@@ -113,14 +113,14 @@ all_in_front R k xs ys h (word ∷ next ∷ rest) end =
     (all_in_front R k xs ys h (next ∷ rest) end)
     (all_in_front R k xs ys h rest (of_later P next rest end))
 
--- words in front of which the last is no option's name
+-- arguments in front of which the last is no option's name
 after_no_option : (R : Option Uses → Option Uses → Type 0) → IsKept R → (xs ys : List (List ℕ)) → R (uses_of xs) (uses_of ys)
     → (before : List (List ℕ)) → ends_in_option_name before ≡ false → R (uses_of (before ++ xs)) (uses_of (before ++ ys))
 after_no_option R k xs ys h before off =
     all_in_front R k xs ys h before
     (of_no_option (λ word. R (uses_of (word ∷ xs)) (uses_of (word ∷ ys))) (λ word is. one_in_front R k xs ys h word (word_meaning word) refl is) before off)
 
--- any words in front of words that are no option's value
+-- any arguments in front of arguments that are no option's value
 after_any : (R : Option Uses → Option Uses → Type 0) → IsKept R → (xs ys : List (List ℕ)) → R (uses_of xs) (uses_of ys)
     → starts_plain xs ≡ false → starts_plain ys ≡ false → (before : List (List ℕ)) → R (uses_of (before ++ xs)) (uses_of (before ++ ys))
 after_any R k xs ys h p q before =
@@ -139,7 +139,7 @@ same_kept = record {
 
 -- ---- an option and its value in front
 
--- the value may be given so: a word of its own is plain, and one after `=` isn't empty
+-- the value may be given so: an argument of its own is plain, and one after `=` isn't empty
 abbrev is_allowed : Spelling → List ℕ → Bool
 is_allowed two_words value = is_plain value
 is_allowed one_word [] = false
@@ -167,13 +167,13 @@ value_means name.Seed byte rest = grind arith
 value_means name.Frames byte rest = grind arith
 
 option_first : (how : Spelling) (option : OptionName) (value : List ℕ) (rest : List (List ℕ))
-    → uses_of (option_words how option value ++ rest) ≡ (if is_allowed how value then option_and_then (with_value option value) (uses_of rest) else None)
+    → uses_of (option_args how option value ++ rest) ≡ (if is_allowed how value then option_and_then (with_value option value) (uses_of rest) else None)
 option_first two_words option value rest = named_first (option_word option) value rest option (name_means option)
 option_first one_word option [] rest = wrong_first (option_word option ++ codes "=" ++ []) rest (empty_means option)
 option_first one_word option (byte ∷ after) rest =
     given_step (option_word option ++ codes "=" ++ byte ∷ after) rest option (byte ∷ after) (value_means option byte after)
 
-not_plain_first : (how : Spelling) (option : OptionName) (value : List ℕ) (rest : List (List ℕ)) → starts_plain (option_words how option value ++ rest) ≡ false
+not_plain_first : (how : Spelling) (option : OptionName) (value : List ℕ) (rest : List (List ℕ)) → starts_plain (option_args how option value ++ rest) ≡ false
 not_plain_first two_words name.Slots value rest = refl
 not_plain_first two_words name.Payload value rest = refl
 not_plain_first two_words name.Seed value rest = refl
@@ -208,7 +208,7 @@ give name.Frames value u = record { plain = u.plain; slots = u.slots; payload = 
 abbrev lead : List ℕ → Uses → Uses
 lead word u = record { plain = word ∷ u.plain; slots = u.slots; payload = u.payload; seed = u.seed; frames = u.frames }
 
--- a plain word and an option
+-- a plain argument and an option
 word_and_option : (word : List ℕ) (option : OptionName) (value : List ℕ) (u : Uses)
     → option_and_then (with_value option value) (with_plain word u) ≡ option_and_then (with_plain word) (with_value option value u)
 word_and_option word name.Slots value u =
@@ -311,40 +311,40 @@ unfolding word_meaning
 plain_means word e = rw e refl
 
 past_plain_first : (how : Spelling) (option : OptionName) (value word : List ℕ) (after : List (List ℕ)) → is_plain word ≡ true
-    → uses_of (option_words how option value ++ word ∷ after) ≡ uses_of (word ∷ option_words how option value ++ after)
+    → uses_of (option_args how option value ++ word ∷ after) ≡ uses_of (word ∷ option_args how option value ++ after)
 past_plain_first how option value word after e =
     option_first how option value (word ∷ after)
     ∙ ap (allowing how option value) (plain_first word after (plain_means word e))
     ∙ past_step (is_allowed how value) (with_value option value) (with_plain word) (word_and_option word option value) (uses_of after)
     ∙ ap (option_and_then (with_plain word)) (sym (option_first how option value after))
-    ∙ sym (plain_first word (option_words how option value ++ after) (plain_means word e))
+    ∙ sym (plain_first word (option_args how option value ++ after) (plain_means word e))
 
 pub past_a_plain_word : (before after : List (List ℕ)) (word : List ℕ) (how : Spelling) (option : OptionName) (value : List ℕ)
     → ends_in_option_name before ≡ false → is_plain word ≡ true
-    → uses_of (before ++ option_words how option value ++ word ∷ after) ≡ uses_of (before ++ word ∷ option_words how option value ++ after)
+    → uses_of (before ++ option_args how option value ++ word ∷ after) ≡ uses_of (before ++ word ∷ option_args how option value ++ after)
 past_a_plain_word before after word how option value off e =
-    let its : List (List ℕ) = option_words how option value in
+    let its : List (List ℕ) = option_args how option value in
     ap uses_of (append_assoc before its (word ∷ after))
     ∙ after_no_option Same same_kept (its ++ word ∷ after) (word ∷ its ++ after) (past_plain_first how option value word after e) before off
     ∙ ap uses_of (sym (append_assoc before (word ∷ its) after))
 
 past_option_first : (how how_other : Spelling) (option other : OptionName) (value other_value : List ℕ) (after : List (List ℕ))
-    → uses_of (option_words how option value ++ (option_words how_other other other_value ++ after))
-    ≡ uses_of (option_words how_other other other_value ++ (option_words how option value ++ after))
+    → uses_of (option_args how option value ++ (option_args how_other other other_value ++ after))
+    ≡ uses_of (option_args how_other other other_value ++ (option_args how option value ++ after))
 past_option_first how how_other option other value other_value after =
-    option_first how option value (option_words how_other other other_value ++ after)
+    option_first how option value (option_args how_other other other_value ++ after)
     ∙ ap (allowing how option value) (option_first how_other other other_value after)
     ∙ past_both (is_allowed how value) (is_allowed how_other other_value) (with_value option value) (with_value other other_value)
     (options_cross option other value other_value) (uses_of after)
     ∙ ap (allowing how_other other other_value) (sym (option_first how option value after))
-    ∙ sym (option_first how_other other other_value (option_words how option value ++ after))
+    ∙ sym (option_first how_other other other_value (option_args how option value ++ after))
 
 pub past_an_option : (before after : List (List ℕ)) (how how_other : Spelling) (option other : OptionName) (value other_value : List ℕ)
-    → uses_of (before ++ option_words how option value ++ option_words how_other other other_value ++ after)
-    ≡ uses_of (before ++ option_words how_other other other_value ++ option_words how option value ++ after)
+    → uses_of (before ++ option_args how option value ++ option_args how_other other other_value ++ after)
+    ≡ uses_of (before ++ option_args how_other other other_value ++ option_args how option value ++ after)
 past_an_option before after how how_other option other value other_value =
-    let its : List (List ℕ) = option_words how option value in
-    let others : List (List ℕ) = option_words how_other other other_value in
+    let its : List (List ℕ) = option_args how option value in
+    let others : List (List ℕ) = option_args how_other other other_value in
     let grouped : (xs ys : List (List ℕ)) → before ++ xs ++ ys ++ after ≡ before ++ (xs ++ (ys ++ after)) =
     λ xs ys. append_assoc (before ++ xs) ys after ∙ append_assoc before xs (ys ++ after) in
     ap uses_of (grouped its others)
@@ -357,16 +357,16 @@ pub same_form : (xs ys : List (List ℕ)) → uses_of xs ≡ uses_of ys → form
 unfolding form_of
 same_form xs ys e = ap (option_and_then form_of_uses) e
 
--- a value that doesn't begin with `-` is allowed as one word where it is as two
+-- a value that doesn't begin with `-` is allowed as one argument where it is as two
 allowed_both : (value : List ℕ) → starts_with_minus value ≡ false → is_allowed two_words value ≡ is_allowed one_word value
 allowed_both [] e = refl
 allowed_both (byte ∷ rest) e = rw e refl
 
 pub spelled_either_way : (before after : List (List ℕ)) (option : OptionName) (value : List ℕ) → starts_with_minus value ≡ false
-    → uses_of (before ++ option_words two_words option value ++ after) ≡ uses_of (before ++ option_words one_word option value ++ after)
+    → uses_of (before ++ option_args two_words option value ++ after) ≡ uses_of (before ++ option_args one_word option value ++ after)
 spelled_either_way before after option value e =
-    let two : List (List ℕ) = option_words two_words option value in
-    let one : List (List ℕ) = option_words one_word option value in
+    let two : List (List ℕ) = option_args two_words option value in
+    let one : List (List ℕ) = option_args one_word option value in
     ap uses_of (append_assoc before two after)
     ∙ after_any Same same_kept (two ++ after) (one ++ after)
     (option_first two_words option value after
@@ -427,7 +427,7 @@ unfit_now name.Seed value u v h e = grind arith
 unfit_now name.Frames value u v h e = grind arith
 
 unfit_option : (how : Spelling) (option : OptionName) (value : List ℕ) (rest : List (List ℕ)) → starts_with_minus value ≡ true
-    → EachUnfit (uses_of (option_words how option value ++ rest))
+    → EachUnfit (uses_of (option_args how option value ++ rest))
 unfit_option how option value rest h = subst EachUnfit (sym (option_first how option value rest)) (go (is_allowed how value))
   where
     go : (b : Bool) → EachUnfit (if b then option_and_then (with_value option value) (uses_of rest) else None)
@@ -473,31 +473,31 @@ no_drill table image seed frames true h = go (starts_with_minus seed) (starts_wi
         ∙ no_frames (value_in 0 most_seed seed)
     go false false e f h = cc
 
-formless_with : (words : List (List ℕ)) (slots payload seed frames : Option (List ℕ))
-    → (has_minus slots || has_minus payload || has_minus seed || has_minus frames) ≡ true → form_with words slots payload seed frames ≡ None
+formless_with : (args : List (List ℕ)) (slots payload seed frames : Option (List ℕ))
+    → (has_minus slots || has_minus payload || has_minus seed || has_minus frames) ≡ true → form_with args slots payload seed frames ≡ None
 formless_with (command ∷ table ∷ image ∷ []) (Some slots) (Some payload) None None h =
     no_ring table image slots payload (bytes_eq command (codes "format")) (grind arith)
 formless_with (command ∷ table ∷ image ∷ []) None None (Some seed) (Some frames) h =
     no_drill table image seed frames (bytes_eq command (codes "drill")) h
-formless_with words slots payload seed frames h = grind arith
+formless_with args slots payload seed frames h = grind arith
 
 formless_uses : (o : Option Uses) → EachUnfit o → option_and_then form_of_uses o ≡ None
 formless_uses None h = refl
 formless_uses (Some u) h = formless_with u.plain u.slots u.payload u.seed u.frames (h u refl)
 
-formless : (words : List (List ℕ)) → EachUnfit (uses_of words) → form_of words ≡ None
+formless : (args : List (List ℕ)) → EachUnfit (uses_of args) → form_of args ≡ None
 unfolding form_of
-formless words h = formless_uses (uses_of words) h
+formless args h = formless_uses (uses_of args) h
 
 pub one_form_either_way : (before after : List (List ℕ)) (option : OptionName) (value : List ℕ)
-    → form_of (before ++ option_words two_words option value ++ after) ≡ form_of (before ++ option_words one_word option value ++ after)
+    → form_of (before ++ option_args two_words option value ++ after) ≡ form_of (before ++ option_args one_word option value ++ after)
 one_form_either_way before after option value = go (starts_with_minus value) refl
   where
     two : List (List ℕ)
-    two = option_words two_words option value
+    two = option_args two_words option value
 
     one : List (List ℕ)
-    one = option_words one_word option value
+    one = option_args one_word option value
 
     go : (b : Bool) → starts_with_minus value ≡ b → form_of (before ++ two ++ after) ≡ form_of (before ++ one ++ after)
     go false e = same_form (before ++ two ++ after) (before ++ one ++ after) (spelled_either_way before after option value e)

@@ -1,4 +1,4 @@
--- The values of the words by the places that they go to, which says what `uses_of` says.
+-- The values of the arguments by the places that they go to, which says what `uses_of` says.
 use Rattle.std.proofs.Common.{◌≡◌, ◌∙◌, ◌≤◌, ◌&&◌, ◌||◌, ap, ap₂, subst, sym, refl, ℕ, suc, Bool, true, false, not, is_some, codes, List, [], ◌∷◌, Option}
 use Rattle.std.proofs.Common.{Some, None, length, nat_le, nat_lt, arith}
 use Rattle.std.specs.Prelude.{if◌then◌else◌, is_none, bytes_eq}
@@ -12,7 +12,7 @@ use Rattle.fdr_words.specs.declared.uses.OptionName.TheVariants as name
 use Rattle.fdr_words.specs.Words.{Word, plain, named, given, wrong, is_plain, word_meaning, Uses, no_uses, with_plain, with_value, followed, uses_of}
 use Rattle.fdr_words.proofs.UsesSteps.{uses_words}
 
--- which of the plain words comes next
+-- which of the plain arguments comes next
 pub data Position : Type 0 where
   first : Position
   second : Position
@@ -104,7 +104,7 @@ has_value id (x ∷ xs) = go (bytes_eq id x.0) (bytes_eq x.0 id) (same_either_wa
     go false true e h = cc
     go false false e h = h
 
--- ---- the plain words' places come in order
+-- ---- the plain arguments' places come in order
 
 abbrev AreLater : Position → Values → Type 0
 AreLater first xs = Unit {0}
@@ -178,7 +178,7 @@ later_none past = (refl, refl, refl)
 later_nil : (p : Position) (ys : Values) → Some [] ≡ Some ys → AreLater p ys
 later_nil p ys e = let same : [] ≡ ys = cc in subst (AreLater p) same (later_none p)
 
-later_placed : (words : List (List ℕ)) → EachLater (λ p. placed words p)
+later_placed : (args : List (List ℕ)) → EachLater (λ p. placed args p)
 later_placed [] p ys e = later_nil p ys e
 later_placed (word ∷ []) p ys e =
     later_placed_word word (word_meaning word) None (λ q. Some []) None p ys e (λ q xs h. later_nil q xs h) (λ xs h. cc)
@@ -249,7 +249,7 @@ gathered_option o v xs =
 not_there : (id : List ℕ) (xs : Values) → value_at id xs ≡ None → has_place id xs ≡ false
 not_there id xs e = has_value id xs ∙ ap is_some e
 
--- a plain word in front, at the first place that is free
+-- a plain argument in front, at the first place that is free
 plain_in_front : (id w : List ℕ) (xs : Values) → value_at id xs ≡ None → put_plain w (uses_at xs) ≡ uses_at ((id, w) ∷ xs)
     → option_map (put_plain w) (gathered xs) ≡ gathered ((id, w) ∷ xs)
 plain_in_front id w xs e same = go (are_distinct xs) (has_place id xs) (not_there id xs e)
@@ -291,7 +291,7 @@ gathered_at third w (Some xs) later some =
     three v a b c = rw (a, b, c) refl
 gathered_at past w o later some = absurd (some refl)
 
--- ---- no more plain words than there are places left
+-- ---- no more plain arguments than there are places left
 
 abbrev room : Position → ℕ
 room first = 3
@@ -400,7 +400,7 @@ nothing_gathered second = refl
 nothing_gathered third = refl
 nothing_gathered past = refl
 
-gathers : (words : List (List ℕ)) (p : Position) → option_and_then (fitting p) (uses_of words) ≡ option_and_then gathered (placed words p)
+gathers : (args : List (List ℕ)) (p : Position) → option_and_then (fitting p) (uses_of args) ≡ option_and_then gathered (placed args p)
 gathers [] p = nothing_gathered p
 gathers (word ∷ []) p =
     gathers_word word (word_meaning word) None (Some no_uses) None (λ q. Some []) None p nothing_gathered refl (λ q xs h. later_nil q xs h)
@@ -416,6 +416,6 @@ all_fit (Some u) few = go (nat_le (length u.plain) 3) (le-leb (length u.plain) 3
     go true e = refl
     go false e = cc
 
--- the uses of the words are those of the values, where no place is given twice
-pub uses_placed : (words : List (List ℕ)) → uses_of words ≡ option_and_then gathered (placed words first)
-uses_placed words = all_fit (uses_of words) (λ u e. (uses_words words u e).few) ∙ gathers words first
+-- the uses of the arguments are those of the values, where no place is given twice
+pub uses_placed : (args : List (List ℕ)) → uses_of args ≡ option_and_then gathered (placed args first)
+uses_placed args = all_fit (uses_of args) (λ u e. (uses_words args u e).few) ∙ gathers args first

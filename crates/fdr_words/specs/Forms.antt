@@ -1,4 +1,4 @@
--- The forms of the words after the program's name.
+-- The forms of the arguments after the program's name.
 use Rattle.std.specs.Prelude.{ℕ, ◌≤◌, Bool, false, true, if◌then◌else◌, List, [], ◌∷◌, codes, bytes_eq, Option, Some, None}
 use Rattle.std.specs.Option.{option_and_then}
 use Rattle.fdr_words.specs.Words.{Uses, uses_of, value_in}
@@ -8,11 +8,20 @@ pub data Form : Type 0 where
   check_table : (table : List ℕ) → Form
   stream_line : (table : List ℕ) → Form
   list_bits : (table : List ℕ) → Form
+  encode_bytes : Form
+  decode_levels : Form
   format_image : (table image : List ℕ) (slots payload : ℕ) → Form
   record_line : (table image : List ℕ) → Form
   recover_image : (image : List ℕ) → Form
   list_image : (table image : List ℕ) → Form
   drill_image : (table image : List ℕ) (seed frames : ℕ) → Form
+
+-- the form of a command with no path and no options
+abbrev pub bare_form : List ℕ → Option Form
+bare_form command =
+    if bytes_eq command (codes "encode") then Some encode_bytes
+    else if bytes_eq command (codes "decode") then Some decode_levels
+    else None
 
 -- the form of a command with one path and no options
 abbrev pub path_form : List ℕ → List ℕ → Option Form
@@ -77,28 +86,30 @@ seeded_form command table image seed frames =
     if bytes_eq command (codes "drill")
     then drill_form table image (value_in 0 most_seed seed) (value_in least_drill_frames most_drill_frames frames) else None
 
--- the form that has these words and options, all of them and no others
+-- the form that has these arguments and options, all of them and no others
 abbrev pub form_with : List (List ℕ) → Option (List ℕ) → Option (List ℕ) → Option (List ℕ) → Option (List ℕ) → Option Form
+form_with (command ∷ []) None None None None = bare_form command
 form_with (command ∷ path ∷ []) None None None None = path_form command path
 form_with (command ∷ table ∷ image ∷ []) None None None None = paths_form command table image
 form_with (command ∷ table ∷ image ∷ []) (Some slots) (Some payload) None None = ring_form command table image slots payload
 form_with (command ∷ table ∷ image ∷ []) None None (Some seed) (Some frames) = seeded_form command table image seed frames
-form_with words slots payload seed frames = None
+form_with args slots payload seed frames = None
 
 abbrev pub form_of_uses : Uses → Option Form
 form_of_uses u = form_with u.plain u.slots u.payload u.seed u.frames
 
--- the form that the words are of: `check TABLE`, `stream TABLE`, `listbits TABLE`, `recover IMAGE`,
+-- the form that the arguments are of: `encode`, `decode`, `check TABLE`, `stream TABLE`, `listbits TABLE`, `recover IMAGE`,
 -- `record TABLE IMAGE`, `list TABLE IMAGE`, `format TABLE IMAGE --slots N --payload P` or
 -- `drill TABLE IMAGE --seed S --frames F`, with the options anywhere
 unfoldable pub form_of : List (List ℕ) → Option Form
-form_of words = option_and_then form_of_uses (uses_of words)
+form_of args = option_and_then form_of_uses (uses_of args)
 
--- what a command takes of the input line: nothing, a trace, or bits to the line's end
+-- what a command takes of the input line: nothing, a trace, bits to the line's end, or levels to its end
 pub data InputUse : Type 0 where
   takes_nothing : InputUse
   takes_trace : InputUse
   takes_bits : InputUse
+  takes_levels : InputUse
 
 -- what a command does with an image: it has none, makes it, records in it, or only reads it
 pub data ImageUse : Type 0 where
@@ -124,6 +135,10 @@ command_uses (stream_line table) =
     record { table = Some table; image = None; input = takes_trace; work = has_no_image; same_words = false; text = true }
 command_uses (list_bits table) =
     record { table = Some table; image = None; input = takes_bits; work = has_no_image; same_words = false; text = true }
+command_uses encode_bytes =
+    record { table = None; image = None; input = takes_bits; work = has_no_image; same_words = false; text = true }
+command_uses decode_levels =
+    record { table = None; image = None; input = takes_levels; work = has_no_image; same_words = false; text = true }
 command_uses (format_image table image slots payload) =
     record { table = Some table; image = Some image; input = takes_nothing; work = makes_image; same_words = false; text = false }
 command_uses (record_line table image) =
@@ -159,6 +174,8 @@ abbrev pub IsInBounds : Form → Type 0
 IsInBounds (check_table table) = Unit {0}
 IsInBounds (stream_line table) = Unit {0}
 IsInBounds (list_bits table) = Unit {0}
+IsInBounds encode_bytes = Unit {0}
+IsInBounds decode_levels = Unit {0}
 IsInBounds (format_image table image slots payload) =
     (least_slots ≤ slots) × (slots ≤ most_slots) × (least_payload ≤ payload) × (payload ≤ most_payload)
 IsInBounds (record_line table image) = Unit {0}

@@ -1,4 +1,4 @@
--- The command that clap reads the words as, and which words it is given.
+-- The command that clap reads the arguments as, and which arguments it is given.
 use Rattle.std.specs.Prelude.{ℕ, Bool, false, true, List, [], codes, Some}
 use Rattle.std.specs.List.{cons_option, list_all}
 use Rattle.clap.specs.Simple.{App, new_app, new_rule, on_top, with_rule, matches_of}
@@ -7,7 +7,7 @@ use Rattle.clap.specs.Kinds.{Kinds}
 use Rattle.clap.specs.Faults.{fault_of}
 use Rattle.fdr_words.specs.Words.{Uses, Word, plain, named, given, wrong, word_meaning}
 
--- the word may stand in a form
+-- the argument may be in a form
 abbrev pub has_meaning : Word → Bool
 has_meaning plain = true
 has_meaning (named option) = true
@@ -15,13 +15,13 @@ has_meaning (given option value) = true
 has_meaning wrong = false
 
 abbrev pub are_known : List (List ℕ) → Bool
-are_known words = list_all (λ word. has_meaning (word_meaning word)) words
+are_known args = list_all (λ word. has_meaning (word_meaning word)) args
 
 -- an option that takes one value
 abbrev pub long_option : List ℕ → Rule
 long_option id = record (new_rule id) { long = Some id }
 
--- a command of three plain words and four options, with no flags of clap's own
+-- a command of three plain arguments and four options, with no flags of clap's own
 abbrev pub reader : App
 reader =
     with_rule (with_rule (with_rule (with_rule (with_rule (with_rule (with_rule
@@ -29,12 +29,12 @@ reader =
     (new_rule (codes "command"))) (new_rule (codes "path"))) (new_rule (codes "image")))
     (long_option (codes "slots"))) (long_option (codes "payload"))) (long_option (codes "seed"))) (long_option (codes "frames"))
 
--- the kinds of error that clap may give at the words, and what it finds in them where there are none
+-- the kinds of error that clap may give at the arguments, and what it finds in them where there are none
 unfoldable pub reader_faults : List (List ℕ) → Kinds
-reader_faults words = fault_of reader words
+reader_faults args = fault_of reader args
 
 unfoldable pub reader_rows : List (List ℕ) → List Row
-reader_rows words = matches_of reader words
+reader_rows args = matches_of reader args
 
 -- the uses that clap's rows hold
 abbrev pub uses_in : List Row → Uses

@@ -11,15 +11,15 @@ option_word name.Payload = codes "--payload"
 option_word name.Seed = codes "--seed"
 option_word name.Frames = codes "--frames"
 
--- an option and its value are two words, or one
+-- an option and its value are two arguments, or one
 pub data Spelling : Type 0 where
   two_words : Spelling
   one_word : Spelling
 
--- the words that give an option its value: `--NAME VALUE` or `--NAME=VALUE`
-abbrev pub option_words : Spelling → OptionName → List ℕ → List (List ℕ)
-option_words two_words option value = option_word option ∷ value ∷ []
-option_words one_word option value = (option_word option ++ codes "=" ++ value) ∷ []
+-- the arguments that give an option its value: `--NAME VALUE` or `--NAME=VALUE`
+abbrev pub option_args : Spelling → OptionName → List ℕ → List (List ℕ)
+option_args two_words option value = option_word option ∷ value ∷ []
+option_args one_word option value = (option_word option ++ codes "=" ++ value) ∷ []
 
 abbrev pub is_option_name : Word → Bool
 is_option_name plain = false
@@ -27,7 +27,7 @@ is_option_name (named option) = true
 is_option_name (given option value) = false
 is_option_name wrong = false
 
--- the last word is `--NAME`, so that a word put after it is the option's value
+-- the last argument is `--NAME`, so that an argument put after it is the option's value
 abbrev pub ends_in_option_name : List (List ℕ) → Bool
 ends_in_option_name [] = false
 ends_in_option_name (word ∷ []) = is_option_name (word_meaning word)

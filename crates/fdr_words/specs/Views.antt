@@ -1,4 +1,4 @@
--- What the program's words and uses stand for.
+-- What the program's arguments and uses stand for.
 use Rattle.std.specs.Prelude.{List, [], ◌∷◌, ℕ}
 use Rattle.std.specs.Option.{option_map}
 use Rattle.fdr_words.specs.Words.{Word, plain, named, given, wrong, Uses}

@@ -1,4 +1,4 @@
--- What the words after the program's name give: the words of the form itself, and the values of options.
+-- What the arguments after the program's name give: the arguments of the form itself, and the values of options.
 use Rattle.std.specs.Prelude.{ℕ, Bool, false, not, ◌==◌, ◌&&◌, nat_le, nat_lt, if◌then◌else◌, List, [], ◌∷◌, length, take, drop, codes, bytes_eq, Option, Some}
 use Rattle.std.specs.Prelude.{None, is_none}
 use Rattle.std.specs.Option.{option_and_then, option_map_or}
@@ -6,24 +6,24 @@ use Rattle.fdr_table.specs.Fields.{number_in}
 use Rattle.fdr_words.specs.declared.uses.OptionName.{OptionName}
 use Rattle.fdr_words.specs.declared.uses.OptionName.TheVariants as name
 
--- a word of the form's own: neither empty nor an option word, which begins with `-`
+-- an argument of the form's own: neither empty nor an option argument, which begins with `-`
 abbrev pub is_plain : List ℕ → Bool
 is_plain [] = false
 is_plain (byte ∷ rest) = not (byte == 45)
 
--- what a word is; a named option's value is the next word
+-- what an argument is; a named option's value is the next argument
 pub data Word : Type 0 where
   plain : Word
   named : (option : OptionName) → Word
   given : (option : OptionName) (value : List ℕ) → Word
   wrong : Word
 
--- what follows a prefix of the word, where something does
+-- what follows a prefix of the argument, where something does
 unfoldable pub value_after : List ℕ → List ℕ → Option (List ℕ)
 value_after prefix word =
     if bytes_eq (take (length prefix) word) prefix && nat_lt (length prefix) (length word) then Some (drop (length prefix) word) else None
 
--- `--NAME` and `--NAME=VALUE`, with a value that isn't empty; any other word that isn't plain is wrong
+-- `--NAME` and `--NAME=VALUE`, with a value that isn't empty; any other argument that isn't plain is wrong
 unfoldable pub word_meaning : List ℕ → Word
 word_meaning word =
     if is_plain word then plain
@@ -36,7 +36,7 @@ word_meaning word =
     (option_map_or (λ value. given name.Seed value) (value_after (codes "--seed=") word)
     (option_map_or (λ value. given name.Frames value) (value_after (codes "--frames=") word) wrong)))
 
--- The plain words in order, and the value that each option is given.
+-- The plain arguments in order, and the value that each option is given.
 pub record Uses : Type 0 where
   pub plain : List (List ℕ)
   pub slots : Option (List ℕ)
@@ -47,7 +47,7 @@ pub record Uses : Type 0 where
 abbrev pub no_uses : Uses
 no_uses = record { plain = []; slots = None; payload = None; seed = None; frames = None }
 
--- another plain word in front; no form has more than three
+-- another plain argument in front; no form has more than three
 abbrev pub with_plain : List ℕ → Uses → Option Uses
 with_plain word u =
     if nat_lt (length u.plain) 3
@@ -64,7 +64,7 @@ with_value name.Seed value u =
 with_value name.Frames value u =
     if is_none u.frames then Some (record { plain = u.plain; slots = u.slots; payload = u.payload; seed = u.seed; frames = Some value }) else None
 
--- a word and what follows it: another word, and the uses of what comes after either
+-- an argument and what follows it: another argument, and the uses of what comes after either
 abbrev pub followed : List ℕ → Word → Option (List ℕ) → Option Uses → Option Uses → Option Uses
 followed word plain next after_word after_next = option_and_then (with_plain word) after_word
 followed word (given option value) next after_word after_next = option_and_then (with_value option value) after_word
@@ -72,11 +72,11 @@ followed word (named option) None after_word after_next = None
 followed word (named option) (Some value) after_word after_next = if is_plain value then option_and_then (with_value option value) after_next else None
 followed word wrong next after_word after_next = None
 
--- how many words the longest form has: three plain words, and two options of two words each
-abbrev pub most_form_words : ℕ
-most_form_words = 7
+-- how many arguments the longest form has: three plain arguments, and two options of two arguments each
+abbrev pub most_form_args : ℕ
+most_form_args = 7
 
--- what the words give, where each has its place
+-- what the arguments give, where each has its place
 abbrev pub uses_of : List (List ℕ) → Option Uses
 uses_of [] = Some no_uses
 uses_of (word ∷ []) = followed word (word_meaning word) None (Some no_uses) None

@@ -1,11 +1,11 @@
-//! The command line: the words after the program's name, and the request that they make.
+//! The command line: the arguments after the program's name, and the request that they make.
 #![tactic(auto)]
 
 ghost use Rattle.std.specs.Prelude.{◌≡◌, ◌↔◌, ◌≤◌, Err, Some, None, IfOk, IfSome, length, map, string_bytes};
 ghost use Rattle.std.specs.Option.{option_map};
-ghost use Rattle.fdr_words.specs.Forms.{form_of, form_of_uses, path_form, paths_form, ring_form, seeded_form, image_path, table_path, writes_image, IsInBounds};
+ghost use Rattle.fdr_words.specs.Forms.{form_of, form_of_uses, bare_form, path_form, paths_form, ring_form, seeded_form, image_path, table_path, writes_image, IsInBounds};
 ghost use Rattle.fdr_words.specs.Views.{uses_view};
-ghost use Rattle.fdr_words.specs.Words.{most_form_words, uses_of, value_in};
+ghost use Rattle.fdr_words.specs.Words.{most_form_args, uses_of, value_in};
 ghost use Rattle.fdr_words.specs.Request.{form_of_request};
 ghost use Rattle.fdr_words.specs.declared.WordsFault.TheVariants as fault;
 
@@ -20,8 +20,8 @@ mod uses;
 
 pub use law::{options_may_be_anywhere, options_may_be_one_word_or_two};
 
-/// How many words the longest form has.
-const MAX_WORDS: usize = 7;
+/// How many arguments the longest form has.
+const MAX_ARGS: usize = 7;
 
 /// What the program is asked to do.
 #[derive(Debug, Drop)]
@@ -38,6 +38,10 @@ pub enum Request {
     ListBits {
         table: PathText,
     },
+    /// `encode`: make the Harvard biphase levels of a line of bits.
+    Encode,
+    /// `decode`: read the bits of a line of Harvard biphase levels.
+    Decode,
     /// `format TABLE IMAGE --slots N --payload P`: make the image of a ring of blocks.
     FormatImage {
         table: PathText,
@@ -72,10 +76,10 @@ pub enum Request {
     },
 }
 
-/// Why the words make no request.
+/// Why the arguments make no request.
 #[derive(Clone, Copy, Debug, PartialEq, Eq)]
 pub enum WordsFault {
-    /// The words aren't those of a command.
+    /// The arguments aren't those of a command.
     Usage,
     /// There wasn't enough memory.
     NoMemory,
@@ -101,6 +105,7 @@ impl Request {
             Request::CheckTable { table } => Some(table.text()),
             Request::StreamLine { table } => Some(table.text()),
             Request::ListBits { table } => Some(table.text()),
+            Request::Encode | Request::Decode => None,
             Request::FormatImage { table, .. } => Some(table.text()),
             Request::RecordLine { table, .. } => Some(table.text()),
             Request::RecoverImage { .. } => None,
@@ -117,6 +122,7 @@ impl Request {
             Request::CheckTable { .. } => None,
             Request::StreamLine { .. } => None,
             Request::ListBits { .. } => None,
+            Request::Encode | Request::Decode => None,
             Request::FormatImage { image, .. } => Some(image.text()),
             Request::RecordLine { image, .. } => Some(image.text()),
             Request::RecoverImage { image } => Some(image.text()),
@@ -135,6 +141,8 @@ impl Request {
             Request::CheckTable { .. }
             | Request::StreamLine { .. }
             | Request::ListBits { .. }
+            | Request::Encode
+            | Request::Decode
             | Request::RecoverImage { .. }
             | Request::ListImage { .. } => false,
         }
@@ -154,7 +162,21 @@ fn value_in(value: &[u8], low: u32, high: u32) -> Option<u32>
     Some(number as u32)
 }
 
-/// What the words of a command with one path ask for.
+/// What the argument of a command with no path asks for.
+fn bare_request(command: &str) -> Result<Request, WordsFault>
+    ensures usage { (result ≡ Err fault.Usage) ↔ (bare_form command.now ≡ None) }
+    ensures form { IfOk result (λ request. bare_form command.now ≡ Some (form_of_request request)) }
+{
+    if command == "encode" {
+        return Ok(Request::Encode);
+    }
+    if command != "decode" {
+        return Err(WordsFault::Usage);
+    }
+    Ok(Request::Decode)
+}
+
+/// What the arguments of a command with one path ask for.
 fn path_request(alloc: Global, command: &str, path: &str) -> Result<Request, WordsFault>
     ensures usage { (result ≡ Err fault.Usage) ↔ (path_form command.now path.now ≡ None) }
     ensures form { IfOk result (λ request. path_form command.now path.now ≡ Some (form_of_request request)) }
@@ -178,7 +200,7 @@ fn path_request(alloc: Global, command: &str, path: &str) -> Result<Request, Wor
     Ok(Request::RecoverImage { image })
 }
 
-/// What the words of a command with two paths and no options ask for.
+/// What the arguments of a command with two paths and no options ask for.
 fn paths_request(
     alloc: Global,
     command: &str,
@@ -203,7 +225,7 @@ fn paths_request(
     })
 }
 
-/// What the words of a command with two paths and the options of a ring ask for.
+/// What the arguments of a command with two paths and the options of a ring ask for.
 fn ring_request(
     alloc: Global,
     command: &str,
@@ -229,7 +251,7 @@ fn ring_request(
     })
 }
 
-/// What the words of a command with two paths and the options of a drill ask for.
+/// What the arguments of a command with two paths and the options of a drill ask for.
 fn seeded_request(
     alloc: Global,
     command: &str,
@@ -255,13 +277,14 @@ fn seeded_request(
     })
 }
 
-/// What the uses of words ask for.
+/// What the uses of arguments ask for.
 fn request_of(alloc: Global, uses: Uses<'_>) -> Result<Request, WordsFault>
     ensures usage { (result ≡ Err fault.Usage) ↔ (form_of_uses (uses_view uses.entry) ≡ None) }
     ensures form { IfOk result (λ request. form_of_uses (uses_view uses.entry) ≡ Some (form_of_request request)) }
     ensures limits { IfOk result (λ request. IsInBounds (form_of_request request)) }
 {
     match (uses.plain, uses.slots, uses.payload, uses.seed, uses.frames) {
+        (PlainWords::One(command), None, None, None, None) => bare_request(command),
         (PlainWords::Two(command, path), None, None, None, None) => {
             path_request(alloc, command, path)
         }
@@ -278,32 +301,32 @@ fn request_of(alloc: Global, uses: Uses<'_>) -> Result<Request, WordsFault>
     }
 }
 
-/// The uses of the words, read by `clap`. Where there is no memory for `clap`, they are read without it, so that words of
+/// The uses of the arguments, read by `clap`. Where there is no memory for `clap`, they are read without it, so that arguments of
 /// no form are refused as such all the same.
-fn uses_in_words(alloc: Global, words: &[String]) -> Option<Uses<'_>>
-    requires { length words.now ≤ most_form_words }
-    ensures { option_map uses_view result ≡ uses_of (map string_bytes words.now) }
+fn uses_in_words(alloc: Global, args: &[String]) -> Option<Uses<'_>>
+    requires { length args.now ≤ most_form_args }
+    ensures { option_map uses_view result ≡ uses_of (map string_bytes args.now) }
 {
-    match read(alloc, words) {
+    match read(alloc, args) {
         Ok(uses) => Some(uses),
         Err(WordsFault::Usage) => None,
-        Err(WordsFault::NoMemory) => uses_of(words),
+        Err(WordsFault::NoMemory) => uses_of(args),
     }
 }
 
-/// The request of the words after the program's name.
+/// The request of the arguments after the program's name.
 ///
-/// More words than the longest form has are refused before any memory is taken.
+/// More arguments than the longest form has are refused before any memory is taken.
 #[tactic(auto, unfolding(crate::specs::Forms::form_of))]
-pub fn read_words(alloc: Global, words: &[String]) -> Result<Request, WordsFault>
-    ensures usage { (result ≡ Err fault.Usage) ↔ (form_of (map string_bytes words.now) ≡ None) }
-    ensures form { IfOk result (λ request. form_of (map string_bytes words.now) ≡ Some (form_of_request request)) }
+pub fn read_words(alloc: Global, args: &[String]) -> Result<Request, WordsFault>
+    ensures usage { (result ≡ Err fault.Usage) ↔ (form_of (map string_bytes args.now) ≡ None) }
+    ensures form { IfOk result (λ request. form_of (map string_bytes args.now) ≡ Some (form_of_request request)) }
     ensures limits { IfOk result (λ request. IsInBounds (form_of_request request)) }
 {
-    if MAX_WORDS < words.len() {
+    if MAX_ARGS < args.len() {
         return Err(WordsFault::Usage);
     }
-    match uses_in_words(alloc, words) {
+    match uses_in_words(alloc, args) {
         Some(uses) => request_of(alloc, uses),
         None => Err(WordsFault::Usage),
     }

@@ -1,4 +1,4 @@
-//! The words as `clap` reads them: one command of three plain words and four options.
+//! The arguments as `clap` reads them: one command of three plain arguments and four options.
 
 ghost use Rattle.std.specs.Prelude.{◌≡◌, ◌∷◌, [], None, Some, Err, IfOk, false, map, string_bytes};
 ghost use Rattle.std.specs.List.{cons_option, list_all};
@@ -23,7 +23,7 @@ fn option<'a>(alloc: Global, name: &'a str) -> Arg<'a>
     Arg::new(alloc, name).long(name)
 }
 
-/// The command that the words are read as, with no flags of `clap`'s own.
+/// The command that the arguments are read as, with no flags of `clap`'s own.
 fn command<'a>(alloc: Global) -> Result<Command<'a>, AllocError>
     ensures { IfOk result (λ c. app_of c ≡ reader) }
 {
@@ -40,15 +40,15 @@ fn command<'a>(alloc: Global) -> Result<Command<'a>, AllocError>
         .arg(option(alloc, "frames"))
 }
 
-/// What `clap` finds in the words.
-fn matches<'a>(alloc: Global, words: &'a [String]) -> Result<ArgMatches<'a>, Error>
-    ensures faults { FailsBy (reader_faults (map string_bytes words.entry.now)) result }
-    ensures rows { IfOk result (λ m. rows_of (found_of m) ≡ reader_rows (map string_bytes words.entry.now)) }
+/// What `clap` finds in the arguments.
+fn matches<'a>(alloc: Global, args: &'a [String]) -> Result<ArgMatches<'a>, Error>
+    ensures faults { FailsBy (reader_faults (map string_bytes args.entry.now)) result }
+    ensures rows { IfOk result (λ m. rows_of (found_of m) ≡ reader_rows (map string_bytes args.entry.now)) }
 {
-    command(alloc)?.try_get_matches_from(words)
+    command(alloc)?.try_get_matches_from(args)
 }
 
-/// The plain words in order.
+/// The plain arguments in order.
 fn plain_words<'a>(
     first: Option<&'a str>,
     second: Option<&'a str>,
@@ -100,7 +100,7 @@ fn uses_found<'a>(found: &ArgMatches<'a>) -> Uses<'a>
     }
 }
 
-/// Whether a word may stand in a form.
+/// Whether an argument may be in a form.
 fn has_meaning(word: &str) -> bool
     ensures { result ≡ has_meaning (word_meaning word.now) }
 {
@@ -110,25 +110,25 @@ fn has_meaning(word: &str) -> bool
     }
 }
 
-/// Whether each word may stand in a form.
-fn are_known(words: &[String]) -> bool
-    ensures { result ≡ list_all (λ word. has_meaning (word_meaning (string_bytes word))) words.now }
+/// Whether each argument may be in a form.
+fn are_known(args: &[String]) -> bool
+    ensures { result ≡ list_all (λ word. has_meaning (word_meaning (string_bytes word))) args.now }
 {
-    words.iter().all(|word| has_meaning(word.as_str()))
+    args.iter().all(|word| has_meaning(word.as_str()))
 }
 
-/// What the words give, where each has its place.
+/// What the arguments give, where each has its place.
 ///
-/// A word that no form has is refused before `clap` sees it, since `clap` takes more: an empty word or value, a lone `-`,
-/// and words after `--`.
-pub(crate) fn read<'a>(alloc: Global, words: &'a [String]) -> Result<Uses<'a>, WordsFault>
-    ensures usage { result ≡ Err fault.Usage → uses_of (map string_bytes words.entry.now) ≡ None }
-    ensures uses { IfOk result (λ u. uses_of (map string_bytes words.entry.now) ≡ Some (uses_view u)) }
+/// An argument that no form has is refused before `clap` sees it, since `clap` takes more: an empty argument or value, a lone `-`,
+/// and arguments after `--`.
+pub(crate) fn read<'a>(alloc: Global, args: &'a [String]) -> Result<Uses<'a>, WordsFault>
+    ensures usage { result ≡ Err fault.Usage → uses_of (map string_bytes args.entry.now) ≡ None }
+    ensures uses { IfOk result (λ u. uses_of (map string_bytes args.entry.now) ≡ Some (uses_view u)) }
 {
-    if !are_known(words) {
+    if !are_known(args) {
         return Err(WordsFault::Usage);
     }
-    match matches(alloc, words) {
+    match matches(alloc, args) {
         Ok(found) => Ok(uses_found(&found)),
         Err(error) => match error.kind() {
             ErrorKind::OutOfMemory => Err(WordsFault::NoMemory),

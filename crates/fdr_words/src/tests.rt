@@ -5,11 +5,11 @@ use std::alloc::Global;
 use std::test::Fail;
 
 fn read(alloc: Global, texts: &[&str]) -> Result<Result<Request, WordsFault>, Fail> {
-    let mut words = Vec::new(alloc);
+    let mut args = Vec::new(alloc);
     for text in texts {
-        words.push(text.to_string(alloc)?)?;
+        args.push(text.to_string(alloc)?)?;
     }
-    Ok(read_words(alloc, words.as_slice()))
+    Ok(read_words(alloc, args.as_slice()))
 }
 
 #[test]
@@ -32,6 +32,31 @@ fn reads_the_commands_of_a_table(rt: HostRuntime) -> Result<(), Fail> {
         assert_eq!(rt; request.image(), None);
         assert!(rt; !request.writes());
     }
+    Ok(())
+}
+
+#[test]
+fn reads_the_commands_without_a_path(rt: HostRuntime) -> Result<(), Fail> {
+    for command in ["encode", "decode"] {
+        let request = read(rt.alloc(), &[command])?.ok().ok_or(command)?;
+        assert_eq!(rt; matches!(&request, Request::Encode), command == "encode");
+        assert_eq!(rt; matches!(&request, Request::Decode), command == "decode");
+        assert_eq!(rt; (request.table(), request.image()), (None, None));
+        assert!(rt; !request.writes());
+        assert!(rt;
+            matches!(
+                read(rt.alloc(), &[command, "t1.csv"])?,
+                Err(WordsFault::Usage)
+            )
+        );
+        assert!(rt;
+            matches!(
+                read(rt.alloc(), &[command, "--slots", "16"])?,
+                Err(WordsFault::Usage)
+            )
+        );
+    }
+    assert!(rt; matches!(read(rt.alloc(), &["encodes"])?, Err(WordsFault::Usage)));
     Ok(())
 }
 
@@ -310,11 +335,11 @@ fn refuses_other_words(rt: HostRuntime) -> Result<(), Fail> {
 
 #[test]
 fn refuses_any_number_of_words(rt: HostRuntime) -> Result<(), Fail> {
-    let mut words = Vec::new(rt.alloc());
+    let mut args = Vec::new(rt.alloc());
     for _ in 0..20_000 {
-        words.push("check".to_string(rt.alloc())?)?;
+        args.push("check".to_string(rt.alloc())?)?;
     }
-    let answer = read_words(rt.alloc(), words.as_slice());
+    let answer = read_words(rt.alloc(), args.as_slice());
     assert_eq!(rt; answer.err(), Some(WordsFault::Usage));
     Ok(())
 }

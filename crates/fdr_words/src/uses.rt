@@ -1,9 +1,9 @@
-//! What the words give: the words of the form itself, and the values of options.
+//! What the arguments give: the arguments of the form itself, and the values of options.
 
 ghost use Rattle.std.specs.Prelude.{◌≡◌, ◌≤◌, Some, None, IfSome, length, map, string_bytes};
 ghost use Rattle.std.specs.Option.{option_map};
 ghost use Rattle.fdr_words.specs.Views.{uses_view, word_view};
-ghost use Rattle.fdr_words.specs.Words.{is_plain, most_form_words, value_after, word_meaning, with_plain, with_value, uses_of, value_in};
+ghost use Rattle.fdr_words.specs.Words.{is_plain, most_form_args, value_after, word_meaning, with_plain, with_value, uses_of, value_in};
 
 /// An option of a command.
 #[derive(Clone, Copy)]
@@ -18,20 +18,20 @@ pub(crate) enum OptionName {
     Frames,
 }
 
-/// What a word is.
+/// What an argument is.
 #[derive(Clone, Copy)]
 pub(crate) enum Word<'a> {
-    /// A word of the form itself.
+    /// An argument of the form itself.
     Plain,
-    /// `--NAME`: the option's value is the next word.
+    /// `--NAME`: the option's value is the next argument.
     Named(OptionName),
     /// `--NAME=VALUE`.
     Given(OptionName, &'a [u8]),
-    /// A word that no form has.
+    /// An argument that no form has.
     Wrong,
 }
 
-/// The words of the form itself, of which no form has more than three.
+/// The arguments of the form itself, of which no form has more than three.
 #[derive(Clone, Copy)]
 pub(crate) enum PlainWords<'a> {
     None,
@@ -40,7 +40,7 @@ pub(crate) enum PlainWords<'a> {
     Three(&'a str, &'a str, &'a str),
 }
 
-/// The plain words in order, and the value that each option is given.
+/// The plain arguments in order, and the value that each option is given.
 #[derive(Clone, Copy)]
 pub(crate) struct Uses<'a> {
     pub(crate) plain: PlainWords<'a>,
@@ -51,7 +51,7 @@ pub(crate) struct Uses<'a> {
 }
 
 impl<'a> Uses<'a> {
-    /// Another plain word in front.
+    /// Another plain argument in front.
     fn with_plain(self, word: &'a str) -> Option<Uses<'a>>
         ensures { option_map uses_view result ≡ with_plain word.now (uses_view self.entry) }
     {
@@ -101,7 +101,7 @@ impl<'a> Uses<'a> {
     }
 }
 
-/// Whether a word is neither empty nor an option word.
+/// Whether an argument is neither empty nor an option argument.
 fn is_plain(word: &str) -> bool
     ensures { result ≡ is_plain word.now }
 {
@@ -111,7 +111,7 @@ fn is_plain(word: &str) -> bool
     }
 }
 
-/// What follows a prefix of a word, where something does.
+/// What follows a prefix of an argument, where something does.
 #[tactic(auto, unfolding(crate::specs::Words::value_after))]
 fn value_after<'a>(prefix: &[u8], word: &'a [u8]) -> Option<&'a [u8]>
     ensures { option_map (λ value. value.now) result ≡ value_after prefix.now word.now }
@@ -123,7 +123,7 @@ fn value_after<'a>(prefix: &[u8], word: &'a [u8]) -> Option<&'a [u8]>
     Some(value)
 }
 
-/// What a word is.
+/// What an argument is.
 #[tactic(auto, unfolding(crate::specs::Words::word_meaning))]
 pub(crate) fn word_of(word: &str) -> Word<'_>
     ensures { word_view result ≡ word_meaning word.now }
@@ -158,14 +158,14 @@ pub(crate) fn word_of(word: &str) -> Word<'_>
     }
 }
 
-/// What the words give, where each has its place. It calls itself for the words after the first, so that the bound on
+/// What the arguments give, where each has its place. It calls itself for the arguments after the first, so that the bound on
 /// their number, which the longest form has, is a bound on the stack.
 #[tactic(auto, using(crate::proofs::UsesSteps::given_step))]
-pub(crate) fn uses_of(words: &[String]) -> Option<Uses<'_>>
-    requires { length words.now ≤ most_form_words }
-    ensures { option_map uses_view result ≡ uses_of (map string_bytes words.now) }
+pub(crate) fn uses_of(args: &[String]) -> Option<Uses<'_>>
+    requires { length args.now ≤ most_form_args }
+    ensures { option_map uses_view result ≡ uses_of (map string_bytes args.now) }
 {
-    let [word, rest @ ..] = words else {
+    let [word, rest @ ..] = args else {
         return Some(Uses {
             plain: PlainWords::None,
             slots: None,

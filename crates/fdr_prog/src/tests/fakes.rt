@@ -32,7 +32,7 @@ impl Read for Interrupted<'_> {
     }
 }
 
-/// A writer that keeps what it was given, with a bar behind each write.
+/// A writer that keeps what it was given, with a bar after each write.
 #[derive(Drop)]
 pub struct Marked<'a> {
     kept: &'a mut Vec<u8>,
@@ -56,7 +56,7 @@ impl Write for Marked<'_> {
     }
 }
 
-/// The system's files, but for the working folder: another file is opened in its place.
+/// The system's files, except the working folder: another file is opened in its place.
 #[derive(Drop)]
 pub struct OtherFolder<'a> {
     system: &'a HostRuntime,

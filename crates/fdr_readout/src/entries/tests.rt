@@ -89,7 +89,7 @@ fn listing(alloc: Global, bytes: &[u8]) -> Result<Vec<u8>, Fail> {
     Ok(Vec::from_slice(alloc, out.bytes())?)
 }
 
-// The position has its low twelve bits in the first frame. The rows of a frame stand in the order of their last parts.
+// The position has its low twelve bits in the first frame. The rows of a frame are in the order of their last parts.
 #[test]
 fn lists_the_values_of_two_frames(rt: HostRuntime) -> Result<(), Fail> {
     let alloc = rt.alloc();

@@ -100,7 +100,7 @@ fn scales_a_signed_altitude(rt: HostRuntime) -> Result<(), Fail> {
     Ok(())
 }
 
-// The low twelve bits of the position stand in a frame of cycle 0, the high eight in the next one.
+// The low twelve bits of the position are in a frame of cycle 0, the high eight in the next one.
 #[test]
 fn joins_the_parts_of_a_position(rt: HostRuntime) -> Result<(), Fail> {
     let mut rebuild = rebuild_by(rt.alloc(), POSITION)?;
@@ -114,7 +114,7 @@ fn joins_the_parts_of_a_position(rt: HostRuntime) -> Result<(), Fail> {
     Ok(())
 }
 
-// A frame that stands apart, or whose counter isn't the next, is joined with none before it.
+// A frame that is apart, or whose counter isn't the next, is joined with none before it.
 #[test]
 fn joins_no_parts_over_a_gap(rt: HostRuntime) -> Result<(), Fail> {
     for (before, adjacent, counter) in [(0, false, 1), (0, true, 17), (2, true, 1)] {

@@ -25,6 +25,15 @@ const POSITION: &[u8] =
 const ONE_LABEL: &[u8] =
     b"F,64,64,4\nP,ONE,0,203,1,11,12,U,1,1,0,0,16\nL,ONE,1,1,10,0,1,12,0,1\nP,ANY,0,203,,11,12,U,1,1,0,0,16\nL,ANY,1,1,11,0,1,12,0,1\nP,OTH,1,203,2,11,12,U,1,1,0,0,16\nL,OTH,1,1,12,0,1,12,0,1\n";
 
+/// An altitude and a bit that tells whether it is fresh, once a second in words 10 and 11. The altitude's age is the time
+/// from 0 to its word in the third subframe; that of the bit is two seconds.
+const AGED: &[u8] =
+    b"F,64,2,1\nP,ALT,0,203,,11,12,U,1,1,0,0,64,2140625\nL,ALT,1,1234,10,0,1,12,0,1\nP,OK,0,203,,11,1,V,1,1,0,0,64,2000000\nL,OK,1,1234,11,0,1,1,0,1\n";
+
+/// The same, where the altitude's age is a microsecond less.
+const AGED_LESS: &[u8] =
+    b"F,64,2,1\nP,ALT,0,203,,11,12,U,1,1,0,0,64,2140624\nL,ALT,1,1234,10,0,1,12,0,1\nP,OK,0,203,,11,1,V,1,1,0,0,64,2000000\nL,OK,1,1234,11,0,1,1,0,1\n";
+
 fn sampler_of(alloc: Global, table: &[u8]) -> Result<Sampler, Fail>
     ensures { IfOk result (λ s. (t : TableRows) × RepresentsSampler s (sampler_made t)) }
 {
@@ -153,6 +162,32 @@ fn holds_words_by_bus_and_sdi(rt: HostRuntime) -> Result<(), Fail> {
     Ok(())
 }
 
+// Slot 137 is sampled at 2,140,625 microseconds. A word of even parity isn't held, so nothing is ever fresh.
+#[test]
+fn takes_a_word_that_is_fresh(rt: HostRuntime) -> Result<(), Fail> {
+    for (table, bits, third, first, fresh) in [
+        (AGED, 0x14c1, 5, 5, 1),
+        (AGED_LESS, 0x14c1, 4095, 5, 1),
+        (AGED, 0x8000_14c1, 4095, 4095, 0),
+    ] {
+        let sampler = sampler_of(rt.alloc(), table)?;
+        let words = words_of(rt.alloc(), sampler, &word(0, bits, 0), 256)?;
+        for (slot, value) in [
+            (9, first),
+            (10, fresh),
+            (73, first),
+            (74, fresh),
+            (137, third),
+            (138, 0),
+            (201, 4095),
+            (202, 0),
+        ] {
+            assert_eq!(rt; words.get(slot).copied(), Some(value), "slot {slot}");
+        }
+    }
+    Ok(())
+}
+
 // Both parts have pieces of the value at the first part's slot, which is sampled at 296,875 microseconds.
 #[test]
 fn takes_a_value_at_its_first_part(rt: HostRuntime) -> Result<(), Fail> {
@@ -165,7 +200,7 @@ fn takes_a_value_at_its_first_part(rt: HostRuntime) -> Result<(), Fail> {
     Ok(())
 }
 
-// The parameter's word stands in word 10 of subframe 1, and the counter in word 2.
+// The parameter's word is in word 10 of subframe 1, and the counter in word 2.
 #[test]
 fn draws_empty_slots_at_once(rt: HostRuntime) -> Result<(), Fail> {
     let words = drawn_words(rt.alloc(), sampler_of(rt.alloc(), COUNTER_SECOND)?, 300)?;

@@ -1,5 +1,6 @@
 use Rattle.std.proofs.Common.{refl, arith}
-use Rattle.fdr_words.specs.Forms.{check_table, drill_image, format_image, list_bits, list_image, record_line, recover_image, stream_line}
+use Rattle.fdr_words.specs.Forms.{check_table, decode_levels, drill_image, encode_bytes, format_image}
+use Rattle.fdr_words.specs.Forms.{list_bits, list_image, record_line, recover_image, stream_line}
 use Rattle.fdr_sure.proofs.Makings.{faultless, making_sure}
 use Rattle.fdr_sure.proofs.sure_command.Goals as goal
 
@@ -7,6 +8,18 @@ pub returns-clause-listing : goal.returns-clause-listing
 returns-clause-listing c = λ path is accepted few.
     (rw is at c.run.ensures.runs).complete ((c.args.table.now, refl, accepted), (refl, few))
     (faultless (list_bits path) _ (λ rose. omega (arith, rose)) (λ rose. omega (arith, rose))
+    (λ rose. omega (arith, rose)) (λ rose. omega (arith, rose)))
+
+pub returns-clause-encoding : goal.returns-clause-encoding
+returns-clause-encoding c = λ is few.
+    (rw is at c.run.ensures.runs).complete (λ t. (refl, few))
+    (faultless encode_bytes _ (λ rose. omega (arith, rose)) (λ rose. omega (arith, rose))
+    (λ rose. omega (arith, rose)) (λ rose. omega (arith, rose)))
+
+pub returns-clause-decoding : goal.returns-clause-decoding
+returns-clause-decoding c = λ is few none.
+    (rw is at c.run.ensures.runs).complete (λ t. (refl, few, none))
+    (faultless decode_levels _ (λ rose. omega (arith, rose)) (λ rose. omega (arith, rose))
     (λ rose. omega (arith, rose)) (λ rose. omega (arith, rose)))
 
 pub returns-clause-stream : goal.returns-clause-stream

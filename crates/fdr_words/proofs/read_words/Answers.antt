@@ -1,11 +1,11 @@
 use Rattle.std.proofs.Common.{◌<◌, map, length, string_bytes, Global, arith, refl}
 use Rattle.std.proofs.lemmas.List.{length-map}
-use Rattle.fdr_words.specs.Words.{most_form_words}
+use Rattle.fdr_words.specs.Words.{most_form_args}
 use Rattle.fdr_words.proofs.UsesSteps.{too_many_words}
 use Rattle.fdr_words.proofs.read_words.Goals as goal
 
-pub returns-then-words-gt-MAX_WORDS-clause-usage : goal.returns-then-words-gt-MAX_WORDS-clause-usage
-returns-then-words-gt-MAX_WORDS-clause-usage c =
-    let words = map (string_bytes {Z = Global}) c.args.words.now in
-    let many : most_form_words < length words = omega (arith, length-map c.args.words.now (string_bytes {Z = Global})) in
-    ((λ e. too_many_words words many), (λ e. refl))
+pub returns-then-args-gt-MAX_ARGS-clause-usage : goal.returns-then-args-gt-MAX_ARGS-clause-usage
+returns-then-args-gt-MAX_ARGS-clause-usage c =
+    let args = map (string_bytes {Z = Global}) c.args.args.now in
+    let many : most_form_args < length args = omega (arith, length-map c.args.args.now (string_bytes {Z = Global})) in
+    ((λ e. too_many_words args many), (λ e. refl))

@@ -1,24 +1,24 @@
 use Rattle.std.proofs.Common.{◌∙◌, arith}
-use Rattle.fdr_deck.specs.Calls.{IsQuiet}
+use Rattle.fdr_deck.specs.Calls.{IsDiskWork}
 use Rattle.fdr_deck.specs.Marked.{IsMarked}
-use Rattle.fdr_deck.proofs.Moments.{IsQuiet-keep}
+use Rattle.fdr_deck.proofs.Moments.{IsDiskWork-keep}
 use Rattle.fdr_deck.proofs.Marked.{writes_record, writes_mark}
 use Rattle.fdr_deck.proofs.sample.put_marked.Given.{Over}
 use Rattle.fdr_deck.proofs.sample.put_marked.Goals.{After-sync, After-write-2}
 use Rattle.fdr_deck.proofs.sample.put_marked.Goals as goal
 
--- the record is written behind its mark, and synced
-synced : (g : Over) (c : After-sync g) → IsQuiet g.D.Deck.tells (IsMarked c.args.at c.args.bytes.now) (g.D.Deck.state c.args.deck.now)
+-- the record is written after its mark, and synced
+synced : (g : Over) (c : After-sync g) → IsDiskWork g.D.Deck.tells (IsMarked c.args.at c.args.bytes.now) (g.D.Deck.state c.args.deck.now)
     (g.D.Deck.state c.sync.new.self)
 synced g c =
-    IsQuiet-keep _ _ _ _ _ (g.met.D.Deck.sound c.args.deck.now) (g.met.D.Deck.sound c.write.new.self)
+    IsDiskWork-keep _ _ _ _ _ (g.met.D.Deck.sound c.args.deck.now) (g.met.D.Deck.sound c.write.new.self)
     (writes_record _ _ _ _ _ (g.met.D.Deck.sound c.args.deck.now) c.requires.unmarked c.write.ensures.passes c.write.ensures.moments c.write.ensures.tears)
     c.sync.ensures.passes c.sync.ensures.moments c.sync.ensures.no_more
 
 -- then its mark is written
 marked : (g : Over) (c : After-write-2 g)
-    → IsQuiet g.D.Deck.tells (IsMarked c.args.at c.args.bytes.now) (g.D.Deck.state c.args.deck.now) (g.D.Deck.state c.sync.new.self)
-    → IsQuiet g.D.Deck.tells (IsMarked c.args.at c.args.bytes.now) (g.D.Deck.state c.args.deck.now) (g.D.Deck.state c.write-2.new.self)
+    → IsDiskWork g.D.Deck.tells (IsMarked c.args.at c.args.bytes.now) (g.D.Deck.state c.args.deck.now) (g.D.Deck.state c.sync.new.self)
+    → IsDiskWork g.D.Deck.tells (IsMarked c.args.at c.args.bytes.now) (g.D.Deck.state c.args.deck.now) (g.D.Deck.state c.write-2.new.self)
 marked g c before =
     let sound = g.met.D.Deck.sound c.args.deck.now in
     writes_mark g.D.Deck.tells c.args.at c.args.bytes.now (g.D.Deck.state c.args.deck.now).held (g.D.Deck.state c.args.deck.now)
@@ -42,5 +42,5 @@ returns-in_err-write-2-clause-moments g c =
 pub returns-clause-moments : goal.returns-clause-moments
 returns-clause-moments g c =
     let at = goal.at.returns-clause-moments g c in
-    IsQuiet-keep _ _ _ _ _ (g.met.D.Deck.sound c.args.deck.now) (g.met.D.Deck.sound c.write-2.new.self) (marked g at.After-write-2 (synced g at.After-sync))
+    IsDiskWork-keep _ _ _ _ _ (g.met.D.Deck.sound c.args.deck.now) (g.met.D.Deck.sound c.write-2.new.self) (marked g at.After-write-2 (synced g at.After-sync))
     c.sync-2.ensures.passes c.sync-2.ensures.moments c.sync-2.ensures.no_more

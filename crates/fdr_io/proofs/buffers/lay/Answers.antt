@@ -4,7 +4,7 @@ use Rattle.std.proofs.lemmas.List.{take-take, length-take-le}
 use Rattle.std.proofs.lemmas.Slice.{take-put_mid}
 use Rattle.fdr_io.proofs.buffers.lay.Goals as goal
 
--- the front of what was laid behind the first so many
+-- the front of what was laid after the first bytes that count
 front : (at count n : ℕ) (room bytes after : List ℕ) → take n after ≡ take at room ++ bytes → at + count ≤ n → at ≤ length room
     → take (at + count) after ≡ take at room ++ take count bytes
 front at count n room bytes after laid within inside =

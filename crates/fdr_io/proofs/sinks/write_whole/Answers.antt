@@ -10,5 +10,5 @@ loop-sent-preserved g c =
     record {
       within = omega (arith, bound, length-drop c.loop-sent.sent c.args.bytes.now);
       gone = taken ∙ followed_by-take _ c.args.bytes.now c.loop-sent.sent c.in_ok-sent.field-0;
-      quiet = c.in_ok-sent.ensures.quiet ∙ c.loop-sent.invariant.quiet;
+      no_fault = c.in_ok-sent.ensures.no_fault ∙ c.loop-sent.invariant.no_fault;
     }

@@ -7,7 +7,7 @@ abbrev pub invariant-loop-sent : goal.invariant-loop-sent
 invariant-loop-sent g l = record {
   within : l.sent ≤ length l.bytes;
   gone : g.S.Sink.written l.out ≡ followed_by (g.S.Sink.written l.initial.out) (take l.sent l.bytes);
-  quiet : g.S.Sink.faults l.out ≡ g.S.Sink.faults l.initial.out;
+  no_fault : g.S.Sink.faults l.out ≡ g.S.Sink.faults l.initial.out;
 }
 
 abbrev pub decreases-loop-sent : goal.decreases-loop-sent

@@ -8,7 +8,7 @@ use Rattle.fdr_readout.proofs.EntryLemmas.{flat_map_next, flat_map_around}
 use Rattle.fdr_readout.proofs.entries.take_frame.Goals as goal
 
 pub loop-i-init : goal.loop-i-init
-loop-i-init g c = record { taken = λ past some stands. c.frame.ensures c.args.table.now c.args.out.now; quiet = refl }
+loop-i-init g c = record { taken = λ past some stands. c.frame.ensures c.args.table.now c.args.out.now; no_fault = refl }
 
 pub loop-i-preserved : goal.loop-i-preserved
 loop-i-preserved g c = record {
@@ -17,7 +17,7 @@ loop-i-preserved g c = record {
       let within : c.loop-i.i < length rows = omega (arith, c.rows-i-end.ensures.rows c.args.table.now past stands some) in
       rw (flat_map_next row_entries rows c.loop-i.i c.row.result (c.row.ensures.row c.args.table.now past stands))
       (g.met.T.Taker.laws.then _ _ _ _ _ _ _ _ _ (c.loop-i.invariant.taken past some stands) c.in_ok-take_row.ensures.all);
-  quiet = c.in_ok-take_row.ensures.quiet ∙ c.loop-i.invariant.quiet;
+  no_fault = c.in_ok-take_row.ensures.no_fault ∙ c.loop-i.invariant.no_fault;
 }
 
 pub returns-in_err-take_row-clause-part : goal.returns-in_err-take_row-clause-part

@@ -10,5 +10,5 @@ invariant-loop-i g l = record {
   taken : (past : List ReadFrame) → 0 < length past → RepresentsRebuild l.rebuild l.table past
       → g.T.Taker.took l.table l.fn.taker l.fn.out l.taker l.out
       (FrameEntry ∷ flat_map row_entries (take l.i (rows_looked_at l.table past (length past - 1))));
-  quiet : g.O.Sink.faults l.out ≡ g.O.Sink.faults l.fn.out;
+  no_fault : g.O.Sink.faults l.out ≡ g.O.Sink.faults l.fn.out;
 }

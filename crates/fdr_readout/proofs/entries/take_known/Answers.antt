@@ -24,7 +24,7 @@ loop-event-init g c = record {
   );
   pushed = refl;
   ended = refl;
-  quiet = refl;
+  no_fault = refl;
 }
 
 -- what is read with the event that comes next
@@ -71,7 +71,7 @@ loop-event-preserved g c = record {
       );
   pushed = c.next.ensures.pushed ∙ c.loop-event.invariant.pushed;
   ended = c.next.ensures.ended ∙ c.loop-event.invariant.ended;
-  quiet = c.in_ok-take_event.ensures.quiet ∙ c.loop-event.invariant.quiet;
+  no_fault = c.in_ok-take_event.ensures.no_fault ∙ c.loop-event.invariant.no_fault;
 }
 
 pub returns-in_err-take_event-clause-part : goal.returns-in_err-take_event-clause-part

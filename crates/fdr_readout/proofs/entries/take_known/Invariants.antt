@@ -14,7 +14,7 @@ invariant-loop-event g l = record {
       → entries_in l.table (past.bytes ++ more) (past.taken ++ es) ≡ entries_in l.table (past.bytes ++ more) past.taken ++ entries);
   pushed : bytes_pushed l.reader.scanner ≡ bytes_pushed l.fn.reader.scanner;
   ended : l.reader.scanner.ended ≡ l.fn.reader.scanner.ended;
-  quiet : g.O.Sink.faults l.out ≡ g.O.Sink.faults l.fn.out;
+  no_fault : g.O.Sink.faults l.out ≡ g.O.Sink.faults l.fn.out;
 }
 
 abbrev pub decreases-loop-event : goal.decreases-loop-event

@@ -1,37 +1,37 @@
 use Rattle.std.proofs.Common.{◌≡◌, ◌+◌, ◌∙◌, ℕ, List, [], ◌∷◌, length, ap, sym, subst, Some}
 use Rattle.fdr_deck.specs.State.{State, Tells}
-use Rattle.fdr_deck.specs.Calls.{IsQuiet, Announces}
+use Rattle.fdr_deck.specs.Calls.{IsDiskWork, Announces}
 use Rattle.fdr_slot.specs.declared.image.Header.{Header}
 use Rattle.fdr_slot.proofs.HeaderLemmas.{in_limits-is}
 use Rattle.fdr_recover.specs.Blocks.{Block}
-use Rattle.fdr_ring.specs.Gates.{waiting}
+use Rattle.fdr_ring.specs.Gates.{waiting_block}
 use Rattle.fdr_ring.specs.Runs.{HasAdded}
 use Rattle.fdr_ring.specs.Rings.{IsSureRing, IsCommitting, OfSettled}
-use Rattle.fdr_recorder.specs.Recording.{Records, HasRecorded}
-use Rattle.fdr_recorder.proofs.Adding.{IsRing-told, Records-unprepared, Records-prepared, recorded-added}
+use Rattle.fdr_recorder.specs.Recording.{RecordsFirstOf, RecordsAllOf}
+use Rattle.fdr_recorder.proofs.Adding.{IsRing-told, RecordsFirstOf-unprepared, RecordsFirstOf-prepared, recorded-added}
 use Rattle.fdr_recorder.proofs.session.add.Given.{Over}
 use Rattle.fdr_recorder.proofs.session.add.Goals.{After-announce}
 use Rattle.fdr_recorder.proofs.session.add.Goals as goal
 
-quiet_as : (tells : Tells) (h p : Header) (next k : ℕ) (d1 d2 : State) → p ≡ h → k ≡ next → IsQuiet tells (OfSettled d1 (IsCommitting p k)) d1 d2
-    → IsQuiet tells (OfSettled d1 (IsCommitting h next)) d1 d2
+quiet_as : (tells : Tells) (h p : Header) (next k : ℕ) (d1 d2 : State) → p ≡ h → k ≡ next → IsDiskWork tells (OfSettled d1 (IsCommitting p k)) d1 d2
+    → IsDiskWork tells (OfSettled d1 (IsCommitting h next)) d1 d2
 quiet_as tells h p next k d1 d2 same_header same_number quiet =
-    subst (λ (hh : Header). IsQuiet tells (OfSettled d1 (IsCommitting hh next)) d1 d2) same_header
-    (subst (λ (n : ℕ). IsQuiet tells (OfSettled d1 (IsCommitting p n)) d1 d2) same_number quiet)
+    subst (λ (hh : Header). IsDiskWork tells (OfSettled d1 (IsCommitting hh next)) d1 d2) same_header
+    (subst (λ (n : ℕ). IsDiskWork tells (OfSettled d1 (IsCommitting p n)) d1 d2) same_number quiet)
 
 sure_as : (tells : Tells) (h p : Header) (next k : ℕ) (d : State) → p ≡ h → k ≡ next → IsSureRing tells p k d → IsSureRing tells h next d
 sure_as tells h p next k d same_header same_number sure =
     subst (λ (hh : Header). IsSureRing tells hh next d) same_header (subst (λ (n : ℕ). IsSureRing tells p n d) same_number sure)
 
-waits_as : (h p : Header) (image : List ℕ) (next k : ℕ) (b : Block) → p ≡ h → k ≡ next → waiting h image next ≡ Some b → waiting p image k ≡ Some b
+waits_as : (h p : Header) (image : List ℕ) (next k : ℕ) (b : Block) → p ≡ h → k ≡ next → waiting_block h image next ≡ Some b → waiting_block p image k ≡ Some b
 waits_as h p image next k b same_header same_number waits =
-    subst (λ (hh : Header). waiting hh image k ≡ Some b) (sym same_header) (subst (λ (n : ℕ). waiting h image n ≡ Some b) (sym same_number) waits)
+    subst (λ (hh : Header). waiting_block hh image k ≡ Some b) (sym same_header) (subst (λ (n : ℕ). waiting_block h image n ≡ Some b) (sym same_number) waits)
 
 pub returns-in_err-prepared-clause-records : goal.returns-in_err-prepared-clause-records
 returns-in_err-prepared-clause-records g c =
     let s = g.D.Deck.state in
-    Records-unprepared g.D.Deck.tells c.args.ring.header c.args.ring.next (length c.args.bytes.now) (s c.args.deck.now) (s c.prepare.new.deck)
-    (g.met.D.Deck.sound c.args.deck.now) c.requires.fact c.prepare.ensures.extent c.prepare.ensures.quiet _
+    RecordsFirstOf-unprepared g.D.Deck.tells c.args.ring.header c.args.ring.next (length c.args.bytes.now) (s c.args.deck.now) (s c.prepare.new.deck)
+    (g.met.D.Deck.sound c.args.deck.now) c.requires.fact c.prepare.ensures.extent c.prepare.ensures.disk_work _
 
 pub returns-in_err-ring-clause-records : goal.returns-in_err-ring-clause-records
 returns-in_err-ring-clause-records g c =
@@ -41,16 +41,16 @@ returns-in_err-ring-clause-records g c =
     let p = c.in_ok-prepared.prepared in
     let ok = c.in_ok-prepared.ensures in
     let b : Block = record { number = next; payload = c.args.bytes.now } in
-    Records-prepared g.D.Deck.tells h next (length c.args.bytes.now) (s c.args.deck.now) (s c.prepare.new.deck)
-    (g.met.D.Deck.sound c.args.deck.now) c.requires.fact c.prepare.ensures.extent c.prepare.ensures.quiet
+    RecordsFirstOf-prepared g.D.Deck.tells h next (length c.args.bytes.now) (s c.args.deck.now) (s c.prepare.new.deck)
+    (g.met.D.Deck.sound c.args.deck.now) c.requires.fact c.prepare.ensures.extent c.prepare.ensures.disk_work
     b ok.settled ok.succeeds c.prepare.ensures.keeps ok.block (s c.commit.new.deck) c.commit.ensures.extent
-    (quiet_as _ h p.header next p.next _ _ ok.prepared.0 ok.prepared.1 c.commit.ensures.quiet)
+    (quiet_as _ h p.header next p.next _ _ ok.prepared.0 ok.prepared.1 c.commit.ensures.disk_work)
 
 -- what a call that added its block recorded
 added : (g : Over) (c : After-announce g) → let s = g.D.Deck.state in
     let b : Block = record { number = c.args.ring.next; payload = c.args.bytes.now } in
-    Records g.D.Deck.tells c.args.ring.header c.args.ring.next (b ∷ []) (s c.args.deck.now) (s c.announce.new.self)
-    × HasRecorded g.D.Deck.tells c.args.ring.header c.args.ring.next (b ∷ []) (s c.args.deck.now) (s c.announce.new.self)
+    RecordsFirstOf g.D.Deck.tells c.args.ring.header c.args.ring.next (b ∷ []) (s c.args.deck.now) (s c.announce.new.self)
+    × RecordsAllOf g.D.Deck.tells c.args.ring.header c.args.ring.next (b ∷ []) (s c.args.deck.now) (s c.announce.new.self)
 added g c =
     let s = g.D.Deck.state in
     let h = c.args.ring.header in
@@ -63,16 +63,16 @@ added g c =
     let announces : Announces (next + 1) (s c.commit.new.deck) (s c.announce.new.self) =
     subst (λ (n : ℕ). Announces n (s c.commit.new.deck) (s c.announce.new.self)) (c.next.ensures.number ∙ up) c.announce.ensures.announces in
     recorded-added g.D.Deck.tells h next (length c.args.bytes.now) (s c.args.deck.now) (s c.prepare.new.deck)
-    (g.met.D.Deck.sound c.args.deck.now) c.requires.fact c.prepare.ensures.extent c.prepare.ensures.quiet
+    (g.met.D.Deck.sound c.args.deck.now) c.requires.fact c.prepare.ensures.extent c.prepare.ensures.disk_work
     b ok.settled ok.succeeds c.prepare.ensures.keeps ok.block (s c.commit.new.deck) c.commit.ensures.extent
-    (quiet_as _ h p.header next p.next _ _ ok.prepared.0 ok.prepared.1 c.commit.ensures.quiet)
+    (quiet_as _ h p.header next p.next _ _ ok.prepared.0 ok.prepared.1 c.commit.ensures.disk_work)
     (in_limits-is h c.args.ring.limits) done.settled done.succeeds
     (sure_as _ h c.in_ok-ring.ring.header (next + 1) c.in_ok-ring.ring.next _ (done.ring.0 ∙ ok.prepared.0) up done.fact)
     ok.run
     (λ told. subst (λ (hh : Header). HasAdded hh b (s c.prepare.new.deck).held (s c.commit.new.deck).held) ok.prepared.0
     (done.added told b (waits_as h p.header _ next p.next b ok.prepared.0 ok.prepared.1 (ok.block told))))
     (s c.announce.new.self) announces c.announce.ensures.disk
-    c.announce.ensures.line c.announce.ensures.line_faults c.announce.ensures.time c.announce.ensures.moments
+    c.announce.ensures.input c.announce.ensures.input_faults c.announce.ensures.time c.announce.ensures.moments
 
 pub returns-clause-records : goal.returns-clause-records
 returns-clause-records g c = (added g (goal.at.returns-clause-records g c).After-announce).0

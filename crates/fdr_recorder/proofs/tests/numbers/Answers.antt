@@ -3,7 +3,7 @@ use Rattle.fdr_bus.specs.declared.BusRecord.{BusRecord}
 use Rattle.fdr_bus.specs.declared.RecordKind.TheVariants.{Word, End}
 use Rattle.fdr_slot.specs.declared.image.Header.{Header}
 use Rattle.fdr_table.specs.Rows.{TableRows}
-use Rattle.fdr_recorder.specs.Past.{MayFeedSession, started, session_with_record}
+use Rattle.fdr_recorder.specs.Past.{MayFeedRecording, past_at_start, recording_with_record}
 use Rattle.fdr_recorder.proofs.tests.numbers.Goals as goal
 
 word : ℕ → BusRecord
@@ -12,15 +12,16 @@ word time = record { kind = Word; bus = 7; word = 0; time = time }
 end : BusRecord
 end = record { kind = End; bus = 0; word = 0; time = 1000000 }
 
-first : (t : TableRows) (h : Header) (n : ℕ) → MayFeedSession (started t h n) (word 0)
+first : (t : TableRows) (h : Header) (n : ℕ) → MayFeedRecording (past_at_start t h n) (word 0)
 unfolding word
 first t h n = record { order = omega arith; in_time = omega arith; unended = refl }
 
-second : (t : TableRows) (h : Header) (n : ℕ) → MayFeedSession (session_with_record (started t h n) (word 0)) (word 1000000)
+second : (t : TableRows) (h : Header) (n : ℕ) → MayFeedRecording (recording_with_record (past_at_start t h n) (word 0)) (word 1000000)
 unfolding word
 second t h n = record { order = omega arith; in_time = omega arith; unended = refl }
 
-third : (t : TableRows) (h : Header) (n : ℕ) → MayFeedSession (session_with_record (session_with_record (started t h n) (word 0)) (word 1000000)) end
+third : (t : TableRows) (h : Header) (n : ℕ) → MayFeedRecording
+    (recording_with_record (recording_with_record (past_at_start t h n) (word 0)) (word 1000000)) end
 unfolding word end
 third t h n = record { order = omega arith; in_time = omega arith; unended = refl }
 

@@ -1,9 +1,9 @@
 use Rattle.std.proofs.Common.{◌≡◌, ◌∙◌, Some, ap, arith}
 use Rattle.fdr_slot.specs.Headers.{image_fault}
 use Rattle.fdr_slot.specs.declared.image.ImageFault.TheVariants as fault
-use Rattle.fdr_deck.proofs.Moments.{IsQuiet-keep}
+use Rattle.fdr_deck.proofs.Moments.{IsDiskWork-keep}
 use Rattle.fdr_recover.specs.ImageHeader.{image_fault_of}
-use Rattle.fdr_deck.proofs.Quiet.{IsQuiet-look}
+use Rattle.fdr_deck.proofs.Quiet.{IsDiskWork-look}
 use Rattle.fdr_recover.proofs.ImageFaults.{small_fault, not_small}
 use Rattle.fdr_recover.proofs.open.read_image_header.Goals as goal
 
@@ -27,16 +27,16 @@ returns-in_err-read_header-clause-small g c why is =
       λ few. absurd (omega (arith, few, c.if-size-lt64.false, c.in_ok-size.ensures.answer, c.read.ensures.extent)),
     )
 
-pub returns-in_err-read_header-clause-quiet : goal.returns-in_err-read_header-clause-quiet
-returns-in_err-read_header-clause-quiet g c =
-    IsQuiet-keep _ _ _ _ _ (g.met.D.Deck.sound c.args.deck.now) (g.met.D.Deck.sound c.size.new.self)
-    (IsQuiet-look _ _ _ _ (g.met.D.Deck.sound c.args.deck.now) c.size.ensures.disk c.size.ensures.passes c.size.ensures.moments
+pub returns-in_err-read_header-clause-disk_work : goal.returns-in_err-read_header-clause-disk_work
+returns-in_err-read_header-clause-disk_work g c =
+    IsDiskWork-keep _ _ _ _ _ (g.met.D.Deck.sound c.args.deck.now) (g.met.D.Deck.sound c.size.new.self)
+    (IsDiskWork-look _ _ _ _ (g.met.D.Deck.sound c.args.deck.now) c.size.ensures.disk c.size.ensures.passes c.size.ensures.moments
     (λ told image leaves. leaves))
     c.read.ensures.passes c.read.ensures.moments c.read.ensures.disk.no_more
 
-pub returns-clause-quiet : goal.returns-clause-quiet
-returns-clause-quiet g c =
-    IsQuiet-keep _ _ _ _ _ (g.met.D.Deck.sound c.args.deck.now) (g.met.D.Deck.sound c.size.new.self)
-    (IsQuiet-look _ _ _ _ (g.met.D.Deck.sound c.args.deck.now) c.size.ensures.disk c.size.ensures.passes c.size.ensures.moments
+pub returns-clause-disk_work : goal.returns-clause-disk_work
+returns-clause-disk_work g c =
+    IsDiskWork-keep _ _ _ _ _ (g.met.D.Deck.sound c.args.deck.now) (g.met.D.Deck.sound c.size.new.self)
+    (IsDiskWork-look _ _ _ _ (g.met.D.Deck.sound c.args.deck.now) c.size.ensures.disk c.size.ensures.passes c.size.ensures.moments
     (λ told image leaves. leaves))
     c.read.ensures.passes c.read.ensures.moments c.read.ensures.disk.no_more

@@ -1,6 +1,6 @@
 use Rattle.std.proofs.Common.{◌≡◌, ◌-◌, ◌∙◌, None, sym, ap, subst, arith}
 use Rattle.std.specs.Prelude.{IsSome}
-use Rattle.fdr_recover.specs.Blocks.{standing}
+use Rattle.fdr_recover.specs.Blocks.{standing_block}
 use Rattle.fdr_recover.specs.Images.{block_in, block_numbered, blocks_below}
 use Rattle.fdr_recover.proofs.Looking.{Looks-then}
 use Rattle.fdr_recover.proofs.Walking.{AllStand-more, walked_down, stops_at, stops_below, not_there}
@@ -19,7 +19,7 @@ unfolding block_numbered blocks_below
 returns-then-not-branch-clause-first g c told =
     let n = c.args.h.now.slots in
     let slots = block_in c.args.h.now (g.D.Deck.state c.args.deck.now).held in
-    let none : standing n slots (c.loop-first.first - 1) ≡ None =
+    let none : standing_block n slots (c.loop-first.first - 1) ≡ None =
     ap (λ held. block_numbered c.args.h.now held (c.loop-first.first - 1)) (sym c.loop-first.invariant.looks.disk.held)
     ∙ not_there _ _ c.if-not-branch.true (c.in_ok-holds.ensures.held told) in
     walked_down n slots c.loop-first.first c.args.next c.loop-first.invariant.order (c.loop-first.invariant.stand told)

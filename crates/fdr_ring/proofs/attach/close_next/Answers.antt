@@ -1,9 +1,9 @@
 use Rattle.std.proofs.Common.{◌≡◌, ◌∙◌, ℕ, List, ap, subst, arith}
 use Rattle.std.specs.Prelude.{IsTrue}
-use Rattle.fdr_deck.specs.Calls.{IsQuiet}
+use Rattle.fdr_deck.specs.Calls.{IsDiskWork}
 use Rattle.fdr_ring.specs.Gates.{gate_at}
 use Rattle.fdr_ring.specs.Rings.{IsAttaching, OfSettled}
-use Rattle.fdr_ring.specs.Closing.{IsTurned, shut}
+use Rattle.fdr_ring.specs.Closing.{IsTurned, image_with_closed_gate}
 use Rattle.fdr_ring.proofs.Attaching.{IsFound, IsFound-deck, attaching_image, attaching_quiet, attached_run, attached_ring}
 use Rattle.fdr_ring.proofs.attach.close_next.Given.{Over}
 use Rattle.fdr_ring.proofs.attach.close_next.Goals.{After-shut_gate, In_ok-shut_gate}
@@ -24,34 +24,34 @@ keeps g c told =
 
 -- and the moments until then
 quiet : (g : Over) (c : After-shut_gate g) → let old = g.D.Deck.state c.args.deck.now in
-    IsQuiet g.D.Deck.tells (OfSettled old (IsAttaching c.args.h.now)) old (g.D.Deck.state c.shut_gate.new.deck)
+    IsDiskWork g.D.Deck.tells (OfSettled old (IsAttaching c.args.h.now)) old (g.D.Deck.state c.shut_gate.new.deck)
 quiet g c =
     attaching_quiet _ _ _ _ _ _ _ (g.met.D.Deck.sound c.args.deck.now) (found g c) c.gate_at.ensures.at c.scan.ensures.looks.disk
-    c.scan.ensures.looks.quiet c.shut_gate.ensures.quiet
+    c.scan.ensures.looks.disk_work c.shut_gate.ensures.disk_work
 
 pub returns-in_err-shut_gate-clause-keeps : goal.returns-in_err-shut_gate-clause-keeps
 returns-in_err-shut_gate-clause-keeps g c = keeps g (goal.at.returns-in_err-shut_gate-clause-keeps g c).After-shut_gate
 
-pub returns-in_err-shut_gate-clause-quiet : goal.returns-in_err-shut_gate-clause-quiet
-returns-in_err-shut_gate-clause-quiet g c = quiet g (goal.at.returns-in_err-shut_gate-clause-quiet g c).After-shut_gate
+pub returns-in_err-shut_gate-clause-disk_work : goal.returns-in_err-shut_gate-clause-disk_work
+returns-in_err-shut_gate-clause-disk_work g c = quiet g (goal.at.returns-in_err-shut_gate-clause-disk_work g c).After-shut_gate
 
 pub returns-clause-keeps : goal.returns-clause-keeps
 returns-clause-keeps g c = keeps g (goal.at.returns-clause-keeps g c).After-shut_gate
 
-pub returns-clause-quiet : goal.returns-clause-quiet
-returns-clause-quiet g c = quiet g (goal.at.returns-clause-quiet g c).After-shut_gate
+pub returns-clause-disk_work : goal.returns-clause-disk_work
+returns-clause-disk_work g c = quiet g (goal.at.returns-clause-disk_work g c).After-shut_gate
 
 -- where the call succeeded, the gate of that number is closed
 closed : (g : Over) (c : In_ok-shut_gate g) → IsTrue g.D.Deck.tells.bytes → (g.D.Deck.state c.shut_gate.new.deck).held
-    ≡ shut (gate_at c.args.h.now c.in_ok-next.field-0.next) (g.D.Deck.state c.args.deck.now).held
+    ≡ image_with_closed_gate (gate_at c.args.h.now c.in_ok-next.field-0.next) (g.D.Deck.state c.args.deck.now).held
 closed g c told =
-    c.in_ok-shut_gate.ensures.written told ∙ ap (shut c.gate_at.result) c.scan.ensures.looks.disk.held
-    ∙ ap (λ at. shut at (g.D.Deck.state c.args.deck.now).held) c.gate_at.ensures.at
+    c.in_ok-shut_gate.ensures.written told ∙ ap (image_with_closed_gate c.gate_at.result) c.scan.ensures.looks.disk.held
+    ∙ ap (λ at. image_with_closed_gate at (g.D.Deck.state c.args.deck.now).held) c.gate_at.ensures.at
 
 pub returns-clause-held : goal.returns-clause-held
 returns-clause-held g c told =
     closed g (goal.at.returns-clause-held g c).In_ok-shut_gate told
-    ∙ ap (λ n. shut (gate_at c.args.h.now n) (g.D.Deck.state c.args.deck.now).held) (c.in_ok-next.ensures.next told)
+    ∙ ap (λ n. image_with_closed_gate (gate_at c.args.h.now n) (g.D.Deck.state c.args.deck.now).held) (c.in_ok-next.ensures.next told)
 
 pub returns-clause-run : goal.returns-clause-run
 returns-clause-run g c told =

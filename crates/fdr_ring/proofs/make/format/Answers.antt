@@ -1,6 +1,6 @@
 use Rattle.std.proofs.Common.{◌≡◌, ◌∙◌, sym, ap, subst, arith}
 use Rattle.std.specs.Prelude.{IsTrue}
-use Rattle.fdr_deck.specs.Calls.{IsQuiet}
+use Rattle.fdr_deck.specs.Calls.{IsDiskWork}
 use Rattle.fdr_recover.specs.Images.{recovered_run}
 use Rattle.fdr_ring.specs.Formatting.{IsFormatted, Making}
 use Rattle.fdr_ring.proofs.Made.{asks_length, provides_zeros, lays_header, fresh_formatted, fresh_empty, fresh_ring}
@@ -9,8 +9,8 @@ use Rattle.fdr_ring.proofs.make.format.Given.{Over}
 use Rattle.fdr_ring.proofs.make.format.Goals.{After-provide}
 use Rattle.fdr_ring.proofs.make.format.Goals as goal
 
-pub returns-in_err-size-clause-quiet : goal.returns-in_err-size-clause-quiet
-returns-in_err-size-clause-quiet g c =
+pub returns-in_err-size-clause-disk_work : goal.returns-in_err-size-clause-disk_work
+returns-in_err-size-clause-disk_work g c =
     asks_length _ _ _ _ (g.met.D.Deck.sound c.args.deck.now) c.size.ensures.disk c.size.ensures.passes c.size.ensures.moments
 
 -- the disk had no bytes
@@ -19,25 +19,25 @@ none g c told = omega (arith, c.size.ensures.learns.stops told, c.in_ok-size.ens
 
 -- and was provided
 provided : (g : Over) (c : After-provide g) → let old = g.D.Deck.state c.args.deck.now in
-    IsQuiet g.D.Deck.tells (Making c.args.h.now old) old (g.D.Deck.state c.provide.new.self)
+    IsDiskWork g.D.Deck.tells (Making c.args.h.now old) old (g.D.Deck.state c.provide.new.self)
 provided g c =
     let sound = g.met.D.Deck.sound c.args.deck.now in
     provides_zeros _ _ _ _ _ _ sound (g.met.D.Deck.sound c.size.new.self) (none g c) c.size.ensures.disk
     (asks_length _ _ _ _ sound c.size.ensures.disk c.size.ensures.passes c.size.ensures.moments)
     c.provide.ensures.passes c.provide.ensures.moments
 
-pub returns-in_err-provide-clause-quiet : goal.returns-in_err-provide-clause-quiet
-returns-in_err-provide-clause-quiet g c = provided g (goal.at.returns-in_err-provide-clause-quiet g c).After-provide
+pub returns-in_err-provide-clause-disk_work : goal.returns-in_err-provide-clause-disk_work
+returns-in_err-provide-clause-disk_work g c = provided g (goal.at.returns-in_err-provide-clause-disk_work g c).After-provide
 
-pub returns-in_err-lay_header-clause-quiet : goal.returns-in_err-lay_header-clause-quiet
-returns-in_err-lay_header-clause-quiet g c =
-    let at = (goal.at.returns-in_err-lay_header-clause-quiet g c).After-provide in
-    lays_header _ _ _ _ _ (g.met.D.Deck.sound c.args.deck.now) (none g at) (provided g at) c.lay_header.ensures.quiet
+pub returns-in_err-lay_header-clause-disk_work : goal.returns-in_err-lay_header-clause-disk_work
+returns-in_err-lay_header-clause-disk_work g c =
+    let at = (goal.at.returns-in_err-lay_header-clause-disk_work g c).After-provide in
+    lays_header _ _ _ _ _ (g.met.D.Deck.sound c.args.deck.now) (none g at) (provided g at) c.lay_header.ensures.disk_work
 
-pub returns-clause-quiet : goal.returns-clause-quiet
-returns-clause-quiet g c =
-    let at = (goal.at.returns-clause-quiet g c).After-provide in
-    lays_header _ _ _ _ _ (g.met.D.Deck.sound c.args.deck.now) (none g at) (provided g at) c.lay_header.ensures.quiet
+pub returns-clause-disk_work : goal.returns-clause-disk_work
+returns-clause-disk_work g c =
+    let at = (goal.at.returns-clause-disk_work g c).After-provide in
+    lays_header _ _ _ _ _ (g.met.D.Deck.sound c.args.deck.now) (none g at) (provided g at) c.lay_header.ensures.disk_work
 
 pub returns-clause-fact : goal.returns-clause-fact
 returns-clause-fact g c =

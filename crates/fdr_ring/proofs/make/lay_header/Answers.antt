@@ -1,34 +1,34 @@
 use Rattle.std.proofs.Common.{◌≡◌, ◌∙◌, List, ℕ, length, take, drop, ap, arith, length-take}
 use Rattle.std.specs.Prelude.{[], ◌∷◌, IsTrue, replicate}
 use Rattle.fdr_deck.specs.Disk.{Torn, patched}
-use Rattle.fdr_deck.specs.Calls.{IsQuiet}
-use Rattle.fdr_deck.proofs.Moments.{IsQuiet-keep}
+use Rattle.fdr_deck.specs.Calls.{IsDiskWork}
+use Rattle.fdr_deck.proofs.Moments.{IsDiskWork-keep}
 use Rattle.fdr_slot.specs.Places.{image_size}
 use Rattle.fdr_slot.specs.Headers.{header_bytes}
 use Rattle.fdr_ring.specs.Formatting.{fresh_image}
-use Rattle.fdr_deck.proofs.Quiet.{IsQuiet-weaken, IsQuiet-then}
+use Rattle.fdr_deck.proofs.Quiet.{IsDiskWork-weaken, IsDiskWork-then}
 use Rattle.fdr_ring.proofs.Results.{map_ok}
 use Rattle.fdr_ring.proofs.Made.{lays_tail, torn_stop, gate_stop, opened_fresh}
 use Rattle.fdr_ring.proofs.make.lay_header.Given.{Over}
 use Rattle.fdr_ring.proofs.make.lay_header.Goals.{After-write, After-sync, After-open_gate}
 use Rattle.fdr_ring.proofs.make.lay_header.Goals as goal
 
--- a write that puts no more than the header behind its gate
-tail_laid : (g : Over) (c : After-write g) → IsQuiet g.D.Deck.tells (Torn 1 63 (replicate (image_size c.args.h.now) 0)) (g.D.Deck.state c.args.deck.now)
+-- a write that puts no more than the header after its gate
+tail_laid : (g : Over) (c : After-write g) → IsDiskWork g.D.Deck.tells (Torn 1 63 (replicate (image_size c.args.h.now) 0)) (g.D.Deck.state c.args.deck.now)
     (g.D.Deck.state c.write.new.self)
 tail_laid g c =
     lays_tail _ (image_size c.args.h.now) _ _ _ (g.met.D.Deck.sound c.args.deck.now) c.requires.zeros c.requires.settled
     (omega (arith, length-take 63 (drop 1 c.write_header-bytes.result))) c.write.ensures.passes c.write.ensures.moments c.write.ensures.tears
 
--- and the sync behind it
-synced : (g : Over) (c : After-sync g) → IsQuiet g.D.Deck.tells (Torn 1 63 (replicate (image_size c.args.h.now) 0)) (g.D.Deck.state c.args.deck.now)
-    (g.D.Deck.state c.write.new.self) → IsQuiet g.D.Deck.tells (Torn 1 63 (replicate (image_size c.args.h.now) 0)) (g.D.Deck.state c.args.deck.now)
+-- and the sync after it
+synced : (g : Over) (c : After-sync g) → IsDiskWork g.D.Deck.tells (Torn 1 63 (replicate (image_size c.args.h.now) 0)) (g.D.Deck.state c.args.deck.now)
+    (g.D.Deck.state c.write.new.self) → IsDiskWork g.D.Deck.tells (Torn 1 63 (replicate (image_size c.args.h.now) 0)) (g.D.Deck.state c.args.deck.now)
     (g.D.Deck.state c.sync.new.self)
 synced g c laid =
-    IsQuiet-keep _ _ _ _ _ (g.met.D.Deck.sound c.args.deck.now) (g.met.D.Deck.sound c.write.new.self) laid
+    IsDiskWork-keep _ _ _ _ _ (g.met.D.Deck.sound c.args.deck.now) (g.met.D.Deck.sound c.write.new.self) laid
     c.sync.ensures.passes c.sync.ensures.moments c.sync.ensures.no_more
 
--- then the header behind its gate is laid on zeros
+-- then the header after its gate is laid on zeros
 header_held : (g : Over) (c : After-open_gate g) → IsTrue g.D.Deck.tells.bytes → (g.D.Deck.state c.sync.new.self).held
     ≡ patched 1 (take 63 (drop 1 (header_bytes c.args.h.now))) (replicate (image_size c.args.h.now) 0)
 header_held g c told =
@@ -36,20 +36,20 @@ header_held g c told =
     ∙ ap (λ (l : List ℕ). patched 1 (take 63 (drop 1 l)) (g.D.Deck.state c.args.deck.now).held) c.write_header-bytes.ensures.bytes
     ∙ ap (patched 1 (take 63 (drop 1 (header_bytes c.args.h.now)))) (c.requires.zeros told)
 
-pub returns-in_err-write-clause-quiet : goal.returns-in_err-write-clause-quiet
-returns-in_err-write-clause-quiet g c =
-    IsQuiet-weaken _ _ _ _ _ (tail_laid g (goal.at.returns-in_err-write-clause-quiet g c).After-write) (λ told image torn. torn_stop _ _ _ _ torn)
+pub returns-in_err-write-clause-disk_work : goal.returns-in_err-write-clause-disk_work
+returns-in_err-write-clause-disk_work g c =
+    IsDiskWork-weaken _ _ _ _ _ (tail_laid g (goal.at.returns-in_err-write-clause-disk_work g c).After-write) (λ told image torn. torn_stop _ _ _ _ torn)
 
-pub returns-in_err-sync-clause-quiet : goal.returns-in_err-sync-clause-quiet
-returns-in_err-sync-clause-quiet g c =
-    let at = goal.at.returns-in_err-sync-clause-quiet g c in
-    IsQuiet-weaken _ _ _ _ _ (synced g at.After-sync (tail_laid g at.After-write)) (λ told image torn. torn_stop _ _ _ _ torn)
+pub returns-in_err-sync-clause-disk_work : goal.returns-in_err-sync-clause-disk_work
+returns-in_err-sync-clause-disk_work g c =
+    let at = goal.at.returns-in_err-sync-clause-disk_work g c in
+    IsDiskWork-weaken _ _ _ _ _ (synced g at.After-sync (tail_laid g at.After-write)) (λ told image torn. torn_stop _ _ _ _ torn)
 
-pub returns-clause-quiet : goal.returns-clause-quiet
-returns-clause-quiet g c =
+pub returns-clause-disk_work : goal.returns-clause-disk_work
+returns-clause-disk_work g c =
     let sound = g.met.D.Deck.sound c.args.deck.now in
-    let at = goal.at.returns-clause-quiet g c in
-    IsQuiet-then _ _ _ _ _ _ _ sound (synced g at.After-sync (tail_laid g at.After-write)) c.open_gate.ensures.quiet
+    let at = goal.at.returns-clause-disk_work g c in
+    IsDiskWork-then _ _ _ _ _ _ _ sound (synced g at.After-sync (tail_laid g at.After-write)) c.open_gate.ensures.disk_work
     (λ told image torn. torn_stop _ _ _ _ torn)
     (λ told image turned.
     let bytes_told = sound.stops_need_bytes told in

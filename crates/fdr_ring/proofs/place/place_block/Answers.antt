@@ -1,10 +1,10 @@
 use Rattle.std.proofs.Common.{◌≡◌, ◌-◌, Some, sym, subst, arith}
 use Rattle.std.specs.Prelude.{IsTrue}
-use Rattle.fdr_deck.proofs.Moments.{IsQuiet-keep}
+use Rattle.fdr_deck.proofs.Moments.{IsDiskWork-keep}
 use Rattle.fdr_recover.specs.Images.{recovered_run}
-use Rattle.fdr_ring.specs.Gates.{waiting}
+use Rattle.fdr_ring.specs.Gates.{waiting_block}
 use Rattle.fdr_ring.specs.Closing.{IsTurned}
-use Rattle.fdr_ring.specs.Bodies.{prepared}
+use Rattle.fdr_ring.specs.Bodies.{image_to_commit}
 use Rattle.fdr_ring.specs.Runs.{last_blocks}
 use Rattle.fdr_ring.specs.Rings.{IsPrepared}
 use Rattle.fdr_ring.proofs.Results.{always_ok}
@@ -18,11 +18,11 @@ returns-in_err-write_body-clause-keeps g c told =
     (g.met.D.Deck.sound c.args.deck.now) c.requires.fact told)
     (c.write_body.ensures.torn told)
 
-pub returns-in_err-write_body-clause-quiet : goal.returns-in_err-write_body-clause-quiet
-returns-in_err-write_body-clause-quiet g c =
+pub returns-in_err-write_body-clause-disk_work : goal.returns-in_err-write_body-clause-disk_work
+returns-in_err-write_body-clause-disk_work g c =
     let sound = g.met.D.Deck.sound c.args.deck.now in
     body_quiet _ _ _ _ _ _ sound
-    (IsReady-deck _ _ _ _ _ c.requires.limits c.requires.fits sound c.requires.fact) c.write_body.ensures.quiet
+    (IsReady-deck _ _ _ _ _ c.requires.limits c.requires.fits sound c.requires.fact) c.write_body.ensures.disk_work
 
 pub returns-in_err-close_open_gate-clause-keeps : goal.returns-in_err-close_open_gate-clause-keeps
 returns-in_err-close_open_gate-clause-keeps g c told =
@@ -30,12 +30,12 @@ returns-in_err-close_open_gate-clause-keeps g c told =
     (g.met.D.Deck.sound c.args.deck.now) c.requires.fact told)
     (c.write_body.ensures.torn told) c.gate_at.ensures.at (c.close_open_gate.ensures.turned told)
 
-pub returns-in_err-close_open_gate-clause-quiet : goal.returns-in_err-close_open_gate-clause-quiet
-returns-in_err-close_open_gate-clause-quiet g c =
+pub returns-in_err-close_open_gate-clause-disk_work : goal.returns-in_err-close_open_gate-clause-disk_work
+returns-in_err-close_open_gate-clause-disk_work g c =
     let sound = g.met.D.Deck.sound c.args.deck.now in
     placing_quiet _ _ _ _ _ _ _ _ sound (g.met.D.Deck.sound c.write_body.new.deck)
     (IsReady-deck _ _ _ _ _ c.requires.limits c.requires.fits sound c.requires.fact)
-    c.gate_at.ensures.at c.write_body.ensures.torn c.write_body.ensures.quiet c.close_open_gate.ensures.quiet
+    c.gate_at.ensures.at c.write_body.ensures.torn c.write_body.ensures.disk_work c.close_open_gate.ensures.disk_work
 
 pub returns-clause-keeps : goal.returns-clause-keeps
 returns-clause-keeps g c told =
@@ -45,13 +45,13 @@ returns-clause-keeps g c told =
     (g.met.D.Deck.sound c.args.deck.now) c.requires.fact told)
     (c.write_body.ensures.torn told) c.gate_at.ensures.at turned
 
-pub returns-clause-quiet : goal.returns-clause-quiet
-returns-clause-quiet g c =
+pub returns-clause-disk_work : goal.returns-clause-disk_work
+returns-clause-disk_work g c =
     let sound = g.met.D.Deck.sound c.args.deck.now in
-    IsQuiet-keep _ _ _ _ _ sound (g.met.D.Deck.sound c.close_open_gate.new.deck)
+    IsDiskWork-keep _ _ _ _ _ sound (g.met.D.Deck.sound c.close_open_gate.new.deck)
     (placing_quiet _ _ _ _ _ _ _ _ sound (g.met.D.Deck.sound c.write_body.new.deck)
     (IsReady-deck _ _ _ _ _ c.requires.limits c.requires.fits sound c.requires.fact)
-    c.gate_at.ensures.at c.write_body.ensures.torn c.write_body.ensures.quiet c.close_open_gate.ensures.quiet)
+    c.gate_at.ensures.at c.write_body.ensures.torn c.write_body.ensures.disk_work c.close_open_gate.ensures.disk_work)
     c.sync.ensures.passes c.sync.ensures.moments c.sync.ensures.no_more
 
 pub returns-clause-held : goal.returns-clause-held
@@ -59,7 +59,7 @@ returns-clause-held g c =
     let old = (g.D.Deck.state c.args.deck.now).held in
     let new = (g.D.Deck.state c.sync.new.self).held in
     let Prepared : Type 0 = IsTrue g.D.Deck.tells.bytes
-    → new ≡ prepared c.args.h.now c.args.next c.args.bytes.now old in
+    → new ≡ image_to_commit c.args.h.now c.args.next c.args.bytes.now old in
     always_ok c.sync.result Prepared
     (λ told. prepared_held c.args.h.now c.args.next _ _ _ _ _ _ c.gate_at.ensures.at
     (c.in_ok-write_body.ensures.written told) (c.in_ok-close_open_gate.ensures.written told) c.sync.ensures.held)
@@ -68,7 +68,7 @@ pub returns-clause-block : goal.returns-clause-block
 returns-clause-block g c =
     let new = (g.D.Deck.state c.sync.new.self).held in
     let Waits : Type 0 = IsTrue g.D.Deck.tells.bytes
-    → waiting c.args.h.now new c.args.next ≡ Some (record { number = c.args.next; payload = c.args.bytes.now }) in
+    → waiting_block c.args.h.now new c.args.next ≡ Some (record { number = c.args.next; payload = c.args.bytes.now }) in
     always_ok c.sync.result Waits
     (λ told. prepared_block _ _ _ _ _
     (IsReady-deck _ _ _ _ _ c.requires.limits c.requires.fits

@@ -2,17 +2,17 @@ use Rattle.std.proofs.Common.{◌≡◌, ◌+◌, ◌∙◌, List, ℕ, length, 
 use Rattle.std.specs.Prelude.{IsTrue}
 use Rattle.std.proofs.lemmas.List.{length-take}
 use Rattle.fdr_deck.specs.Disk.{Writes, patched}
-use Rattle.fdr_deck.proofs.Moments.{IsQuiet-here, IsQuiet-write}
-use Rattle.fdr_ring.specs.Bodies.{body_bytes, placed}
+use Rattle.fdr_deck.proofs.Moments.{IsDiskWork-here, IsDiskWork-write}
+use Rattle.fdr_ring.specs.Bodies.{body_bytes, image_with_body}
 use Rattle.fdr_ring.proofs.Results.{map_ok}
 use Rattle.fdr_ring.proofs.Bytes.{Torn-then, Torn-within, Torn-of-same}
 use Rattle.fdr_ring.proofs.write.write_body.Goals as goal
 
-pub returns-clause-quiet : goal.returns-clause-quiet
-returns-clause-quiet g c =
+pub returns-clause-disk_work : goal.returns-clause-disk_work
+returns-clause-disk_work g c =
     let sound = g.met.D.Deck.sound c.args.deck.now in
-    IsQuiet-write _ _ _ _ _ _ _ sound sound
-    (IsQuiet-here _ _ _ sound (λ told image leaves settled. Torn-of-same _ _ _ _ (settled image leaves)))
+    IsDiskWork-write _ _ _ _ _ _ _ sound sound
+    (IsDiskWork-here _ _ _ sound (λ told image leaves settled. Torn-of-same _ _ _ _ (settled image leaves)))
     c.write.ensures.passes c.write.ensures.moments c.write.ensures.tears
     (λ told from image leaves has torn settled. Torn-then _ _ _ _ _ (has settled)
     (Torn-within _ _ _ _ _ _ (omega (arith, c.gate_at.ensures.at))
@@ -31,7 +31,7 @@ returns-clause-written g c =
     let part : List ℕ = take (15 + length c.args.bytes.now) c.body_of-body.result in
     let Wrote : Type 0 = Writes g.D.Deck.tells (c.gate_at.result + 1) part (g.D.Deck.state c.args.deck.now)
     (g.D.Deck.state c.write.new.self) in
-    let Placed : Type 0 = IsTrue g.D.Deck.tells.bytes → new ≡ placed c.args.h.now c.args.seq c.args.bytes.now old in
+    let Placed : Type 0 = IsTrue g.D.Deck.tells.bytes → new ≡ image_with_body c.args.h.now c.args.seq c.args.bytes.now old in
     map_ok c.write.result Wrote Placed
     (λ wrote told. wrote.held told ∙ ap (λ (l : List ℕ). patched (c.gate_at.result + 1) l old) c.body_of-body.ensures
     ∙ ap (λ k. patched (k + 1) (body_bytes c.args.seq c.args.bytes.now) old) c.gate_at.ensures.at)

@@ -7,7 +7,7 @@ use Rattle.fdr_layout.specs.Samples.{Sample}
 use Rattle.fdr_layout.specs.SlotParts.{SlotPart, Laid}
 use Rattle.fdr_lists.proofs.Numbered.{slice_get_some}
 use Rattle.fdr_sampler.specs.Held.{first_part_slot}
-use Rattle.fdr_sampler.specs.Kept.{slot_parts, value_at, IsDrawn}
+use Rattle.fdr_sampler.specs.Kept.{raw_number_at, slot_parts, value_at, IsDrawn}
 use Rattle.fdr_sampler.specs.Schedule.{SlotStep, slot_steps, step_of}
 use Rattle.fdr_sampler.proofs.Drawing.{IsDrawn-none, IsDrawn-more, param_within, value_read}
 use Rattle.fdr_sampler.proofs.pieces.data_word.Goals as goal
@@ -66,7 +66,7 @@ pub loop-step-preserved : goal.loop-step-preserved
 loop-step-preserved c =
     let laid = c.args.schedule.now in
     let slot = c.args.slot in
-    let held = c.args.held.now.numbers in
+    let number = raw_number_at c.args.moment.words c.args.moment.slot c.args.held.now.sources c.args.held.now.words in
     let before = c.args.raws.now in
     let parts = slot_parts laid slot in
     let owners = map (λ (s : Sample). s.param) laid.samples in
@@ -83,9 +83,9 @@ loop-step-preserved c =
       small = c.with_piece-word.ensures.twelve_bits;
       drawn = λ value have.
           let so_far = c.loop-step.invariant.drawn value have in
-          let At : SlotPart → Type 0 = λ y. value_at laid slot held before y.sample ≡ value y.sample in
-          let Taken : SlotStep → Type 0 = λ y. raw ≡ (if y.begins then slice_index held y.param else slice_index raws y.sample) in
-          let raw_is = value_read value laid slot held before raws a.sample firsts owners (slice_index firsts a.sample) (slice_index owners a.sample) raw
+          let At : SlotPart → Type 0 = λ y. value_at laid slot number before y.sample ≡ value y.sample in
+          let Taken : SlotStep → Type 0 = λ y. raw ≡ (if y.begins then number y.param else slice_index raws y.sample) in
+          let raw_is = value_read value laid slot number before raws a.sample firsts owners (slice_index firsts a.sample) (slice_index owners a.sample) raw
           (subst At (sym p.at) (have i a p.within)) below refl refl refl refl so_far.kept (subst Taken p.step c.value_at-raw.ensures.value) in
           IsDrawn-more value parts i a before raws c.value_at-raw.new.raws c.loop-step.word c.with_piece-word.result raw p.within p.at so_far raw_is room
           (subst (λ (y : SlotStep). c.value_at-raw.new.raws ≡ slice_set raws y.sample raw) p.step c.value_at-raw.ensures.kept)

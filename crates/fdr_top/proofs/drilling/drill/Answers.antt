@@ -12,13 +12,13 @@ returns-clause-works g c = λ path image.
       answer = answer;
       refusal = λ nothing. let same = c.drill_image.ensures.unwritten (writes_other _ _ nothing tt) (writes_other _ _ nothing tt) in
           left_all _ (ap g.O.Sink.written same) (ap g.O.Sink.faults same) (c.drill_image.ensures.untouched nothing)
-          c.drill_image.ensures.learns (c.drill_image.ensures.told nothing) c.drill_image.ensures.line;
-      unused = image_recorded form _ tt tt (λ none. none) (λ unused. c.drill_image.ensures.line) (λ pulls. absurd pulls);
+          c.drill_image.ensures.learns (c.drill_image.ensures.announced nothing) c.drill_image.ensures.input;
+      unused = image_recorded form _ tt tt (λ none. none) (λ unused. c.drill_image.ensures.input) (λ pulls. absurd pulls);
       causes = has_cause form _ answer (λ pulls. absurd pulls) (λ text. c.drill_image.ensures.write_fault) (λ image. c.drill_image.ensures.disk_fault);
       no_fault_passed_over = record {
-        line = λ read covers. c.drill_image.ensures.line.faults;
-        write = λ other covers. c.drill_image.ensures.write_quiet other;
-        disk = λ other. c.drill_image.ensures.disk_quiet other;
+        input = λ read covers. c.drill_image.ensures.input.faults;
+        write = λ other covers. c.drill_image.ensures.no_write_fault other;
+        disk = λ other. c.drill_image.ensures.no_disk_fault other;
       };
       does = c.drill_image.ensures.drills;
       complete = λ whole faultless. drill_done path image _ _ _ _ _ _ _ _ _ answer c.drill_image.ensures.drills whole.0 whole.1

@@ -37,8 +37,8 @@ returns-clause-drills g c =
 
 pub returns-clause-disk_fault : goal.returns-clause-disk_fault
 returns-clause-disk_fault g c = λ fails.
-    let looked = c.open_image.ensures.looks.quiet.passes.disk_faults in
-    let still = c.in-Ok-record_source.ensures.disk_quiet in
+    let looked = c.open_image.ensures.looks.disk_work.passes.disk_faults in
+    let still = c.in-Ok-record_source.ensures.no_disk_fault in
     let rose = c.write_summary.ensures.disk_fault fails in
     omega (arith, looked, still, rose)
 
@@ -57,17 +57,17 @@ pub returns-clause-answer : goal.returns-clause-answer
 returns-clause-answer g c = λ path image.
     inr (of_blocks_drill path image c.args.seed c.args.frames c.write_summary.result c.write_summary.ensures.answer)
 
-pub returns-clause-told : goal.returns-clause-told
-returns-clause-told g c = λ nothing. absurd (of_blocks_begun c.write_summary.result c.write_summary.ensures.answer nothing)
+pub returns-clause-announced : goal.returns-clause-announced
+returns-clause-announced g c = λ nothing. absurd (of_blocks_begun c.write_summary.result c.write_summary.ensures.answer nothing)
 
-pub returns-clause-line : goal.returns-clause-line
-returns-clause-line g c =
-    let opened = c.open_image.ensures.looks.quiet.passes in
-    let read = c.write_summary.ensures.looks.quiet.passes in
+pub returns-clause-input : goal.returns-clause-input
+returns-clause-input g c =
+    let opened = c.open_image.ensures.looks.disk_work.passes in
+    let read = c.write_summary.ensures.looks.disk_work.passes in
     keeps_line_then _ _ _ _
-    (lines_then _ _ _ (keeps_line_then _ _ _ _ (keeps_line _ _ refl refl refl refl) refl opened.line opened.line_faults)
+    (lines_then _ _ _ (keeps_line_then _ _ _ _ (keeps_line _ _ refl refl refl refl) refl opened.input opened.input_faults)
     (c.in-Ok-record_source.ensures.unpulled tt))
-    refl read.line read.line_faults
+    refl read.input read.input_faults
 
 pub returns-clause-learns : goal.returns-clause-learns
 returns-clause-learns g c =
@@ -92,6 +92,6 @@ returns-in-Err-record_source-clause-memory g c = λ e.
 pub returns-clause-memory : goal.returns-clause-memory
 returns-clause-memory g c = λ e. absurd (of_blocks_begun c.write_summary.result c.write_summary.ensures.answer (memory_writes _ e))
 
-pub returns-clause-disk_quiet : goal.returns-clause-disk_quiet
-returns-clause-disk_quiet g c = λ other.
-    c.write_summary.ensures.disk_quiet other ∙ c.in-Ok-record_source.ensures.disk_quiet ∙ c.in-Ok.ensures.disk_quiet (λ e. absurd (cc))
+pub returns-clause-no_disk_fault : goal.returns-clause-no_disk_fault
+returns-clause-no_disk_fault g c = λ other.
+    c.write_summary.ensures.no_disk_fault other ∙ c.in-Ok-record_source.ensures.no_disk_fault ∙ c.in-Ok.ensures.no_disk_fault (λ e. absurd (cc))

@@ -11,12 +11,12 @@ returns g c = record {
       record {
         answer = inr own;
         refusal = making_refusal path image c.args.slots c.args.payload _ _ own c.make_image.ensures.makes refl refl;
-        unused = image_unused form _ tt (λ none. none) (λ none. none) c.make_image.ensures.makes.quiet.passes;
+        unused = image_unused form _ tt (λ none. none) (λ none. none) c.make_image.ensures.makes.disk_work.passes;
         causes = has_cause form _ (inr own) (λ pulls. absurd pulls) (λ text. absurd text) (λ image. c.make_image.ensures.makes.cause);
         no_fault_passed_over = record {
-          line = λ read covers. c.make_image.ensures.makes.quiet.passes.line_faults;
+          input = λ read covers. c.make_image.ensures.makes.disk_work.passes.input_faults;
           write = λ other covers. refl;
-          disk = λ other. c.make_image.ensures.disk_quiet other;
+          disk = λ other. c.make_image.ensures.no_disk_fault other;
         };
         does = c.make_image.ensures.makes;
         complete = λ whole faultless. inl (making_done path image c.args.slots c.args.payload _ _ _ _ _ own c.make_image.ensures.makes

@@ -11,15 +11,15 @@ returns-clause-works g c = λ path image.
     record {
       answer = answer;
       refusal = λ nothing. let same = c.list_image.ensures.unwritten nothing in
-          left_all _ (ap g.O.Sink.written same) (ap g.O.Sink.faults same) looks.disk looks.learns looks.quiet.passes.told.told
-          (passes_keeps _ _ _ looks.quiet.passes);
-      unused = image_unused (list_image path image) _ tt (λ none. none) (λ none. none) looks.quiet.passes;
+          left_all _ (ap g.O.Sink.written same) (ap g.O.Sink.faults same) looks.disk looks.learns looks.disk_work.passes.announced.announced
+          (passes_keeps _ _ _ looks.disk_work.passes);
+      unused = image_unused (list_image path image) _ tt (λ none. none) (λ none. none) looks.disk_work.passes;
       causes = has_cause (list_image path image) _ answer (λ pulls. absurd pulls) (λ text. c.list_image.ensures.write_fault)
           (λ image. c.list_image.ensures.disk_fault);
       no_fault_passed_over = record {
-        line = λ read covers. looks.quiet.passes.line_faults;
-        write = λ other covers. c.list_image.ensures.write_quiet other (λ failed. covers ((tt, tt), failed));
-        disk = λ other. c.list_image.ensures.disk_quiet other;
+        input = λ read covers. looks.disk_work.passes.input_faults;
+        write = λ other covers. c.list_image.ensures.no_write_fault other (λ failed. covers ((tt, tt), failed));
+        disk = λ other. c.list_image.ensures.no_disk_fault other;
       };
       does = c.list_image.ensures.lists;
       complete = λ whole faultless. list_done path image _ _ _ _ _ _ _ answer c.list_image.ensures.lists whole.0 whole.1

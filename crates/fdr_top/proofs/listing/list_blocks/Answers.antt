@@ -5,7 +5,7 @@ use Rattle.fdr_io.proofs.OutputSteps.{part_at_end, whole_is_part, written_at_end
 use Rattle.fdr_recover.specs.Images.{recovered_run}
 use Rattle.fdr_readout.specs.Listing.{listing_of}
 use Rattle.fdr_readout.proofs.EntryLemmas.{lines_of_entries}
-use Rattle.fdr_top.specs.Recover.{payloads_of}
+use Rattle.fdr_recover.specs.Payloads.{payloads_of}
 use Rattle.fdr_top.proofs.ListedLines.{part_of_first, part_of_lines}
 use Rattle.fdr_top.proofs.listing.list_blocks.Given.{Over}
 use Rattle.fdr_top.proofs.listing.list_blocks.Goals.{In-Ok}
@@ -13,8 +13,8 @@ use Rattle.fdr_top.proofs.listing.list_blocks.Goals as goal
 
 -- what went out once all was taken
 emits : (g : Over) (c : In-Ok g) → IsTrue g.D.Deck.tells.bytes
-    → Emits (g.O.Sink.written c.args.out.now) (g.O.Sink.written c.take_blocks.new.out) [] c.take_blocks.new.taker
-    (listing_of c.args.table.now (payloads_of (recovered_run c.args.reader.now.header (g.D.Deck.state c.args.deck.now).held)))
+    → Emits (g.O.Sink.written c.args.out.now) (g.O.Sink.written c.take_blocks.new.out) [] c.take_blocks.new.blocks.taker
+    (listing_of c.args.blocks.now.table.now (payloads_of (recovered_run c.args.header.now (g.D.Deck.state c.args.deck.now).held)))
 emits g c told = rw (c.requires.empty, lines_of_entries) at c.in-Ok.ensures.all told
 
 pub returns-in-Ok-finish-clause-text : goal.returns-in-Ok-finish-clause-text
@@ -31,15 +31,15 @@ returns-in-Err-clause-part g c = λ told.
 
 pub returns-in-Err-Disk-clause-part : goal.returns-in-Err-Disk-clause-part
 returns-in-Err-Disk-clause-part g c = λ told.
-    let t = c.args.table.now in
-    let run = payloads_of (recovered_run c.args.reader.now.header (g.D.Deck.state c.args.deck.now).held) in
+    let t = c.args.blocks.now.table.now in
+    let run = payloads_of (recovered_run c.args.header.now (g.D.Deck.state c.args.deck.now).held) in
     let front = c.in-Err-Disk.ensures.front told (ap Err c.in-Err-Disk.field-0-is) in
     let emits = rw c.requires.empty at front.2 in
     part_of_first t run (g.O.Sink.written c.args.out.now) (g.O.Sink.written c.take_blocks.new.out)
-    (g.O.Sink.written c.finish-in-Err-Disk.new.out) c.take_blocks.new.taker front.0 front.1 c.finish-in-Err-Disk.result front.3 emits
+    (g.O.Sink.written c.finish-in-Err-Disk.new.out) c.take_blocks.new.blocks.taker front.0 front.1 c.finish-in-Err-Disk.result front.3 emits
     c.finish-in-Err-Disk.ensures.all c.finish-in-Err-Disk.ensures.part
 
 pub returns-in-Err-Taker-clause-part : goal.returns-in-Err-Taker-clause-part
 returns-in-Err-Taker-clause-part g c = λ told.
-    part_of_lines c.args.table.now _ (g.O.Sink.written c.args.out.now) (g.O.Sink.written c.take_blocks.new.out)
+    part_of_lines c.args.blocks.now.table.now _ (g.O.Sink.written c.args.out.now) (g.O.Sink.written c.take_blocks.new.out)
     (rw c.requires.empty at (c.in-Err-Taker.ensures.part told (ap Err c.in-Err-Taker.field-0-is)))

@@ -26,7 +26,7 @@ returns-clause-answer g c = λ path image. inr (of_blocks_list path image c.list
 
 pub returns-clause-disk_fault : goal.returns-clause-disk_fault
 returns-clause-disk_fault g c = λ fails.
-    let looked = c.open_image.ensures.looks.quiet.passes.disk_faults in
+    let looked = c.open_image.ensures.looks.disk_work.passes.disk_faults in
     let rose = c.list_blocks.ensures.disk_fault fails in
     omega (arith, looked, rose)
 
@@ -41,5 +41,5 @@ returns-in_default-clause-memory g c = λ e.
 pub returns-clause-memory : goal.returns-clause-memory
 returns-clause-memory g c = λ e. absurd (of_blocks_begun c.list_blocks.result c.list_blocks.ensures.answer (memory_writes _ e))
 
-pub returns-clause-disk_quiet : goal.returns-clause-disk_quiet
-returns-clause-disk_quiet g c = λ other. c.list_blocks.ensures.disk_quiet other ∙ c.in-Ok.ensures.disk_quiet (λ e. absurd (cc))
+pub returns-clause-no_disk_fault : goal.returns-clause-no_disk_fault
+returns-clause-no_disk_fault g c = λ other. c.list_blocks.ensures.no_disk_fault other ∙ c.in-Ok.ensures.no_disk_fault (λ e. absurd (cc))

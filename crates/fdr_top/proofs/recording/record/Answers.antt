@@ -11,17 +11,17 @@ returns-clause-works g c = λ path image written faults.
     record {
       answer = answer;
       refusal = λ nothing. left_all _ refl refl (c.record_line.ensures.untouched nothing) c.record_line.ensures.learns
-          (c.record_line.ensures.told nothing) (c.record_line.ensures.line nothing);
+          (c.record_line.ensures.announced nothing) (c.record_line.ensures.input nothing);
       unused = image_recorded (record_line path image) _ tt tt (λ none. none) (λ unused. absurd (unused tt))
-          (λ pulls memory. c.record_line.ensures.line (memory_writes _ memory));
-      causes = has_cause (record_line path image) _ answer (λ pulls. c.record_line.ensures.line_fault) (λ text. absurd text)
+          (λ pulls memory. c.record_line.ensures.input (memory_writes _ memory));
+      causes = has_cause (record_line path image) _ answer (λ pulls. c.record_line.ensures.input_fault) (λ text. absurd text)
           (λ image. c.record_line.ensures.disk_fault);
       no_fault_passed_over = record {
-        line = λ read covers. c.record_line.ensures.line_quiet read covers;
+        input = λ read covers. c.record_line.ensures.no_input_fault read covers;
         write = λ other covers. refl;
-        disk = λ other. c.record_line.ensures.disk_quiet other;
+        disk = λ other. c.record_line.ensures.no_disk_fault other;
       };
       does = records_line _ _ _ _ _ c.requires.in_range c.requires.sound c.record_line.ensures.records;
       complete = λ whole faultless. record_done path image _ _ _ _ _ answer c.record_line.ensures.records whole.0 whole.1 whole.2 whole.3
-          (λ e. faultless.line tt (c.record_line.ensures.line_fault e)) (λ e. faultless.disk tt (c.record_line.ensures.disk_fault e));
+          (λ e. faultless.input tt (c.record_line.ensures.input_fault e)) (λ e. faultless.disk tt (c.record_line.ensures.disk_fault e));
     }

@@ -1,10 +1,10 @@
 use Rattle.std.proofs.Common.{◌≡◌, ◌∙◌, ap, refl, sym, Err, subst, arith}
 use Rattle.std.proofs.lemmas.Result.{err_from_is_err_and}
-use Rattle.fdr_deck.specs.Pull.{KeepsLine}
-use Rattle.fdr_top.specs.Answers.{KeepsLineAndFaults}
+use Rattle.fdr_deck.specs.Pull.{KeepsInput}
+use Rattle.fdr_top.specs.Answers.{KeepsInputAndFaults}
 use Rattle.fdr_top.specs.Record.{session_refusal}
-use Rattle.fdr_top.specs.Recording.{Continues, fed}
-use Rattle.fdr_top.specs.Supply.{IsGenerator, supplied}
+use Rattle.fdr_top.specs.Recording.{Continues, past_fed}
+use Rattle.fdr_top.specs.Supply.{IsGenerator, supplied_records}
 use Rattle.fdr_top.proofs.SessionEnds.{Continues-closed, Continues-unclosed, is_disk_fault, keeps_line_then, only_close, ring_of, told_closed, two_cut}
 use Rattle.fdr_top.proofs.SessionEnds.{ended_only}
 use Rattle.fdr_top.proofs.recording.record_all.Given.{Over}
@@ -15,36 +15,36 @@ use Rattle.fdr_top.proofs.recording.record_all.Goals as goal
 kept : (g : Over) (c : After-close g)
     → let before = g.D.Deck.state c.record_records.new.deck in
     let after = g.D.Deck.state c.close.new.deck in
-    KeepsLine before after × (after.line_faults ≡ before.line_faults) × (after.extent ≡ before.extent)
+    KeepsInput before after × (after.input_faults ≡ before.input_faults) × (after.extent ≡ before.extent)
 kept g c =
     let r = c.requires in
     let whole = c.in_ok-fed.ensures.fed r.0 r.1 r.2 in
-    let wrote = c.close.ensures.records (fed r.1 (supplied r.0 whole.pulled)) whole.stands in
-    (wrote.line, wrote.line_faults, wrote.extent)
+    let wrote = c.close.ensures.records (past_fed r.1 (supplied_records r.0 whole.pulled)) whole.stands in
+    (wrote.input, wrote.input_faults, wrote.extent)
 
 extent : (g : Over) (c : After-close g) → (g.D.Deck.state c.close.new.deck).extent ≡ (g.D.Deck.state c.args.deck.now).extent
 extent g c = (kept g c).2 ∙ c.in_ok-fed.ensures.extent
 
 unpulled : (g : Over) (c : After-close g) → IsGenerator c.args.source.now
-    → KeepsLineAndFaults (g.D.Deck.state c.args.deck.now) (g.D.Deck.state c.close.new.deck)
+    → KeepsInputAndFaults (g.D.Deck.state c.args.deck.now) (g.D.Deck.state c.close.new.deck)
 unpulled g c is = let k = kept g c in keeps_line_then _ _ _ _ (c.in_ok-fed.ensures.unpulled is) refl k.0 k.1
 
 pub close-requires-clause-stands : goal.close-requires-clause-stands
 close-requires-clause-stands g c =
     let r = c.requires in
     let whole = c.in_ok-fed.ensures.fed r.0 r.1 r.2 in
-    (fed r.1 (supplied r.0 whole.pulled), whole.stands)
+    (past_fed r.1 (supplied_records r.0 whole.pulled), whole.stands)
 
 pub close-requires-clause-fact : goal.close-requires-clause-fact
 close-requires-clause-fact g c =
     let r = c.requires in
     let whole = c.in_ok-fed.ensures.fed r.0 r.1 r.2 in
-    ring_of _ (fed r.1 (supplied r.0 whole.pulled)) _ _ whole.stands whole.ring
+    ring_of _ (past_fed r.1 (supplied_records r.0 whole.pulled)) _ _ whole.stands whole.ring
 
 pub returns-in-Ok-clause-closed : goal.returns-in-Ok-clause-closed
 returns-in-Ok-clause-closed g c = λ from past is.
     let whole = c.in_ok-fed.ensures.fed from past is in
-    let p = fed past (supplied from whole.pulled) in
+    let p = past_fed past (supplied_records from whole.pulled) in
     let e = c.in-Ok.ensures in
     Continues-closed from _ past _ _ _ _ _ _ _ (g.met.D.Deck.sound c.args.deck.now) is whole (e.all p whole.stands) (e.records p whole.stands)
     c.in-Ok.next (e.next p whole.stands) e.room (e.recorded p whole.stands)
@@ -53,7 +53,7 @@ pub returns-in-Ok-clause-next : goal.returns-in-Ok-clause-next
 returns-in-Ok-clause-next g c =
     let r = c.requires in
     let whole = c.in_ok-fed.ensures.fed r.0 r.1 r.2 in
-    let p = fed r.1 (supplied r.0 whole.pulled) in
+    let p = past_fed r.1 (supplied_records r.0 whole.pulled) in
     let e = c.in-Ok.ensures in
     told_closed r.0 _ r.1 _ _ _ _ _ _ _ (g.met.D.Deck.sound c.args.deck.now) r.2 whole (e.all p whole.stands) (e.records p whole.stands)
     c.in-Ok.next (e.next p whole.stands) (e.recorded p whole.stands)
@@ -61,7 +61,7 @@ returns-in-Ok-clause-next g c =
 pub returns-in-Err-clause-ended : goal.returns-in-Err-clause-ended
 returns-in-Err-clause-ended g c = λ from past is.
     let whole = c.in_ok-fed.ensures.fed from past is in
-    let p = fed past (supplied from whole.pulled) in
+    let p = past_fed past (supplied_records from whole.pulled) in
     let e = c.in-Err.ensures in
     rw c.refusal.ensures (Continues-unclosed from _ past _ _ _ _ _ _ _ (g.met.D.Deck.sound c.args.deck.now) is whole (e.all p whole.stands)
     (e.records p whole.stands) c.in-Err.fault (only_close _ e.only) (λ ends. e.seq_end p whole.stands (ap Err ends)))
@@ -70,14 +70,14 @@ pub returns-in-Ok-clause-later : goal.returns-in-Ok-clause-later
 returns-in-Ok-clause-later g c =
     let r = c.requires in
     let whole = c.in_ok-fed.ensures.fed r.0 r.1 r.2 in
-    omega (arith, r.2.number, whole.stands.next, c.in-Ok.ensures.next (fed r.1 (supplied r.0 whole.pulled)) whole.stands)
+    omega (arith, r.2.number, whole.stands.next, c.in-Ok.ensures.next (past_fed r.1 (supplied_records r.0 whole.pulled)) whole.stands)
 
 pub returns-in-Ok-clause-all : goal.returns-in-Ok-clause-all
 returns-in-Ok-clause-all g c = let r = c.requires in (c.in_ok-fed.ensures.fed r.0 r.1 r.2).all
 
-pub returns-in-Ok-clause-line_fault : goal.returns-in-Ok-clause-line_fault
-returns-in-Ok-clause-line_fault g c = λ fails.
-    omega (arith, (kept g (goal.at.returns-in-Ok-clause-line_fault g c).After-close).1, c.in_ok-fed.ensures.line_fault fails)
+pub returns-in-Ok-clause-input_fault : goal.returns-in-Ok-clause-input_fault
+returns-in-Ok-clause-input_fault g c = λ fails.
+    omega (arith, (kept g (goal.at.returns-in-Ok-clause-input_fault g c).After-close).1, c.in_ok-fed.ensures.input_fault fails)
 
 pub returns-in-Ok-clause-unpulled : goal.returns-in-Ok-clause-unpulled
 returns-in-Ok-clause-unpulled g c = unpulled g (goal.at.returns-in-Ok-clause-unpulled g c).After-close
@@ -91,11 +91,11 @@ returns-in-Err-clause-unpulled g c = unpulled g (goal.at.returns-in-Err-clause-u
 pub returns-in-Err-clause-extent : goal.returns-in-Err-clause-extent
 returns-in-Err-clause-extent g c = extent g (goal.at.returns-in-Err-clause-extent g c).After-close
 
-pub returns-in-Ok-clause-disk_quiet : goal.returns-in-Ok-clause-disk_quiet
-returns-in-Ok-clause-disk_quiet g c =
+pub returns-in-Ok-clause-no_disk_fault : goal.returns-in-Ok-clause-no_disk_fault
+returns-in-Ok-clause-no_disk_fault g c =
     let r = c.requires in
     let whole = c.in_ok-fed.ensures.fed r.0 r.1 r.2 in
-    (c.in-Ok.ensures.recorded (fed r.1 (supplied r.0 whole.pulled)) whole.stands).disk_faults ∙ c.in_ok-fed.ensures.disk_quiet
+    (c.in-Ok.ensures.recorded (past_fed r.1 (supplied_records r.0 whole.pulled)) whole.stands).disk_faults ∙ c.in_ok-fed.ensures.no_disk_fault
 
 pub returns-in_err-fed-clause-ended : goal.returns-in_err-fed-clause-ended
 returns-in_err-fed-clause-ended g c = λ from past is.
@@ -111,12 +111,12 @@ pub returns-in-Err-clause-disk_fault : goal.returns-in-Err-clause-disk_fault
 returns-in-Err-clause-disk_fault g c = λ fails.
     let is = is_disk_fault c.in-Err.fault (sym c.refusal.ensures ∙ fails) in
     let rose = c.in-Err.ensures.cause (ap Err is) in
-    omega (arith, rose, c.in_ok-fed.ensures.disk_quiet)
+    omega (arith, rose, c.in_ok-fed.ensures.no_disk_fault)
 
-pub returns-in-Err-clause-cut_quiet : goal.returns-in-Err-clause-cut_quiet
-returns-in-Err-clause-cut_quiet g c = λ other.
+pub returns-in-Err-clause-no_fault_if_cut : goal.returns-in-Err-clause-no_fault_if_cut
+returns-in-Err-clause-no_fault_if_cut g c = λ other.
     let r = c.requires in
     let whole = c.in_ok-fed.ensures.fed r.0 r.1 r.2 in
     let ends = ended_only c.in-Err.fault (only_close _ c.in-Err.ensures.only) (λ e. other (c.refusal.ensures ∙ ap session_refusal e)) in
-    (c.in-Err.ensures.seq_end (fed r.1 (supplied r.0 whole.pulled)) whole.stands (ap Err ends)).recorded.disk_faults
-    ∙ c.in_ok-fed.ensures.disk_quiet
+    (c.in-Err.ensures.seq_end (past_fed r.1 (supplied_records r.0 whole.pulled)) whole.stands (ap Err ends)).recorded.disk_faults
+    ∙ c.in_ok-fed.ensures.no_disk_fault

@@ -10,6 +10,6 @@ returns-in_default-clause-records g c =
 pub returns-in-Ok-record_source-clause-memory : goal.returns-in-Ok-record_source-clause-memory
 returns-in-Ok-record_source-clause-memory g c = λ e. absurd (reading_not_memory _ c.in-Ok-record_source.ensures.all e)
 
-pub returns-in-Ok-record_source-clause-line_quiet : goal.returns-in-Ok-record_source-clause-line_quiet
-returns-in-Ok-record_source-clause-line_quiet g c = λ read covers.
-    (c.in-Ok-record_source.ensures.recorded line_trace c.in-Ok.ensures).ends.quiet c.in-Ok-record_source.ensures.all read
+pub returns-in-Ok-record_source-clause-no_input_fault : goal.returns-in-Ok-record_source-clause-no_input_fault
+returns-in-Ok-record_source-clause-no_input_fault g c = λ read covers.
+    (c.in-Ok-record_source.ensures.recorded line_trace c.in-Ok.ensures).ends.no_fault c.in-Ok-record_source.ensures.all read

@@ -1,15 +1,16 @@
 use Rattle.std.proofs.Common.{◌≡◌, ◌∙◌, Result, Err, refl, sym, ap, subst, arith, [], ◌∷◌, ◌++◌}
 use Rattle.fdr_bus.specs.declared.BusRecord.{BusRecord}
-use Rattle.fdr_recorder.specs.Past.{MayFeedSession, SessionPast, due_at, session_with_record}
-use Rattle.fdr_recorder.specs.Recording.{Records}
-use Rattle.fdr_top.specs.Answers.{KeepsLineAndFaults}
+use Rattle.fdr_recorder.specs.Past.{MayFeedRecording, RecordingPast, blocks_due_at, recording_with_record}
+use Rattle.fdr_recorder.specs.Recording.{RecordsFirstOf}
+use Rattle.fdr_top.specs.Answers.{KeepsInputAndFaults}
 use Rattle.fdr_top.specs.Record.{session_refusal}
-use Rattle.fdr_top.specs.Recording.{HasFed, IsBegun, fed}
+use Rattle.fdr_top.specs.Recording.{HasFed, IsBegun, past_fed}
 use Rattle.fdr_top.specs.Supply.{IsGenerator, RecordSupply}
 use Rattle.fdr_top.specs.declared.outcome.Outcome.{Outcome}
 use Rattle.fdr_top.proofs.Records.{is_end-no, is_end-yes}
 use Rattle.fdr_top.proofs.Sessions.{HasFed-pull, HasFed-feed}
-use Rattle.fdr_top.proofs.SessionEnds.{Continues-fault, HasEnded-at, HasFedAll-end, HasFedAll-stop, HasRecorded-at, Records-at, begun, bound_of, is_disk_fault}
+use Rattle.fdr_top.proofs.SessionEnds.{Continues-fault, HasEnded-at, HasFedAll-end, HasFedAll-stop}
+use Rattle.fdr_top.proofs.SessionEnds.{RecordsAllOf-at, RecordsFirstOf-at, begun, bound_of, is_disk_fault}
 use Rattle.fdr_top.proofs.SessionEnds.{keeps_line, ended_only, keeps_line_then, limits_of, line_failed, only_two, ring_at, sure_at, two_cut}
 use Rattle.fdr_top.proofs.Supplies.{may_feed, supplied_with_next}
 use Rattle.fdr_top.proofs.recording.record_records.Given.{Over}
@@ -20,85 +21,85 @@ err_same : (a b : Outcome) → ◌≡◌ {A = Result BusRecord Outcome} (Err a) 
 err_same a b e = cc
 
 -- the session may be fed the record that came
-may : (g : Over) (c : In-Ok g) (from : RecordSupply) (past : SessionPast)
+may : (g : Over) (c : In-Ok g) (from : RecordSupply) (past : RecordingPast)
     (is : IsBegun g.D.Deck.tells from c.args.session c.args.source.now past (g.D.Deck.state c.args.deck.now))
-    → MayFeedSession (fed past (c.loop-next.invariant.has from past is).1) c.in-Ok.next
+    → MayFeedRecording (past_fed past (c.loop-next.invariant.has from past is).1) c.in-Ok.next
 may g c from past is =
     let at = c.loop-next.invariant.has from past is in
     let next = c.in-Ok.ensures.next from at.0 at.1 at.2 in
     may_feed past from _ (at.0 ++ next.0) at.1 c.in-Ok.next next.2
 
 -- what was pulled for it
-pulled : (g : Over) (c : In-Ok g) (from : RecordSupply) (past : SessionPast)
+pulled : (g : Over) (c : In-Ok g) (from : RecordSupply) (past : RecordingPast)
     (is : IsBegun g.D.Deck.tells from c.args.session c.args.source.now past (g.D.Deck.state c.args.deck.now))
     → let at = c.loop-next.invariant.has from past is in
-    HasFed g.D.Deck.tells (fed past at.1) (at.0 ++ (c.in-Ok.ensures.next from at.0 at.1 at.2).0) (g.D.Deck.state c.args.deck.now)
+    HasFed g.D.Deck.tells (past_fed past at.1) (at.0 ++ (c.in-Ok.ensures.next from at.0 at.1 at.2).0) (g.D.Deck.state c.args.deck.now)
     (g.D.Deck.state c.next.new.deck)
 pulled g c from past is =
     let s = g.met.D.Deck.sound in
     let e = c.in-Ok.ensures in
     let at = c.loop-next.invariant.has from past is in
     let next = e.next from at.0 at.1 at.2 in
-    HasFed-pull _ (fed past at.1) _ _ _ at.0 (s c.args.deck.now) is.ring is.settled is.told at.4 next.0 (s c.loop-next.deck) next.1 next.3
-    e.disk e.told e.fresh e.time
+    HasFed-pull _ (past_fed past at.1) _ _ _ at.0 (s c.args.deck.now) is.ring is.settled is.announced at.4 next.0 (s c.loop-next.deck) next.1 next.3
+    e.disk e.announced e.fresh e.time
 
 -- what was recorded at it
-records : (g : Over) (c : After-feed g) (from : RecordSupply) (past : SessionPast)
+records : (g : Over) (c : After-feed g) (from : RecordSupply) (past : RecordingPast)
     (is : IsBegun g.D.Deck.tells from c.args.session c.args.source.now past (g.D.Deck.state c.args.deck.now))
-    → Records g.D.Deck.tells c.loop-next.session.ring.header c.loop-next.session.ring.next
-    (due_at (fed past (c.loop-next.invariant.has from past is).1) c.in-Ok.next) (g.D.Deck.state c.next.new.deck) (g.D.Deck.state c.feed.new.deck)
+    → RecordsFirstOf g.D.Deck.tells c.loop-next.session.ring.header c.loop-next.session.ring.next
+    (blocks_due_at (past_fed past (c.loop-next.invariant.has from past is).1) c.in-Ok.next) (g.D.Deck.state c.next.new.deck) (g.D.Deck.state c.feed.new.deck)
 records g c from past is =
     let at = c.loop-next.invariant.has from past is in
     let next = c.in-Ok.ensures.next from at.0 at.1 at.2 in
-    c.feed.ensures.records (fed past at.1) at.3 (may_feed past from _ (at.0 ++ next.0) at.1 c.in-Ok.next next.2)
+    c.feed.ensures.records (past_fed past at.1) at.3 (may_feed past from _ (at.0 ++ next.0) at.1 c.in-Ok.next next.2)
 
-quiet : (g : Over) (c : After-feed g) → (g.D.Deck.state c.feed.new.deck).line_faults ≡ (g.D.Deck.state c.args.deck.now).line_faults
+quiet : (g : Over) (c : After-feed g) → (g.D.Deck.state c.feed.new.deck).input_faults ≡ (g.D.Deck.state c.args.deck.now).input_faults
 quiet g c =
     let r = c.requires in
-    (records g c r.0 r.1 r.2).line_faults ∙ c.in-Ok.ensures.quiet (λ x. absurd (cc)) ∙ c.loop-next.invariant.quiet
+    (records g c r.0 r.1 r.2).input_faults ∙ c.in-Ok.ensures.no_fault (λ x. absurd (cc)) ∙ c.loop-next.invariant.no_fault
 
 extent : (g : Over) (c : After-feed g) → (g.D.Deck.state c.feed.new.deck).extent ≡ (g.D.Deck.state c.args.deck.now).extent
 extent g c = let r = c.requires in (records g c r.0 r.1 r.2).extent ∙ c.in-Ok.ensures.disk.extent ∙ c.loop-next.invariant.extent
 
 unpulled : (g : Over) (c : After-feed g) → IsGenerator c.args.source.now
-    → KeepsLineAndFaults (g.D.Deck.state c.args.deck.now) (g.D.Deck.state c.feed.new.deck)
+    → KeepsInputAndFaults (g.D.Deck.state c.args.deck.now) (g.D.Deck.state c.feed.new.deck)
 unpulled g c is =
     let r = c.requires in
     let wrote = records g c r.0 r.1 r.2 in
     let before = c.loop-next.invariant.unpulled is in
-    keeps_line_then _ _ _ _ before.1 (ap g.D.Deck.state (c.in-Ok.ensures.still before.0).1) wrote.line wrote.line_faults
+    keeps_line_then _ _ _ _ before.1 (ap g.D.Deck.state (c.in-Ok.ensures.still before.0).1) wrote.input wrote.input_faults
 
 -- once the session took it
-disk_quiet : (g : Over) (c : In-Ok-feed g) → (g.D.Deck.state c.feed.new.deck).disk_faults ≡ (g.D.Deck.state c.args.deck.now).disk_faults
-disk_quiet g c =
+no_disk_fault : (g : Over) (c : In-Ok-feed g) → (g.D.Deck.state c.feed.new.deck).disk_faults ≡ (g.D.Deck.state c.args.deck.now).disk_faults
+no_disk_fault g c =
     let e = c.in-Ok.ensures in
     let r = c.requires in
     let at = c.loop-next.invariant.has r.0 r.1 r.2 in
     let next = e.next r.0 at.0 at.1 at.2 in
     let fits = may_feed r.1 r.0 _ (at.0 ++ next.0) at.1 c.in-Ok.next next.2 in
-    (c.in-Ok-feed.ensures.recorded (fed r.1 at.1) at.3 fits).disk_faults ∙ e.disk.disk_faults ∙ c.loop-next.invariant.disk_quiet
+    (c.in-Ok-feed.ensures.recorded (past_fed r.1 at.1) at.3 fits).disk_faults ∙ e.disk.disk_faults ∙ c.loop-next.invariant.no_disk_fault
 
-has_fed : (g : Over) (c : In-Ok-feed g) (from : RecordSupply) (past : SessionPast)
+has_fed : (g : Over) (c : In-Ok-feed g) (from : RecordSupply) (past : RecordingPast)
     (is : IsBegun g.D.Deck.tells from c.args.session c.args.source.now past (g.D.Deck.state c.args.deck.now))
     → let at = c.loop-next.invariant.has from past is in
     let bytes = at.0 ++ (c.in-Ok.ensures.next from at.0 at.1 at.2).0 in
-    MayFeedSession (fed past at.1) c.in-Ok.next
-    → HasFed g.D.Deck.tells (fed past at.1) bytes (g.D.Deck.state c.args.deck.now) (g.D.Deck.state c.next.new.deck)
-    → HasFed g.D.Deck.tells (session_with_record (fed past at.1) c.in-Ok.next) bytes (g.D.Deck.state c.args.deck.now) (g.D.Deck.state c.feed.new.deck)
+    MayFeedRecording (past_fed past at.1) c.in-Ok.next
+    → HasFed g.D.Deck.tells (past_fed past at.1) bytes (g.D.Deck.state c.args.deck.now) (g.D.Deck.state c.next.new.deck)
+    → HasFed g.D.Deck.tells (recording_with_record (past_fed past at.1) c.in-Ok.next) bytes (g.D.Deck.state c.args.deck.now) (g.D.Deck.state c.feed.new.deck)
 has_fed g c from past is fits before =
     let f = c.in-Ok-feed.ensures in
     let at = c.loop-next.invariant.has from past is in
     let next = c.in-Ok.ensures.next from at.0 at.1 at.2 in
-    HasFed-feed _ (fed past at.1) _ _ _ (at.0 ++ next.0) (g.met.D.Deck.sound c.args.deck.now) is.ring is.settled is.told before c.in-Ok.next
-    (limits_of (fed past at.1) _ at.3) fits
-    (Records-at _ (fed past at.1) _ _ _ _ at.3 (f.records (fed past at.1) at.3 fits))
-    (HasRecorded-at _ (fed past at.1) _ _ _ _ at.3 (f.recorded (fed past at.1) at.3 fits))
+    HasFed-feed _ (past_fed past at.1) _ _ _ (at.0 ++ next.0) (g.met.D.Deck.sound c.args.deck.now) is.ring is.settled is.announced before c.in-Ok.next
+    (limits_of (past_fed past at.1) _ at.3) fits
+    (RecordsFirstOf-at _ (past_fed past at.1) _ _ _ _ at.3 (f.records (past_fed past at.1) at.3 fits))
+    (RecordsAllOf-at _ (past_fed past at.1) _ _ _ _ at.3 (f.recorded (past_fed past at.1) at.3 fits))
 
 pub loop-next-init : goal.loop-next-init
 loop-next-init g c = record {
   has = λ from past is. begun _ from _ _ past _ (g.met.D.Deck.sound c.args.deck.now) is;
-  quiet = refl;
-  disk_quiet = refl;
+  no_fault = refl;
+  no_disk_fault = refl;
   unpulled = λ is. (is, keeps_line _ _ refl refl refl refl);
   extent = refl;
 }
@@ -112,31 +113,31 @@ returns-in-Err-clause-fed g c = λ from past is.
     let e = c.in-Err.ensures in
     let at = c.loop-next.invariant.has from past is in
     let next = e.next from at.0 at.1 at.2 in
-    let has = HasFed-pull _ (fed past at.1) _ _ _ at.0 (s c.args.deck.now) is.ring is.settled is.told at.4 next.0 (s c.loop-next.deck)
-    next.1 next.3 e.disk e.told e.fresh e.time in
+    let has = HasFed-pull _ (past_fed past at.1) _ _ _ at.0 (s c.args.deck.now) is.ring is.settled is.announced at.4 next.0 (s c.loop-next.deck)
+    next.1 next.3 e.disk e.announced e.fresh e.time in
     HasFedAll-stop from _ past _ _ _ _ (at.0 ++ next.0) at.1 c.in-Err.answer is.ring at.3 has next.2
-    c.loop-next.invariant.quiet (λ not. e.quiet (λ x. not (err_same _ _ x)))
+    c.loop-next.invariant.no_fault (λ not. e.no_fault (λ x. not (err_same _ _ x)))
 
-pub returns-in-Err-clause-line_fault : goal.returns-in-Err-clause-line_fault
-returns-in-Err-clause-line_fault g c = λ fails.
+pub returns-in-Err-clause-input_fault : goal.returns-in-Err-clause-input_fault
+returns-in-Err-clause-input_fault g c = λ fails.
     let r = c.requires in
     let at = c.loop-next.invariant.has r.0 r.1 r.2 in
     let next = c.in-Err.ensures.next r.0 at.0 at.1 at.2 in
     line_failed r.0 _ (g.D.Deck.state c.args.deck.now) (g.D.Deck.state c.loop-next.deck) (g.D.Deck.state c.next.new.deck) _ _ c.in-Err.answer
-    fails next.2 c.loop-next.invariant.quiet
+    fails next.2 c.loop-next.invariant.no_fault
 
 pub feed-requires-clause-stands : goal.feed-requires-clause-stands
 feed-requires-clause-stands g c =
     let r = c.requires in
     let at = c.loop-next.invariant.has r.0 r.1 r.2 in
-    (fed r.1 at.1, at.3, may g (goal.at.feed-requires-clause-stands g c).In-Ok r.0 r.1 r.2)
+    (past_fed r.1 at.1, at.3, may g (goal.at.feed-requires-clause-stands g c).In-Ok r.0 r.1 r.2)
 
 pub feed-requires-clause-fact : goal.feed-requires-clause-fact
 feed-requires-clause-fact g c =
     let r = c.requires in
     let at = c.loop-next.invariant.has r.0 r.1 r.2 in
-    ring_at _ (fed r.1 at.1) _ (g.D.Deck.state c.next.new.deck) at.3
-    (sure_at _ (fed r.1 at.1) at.0 (g.D.Deck.state c.args.deck.now) (g.D.Deck.state c.loop-next.deck) (g.D.Deck.state c.next.new.deck)
+    ring_at _ (past_fed r.1 at.1) _ (g.D.Deck.state c.next.new.deck) at.3
+    (sure_at _ (past_fed r.1 at.1) at.0 (g.D.Deck.state c.args.deck.now) (g.D.Deck.state c.loop-next.deck) (g.D.Deck.state c.next.new.deck)
     r.2.ring at.4 c.in-Ok.ensures.disk)
 
 pub returns-in-Err-feed-clause-ended : goal.returns-in-Err-feed-clause-ended
@@ -148,13 +149,13 @@ returns-in-Err-feed-clause-ended g c = λ from past is.
     let fits = may g place.In-Ok from past is in
     let good = supplied_with_next from _ (at.0 ++ next.0) at.1 c.in-Ok.next next.2 in
     rw c.refusal.ensures (Continues-fault from _ past _ _ _ (at.0 ++ next.0) at.1 good.0 c.in-Ok.next c.in-Err-feed.fault
-    (g.met.D.Deck.sound c.args.deck.now) c.args.session _ is (limits_of (fed past at.1) _ at.3) (pulled g place.In-Ok from past is) fits good.1
+    (g.met.D.Deck.sound c.args.deck.now) c.args.session _ is (limits_of (past_fed past at.1) _ at.3) (pulled g place.In-Ok from past is) fits good.1
     next.2.unpulled
-    (Records-at _ (fed past at.1) _ _ _ _ at.3 (records g place.After-feed from past is))
+    (RecordsFirstOf-at _ (past_fed past at.1) _ _ _ _ at.3 (records g place.After-feed from past is))
     (only_two _ f.only)
-    (c.in-Ok.ensures.quiet (λ x. absurd (cc)) ∙ c.loop-next.invariant.quiet)
-    (bound_of (fed past at.1) c.loop-next.session at.3)
-    (λ ends. HasEnded-at _ (fed past at.1) _ _ _ _ at.3 (f.seq_end (fed past at.1) at.3 fits (ap Err ends))))
+    (c.in-Ok.ensures.no_fault (λ x. absurd (cc)) ∙ c.loop-next.invariant.no_fault)
+    (bound_of (past_fed past at.1) c.loop-next.session at.3)
+    (λ ends. HasEnded-at _ (past_fed past at.1) _ _ _ _ at.3 (f.seq_end (past_fed past at.1) at.3 fits (ap Err ends))))
 
 pub returns-in-Err-feed-clause-extent : goal.returns-in-Err-feed-clause-extent
 returns-in-Err-feed-clause-extent g c = extent g (goal.at.returns-in-Err-feed-clause-extent g c).After-feed
@@ -182,11 +183,11 @@ loop-next-preserved g c =
             at.0 ++ next.0,
             at.1 ++ c.in-Ok.next ∷ [],
             next.2.more (is_end-no c.in-Ok.next c.in-Word.is),
-            c.in-Ok-feed.ensures.stands (fed past at.1) at.3 fits,
+            c.in-Ok-feed.ensures.stands (past_fed past at.1) at.3 fits,
             has_fed g place.In-Ok-feed from past is fits (pulled g place.In-Ok from past is),
           );
-      quiet = quiet g place.After-feed;
-      disk_quiet = disk_quiet g place.In-Ok-feed;
+      no_fault = quiet g place.After-feed;
+      no_disk_fault = no_disk_fault g place.In-Ok-feed;
       unpulled = λ is. ((c.in-Ok.ensures.still (c.loop-next.invariant.unpulled is).0).0, unpulled g place.After-feed is);
       extent = extent g place.After-feed;
     }
@@ -199,11 +200,11 @@ returns-in-End-clause-fed g c = λ from past is.
     let ends = is_end-yes c.in-Ok.next c.in-End.is in
     let fits = may g place.In-Ok from past is in
     let all = has_fed g place.In-Ok-feed from past is fits (pulled g place.In-Ok from past is) in
-    HasFedAll-end from _ past _ _ _ (at.0 ++ next.0) at.1 c.in-Ok.next is.ring (c.in-Ok-feed.ensures.stands (fed past at.1) at.3 fits) all
+    HasFedAll-end from _ past _ _ _ (at.0 ++ next.0) at.1 c.in-Ok.next is.ring (c.in-Ok-feed.ensures.stands (past_fed past at.1) at.3 fits) all
     (next.2.ends ends) ends next.2.unpulled (quiet g place.After-feed)
 
-pub returns-in-End-clause-disk_quiet : goal.returns-in-End-clause-disk_quiet
-returns-in-End-clause-disk_quiet g c = disk_quiet g (goal.at.returns-in-End-clause-disk_quiet g c).In-Ok-feed
+pub returns-in-End-clause-no_disk_fault : goal.returns-in-End-clause-no_disk_fault
+returns-in-End-clause-no_disk_fault g c = no_disk_fault g (goal.at.returns-in-End-clause-no_disk_fault g c).In-Ok-feed
 
 pub returns-in-End-clause-extent : goal.returns-in-End-clause-extent
 returns-in-End-clause-extent g c = extent g (goal.at.returns-in-End-clause-extent g c).After-feed
@@ -215,21 +216,21 @@ pub returns-in-Err-clause-unpulled : goal.returns-in-Err-clause-unpulled
 returns-in-Err-clause-unpulled g c = λ is.
     let before = c.loop-next.invariant.unpulled is in
     let still = c.in-Err.ensures.still before.0 in
-    subst (λ d. KeepsLineAndFaults (g.D.Deck.state c.args.deck.now) d) (sym (ap g.D.Deck.state still.1)) before.1
+    subst (λ d. KeepsInputAndFaults (g.D.Deck.state c.args.deck.now) d) (sym (ap g.D.Deck.state still.1)) before.1
 
 pub returns-in-Err-feed-clause-disk_fault : goal.returns-in-Err-feed-clause-disk_fault
 returns-in-Err-feed-clause-disk_fault g c = λ fails.
     let is = is_disk_fault c.in-Err-feed.fault (sym c.refusal.ensures ∙ fails) in
     let rose = c.in-Err-feed.ensures.cause (ap Err is) in
-    let same = c.in-Ok.ensures.disk.disk_faults ∙ c.loop-next.invariant.disk_quiet in
+    let same = c.in-Ok.ensures.disk.disk_faults ∙ c.loop-next.invariant.no_disk_fault in
     omega (arith, rose, same)
 
-pub returns-in-Err-feed-clause-cut_quiet : goal.returns-in-Err-feed-clause-cut_quiet
-returns-in-Err-feed-clause-cut_quiet g c = λ other.
+pub returns-in-Err-feed-clause-no_fault_if_cut : goal.returns-in-Err-feed-clause-no_fault_if_cut
+returns-in-Err-feed-clause-no_fault_if_cut g c = λ other.
     let r = c.requires in
     let at = c.loop-next.invariant.has r.0 r.1 r.2 in
-    let fits = may g (goal.at.returns-in-Err-feed-clause-cut_quiet g c).In-Ok r.0 r.1 r.2 in
+    let fits = may g (goal.at.returns-in-Err-feed-clause-no_fault_if_cut g c).In-Ok r.0 r.1 r.2 in
     let ends = ended_only c.in-Err-feed.fault (only_two _ c.in-Err-feed.ensures.only)
     (λ e. other (c.refusal.ensures ∙ ap session_refusal e)) in
-    (c.in-Err-feed.ensures.seq_end (fed r.1 at.1) at.3 fits (ap Err ends)).recorded.disk_faults
-    ∙ c.in-Ok.ensures.disk.disk_faults ∙ c.loop-next.invariant.disk_quiet
+    (c.in-Err-feed.ensures.seq_end (past_fed r.1 at.1) at.3 fits (ap Err ends)).recorded.disk_faults
+    ∙ c.in-Ok.ensures.disk.disk_faults ∙ c.loop-next.invariant.no_disk_fault

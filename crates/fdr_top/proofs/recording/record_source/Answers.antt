@@ -1,6 +1,6 @@
 use Rattle.std.proofs.Common.{◌≡◌, ◌∙◌, ◌≢◌, ap, sym, inl, inr, ⊎_elim, rules, Err, arith}
-use Rattle.fdr_recorder.specs.Past.{started}
-use Rattle.fdr_top.proofs.RecordLines.{RecordsSupply-refused, RecordsSupply-started}
+use Rattle.fdr_recorder.specs.Past.{past_at_start}
+use Rattle.fdr_top.proofs.RecordLines.{RecordsSupply-refused, RecordsSupply-past_at_start}
 use Rattle.fdr_top.proofs.SessionEnds.{begun_at, cut_begun, cut_not_memory, cut_reads, fault_same, is_no_memory, not_short, reading_begun}
 use Rattle.fdr_io.specs.Faults.{Rose}
 use Rattle.fdr_top.specs.Record.{session_refusal}
@@ -20,8 +20,8 @@ pub returns-in_err-closed-clause-ended : goal.returns-in_err-closed-clause-ended
 returns-in_err-closed-clause-ended g c = λ from gives.
     let s = g.met.D.Deck.sound in
     let e = c.in_err-closed.ensures in
-    let is = RecordsSupply-started from c.args.sound.now _ c.in-Ok.session _ _ _ _ (s c.args.deck.now) (s c.start.new.deck) c.start.ensures.starts
-    c.in-Ok.ensures.started (e.ended from (started _ _ _) (begun_at _ _ from c.in-Ok.session _ _ _ c.in-Ok.ensures.started gives))
+    let is = RecordsSupply-past_at_start from c.args.sound.now _ c.in-Ok.session _ _ _ _ (s c.args.deck.now) (s c.start.new.deck) c.start.ensures.starts
+    c.in-Ok.ensures.started (e.ended from (past_at_start _ _ _) (begun_at _ _ from c.in-Ok.session _ _ _ c.in-Ok.ensures.started gives))
     c.record_all.ensures.extent (cut_begun _ e.only) (cut_reads _ e.only) c.in-Ok.ensures.good in
     search rules
 
@@ -29,31 +29,31 @@ pub returns-clause-recorded : goal.returns-clause-recorded
 returns-clause-recorded g c = λ from gives.
     let s = g.met.D.Deck.sound in
     let e = c.in_ok-closed.ensures in
-    RecordsSupply-started from c.args.sound.now _ c.in-Ok.session _ _ _ _ (s c.args.deck.now) (s c.start.new.deck) c.start.ensures.starts
-    c.in-Ok.ensures.started (e.closed from (started _ _ _) (begun_at _ _ from c.in-Ok.session _ _ _ c.in-Ok.ensures.started gives))
+    RecordsSupply-past_at_start from c.args.sound.now _ c.in-Ok.session _ _ _ _ (s c.args.deck.now) (s c.start.new.deck) c.start.ensures.starts
+    c.in-Ok.ensures.started (e.closed from (past_at_start _ _ _) (begun_at _ _ from c.in-Ok.session _ _ _ c.in-Ok.ensures.started gives))
     c.record_all.ensures.extent (reading_begun _ e.all) (λ all. e.all) c.in-Ok.ensures.good
 
-pub returns-clause-disk_quiet : goal.returns-clause-disk_quiet
-returns-clause-disk_quiet g c = c.in_ok-closed.ensures.disk_quiet ∙ c.in-Ok.ensures.quiet (λ x. absurd (cc))
+pub returns-clause-no_disk_fault : goal.returns-clause-no_disk_fault
+returns-clause-no_disk_fault g c = c.in_ok-closed.ensures.no_disk_fault ∙ c.in-Ok.ensures.no_fault (λ x. absurd (cc))
 
 pub returns-in_err-closed-clause-disk_fault : goal.returns-in_err-closed-clause-disk_fault
 returns-in_err-closed-clause-disk_fault g c =
-    let quiet = c.in-Ok.ensures.quiet (λ x. absurd (cc)) in
+    let quiet = c.in-Ok.ensures.no_fault (λ x. absurd (cc)) in
     let rose : c.in_err-closed.field-0.0 ≡ outcome.DiskFault
     → Rose (g.D.Deck.state c.args.deck.now).disk_faults (g.D.Deck.state c.record_all.new.deck).disk_faults =
     (λ fails. let later = c.in_err-closed.ensures.disk_fault fails in omega (arith, quiet, later)) in
     search rules
 
-pub returns-in-Err-clause-cut_quiet : goal.returns-in-Err-clause-cut_quiet
-returns-in-Err-clause-cut_quiet g c = λ other.
-    c.in-Err.ensures.quiet (λ e. other (c.refusal.ensures ∙ ap session_refusal (fault_same _ _ e)))
+pub returns-in-Err-clause-no_fault_if_cut : goal.returns-in-Err-clause-no_fault_if_cut
+returns-in-Err-clause-no_fault_if_cut g c = λ other.
+    c.in-Err.ensures.no_fault (λ e. other (c.refusal.ensures ∙ ap session_refusal (fault_same _ _ e)))
 
-pub returns-in_err-closed-clause-cut_quiet : goal.returns-in_err-closed-clause-cut_quiet
-returns-in_err-closed-clause-cut_quiet g c =
-    let quiet = c.in-Ok.ensures.quiet (λ x. absurd (cc)) in
+pub returns-in_err-closed-clause-no_fault_if_cut : goal.returns-in_err-closed-clause-no_fault_if_cut
+returns-in_err-closed-clause-no_fault_if_cut g c =
+    let quiet = c.in-Ok.ensures.no_fault (λ x. absurd (cc)) in
     let both : c.in_err-closed.field-0.0 ≢ outcome.DiskFault
     → (g.D.Deck.state c.record_all.new.deck).disk_faults ≡ (g.D.Deck.state c.args.deck.now).disk_faults =
-    (λ other. c.in_err-closed.ensures.cut_quiet other ∙ quiet) in
+    (λ other. c.in_err-closed.ensures.no_fault_if_cut other ∙ quiet) in
     search rules
 
 pub returns-in-Err-clause-memory : goal.returns-in-Err-clause-memory

@@ -12,15 +12,15 @@ returns-clause-works g c = λ image t.
       answer = answer;
       refusal = λ nothing. let same = c.recover_image.ensures.unwritten (writes_other _ _ nothing tt) (writes_other _ _ nothing tt)
           (writes_other _ _ nothing tt) in
-          left_all _ (ap g.O.Sink.written same) (ap g.O.Sink.faults same) looks.disk looks.learns looks.quiet.passes.told.told
-          (passes_keeps _ _ _ looks.quiet.passes);
-      unused = image_unused (recover_image image) _ tt (λ none. none) (λ none. none) looks.quiet.passes;
+          left_all _ (ap g.O.Sink.written same) (ap g.O.Sink.faults same) looks.disk looks.learns looks.disk_work.passes.announced.announced
+          (passes_keeps _ _ _ looks.disk_work.passes);
+      unused = image_unused (recover_image image) _ tt (λ none. none) (λ none. none) looks.disk_work.passes;
       causes = has_cause (recover_image image) _ answer (λ pulls. absurd pulls) (λ text. c.recover_image.ensures.write_fault)
           (λ image. c.recover_image.ensures.recovers.cause);
       no_fault_passed_over = record {
-        line = λ read covers. looks.quiet.passes.line_faults;
-        write = λ other covers. c.recover_image.ensures.write_quiet other;
-        disk = λ other. c.recover_image.ensures.disk_quiet other;
+        input = λ read covers. looks.disk_work.passes.input_faults;
+        write = λ other covers. c.recover_image.ensures.no_write_fault other;
+        disk = λ other. c.recover_image.ensures.no_disk_fault other;
       };
       does = recovers;
       complete = λ whole faultless. recovery_done image _ _ _ _ _ _ answer recovers whole.0 whole.1

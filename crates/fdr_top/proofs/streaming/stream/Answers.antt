@@ -13,16 +13,16 @@ returns g c = record {
       record {
         answer = answer;
         refusal = begun_leaves (stream_line path) _ (λ none. none) (λ none. none) (λ none. none) answer
-            c.stream_sound.ensures.disk c.stream_sound.ensures.told c.stream_sound.ensures.no_memory c.stream_sound.ensures.no_memory_faults;
-        unused = line_unused (stream_line path) _ tt c.stream_sound.ensures.disk c.stream_sound.ensures.told
-            c.stream_sound.ensures.no_memory_line (λ none. absurd none);
-        causes = has_cause (stream_line path) _ answer (λ pulls. c.stream_sound.ensures.line_fault) (λ text. c.stream_sound.ensures.write_fault)
+            c.stream_sound.ensures.disk c.stream_sound.ensures.announced c.stream_sound.ensures.no_memory c.stream_sound.ensures.no_memory_faults;
+        unused = line_unused (stream_line path) _ tt c.stream_sound.ensures.disk c.stream_sound.ensures.announced
+            c.stream_sound.ensures.no_memory_input (λ none. absurd none);
+        causes = has_cause (stream_line path) _ answer (λ pulls. c.stream_sound.ensures.input_fault) (λ text. c.stream_sound.ensures.write_fault)
             (λ image. absurd image);
         no_fault_passed_over = record {
-          line = λ read covers. uncovered_line (stream_line path) _ _ _ answer c.stream_sound.ensures.no_memory_line
-              (λ own written. (c.stream_sound.ensures.streams (own_not_memory (stream_line path) _ own)).ends.quiet
+          input = λ read covers. uncovered_line (stream_line path) _ _ _ answer c.stream_sound.ensures.no_memory_input
+              (λ own written. (c.stream_sound.ensures.streams (own_not_memory (stream_line path) _ own)).ends.no_fault
               (stream_reads path _ own written) read) covers;
-          write = λ other covers. c.stream_sound.ensures.write_quiet other;
+          write = λ other covers. c.stream_sound.ensures.no_write_fault other;
           disk = λ other. c.stream_sound.ensures.disk.disk_faults;
         };
         does = λ past. ⊎_elim
@@ -33,7 +33,7 @@ returns g c = record {
         complete = λ whole faultless. ⊎_elim
             (λ memory. inr memory)
             (λ of. inl (stream_done path _ _ _ _ _ _ _ (c.stream_sound.ensures.streams (past_not_memory _ (own_past (stream_line path) _ of))) of
-            whole.0 whole.1 (λ e. faultless.line tt (c.stream_sound.ensures.line_fault e)) (λ e. faultless.sink tt (c.stream_sound.ensures.write_fault e))))
+            whole.0 whole.1 (λ e. faultless.input tt (c.stream_sound.ensures.input_fault e)) (λ e. faultless.sink tt (c.stream_sound.ensures.write_fault e))))
             answer;
       };
 }

@@ -2,8 +2,9 @@ use Rattle.std.proofs.Common.{◌≡◌, ◌∙◌, Result, Err, refl, [], ◌�
 use Rattle.std.proofs.lemmas.Result.{err_from_is_err_and}
 use Rattle.fdr_bus.specs.declared.BusRecord.{BusRecord}
 use Rattle.fdr_trace.specs.declared.TraceStop.{TraceStop}
-use Rattle.fdr_trace.proofs.Pulling.{LeavesDisk-here, LeavesDisk-then, PullsMore-none}
-use Rattle.fdr_top.proofs.Records.{IsStreamed-made, ComesNext-read, PullsMore-next, IsStreamedTo-end, IsStreamedTo-stop, IsStreamedPart-next, good_with_next}
+use Rattle.fdr_trace.proofs.Pulling.{LeavesDisk-here, LeavesDisk-then, PullsUntilDecided-none}
+use Rattle.fdr_top.proofs.Records.{IsStreamed-made, ComesNext-read, PullsUntilDecided-next}
+use Rattle.fdr_top.proofs.Records.{IsStreamedTo-end, IsStreamedTo-stop, IsStreamedPart-next, good_with_next}
 use Rattle.fdr_top.proofs.Records.{is_end-yes, is_end-no, count_rises}
 use Rattle.fdr_top.proofs.streaming.stream_records.Goals as goal
 
@@ -12,12 +13,12 @@ err_same s s' e = cc
 
 pub loop-next-init : goal.loop-next-init
 loop-next-init g c = record {
-  streamed = λ t fresh. ([], [], PullsMore-none _ _ [], fresh.trace, IsStreamed-made _ t _ fresh.stream);
+  streamed = λ t fresh. ([], [], PullsUntilDecided-none _ _ [], fresh.trace, IsStreamed-made _ t _ fresh.stream);
   room = c.requires.room;
-  quiet = refl;
+  no_fault = refl;
   disk = LeavesDisk-here _;
-  told = refl;
-  sink_quiet = refl;
+  announced = refl;
+  no_sink_fault = refl;
   monotone = omega arith;
 }
 
@@ -25,8 +26,8 @@ pub returns-in-Err-clause-all : goal.returns-in-Err-clause-all
 returns-in-Err-clause-all g c = λ t fresh.
     let at = c.loop-next.invariant.streamed t fresh in
     let next = c.in-Err.ensures.next at.0 at.1 at.3 in
-    rw c.answer_of_stop.ensures (IsStreamedTo-stop t _ _ _ _ _ at.0 next.0 at.1 c.in-Err.stop _ _ at.2 next.1 next.2 at.4 c.loop-next.invariant.quiet
-    (λ not. c.in-Err.ensures.quiet (λ e. not (err_same _ _ e))))
+    rw c.answer_of_stop.ensures (IsStreamedTo-stop t _ _ _ _ _ at.0 next.0 at.1 c.in-Err.stop _ _ at.2 next.1 next.2 at.4 c.loop-next.invariant.no_fault
+    (λ not. c.in-Err.ensures.no_fault (λ e. not (err_same _ _ e))))
 
 pub write_record-requires-clause-fed : goal.write_record-requires-clause-fed
 write_record-requires-clause-fed g c =
@@ -43,8 +44,8 @@ returns-in_err-write_record-clause-part g c = λ t fresh.
     let part = c.in_err-write_record.ensures.part t at.1 _ at.4 comes in
     let good = good_with_next _ (at.0 ++ next.0) at.1 c.in-Ok.next next.2 in
     let p = err_from_is_err_and c.from_residual.result c.from_residual.ensures.1 in
-    rw p.1 (IsStreamedPart-next t _ _ _ (at.0 ++ next.0) (at.1 ++ c.in-Ok.next ∷ []) good.0 _ _ part.0 (PullsMore-next _ _ _ _ at.0 next.0 at.2 next.1)
-    good.1 part.1 (c.in-Ok.ensures.quiet (λ e. absurd (cc)) ∙ c.loop-next.invariant.quiet))
+    rw p.1 (IsStreamedPart-next t _ _ _ (at.0 ++ next.0) (at.1 ++ c.in-Ok.next ∷ []) good.0 _ _ part.0 (PullsUntilDecided-next _ _ _ _ at.0 next.0 at.2 next.1)
+    good.1 part.1 (c.in-Ok.ensures.no_fault (λ e. absurd (cc)) ∙ c.loop-next.invariant.no_fault))
 
 pub returns-in-End-clause-all : goal.returns-in-End-clause-all
 returns-in-End-clause-all g c = λ t fresh.
@@ -52,8 +53,8 @@ returns-in-End-clause-all g c = λ t fresh.
     let next = c.in-Ok.ensures.next at.0 at.1 at.3 in
     let comes = ComesNext-read _ _ at.0 next.0 at.1 c.in-Ok.next at.3 next.2 in
     let ends = is_end-yes c.in-Ok.next c.in-End.is in
-    IsStreamedTo-end t _ _ _ _ (at.0 ++ next.0) at.1 c.in-Ok.next _ _ (PullsMore-next _ _ _ _ at.0 next.0 at.2 next.1) (next.2.ends ends) ends
-    (c.in_ok-write_record.ensures.all t at.1 _ at.4 comes) (c.in-Ok.ensures.quiet (λ e. absurd (cc)) ∙ c.loop-next.invariant.quiet)
+    IsStreamedTo-end t _ _ _ _ (at.0 ++ next.0) at.1 c.in-Ok.next _ _ (PullsUntilDecided-next _ _ _ _ at.0 next.0 at.2 next.1) (next.2.ends ends) ends
+    (c.in_ok-write_record.ensures.all t at.1 _ at.4 comes) (c.in-Ok.ensures.no_fault (λ e. absurd (cc)) ∙ c.loop-next.invariant.no_fault)
 
 pub loop-next-smaller : goal.loop-next-smaller
 loop-next-smaller g c =
@@ -70,15 +71,15 @@ loop-next-preserved g c = record {
       let comes = ComesNext-read _ _ at.0 next.0 at.1 c.in-Ok.next at.3 next.2 in (
         at.0 ++ next.0,
         at.1 ++ c.in-Ok.next ∷ [],
-        PullsMore-next _ _ _ _ at.0 next.0 at.2 next.1,
+        PullsUntilDecided-next _ _ _ _ at.0 next.0 at.2 next.1,
         next.2.more (is_end-no c.in-Ok.next c.in-Word.is),
         c.in_ok-write_record.ensures.all t at.1 _ at.4 comes,
       );
   room = omega (arith, c.write_record.auto.block, c.loop-next.invariant.room);
-  quiet = c.in-Ok.ensures.quiet (λ e. absurd (cc)) ∙ c.loop-next.invariant.quiet;
+  no_fault = c.in-Ok.ensures.no_fault (λ e. absurd (cc)) ∙ c.loop-next.invariant.no_fault;
   disk = LeavesDisk-then _ _ _ c.loop-next.invariant.disk c.in-Ok.ensures.disk;
-  told = c.in-Ok.ensures.told.told ∙ c.loop-next.invariant.told;
-  sink_quiet = c.in_ok-write_record.ensures.quiet ∙ c.loop-next.invariant.sink_quiet;
+  announced = c.in-Ok.ensures.announced.announced ∙ c.loop-next.invariant.announced;
+  no_sink_fault = c.in_ok-write_record.ensures.no_fault ∙ c.loop-next.invariant.no_sink_fault;
   monotone = omega (arith, c.loop-next.invariant.monotone, c.write_record.ensures.monotone);
 }
 

@@ -12,8 +12,8 @@ returns-in-Ok-clause-no_memory g c = λ memory. absurd (own_not_memory (stream_l
 pub returns-in-Ok-clause-no_memory_faults : goal.returns-in-Ok-clause-no_memory_faults
 returns-in-Ok-clause-no_memory_faults g c = λ memory. absurd (own_not_memory (stream_line []) _ (c.stream_trace.ensures.answer []) memory)
 
-pub returns-in-Ok-clause-no_memory_line : goal.returns-in-Ok-clause-no_memory_line
-returns-in-Ok-clause-no_memory_line g c = λ memory. absurd (own_not_memory (stream_line []) _ (c.stream_trace.ensures.answer []) memory)
+pub returns-in-Ok-clause-no_memory_input : goal.returns-in-Ok-clause-no_memory_input
+returns-in-Ok-clause-no_memory_input g c = λ memory. absurd (own_not_memory (stream_line []) _ (c.stream_trace.ensures.answer []) memory)
 
 pub returns-in-Ok-clause-streams : goal.returns-in-Ok-clause-streams
 returns-in-Ok-clause-streams g c = λ some. c.stream_trace.ensures.streams c.args.sound.now c.in-Ok.ensures

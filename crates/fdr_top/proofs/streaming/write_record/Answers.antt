@@ -13,7 +13,7 @@ loop-i-init g c = record {
     λ before written. rw (← text-first t records c.args.next.now next) written,
   );
   room = c.requires.room;
-  quiet = refl;
+  no_fault = refl;
 }
 
 pub returns-in-Taken-clause-all : goal.returns-in-Taken-clause-all
@@ -40,7 +40,7 @@ loop-i-preserved g c = record {
             c.in_ok-write_whole-in-Block.ensures.whole,
       );
   room = omega (arith, c.feed.auto.out, c.loop-i.invariant.room);
-  quiet = c.in_ok-write_whole-in-Block.ensures.quiet ∙ c.loop-i.invariant.quiet;
+  no_fault = c.in_ok-write_whole-in-Block.ensures.no_fault ∙ c.loop-i.invariant.no_fault;
 }
 
 pub returns-in_err-write_whole-in-Block-clause-part :

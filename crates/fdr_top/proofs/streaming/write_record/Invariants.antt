@@ -14,5 +14,5 @@ invariant-loop-i g l = record {
       × ((before : Option (List ℕ)) → g.O.Sink.written l.fn.out ≡ followed_by before (due_text t records)
       → g.O.Sink.written l.out ≡ followed_by before (blocks_text t (records ++ l.next ∷ []) blocks));
   room : length l.block ≡ 4096;
-  quiet : g.O.Sink.faults l.out ≡ g.O.Sink.faults l.fn.out;
+  no_fault : g.O.Sink.faults l.out ≡ g.O.Sink.faults l.fn.out;
 }

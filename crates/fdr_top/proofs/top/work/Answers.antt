@@ -6,7 +6,7 @@ use Rattle.fdr_top.proofs.top.work.Goals as goal
 pub returns-in-CheckTable-clause-works : goal.returns-in-CheckTable-clause-works
 returns-in-CheckTable-clause-works g c = rw c.in-CheckTable.is (check_works c.in-CheckTable.table _ _ _ _ _ _ _ _
     (c.write_report.ensures.answer c.in-CheckTable.table) c.write_report.ensures.reports c.write_report.ensures.write_fault
-    c.write_report.ensures.write_quiet (λ memory. ap g.O.Sink.written (c.write_report.ensures.no_memory memory)))
+    c.write_report.ensures.no_write_fault (λ memory. ap g.O.Sink.written (c.write_report.ensures.no_memory memory)))
 
 pub returns-in-StreamLine-clause-works : goal.returns-in-StreamLine-clause-works
 returns-in-StreamLine-clause-works g c = rw c.in-StreamLine.is (c.stream.ensures.works _)

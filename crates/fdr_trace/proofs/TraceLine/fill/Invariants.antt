@@ -1,8 +1,8 @@
 use Rattle.std.proofs.Common.{◌≡◌, ◌-◌, ◌<◌, ℕ, List, ◌++◌, length}
 use Rattle.fdr_bus.specs.declared.BusRecord.{BusRecord}
 use Rattle.fdr_bus.specs.Records.{most_records}
-use Rattle.fdr_trace.specs.Moments.{PullsFor}
-use Rattle.fdr_trace.specs.Pulls.{PullsMore}
+use Rattle.fdr_trace.specs.Moments.{PullsForRecord}
+use Rattle.fdr_trace.specs.Pulls.{PullsUntilDecided}
 use Rattle.fdr_trace.specs.Reading.{RepresentsTrace}
 use Rattle.fdr_trace.proofs.PullMoments.{KeepsDeck}
 use Rattle.fdr_trace.proofs.TraceLine.fill.Given as goal
@@ -10,10 +10,10 @@ use Rattle.fdr_trace.proofs.TraceLine.fill.Given as goal
 abbrev pub invariant-loop-self : goal.invariant-loop-self
 invariant-loop-self g l = record {
   filled : (bytes : List ℕ) (records : List BusRecord) → RepresentsTrace l.fn.self bytes records → length records < most_records →
-      (more : List ℕ) × PullsMore g.D.Deck.tells (g.D.Deck.state l.fn.deck) (g.D.Deck.state l.deck) bytes more × RepresentsTrace
+      (more : List ℕ) × PullsUntilDecided g.D.Deck.tells (g.D.Deck.state l.fn.deck) (g.D.Deck.state l.deck) bytes more × RepresentsTrace
       l.self (bytes ++ more) records
-      × PullsFor g.D.Deck.tells (g.D.Deck.state l.fn.deck) (g.D.Deck.state l.deck) bytes more records;
-  quiet : (g.D.Deck.state l.deck).line_faults ≡ (g.D.Deck.state l.fn.deck).line_faults;
+      × PullsForRecord g.D.Deck.tells (g.D.Deck.state l.fn.deck) (g.D.Deck.state l.deck) bytes more records;
+  no_fault : (g.D.Deck.state l.deck).input_faults ≡ (g.D.Deck.state l.fn.deck).input_faults;
   deck : KeepsDeck g.D.Deck.tells (g.D.Deck.state l.fn.deck) (g.D.Deck.state l.deck);
   rest : g.D.Deck.same_rest l.fn.deck l.deck;
 }

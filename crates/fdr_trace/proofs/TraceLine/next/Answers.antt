@@ -6,9 +6,9 @@ use Rattle.fdr_bus.specs.Records.{most_records}
 use Rattle.fdr_deck.specs.State.{State, Tells}
 use Rattle.fdr_trace.specs.Kept.{TraceKept}
 use Rattle.fdr_trace.specs.Reading.{RepresentsTrace, IsTraceRefused}
-use Rattle.fdr_deck.proofs.Moments.{Elapses-here, KeepsTold-here}
-use Rattle.fdr_trace.proofs.Pulling.{LeavesDisk-here, PullsMore-none}
-use Rattle.fdr_trace.proofs.PullMoments.{PullsFor-none}
+use Rattle.fdr_deck.proofs.Moments.{Elapses-here, KeepsAnnounced-here}
+use Rattle.fdr_trace.proofs.Pulling.{LeavesDisk-here, PullsUntilDecided-none}
+use Rattle.fdr_trace.proofs.PullMoments.{PullsForRecord-none}
 use Rattle.fdr_trace.proofs.Records.{Reads-few, Reads-many}
 use Rattle.fdr_trace.proofs.Next.{next_of}
 use Rattle.fdr_trace.proofs.TraceLine.next.Goals as goal
@@ -31,19 +31,19 @@ not_most k n is not = λ e. not (is ∙ e)
 pub returns-then-count-eq-MAX_RECORDS-clause-next : goal.returns-then-count-eq-MAX_RECORDS-clause-next
 returns-then-count-eq-MAX_RECORDS-clause-next g c = λ bytes records reads. (
   [],
-  PullsMore-none _ _ bytes,
+  PullsUntilDecided-none _ _ bytes,
   rw c.refused.ensures
       (many_refused _ _ c.args.self.now bytes records reads
       (sym c.count.ensures ∙ c.if-count-eq-MAX_RECORDS.true)),
-  PullsFor-none _ _ bytes records
+  PullsForRecord-none _ _ bytes records
       (g.met.D.Deck.sound c.args.deck.now),
 )
 
 pub returns-then-count-eq-MAX_RECORDS-clause-disk : goal.returns-then-count-eq-MAX_RECORDS-clause-disk
 returns-then-count-eq-MAX_RECORDS-clause-disk g c = LeavesDisk-here _
 
-pub returns-then-count-eq-MAX_RECORDS-clause-told : goal.returns-then-count-eq-MAX_RECORDS-clause-told
-returns-then-count-eq-MAX_RECORDS-clause-told g c = KeepsTold-here _
+pub returns-then-count-eq-MAX_RECORDS-clause-announced : goal.returns-then-count-eq-MAX_RECORDS-clause-announced
+returns-then-count-eq-MAX_RECORDS-clause-announced g c = KeepsAnnounced-here _
 
 pub returns-then-count-eq-MAX_RECORDS-clause-time : goal.returns-then-count-eq-MAX_RECORDS-clause-time
 returns-then-count-eq-MAX_RECORDS-clause-time g c = Elapses-here _ _ (g.met.D.Deck.sound c.args.deck.now)

@@ -8,7 +8,7 @@ use Rattle.fdr_words.proofs.uses.+uses_of.Goals as goal
 pub returns-in_ok-uses_of-in-Given : goal.returns-in_ok-uses_of-in-Given
 returns-in_ok-uses_of-in-Given t c =
     c.with_value.ensures
-    ∙ given_first (string_bytes {Z = Global}) c.args.words.now c.word-item.result c.in-Given.option c.in-Given.value.now
+    ∙ given_first (string_bytes {Z = Global}) c.args.args.now c.word-item.result c.in-Given.option c.in-Given.value.now
     (uses_view c.in_ok-uses_of-in-Given.field-0)
     c.in-len1-up.len_at_least c.word-item.is
     (sym (ap word_meaning c.as_str-word.ensures.value) ∙ sym c.word_of.ensures ∙ ap word_view c.in-Given.is)

@@ -2,9 +2,9 @@ use Rattle.std.proofs.Common.{◌≡◌, ◌∙◌, ℕ, List, [], ◌∷◌, le
 use Rattle.std.proofs.lemmas.List.{length-take}
 use Rattle.std.proofs.lemmas.Result.{err_from_is_err_and}
 use Rattle.fdr_recover.specs.Blocks.{Block}
-use Rattle.fdr_recorder.specs.Recording.{Records, HasRecorded, HasEnded}
-use Rattle.fdr_recorder.specs.Past.{RepresentsSession, SessionPast, rest_of, stream_past}
-use Rattle.fdr_recorder.proofs.Composing.{Records-here, HasRecorded-here}
+use Rattle.fdr_recorder.specs.Recording.{RecordsFirstOf, RecordsAllOf, HasEnded}
+use Rattle.fdr_recorder.specs.Past.{RepresentsRecording, RecordingPast, rest_of, stream_past}
+use Rattle.fdr_recorder.proofs.Composing.{RecordsFirstOf-here, RecordsAllOf-here}
 use Rattle.fdr_io.proofs.OutputSteps.{failed_or_not}
 use Rattle.fdr_recorder.proofs.Ended.{ring_seq_end, ring_disk_fault, ring_only}
 use Rattle.fdr_recorder.proofs.Closing.{rest-none, rest-one, HasEnded-rest}
@@ -23,14 +23,14 @@ returns-then-count-eq0-clause-next g c past stands =
 
 pub returns-then-count-eq0-clause-records : goal.returns-then-count-eq0-clause-records
 returns-then-count-eq0-clause-records g c past stands =
-    Records-here _ _ _ _ _ (g.met.D.Deck.sound c.args.deck.now) c.requires.fact
+    RecordsFirstOf-here _ _ _ _ _ (g.met.D.Deck.sound c.args.deck.now) c.requires.fact
 
 pub returns-then-count-eq0-clause-recorded : goal.returns-then-count-eq0-clause-recorded
 returns-then-count-eq0-clause-recorded g c past stands =
     let d = g.D.Deck.state c.args.deck.now in
     let none = rest-none past c.finish-count.result
     (c.finish-count.ensures.blocks (stream_past past) (in_box c.deref_mut.ensures.value stands.stream) refl) c.if-count-eq0.true in
-    subst (λ (l : List Block). HasRecorded g.D.Deck.tells c.args.self.ring.header c.args.self.ring.next l d d) (sym none) (HasRecorded-here _ _ _ d)
+    subst (λ (l : List Block). RecordsAllOf g.D.Deck.tells c.args.self.ring.header c.args.self.ring.next l d d) (sym none) (RecordsAllOf-here _ _ _ d)
 
 pub add-requires-clause-fits : goal.add-requires-clause-fits
 add-requires-clause-fits g c =
@@ -41,7 +41,7 @@ add-requires-clause-fits g c =
     omega (arith, few, same, length-take c.finish-count.result c.deref.result.now)
 
 -- one block was left
-one_left : (g : Over) (c : After-add g) (past : SessionPast) (stands : RepresentsSession c.args.self past)
+one_left : (g : Over) (c : After-add g) (past : RecordingPast) (stands : RepresentsRecording c.args.self past)
     → rest_of past ≡ record { number = c.args.self.ring.next; payload = take c.finish-count.result c.deref.result.now } ∷ []
 one_left g c past stands =
     rest-one past c.finish-count.result c.args.self.ring.next (take c.finish-count.result c.deref.result.now)
@@ -50,10 +50,11 @@ one_left g c past stands =
     ∙ c.finish-count.ensures.last (stream_past past) (in_box c.deref_mut.ensures.value stands.stream) refl)
 
 -- and it was recorded as far as a call records it
-rest_recorded : (g : Over) (c : After-add g) (past : SessionPast) (stands : RepresentsSession c.args.self past)
-    → Records g.D.Deck.tells c.args.self.ring.header c.args.self.ring.next (rest_of past) (g.D.Deck.state c.args.deck.now) (g.D.Deck.state c.add.new.deck)
+rest_recorded : (g : Over) (c : After-add g) (past : RecordingPast) (stands : RepresentsRecording c.args.self past)
+    → RecordsFirstOf g.D.Deck.tells c.args.self.ring.header c.args.self.ring.next (rest_of past) (g.D.Deck.state c.args.deck.now)
+    (g.D.Deck.state c.add.new.deck)
 rest_recorded g c past stands =
-    subst (λ (l : List Block). Records g.D.Deck.tells c.args.self.ring.header c.args.self.ring.next l (g.D.Deck.state c.args.deck.now)
+    subst (λ (l : List Block). RecordsFirstOf g.D.Deck.tells c.args.self.ring.header c.args.self.ring.next l (g.D.Deck.state c.args.deck.now)
     (g.D.Deck.state c.add.new.deck)) (sym (one_left g c past stands)) c.add.ensures.records
 
 pub returns-in_err-ring-clause-records : goal.returns-in_err-ring-clause-records
@@ -86,7 +87,7 @@ returns-clause-records g c past stands = rest_recorded g (goal.at.returns-clause
 pub returns-clause-recorded : goal.returns-clause-recorded
 returns-clause-recorded g c past stands =
     let one = one_left g (goal.at.returns-clause-recorded g c).After-add past stands in
-    subst (λ (l : List Block). HasRecorded g.D.Deck.tells c.args.self.ring.header c.args.self.ring.next l (g.D.Deck.state c.args.deck.now)
+    subst (λ (l : List Block). RecordsAllOf g.D.Deck.tells c.args.self.ring.header c.args.self.ring.next l (g.D.Deck.state c.args.deck.now)
     (g.D.Deck.state c.add.new.deck)) (sym one) c.in_ok-ring.ensures.recorded
 
 pub returns-then-count-eq0-clause-all : goal.returns-then-count-eq0-clause-all

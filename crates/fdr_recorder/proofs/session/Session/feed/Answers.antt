@@ -4,19 +4,20 @@ use Rattle.fdr_io.specs.Faults.{Rose}
 use Rattle.fdr_slot.specs.declared.image.Header.{Header}
 use Rattle.fdr_recover.specs.Blocks.{Block}
 use Rattle.fdr_stream.specs.Blocks.{cut_block}
-use Rattle.fdr_recorder.specs.Recording.{Records, HasRecorded, HasEnded}
-use Rattle.fdr_recorder.specs.Past.{due, due_at, session_bytes, session_with_record, numbered_block, SessionPast, MayFeedSession, RepresentsSession}
+use Rattle.fdr_recorder.specs.Recording.{RecordsFirstOf, RecordsAllOf, HasEnded}
+use Rattle.fdr_recorder.specs.Past.{due_count, blocks_due_at, recorded_bytes, recording_with_record}
+use Rattle.fdr_recorder.specs.Past.{numbered_block, RecordingPast, MayFeedRecording, RepresentsRecording}
 use Rattle.fdr_io.proofs.OutputSteps.{failed_or_not}
 use Rattle.fdr_recorder.proofs.Ended.{ring_seq_end, ring_disk_fault, ring_only}
-use Rattle.fdr_recorder.proofs.Feeding.{IsFeeding-first, IsFeeding-step, MayStream-giving, Records-step, Records-due, block_is}
-use Rattle.fdr_recorder.proofs.Feeding.{in_box, stream-taken, number-taken, next-taken, Records-taken, HasRecorded-taken, HasEnded-due}
+use Rattle.fdr_recorder.proofs.Feeding.{IsFeeding-first, IsFeeding-step, MayStream-giving, RecordsFirstOf-step, RecordsFirstOf-due_count, block_is}
+use Rattle.fdr_recorder.proofs.Feeding.{in_box, stream-taken, number-taken, next-taken, RecordsFirstOf-taken, RecordsAllOf-taken, HasEnded-due_count}
 use Rattle.fdr_recorder.proofs.session.Session.feed.Given.{Over}
 use Rattle.fdr_recorder.proofs.session.Session.feed.Goals.{After-add}
 use Rattle.fdr_recorder.proofs.session.Session.feed.Goals as goal
 
 pub loop-ring-init : goal.loop-ring-init
 loop-ring-init g c = record {
-  feeding = λ past stands may. (None, due past, IsFeeding-first _ _ _ past _ _ _ (g.met.D.Deck.sound c.args.deck.now) c.requires.fact stands.stream);
+  feeding = λ past stands may. (None, due_count past, IsFeeding-first _ _ _ past _ _ _ (g.met.D.Deck.sound c.args.deck.now) c.requires.fact stands.stream);
   header = refl;
   fact = c.requires.fact;
   room = refl;
@@ -54,13 +55,13 @@ pub returns-in-Taken-clause-records : goal.returns-in-Taken-clause-records
 returns-in-Taken-clause-records g c past stands may =
     let at = c.loop-ring.invariant.feeding past stands may in
     let taken = c.in-Taken.ensures.taken _ (in_box c.deref_mut.ensures.value at.2.stands) (MayStream-giving past c.args.r.now at.0 at.1 may at.2.same) refl in
-    Records-taken _ _ _ past c.args.r.now _ _ _ _ at.0 at.1 at.2 _ taken
+    RecordsFirstOf-taken _ _ _ past c.args.r.now _ _ _ _ at.0 at.1 at.2 _ taken
 
 pub returns-in-Taken-clause-recorded : goal.returns-in-Taken-clause-recorded
 returns-in-Taken-clause-recorded g c past stands may =
     let at = c.loop-ring.invariant.feeding past stands may in
     let taken = c.in-Taken.ensures.taken _ (in_box c.deref_mut.ensures.value at.2.stands) (MayStream-giving past c.args.r.now at.0 at.1 may at.2.same) refl in
-    HasRecorded-taken _ _ _ past c.args.r.now _ _ _ _ at.0 at.1 at.2 _ taken
+    RecordsAllOf-taken _ _ _ past c.args.r.now _ _ _ _ at.0 at.1 at.2 _ taken
 
 pub returns-in-Taken-clause-room : goal.returns-in-Taken-clause-room
 returns-in-Taken-clause-room g c past stands may =
@@ -70,11 +71,11 @@ returns-in-Taken-clause-room g c past stands may =
     omega (arith, next, c.loop-ring.ring.bound)
 
 -- the block that is given is the next of those that are due, and it was recorded as far as a call records it
-block_given : (g : Over) (c : After-add g) (past : SessionPast) (stands : RepresentsSession c.args.self past) (may : MayFeedSession past c.args.r.now)
+block_given : (g : Over) (c : After-add g) (past : RecordingPast) (stands : RepresentsRecording c.args.self past) (may : MayFeedRecording past c.args.r.now)
     → let at = c.loop-ring.invariant.feeding past stands may in
     let b : Block = record { number = c.loop-ring.ring.next; payload = take c.header-payload.result.payload c.deref.result.now } in
-    (at.1 < due (session_with_record past c.args.r.now)) × (b ≡ numbered_block (session_with_record past c.args.r.now) at.1)
-    × Records g.D.Deck.tells c.args.self.ring.header c.loop-ring.ring.next (b ∷ []) (g.D.Deck.state c.loop-ring.deck) (g.D.Deck.state c.add.new.deck)
+    (at.1 < due_count (recording_with_record past c.args.r.now)) × (b ≡ numbered_block (recording_with_record past c.args.r.now) at.1)
+    × RecordsFirstOf g.D.Deck.tells c.args.self.ring.header c.loop-ring.ring.next (b ∷ []) (g.D.Deck.state c.loop-ring.deck) (g.D.Deck.state c.add.new.deck)
 block_given g c past stands may =
     let s = g.D.Deck.state in
     let r = c.args.r.now in
@@ -82,13 +83,14 @@ block_given g c past stands may =
     let stream = MayStream-giving past r at.0 at.1 may at.2.same in
     let payload : c.header-payload.result.payload ≡ past.header.payload = ap (λ (h : Header). h.payload)
     (c.header-payload.ensures.header ∙ c.loop-ring.invariant.header ∙ stands.header) in
-    let bytes : take c.header-payload.result.payload c.deref.result.now ≡ cut_block past.header.payload (session_bytes (session_with_record past r)) at.1 =
+    let bytes : take c.header-payload.result.payload c.deref.result.now ≡ cut_block past.header.payload (recorded_bytes (recording_with_record past r)) at.1 =
     ap (λ (l : List ℕ). take c.header-payload.result.payload l) c.deref.ensures ∙ ap (λ n. take n c.feed.new.out) payload
     ∙ c.in-Block.ensures.block _ (in_box c.deref_mut.ensures.value at.2.stands) stream refl in
     let b : Block = record { number = c.loop-ring.ring.next; payload = take c.header-payload.result.payload c.deref.result.now } in (
       (c.in-Block.ensures.exactly _ (in_box c.deref_mut.ensures.value at.2.stands) stream).0 refl,
       block_is past r c.args.self.ring.next c.loop-ring.ring.next at.1 _ stands.next at.2.number at.2.since bytes,
-      subst (λ (h : Header). Records g.D.Deck.tells h c.loop-ring.ring.next (b ∷ []) (s c.loop-ring.deck) (s c.add.new.deck)) c.loop-ring.invariant.header
+      subst (λ (h : Header). RecordsFirstOf g.D.Deck.tells h c.loop-ring.ring.next (b ∷ []) (s c.loop-ring.deck)
+          (s c.add.new.deck)) c.loop-ring.invariant.header
           c.add.ensures.records,
     )
 
@@ -97,8 +99,8 @@ returns-in_err-ring-in-Block-clause-records g c past stands may =
     let r = c.args.r.now in
     let at = c.loop-ring.invariant.feeding past stands may in
     let given = block_given g (goal.at.returns-in_err-ring-in-Block-clause-records g c).After-add past stands may in
-    Records-due _ _ _ past r (at.1 + 1) _ _ (omega (arith, given.0))
-    (Records-step _ _ _ past r _ _ _ _ _ at.0 at.1 (g.met.D.Deck.sound c.args.deck.now) stands.next at.2 _ given.1 given.2)
+    RecordsFirstOf-due_count _ _ _ past r (at.1 + 1) _ _ (omega (arith, given.0))
+    (RecordsFirstOf-step _ _ _ past r _ _ _ _ _ at.0 at.1 (g.met.D.Deck.sound c.args.deck.now) stands.next at.2 _ given.1 given.2)
 
 pub returns-in_err-ring-in-Block-clause-seq_end : goal.returns-in_err-ring-in-Block-clause-seq_end
 returns-in_err-ring-in-Block-clause-seq_end g c past stands may ends =
@@ -112,8 +114,8 @@ returns-in_err-ring-in-Block-clause-seq_end g c past stands may ends =
     let a = c.in_err-ring-in-Block.ensures in
     let p = err_from_is_err_and c.from_residual.result c.from_residual.ensures.1 in
     let why = ring_seq_end c.from_residual.result c.in_err-ring-in-Block.field-0.0 p.0 p.1 p.2 ends in
-    subst (λ deck. HasEnded t h first (due_at past r) old (g.D.Deck.state deck)) (sym (a.untouched why))
-    (HasEnded-due t h first past r _ c.loop-ring.ring.next old (g.D.Deck.state c.loop-ring.deck) at.0 at.1 at.2 (a.seq_end.0 why) more)
+    subst (λ deck. HasEnded t h first (blocks_due_at past r) old (g.D.Deck.state deck)) (sym (a.untouched why))
+    (HasEnded-due_count t h first past r _ c.loop-ring.ring.next old (g.D.Deck.state c.loop-ring.deck) at.0 at.1 at.2 (a.seq_end.0 why) more)
 
 pub returns-in_err-ring-in-Block-clause-cause : goal.returns-in_err-ring-in-Block-clause-cause
 returns-in_err-ring-in-Block-clause-cause g c fails =
@@ -145,8 +147,8 @@ loop-ring-preserved g c = record {
       let given = block_given g (goal.at.loop-ring-preserved g c).After-add past stands may in
       let b : Block = record { number = c.loop-ring.ring.next; payload = take c.header-payload.result.payload c.deref.result.now } in
       let ok = c.in_ok-ring-in-Block.ensures in
-      let recorded : HasRecorded g.D.Deck.tells c.args.self.ring.header c.loop-ring.ring.next (b ∷ []) (s c.loop-ring.deck) (s c.add.new.deck) =
-      subst (λ (h : Header). HasRecorded g.D.Deck.tells h c.loop-ring.ring.next (b ∷ []) (s c.loop-ring.deck)
+      let recorded : RecordsAllOf g.D.Deck.tells c.args.self.ring.header c.loop-ring.ring.next (b ∷ []) (s c.loop-ring.deck) (s c.add.new.deck) =
+      subst (λ (h : Header). RecordsAllOf g.D.Deck.tells h c.loop-ring.ring.next (b ∷ []) (s c.loop-ring.deck)
       (s c.add.new.deck)) c.loop-ring.invariant.header ok.recorded in (
         _,
         at.1 + 1,

@@ -1,7 +1,7 @@
 use Rattle.std.proofs.Common.{◌≡◌, ◌-◌, ◌^◌, ℕ, length, Option}
 use Rattle.fdr_bus.specs.declared.BusRecord.{BusRecord}
 use Rattle.fdr_ring.specs.Rings.{IsRing}
-use Rattle.fdr_recorder.specs.Past.{SessionPast, MayFeedSession, RepresentsSession}
+use Rattle.fdr_recorder.specs.Past.{RecordingPast, MayFeedRecording, RepresentsRecording}
 use Rattle.fdr_recorder.proofs.Feeding.{IsFeeding}
 use Rattle.fdr_recorder.proofs.session.Session.feed.Given as goal
 
@@ -11,7 +11,7 @@ invariant-loop-ring g l =
     let first = g.D.Deck.state l.fn.deck in
     let now = g.D.Deck.state l.deck in
     record {
-      feeding : (past : SessionPast) → RepresentsSession l.fn.self past → MayFeedSession past l.r →
+      feeding : (past : RecordingPast) → RepresentsRecording l.fn.self past → MayFeedRecording past l.r →
           (begun : Option BusRecord) ×
           (blocks : ℕ) × IsFeeding t l.fn.self.ring.header l.fn.self.ring.next past l.r l.stream.value l.ring.next first now begun blocks;
       header : l.ring.header ≡ l.fn.self.ring.header;

@@ -1,34 +1,31 @@
 use Rattle.std.proofs.Common.{◌≡◌, ◌∙◌, ◌+◌, ◌-◌, ℕ, List, length, ap, arith, refl, sym, subst}
 use Rattle.std.specs.Prelude.{IsTrue}
-use Rattle.fdr_deck.specs.Calls.{HasOneAnnounced, IsQuiet, Announces}
+use Rattle.fdr_deck.specs.Calls.{HasOneAnnounced, IsDiskWork, Announces}
 use Rattle.fdr_slot.specs.declared.image.Header.{Header}
 use Rattle.fdr_recover.specs.Images.{recovered_run, next_of}
-use Rattle.fdr_recover.specs.ImageHeader.{header_in}
-use Rattle.fdr_ring.specs.Closing.{shut}
+use Rattle.fdr_recover.specs.ImageHeader.{IsFor, header_in}
+use Rattle.fdr_ring.specs.Closing.{image_with_closed_gate}
 use Rattle.fdr_ring.specs.Gates.{gate_at}
 use Rattle.fdr_ring.specs.Runs.{last_blocks}
 use Rattle.fdr_ring.specs.Rings.{IsAttaching, OfSettled}
 use Rattle.fdr_table.specs.Rows.{FrameRow, TableRows}
 use Rattle.fdr_stream.specs.Past.{RepresentsStream}
-use Rattle.fdr_recorder.specs.Past.{due, started, stream_past}
+use Rattle.fdr_recorder.specs.Past.{due_count, past_at_start, stream_past}
 use Rattle.fdr_recorder.proofs.Adding.{IsSureRing-told}
 use Rattle.fdr_recorder.proofs.Feeding.{in_box}
-use Rattle.fdr_recorder.proofs.Starting.{Starts-looked, Starts-attached, Starts-announced, greatest-started, least-started, stream-started, next-started}
+use Rattle.fdr_recorder.proofs.Starting.{Starts-looked, Starts-attached, Starts-announced}
+use Rattle.fdr_recorder.proofs.Starting.{greatest-started, least-started, stream-started, next-started}
 use Rattle.fdr_recorder.proofs.session.Session.start.Given.{Over}
 use Rattle.fdr_recorder.proofs.session.Session.start.Goals.{After-attach}
 use Rattle.fdr_recorder.proofs.session.Session.start.Goals as goal
 
 pub returns-in_err-header-clause-starts : goal.returns-in_err-header-clause-starts
 returns-in_err-header-clause-starts g c =
-    Starts-looked _ _ _ _ (g.met.D.Deck.sound c.args.deck.now) c.read_image_header.ensures.quiet
-
-pub returns-then-header-words-clause-starts : goal.returns-then-header-words-clause-starts
-returns-then-header-words-clause-starts g c =
-    Starts-looked _ _ _ _ (g.met.D.Deck.sound c.args.deck.now) c.read_image_header.ensures.quiet
+    Starts-looked _ _ _ _ (g.met.D.Deck.sound c.args.deck.now) c.read_header_for.ensures.disk_work
 
 pub returns-in_err-stream-clause-starts : goal.returns-in_err-stream-clause-starts
 returns-in_err-stream-clause-starts g c =
-    Starts-looked _ _ _ _ (g.met.D.Deck.sound c.args.deck.now) c.read_image_header.ensures.quiet
+    Starts-looked _ _ _ _ (g.met.D.Deck.sound c.args.deck.now) c.read_header_for.ensures.disk_work
 
 -- where a stop can be, the header that was read is the image's
 same_header : (g : Over) (c : After-attach g) → IsTrue g.D.Deck.tells.stops → c.in_ok-header.header ≡ header_in (g.D.Deck.state c.args.deck.now).held
@@ -36,51 +33,53 @@ same_header g c stops = c.in_ok-header.ensures.read ((g.met.D.Deck.sound c.args.
 
 -- and the table has as many words
 same_words : (g : Over) (c : After-attach g) → c.in_ok-header.header.words ≡ c.args.sound.now.frame.words
-same_words g c = c.if-header-words.false ∙ ap (λ (f : FrameRow). f.words) (c.words.view_is ∙ c.frame.ensures ∙ ap (λ (t : TableRows). t.frame) c.table.ensures)
+same_words g c =
+    c.in_ok-header.ensures.for_words
+    ∙ ap (λ (f : FrameRow). f.words) (c.words.view_is ∙ c.frame.ensures ∙ ap (λ (t : TableRows). t.frame) c.table.ensures)
 
 -- the header was read
-header_read : (g : Over) (c : After-attach g) → HasOneAnnounced (g.D.Deck.state c.read_image_header.new.deck)
+header_read : (g : Over) (c : After-attach g) → HasOneAnnounced (g.D.Deck.state c.read_header_for.new.deck)
 header_read g c = (c.in_ok-header.ensures.succeeds (λ e. absurd (cc))).fresh
 
 -- and the ring was attached by it
 attaching : (g : Over) (c : After-attach g) → let s = g.D.Deck.state in
-    IsTrue g.D.Deck.tells.stops → IsQuiet g.D.Deck.tells (OfSettled (s c.read_image_header.new.deck) (IsAttaching (header_in (s c.args.deck.now).held)))
-    (s c.read_image_header.new.deck) (s c.attach.new.deck)
+    IsTrue g.D.Deck.tells.stops → IsDiskWork g.D.Deck.tells (OfSettled (s c.read_header_for.new.deck) (IsAttaching (header_in (s c.args.deck.now).held)))
+    (s c.read_header_for.new.deck) (s c.attach.new.deck)
 attaching g c stops =
-    let d1 = g.D.Deck.state c.read_image_header.new.deck in
-    subst (λ (h : Header). IsQuiet g.D.Deck.tells (OfSettled d1 (IsAttaching h)) d1 (g.D.Deck.state c.attach.new.deck)) (same_header g c stops)
-    c.attach.ensures.quiet
+    let d1 = g.D.Deck.state c.read_header_for.new.deck in
+    subst (λ (h : Header). IsDiskWork g.D.Deck.tells (OfSettled d1 (IsAttaching h)) d1 (g.D.Deck.state c.attach.new.deck)) (same_header g c stops)
+    c.attach.ensures.disk_work
 
 pub returns-in_err-stream-2-clause-starts : goal.returns-in_err-stream-2-clause-starts
 returns-in_err-stream-2-clause-starts g c =
-    Starts-looked _ _ _ _ (g.met.D.Deck.sound c.args.deck.now) c.read_image_header.ensures.quiet
+    Starts-looked _ _ _ _ (g.met.D.Deck.sound c.args.deck.now) c.read_header_for.ensures.disk_work
 
 pub returns-in_err-block-clause-starts : goal.returns-in_err-block-clause-starts
 returns-in_err-block-clause-starts g c =
-    Starts-looked _ _ _ _ (g.met.D.Deck.sound c.args.deck.now) c.read_image_header.ensures.quiet
+    Starts-looked _ _ _ _ (g.met.D.Deck.sound c.args.deck.now) c.read_header_for.ensures.disk_work
 
 pub returns-in_err-ring-clause-starts : goal.returns-in_err-ring-clause-starts
 returns-in_err-ring-clause-starts g c =
     let s = g.D.Deck.state in
     let at = (goal.at.returns-in_err-ring-clause-starts g c).After-attach in
-    let read = c.read_image_header.ensures in
-    Starts-attached g.D.Deck.tells _ _ _ (g.met.D.Deck.sound c.args.deck.now) read.quiet read.disk (header_read g at) (s c.attach.new.deck)
-    c.attach.ensures.quiet.passes (attaching g at)
+    let read = c.read_header_for.ensures in
+    Starts-attached g.D.Deck.tells _ _ _ (g.met.D.Deck.sound c.args.deck.now) read.disk_work read.disk (header_read g at) (s c.attach.new.deck)
+    c.attach.ensures.disk_work.passes (attaching g at)
 
 pub returns-clause-starts : goal.returns-clause-starts
 returns-clause-starts g c =
     let s = g.D.Deck.state in
     let is = g.met.D.Deck.sound c.args.deck.now in
-    let d1 = c.read_image_header.new.deck in
+    let d1 = c.read_header_for.new.deck in
     let d2 = c.attach.new.deck in
     let at = (goal.at.returns-clause-starts g c).After-attach in
-    let read = c.read_image_header.ensures in
+    let read = c.read_header_for.ensures in
     let ok = c.in_ok-ring.ensures in
-    Starts-announced g.D.Deck.tells _ _ _ is read.quiet read.disk (header_read g at) (s d2) c.attach.ensures.quiet.passes (attaching g at)
+    Starts-announced g.D.Deck.tells _ _ _ is read.disk_work read.disk (header_read g at) (s d2) c.attach.ensures.disk_work.passes (attaching g at)
     ok.succeeds.fresh c.next.result (s c.announce.new.self) c.announce.ensures.announces ok.settled
     (λ stops. subst (λ (h : Header). IsAttaching h (s d1).held (s d2).held) (same_header g at stops) (c.attach.ensures.keeps (is.stops_need_bytes stops)))
     (λ stops. c.next.ensures.number ∙ ok.next (is.stops_need_bytes stops) ∙ ap (λ (h : Header). next_of h (s d1).held) (same_header g at stops))
-    c.announce.ensures.disk c.announce.ensures.line c.announce.ensures.line_faults c.announce.ensures.time c.announce.ensures.moments
+    c.announce.ensures.disk c.announce.ensures.input c.announce.ensures.input_faults c.announce.ensures.time c.announce.ensures.moments
 
 pub returns-clause-started : goal.returns-clause-started
 returns-clause-started g c =
@@ -88,10 +87,10 @@ returns-clause-started g c =
     let s = g.D.Deck.state in
     let is = g.met.D.Deck.sound in
     let d0 = c.args.deck.now in
-    let d1 = c.read_image_header.new.deck in
+    let d1 = c.read_header_for.new.deck in
     let d2 = c.attach.new.deck in
     let d3 = c.announce.new.self in
-    let read = c.read_image_header.ensures in
+    let read = c.read_header_for.ensures in
     let ok = c.in_ok-ring.ensures in
     let table = c.args.sound.now in
     let h = c.in_ok-header.header in
@@ -110,33 +109,33 @@ returns-clause-started g c =
     record {
       stands = record {
         header = refl;
-        stream = in_box boxed.ensures (subst (λ (hh : Header). RepresentsStream k (stream_past (started table hh r.next))) (sym same)
+        stream = in_box boxed.ensures (subst (λ (hh : Header). RepresentsStream k (stream_past (past_at_start table hh r.next))) (sym same)
             (stream-started k table h.payload c.in_ok-stream.ensures));
-        next = subst (λ (hh : Header). r.next ≡ r.next + due (started table hh r.next)) (sym same)
+        next = subst (λ (hh : Header). r.next ≡ r.next + due_count (past_at_start table hh r.next)) (sym same)
             (next-started k table h.payload r.next c.in_ok-stream.ensures);
         room = omega (arith, ap (λ (hh : Header). hh.payload) same, c.in_ok-header.ensures.limits.most_payload, long);
       };
       words = ap (λ (hh : Header). hh.words) same ∙ words;
       header = λ told. same ∙ c.in_ok-header.ensures.read told;
       next = next;
-      held = λ told. held23 ∙ ok.held told ∙ ap (λ (l : List ℕ). shut (gate_at h (next_of h l)) l) held01
-          ∙ ap (λ (hh : Header). shut (gate_at hh (next_of hh (s d0).held)) (s d0).held) (sym same);
+      held = λ told. held23 ∙ ok.held told ∙ ap (λ (l : List ℕ). image_with_closed_gate (gate_at h (next_of h l)) l) held01
+          ∙ ap (λ (hh : Header). image_with_closed_gate (gate_at hh (next_of hh (s d0).held)) (s d0).held) (sym same);
       run = λ told. ap (λ (l : List ℕ). recovered_run r.header l) held23 ∙ ap (λ (hh : Header). recovered_run hh (s d2).held) same ∙ ok.run told
           ∙ ap (λ (l : List ℕ). last_blocks (h.slots - 1) (recovered_run h l)) held01
           ∙ ap (λ (hh : Header). last_blocks (hh.slots - 1) (recovered_run hh (s d0).held)) (sym same);
       fact = IsSureRing-told _ _ _ _ _ c.announce.ensures.disk ok.fact;
       settled = λ stops image left. ok.settled stops image (c.announce.ensures.disk.disk.no_more image left) ∙ sym held23;
-      told = announces.told;
-      greatest = greatest-started t h (s d0) (s d1) (is d0) read.quiet read.disk fresh (s d2) c.attach.ensures.quiet.passes
-          (λ stops. c.attach.ensures.quiet) ok.succeeds.fresh r.next (s d3) announces;
-      least = least-started t h (s d0) (s d1) (is d0) read.quiet read.disk fresh (s d2) c.attach.ensures.quiet.passes
-          (λ stops. c.attach.ensures.quiet) ok.succeeds.fresh r.next (s d3) announces;
+      announced = announces.announced;
+      greatest = greatest-started t h (s d0) (s d1) (is d0) read.disk_work read.disk fresh (s d2) c.attach.ensures.disk_work.passes
+          (λ stops. c.attach.ensures.disk_work) ok.succeeds.fresh r.next (s d3) announces;
+      least = least-started t h (s d0) (s d1) (is d0) read.disk_work read.disk fresh (s d2) c.attach.ensures.disk_work.passes
+          (λ stops. c.attach.ensures.disk_work) ok.succeeds.fresh r.next (s d3) announces;
     }
 
 pub returns-clause-learns : goal.returns-clause-learns
 returns-clause-learns g c =
     let same = c.announce.ensures.disk.extent ∙ c.attach.ensures.extent in
-    let learns = c.read_image_header.ensures.learns in
+    let learns = c.read_header_for.ensures.learns in
     record {
       bytes = λ told. same ∙ learns.bytes told;
       stops = λ told. same ∙ learns.stops told;
@@ -147,11 +146,11 @@ pub returns-clause-rest : goal.returns-clause-rest
 returns-clause-rest g c =
     let then = g.met.D.Deck.rest_then c.args.deck.now in
     then c.attach.new.deck c.announce.new.self
-    (then c.read_image_header.new.deck c.attach.new.deck c.read_image_header.ensures.rest c.attach.ensures.rest) c.announce.ensures.rest
+    (then c.read_header_for.new.deck c.attach.new.deck c.read_header_for.ensures.rest c.attach.ensures.rest) c.announce.ensures.rest
 
 pub returns-in_err-ring-clause-learns : goal.returns-in_err-ring-clause-learns
 returns-in_err-ring-clause-learns g c =
-    let learns = c.read_image_header.ensures.learns in
+    let learns = c.read_header_for.ensures.learns in
     record {
       bytes = λ told. c.attach.ensures.extent ∙ learns.bytes told;
       stops = λ told. c.attach.ensures.extent ∙ learns.stops told;
@@ -160,14 +159,12 @@ returns-in_err-ring-clause-learns g c =
 
 pub returns-in_err-ring-clause-rest : goal.returns-in_err-ring-clause-rest
 returns-in_err-ring-clause-rest g c =
-    g.met.D.Deck.rest_then c.args.deck.now c.read_image_header.new.deck c.attach.new.deck c.read_image_header.ensures.rest c.attach.ensures.rest
+    g.met.D.Deck.rest_then c.args.deck.now c.read_header_for.new.deck c.attach.new.deck c.read_header_for.ensures.rest c.attach.ensures.rest
 
 pub returns-clause-good : goal.returns-clause-good
-returns-clause-good g c told = record {
-  no_fault = c.in_ok-header.ensures.good told;
-  words = ap (λ (h : Header). h.words) (sym (c.in_ok-header.ensures.read told)) ∙ same_words g (goal.at.returns-clause-good g c).After-attach;
-}
+returns-clause-good g c told = subst (λ (n : ℕ). IsFor n (g.D.Deck.state c.args.deck.now).held)
+    (sym c.in_ok-header.ensures.for_words ∙ same_words g (goal.at.returns-clause-good g c).After-attach) (c.in_ok-header.ensures.good told)
 
-pub returns-clause-quiet : goal.returns-clause-quiet
-returns-clause-quiet g c ok =
+pub returns-clause-no_fault : goal.returns-clause-no_fault
+returns-clause-no_fault g c ok =
     c.announce.ensures.disk.disk_faults ∙ c.in_ok-ring.ensures.succeeds.disk_faults ∙ (c.in_ok-header.ensures.succeeds (λ e. absurd (cc))).disk_faults

@@ -1,7 +1,7 @@
 use Rattle.std.proofs.Common.{◌∙◌, [], ◌∷◌, ℕ, ap, arith}
 use Rattle.std.specs.Prelude.{IsTrue}
 use Rattle.fdr_deck.specs.Disk.{patched}
-use Rattle.fdr_deck.specs.Calls.{IsQuiet}
+use Rattle.fdr_deck.specs.Calls.{IsDiskWork}
 use Rattle.fdr_slot.proofs.HeaderLemmas.{in_limits-is}
 use Rattle.fdr_ring.specs.Rings.{IsCommitting, OfSettled}
 use Rattle.fdr_ring.proofs.Committed.{committing_deck, committing_quiet, committed, committed_ring}
@@ -19,23 +19,23 @@ keeps g c told =
 
 -- and the moments until then
 quiet : (g : Over) (c : After-open_gate g) → let old = g.D.Deck.state c.args.deck.now in
-    IsQuiet g.D.Deck.tells (OfSettled old (IsCommitting c.args.self.header c.args.self.next)) old (g.D.Deck.state c.open_gate.new.deck)
+    IsDiskWork g.D.Deck.tells (OfSettled old (IsCommitting c.args.self.header c.args.self.next)) old (g.D.Deck.state c.open_gate.new.deck)
 quiet g c =
     committing_quiet _ _ _ _ _ _ (in_limits-is c.args.self.header c.args.self.limits)
     (g.met.D.Deck.sound c.args.deck.now) c.requires c.gate_at.ensures.at
-    c.open_gate.ensures.quiet
+    c.open_gate.ensures.disk_work
 
 pub returns-in_err-open_gate-clause-keeps : goal.returns-in_err-open_gate-clause-keeps
 returns-in_err-open_gate-clause-keeps g c = keeps g (goal.at.returns-in_err-open_gate-clause-keeps g c).After-open_gate
 
-pub returns-in_err-open_gate-clause-quiet : goal.returns-in_err-open_gate-clause-quiet
-returns-in_err-open_gate-clause-quiet g c = quiet g (goal.at.returns-in_err-open_gate-clause-quiet g c).After-open_gate
+pub returns-in_err-open_gate-clause-disk_work : goal.returns-in_err-open_gate-clause-disk_work
+returns-in_err-open_gate-clause-disk_work g c = quiet g (goal.at.returns-in_err-open_gate-clause-disk_work g c).After-open_gate
 
 pub returns-clause-keeps : goal.returns-clause-keeps
 returns-clause-keeps g c = keeps g (goal.at.returns-clause-keeps g c).After-open_gate
 
-pub returns-clause-quiet : goal.returns-clause-quiet
-returns-clause-quiet g c = quiet g (goal.at.returns-clause-quiet g c).After-open_gate
+pub returns-clause-disk_work : goal.returns-clause-disk_work
+returns-clause-disk_work g c = quiet g (goal.at.returns-clause-disk_work g c).After-open_gate
 
 pub returns-clause-held : goal.returns-clause-held
 returns-clause-held g c told =

@@ -1,16 +1,17 @@
-use Rattle.std.proofs.Common.{◌≡◌, ◌+◌, ap, ◌∙◌, subst, length, arith}
-use Rattle.std.specs.Prelude.{slice_get, slice_index, slice_set}
+use Rattle.std.proofs.Common.{◌≡◌, ◌+◌, ap, ◌∙◌, subst, length, None, arith}
+use Rattle.std.specs.Prelude.{slice_get, slice_index, slice_index_or, slice_set}
 use Rattle.std.proofs.lemmas.Bool.{both_ways}
 use Rattle.std.proofs.lemmas.List.{get_or_default}
 use Rattle.fdr_bus.specs.Words.{is_odd, sdi_of}
-use Rattle.fdr_sampler.specs.HeldWords.{HeldNumbers, held_numbers, AreHeldWords}
-use Rattle.fdr_sampler.specs.Kept.{number_held_after}
-use Rattle.fdr_sampler.proofs.Holding.{Begins, holds}
+use Rattle.fdr_sampler.specs.HeldWords.{HeldBySource, held_by_source, AreHeldWords}
+use Rattle.fdr_sampler.specs.Kept.{held_word_after}
+use Rattle.fdr_sampler.proofs.Holding.{Begins, odd_kept, holds}
+use Rattle.fdr_sampler.specs.declared.timed_word.TimedWord.{TimedWord}
 use Rattle.fdr_sampler.proofs.held_words.HeldWords.hold.Goals as goal
 use Rattle.fdr_sampler.proofs.held_words.HeldWords.hold.Goals.{then-is_odd, else-is_odd}
 
-pub returns-clause-numbers : goal.returns-clause-numbers
-returns-clause-numbers c = λ n s got.
+pub returns-clause-words : goal.returns-clause-words
+returns-clause-words c = λ n s got.
     let inside = c.self.inside in
     let r = c.args.r.now in
     let starts = inside.starts.items in
@@ -29,9 +30,10 @@ returns-clause-numbers c = λ n s got.
       }
     ] in
     let sdi : c.from.result ≡ sdi_of r.word = c.from.ensures ∙ c.sdi.ensures.value in
-    subst (λ (h : HeldNumbers). slice_index (held_numbers held
-    (slice_set (slice_set inside.words.items (c.if-is_odd.start + c.from.result) r.word) (c.if-is_odd.start + 4) r.word)).numbers n
-    ≡ number_held_after s r (slice_index h.numbers n)) c.self.view_is
-    (holds held starts inside.words.items r c.if-is_odd.start c.from.result
-    (subst (AreHeldWords held starts) len c.self.invariant) begin c.requires
-    (omega (arith, sdi, c.sdi.ensures.two_bits)) sdi n s (ap (λ (h : HeldNumbers). slice_get h.sources n) c.self.view_is ∙ got))
+    let new : TimedWord = record { word = r.word; time = r.time } in
+    subst (λ (h : HeldBySource). slice_index_or (held_by_source held
+    (slice_set (slice_set inside.words.items (c.if-is_odd.start + c.from.result) new) (c.if-is_odd.start + 4) new)).words n None
+    ≡ held_word_after s r (slice_index_or h.words n None)) c.self.view_is
+    (holds held starts inside.words.items r new c.if-is_odd.start c.from.result
+    (subst (AreHeldWords held starts) len c.self.invariant) begin c.requires (odd_kept r)
+    (omega (arith, sdi, c.sdi.ensures.two_bits)) sdi n s (ap (λ (h : HeldBySource). slice_get h.sources n) c.self.view_is ∙ got))

@@ -1,11 +1,12 @@
-use Rattle.std.proofs.Common.{◌≡◌, ℕ, ◌+◌, ◌<◌, List, sym, ap, ◌∙◌, subst, length, map, get_or, replicate, refl, arith}
+use Rattle.std.proofs.Common.{◌≡◌, ℕ, ◌+◌, ◌<◌, List, sym, ap, ◌∙◌, subst, length, map, get_or, replicate, Option, None, refl, arith}
 use Rattle.std.specs.Prelude.{slice_index}
 use Rattle.std.specs.Vec.{with_items}
 use Rattle.std.proofs.lemmas.List.{get_or_default, length-map, length-replicate, take_all, with_items_is}
 use Rattle.fdr_sampler.specs.declared.held_words.HeldSource.{HeldSource}
-use Rattle.fdr_sampler.specs.Held.{source_of}
-use Rattle.fdr_sampler.specs.HeldWords.{AreLabelStarts, HasWord, AreHeldWords}
-use Rattle.fdr_sampler.proofs.Beginning.{starts_none, words_none, words_more, sources_more, numbers_none}
+use Rattle.fdr_sampler.specs.Held.{HeldWord, source_of}
+use Rattle.fdr_sampler.specs.HeldWords.{no_word, AreLabelStarts, HasWord, AreHeldWords}
+use Rattle.fdr_sampler.specs.declared.timed_word.TimedWord.{TimedWord}
+use Rattle.fdr_sampler.proofs.Beginning.{starts_none, words_none, words_more, sources_more, none_held}
 use Rattle.fdr_sampler.proofs.held_words.HeldWords.of.Goals as goal
 use Rattle.fdr_sampler.proofs.held_words.HeldWords.of.Goals.{After-own_word}
 
@@ -80,16 +81,17 @@ loop-param-preserved c =
 
 pub invariant_of-result : goal.invariant_of-result
 invariant_of-result c =
-    let count : c.in_ok-words.words.len ≡ c.loop-param.end = omega (arith, ap length c.in_ok-words.ensures, length-replicate {A = ℕ} c.loop-param.end 0) in
+    let count : c.in_ok-words.words.len ≡ c.loop-param.end =
+    omega (arith, ap length c.in_ok-words.ensures, length-replicate {A = TimedWord} c.loop-param.end no_word) in
     subst (λ n. AreHeldWords c.loop-param.sources.items c.loop-param.starts.items n) (sym count) c.loop-param.invariant.are
 
 pub returns-clause-sources : goal.returns-clause-sources
 returns-clause-sources c =
     c.loop-param.invariant.sources ∙ ap (map source_of) (take_all c.loop-param.param-index c.args.params.now (omega (arith, c.loop-param-test.false)))
 
-pub returns-clause-numbers : goal.returns-clause-numbers
-returns-clause-numbers c =
+pub returns-clause-words : goal.returns-clause-words
+returns-clause-words c =
     let held = c.loop-param.sources.items in
     let count : length held ≡ length c.args.params.now =
     sym (length-map held (λ (h : HeldSource). h.source)) ∙ ap length (returns-clause-sources c) ∙ length-map c.args.params.now source_of in
-    numbers_none _ _ c.in_ok-words.ensures held ∙ ap (λ n. replicate {A = ℕ} n 0) count
+    none_held _ _ c.in_ok-words.ensures held ∙ ap (λ n. replicate {A = Option HeldWord} n None) count

@@ -7,7 +7,7 @@ use Rattle.fdr_sampler.specs.Past.{RepresentsSampler, sampler_with_words}
 use Rattle.fdr_sampler.proofs.EmptyRuns.{Stands-empty, run_rest, words_empty}
 use Rattle.fdr_sampler.proofs.sampler.Sampler.draw_empty.Goals as goal
 
--- so many slots are empty
+-- this many slots are empty
 run : (c : goal.After-self-2-1)
     → HasEmptyRun c.self.inside.frame c.self.inside.schedule (slot_within c.self.inside.frame.words c.self.inside.drawn) c.min-count.result
 run c = λ j less. c.self.invariant.2.slots j (omega (arith, less, c.min-count.ensures))

@@ -1,7 +1,8 @@
-use Rattle.std.proofs.Common.{◌≡◌, ℕ, List, length, refl, sym, subst, arith}
+use Rattle.std.proofs.Common.{◌≡◌, ℕ, List, length, refl, sym, ap, subst, arith}
 use Rattle.std.proofs.lemmas.List.{with_items_is}
-use Rattle.fdr_sampler.specs.Kept.{SamplerKept, slot_parts, HaveValues, IsDrawn}
+use Rattle.fdr_sampler.specs.Kept.{SamplerKept, raw_number_at, slot_parts, HaveValues, IsDrawn}
 use Rattle.fdr_sampler.specs.View.{sampler_kept}
+use Rattle.fdr_table.specs.Rows.{FrameRow}
 use Rattle.fdr_sampler.specs.Past.{RepresentsSampler}
 use Rattle.fdr_sampler.proofs.Standing.{DrawsData, slot_word-stands, Stands-next}
 use Rattle.fdr_sampler.proofs.sampler.Sampler.next_word.Goals as goal
@@ -12,12 +13,15 @@ draws c =
     let slot = c.slot_within-slot.result in
     let plain = c.data_word-plain.result in
     let after = c.data_word-plain.new.raws in
-    let Draws : List ℕ → Type 0 = λ raws. (value : ℕ → ℕ) → HaveValues value inside.schedule slot inside.held.numbers raws
+    let Draws : ℕ → List ℕ → Type 0 = λ w raws. (value : ℕ → ℕ)
+    → HaveValues value inside.schedule slot (raw_number_at w inside.drawn inside.held.sources inside.held.words) raws
     → IsDrawn value (slot_parts inside.schedule slot) raws after plain in
+    let words = ap (λ (f : FrameRow). f.words) c.frame.view_is in
     record {
       slot_is = c.slot_within-slot.ensures.slot;
       below = c.slot_within-slot.ensures.below;
-      drawn = subst Draws c.deref_mut.ensures.value c.data_word-plain.ensures.drawn;
+      drawn = subst (λ w. Draws w inside.raws.items) words
+          (subst (Draws c.frame.inside.words) c.deref_mut.ensures.value c.data_word-plain.ensures.drawn);
     }
 
 pub returns-clause-word : goal.returns-clause-word

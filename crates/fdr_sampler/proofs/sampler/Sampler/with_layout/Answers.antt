@@ -1,4 +1,4 @@
-use Rattle.std.proofs.Common.{◌≡◌, ◌*◌, ◌<◌, ◌∙◌, length, sym, ap, subst, arith}
+use Rattle.std.proofs.Common.{◌≡◌, ◌*◌, ◌<◌, ◌∙◌, length, None, sym, ap, subst, arith}
 use Rattle.std.specs.List.{All}
 use Rattle.std.proofs.lemmas.List.{length-map, length-replicate}
 use Rattle.fdr_layout.specs.Samples.{Sample}
@@ -22,7 +22,7 @@ invariant_of-result c =
         slots = subst (λ (l : Laid). length l.slots ≡ 64 * c.args.frame.words) laid c.requires.slots;
         params = subst (λ (l : Laid). All (λ (s : Sample). s.param < length c.in_ok-held.held.sources) l.samples) laid
             (subst (λ n. All (λ (s : Sample). s.param < n) c.args.layout.samples) (sym sources) c.requires.params);
-        held = ap length c.in_ok-held.ensures.numbers ∙ length-replicate (length params) 0 ∙ sym sources;
+        held = ap length c.in_ok-held.ensures.words ∙ length-replicate (length params) None ∙ sym sources;
         raws = ap length c.in_ok-raws.ensures ∙ length-replicate c.samples.result 0 ∙ c.samples.ensures ∙ ap (λ (l : Laid). length l.samples) laid;
         drawn = omega arith;
       },

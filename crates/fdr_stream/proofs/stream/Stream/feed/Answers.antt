@@ -54,7 +54,7 @@ returns-then-slots_at-self-clause-taken c past st may given =
 not_full : (b : Bool) (payload waiting : ℕ) → (IsTrue b ↔ (payload ≤ waiting)) → b ≡ false → waiting < payload
 not_full b payload waiting says missed = ⊎_elim (λ lt. lt) (λ ge. absurd (iff_false says missed ge)) (cases_lt waiting payload)
 
--- a record finds the slots before it drawn, but for some empty ones
+-- a record finds the slots before it drawn, except some empty ones
 fed : (k old : StreamKept) (past : StreamPast) (r : BusRecord) → k ≡ old → RepresentsStream old past → MayFeedStream past r → IsDrawing k past r.time
 fed k old past r is st may = IsDrawing-fed k past r (subst (λ (x : StreamKept). RepresentsStream x past) (sym is) st) may
 

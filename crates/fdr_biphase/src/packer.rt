@@ -1,0 +1,55 @@
+//! Bits as bytes.
+
+ghost use Rattle.std.specs.Prelude.{◌≡◌, ◌+◌, ◌≤◌, ◌++◌, ◌∷◌, [], ℕ, Bool, List, IsSome, None};
+ghost use Rattle.fdr_biphase.specs.Packed.{answered_byte, bytes_of_bits};
+ghost use Rattle.fdr_biphase.specs.Reading.{RepresentsPacker};
+
+/// Packs bits into bytes. In each the first bit is the least significant.
+#[derive(Drop)]
+pub struct BitPacker {
+    // The bits that fill no byte yet, and how many they are.
+    byte: u8,
+    count: u8,
+}
+
+impl BitPacker {
+    /// A packer to which no bit came.
+    pub fn new() -> BitPacker
+        ensures stands { RepresentsPacker result [] [] }
+        ensures empty { result.count ≡ 0 }
+        ensures zero { result.byte ≡ 0 }
+    {
+        BitPacker { byte: 0, count: 0 }
+    }
+
+    /// Takes the next bit, and answers the byte that it completes, if it completes one.
+    pub fn push(&mut self, bit: bool) -> Option<u8>
+        requires { (bits : List Bool) × (bytes : List ℕ) × RepresentsPacker self.old bits bytes }
+        ensures stands { (bits : List Bool) (bytes : List ℕ) → RepresentsPacker self.old bits bytes
+            → RepresentsPacker self.new (bits ++ bit ∷ []) (bytes ++ answered_byte result) }
+        ensures completes { IsSome result → self.old.count ≡ 7 }
+        ensures count { self.new.count ≤ self.old.count + 1 }
+        ensures emptied { IsSome result → self.new.count ≡ 0 }
+    {
+        let byte = self.byte + (u8::from(bit) << self.count);
+        if self.count == 7 {
+            *self = BitPacker::new();
+            return Some(byte);
+        }
+        self.byte = byte;
+        self.count += 1;
+        None
+    }
+
+    /// The byte that the last bits fill together with zero bits, if there are any that fill no byte.
+    pub fn finish(&self) -> Option<u8>
+        ensures all { (bits : List Bool) (bytes : List ℕ) → RepresentsPacker self.now bits bytes
+            → bytes_of_bits bits ≡ bytes ++ answered_byte result }
+        ensures none { self.now.count ≡ 0 → result ≡ None }
+    {
+        if self.count == 0 {
+            return None;
+        }
+        Some(self.byte)
+    }
+}

@@ -1,0 +1,118 @@
+//! Worked lines of bits and of levels.
+
+use crate::lines::frame;
+use fdr_cases::{answer, words_of};
+use fdr_deck::MemDeck;
+use fdr_io::{Input, MemSink, MemSource};
+use fdr_top::Outcome;
+use std::alloc::Global;
+use std::test::Fail;
+
+/// What a command without a table answers and writes of a line, where the listed pulls and writes fail.
+fn run_on(
+    alloc: Global,
+    command: &str,
+    line: &[u8],
+    pulls: &[u64],
+    writes: &[u64],
+) -> Result<(Outcome, Vec<u8>), Fail> {
+    let words = words_of(alloc, &[command])?;
+    let mut table = MemSource::new(Vec::new(alloc), Vec::new(alloc));
+    let mut deck = MemDeck::new(
+        alloc,
+        Vec::new(alloc),
+        line.to_vec(alloc)?,
+        pulls.to_vec(alloc)?,
+    );
+    let mut out = MemSink::new(alloc, writes.to_vec(alloc)?);
+    let given = answer(alloc, &words, &mut table, &mut deck, &mut out);
+    Ok((given, out.bytes().to_vec(alloc)?))
+}
+
+#[test]
+fn codes_worked_lines(rt: HostRuntime) -> Result<(), Fail> {
+    let cases: [(&str, &str, &[u8], Outcome, &[u8]); 10] = [
+        (
+            "a byte's levels",
+            "encode",
+            &[0x47],
+            Outcome::Done,
+            &[0xd5, 0x2c],
+        ),
+        ("no bytes", "encode", &[], Outcome::Done, &[]),
+        (
+            "a byte's bits",
+            "decode",
+            &[0xd5, 0x2c],
+            Outcome::Done,
+            &[0x47],
+        ),
+        (
+            "levels turned",
+            "decode",
+            &[0x2a, 0xd3],
+            Outcome::Done,
+            &[0x47],
+        ),
+        (
+            "from the middle of a cell",
+            "decode",
+            &[0x6a, 0x96],
+            Outcome::Done,
+            &[0x23],
+        ),
+        (
+            "a missing transition",
+            "decode",
+            &[0x6a, 0x16],
+            Outcome::CellFault { at: 15 },
+            &[0x23],
+        ),
+        (
+            "levels after the missing one",
+            "decode",
+            &[0x6a, 0x16, 0xd5, 0x2c],
+            Outcome::CellFault { at: 15 },
+            &[0x23],
+        ),
+        ("both phases fit", "decode", &[0x55], Outcome::Done, &[0x0f]),
+        ("no levels", "decode", &[], Outcome::Done, &[]),
+        (
+            "no transition at all",
+            "decode",
+            &[0x00],
+            Outcome::CellFault { at: 2 },
+            &[0x00],
+        ),
+    ];
+    for (shows, command, line, outcome, written) in cases {
+        let given = run_on(rt.alloc(), command, line, &[], &[])?;
+        assert_eq!(rt; given.0, outcome, "{shows}");
+        assert_eq!(rt; given.1.as_slice(), written, "{shows}");
+    }
+    Ok(())
+}
+
+#[test]
+fn decodes_what_was_encoded(rt: HostRuntime) -> Result<(), Fail> {
+    let line = frame(0, 5);
+    let levels = run_on(rt.alloc(), "encode", &line, &[], &[])?;
+    assert_eq!(rt; levels.0, Outcome::Done);
+    assert_eq!(rt; levels.1.len(), 768);
+    let bits = run_on(rt.alloc(), "decode", &levels.1, &[], &[])?;
+    assert_eq!(rt; bits.0, Outcome::Done);
+    assert_eq!(rt; bits.1.as_slice(), line.as_slice());
+    Ok(())
+}
+
+#[test]
+fn answers_faults_of_the_line_and_the_sink(rt: HostRuntime) -> Result<(), Fail> {
+    for (command, line) in [("encode", [0x47, 0x47]), ("decode", [0xd5, 0x2c])] {
+        let failed = run_on(rt.alloc(), command, &line, &[0], &[])?;
+        assert_eq!(rt; failed.0, Outcome::ReadFault(Input::Line), "{command}");
+        assert_eq!(rt; failed.1.as_slice(), b"".as_slice(), "{command}");
+        let cut = run_on(rt.alloc(), command, &line, &[], &[0])?;
+        assert_eq!(rt; cut.0, Outcome::WriteFault, "{command}");
+    }
+    Ok(())
+}

@@ -1,0 +1,9 @@
+pub mod RuleRecords
+pub mod RuleChecks
+pub mod Greatests
+pub mod Falling
+pub mod Windows
+pub mod HitLists
+pub mod Stepping
+pub mod Standing
+pub mod LineLengths

@@ -1,0 +1,117 @@
+-- A watch represents the steps that were given and the lines that were taken.
+use Rattle.std.proofs.Common.{◌≡◌, ◌∙◌, ap, sym, refl, subst, ℕ, ◌+◌, ◌<◌, ◌≤◌, List, [], ◌∷◌, ◌++◌, length, map, drop, Option, Some, None, arith}
+use Rattle.std.proofs.Common.{length-append, length-drop}
+use Rattle.std.specs.Prelude.{All, slice_get, option_map}
+use Rattle.std.specs.Option.{option_to_list}
+use Rattle.std.proofs.Math.Seq.{drop-append_seam}
+use Rattle.std.proofs.lemmas.List.{drop-drop}
+use Rattle.std.proofs.lemmas.Option.{get_or_from_slice_get, slice_get_within}
+use Rattle.circular_buffer.proofs.Places.{slice_get-drop}
+use Rattle.fdr_exceed.specs.declared.rule.Rule.{Rule}
+use Rattle.fdr_exceed.specs.declared.hits.Hits.{Hits}
+use Rattle.fdr_exceed.specs.declared.watch.Exceedance.{Exceedance}
+use Rattle.fdr_exceed.specs.Exceedances.{WatchStep, exceedances}
+use Rattle.fdr_exceed.specs.Watching.{AreHits, RepresentsWatch, WatchKept, line_due, due_to}
+use Rattle.fdr_exceed.proofs.Stepping.{due-lines, exceedances-push, lines_of_step}
+
+kept_hits : (w next : WatchKept) (steps : List WatchStep) → next.rules ≡ w.rules → next.hits ≡ w.hits → AreHits w.rules steps w.hits
+    → AreHits next.rules steps next.hits
+kept_hits w next steps rules hits are =
+    subst (λ (rs : List Rule). AreHits rs steps next.hits) (sym rules) (subst (AreHits w.rules steps) (sym hits) are)
+
+no_exceedances : (rules : List Rule) → exceedances rules [] ≡ []
+unfolding exceedances
+no_exceedances rules = refl
+
+-- before the first step
+pub stands-first : (w : WatchKept) → AreHits w.rules [] w.hits → w.due ≡ [] → RepresentsWatch w [] 0
+stands-first w hits due = record {
+  hits = hits;
+  due = ap (map (line_due w.rules)) due ∙ sym (no_exceedances w.rules);
+  within = omega arith;
+}
+
+all_taken : (lines : List (List ℕ)) (taken : ℕ) → [] ≡ drop taken lines → taken ≤ length lines → taken ≡ length lines
+all_taken lines taken nothing within =
+    let none : length (drop taken lines) ≡ 0 = ap (length {A = List ℕ}) (sym nothing) in
+    omega (arith, length-drop taken lines, none, within)
+
+-- a step more, where no line was due
+pub stands-step : (w next : WatchKept) (steps : List WatchStep) (s : WatchStep) (taken : ℕ) → RepresentsWatch w steps taken → w.due ≡ []
+    → next.rules ≡ w.rules
+    → AreHits w.rules (steps ++ s ∷ []) next.hits → next.due ≡ due_to w.rules steps s (length w.rules) → RepresentsWatch next (steps ++ s ∷ []) taken
+stands-step w next steps s taken stands nothing rules hits due =
+    let before = exceedances w.rules steps in
+    let lines = lines_of_step w.rules steps s in
+    let all : exceedances next.rules (steps ++ s ∷ []) ≡ before ++ lines =
+    ap (λ (rs : List Rule). exceedances rs (steps ++ s ∷ [])) rules ∙ exceedances-push w.rules steps s in
+    let count : taken ≡ length before = all_taken before taken (ap (map (line_due w.rules)) (sym nothing) ∙ stands.due) stands.within in
+    record {
+      hits = subst (λ (rs : List Rule). AreHits rs (steps ++ s ∷ []) next.hits) (sym rules) hits;
+      due = ap (λ (rs : List Rule). map (line_due rs) next.due) rules ∙ ap (map (line_due w.rules)) due ∙ due-lines w.rules steps s
+          ∙ sym (ap (drop taken) all ∙ ap (λ n. drop n (before ++ lines)) count ∙ drop-append_seam before lines);
+      within = omega (arith, count, ap (length {A = List ℕ}) all, length-append before lines);
+    }
+
+-- the line that comes next is the first of those that weren't taken
+first_left : (lines : List (List ℕ)) (taken : ℕ) → slice_get (drop taken lines) 0 ≡ slice_get lines taken
+first_left lines taken = slice_get-drop taken lines 0 taken (omega arith)
+
+-- what a watch has taken once more
+pub record TakesInput (w next : WatchKept) (steps : List WatchStep) (taken : ℕ) (line : Option (List ℕ)) : Type 0 where
+  pub here : line ≡ slice_get (exceedances w.rules steps) taken
+  pub stands : RepresentsWatch next steps (taken + length (option_to_list line))
+
+takes_by : (w next : WatchKept) (steps : List WatchStep) (taken : ℕ) (due : List Exceedance) → RepresentsWatch w steps taken → w.due ≡ due
+    → next.rules ≡ w.rules
+    → next.hits ≡ w.hits → next.due ≡ drop 1 due → TakesInput w next steps taken (option_map (line_due w.rules) (slice_get due 0))
+takes_by w next steps taken [] stands due_is rules hits left =
+    let lines = exceedances w.rules steps in
+    let nothing : drop taken lines ≡ [] = sym stands.due ∙ ap (map (line_due w.rules)) due_is in
+    let same : taken + length (option_to_list {X = List ℕ} None) ≡ taken = omega arith in
+    record {
+      here = sym (ap (λ (xs : List (List ℕ)). slice_get xs 0) nothing) ∙ first_left lines taken;
+      stands = subst (RepresentsWatch next steps) (sym same) (record {
+        hits = kept_hits w next steps rules hits stands.hits;
+        due = ap (λ (rs : List Rule). map (line_due rs) next.due) rules ∙ ap (map (line_due w.rules)) left ∙ sym nothing
+            ∙ ap (λ (rs : List Rule). drop taken (exceedances rs steps)) (sym rules);
+        within = subst (λ (rs : List Rule). taken ≤ length (exceedances rs steps)) (sym rules) stands.within;
+      });
+    }
+takes_by w next steps taken (e ∷ rest) stands due_is rules hits left =
+    let lines = exceedances w.rules steps in
+    let some : drop taken lines ≡ line_due w.rules e ∷ map (line_due w.rules) rest = sym stands.due ∙ ap (map (line_due w.rules)) due_is in
+    let more : length (drop taken lines) ≡ 1 + length (map (line_due w.rules) rest) = omega (arith, ap (length {A = List ℕ}) some) in
+    record {
+      here = sym (ap (λ (xs : List (List ℕ)). slice_get xs 0) some) ∙ first_left lines taken;
+      stands = record {
+        hits = kept_hits w next steps rules hits stands.hits;
+        due = ap (λ (rs : List Rule). map (line_due rs) next.due) rules ∙ ap (map (line_due w.rules)) left
+            ∙ sym (ap (drop 1) some) ∙ drop-drop 1 taken lines
+            ∙ ap (λ (rs : List Rule). drop (taken + 1) (exceedances rs steps)) (sym rules);
+        within = subst (λ (rs : List Rule). taken + 1 ≤ length (exceedances rs steps)) (sym rules) (omega (arith, length-drop taken lines, more));
+      };
+    }
+
+-- the line of the first exceedance that is due is taken
+pub stands-take : (w next : WatchKept) (steps : List WatchStep) (taken : ℕ) → RepresentsWatch w steps taken → next.rules ≡ w.rules
+    → next.hits ≡ w.hits → next.due ≡ drop 1 w.due → TakesInput w next steps taken (option_map (line_due w.rules) (slice_get w.due 0))
+stands-take w next steps taken stands rules hits left = takes_by w next steps taken w.due stands refl rules hits left
+
+pub due-first : (n : ℕ) (due : List Exceedance) (e : Exceedance) → All (λ (x : Exceedance). x.rule < n) due → slice_get due 0 ≡ Some e → e.rule < n
+due-first n due e inside first =
+    let within = slice_get_within due 0 e first in
+    subst (λ (x : Exceedance). x.rule < n) (get_or_from_slice_get due 0 e e first) (inside 0 e within)
+
+-- a step that was given to all rules, where no line was due
+pub stands-given : (w next : WatchKept) (rules : List Rule) (hits later : List Hits) (due : List Exceedance) (steps : List WatchStep) (s : WatchStep)
+    (taken : ℕ)
+    → RepresentsWatch w steps taken → w.due ≡ [] → rules ≡ w.rules → hits ≡ w.hits → next.rules ≡ w.rules → next.hits ≡ later → next.due ≡ due
+    → (AreHits rules steps hits → AreHits rules (steps ++ s ∷ []) later) → (AreHits rules steps hits → due ≡ due_to rules steps s (length rules))
+    → RepresentsWatch next (steps ++ s ∷ []) taken
+stands-given w next rules hits later due steps s taken stands nothing rules_is hits_is next_rules next_hits next_due goes ends =
+    let are : AreHits rules steps hits = subst (λ (rs : List Rule). AreHits rs steps hits) (sym rules_is) (subst (AreHits w.rules steps)
+    (sym hits_is) stands.hits) in
+    stands-step w next steps s taken stands nothing next_rules
+    (subst (AreHits w.rules (steps ++ s ∷ [])) (sym next_hits) (subst (λ (rs : List Rule). AreHits rs (steps ++ s ∷ []) later) rules_is (goes are)))
+    (next_due ∙ ends are ∙ ap (λ (rs : List Rule). due_to rs steps s (length rs)) rules_is)

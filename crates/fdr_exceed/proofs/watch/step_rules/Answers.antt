@@ -1,0 +1,73 @@
+use Rattle.std.proofs.Common.{◌≡◌, ◌∙◌, ap, sym, refl, subst, ◌+◌, ◌<◌, set, length, get_or, arith}
+use Rattle.std.specs.Prelude.{All, slice_index}
+use Rattle.std.proofs.lemmas.List.{get_or-set_other}
+use Rattle.std.proofs.lemmas.List.Elements.{All-nil, All-set}
+use Rattle.fdr_exceed.specs.declared.watch.Exceedance.{Exceedance}
+use Rattle.fdr_exceed.specs.declared.rule.Rule.{Rule}
+use Rattle.fdr_exceed.specs.Exceedances.{RowStep}
+use Rattle.fdr_exceed.specs.Watching.{IsWithinHits, hits_of_rule, no_hits, no_rule, rule_at}
+use Rattle.fdr_exceed.proofs.Stepping.{IsOfRules, all-given, given-on, none-given, others-given, read-at, row-ends, row-goes, with_ended-few}
+use Rattle.fdr_exceed.proofs.Stepping.{with_ended-inside, within-more}
+use Rattle.fdr_exceed.proofs.watch.step_rules.Goals as goal
+
+pub loop-i-init : goal.loop-i-init
+loop-i-init c =
+    let rules = c.args.rules.now in
+    let due = c.args.due.now.items in
+    record {
+      within = c.requires.start.within;
+      here = c.requires.start.here;
+      given = λ steps are.
+          others-given rules steps c.args.row.now 0 c.args.start c.args.hits.now due c.args.row.now.param
+          (none-given rules steps (RowStep c.args.row.now) c.args.hits.now due are c.requires.nothing_due) c.requires.start refl;
+      same = λ k low. refl;
+      few = omega (arith, ap (length {A = Exceedance}) c.requires.nothing_due);
+      room = c.requires.room;
+      inside = subst (All (IsOfRules (length rules))) (sym c.requires.nothing_due) (All-nil (IsOfRules (length rules)));
+      longer = λ n all. within-more n c.args.hits.now all;
+    }
+
+pub loop-i-preserved : goal.loop-i-preserved
+loop-i-preserved c =
+    let rules = c.args.rules.now in
+    let r = c.args.row.now in
+    let i = c.loop-i.i in
+    let m = slice_index c.args.next.now i in
+    let inv = c.loop-i.invariant in
+    let hits = c.loop-i.hits in
+    let rule = c.index-rules-i.result in
+    let old = get_or hits i c.index-hits-i.result in
+    let new = c.row-ended.new.self in
+    let within : i < length rules = c.loop-i-test.true in
+    let count : length hits ≡ length rules = c.loop-i.auto.hits ∙ c.requires.count in
+    let rule_is : rule ≡ rule_at rules i = read-at rules i rule no_rule within c.index-rules-i.is in
+    let old_is : old ≡ hits_of_rule hits i = sym c.index-hits-i.is
+    ∙ read-at hits i c.index-hits-i.result no_hits (omega (arith, within, count)) c.index-hits-i.is in
+    let next = c.requires.next.each i within in
+    let own = inv.here within in
+    let same : rule.param ≡ r.param = ap (λ (q : Rule). q.param) rule_is ∙ own in
+    record {
+      within = next.within;
+      here = λ more. next.here more ∙ own;
+      given = λ steps are.
+          others-given rules steps r (i + 1) m (set hits i new) c.add.new.due.items (rule_at rules i).param
+          (given-on rules steps (RowStep r) i hits c.loop-i.due.items c.add.new.due.items rule old new c.row-ended.result (inv.given steps are) within count
+          rule_is old_is (row-goes rule r old new same c.row-ended.ensures.hits) (row-ends rule r old c.row-ended.result same c.row-ended.ensures.ended)
+          c.add.ensures.items)
+          next own;
+      same = λ k low. get_or-set_other hits i k new no_hits (omega (arith, low, next.from)) ∙ inv.same k (omega (arith, low, next.from));
+      few = omega (arith, ap (length {A = Exceedance}) c.add.ensures.items, with_ended-few c.loop-i.due.items i c.row-ended.result i inv.few, next.from);
+      room = c.add.ensures.room ∙ inv.room;
+      inside = subst (All (IsOfRules (length rules))) (sym c.add.ensures.items)
+          (with_ended-inside c.loop-i.due.items i c.row-ended.result (length rules) inv.inside within);
+      longer = λ n all.
+          let first : IsWithinHits n old = subst (IsWithinHits n) (sym (old_is
+          ∙ inv.same i (omega arith))) (all i no_hits (omega (arith, within, c.requires.count))) in
+          All-set (IsWithinHits (n + 1)) hits i new (c.row-ended.ensures.longer n first) (inv.longer n all);
+    }
+
+pub returns-clause-hits : goal.returns-clause-hits
+returns-clause-hits c steps are =
+    let rules = c.args.rules.now in
+    let all : c.loop-i.i ≡ length rules = omega (arith, c.loop-i.invariant.within, c.loop-i-test.false) in
+    (all-given rules steps (RowStep c.args.row.now) c.loop-i.i c.loop-i.hits c.loop-i.due.items (c.loop-i.invariant.given steps are) all).0

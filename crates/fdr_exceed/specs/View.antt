@@ -1,0 +1,6 @@
+-- What a watch of the program keeps.
+use Rattle.fdr_exceed.specs.declared.watch.Watch.TheInside.{Inside}
+use Rattle.fdr_exceed.specs.Watching.{WatchKept}
+
+abbrev pub watch_kept : Inside → WatchKept
+watch_kept w = record { rules = w.rules.items; hits = w.hits.items; due = w.due.items; rows = w.rows }

@@ -1,9 +1,0 @@
--- A line as its bytes.
-use Rattle.std.specs.Prelude.{ℕ, ◌≤◌, List, take}
-use Rattle.fdr_listing.specs.declared.line.Line.TheInside.{Inside}
-
-abbrev pub line_bytes : Inside → List ℕ
-line_bytes l = take l.used l.room
-
-abbrev pub IsWithin : Inside → Type 0
-IsWithin l = l.used ≤ 96

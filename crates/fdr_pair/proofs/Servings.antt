@@ -1,0 +1,61 @@
+-- A block on a side that may have failed.
+use Rattle.std.proofs.Common.{◌≡◌, ℕ, ◌+◌, ◌≤◌, List, refl, arith, Some, None}
+use Rattle.std.specs.Prelude.{IsTrue}
+use Rattle.fdr_io.specs.Faults.{Rose}
+use Rattle.fdr_deck.specs.State.{Tells, Moment}
+use Rattle.fdr_deck.specs.Disk.{IsSettled}
+use Rattle.fdr_deck.proofs.Moments.{KeepsAnnounced-greatest}
+use Rattle.fdr_ring.specs.Rings.{OfSettled}
+use Rattle.fdr_ring.specs.declared.ring.Ring.{Ring}
+use Rattle.fdr_twin.specs.declared.side.Side.{Side}
+use Rattle.fdr_twin.specs.Pair.{Pair, other_side, disk_on, image_on, seen}
+use Rattle.fdr_twin.specs.Sound.{IsSoundPair}
+use Rattle.fdr_twin.specs.Serving.{EachPairMoment, Serves}
+use Rattle.fdr_twin.specs.RestSound.{PairElapses-here, LeavesSide-here}
+use Rattle.fdr_pair.specs.Putting.{HasPut, MayPut}
+use Rattle.fdr_pair.specs.SidePuts.{next_block, IsSettledRing, PutsUnlessFailed}
+
+-- the moments of a twin now have a told number no greater than the greatest
+pub now_told : (tells : Tells) (side : Side) (p : Pair) → IsSoundPair tells p → EachPairMoment tells p p (λ m. m.announced ≤ p.greatest)
+now_told tells side p sound stops m since =
+    let shown : Moment = record { image = image_on side m; announced = m.announced; taken = m.taken; pulled_before = m.pulled_before } in
+    ((sound.sides side).only_now stops shown (m, (since, record { image = refl; announced = refl; taken = refl; pulled_before = refl }))).greatest
+
+-- nothing is done on a side that has failed
+pub puts_none : (tells : Tells) (side : Side) (bytes : List ℕ) (p : Pair) → IsSoundPair tells p → PutsUnlessFailed tells side None None bytes p p
+puts_none tells side bytes p sound = record {
+  time = PairElapses-here p sound.falls;
+  away = LeavesSide-here (other_side side) p;
+  greatest = omega arith;
+  announced = now_told tells side p sound;
+  own = record { moments = λ stops m since. since; faults = refl };
+}
+
+module _ (tells : Tells) (side : Side) (r : Ring) (bytes : List ℕ) (old new : Pair) (sound : IsSoundPair tells old)
+    (settled : IsTrue tells.stops → IsSettled (seen side old))
+    (served : Serves tells side (OfSettled (seen side old) (MayPut r.header (next_block r bytes))) old new) where
+  own_moments : EachPairMoment tells old new (λ m. MayPut r.header (next_block r bytes) (disk_on side old).held (image_on side m))
+  own_moments stops m since = (served.moments stops m since).image (settled stops)
+
+  greatest : new.greatest ≤ old.greatest
+  greatest = KeepsAnnounced-greatest tells (seen side old) (seen side new) (sound.sides side) served.disk_work.passes.announced
+
+  pub puts_failed : Rose (disk_on side old).faults (disk_on side new).faults → PutsUnlessFailed tells side (Some r) None bytes old new
+  puts_failed rose = record {
+    time = served.time;
+    away = served.other;
+    greatest = greatest;
+    announced = λ stops m since. (served.moments stops m since).greatest;
+    own = record { moments = own_moments; faults = rose };
+  }
+
+  pub puts_put : (s : Ring) → s.header ≡ r.header → s.next ≡ r.next + 1
+      → (IsTrue tells.bytes → HasPut r.header (next_block r bytes) (disk_on side old).held (disk_on side new).held)
+      → IsSettledRing tells side s new → PutsUnlessFailed tells side (Some r) (Some s) bytes old new
+  puts_put s header next put ring = record {
+    time = served.time;
+    away = served.other;
+    greatest = greatest;
+    announced = λ stops m since. (served.moments stops m since).greatest;
+    own = record { moments = own_moments; header = header; next = next; faults = served.disk_work.passes.disk_faults; put = put; ring = ring };
+  }

@@ -1,0 +1,4 @@
+pub mod Putting
+pub mod SidePuts
+pub mod Announcing
+pub mod Living

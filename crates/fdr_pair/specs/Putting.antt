@@ -1,0 +1,23 @@
+-- What a block that is put on a disk leaves.
+use Rattle.std.specs.Prelude.{◌≡◌, ◌⊎◌, ℕ, ◌+◌, ◌-◌, List, [], ◌∷◌, ◌++◌}
+use Rattle.fdr_slot.specs.declared.image.Header.{Header}
+use Rattle.fdr_recover.specs.Blocks.{Block}
+use Rattle.fdr_recover.specs.Images.{recovered_run, next_of}
+use Rattle.fdr_ring.specs.Gates.{KeepsHeader}
+use Rattle.fdr_ring.specs.Runs.{IsTail, KeepsRun}
+use Rattle.fdr_twin.specs.Pair.{Pair, PairMoment}
+
+-- the block is after the run, of which at least the last N - 2 blocks are kept
+pub record HasPut (h : Header) (b : Block) (old new : List ℕ) : Type 0 where
+  pub kept : KeepsHeader old new
+  pub run : IsTail (h.slots - 2) (recovered_run h old ++ b ∷ []) (recovered_run h new)
+  pub next : next_of h new ≡ next_of h old + 1
+
+-- so it is, or there is no such block, and at least the last N - 2 blocks of the run are kept
+abbrev pub MayPut : Header → Block → List ℕ → List ℕ → Type 0
+MayPut h b old new = KeepsRun h (h.slots - 2) old new ⊎ HasPut h b old new
+
+-- a moment while the block b is put on the first side, whose header is h, and then c on the second, whose header is k
+pub record IsPutting (h k : Header) (b c : Block) (old : Pair) (m : PairMoment) : Type 0 where
+  pub first : MayPut h b old.first.held m.first
+  pub second : MayPut k c old.second.held m.second

@@ -1,0 +1,43 @@
+//! A side that is opened.
+
+ghost use Rattle.std.specs.Prelude.{◌≡◌, ◌≤◌, IfOk, OnOk, OnErr, IsTrue};
+ghost use Rattle.fdr_io.specs.Faults.{Rose};
+ghost use Rattle.fdr_slot.specs.Limits.{IsInLimits};
+ghost use Rattle.fdr_slot.specs.Places.{image_size};
+ghost use Rattle.fdr_recover.specs.Images.{next_of};
+ghost use Rattle.fdr_ring.specs.Rings.{IsSureRing, IsAttaching, OfSettled};
+ghost use Rattle.fdr_twin.specs.Pair.{seen, disk_on};
+ghost use Rattle.fdr_twin.specs.Serving.{Serves};
+
+use fdr_io::Failed;
+use fdr_recover::{Found, RingFault, scan};
+use fdr_ring::Ring;
+use fdr_slot::Header;
+use fdr_twin::{Side, Twin};
+
+/// Turns to a side and finds its run. The disks of both sides are left.
+pub fn scan_on<T: Twin>(twin: &mut T, side: Side, h: &Header) -> Result<Found, Failed>
+    requires limits { IsInLimits h.now }
+    requires whole { image_size h.now ≤ (disk_on side (T.pair twin.old)).extent }
+    ensures next { IsTrue T.tells.bytes → IfOk result (λ f. f.next ≡ next_of h.now (disk_on side (T.pair twin.old)).held) }
+    ensures held { (disk_on side (T.pair twin.new)).held ≡ (disk_on side (T.pair twin.old)).held }
+    ensures serves { Serves T.tells side (disk_on side (T.pair twin.old)).may_leave (T.pair twin.old) (T.pair twin.new) }
+    ensures cause { OnErr result (Rose (disk_on side (T.pair twin.old)).faults (disk_on side (T.pair twin.new)).faults) }
+{
+    twin.turn(side);
+    let found = scan(twin, h)?;
+    Ok(found)
+}
+
+/// Turns to a side and opens its image again, as `attach` of a ring does. The other side is left.
+pub fn attach_on<T: Twin>(twin: &mut T, side: Side, h: Header) -> Result<Ring, RingFault>
+    requires limits { IsInLimits h }
+    requires whole { image_size h ≤ (disk_on side (T.pair twin.old)).extent }
+    ensures next { IsTrue T.tells.bytes → IfOk result (λ r. r.next ≡ next_of h (disk_on side (T.pair twin.old)).held) }
+    ensures fact { IfOk result (λ r. IsSureRing T.tells r.header r.next (seen side (T.pair twin.new))) }
+    ensures serves { Serves T.tells side (OfSettled (seen side (T.pair twin.old)) (IsAttaching h)) (T.pair twin.old) (T.pair twin.new) }
+{
+    twin.turn(side);
+    let ring = Ring::attach(twin, h)?;
+    Ok(ring)
+}

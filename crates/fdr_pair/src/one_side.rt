@@ -1,0 +1,66 @@
+//! A block on one side of a twin.
+
+ghost use Rattle.std.specs.Prelude.{◌≡◌, ◌⊎◌, ◌+◌, ◌<◌, ◌≤◌, ◌^◌, Err, length, IfOk, OnOk, OnErr, IsTrue};
+ghost use Rattle.fdr_io.specs.Faults.{Rose};
+ghost use Rattle.fdr_deck.specs.Disk.{IsSettled};
+ghost use Rattle.fdr_ring.specs.Rings.{IsRing, IsSureRing, OfSettled};
+ghost use Rattle.fdr_twin.specs.Pair.{seen, disk_on};
+ghost use Rattle.fdr_twin.specs.Serving.{Serves};
+ghost use Rattle.fdr_pair.specs.Putting.{HasPut, MayPut};
+ghost use Rattle.fdr_pair.specs.SidePuts.{IsPutReady, PutsUnlessFailed};
+
+use crate::put::put_block;
+use fdr_recover::RingFault;
+use fdr_ring::Ring;
+use fdr_twin::{Side, Twin};
+
+/// Turns to a side, and prepares a block there and commits it. The other side is left. DiskFault comes only where the count of
+/// the side rose, SeqEnd only where the numbers are used up.
+pub fn put_on<T: Twin>(
+    twin: &mut T,
+    side: Side,
+    ring: Ring,
+    bytes: &[u8],
+) -> Result<Ring, RingFault>
+    requires fact { IsRing T.tells ring.header ring.next (seen side (T.pair twin.old)) }
+    requires some_bytes { 0 < length bytes.now }
+    requires fits { length bytes.now ≤ ring.header.payload }
+    ensures only { OnErr result (result ≡ Err RingFault.SeqEnd ⊎ result ≡ Err RingFault.DiskFault) }
+    ensures seq_end { result ≡ Err RingFault.SeqEnd → ring.next ≡ 2 ^ 48 }
+    ensures ring { IfOk result (λ r. (r.header ≡ ring.header) × (r.next ≡ ring.next + 1)) }
+    ensures fact { IfOk result (λ r. IsSureRing T.tells r.header r.next (seen side (T.pair twin.new))) }
+    ensures put { OnOk result (IsTrue T.tells.bytes → HasPut ring.header
+        (record { number = ring.next; payload = bytes.now })
+        (disk_on side (T.pair twin.old)).held (disk_on side (T.pair twin.new)).held) }
+    ensures settled { OnOk result (IsTrue T.tells.stops → IsSettled (seen side (T.pair twin.new))) }
+    ensures serves { Serves T.tells side
+        (OfSettled (seen side (T.pair twin.old)) (MayPut ring.header (record { number = ring.next; payload = bytes.now })))
+        (T.pair twin.old) (T.pair twin.new) }
+    ensures cause { result ≡ Err RingFault.DiskFault
+        → Rose (disk_on side (T.pair twin.old)).faults (disk_on side (T.pair twin.new)).faults }
+{
+    twin.turn(side);
+    let ring = put_block(twin, ring, bytes)?;
+    Ok(ring)
+}
+
+/// Puts a block on a side that has this ring, unless it has failed, which is None. Where it fails now, it has failed from now
+/// on.
+pub fn put_unless_failed<T: Twin>(
+    twin: &mut T,
+    side: Side,
+    ring: Option<Ring>,
+    bytes: &[u8],
+) -> Option<Ring>
+    requires ready { IsPutReady T.tells side ring bytes.now (T.pair twin.old) }
+    requires some_bytes { 0 < length bytes.now }
+    ensures { PutsUnlessFailed T.tells side ring result bytes.now (T.pair twin.old) (T.pair twin.new) }
+{
+    match ring {
+        None => None,
+        Some(ring) => match put_on(twin, side, ring, bytes) {
+            Ok(ring) => Some(ring),
+            Err(_) => None,
+        },
+    }
+}

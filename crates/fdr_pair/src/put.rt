@@ -1,0 +1,38 @@
+//! A block on a deck.
+
+ghost use Rattle.std.specs.Prelude.{◌≡◌, ◌⊎◌, ◌+◌, ◌<◌, ◌≤◌, ◌^◌, Err, length, IfOk, OnOk, OnErr, IsTrue};
+ghost use Rattle.fdr_io.specs.Faults.{Rose};
+ghost use Rattle.fdr_deck.specs.Disk.{IsSettled};
+ghost use Rattle.fdr_deck.specs.Calls.{IsDiskWork, Succeeds};
+ghost use Rattle.fdr_ring.specs.Rings.{IsRing, IsSureRing, OfSettled};
+ghost use Rattle.fdr_pair.specs.Putting.{HasPut, MayPut};
+
+use fdr_deck::Deck;
+use fdr_recover::RingFault;
+use fdr_ring::Ring;
+
+/// Prepares a block and commits it. At each moment the image keeps its run, with the block or without it.
+pub fn put_block<D: Deck>(deck: &mut D, ring: Ring, bytes: &[u8]) -> Result<Ring, RingFault>
+    requires fact { IsRing D.tells ring.header ring.next (D.state deck.old) }
+    requires some_bytes { 0 < length bytes.now }
+    requires fits { length bytes.now ≤ ring.header.payload }
+    ensures only { OnErr result (result ≡ Err RingFault.SeqEnd ⊎ result ≡ Err RingFault.DiskFault) }
+    ensures seq_end { result ≡ Err RingFault.SeqEnd → ring.next ≡ 2 ^ 48 }
+    ensures ring { IfOk result (λ r. (r.header ≡ ring.header) × (r.next ≡ ring.next + 1)) }
+    ensures fact { IfOk result (λ r. IsSureRing D.tells r.header r.next (D.state deck.new)) }
+    ensures put { OnOk result (IsTrue D.tells.bytes → HasPut ring.header
+        (record { number = ring.next; payload = bytes.now }) (D.state deck.old).held (D.state deck.new).held) }
+    ensures settled { OnOk result (IsTrue D.tells.stops → IsSettled (D.state deck.new)) }
+    ensures extent { (D.state deck.new).extent ≡ (D.state deck.old).extent }
+    ensures disk_work { IsDiskWork D.tells
+        (OfSettled (D.state deck.old) (MayPut ring.header (record { number = ring.next; payload = bytes.now })))
+        (D.state deck.old) (D.state deck.new) }
+    ensures succeeds { OnOk result (Succeeds (D.state deck.old) (D.state deck.new)) }
+    ensures cause { result ≡ Err RingFault.DiskFault
+        → Rose (D.state deck.old).disk_faults (D.state deck.new).disk_faults }
+    ensures rest { D.same_rest deck.old deck.new }
+{
+    let prepared = ring.prepare(deck, bytes)?;
+    let ring = prepared.commit(deck)?;
+    Ok(ring)
+}

@@ -1,0 +1,36 @@
+-- An input that is pulled piece by piece, to its end or until more came than is taken.
+use Rattle.std.specs.Prelude.{◌≡◌, ℕ, ◌+◌, ◌-◌, ◌<◌, ◌≤◌, List, [], length, take, drop, IsTrue}
+use Rattle.fdr_deck.specs.State.{State, Tells}
+use Rattle.fdr_deck.specs.Pull.{TakesInput}
+use Rattle.fdr_pieces.specs.Limits.{most_at_a_time}
+use Rattle.fdr_pieces.specs.declared.pieces.InputEnd.{InputEnd}
+use Rattle.fdr_pieces.specs.declared.pieces.InputEnd.TheVariants as input_end
+
+-- The last pull that gave bytes gave at most 4,096.
+pub record IsLastPiece (old new : State) : Type 0 where
+  pub begins : old.taken ≤ new.pulled_before
+  pub gave_bytes : new.pulled_before < new.taken
+  pub within_piece : new.taken ≤ new.pulled_before + most_at_a_time
+
+-- Of the input these bytes were pulled, piece by piece, and at most a piece more than the limit. No pull that gave bytes began
+-- once more than the limit had been pulled.
+pub record PullsPieces (limit : ℕ) (tells : Tells) (old new : State) (pulled : List ℕ) : Type 0 where
+  pub takes : TakesInput tells old new pulled
+  pub last : 0 < length pulled → IsLastPiece old new
+  pub begun_within_limit : 0 < length pulled → new.pulled_before ≤ old.taken + limit
+  pub bounded : length pulled ≤ limit + most_at_a_time
+
+-- what an end says of the bytes that were pulled
+pub record EndsInput (limit : ℕ) (tells : Tells) (new : State) (pulled : List ℕ) (end : InputEnd) : Type 0 where
+  pub end_within_limit : end ≡ input_end.End → length pulled ≤ limit
+  pub fault_within_limit : end ≡ input_end.Fault → length pulled ≤ limit
+  pub many : end ≡ input_end.TooLong → limit < length pulled
+  pub empty : end ≡ input_end.End → IsTrue tells.input → new.input ≡ []
+
+-- of these bytes, those that were pulled before the last pull that gave some, within the limit
+abbrev pub before_last : ℕ → State → State → List ℕ → List ℕ
+before_last limit old new pulled = take (new.pulled_before - old.taken) (take limit pulled)
+
+-- and those of the last pull that gave some, within the limit
+abbrev pub last_piece : ℕ → State → State → List ℕ → List ℕ
+last_piece limit old new pulled = drop (new.pulled_before - old.taken) (take limit pulled)

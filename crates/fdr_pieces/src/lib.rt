@@ -1,0 +1,6 @@
+//! A deck's input, pulled to its end a piece at a time, and handed to what takes the pieces.
+#![tactic(auto)]
+
+mod pieces;
+
+pub use pieces::{InputEnd, PieceTaker, take_pieces};

@@ -1,0 +1,20 @@
+-- What `encode` promises: the cells of all bits of the input, after a low level.
+use Rattle.std.specs.Prelude.{◌≡◌, ℕ, ◌+◌, ◌<◌, ◌⊎◌, false, List, Option}
+use Rattle.fdr_deck.specs.State.{State, Tells}
+use Rattle.fdr_biphase.specs.Cells.{Cells, bits_of_bytes, cells_of}
+use Rattle.fdr_biphase.specs.Packed.{encoded_bytes}
+use Rattle.fdr_top.specs.Limits.{most_input_bytes}
+use Rattle.fdr_top.specs.InputTexts.{WritesOfInput}
+use Rattle.fdr_top.specs.declared.outcome.Outcome.{Outcome}
+use Rattle.fdr_top.specs.declared.outcome.Outcome.TheVariants as outcome
+
+-- the levels of the bits of bytes, packed
+abbrev pub levels_text : List ℕ → List ℕ
+levels_text = encoded_bytes false
+
+-- The levels of the input were written: what was pulled, and what of it was written.
+pub record EncodesInput (tells : Tells) (old new : State) (written_before written_now : Option (List ℕ)) (answer : Outcome) : Type 0 where
+  pub encodes : WritesOfInput levels_text tells old new written_before written_now answer
+  pub too_long_always : old.taken + most_input_bytes < new.taken → (answer ≡ outcome.TooLong) ⊎ (answer ≡ outcome.WriteFault)
+  -- what is written are cells of the bits, two levels for each
+  pub cells : (bytes : List ℕ) → Cells false (bits_of_bytes bytes) (cells_of false (bits_of_bytes bytes))

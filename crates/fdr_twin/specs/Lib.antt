@@ -1,0 +1,11 @@
+pub mod Pair
+pub mod Same
+pub mod Rest
+pub mod Sound
+pub mod Serving
+pub mod SoundSame
+pub mod RestSound
+pub mod TwinMemory
+pub mod TwinFaces
+pub mod TwinSound
+pub mod SureSides
