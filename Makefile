@@ -4,7 +4,7 @@
 PREFIX ?= /usr/local
 PROGRAM = crates/fdr_prog
 
-.PHONY: build demo check walk streams crash-test check-real check-memory bench tools-test test install clean help
+.PHONY: build demo check walk compare streams crash-test check-real check-memory bench tools-test test install clean help
 
 # Proves the program and everything below it, and puts it at bin/fdr.
 build:
@@ -26,9 +26,13 @@ check:
 	tools/documents.py check
 	examples/make_images.py --check
 
-# Goes the walk of examples/README.md with the built program, and compares what it prints with what the page shows.
+# Goes the walk of examples/ with the built program, and compares what it prints with what the two pages show.
 walk: build
 	tests/walk.py bin/fdr
+
+# Compares the built program with a reader that was written from docs/FORMATS.md alone, on drawn inputs.
+compare: build
+	tests/compare.py --program bin/fdr
 
 # Runs the built program with each of its standard streams closed.
 streams: build
@@ -59,10 +63,12 @@ tools-test:
 test:
 	./.ci/run
 
-# Puts the program and its man page below PREFIX, which is /usr/local where it isn't given.
+# Puts the program, its man page and the pages below PREFIX, which is /usr/local where it isn't given.
 install: build
 	install -D -m 755 bin/fdr $(DESTDIR)$(PREFIX)/bin/fdr
 	install -D -m 644 docs/fdr.1 $(DESTDIR)$(PREFIX)/share/man/man1/fdr.1
+	install -d $(DESTDIR)$(PREFIX)/share/doc/fdr
+	cp -R README.md CONTRIBUTING.md CHANGELOG.md CITATION.cff docs examples $(DESTDIR)$(PREFIX)/share/doc/fdr
 
 # Removes what was built.
 clean:

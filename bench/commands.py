@@ -29,8 +29,8 @@ TOP = pathlib.Path(__file__).resolve().parent.parent
 sys.dont_write_bytecode = True
 sys.path.insert(0, str(TOP / "tests"))
 
-from formats import SYNCS, Shape, bus_word, empty_image, end_at, head_of, header_of, packed, put_word, record_at
-from formats import size_of_slot, with_bit
+from formats import SYNCS, Shape, bits_of, bus_word, bytes_of_bits, empty_image, end_at, head_of, header_of, levels_of
+from formats import packed, put_word, record_at, size_of_slot, with_bit
 from inputs import ORDINARY, T1, largest_table
 from runs import PAYLOAD, SLOTS, SUPERFRAME, print_row, run
 
@@ -153,6 +153,18 @@ def write_again_and_again(path, line, size):
         file.write(line[: size % len(line)])
 
 
+def levels_again_and_again(line):
+    """The Harvard biphase levels of bytes, so often that they may follow themselves."""
+    turned = bytes(255 - byte for byte in range(256))
+    after_low = [bytes_of_bits(levels_of(bits_of([byte]))) for byte in range(256)]
+    after = [after_low, [levels.translate(turned) for levels in after_low]]
+    levels, level = bytearray(), 0
+    for byte in line:
+        levels += after[level][byte]
+        level ^= byte.bit_count() % 2
+    return levels + levels.translate(turned) if level else levels
+
+
 def write_noise(path, size, chance):
     with open(path, "wb") as file:
         for _ in range(size // MB):
@@ -215,10 +227,14 @@ def make_works(room, memory, size, hours):
         if name == "ordinary":
             write_again_and_again(at("altered.bits"), with_a_bit_in_each(line, frame, chance), size)
             write_full_image(at("full.img"), line)
+            write_again_and_again(at("half.bits"), line, size // 2)
+            write_again_and_again(at("levels"), levels_again_and_again(line), size)
     write_noise(at("noise"), size, chance)
     add("listbits, noise", ["listbits", at("ordinary.csv")], at("noise"))
     add("listbits, a bit put into each frame", ["listbits", at("ordinary.csv")], at("altered.bits"))
     add("listbits, the largest table, no input", ["listbits", at("largest.csv")], measured=at("largest.csv"))
+    add("encode, frames by the ordinary table", ["encode"], at("half.bits"))
+    add("decode, levels of these", ["decode"], at("levels"))
     add("list, a full image", ["list", at("ordinary.csv"), at("full.img")], measured=at("full.img"))
     add("recover, a full image", ["recover", at("full.img")], measured=at("full.img"))
     for name, seconds in (("ordinary", 25 * 3600), ("dense", 3600), ("full", 3600)):

@@ -1,5 +1,5 @@
 #!/usr/bin/env python3
-"""Makes the images of this folder, without the program, as README.md says that they come about.
+"""Makes the images of this folder, without the program, as IMAGES.md says that they come about.
 
     examples/make_images.py            writes them
     examples/make_images.py --check    compares them with those that are here, and ends with 1 where one differs

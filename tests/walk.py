@@ -1,9 +1,9 @@
 #!/usr/bin/env python3
-"""Goes the walk of examples/README.md with a built program, and compares what it prints with what the page shows.
+"""Goes the walk of examples/ with a built program, and compares what it prints with what its two pages show.
 
 tests/walk.py PROGRAM
 
-All blocks of commands run one after another in one shell, in a folder with the tables alone, as a reader types them. The block
+All blocks of commands, of the first page and then of the second, run one after another in one shell, in a folder with the tables alone, as a reader types them. The block
 after one of commands is what they print. Where it has no line of an announcement, those lines are left out of the comparison;
 commands without such a block print announcements or nothing.
 """
@@ -15,6 +15,7 @@ import sys
 import tempfile
 
 EXAMPLES = pathlib.Path(__file__).resolve().parent.parent / "examples"
+PAGES = ("README.md", "IMAGES.md")
 COMMAND = re.compile(r"(fdr|put|cp|head|cat|printf) |\(")
 ANNOUNCEMENT = re.compile(r"ack \d+")
 MARK = "--- end of a block ---"
@@ -38,12 +39,12 @@ def is_of_commands(lines):
     return any(COMMAND.match(line) for line in lines)
 
 
-def steps(page):
-    """Each block of commands, with the lines that the page says they print, or None where it shows none."""
-    found = list(blocks(page))
+def steps(name):
+    """Each block of commands of a page, with the lines that the page says they print, or None where it shows none."""
+    found = list(blocks((EXAMPLES / name).read_text()))
     for (start, lines), (_, after) in zip(found, [*found[1:], (0, None)]):
         if is_of_commands(lines):
-            yield start, lines, after if after is not None and not is_of_commands(after) else None
+            yield f"examples/{name}:{start}", lines, after if after is not None and not is_of_commands(after) else None
 
 
 def printed(program, walk):
@@ -73,7 +74,7 @@ def is_shown(lines, shown):
 def main():
     if len(sys.argv) != 2:
         raise SystemExit(__doc__)
-    walk = list(steps((EXAMPLES / "README.md").read_text()))
+    walk = [step for name in PAGES for step in steps(name)]
     outputs = printed(sys.argv[1], walk)
     if len(outputs) != len(walk):
         raise SystemExit(f"walk: {len(outputs)} of {len(walk)} blocks ran")
@@ -81,7 +82,7 @@ def main():
     for (start, _, shown), lines in zip(walk, outputs):
         if not is_shown(lines, shown):
             wrong += 1
-            print(f"examples/README.md:{start}: the page shows\n  " + "\n  ".join(shown or ["nothing"]) + "\nand the program prints\n  " + "\n  ".join(lines))
+            print(f"{start}: the page shows\n  " + "\n  ".join(shown or ["nothing"]) + "\nand the program prints\n  " + "\n  ".join(lines))
     print(f"walk: {len(walk)} blocks of commands, {wrong} with another output than the page shows")
     raise SystemExit(1 if wrong else 0)
 

@@ -4,14 +4,17 @@
     tools/documents.py write    writes docs/clauses/CRATE.md anew from the source
     tools/documents.py check    prints what differs, and ends with 1 where something does
 
-The check wants: the pages of docs/clauses as the source says; each name in `these marks` of docs/GUARANTEES.md and
-docs/LAYERS.md to be one of the source; each clause in a row of docs/LAYERS.md to be one of the calls that the row names;
-README.md to say of how many definitions the contract of `run` speaks; docs/MODEL.md to list exactly the public
-definitions of specs/, crate by crate; the crates' edges in docs/ARCHITECTURE.md to be those of crates.txt; the forms,
-statuses and texts of docs/fdr.1 to be those of the source; README.md, CHANGELOG.md and docs/fdr.1 to name the version of
-VERSION; README.md and docs/GUARANTEES.md to name the logic of the kit that is here; each link to lead to a file and
-heading; each path from the top that a page or a script names to be there; no two public definitions of specs/ to share a
-name; and no line of specs/ and proofs/ to be over 160 columns.
+The check wants: the pages of docs/clauses as the source says; each name in `these marks` of docs/COMMANDS.md,
+docs/GUARANTEES.md and docs/LAYERS.md to be one of the source; each clause in a row of docs/LAYERS.md to be one of the
+calls that the row names; README.md to say of how many definitions the contract of `run` speaks, and to show of a case of
+examples/cases what the case has; docs/MODEL.md to list exactly the public definitions of specs/, crate by crate; the
+crates' edges in docs/ARCHITECTURE.md to be those of crates.txt, and the files in its last table to be there; the forms,
+statuses and texts of docs/fdr.1 and docs/COMMANDS.md to be those of the source, with a section there and a row in
+README.md for each command; README.md, CHANGELOG.md, CITATION.cff and docs/fdr.1 to name the version of VERSION, the last
+three with one date; README.md and docs/GUARANTEES.md to name the logic of the kit that is here; each link to lead to a
+file and heading; each path from the top that a page or a script names to be there; each paragraph of a page to be one
+line, and each page but docs/MODEL.md and those of docs/clauses to have fewer than 300; no two public definitions of
+specs/ to share a name; and no line of specs/ and proofs/ to be over 160 columns.
 
 It notes, and that is no difference: another kit of the same logic than the documents name, and an edge of crates.txt
 that no file of its crate uses.
@@ -28,6 +31,8 @@ TOP = pathlib.Path(__file__).resolve().parent.parent
 CRATES = TOP / "crates"
 CLAUSES = TOP / "docs" / "clauses"
 MOST_COLUMNS = 160
+MOST_LINES = 299
+OUTSIDE = {"TABLE", "IMAGE", "flock"}
 
 
 def crate_lines():
@@ -235,11 +240,11 @@ def check_guarantees():
             known.update(re.findall(r"[A-Za-z_]\w*", path.read_text()))
             fields.update(re.findall(r"^ +pub (\w+) :", path.read_text(), flags=re.M))
         known.update(path.stem for path in (CRATES / crate / "must-fail").glob("*.edit"))
-    for page in ["GUARANTEES.md", "LAYERS.md"]:
+    for page in ["COMMANDS.md", "GUARANTEES.md", "LAYERS.md"]:
         text = re.sub(r"```.*?```", lambda m: "\n" * m.group().count("\n"), (TOP / "docs" / page).read_text(), flags=re.S)
         for number, line in enumerate(text.splitlines(), 1):
             for mark in re.findall(r"`([^`]+)`", line):
-                if re.search(r"[^\w:.]|\.\w+\(|^_|^[0-9a-f]{16}$", mark):
+                if re.search(r"[^\w:.]|\.\w+\(|^_|^[0-9A-F]{2,}$|^[0-9a-f]{16}$", mark) or mark in OUTSIDE:
                     continue
                 promise = re.fullmatch(r"([a-z]\w*)\.([a-z]\w*)", mark)
                 if promise and promise[2] not in fields:
@@ -339,17 +344,60 @@ def outcomes():
             yield statuses[name], line
 
 
+def sections():
+    """The commands of COMMANDS.md, in order: each with its form, which is the first line of its section."""
+    page = (TOP / "docs" / "COMMANDS.md").read_text()
+    for name, line in re.findall(r"^## `(\w+)`\n\n```\n(.*)$", page, re.M):
+        yield name, re.split(r" (?:2?>|<)", line)[0]
+
+
+def check_commands():
+    """COMMANDS.md has the statuses and the texts, and README.md a row for each of its commands."""
+    page = (TOP / "docs" / "COMMANDS.md").read_text()
+    rows = {(status, text.strip("`")) for status, text in re.findall(r"^\| \S+ \| (\d+) \| (none|`[^`]*`) \|", page, re.M)}
+    for status, text in sorted({(status, text or "none") for status, text in outcomes()} ^ rows):
+        yield f"docs/COMMANDS.md: status {status}, text '{text}': the page and specs/Outcome differ"
+    names = [name for name, _ in sections()]
+    rows = re.findall(r"^\| \[`(\w+)`\]\(docs/COMMANDS\.md#(\w+)\) \|", (TOP / "README.md").read_text(), re.M)
+    if rows != [(name, name) for name in names]:
+        yield f"README.md: the rows of its commands aren't {', '.join(names)}, as the sections of docs/COMMANDS.md"
+
+
 def check_manual():
     """The man page has the forms, the statuses and the texts."""
     manual = (TOP / "docs" / "fdr.1").read_text()
     rows = set(re.findall(r"^(\d+)\|(.*)$", manual, re.M))
     for row in sorted(set(outcomes()) ^ rows):
         yield f"docs/fdr.1: status {row[0]}, text '{row[1]}': the page and specs/Outcome differ"
-    words = (TOP / "docs" / "FORMATS.md").read_text()
-    forms = re.search(r"## The words of the command line\n\n```\n(.*?)```", words, re.S).group(1).splitlines()
+    forms = [form for _, form in sections() if form.startswith("fdr ")]
     page = [line.removeprefix(".B ").replace("\\-", "-") for line in manual.splitlines() if line.startswith(".B fdr ")]
     if forms != page:
-        yield "docs/fdr.1: its forms aren't those of docs/FORMATS.md"
+        yield "docs/fdr.1: its forms aren't those of docs/COMMANDS.md"
+
+
+def check_session():
+    """Where README.md shows a run of a case of examples/cases, it prints what the case has."""
+    cases = {}
+    for path in (TOP / "examples" / "cases").glob("*.args"):
+        cases["fdr " + " ".join(path.read_text().split())] = path.with_suffix(".stdout").read_bytes()
+    shown = re.findall(r"^\$ (.*)\n((?:(?!\$ |```).*\n)*)", (TOP / "README.md").read_text(), re.M)
+    for words, lines in shown:
+        if words in cases and lines.encode() != cases[words]:
+            yield f"README.md: `{words}` doesn't print what it shows"
+    if not any(words in cases for words, _ in shown):
+        yield "README.md shows no run of a case of examples/cases"
+
+
+def check_places():
+    """The files that ARCHITECTURE.md names under 'Where to change what' are there."""
+    page = (TOP / "docs" / "ARCHITECTURE.md").read_text()
+    for row in page.partition("## Where to change what")[2].splitlines():
+        crate = None
+        for mark in re.findall(r"`([^`]+)`", row.split("|")[2] if row.count("|") > 2 else ""):
+            if mark.startswith("fdr_"):
+                crate = mark
+            elif crate and "/" in mark and not mark.startswith(("tests/", "examples/")) and not (CRATES / crate / mark).exists():
+                yield f"docs/ARCHITECTURE.md: {crate} has no {mark}"
 
 
 def anchors(path):
@@ -379,15 +427,21 @@ def check_columns():
 
 
 def check_version():
-    """README.md and docs/fdr.1 name the version of VERSION, and CHANGELOG.md begins with it."""
+    """README.md names the version of VERSION; CHANGELOG.md begins with it and its date, which are those of docs/fdr.1 and
+    CITATION.cff."""
     version = (TOP / "VERSION").read_text().strip()
     if f"Version {version}" not in (TOP / "README.md").read_text():
         yield f"README.md doesn't name version {version}"
-    if f'"fdr {version}"' not in (TOP / "docs" / "fdr.1").read_text().split("\n.SH")[0]:
-        yield f"docs/fdr.1 doesn't name version {version}"
-    newest = re.search(r"^## (.*)$", (TOP / "CHANGELOG.md").read_text(), re.M)
+    newest = re.search(r"^## (\S+), (\d{4}-\d\d-\d\d)$", (TOP / "CHANGELOG.md").read_text(), re.M)
     if not newest or newest.group(1) != version:
-        yield f"CHANGELOG.md doesn't begin with version {version}"
+        yield f"CHANGELOG.md doesn't begin with version {version} and a date"
+        return
+    date = newest.group(2)
+    if f'.TH FDR 1 {date} "fdr {version}"' not in (TOP / "docs" / "fdr.1").read_text():
+        yield f"docs/fdr.1 doesn't name version {version} and {date}"
+    cited = (TOP / "CITATION.cff").read_text()
+    if f"\nversion: {version}\n" not in cited or f'\ndate-released: "{date}"\n' not in cited:
+        yield f"CITATION.cff doesn't name version {version} and {date}"
 
 
 def kits_named():
@@ -440,6 +494,28 @@ def written_pages():
     return [*TOP.glob("*.md"), *(TOP / "docs").rglob("*.md"), *(TOP / "examples").glob("*.md")]
 
 
+def check_paragraphs():
+    """A paragraph of a page is one line, and so is an item of a list."""
+    begins = re.compile(r"\s*(?:$|[|#]|```|[-*] |\d+\. )")
+    for path in written_pages():
+        inside, open_paragraph = False, False
+        for number, line in enumerate(path.read_text().splitlines(), 1):
+            if line.lstrip().startswith("```"):
+                inside, open_paragraph = not inside, False
+            elif not inside:
+                if open_paragraph and not begins.match(line):
+                    yield f"{path.relative_to(TOP)}:{number}: this line goes on with the paragraph above; a paragraph is one line"
+                open_paragraph = bool(line.strip()) and not re.match(r"\s*[|#]", line)
+
+
+def check_lengths():
+    """Pages that are written by hand are short, but for the list of definitions."""
+    for path in written_pages():
+        lines = len(path.read_text().splitlines())
+        if lines > MOST_LINES and path.parent != CLAUSES and path.name != "MODEL.md":
+            yield f"{path.relative_to(TOP)} has {lines} lines, over {MOST_LINES}"
+
+
 def check_links():
     for path in written_pages():
         for target in re.findall(r"\]\(([^)\s]+)\)", path.read_text()):
@@ -481,8 +557,9 @@ def main(command):
         print(__doc__)
         return 2
     checks = (
-        *(check_readme, check_clauses, check_model, check_guarantees, check_layers, check_edges),
-        *(check_manual, check_version, check_kit, check_links, check_paths, check_names, check_columns),
+        *(check_readme, check_session, check_clauses, check_model, check_guarantees, check_layers, check_edges, check_places),
+        *(check_commands, check_manual, check_version, check_kit, check_links, check_paths, check_paragraphs, check_lengths),
+        *(check_names, check_columns),
     )
     faults = [fault for check in checks for fault in check()]
     for note in (*note_kit(), *note_uses()):

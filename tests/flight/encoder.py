@@ -35,7 +35,8 @@ class Parameter:
     sdi: int | None
     lsb: int
     width: int
-    signed: bool
+    sign: str
+    age: int | None  # in microseconds
     num: int
     den: int
     offset: int
@@ -44,12 +45,23 @@ class Parameter:
 
     def value(self, raw: int) -> str:
         """What a raw number is printed as."""
-        if self.signed and raw >> (self.width - 1):
+        if self.sign == "S" and raw >> (self.width - 1):
             raw -= 1 << self.width
         units = self.offset + raw * self.num // self.den
         digits = str(abs(units)).rjust(self.decimals + 1, "0")
         whole, rest = digits[: len(digits) - self.decimals], digits[len(digits) - self.decimals :]
         return ("-" if units < 0 else "") + whole + ("." + rest if self.decimals else "")
+
+
+    def raw(self, word: "Word | None", slot: int, words: int) -> int:
+        """The raw number of a sample that begins in this slot, by the word that is held for it then."""
+        is_fresh = word is not None and (self.age is None or slot * MILLION <= (word.time + self.age) * words)
+        if self.sign == "V":
+            return int(is_fresh)
+        ones = (1 << self.width) - 1
+        if self.age is not None and not is_fresh:
+            return ones
+        return word.word >> (self.lsb - 1) & ones if word else 0
 
 
 @dataclass
@@ -69,9 +81,10 @@ def read_table(path: pathlib.Path) -> Table:
     for row in rows[1:]:
         if row[0] == "P":
             sdi = int(row[4]) if row[4] else None
+            age = int(row[13]) if len(row) > 13 and row[13] else None
             scale = (int(row[8]), int(row[9]), int(row[10]), int(row[11]))
             table.parameters.append(
-                Parameter(row[1], int(row[2]), int(row[3], 8), sdi, int(row[5]), int(row[6]), row[7] == "S", *scale)
+                Parameter(row[1], int(row[2]), int(row[3], 8), sdi, int(row[5]), int(row[6]), row[7], age, *scale)
             )
         else:
             parameter = next(one for one in table.parameters if one.name == row[1])
@@ -183,7 +196,7 @@ def recording_of(table: Table, words: list[Word], end: int) -> Recording:
         for occurrence in _occurrences(parameter, len(slots), FRAMES * frame):
             first = min(occurrence)
             before = bisect.bisect_right(times, first * MILLION // table.words)
-            raw = held[before - 1].word >> (parameter.lsb - 1) & ((1 << parameter.width) - 1) if before else 0
+            raw = parameter.raw(held[before - 1] if before else None, first, table.words)
             _put(slots, parameter, occurrence, raw)
             if max(occurrence) < len(slots):
                 samples.append(Sample(max(occurrence), first, parameter.name, parameter.value(raw)))

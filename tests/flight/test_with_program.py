@@ -18,10 +18,23 @@ P,ALT,0,203,2,11,12,U,1,1,0,0,64
 L,ALT,1,1234,10,0,1,12,0,1
 """
 
+# Words come three times a second, so some of them are too old where they are sampled.
+AGED = """\
+F,64,2,1
+P,ALT,0,203,,11,11,U,1,1,0,0,64,200000
+L,ALT,1,1234,10,0,1,11,0,1
+P,ALT_OK,0,203,,11,1,V,1,1,0,0,64,200000
+L,ALT_OK,1,1234,10,0,12,1,0,1
+P,POS,1,310,,9,20,S,7,3,-5,2,16,150000
+L,POS,1,1,20,0,1,12,0,1
+L,POS,2,3,20,0,1,8,0,1
+"""
 
-@pytest.mark.parametrize("name, frames", [("ordinary", 120), ("position", 100)])
+
+@pytest.mark.parametrize("name, frames", [("ordinary", 120), ("position", 100), ("aged", 100)])
 def test_generated_values_come_back(flight, fdr, write, name, frames):
-    table_path = encoder.TOP / "examples" / "ordinary.csv" if name == "ordinary" else write("t.csv", POSITION)
+    given = {"position": POSITION, "aged": AGED}
+    table_path = write("t.csv", given[name]) if name in given else encoder.TOP / "examples" / "ordinary.csv"
     table = encoder.read_table(table_path)
     words = encoder.generated(table, frames, 11)
     recording = encoder.recording_of(table, words, frames * 4_000_000)
