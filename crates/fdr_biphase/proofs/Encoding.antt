@@ -10,7 +10,7 @@ use Rattle.std.proofs.lemmas.List.FromFn.{length-map-range_with_len, get_or-map-
 use Rattle.fdr_lists.proofs.Ranges.{map-range-agree}
 use Rattle.fdr_bits.specs.Bits.{bits_in, bit_at}
 use Rattle.fdr_bits.proofs.AppendLemmas.{bit_at_append_left, bit_at_append_right}
-use Rattle.fdr_biphase.specs.Cells.{bits_of_bytes, cells_of, cell_end, level_after}
+use Rattle.fdr_biphase.specs.Cells.{bits_of_bytes, cells_of, level_after}
 use Rattle.fdr_biphase.specs.Packed.{packed_bits, low_bits, byte_bits}
 use Rattle.fdr_biphase.proofs.CellLemmas.{length-cells, cells-append, level_after-append}
 use Rattle.fdr_biphase.proofs.Struck.{each_element}
@@ -18,44 +18,6 @@ use Rattle.fdr_biphase.proofs.Struck.{each_element}
 -- the lowest bit of a number as it is tested
 pub tested : (m n : ℕ) → m ≡ n → eqb (bit_and m 1) 1 ≡ (n % 2 == 1)
 tested m n is = ap (λ k. eqb k 1) (and_mask m 1) ∙ ap (λ k. k % 2 == 1) is
-
-pub low_tested : (b : ℕ) → eqb (bit_and b 1) 1 ∷ eqb (bit_and (b / 2) 1) 1 ∷ eqb (bit_and (b / 4) 1) 1 ∷ eqb (bit_and (b / 8) 1) 1 ∷ [] ≡ low_bits b
-low_tested b =
-    let t = λ (m : ℕ). eqb (bit_and m 1) 1 in
-    ap (λ x. x ∷ t (b / 2) ∷ t (b / 4) ∷ t (b / 8) ∷ []) (tested b (b / 1) (omega arith))
-    ∙ ap (λ x. (b / 1 % 2 == 1) ∷ x ∷ t (b / 4) ∷ t (b / 8) ∷ []) (tested (b / 2) (b / 2) refl)
-    ∙ ap (λ x. (b / 1 % 2 == 1) ∷ (b / 2 % 2 == 1) ∷ x ∷ t (b / 8) ∷ []) (tested (b / 4) (b / 4) refl)
-    ∙ ap (λ x. (b / 1 % 2 == 1) ∷ (b / 2 % 2 == 1) ∷ (b / 4 % 2 == 1) ∷ x ∷ []) (tested (b / 8) (b / 8) refl)
-
-packed_cell : (l bit : Bool) (bits : List Bool)
-    → packed_bits (cells_of l (bit ∷ bits)) ≡ packed_bits (cells_of l (bit ∷ [])) + 4 * packed_bits (cells_of (cell_end l bit) bits)
-unfolding cells_of
-packed_cell l bit bits = omega arith
-
--- a packed cell, and the level that it ends with
-pub record IsPackedCell (l bit end : Bool) (x : ℕ) : Type 0 where
-  pub cell : x ≡ packed_bits (cells_of l (bit ∷ []))
-  pub level : end ≡ cell_end l bit
-
-packed_next : (l bit end : Bool) (x y : ℕ) (bits : List Bool) → IsPackedCell l bit end x → y ≡ packed_bits (cells_of end bits)
-    → x + 4 * y ≡ packed_bits (cells_of l (bit ∷ bits))
-packed_next l bit end x y bits h rest =
-    let next : y ≡ packed_bits (cells_of (cell_end l bit) bits) = rest ∙ ap (λ e. packed_bits (cells_of e bits)) h.level in
-    omega (arith, packed_cell l bit bits, h.cell, next)
-
-pub four_packed : (l0 l1 l2 l3 l4 b0 b1 b2 b3 : Bool) (x0 x1 x2 x3 : ℕ) → IsPackedCell l0 b0 l1 x0 → IsPackedCell l1 b1 l2 x1 → IsPackedCell l2 b2 l3 x2
-    → IsPackedCell l3 b3 l4 x3 → x0 + 4 * x1 + 16 * x2 + 64 * x3 ≡ packed_bits (cells_of l0 (b0 ∷ b1 ∷ b2 ∷ b3 ∷ []))
-four_packed l0 l1 l2 l3 l4 b0 b1 b2 b3 x0 x1 x2 x3 h0 h1 h2 h3 =
-    let e2 = packed_next l2 b2 l3 x2 x3 (b3 ∷ []) h2 h3.cell in
-    let e1 = packed_next l1 b1 l2 x1 (x2 + 4 * x3) (b2 ∷ b3 ∷ []) h1 e2 in
-    let e0 = packed_next l0 b0 l1 x0 (x1 + 4 * (x2 + 4 * x3)) (b1 ∷ b2 ∷ b3 ∷ []) h0 e1 in
-    omega (arith, e0)
-
-pub four_end : (l0 l1 l2 l3 l4 b0 b1 b2 b3 : Bool) (x0 x1 x2 x3 : ℕ) → IsPackedCell l0 b0 l1 x0 → IsPackedCell l1 b1 l2 x1 → IsPackedCell l2 b2 l3 x2
-    → IsPackedCell l3 b3 l4 x3 → l4 ≡ level_after l0 (b0 ∷ b1 ∷ b2 ∷ b3 ∷ [])
-unfolding level_after
-four_end l0 l1 l2 l3 l4 b0 b1 b2 b3 x0 x1 x2 x3 h0 h1 h2 h3 =
-    h3.level ∙ ap (λ l. cell_end l b3) (h2.level ∙ ap (λ l. cell_end l b2) (h1.level ∙ ap (λ l. cell_end l b1) h0.level))
 
 pub one_byte : (b : ℕ) → bits_of_bytes (b ∷ []) ≡ byte_bits b
 unfolding bit_at
@@ -97,11 +59,14 @@ packed_bit (bit ∷ bits) (suc j) within =
     ∙ ap (λ k. k / 2 ^ j % 2 == 1) (rest_where bit n (packed_bits bits) (packed-cons bit bits))
     ∙ packed_bit bits j (omega arith)
 
-unpacked : (bits : List Bool) → length bits ≡ 8 → byte_bits (packed_bits bits) ≡ bits
-unpacked bits eight =
-    map-range-agree (λ j. packed_bits bits / 2 ^ j % 2 == 1) (λ j. get_or bits j false) 0 8 (λ j low high. packed_bit bits j (omega arith))
-    ∙ ap (λ n. map (λ j. get_or bits j false) (range_with_len 0 n)) (sym eight)
+pub unpacked_all : (bits : List Bool) (n : ℕ) → length bits ≡ n → map (λ j. packed_bits bits / 2 ^ j % 2 == 1) (range_with_len 0 n) ≡ bits
+unpacked_all bits n long =
+    map-range-agree (λ j. packed_bits bits / 2 ^ j % 2 == 1) (λ j. get_or bits j false) 0 n (λ j low high. packed_bit bits j (omega (arith, long)))
+    ∙ ap (λ n. map (λ j. get_or bits j false) (range_with_len 0 n)) (sym long)
     ∙ each_element [] bits
+
+unpacked : (bits : List Bool) → length bits ≡ 8 → byte_bits (packed_bits bits) ≡ bits
+unpacked bits eight = unpacked_all bits 8 eight
 
 -- the two bytes that the cells of a byte fill
 pub byte_cells : (first between : Bool) (b x y : ℕ) → x ≡ packed_bits (cells_of first (low_bits b)) → between ≡ level_after first (low_bits b)

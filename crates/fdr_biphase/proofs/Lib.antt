@@ -9,3 +9,11 @@ pub mod Staying
 pub mod Packing
 pub mod Packers
 pub mod Texts
+mod Bounded
+pub mod Tabled
+pub mod Filling
+pub mod Gathered
+pub mod Paired
+pub mod Turns
+pub mod Joined
+pub mod WordBytes

@@ -1,12 +1,11 @@
 -- A packer of bits, and a reader of levels.
 use Rattle.std.proofs.Common.{◌≡◌, ℕ, ◌+◌, ◌*◌, ◌/◌, ◌%◌, ◌^◌, ◌<◌, ◌≤◌, Bool, true, false}
-use Rattle.std.proofs.Common.{List, [], ◌∷◌, ◌++◌, length, take, drop, map, Option, Some, None, IsSome}
+use Rattle.std.proofs.Common.{List, [], ◌∷◌, ◌++◌, length, take, drop, Option, Some, None, IsSome}
 use Rattle.std.proofs.Common.{refl, sym, ap, ◌∙◌, arith, length-append, append_assoc, append-nil, subst}
-use Rattle.std.specs.Prelude.{◌==◌, eqb, bit_and}
+use Rattle.std.specs.Prelude.{◌==◌}
 use Rattle.std.specs.Option.{option_or}
-use Rattle.std.specs.List.{range_with_len}
 use Rattle.std.proofs.Math.Nat.{pow-le-pow_right}
-use Rattle.std.proofs.lemmas.List.{take_all, take-append-drop, length-take}
+use Rattle.std.proofs.lemmas.List.{take-append-drop, length-take}
 use Rattle.std.proofs.lemmas.List.FromFn.{length-map-range_with_len, map-range_with_len_more, take-map-range_with_len}
 use Rattle.fdr_bits.specs.Bits.{bits_in, bit_at}
 use Rattle.fdr_biphase.specs.Cells.{bits_of_bytes}
@@ -15,8 +14,8 @@ use Rattle.fdr_biphase.specs.Phases.{missing_place, cell_bits}
 use Rattle.fdr_biphase.specs.Reading.{RepresentsPacker, ReadsLevels, MissesLevel}
 use Rattle.fdr_biphase.specs.declared.packer.BitPacker.{BitPacker}
 use Rattle.fdr_biphase.specs.declared.reader.LevelReader.{LevelReader}
-use Rattle.fdr_biphase.proofs.Encoding.{bits_of_more, one_byte, tested}
-use Rattle.fdr_biphase.proofs.Packing.{one_more_byte, no_bytes, packed_below, packed-then_one, packed-then_zero, whole_bytes_stay}
+use Rattle.fdr_biphase.proofs.Encoding.{bits_of_more, one_byte}
+use Rattle.fdr_biphase.proofs.Packing.{one_more_byte, packed_below, packed-then_one, packed-then_zero, whole_bytes_stay}
 
 small_power : (n : ℕ) → n < 8 → 2 ^ n < 256
 small_power n few = let below : 2 ^ n ≤ 2 ^ 7 = pow-le-pow_right (omega arith) {i = n} {j = 7} (omega arith) in omega (arith, below)

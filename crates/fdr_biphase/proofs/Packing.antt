@@ -1,6 +1,6 @@
 -- Bits as bytes, one byte after another.
-use Rattle.std.proofs.Common.{◌≡◌, ℕ, zero, suc, ◌+◌, ◌-◌, ◌*◌, ◌/◌, ◌%◌, ◌^◌, ◌<◌, ◌≤◌, Bool, true, false, List, [], ◌∷◌, ◌++◌, length, map, take, drop}
-use Rattle.std.proofs.Common.{refl, sym, ap, ◌∙◌, arith, length-append, append_assoc, append-nil}
+use Rattle.std.proofs.Common.{◌≡◌, ℕ, suc, ◌+◌, ◌*◌, ◌/◌, ◌^◌, ◌<◌, ◌≤◌, Bool, true, false, List, [], ◌∷◌, ◌++◌, length, map, take, drop}
+use Rattle.std.proofs.Common.{refl, sym, ap, ◌∙◌, arith, length-append, append_assoc}
 use Rattle.std.specs.List.{range_with_len}
 use Rattle.std.proofs.lemmas.List.{take_all, length-drop, drop-append-le, take-append-le, take-append-drop}
 use Rattle.std.proofs.lemmas.List.FromFn.{length-map-range_with_len, map-range_with_len_more, take-map-range_with_len}
@@ -63,7 +63,7 @@ pub length-bytes_of_bits : (bits : List Bool) → length (bytes_of_bits bits) �
 unfolding bytes_of_bits
 length-bytes_of_bits bits = length-map-range_with_len (λ i. packed_bits (take 8 (drop (8 * i) bits))) 0 ((length bits + 7) / 8)
 
-twice_power : (n : ℕ) → 2 ^ suc n ≡ 2 * 2 ^ n
+pub twice_power : (n : ℕ) → 2 ^ suc n ≡ 2 * 2 ^ n
 twice_power n = let next : suc n ≡ 1 + n = omega arith in ap (λ k. 2 ^ k) next ∙ pow-add 2 1 n
 
 pub packed_below : (bits : List Bool) → packed_bits bits < 2 ^ length bits

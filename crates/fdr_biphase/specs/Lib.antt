@@ -1,5 +1,6 @@
 pub mod Cells
 pub mod Phases
 pub mod Packed
+pub mod Words
 pub mod Past
 pub mod Reading

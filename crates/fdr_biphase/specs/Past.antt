@@ -10,6 +10,7 @@ use Rattle.fdr_biphase.specs.declared.decoder.Fitting.{Fitting}
 use Rattle.fdr_biphase.specs.declared.decoder.Fitting.TheVariants.{Both, One}
 use Rattle.fdr_biphase.specs.Cells.{bits_of_bytes, level_at, level_after}
 use Rattle.fdr_biphase.specs.Phases.{fails_at, cell_bits}
+use Rattle.fdr_biphase.specs.Words.{word_bits}
 
 -- the encoder was made with this level before the first cell, and the cells of these bytes were taken from it
 pub record RepresentsEncoder (e : Encoder) (first : Bool) (bytes : List ℕ) : Type 0 where
@@ -37,6 +38,10 @@ answered_place (Err m) = Some m.at
 -- with one more level, and what its push answered
 abbrev pub decoder_with : DecoderPast → Bool → Option Bool → DecoderPast
 decoder_with past level answer = record { levels = past.levels ++ level ∷ []; bits = past.bits ++ answered_bit answer }
+
+-- with the 64 levels of a word, and the 32 bits that were answered for it
+abbrev pub with_word : DecoderPast → ℕ → ℕ → DecoderPast
+with_word past levels bits = record { levels = past.levels ++ word_bits 64 levels; bits = past.bits ++ word_bits 32 bits }
 
 -- these phases fit the levels, and no other does
 abbrev pub ArePhases : Fitting → List Bool → Type 0

@@ -2,7 +2,6 @@
 use Rattle.std.specs.Prelude.{ℕ, ◌≡◌, ◌*◌, ◌<◌, Bool, true, false, List, ◌++◌, length, Some}
 use Rattle.fdr_biphase.specs.declared.packer.BitPacker.{BitPacker}
 use Rattle.fdr_biphase.specs.declared.reader.LevelReader.{LevelReader}
-use Rattle.fdr_biphase.specs.Cells.{bits_of_bytes}
 use Rattle.fdr_biphase.specs.Packed.{packed_bits, bytes_of_bits}
 use Rattle.fdr_biphase.specs.Phases.{missing_place, cell_bits}
 use Rattle.fdr_biphase.specs.Past.{RepresentsDecoder}

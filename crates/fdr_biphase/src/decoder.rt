@@ -1,10 +1,11 @@
 //! The decoder.
 
-ghost use Rattle.std.specs.Prelude.{◌≡◌, ◌+◌, ◌^◌, ◌≤◌, ◌<◌, ◌++◌, ◌∷◌, [], ℕ, Bool, List, Some, true, false, length, is_err, IfOk, IfErr};
+ghost use Rattle.std.specs.Prelude.{◌≡◌, ◌+◌, ◌^◌, ◌≤◌, ◌<◌, ◌++◌, ◌∷◌, [], ℕ, Bool, List, Some, true, false, length, None, is_err, IfOk, IfErr, IfSome};
 ghost use Rattle.fdr_biphase.specs.Phases.{missing_place, cell_bits};
-ghost use Rattle.fdr_biphase.specs.Past.{DecoderPast, RepresentsDecoder, decoder_made, decoder_with, answered_bit, answered_place};
+ghost use Rattle.fdr_biphase.specs.Past.{DecoderPast, RepresentsDecoder, decoder_made, decoder_with, with_word, answered_bit, answered_place};
 
 use crate::Missing;
+use crate::words::{EVEN, even_bits, turns};
 
 /// The phases that fit the levels so far.
 #[derive(Clone, Copy)]
@@ -82,6 +83,33 @@ impl Decoder {
                 Err(Missing { at })
             }
         }
+    }
+
+    /// Takes 64 levels together, the first of them as the least significant bit, and answers their bits in the same order.
+    /// Where both phases fit still, or a place among them is missing, it takes none of them and answers None.
+    #[inline(always)]
+    pub(crate) fn word(&mut self, levels: u64) -> Option<u32>
+        requires limit { self.old.count + 64 ≤ 2 ^ 63 }
+        ensures stands { (past : DecoderPast) → RepresentsDecoder self.old past
+            → IfSome result (λ bits. RepresentsDecoder self.new (with_word past levels bits)) }
+        ensures open { self.new.ended ≡ self.old.ended }
+        ensures left { result ≡ None → self.new ≡ self.old }
+    {
+        let Fitting::One(phase) = self.fitting else {
+            return None;
+        };
+        let turns = turns(levels, self.last);
+        let (begins, middles) = if self.count % 2 == phase {
+            (turns, turns >> 1)
+        } else {
+            (turns >> 1, turns)
+        };
+        if begins & EVEN != EVEN {
+            return None;
+        }
+        self.count += 64;
+        self.last = levels >> 63 == 1;
+        Some(even_bits(middles))
     }
 
     /// Whether no further level may come.

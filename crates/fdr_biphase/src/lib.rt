@@ -11,12 +11,13 @@ mod packer;
 mod reader;
 #[cfg(test)]
 mod tests;
+mod words;
 
 pub use decoder::Decoder;
 pub use encoder::Encoder;
 pub use law::{bits_of_cells, bits_stay, cells_are_unique, one_bit_waits, turned_levels};
 pub use packer::BitPacker;
-pub use reader::{Given, LevelReader};
+pub use reader::{Filled, Given, LevelReader};
 
 /// The level doesn't change at a place where a cell would begin, and cells can't begin at the other places either.
 #[derive(Clone, Copy, PartialEq, Eq, Debug)]

@@ -3,6 +3,7 @@
 ghost use Rattle.std.specs.Prelude.{◌≡◌, ◌+◌, ◌≤◌, ◌++◌, ◌∷◌, [], ℕ, Bool, List, IsSome, None};
 ghost use Rattle.fdr_biphase.specs.Packed.{answered_byte, bytes_of_bits};
 ghost use Rattle.fdr_biphase.specs.Reading.{RepresentsPacker};
+ghost use Rattle.fdr_biphase.specs.Words.{word_bits};
 
 /// Packs bits into bytes. In each the first bit is the least significant.
 #[derive(Drop)]
@@ -39,6 +40,18 @@ impl BitPacker {
         self.byte = byte;
         self.count += 1;
         None
+    }
+
+    /// Takes the next 32 bits, the first of them as the least significant, and answers the four bytes that they complete.
+    #[inline(always)]
+    pub fn word(&mut self, bits: u32) -> [u8; 4]
+        requires { (before : List Bool) × (bytes : List ℕ) × RepresentsPacker self.old before bytes }
+        ensures stands { (before : List Bool) (bytes : List ℕ) → RepresentsPacker self.old before bytes
+            → RepresentsPacker self.new (before ++ word_bits 32 bits) (bytes ++ result) }
+    {
+        let joined = u64::from(self.byte) + (u64::from(bits) << self.count);
+        self.byte = (joined >> 32) as u8;
+        ((joined & 0xffff_ffff) as u32).to_le_bytes()
     }
 
     /// The byte that the last bits fill together with zero bits, if there are any that fill no byte.

@@ -75,36 +75,3 @@ pub fn pack_pair(a: u16, b: u16) -> [u8; 3]
         (b >> 4) as u8,
     ]
 }
-
-#[cfg(test)]
-mod tests {
-    use super::*;
-
-    #[test]
-    fn packs_and_reads_words(rt: HostRuntime) {
-        let bytes = pack_pair(0x247, 0x123);
-        assert_eq!(rt; bytes, [0x47, 0x32, 0x12]);
-        assert_eq!(rt; word12(&bytes, 0), 0x247);
-        assert_eq!(rt; word12(&bytes, 12), 0x123);
-        assert_eq!(rt; word12(&bytes, 5), 0x192);
-        for (p, is_set) in [
-            (0, true),
-            (3, false),
-            (6, true),
-            (9, true),
-            (20, true),
-            (23, false),
-        ] {
-            assert_eq!(rt; bit(&bytes, p), is_set, "bit {p}");
-        }
-    }
-
-    #[test]
-    fn writes_and_reads_fields(rt: HostRuntime) {
-        assert_eq!(rt; put_bits(0xfff, 5, 4, 0x3), 0xf3f);
-        assert_eq!(rt; put_bits(0x000, 12, 1, 1), 0x800);
-        assert_eq!(rt; put_bits(0x123, 1, 12, 0xabc), 0xabc);
-        assert_eq!(rt; get_bits(0xf3f, 5, 4), 0x3);
-        assert_eq!(rt; get_bits(0xabc, 9, 4), 0xa);
-    }
-}

@@ -107,12 +107,30 @@ fn decodes_what_was_encoded(rt: HostRuntime) -> Result<(), Fail> {
 
 #[test]
 fn answers_faults_of_the_line_and_the_sink(rt: HostRuntime) -> Result<(), Fail> {
-    for (command, line) in [("encode", [0x47, 0x47]), ("decode", [0xd5, 0x2c])] {
-        let failed = run_on(rt.alloc(), command, &line, &[0], &[])?;
-        assert_eq!(rt; failed.0, Outcome::ReadFault(Input::Line), "{command}");
-        assert_eq!(rt; failed.1.as_slice(), b"".as_slice(), "{command}");
-        let cut = run_on(rt.alloc(), command, &line, &[], &[0])?;
-        assert_eq!(rt; cut.0, Outcome::WriteFault, "{command}");
+    type Failing<'a> = (&'a str, &'a [u8], &'a [u64], &'a [u64], Outcome, &'a [u8]);
+    let line = Outcome::ReadFault(Input::Line);
+    let cases: [Failing<'_>; 7] = [
+        ("encode", &[0x47], &[0], &[], line, &[]),
+        ("encode", &[0x47], &[1], &[], line, &[0xd5, 0x2c]),
+        ("encode", &[0x47], &[], &[0], Outcome::WriteFault, &[]),
+        ("decode", &[0xd5, 0x2c], &[0], &[], line, &[]),
+        // Four bits, filled to a byte.
+        ("decode", &[0xd5], &[1], &[], line, &[0x07]),
+        // The missing transition comes before the failing pull, and the failing write before that.
+        (
+            "decode",
+            &[0x6a, 0x16],
+            &[1],
+            &[],
+            Outcome::CellFault { at: 15 },
+            &[0x23],
+        ),
+        ("decode", &[0x6a, 0x16], &[], &[0], Outcome::WriteFault, &[]),
+    ];
+    for (command, given, pulls, writes, outcome, written) in cases {
+        let (answered, text) = run_on(rt.alloc(), command, given, pulls, writes)?;
+        assert_eq!(rt; answered, outcome, "{command}");
+        assert_eq!(rt; text.as_slice(), written, "{command}");
     }
     Ok(())
 }

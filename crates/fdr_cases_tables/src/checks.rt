@@ -95,7 +95,7 @@ fn names_the_faults_of_ages_and_signs(rt: HostRuntime) -> Result<(), Fail> {
             TableFault::Number { field: 7 },
         ),
         (
-            "F,64,2,1\nP,ALT,0,203,,11,12,U,1,1,0,0,64,0\nL,ALT,1,1234,10,0,1,12,0,1\n",
+            "F,64,2,1\nP,ALT,0,203,,11,12,U,1,1,0,0,64,0\nL,ALT,1,1234,10,0,1,12,0,1\nP,OK,0,203,,11,1,V,1,1,0,0,64,2000000\nL,OK,1,1234,11,0,1,1,0,1\n",
             1,
             TableFault::Number { field: 13 },
         ),

@@ -26,6 +26,3 @@ pub use slots::part_bits;
 pub use sorting::{Sorted, sorted_by_key};
 pub use sound::Sound;
 pub use walk::add_slots;
-
-#[cfg(test)]
-mod tests;

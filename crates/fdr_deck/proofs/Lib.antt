@@ -1,10 +1,9 @@
 pub mod Line
 pub mod Moments
 pub mod Torn
-mod Marked
-mod MemoryCalls
-mod MemoryDisk
-mod MemoryPass
-mod MemoryWrite
-mod MemoryStops
+pub mod MemoryCalls
+pub mod MemoryDisk
+pub mod MemoryPass
+pub mod MemoryWrite
+pub mod MemoryStops
 pub mod Quiet

@@ -8,4 +8,3 @@ pub mod Sure
 pub mod Memory
 pub mod MemorySound
 pub mod Stops
-pub mod Marked

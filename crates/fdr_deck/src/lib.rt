@@ -8,16 +8,13 @@ mod decks;
 mod error;
 mod image;
 mod memory;
-#[cfg(test)]
-mod sample;
 mod stops;
 mod sure;
-#[cfg(test)]
-mod tests;
 
 pub use announced::Announced;
 pub use decks::Deck;
 pub use error::NoMemory;
+pub use image::{copy_from, copy_of, fill, patch, zeros_of};
 pub use memory::MemDeck;
 pub use stops::Tear;
 pub use sure::SureDeck;

@@ -75,6 +75,3 @@ impl Divisor {
         )
     }
 }
-
-#[cfg(test)]
-mod tests;

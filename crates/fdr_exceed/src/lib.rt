@@ -8,8 +8,6 @@ mod fault;
 mod hits;
 mod rule;
 mod rules;
-#[cfg(test)]
-mod tests;
 mod text;
 mod watch;
 mod window;

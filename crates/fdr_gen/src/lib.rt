@@ -10,6 +10,3 @@ mod sender;
 
 pub use generator::Gen;
 pub use law::{reads_back, stays_good};
-
-#[cfg(test)]
-mod tests;

@@ -1,4 +1,5 @@
 pub mod Faults
 pub mod Told
+pub mod Limits
 pub mod Fakes
 pub mod Output

@@ -7,13 +7,17 @@ mod buffers;
 mod failing;
 mod sinks;
 mod sources;
-#[cfg(test)]
-mod tests;
 
 pub use buffers::OutBuffer;
 pub use failing::FailingCalls;
 pub use sinks::{MemSink, NullSink, Sink, write_whole};
 pub use sources::{MemSource, Source, SureSource, copy_next};
+
+/// How many bytes of a source or of an input are asked for at a time, at most.
+pub const PIECE: usize = 4_096;
+
+// The number that the contracts name: `piece_bytes` of the definitions.
+const _: () = prove!(PIECE == 4_096);
 
 /// A read, a write or another call of the outside failed. The object's count of faults rose.
 #[derive(Clone, Copy, Debug, PartialEq, Eq)]

@@ -3,8 +3,6 @@
 
 mod candidates;
 mod search;
-#[cfg(test)]
-mod tests;
 mod words;
 
 pub use search::first_sync;

@@ -94,6 +94,3 @@ fn segment<'a, T>(starts: &[u32], items: &'a [T], k: u32) -> &'a [T]
     let end = starts[k as usize + 1] as usize;
     &items[start..end]
 }
-
-#[cfg(test)]
-mod tests;

@@ -3,8 +3,6 @@
 
 mod numbers;
 mod ready;
-#[cfg(test)]
-mod tests;
 mod text;
 
 pub use fdr_line::Line;

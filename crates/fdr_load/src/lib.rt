@@ -5,6 +5,3 @@ mod load;
 mod reading;
 
 pub use load::{LoadFault, load_table};
-
-#[cfg(test)]
-mod tests;

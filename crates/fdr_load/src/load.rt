@@ -2,13 +2,14 @@
 
 ghost use Rattle.std.specs.Prelude.{◌≡◌, ◌≢◌, ◌+◌, ◌≤◌, ℕ, List, [], length, IfOk, IfSome, Err};
 ghost use Rattle.fdr_io.specs.Faults.{Rose};
+ghost use Rattle.fdr_io.specs.Limits.{piece_bytes};
 ghost use Rattle.fdr_io.specs.Told.{preceded_by};
 ghost use Rattle.fdr_frame.specs.WordCount.{IsWordCount};
 ghost use Rattle.fdr_table.specs.Bounds.{most_table_bytes};
 ghost use Rattle.fdr_table.specs.Ranges.{IsInRange};
 ghost use Rattle.fdr_table.specs.declared.fault.TableFault.{TableFault};
 ghost use Rattle.fdr_check.specs.Soundness.{IsSound};
-ghost use Rattle.fdr_load.specs.Limits.{TakesAtMost, table_piece_bytes};
+ghost use Rattle.fdr_load.specs.Limits.{TakesAtMost};
 ghost use Rattle.fdr_load.specs.Tables.{IsAccepted, IsTableRefused, load_fault, table_in};
 
 use crate::reading::{ReadError, read_table_bytes};
@@ -75,12 +76,12 @@ pub fn load_table<T: Source>(alloc: Global, source: &mut T) -> Result<Sound, Loa
     ensures refused { (row : ℕ) (f : TableFault) → result ≡ Err (LoadFault.Refused row f)
         → (bytes : List ℕ) × IsTableRefused bytes row f × (T.rest source.old ≡ preceded_by bytes (T.rest source.new))
         × (length bytes ≤ most_table_bytes → IfSome (T.rest source.new) (λ left. left ≡ []))
-        × (length bytes ≤ most_table_bytes + table_piece_bytes) }
+        × (length bytes ≤ most_table_bytes + piece_bytes) }
     ensures fault { result ≡ Err LoadFault.Failed → Rose (T.faults source.old) (T.faults source.new) }
     ensures no_fault { result ≢ Err LoadFault.Failed → T.faults source.new ≡ T.faults source.old }
     ensures fault_within_limit { result ≡ Err LoadFault.Failed
         → (bytes : List ℕ) × (length bytes ≤ most_table_bytes) × (T.rest source.old ≡ preceded_by bytes (T.rest source.new)) }
-    ensures bounded { TakesAtMost (most_table_bytes + table_piece_bytes) (T.rest source.old) (T.rest source.new) }
+    ensures bounded { TakesAtMost (most_table_bytes + piece_bytes) (T.rest source.old) (T.rest source.new) }
     ensures monotone { T.faults source.old ≤ T.faults source.new }
 {
     match read_table_bytes(alloc, source) {

@@ -2,25 +2,21 @@
 
 ghost use Rattle.std.specs.Prelude.{◌≡◌, ◌+◌, ◌≤◌, ◌<◌, ℕ, List, [], length, IfSome, IfOk, OnOk, vec_len, IsErrOf};
 ghost use Rattle.fdr_io.specs.Faults.{Rose};
+ghost use Rattle.fdr_io.specs.Limits.{piece_bytes};
 ghost use Rattle.fdr_io.specs.Told.{preceded_by};
 ghost use Rattle.fdr_table.specs.Bounds.{most_table_bytes};
-ghost use Rattle.fdr_load.specs.Limits.{TakesAtMost, table_piece_bytes};
+ghost use Rattle.fdr_load.specs.Limits.{TakesAtMost};
 
-use fdr_io::{Failed, Source};
-use fdr_table::NoMemory;
+use fdr_io::{Failed, PIECE, Source};
+use fdr_table::{MAX_TABLE_BYTES, NoMemory};
 use std::alloc::Global;
-
-/// The most bytes that a table has.
-const MAX_TABLE_BYTES: usize = 1_048_576;
-
-/// How many bytes are asked for at a time.
-const PIECE: usize = 4096;
 
 /// Why bytes weren't read.
 #[derive(Clone, Copy, Debug, PartialEq, Eq)]
 pub enum ReadError {
     /// The source's count of faults rose.
     Failed,
+    /// There was not enough memory for them.
     NoMemory,
 }
 
@@ -32,9 +28,9 @@ fn read_piece<T: Source>(source: &mut T, bytes: &mut Vec<u8>) -> Result<usize, R
     ensures failed { IsErrOf result ReadError.Failed → Rose (T.faults source.old) (T.faults source.new) }
     ensures kept { IsErrOf result ReadError.Failed → T.rest source.new ≡ T.rest source.old }
     ensures same { IsErrOf result ReadError.Failed → bytes.new.items ≡ bytes.old.items }
-    ensures within_piece { IfOk result (λ n. n ≤ table_piece_bytes) }
+    ensures within_piece { IfOk result (λ n. n ≤ piece_bytes) }
     ensures no_fault { (IsErrOf result ReadError.Failed → ⊥) → T.faults source.new ≡ T.faults source.old }
-    ensures bounded { TakesAtMost table_piece_bytes (T.rest source.old) (T.rest source.new) }
+    ensures bounded { TakesAtMost piece_bytes (T.rest source.old) (T.rest source.new) }
     ensures monotone { T.faults source.old ≤ T.faults source.new }
 {
     let mut piece = [0; PIECE];
@@ -53,8 +49,8 @@ pub fn read_table_bytes<T: Source>(alloc: Global, source: &mut T) -> Result<Vec<
     ensures whole { IfOk result (λ bytes. vec_len bytes ≤ most_table_bytes → IfSome (T.rest source.new) (λ left. left ≡ [])) }
     ensures failed { IsErrOf result ReadError.Failed → Rose (T.faults source.old) (T.faults source.new) }
     ensures within_limit { IsErrOf result ReadError.Failed → ((bytes : List ℕ) × (length bytes ≤ most_table_bytes) × (T.rest source.old ≡ preceded_by bytes (T.rest source.new))) }
-    ensures bounded { TakesAtMost (most_table_bytes + table_piece_bytes) (T.rest source.old) (T.rest source.new) }
-    ensures within { IfOk result (λ bytes. vec_len bytes ≤ most_table_bytes + table_piece_bytes) }
+    ensures bounded { TakesAtMost (most_table_bytes + piece_bytes) (T.rest source.old) (T.rest source.new) }
+    ensures within { IfOk result (λ bytes. vec_len bytes ≤ most_table_bytes + piece_bytes) }
     ensures no_fault { (IsErrOf result ReadError.Failed → ⊥) → T.faults source.new ≡ T.faults source.old }
     ensures monotone { T.faults source.old ≤ T.faults source.new }
 {

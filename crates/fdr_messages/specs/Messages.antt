@@ -51,9 +51,11 @@ fault_numbers fault.Parts = []
 fault_numbers (fault.Rate declared counted) = rate_numbers declared counted
 fault_numbers fault.TooMany = []
 
+-- what is wrong with a table, whole
 abbrev pub fault_text : TableFault → List ℕ
 fault_text f = fault_words f ++ fault_numbers f
 
+-- what is wrong with a record of a trace
 abbrev pub trace_fault_words : TraceFault → List ℕ
 trace_fault_words trace.Kind = codes "kind"
 trace_fault_words trace.Back = codes "time goes back"
@@ -61,6 +63,7 @@ trace_fault_words trace.Late = codes "time too late"
 trace_fault_words trace.Truncated = codes "truncated"
 trace_fault_words trace.Many = codes "too many"
 
+-- what is wrong with an image
 abbrev pub image_fault_words : ImageFault → List ℕ
 image_fault_words image.Small = codes "too small"
 image_fault_words image.Closed = codes "header closed"

@@ -9,6 +9,3 @@ mod trace;
 pub use image::{image_message, words_message};
 pub use table::table_message;
 pub use trace::trace_message;
-
-#[cfg(test)]
-mod tests;

@@ -1,8 +1,9 @@
 -- A block on a side that may have failed.
-use Rattle.std.specs.Prelude.{◌≡◌, ◌<◌, ◌≤◌, ℕ, ◌+◌, ◌^◌, List, length, Option, Some, None, IsTrue, ⊤}
+use Rattle.std.specs.Prelude.{◌≡◌, ◌<◌, ◌≤◌, ℕ, ◌+◌, List, length, Option, Some, None, IsTrue, ⊤}
 use Rattle.fdr_io.specs.Faults.{Rose}
 use Rattle.fdr_deck.specs.State.{Tells}
 use Rattle.fdr_deck.specs.Disk.{IsSettled}
+use Rattle.fdr_slot.specs.Limits.{sequence_end}
 use Rattle.fdr_recover.specs.Blocks.{Block}
 use Rattle.fdr_ring.specs.Rings.{IsSureRing}
 use Rattle.fdr_ring.specs.declared.ring.Ring.{Ring}
@@ -25,7 +26,7 @@ pub record IsSettledRing (tells : Tells) (side : Side) (r : Ring) (p : Pair) : T
 pub record HasRoomFor (tells : Tells) (side : Side) (r : Ring) (bytes : List ℕ) (p : Pair) : Type 0 where
   pub ring : IsSettledRing tells side r p
   pub fits : length bytes ≤ r.header.payload
-  pub bound : r.next < 2 ^ 48
+  pub bound : r.next < sequence_end
 
 abbrev pub IsPutReady : Tells → Side → Option Ring → List ℕ → Pair → Type 0
 IsPutReady tells side None bytes p = ⊤

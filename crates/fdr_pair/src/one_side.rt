@@ -1,8 +1,9 @@
 //! A block on one side of a twin.
 
-ghost use Rattle.std.specs.Prelude.{◌≡◌, ◌⊎◌, ◌+◌, ◌<◌, ◌≤◌, ◌^◌, Err, length, IfOk, OnOk, OnErr, IsTrue};
+ghost use Rattle.std.specs.Prelude.{◌≡◌, ◌⊎◌, ◌+◌, ◌<◌, ◌≤◌, Err, length, IfOk, OnOk, OnErr, IsTrue};
 ghost use Rattle.fdr_io.specs.Faults.{Rose};
 ghost use Rattle.fdr_deck.specs.Disk.{IsSettled};
+ghost use Rattle.fdr_slot.specs.Limits.{sequence_end};
 ghost use Rattle.fdr_ring.specs.Rings.{IsRing, IsSureRing, OfSettled};
 ghost use Rattle.fdr_twin.specs.Pair.{seen, disk_on};
 ghost use Rattle.fdr_twin.specs.Serving.{Serves};
@@ -26,7 +27,7 @@ pub fn put_on<T: Twin>(
     requires some_bytes { 0 < length bytes.now }
     requires fits { length bytes.now ≤ ring.header.payload }
     ensures only { OnErr result (result ≡ Err RingFault.SeqEnd ⊎ result ≡ Err RingFault.DiskFault) }
-    ensures seq_end { result ≡ Err RingFault.SeqEnd → ring.next ≡ 2 ^ 48 }
+    ensures seq_end { result ≡ Err RingFault.SeqEnd → ring.next ≡ sequence_end }
     ensures ring { IfOk result (λ r. (r.header ≡ ring.header) × (r.next ≡ ring.next + 1)) }
     ensures fact { IfOk result (λ r. IsSureRing T.tells r.header r.next (seen side (T.pair twin.new))) }
     ensures put { OnOk result (IsTrue T.tells.bytes → HasPut ring.header

@@ -1,9 +1,10 @@
 //! A block on a deck.
 
-ghost use Rattle.std.specs.Prelude.{◌≡◌, ◌⊎◌, ◌+◌, ◌<◌, ◌≤◌, ◌^◌, Err, length, IfOk, OnOk, OnErr, IsTrue};
+ghost use Rattle.std.specs.Prelude.{◌≡◌, ◌⊎◌, ◌+◌, ◌<◌, ◌≤◌, Err, length, IfOk, OnOk, OnErr, IsTrue};
 ghost use Rattle.fdr_io.specs.Faults.{Rose};
 ghost use Rattle.fdr_deck.specs.Disk.{IsSettled};
 ghost use Rattle.fdr_deck.specs.Calls.{IsDiskWork, Succeeds};
+ghost use Rattle.fdr_slot.specs.Limits.{sequence_end};
 ghost use Rattle.fdr_ring.specs.Rings.{IsRing, IsSureRing, OfSettled};
 ghost use Rattle.fdr_pair.specs.Putting.{HasPut, MayPut};
 
@@ -17,7 +18,7 @@ pub fn put_block<D: Deck>(deck: &mut D, ring: Ring, bytes: &[u8]) -> Result<Ring
     requires some_bytes { 0 < length bytes.now }
     requires fits { length bytes.now ≤ ring.header.payload }
     ensures only { OnErr result (result ≡ Err RingFault.SeqEnd ⊎ result ≡ Err RingFault.DiskFault) }
-    ensures seq_end { result ≡ Err RingFault.SeqEnd → ring.next ≡ 2 ^ 48 }
+    ensures seq_end { result ≡ Err RingFault.SeqEnd → ring.next ≡ sequence_end }
     ensures ring { IfOk result (λ r. (r.header ≡ ring.header) × (r.next ≡ ring.next + 1)) }
     ensures fact { IfOk result (λ r. IsSureRing D.tells r.header r.next (D.state deck.new)) }
     ensures put { OnOk result (IsTrue D.tells.bytes → HasPut ring.header

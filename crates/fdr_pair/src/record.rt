@@ -1,6 +1,7 @@
 //! A block on both sides.
 
-ghost use Rattle.std.specs.Prelude.{◌≡◌, ◌+◌, ◌<◌, ◌≤◌, ◌^◌, [], ◌∷◌, length};
+ghost use Rattle.std.specs.Prelude.{◌≡◌, ◌+◌, ◌<◌, ◌≤◌, [], ◌∷◌, length};
+ghost use Rattle.fdr_slot.specs.Limits.{sequence_end};
 ghost use Rattle.fdr_twin.specs.Rest.{PairElapses};
 ghost use Rattle.fdr_twin.specs.Serving.{EachPairMoment};
 ghost use Rattle.fdr_twin.specs.declared.side.Side.TheVariants as side;
@@ -21,7 +22,7 @@ pub fn record_block<T: Twin>(
     next: u64,
     bytes: &[u8],
 ) -> (Option<Ring>, Option<Ring>)
-    requires bound { next < 2 ^ 48 }
+    requires bound { next < sequence_end }
     requires some_bytes { 0 < length bytes.now }
     requires first_ready { IsReadyFor T.tells side.First first next bytes.now (T.pair twin.old) }
     requires second_ready { IsReadyFor T.tells side.Second second next bytes.now (T.pair twin.old) }
@@ -53,7 +54,7 @@ pub fn record_copies<T: Twin>(
     count: u64,
     bytes: &[u8],
 ) -> (Option<Ring>, Option<Ring>)
-    requires bound { next + count ≤ 2 ^ 48 }
+    requires bound { next + count ≤ sequence_end }
     requires some_bytes { 0 < length bytes.now }
     requires first_ready { IsReadyFor T.tells side.First first next bytes.now (T.pair twin.old) }
     requires second_ready { IsReadyFor T.tells side.Second second next bytes.now (T.pair twin.old) }

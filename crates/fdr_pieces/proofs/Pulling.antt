@@ -7,7 +7,7 @@ use Rattle.std.proofs.Math.Seq.{take-append-add, take-append_seam, drop-append_s
 use Rattle.fdr_deck.specs.State.{State, Tells}
 use Rattle.fdr_deck.specs.Pull.{GivesPiece, TakesInput}
 use Rattle.fdr_deck.proofs.Line.{TakesInput-then}
-use Rattle.fdr_pieces.specs.Limits.{most_at_a_time}
+use Rattle.fdr_io.specs.Limits.{piece_bytes}
 use Rattle.fdr_pieces.specs.Pieces.{PullsPieces, before_last, last_piece}
 
 -- a pull takes its bytes of the input
@@ -31,7 +31,7 @@ pieces_none limit tells d = record {
 
 -- a pull that gives some
 pub pieces_then : (limit : ℕ) (tells : Tells) (first old new : State) (bytes buffer : List ℕ) (n : ℕ) → PullsPieces limit tells first old bytes
-    → length bytes ≤ limit → n ≤ length buffer → n ≤ most_at_a_time → 0 < n → GivesPiece tells old new buffer n
+    → length bytes ≤ limit → n ≤ length buffer → n ≤ piece_bytes → 0 < n → GivesPiece tells old new buffer n
     → PullsPieces limit tells first new (bytes ++ take n buffer)
 pieces_then limit tells first old new bytes buffer n before few within small some pulls = record {
   takes = TakesInput-then tells first old new bytes (take n buffer) before.takes (pulls_line tells old new buffer n within pulls);

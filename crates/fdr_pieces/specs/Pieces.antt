@@ -1,8 +1,8 @@
 -- An input that is pulled piece by piece, to its end or until more came than is taken.
 use Rattle.std.specs.Prelude.{◌≡◌, ℕ, ◌+◌, ◌-◌, ◌<◌, ◌≤◌, List, [], length, take, drop, IsTrue}
+use Rattle.fdr_io.specs.Limits.{piece_bytes}
 use Rattle.fdr_deck.specs.State.{State, Tells}
 use Rattle.fdr_deck.specs.Pull.{TakesInput}
-use Rattle.fdr_pieces.specs.Limits.{most_at_a_time}
 use Rattle.fdr_pieces.specs.declared.pieces.InputEnd.{InputEnd}
 use Rattle.fdr_pieces.specs.declared.pieces.InputEnd.TheVariants as input_end
 
@@ -10,7 +10,7 @@ use Rattle.fdr_pieces.specs.declared.pieces.InputEnd.TheVariants as input_end
 pub record IsLastPiece (old new : State) : Type 0 where
   pub begins : old.taken ≤ new.pulled_before
   pub gave_bytes : new.pulled_before < new.taken
-  pub within_piece : new.taken ≤ new.pulled_before + most_at_a_time
+  pub within_piece : new.taken ≤ new.pulled_before + piece_bytes
 
 -- Of the input these bytes were pulled, piece by piece, and at most a piece more than the limit. No pull that gave bytes began
 -- once more than the limit had been pulled.
@@ -18,7 +18,7 @@ pub record PullsPieces (limit : ℕ) (tells : Tells) (old new : State) (pulled :
   pub takes : TakesInput tells old new pulled
   pub last : 0 < length pulled → IsLastPiece old new
   pub begun_within_limit : 0 < length pulled → new.pulled_before ≤ old.taken + limit
-  pub bounded : length pulled ≤ limit + most_at_a_time
+  pub bounded : length pulled ≤ limit + piece_bytes
 
 -- what an end says of the bytes that were pulled
 pub record EndsInput (limit : ℕ) (tells : Tells) (new : State) (pulled : List ℕ) (end : InputEnd) : Type 0 where

@@ -3,4 +3,4 @@
 
 mod pieces;
 
-pub use pieces::{InputEnd, PieceTaker, take_pieces};
+pub use pieces::{InputEnd, MAX_INPUT_BYTES, PieceTaker, take_pieces};

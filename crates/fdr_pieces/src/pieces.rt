@@ -2,15 +2,19 @@
 
 ghost use Rattle.std.specs.Prelude.{◌≡◌, ◌≢◌, ◌+◌, ◌≤◌, ℕ, List, [], ◌++◌, length, IfOk, IfErr, OnOk, OnErr};
 ghost use Rattle.fdr_io.specs.Faults.{Rose};
+ghost use Rattle.fdr_io.specs.Limits.{piece_bytes};
 ghost use Rattle.fdr_deck.specs.Calls.{LeavesDisk};
-ghost use Rattle.fdr_pieces.specs.Limits.{most_at_a_time, most_taken};
+ghost use Rattle.fdr_pieces.specs.Limits.{most_input_bytes};
 ghost use Rattle.fdr_pieces.specs.Pieces.{EndsInput, PullsPieces, before_last, last_piece};
 
 use fdr_deck::Deck;
-use fdr_io::Failed;
+use fdr_io::{Failed, PIECE};
 
-/// How many bytes are pulled at a time, at most.
-const PIECE: usize = 4096;
+/// The most bytes of an input that are taken.
+pub const MAX_INPUT_BYTES: usize = 268_435_456;
+
+// The number that the contracts name: `most_input_bytes` of the definitions.
+const _: () = prove!(MAX_INPUT_BYTES == 268_435_456);
 
 /// Why no more of an input was pulled.
 #[derive(Clone, Copy, Debug, PartialEq, Eq)]
@@ -36,9 +40,9 @@ pub trait PieceTaker<O> {
 
     /// Takes a piece of at most 4,096 bytes. After a stop it takes no more.
     fn take(&mut self, piece: &[u8], out: &mut O) -> Result<(), Self::Stop>
-        requires piece { length piece.now ≤ most_at_a_time }
+        requires piece { length piece.now ≤ piece_bytes }
         requires taking { (first : Self) × (out_first : O) × (bytes last : List ℕ) × took first out_first bytes last self.old out.old
-            × (length (bytes ++ last) + length piece.now ≤ most_taken) }
+            × (length (bytes ++ last) + length piece.now ≤ most_input_bytes) }
         ensures all { (first : Self) (out_first : O) (bytes last : List ℕ) → took first out_first bytes last self.old out.old
             → OnOk result (took first out_first (bytes ++ last) piece.now self.new out.new) }
         ensures part { (first : Self) (out_first : O) (bytes last : List ℕ) → took first out_first bytes last self.old out.old
@@ -53,7 +57,7 @@ pub fn take_pieces<D: Deck, O, T: PieceTaker<O>>(
     deck: &mut D,
     out: &mut O,
 ) -> Result<InputEnd, T::Stop>
-    requires limit { limit ≤ most_taken }
+    requires limit { limit ≤ most_input_bytes }
     requires fresh { T.took taker.old out.old [] [] taker.old out.old }
     ensures all { IfOk result (λ end. (pulled : List ℕ) × PullsPieces limit D.tells (D.state deck.old) (D.state deck.new) pulled
         × EndsInput limit D.tells (D.state deck.new) pulled end
@@ -67,7 +71,7 @@ pub fn take_pieces<D: Deck, O, T: PieceTaker<O>>(
     ensures stop_quiet { OnErr result ((D.state deck.new).input_faults ≡ (D.state deck.old).input_faults) }
     ensures disk { LeavesDisk (D.state deck.old) (D.state deck.new) }
     ensures announced { (D.state deck.new).announced ≡ (D.state deck.old).announced }
-    ensures bounded { (D.state deck.new).taken ≤ (D.state deck.old).taken + limit + most_at_a_time }
+    ensures bounded { (D.state deck.new).taken ≤ (D.state deck.old).taken + limit + piece_bytes }
 {
     let mut piece = [0; PIECE];
     let mut left = limit;

@@ -7,16 +7,13 @@ ghost use Rattle.fdr_prog.specs.Counts.{counts_state, telling_nothing, counts_ar
 use crate::image_file::ImageFile;
 use crate::system::{count, read_on};
 use fdr_deck::{Announced, Deck};
-use fdr_io::Failed;
+use fdr_io::{Failed, PIECE};
 use fdr_listing::Line;
 use std::fs::File;
 use std::io;
 use std::io::{ErrorKind, Read, Write};
 use std::marker::Model;
 use std::rt::Files;
-
-// The input comes in pieces of a page.
-const PIECE: usize = 4096;
 
 /// The line of an announcement, `ack COUNT`, which goes out in one write.
 #[tactic(auto, using(fdr_line::proofs::Lengths::numbers))]

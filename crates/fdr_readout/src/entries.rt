@@ -178,6 +178,3 @@ pub fn take_rest<O: Sink, T: Taker<O>>(
     reader.finish();
     take_known(reader, table, taker, out)
 }
-
-#[cfg(test)]
-mod tests;

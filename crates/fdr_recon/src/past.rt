@@ -297,6 +297,3 @@ fn counter_place(frame: Frame) -> u32
 {
     frame_words(frame) * (u32::from(frame.csub) - 1) + (frame.cword - 1)
 }
-
-#[cfg(test)]
-mod tests;

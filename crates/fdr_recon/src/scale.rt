@@ -183,6 +183,3 @@ impl Scale {
         self.param.value(raw)
     }
 }
-
-#[cfg(test)]
-mod tests;

@@ -6,3 +6,11 @@ pub mod Starting
 pub mod Closing
 pub mod Ended
 pub mod Joined
+pub mod ReadRecords
+pub mod Longer
+pub mod NewBlocks
+pub mod Lag
+pub mod Supplies
+pub mod Sessions
+pub mod SessionEnds
+pub mod Recordings

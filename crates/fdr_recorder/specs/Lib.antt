@@ -3,3 +3,9 @@ pub mod Recording
 pub mod Past
 pub mod Starting
 pub mod Faults
+pub mod Lag
+pub mod Ends
+pub mod NewBlocks
+pub mod Refusing
+pub mod Supply
+pub mod Supplied

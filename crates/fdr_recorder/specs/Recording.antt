@@ -1,9 +1,10 @@
 -- What calls that record blocks leave, at each moment and in the end.
-use Rattle.std.specs.Prelude.{◌≡◌, ◌<◌, ◌≤◌, ℕ, ◌+◌, ◌-◌, ◌^◌, max, List, ◌++◌, length, take, IsTrue}
+use Rattle.std.specs.Prelude.{◌≡◌, ◌<◌, ◌≤◌, ℕ, ◌+◌, ◌-◌, max, List, ◌++◌, length, take, IsTrue}
 use Rattle.fdr_deck.specs.State.{Moment, State, Tells}
 use Rattle.fdr_deck.specs.Disk.{IsSettled}
 use Rattle.fdr_deck.specs.Moments.{HasSamePulls, Elapses, EachMoment}
 use Rattle.fdr_deck.specs.Pull.{KeepsInput}
+use Rattle.fdr_slot.specs.Limits.{sequence_end}
 use Rattle.fdr_slot.specs.declared.image.Header.{Header}
 use Rattle.fdr_recover.specs.Blocks.{Block}
 use Rattle.fdr_recover.specs.Images.{recovered_run, next_of}
@@ -64,5 +65,5 @@ pub record RecordsAllOf (tells : Tells) (h : Header) (next : ℕ) (new : List Bl
 
 -- The numbers ended among these blocks: those before that stand and are announced, and nothing else was done.
 pub record HasEnded (tells : Tells) (h : Header) (next : ℕ) (new : List Block) (old now : State) : Type 0 where
-  pub beyond : 2 ^ 48 < next + length new
-  pub recorded : RecordsAllOf tells h next (take (2 ^ 48 - next) new) old now
+  pub beyond : sequence_end < next + length new
+  pub recorded : RecordsAllOf tells h next (take (sequence_end - next) new) old now

@@ -1,13 +1,13 @@
 -- What the start of a session leaves.
-use Rattle.std.specs.Prelude.{◌≡◌, ◌≤◌, ℕ, ◌-◌, List, [], IsTrue}
+use Rattle.std.specs.Prelude.{◌≡◌, ◌≤◌, ◌-◌, [], IsTrue}
 use Rattle.fdr_deck.specs.State.{Moment, State, Tells}
 use Rattle.fdr_deck.specs.Disk.{IsSettled}
 use Rattle.fdr_deck.specs.Moments.{HasSamePulls, Elapses, EachMoment}
 use Rattle.fdr_deck.specs.Pull.{KeepsInput}
 use Rattle.fdr_slot.specs.declared.image.Header.{Header}
+use Rattle.fdr_slot.specs.Places.{gate_at}
 use Rattle.fdr_recover.specs.Images.{recovered_run, next_of}
 use Rattle.fdr_recover.specs.ImageHeader.{header_in}
-use Rattle.fdr_ring.specs.Gates.{gate_at}
 use Rattle.fdr_ring.specs.Closing.{image_with_closed_gate}
 use Rattle.fdr_ring.specs.Runs.{last_blocks}
 use Rattle.fdr_ring.specs.Rings.{IsSureRing, IsAttaching}

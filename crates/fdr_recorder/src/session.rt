@@ -1,9 +1,10 @@
 //! A recording of a trace.
 
-ghost use Rattle.std.specs.Prelude.{◌≡◌, ◌≢◌, ◌⊎◌, ◌↔◌, ◌<◌, ◌≤◌, ◌^◌, ◌+◌, ℕ, [], ◌∷◌, ◌++◌, Err, Some, None, length, IfOk, OnOk, OnErr, IsTrue};
+ghost use Rattle.std.specs.Prelude.{◌≡◌, ◌≢◌, ◌⊎◌, ◌↔◌, ◌<◌, ◌≤◌, ◌+◌, ℕ, [], ◌∷◌, ◌++◌, Err, Some, None, length, IfOk, OnOk, OnErr, IsTrue};
 ghost use Rattle.fdr_io.specs.Faults.{Rose};
 ghost use Rattle.fdr_deck.specs.Disk.{KeepsDisk, LearnsExtent};
 ghost use Rattle.fdr_deck.specs.Calls.{KeepsAnnounced};
+ghost use Rattle.fdr_slot.specs.Limits.{sequence_end};
 ghost use Rattle.fdr_slot.specs.declared.image.ImageFault.{ImageFault};
 ghost use Rattle.fdr_slot.specs.declared.image.ImageFault.TheVariants as image_fault;
 ghost use Rattle.fdr_recover.specs.ImageHeader.{IsFor, image_fault_of, header_in};
@@ -18,12 +19,10 @@ use fdr_check::Sound;
 use fdr_deck::Deck;
 use fdr_recover::{RingFault, read_header_for};
 use fdr_ring::Ring;
+use fdr_slot::MAX_PAYLOAD;
 use fdr_stream::{Fed, Stream};
 use fdr_table::NoMemory;
 use std::alloc::Global;
-
-/// The most bytes of a block.
-const MAX_PAYLOAD: usize = 4096;
 
 /// A recording of a trace in the image on a deck's disk. A call that is refused consumes it.
 #[derive(Drop)]
@@ -103,7 +102,7 @@ impl Session {
         ensures seq_end { (past : RecordingPast) → RepresentsRecording self past → MayFeedRecording past r.now → result ≡ Err SessionFault.SeqEnd
             → HasEnded D.tells self.ring.header self.ring.next (blocks_due_at past r.now) (D.state deck.old) (D.state deck.new) }
         ensures room { (past : RecordingPast) → RepresentsRecording self past → MayFeedRecording past r.now
-            → OnOk result (self.ring.next + length (blocks_due_at past r.now) ≤ 2 ^ 48) }
+            → OnOk result (self.ring.next + length (blocks_due_at past r.now) ≤ sequence_end) }
         ensures cause { result ≡ Err SessionFault.DiskFault
             → Rose (D.state deck.old).disk_faults (D.state deck.new).disk_faults }
         ensures rest { D.same_rest deck.old deck.new }
@@ -145,7 +144,7 @@ impl Session {
             (RecordsAllOf D.tells self.ring.header self.ring.next (rest_of past) (D.state deck.old) (D.state deck.new)) }
         ensures seq_end { (past : RecordingPast) → RepresentsRecording self past → result ≡ Err SessionFault.SeqEnd
             → HasEnded D.tells self.ring.header self.ring.next (rest_of past) (D.state deck.old) (D.state deck.new) }
-        ensures room { IfOk result (λ n. n ≤ 2 ^ 48) }
+        ensures room { IfOk result (λ n. n ≤ sequence_end) }
         ensures cause { result ≡ Err SessionFault.DiskFault
             → Rose (D.state deck.old).disk_faults (D.state deck.new).disk_faults }
         ensures rest { D.same_rest deck.old deck.new }
@@ -187,7 +186,7 @@ fn add<D: Deck>(ring: Ring, deck: &mut D, bytes: &[u8]) -> Result<Ring, RingFaul
     requires fact { IsRing D.tells ring.header ring.next (D.state deck.old) }
     requires some_bytes { 0 < length bytes.now }
     requires fits { length bytes.now ≤ ring.header.payload }
-    ensures seq_end { (result ≡ Err RingFault.SeqEnd) ↔ (ring.next ≡ 2 ^ 48) }
+    ensures seq_end { (result ≡ Err RingFault.SeqEnd) ↔ (ring.next ≡ sequence_end) }
     ensures untouched { result ≡ Err RingFault.SeqEnd → deck.new ≡ deck.old }
     ensures only { OnErr result (result ≡ Err RingFault.SeqEnd ⊎ result ≡ Err RingFault.DiskFault) }
     ensures ring { IfOk result (λ r. (r.header ≡ ring.header) × (r.next ≡ ring.next + 1)) }

@@ -79,7 +79,7 @@ in_own_slot : (h : Header) (image : List ℕ) (number slot : ℕ) (o : Option Bl
 unfolding block_numbered
 in_own_slot h image number slot o own is = ap (λ k. if_numbered number (block_in h image k)) (sym own) ∙ ap (if_numbered number) is
 
--- no block with this number stands where its slot isn't valid, or has another number
+-- no block with this number is there where its slot isn't valid, or has another number
 pub block_at-invalid : (h : Header) (image : List ℕ) (number slot : ℕ) (head : SlotHead) → slot ≡ number % h.slots → head ≡ head_at h image slot
     → is_valid h slot head ≡ false → block_numbered h image number ≡ None
 block_at-invalid h image number slot head own is invalid =

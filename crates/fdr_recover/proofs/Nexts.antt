@@ -1,4 +1,4 @@
--- One more than the greatest number that stands.
+-- One more than the greatest number of a block in its slot.
 use Rattle.std.proofs.Common.{◌≡◌, ⊎_elim, ℕ, zero, suc, ◌+◌, ◌%◌, ◌<◌, ◌≤◌, Option, Some, sym, ap, ◌∙◌, arith, add-one}
 use Rattle.std.specs.Prelude.{max}
 use Rattle.std.proofs.Math.Nat.{mod-lt}

@@ -19,7 +19,7 @@ payload_standing : (h : Header) (image : List ℕ) (number : ℕ) (b : Block) �
 unfolding block_numbered
 payload_standing h image number b stands same = ap payload_of (stands-standing_block h.slots (block_in h image) number b stands same)
 
--- of numbered blocks that stand, each is found by its number
+-- of numbered blocks in their slots, each is found by its number
 payload_of_nth : (h : Header) (image : List ℕ) (first k number : ℕ) (run : List Block) → AreNumberedFrom first run
     → All (StandsInSlot h.slots (block_in h image)) run → k < length run → number ≡ first + k
     → payload_at h image number ≡ (get_or run k no_block).payload

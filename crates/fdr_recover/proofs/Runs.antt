@@ -1,4 +1,4 @@
--- The blocks below a number, down to the first that doesn't stand, are the longest run.
+-- The blocks below a number, down to the first that isn't in its slot, are the longest run.
 use Rattle.std.proofs.Common.{◌≡◌, ⊎_elim, ℕ, zero, suc, ◌+◌, ◌-◌, ◌<◌, ◌≤◌, List, [], ◌∷◌, ◌++◌, length, Some, None, refl, sym, ap, ◌∙◌, subst, arith}
 use Rattle.std.proofs.Common.{length-append}
 use Rattle.std.specs.Prelude.{All}
@@ -55,7 +55,7 @@ run_below-stands n slots (suc number) = ⊎_elim
     (All-cons (StandsInSlot n slots) some.0 [] (standing_block-stands n slots number some.0 some.1).1 (All-nil (StandsInSlot n slots)))))
     (some_or_none (standing_block n slots number))
 
--- the number before the first doesn't stand
+-- the block before the first isn't in its slot
 run_below-ends : (n : ℕ) (slots : Slots) (number first : ℕ) → suc first + length (run_below n slots number) ≡ number → standing_block n slots first ≡ None
 run_below-ends n slots zero first is = absurd (omega arith)
 run_below-ends n slots (suc number) first is = ⊎_elim
@@ -66,7 +66,7 @@ run_below-ends n slots (suc number) first is = ⊎_elim
     run_below-ends n slots number first (omega arith))
     (some_or_none (standing_block n slots number))
 
--- each number of a run stands
+-- each block of a run is in its slot
 run_at : (n : ℕ) (slots : Slots) (first : ℕ) (run : List Block) (number : ℕ) → AreNumberedFrom first run → All (StandsInSlot n slots) run → first ≤ number
     → number < first + length run
     → (b : Block) × (StandsInSlot n slots b × (b.number ≡ number))
@@ -106,7 +106,7 @@ run_below-is_longest n slots next is_next = record {
   longest = λ other is_run. run_below-longest n slots next other is_next is_run;
 }
 
--- blocks with the same numbers that stand are the same
+-- blocks with the same numbers in their slots are the same
 same_run : (n : ℕ) (slots : Slots) (first : ℕ) (xs ys : List Block) → AreNumberedFrom first xs → All (StandsInSlot n slots) xs → AreNumberedFrom first ys
     → All (StandsInSlot n slots) ys → length xs ≡ length ys → xs ≡ ys
 same_run n slots first [] [] numbered stand numbered_too stand_too long = refl

@@ -9,7 +9,7 @@ use Rattle.fdr_recover.proofs.Standing.{standing_block-stands}
 use Rattle.fdr_recover.proofs.Runs.{run_below-none, length-run_below}
 use Rattle.fdr_lists.proofs.Options.{some_is, some_or_none}
 
--- all numbers from the first on, below the next, stand
+-- all blocks from the first on, below the next, are in their slots
 pub record AllStand (n : ℕ) (slots : Slots) (first next : ℕ) : Type 0 where
   pub each : (number : ℕ) → first ≤ number → number < next → IsSome (standing_block n slots number)
 
@@ -35,7 +35,7 @@ length_walked n slots first (suc k) all =
     let next : first + suc k ≡ suc (first + k) = omega arith in
     ap (λ m. length (run_below n slots m)) next ∙ omega (arith, more, rest)
 
--- the walk ended where a number didn't stand
+-- the walk ended where a block wasn't in its slot
 pub walked_down : (n : ℕ) (slots : Slots) (first next : ℕ) → first ≤ next → AllStand n slots first next → length (run_below n slots first) ≡ 0
     → first + length (run_below n slots next) ≡ next
 walked_down n slots first next order all stops =
@@ -56,7 +56,7 @@ same_block slots i j a b same one two =
     let block : a ≡ b = cc in
     ap (λ (x : Block). x.number) block
 
--- n numbers further down stands another block in the same slot
+-- n numbers further down another block would be in the same slot
 pub stops_after_all : (n : ℕ) (slots : Slots) (first next : ℕ) → 0 < n → 0 < first → first + n ≡ next → AllStand n slots first next
     → standing_block n slots (first - 1) ≡ None
 stops_after_all n slots first next room some whole all = ⊎_elim

@@ -12,7 +12,7 @@ image_fault_of image = image_fault (take 64 image) (length image)
 abbrev pub header_in : List ℕ → Header
 header_in image = header_of (take 64 image)
 
--- the image has no fault, and is for so many words
+-- the image has no fault, and is for frames of this count of words
 pub record IsFor (count : ℕ) (image : List ℕ) : Type 0 where
   pub no_fault : image_fault_of image ≡ None
   pub words : (header_in image).words ≡ count

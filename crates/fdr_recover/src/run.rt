@@ -1,9 +1,9 @@
 //! The recovered run.
 
-ghost use Rattle.std.specs.Prelude.{◌≡◌, ℕ, ◌+◌, ◌≤◌, ◌^◌, List, length, IfOk, OnOk, OnErr, IsTrue};
+ghost use Rattle.std.specs.Prelude.{◌≡◌, ℕ, ◌+◌, ◌≤◌, List, length, IfOk, OnOk, OnErr, IsTrue};
 ghost use Rattle.fdr_io.specs.Faults.{Rose};
 ghost use Rattle.fdr_deck.specs.Calls.{Succeeds, HasOneAnnounced};
-ghost use Rattle.fdr_slot.specs.Limits.{IsInLimits};
+ghost use Rattle.fdr_slot.specs.Limits.{IsInLimits, sequence_end};
 ghost use Rattle.fdr_slot.specs.Places.{image_size};
 ghost use Rattle.fdr_recover.specs.Blocks.{Block};
 ghost use Rattle.fdr_recover.specs.Images.{next_of, IsNextNumber, blocks_below, recovered_run, IsRecovered};
@@ -29,7 +29,7 @@ fn next_number<D: Deck>(deck: &mut D, h: &Header) -> Result<u64, Failed>
     requires limits { IsInLimits h.now }
     requires whole { image_size h.now ≤ (D.state deck.old).extent }
     ensures next { IsTrue D.tells.bytes → IfOk result (λ n. n ≡ next_of h.now (D.state deck.old).held) }
-    ensures bound { IfOk result (λ n. n ≤ 2 ^ 48) }
+    ensures bound { IfOk result (λ n. n ≤ sequence_end) }
     ensures looks { Looks D.tells (D.state deck.old) (D.state deck.new) }
     ensures succeeds { OnOk result (Succeeds (D.state deck.old) (D.state deck.new)) }
     ensures cause { OnErr result (Rose (D.state deck.old).disk_faults (D.state deck.new).disk_faults) }
@@ -45,7 +45,7 @@ fn next_number<D: Deck>(deck: &mut D, h: &Header) -> Result<u64, Failed>
 /// The number of the first of the blocks that are below `next`, one after another.
 fn first_number<D: Deck>(deck: &mut D, h: &Header, next: u64) -> Result<u64, Failed>
     requires limits { IsInLimits h.now }
-    requires fits { next ≤ 2 ^ 48 }
+    requires fits { next ≤ sequence_end }
     requires whole { image_size h.now ≤ (D.state deck.old).extent }
     ensures first { IsTrue D.tells.bytes
         → IfOk result (λ n. n + length (blocks_below h.now (D.state deck.old).held next) ≡ next) }
@@ -83,7 +83,7 @@ pub fn scan<D: Deck>(deck: &mut D, h: &Header) -> Result<Found, Failed>
         → run ≡ recovered_run h.now image }
 
     ensures order { IfOk result (λ f. f.first ≤ f.next) }
-    ensures bound { IfOk result (λ f. f.next ≤ 2 ^ 48) }
+    ensures bound { IfOk result (λ f. f.next ≤ sequence_end) }
     ensures room { IfOk result (λ f. f.next ≤ f.first + h.now.slots) }
 
     ensures looks { Looks D.tells (D.state deck.old) (D.state deck.new) }

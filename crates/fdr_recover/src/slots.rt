@@ -1,9 +1,9 @@
 //! What the slots of a deck's disk hold.
 
-ghost use Rattle.std.specs.Prelude.{◌≡◌, ◌%◌, ◌<◌, ◌≤◌, ◌^◌, ◌↔◌, IfOk, OnOk, OnErr, IsTrue, IsSome};
+ghost use Rattle.std.specs.Prelude.{◌≡◌, ◌<◌, ◌≤◌, ◌↔◌, IfOk, OnOk, OnErr, IsTrue, IsSome};
 ghost use Rattle.fdr_io.specs.Faults.{Rose};
 ghost use Rattle.fdr_deck.specs.Calls.{Succeeds};
-ghost use Rattle.fdr_slot.specs.Limits.{IsInLimits};
+ghost use Rattle.fdr_slot.specs.Limits.{IsInLimits, sequence_end};
 ghost use Rattle.fdr_slot.specs.Places.{image_size};
 ghost use Rattle.fdr_recover.specs.Blocks.{number_after};
 ghost use Rattle.fdr_recover.specs.Images.{head_at, block_in, block_numbered};
@@ -11,16 +11,7 @@ ghost use Rattle.fdr_recover.specs.Looks.{Looks};
 
 use fdr_deck::Deck;
 use fdr_io::Failed;
-use fdr_slot::{Header, SlotHead, is_valid, read_slot, slot_at};
-
-/// The slot of the block with a number.
-pub fn slot_of(h: &Header, seq: u64) -> u32
-    requires { IsInLimits h.now }
-    ensures slot { result ≡ seq % h.now.slots }
-    ensures exists { result < h.now.slots }
-{
-    (seq % u64::from(h.slots)) as u32
-}
+use fdr_slot::{Header, SlotHead, is_valid, read_slot, slot_at, slot_of};
 
 /// The head of a slot.
 #[tactic(auto, using(crate::proofs::Placing::slot_within), unfolding(crate::specs::Images::head_at))]
@@ -47,7 +38,7 @@ pub fn number_after<D: Deck>(deck: &mut D, h: &Header, slot: u32) -> Result<u64,
     requires whole { image_size h.now ≤ (D.state deck.old).extent }
     ensures number { IsTrue D.tells.bytes
         → IfOk result (λ n. n ≡ number_after (block_in h.now (D.state deck.old).held slot)) }
-    ensures bound { IfOk result (λ n. n ≤ 2 ^ 48) }
+    ensures bound { IfOk result (λ n. n ≤ sequence_end) }
     ensures looks { Looks D.tells (D.state deck.old) (D.state deck.new) }
     ensures succeeds { OnOk result (Succeeds (D.state deck.old) (D.state deck.new)) }
     ensures cause { OnErr result (Rose (D.state deck.old).disk_faults (D.state deck.new).disk_faults) }
@@ -65,7 +56,7 @@ pub fn number_after<D: Deck>(deck: &mut D, h: &Header, slot: u32) -> Result<u64,
 #[tactic(auto, using(crate::proofs::BlockLemmas::holds_number))]
 pub fn holds<D: Deck>(deck: &mut D, h: &Header, seq: u64) -> Result<bool, Failed>
     requires limits { IsInLimits h.now }
-    requires fits { seq < 2 ^ 48 }
+    requires fits { seq < sequence_end }
     requires whole { image_size h.now ≤ (D.state deck.old).extent }
     ensures held { IsTrue D.tells.bytes
         → IfOk result (λ yes. IsTrue yes ↔ IsSome (block_numbered h.now (D.state deck.old).held seq)) }

@@ -3,19 +3,16 @@
 ghost use Rattle.std.specs.Prelude.{◌≡◌, ◌+◌, ◌<◌, ◌≤◌, ◌^◌, ℕ, List, [], ◌++◌, length, OnOk, OnErr, IsErrOf, IsTrue};
 ghost use Rattle.fdr_io.specs.Faults.{Rose};
 ghost use Rattle.fdr_io.specs.Output.{Emits, EmitsPart};
-ghost use Rattle.fdr_slot.specs.Limits.{IsInLimits};
+ghost use Rattle.fdr_slot.specs.Limits.{IsInLimits, most_payload_bytes, sequence_end};
 ghost use Rattle.fdr_slot.specs.Places.{image_size};
 ghost use Rattle.fdr_recover.specs.Images.{payload_at, recovered_run};
 ghost use Rattle.fdr_recover.specs.Looks.{Looks};
-ghost use Rattle.fdr_recover.specs.Payloads.{IsFoundRun, payloads_of};
+ghost use Rattle.fdr_recover.specs.Payloads.{IsFoundRun, TakesRun, TakesFront, payloads_of};
 
 use crate::{Found, block, scan};
 use fdr_deck::Deck;
 use fdr_io::{Failed, OutBuffer, Sink};
-use fdr_slot::Header;
-
-/// How many bytes a payload has at most.
-const MAX_PAYLOAD: usize = 4096;
+use fdr_slot::{Header, MAX_PAYLOAD};
 
 /// Takes the payloads of blocks in their order. What is handed on goes to the sink beside it.
 pub trait BlockTaker<O: Sink> {
@@ -28,7 +25,7 @@ pub trait BlockTaker<O: Sink> {
     /// Takes the payload of the next block: 4,096 bytes at most, and 268,435,456 with those before it. At `Failed` the sink
     /// failed.
     fn take(&mut self, payload: &[u8], out: &mut O) -> Result<(), Failed>
-        requires short { length payload.now ≤ 4096 }
+        requires short { length payload.now ≤ most_payload_bytes }
         requires stands { (first : Self) × (out_first : O) × (bytes : List ℕ) × has_taken first out_first bytes self.old out.old
             × (length bytes + length payload.now ≤ 2 ^ 28) }
         ensures all { OnOk result ((first : Self) (out_first : O) (bytes : List ℕ) → has_taken first out_first bytes self.old out.old
@@ -69,7 +66,7 @@ fn walk_block<D: Deck, O: Sink, T: BlockTaker<O>>(
 ) -> Result<(), BlocksFault>
     requires limits { IsInLimits h.now }
     requires whole { image_size h.now ≤ (D.state deck.old).extent }
-    requires fits { number < 2 ^ 48 }
+    requires fits { number < sequence_end }
     requires stands { (first : T) × (out_first : O) × (bytes : List ℕ) × T.has_taken first out_first bytes taker.old out.old
         × (length bytes + h.now.payload ≤ 2 ^ 28) }
     ensures all { (first : T) (out_first : O) (bytes : List ℕ) → T.has_taken first out_first bytes taker.old out.old
@@ -112,19 +109,17 @@ fn walk_run<D: Deck, O: Sink, T: BlockTaker<O>>(
 ) -> Result<(), BlocksFault>
     requires limits { IsInLimits h.now }
     requires whole { image_size h.now ≤ (D.state deck.old).extent }
-    requires bound { found.next ≤ 2 ^ 48 }
+    requires bound { found.next ≤ sequence_end }
     requires order { found.first ≤ found.next }
     requires room { found.next ≤ found.first + h.now.slots }
     requires run { IsTrue D.tells.bytes → IsFoundRun h.now (D.state deck.old).held found.first found.next }
     requires ready { T.has_taken taker.old out.old [] taker.old out.old }
-    ensures all { OnOk result ((bytes : List ℕ) × T.has_taken taker.old out.old bytes taker.new out.new
-        × (length bytes ≤ 2 ^ 28)
-        × (IsTrue D.tells.bytes → bytes ≡ payloads_of (recovered_run h.now (D.state deck.old).held))) }
+    ensures all { OnOk result (TakesRun D.tells h.now (D.state deck.old).held
+        (λ bytes. T.has_taken taker.old out.old bytes taker.new out.new)) }
     ensures part { IsErrOf result BlocksFault.Taker → IsTrue D.tells.bytes
         → T.failed_in taker.old out.old (payloads_of (recovered_run h.now (D.state deck.old).held)) out.new }
-    ensures front { IsErrOf result BlocksFault.Disk → (bytes : List ℕ) × T.has_taken taker.old out.old bytes taker.new out.new
-        × (IsTrue D.tells.bytes
-        → (rest : List ℕ) × (payloads_of (recovered_run h.now (D.state deck.old).held) ≡ bytes ++ rest)) }
+    ensures front { IsErrOf result BlocksFault.Disk → TakesFront D.tells h.now (D.state deck.old).held
+        (λ bytes. T.has_taken taker.old out.old bytes taker.new out.new) }
     ensures disk_fault { IsErrOf result BlocksFault.Disk → Rose (D.state deck.old).disk_faults (D.state deck.new).disk_faults }
     ensures disk_unfailed { (IsErrOf result BlocksFault.Disk → ⊥)
         → (D.state deck.new).disk_faults ≡ (D.state deck.old).disk_faults }
@@ -150,14 +145,12 @@ pub fn walk_blocks<D: Deck, O: Sink, T: BlockTaker<O>>(
     requires limits { IsInLimits h.now }
     requires whole { image_size h.now ≤ (D.state deck.old).extent }
     requires ready { T.has_taken taker.old out.old [] taker.old out.old }
-    ensures all { OnOk result ((bytes : List ℕ) × T.has_taken taker.old out.old bytes taker.new out.new
-        × (length bytes ≤ 2 ^ 28)
-        × (IsTrue D.tells.bytes → bytes ≡ payloads_of (recovered_run h.now (D.state deck.old).held))) }
+    ensures all { OnOk result (TakesRun D.tells h.now (D.state deck.old).held
+        (λ bytes. T.has_taken taker.old out.old bytes taker.new out.new)) }
     ensures part { IsErrOf result BlocksFault.Taker → IsTrue D.tells.bytes
         → T.failed_in taker.old out.old (payloads_of (recovered_run h.now (D.state deck.old).held)) out.new }
-    ensures front { IsErrOf result BlocksFault.Disk → (bytes : List ℕ) × T.has_taken taker.old out.old bytes taker.new out.new
-        × (IsTrue D.tells.bytes
-        → (rest : List ℕ) × (payloads_of (recovered_run h.now (D.state deck.old).held) ≡ bytes ++ rest)) }
+    ensures front { IsErrOf result BlocksFault.Disk → TakesFront D.tells h.now (D.state deck.old).held
+        (λ bytes. T.has_taken taker.old out.old bytes taker.new out.new) }
 
     ensures looks { Looks D.tells (D.state deck.old) (D.state deck.new) }
     ensures disk_fault { IsErrOf result BlocksFault.Disk → Rose (D.state deck.old).disk_faults (D.state deck.new).disk_faults }

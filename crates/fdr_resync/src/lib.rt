@@ -6,8 +6,6 @@
 mod law;
 mod scanner;
 mod search;
-#[cfg(test)]
-mod tests;
 
 pub use law::{adjacent_after_a_frame, stays_decided};
 pub use scanner::Scanner;

@@ -8,9 +8,9 @@ use Rattle.fdr_deck.specs.Calls.{IsDiskWork}
 use Rattle.fdr_deck.proofs.Quiet.{IsDiskWork-then}
 use Rattle.fdr_slot.specs.declared.image.Header.{Header}
 use Rattle.fdr_slot.specs.Limits.{IsInLimits}
-use Rattle.fdr_slot.specs.Places.{image_size}
+use Rattle.fdr_slot.specs.Places.{image_size, gate_at}
 use Rattle.fdr_recover.specs.Images.{next_of, recovered_run}
-use Rattle.fdr_ring.specs.Gates.{gate_at, IsClosed}
+use Rattle.fdr_ring.specs.Gates.{IsClosed}
 use Rattle.fdr_ring.specs.Closing.{IsTurned, Closing, image_with_closed_gate}
 use Rattle.fdr_ring.specs.Runs.{last_blocks}
 use Rattle.fdr_ring.specs.Rings.{IsSureRing, IsAttaching, OfSettled}

@@ -9,10 +9,10 @@ use Rattle.fdr_deck.specs.Calls.{IsDiskWork}
 use Rattle.fdr_deck.proofs.Quiet.{IsDiskWork-weaken}
 use Rattle.fdr_slot.specs.declared.image.Header.{Header}
 use Rattle.fdr_slot.specs.Limits.{IsInLimits}
-use Rattle.fdr_slot.specs.Places.{slot_size, image_size}
+use Rattle.fdr_slot.specs.Places.{slot_size, image_size, gate_at}
 use Rattle.fdr_recover.specs.Blocks.{Block}
 use Rattle.fdr_recover.specs.Images.{next_of}
-use Rattle.fdr_ring.specs.Gates.{gate_at, IsClosed, image_with_open_gate, waiting_block}
+use Rattle.fdr_ring.specs.Gates.{IsClosed, image_with_open_gate, waiting_block}
 use Rattle.fdr_ring.specs.Runs.{HasAdded}
 use Rattle.fdr_ring.specs.Rings.{IsSureRing, IsPrepared, IsCommitting, OfSettled}
 use Rattle.fdr_ring.proofs.Bytes.{patched_byte}

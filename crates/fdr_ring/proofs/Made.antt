@@ -14,14 +14,13 @@ use Rattle.fdr_deck.proofs.Moments.{IsDiskWork-here, IsDiskWork-write}
 use Rattle.fdr_deck.proofs.Quiet.{IsDiskWork-look, IsDiskWork-then, IsDiskWork-provide}
 use Rattle.fdr_slot.specs.declared.image.Header.{Header}
 use Rattle.fdr_slot.specs.Limits.{IsInLimits}
-use Rattle.fdr_slot.specs.Places.{slot_at, slot_size, image_size}
+use Rattle.fdr_slot.specs.Places.{slot_at, slot_size, image_size, gate_at}
 use Rattle.fdr_slot.specs.Headers.{header_of, header_bytes, image_fault}
 use Rattle.fdr_slot.proofs.HeaderLemmas.{image_fault_closed}
 use Rattle.fdr_slot.proofs.HeaderLemmas.{header_of-header_bytes, image_fault-header_bytes}
 use Rattle.fdr_recover.proofs.ImageFaults.{small_fault}
 use Rattle.fdr_recover.specs.Blocks.{Slots, number_after, next_among, run_below}
 use Rattle.fdr_recover.specs.Images.{block_in, next_of, blocks_below, recovered_run}
-use Rattle.fdr_ring.specs.Gates.{gate_at}
 use Rattle.fdr_ring.specs.Formatting.{IsEmpty, IsFormatted, FormattingStop, Making, fresh_image}
 use Rattle.fdr_ring.specs.Rings.{IsSureRing}
 use Rattle.fdr_ring.proofs.Bytes.{Torn-then, Torn-within, Torn-of-same, byte_front, torn_byte}

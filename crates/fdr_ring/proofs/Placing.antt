@@ -13,10 +13,10 @@ use Rattle.fdr_deck.proofs.Quiet.{IsDiskWork-weaken, IsDiskWork-then}
 use Rattle.fdr_deck.proofs.Torn.{Torn-patched, length-patched}
 use Rattle.fdr_slot.specs.declared.image.Header.{Header}
 use Rattle.fdr_slot.specs.Limits.{IsInLimits}
-use Rattle.fdr_slot.specs.Places.{slot_size, image_size}
+use Rattle.fdr_slot.specs.Places.{slot_size, image_size, gate_at}
 use Rattle.fdr_slot.specs.Heads.{head_bytes}
 use Rattle.fdr_recover.specs.Images.{next_of, recovered_run}
-use Rattle.fdr_ring.specs.Gates.{gate_at, IsClosed, waiting_block}
+use Rattle.fdr_ring.specs.Gates.{IsClosed, waiting_block}
 use Rattle.fdr_ring.specs.Closing.{IsTurned, Closing, image_with_closed_gate}
 use Rattle.fdr_ring.specs.Bodies.{body_bytes, image_with_body, image_to_commit}
 use Rattle.fdr_ring.specs.Runs.{last_blocks}

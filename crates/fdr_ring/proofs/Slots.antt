@@ -38,7 +38,7 @@ next_among-same old new (suc i) same =
     ap (λ x. max x (number_after (new i))) (next_among-same old new i (λ j less. same j (omega arith)))
     ∙ ap (λ o. max (next_among i old) (number_after o)) (same i (omega arith))
 
--- all slots but one are as they were, and this one is empty
+-- all slots except one are as they were, and this one is empty
 pub record IsEmptied (n k : ℕ) (old new : Slots) : Type 0 where
   pub others : (j : ℕ) → j < n → j ≢ k → new j ≡ old j
   pub here : new k ≡ None
@@ -126,7 +126,7 @@ emptied_next n ahead old new next some less emptied is = record {
   );
 }
 
--- a number that doesn't stand ends the blocks below
+-- a block that isn't in its slot ends the blocks below
 pub length-run_below-from : (n : ℕ) (slots : Slots) (number m : ℕ) → m < number → standing_block n slots m ≡ None
     → length (run_below n slots number) + m + 1 ≤ number
 length-run_below-from n slots zero m less none = absurd (omega arith)

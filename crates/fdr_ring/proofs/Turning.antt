@@ -11,7 +11,7 @@ use Rattle.fdr_deck.proofs.Torn.{Torn-patched, length-patched}
 use Rattle.fdr_slot.specs.declared.image.Header.{Header}
 use Rattle.fdr_slot.specs.declared.head.SlotHead.{SlotHead}
 use Rattle.fdr_slot.specs.Limits.{IsInLimits}
-use Rattle.fdr_slot.specs.Places.{slot_at, slot_size, image_size}
+use Rattle.fdr_slot.specs.Places.{slot_at, slot_size, image_size, gate_at}
 use Rattle.fdr_slot.specs.Heads.{head_of, head_bytes, is_valid}
 use Rattle.fdr_slot.proofs.HeadLemmas.{head_of-head_bytes}
 use Rattle.fdr_recover.specs.Blocks.{Block, if_numbered}
@@ -19,7 +19,7 @@ use Rattle.fdr_recover.specs.Images.{head_at, bytes_in, block_of, block_in, bloc
 use Rattle.fdr_recover.proofs.Placing.{slot_within}
 use Rattle.fdr_recover.proofs.Standing.{numbered-is, numbered_same}
 use Rattle.fdr_recover.proofs.BlockLemmas.{block_in-valid}
-use Rattle.fdr_ring.specs.Gates.{gate_at, IsClosed, image_with_open_gate, waiting_block, KeepsHeader}
+use Rattle.fdr_ring.specs.Gates.{IsClosed, image_with_open_gate, waiting_block, KeepsHeader}
 use Rattle.fdr_ring.specs.Closing.{IsTurned}
 use Rattle.fdr_ring.specs.Bodies.{body_bytes, image_with_body}
 use Rattle.fdr_ring.specs.Runs.{IsTail, KeepsRun, HasAdded, MayAdd, last_blocks}

@@ -3,7 +3,7 @@ use Rattle.std.specs.Prelude.{ℕ, ◌+◌, List, ◌++◌, length, drop}
 use Rattle.fdr_deck.specs.Disk.{Torn, patched}
 use Rattle.fdr_slot.specs.declared.image.Header.{Header}
 use Rattle.fdr_slot.specs.Heads.{head_bytes}
-use Rattle.fdr_ring.specs.Gates.{gate_at}
+use Rattle.fdr_slot.specs.Places.{gate_at}
 use Rattle.fdr_ring.specs.Closing.{IsTurned, image_with_closed_gate}
 
 -- the 15 bytes of the head after the gate, and the payload

@@ -1,7 +1,8 @@
 -- A gate that is closed where it is open.
-use Rattle.std.specs.Prelude.{◌≡◌, ◌≢◌, ℕ, ◌==◌, if◌then◌else◌, List, [], ◌∷◌, slice_index}
-use Rattle.fdr_deck.specs.State.{State}
+use Rattle.std.specs.Prelude.{◌≡◌, ◌≢◌, ℕ, ◌==◌, if◌then◌else◌, List, [], ◌∷◌, slice_index, IsTrue}
+use Rattle.fdr_deck.specs.State.{State, Tells}
 use Rattle.fdr_deck.specs.Disk.{Torn, patched}
+use Rattle.fdr_deck.specs.Calls.{IsDiskWork, Succeeds}
 
 -- the image with the gate 00 where it was open, and as it was elsewhere
 abbrev pub image_with_closed_gate : ℕ → List ℕ → List ℕ
@@ -18,3 +19,14 @@ pub record Closing (at : ℕ) (entry : State) (image : List ℕ) : Type 0 where
   pub left : entry.may_leave from
   pub torn : Torn at 1 from image
   pub same : slice_index entry.held at ≢ 0x5a → image ≡ from
+
+-- What a call that closes this gate may leave of a disk, whatever it answers.
+pub record ClosesGate (tells : Tells) (at : ℕ) (old new : State) : Type 0 where
+  pub turned : IsTrue tells.bytes → IsTurned at old.held new.held
+  pub extent : new.extent ≡ old.extent
+  pub disk_work : IsDiskWork tells (Closing at old) old new
+
+-- what it has done where it answers
+pub record HasClosedGate (tells : Tells) (at : ℕ) (old new : State) : Type 0 where
+  pub held : IsTrue tells.bytes → new.held ≡ image_with_closed_gate at old.held
+  pub succeeds : Succeeds old new

@@ -1,14 +1,10 @@
 -- The gates of an image's slots.
-use Rattle.std.specs.Prelude.{◌≡◌, ◌≢◌, ℕ, ◌%◌, List, [], ◌∷◌, length, take, slice_index, Option}
+use Rattle.std.specs.Prelude.{◌≡◌, ◌≢◌, ℕ, List, [], ◌∷◌, length, take, slice_index, Option}
 use Rattle.fdr_deck.specs.Disk.{patched}
 use Rattle.fdr_slot.specs.declared.image.Header.{Header}
-use Rattle.fdr_slot.specs.Places.{slot_at}
+use Rattle.fdr_slot.specs.Places.{gate_at}
 use Rattle.fdr_recover.specs.Blocks.{Block}
 use Rattle.fdr_recover.specs.Images.{block_numbered}
-
--- where the gate of the slot of this number stands
-abbrev pub gate_at : Header → ℕ → ℕ
-gate_at h number = slot_at h (number % h.slots)
 
 -- the gate of the slot of this number is closed
 abbrev pub IsClosed : Header → List ℕ → ℕ → Type 0

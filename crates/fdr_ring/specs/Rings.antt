@@ -2,14 +2,15 @@
 use Rattle.std.specs.Prelude.{◌≡◌, ◌≤◌, ℕ, ◌+◌, ◌-◌, List, Some, IsTrue, IsSome}
 use Rattle.fdr_deck.specs.State.{State, Tells}
 use Rattle.fdr_deck.specs.Disk.{IsSettled, Torn}
+use Rattle.fdr_deck.specs.Calls.{IsDiskWork, Succeeds}
 use Rattle.fdr_slot.specs.declared.image.Header.{Header}
-use Rattle.fdr_slot.specs.Places.{image_size}
+use Rattle.fdr_slot.specs.Places.{image_size, gate_at}
 use Rattle.fdr_recover.specs.Blocks.{Block}
-use Rattle.fdr_recover.specs.Images.{next_of}
-use Rattle.fdr_ring.specs.Gates.{gate_at, IsClosed, waiting_block}
-use Rattle.fdr_ring.specs.Closing.{IsTurned}
-use Rattle.fdr_ring.specs.Bodies.{IsPlacing}
-use Rattle.fdr_ring.specs.Runs.{KeepsRun, MayAdd}
+use Rattle.fdr_recover.specs.Images.{next_of, recovered_run}
+use Rattle.fdr_ring.specs.Gates.{IsClosed, waiting_block}
+use Rattle.fdr_ring.specs.Closing.{IsTurned, image_with_closed_gate}
+use Rattle.fdr_ring.specs.Bodies.{IsPlacing, image_to_commit}
+use Rattle.fdr_ring.specs.Runs.{KeepsRun, MayAdd, last_blocks}
 
 -- The disk is long enough; where bytes are told, the next number is that of the held run, and the gate of its slot is closed.
 pub record IsRing (tells : Tells) (h : Header) (number : ℕ) (d : State) : Type 0 where
@@ -47,3 +48,25 @@ pub record IsCommitting (h : Header) (number : ℕ) (old new : List ℕ) : Type 
 -- where the disk was settled at entry, this is left of what it held
 abbrev pub OfSettled : State → (List ℕ → List ℕ → Type 0) → List ℕ → Type 0
 OfSettled entry Leaves image = IsSettled entry → Leaves entry.held image
+
+-- What a call may leave of the disk's image, whatever it answers: at its end, and at each moment where the disk was settled at entry.
+pub record ChangesImage (tells : Tells) (Leaves : List ℕ → List ℕ → Type 0) (old new : State) : Type 0 where
+  pub keeps : IsTrue tells.bytes → Leaves old.held new.held
+  pub extent : new.extent ≡ old.extent
+  pub disk_work : IsDiskWork tells (OfSettled old Leaves) old new
+
+-- What `attach` has done where it answers a ring with this next number: the run is there except its oldest block where that was in the next number's slot.
+pub record HasAttached (tells : Tells) (h : Header) (number : ℕ) (old new : State) : Type 0 where
+  pub next : IsTrue tells.bytes → number ≡ next_of h old.held
+  pub held : IsTrue tells.bytes → new.held ≡ image_with_closed_gate (gate_at h (next_of h old.held)) old.held
+  pub run : IsTrue tells.bytes → recovered_run h new.held ≡ last_blocks (h.slots - 1) (recovered_run h old.held)
+  pub settled : IsTrue tells.stops → IsSettled new
+  pub succeeds : Succeeds old new
+
+-- What `prepare` has done where it answers: the block waits after the closed gate of its slot.
+pub record HasPlaced (tells : Tells) (h : Header) (number : ℕ) (payload : List ℕ) (old new : State) : Type 0 where
+  pub held : IsTrue tells.bytes → new.held ≡ image_to_commit h number payload old.held
+  pub block : IsTrue tells.bytes → waiting_block h new.held number ≡ Some (record { number = number; payload = payload })
+  pub run : IsTrue tells.bytes → recovered_run h new.held ≡ last_blocks (h.slots - 2) (recovered_run h old.held)
+  pub settled : IsTrue tells.stops → IsSettled new
+  pub succeeds : Succeeds old new

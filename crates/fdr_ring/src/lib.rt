@@ -1,5 +1,5 @@
 //! The ring of blocks in an image: makes an image, opens one, and adds blocks so that a stop at any
-//! moment loses none but the oldest.
+//! moment loses none except the oldest.
 //!
 //! A ring of N slots promises the last N - 2 blocks. A block takes at most six calls of the deck, of
 //! which two are syncs. A ring takes no memory, and holds no deck: each call is handed the deck anew.

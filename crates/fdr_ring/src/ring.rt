@@ -1,14 +1,14 @@
 //! A ring, and a block that is prepared in it.
 
-ghost use Rattle.std.specs.Prelude.{◌≤◌, ◌<◌, ◌^◌, IsTrue};
-ghost use Rattle.fdr_slot.specs.Limits.{in_limits};
+ghost use Rattle.std.specs.Prelude.{◌≤◌, ◌<◌, IsTrue};
+ghost use Rattle.fdr_slot.specs.Limits.{in_limits, sequence_end};
 
 use crate::attach::close_next;
 use crate::place::place_block;
-use crate::write::{gate_at, open_gate};
+use crate::write::open_gate;
 use fdr_deck::Deck;
 use fdr_recover::RingFault;
-use fdr_slot::{Header, SEQUENCE_END};
+use fdr_slot::{Header, SEQUENCE_END, gate_at};
 
 /// An image that is open for blocks. A call that is refused consumes it.
 #[derive(Drop)]
@@ -16,7 +16,7 @@ pub struct Ring {
     pub(crate) header: Header,
     pub(crate) next: u64,
     ghost limits: { IsTrue (in_limits header) },
-    ghost bound: { next ≤ 2 ^ 48 },
+    ghost bound: { next ≤ sequence_end },
 }
 
 /// A block that is written after a closed gate.
@@ -25,17 +25,17 @@ pub struct Prepared {
     header: Header,
     next: u64,
     ghost limits: { IsTrue (in_limits header) },
-    ghost bound: { next < 2 ^ 48 },
+    ghost bound: { next < sequence_end },
 }
 
 impl Ring {
-    ghost use Rattle.std.specs.Prelude.{◌≡◌, ◌≤◌, ◌^◌};
-    ghost use Rattle.fdr_slot.specs.Limits.{IsInLimits};
+    ghost use Rattle.std.specs.Prelude.{◌≡◌, ◌≤◌};
+    ghost use Rattle.fdr_slot.specs.Limits.{IsInLimits, sequence_end};
 
     /// The number of the next block, at most 2^48.
     pub fn next(&self) -> u64
         ensures number { result ≡ self.now.next }
-        ensures bound { result ≤ 2 ^ 48 }
+        ensures bound { result ≤ sequence_end }
     {
         self.next
     }
@@ -50,44 +50,28 @@ impl Ring {
 }
 
 impl Ring {
-    ghost use Rattle.std.specs.Prelude.{◌≡◌, ◌⊎◌, ◌↔◌, ◌<◌, ◌≤◌, ◌^◌, ◌-◌, Err, Some, length, IfOk, OnOk, OnErr, IsTrue};
+    ghost use Rattle.std.specs.Prelude.{◌≡◌, ◌⊎◌, ◌↔◌, ◌<◌, ◌≤◌, Err, length, IfOk, OnOk, OnErr};
     ghost use Rattle.fdr_io.specs.Faults.{Rose};
-    ghost use Rattle.fdr_deck.specs.Disk.{IsSettled};
-    ghost use Rattle.fdr_deck.specs.Calls.{IsDiskWork, Succeeds};
-    ghost use Rattle.fdr_recover.specs.Images.{recovered_run};
-    ghost use Rattle.fdr_ring.specs.Gates.{waiting_block};
-    ghost use Rattle.fdr_ring.specs.Bodies.{image_to_commit};
-    ghost use Rattle.fdr_ring.specs.Runs.{last_blocks};
-    ghost use Rattle.fdr_ring.specs.Rings.{IsRing, IsPrepared, IsPreparing, OfSettled};
+    ghost use Rattle.fdr_slot.specs.Limits.{sequence_end};
+    ghost use Rattle.fdr_ring.specs.Rings.{IsRing, IsPrepared, IsPreparing, ChangesImage, HasPlaced};
 
     /// Writes a block of 1 to `payload` bytes after the closed gate of its slot, and closes the gate
     /// of the slot after it, and makes both durable by one sync. Nothing else is written. At every
-    /// moment a stop leaves all blocks but the two oldest. `SeqEnd` is answered, without a call of the
+    /// moment a stop leaves all blocks except the two oldest. `SeqEnd` is answered, without a call of the
     /// deck, exactly where there is no number left, and otherwise `DiskFault`.
     pub fn prepare<D: Deck>(self, deck: &mut D, bytes: &[u8]) -> Result<Prepared, RingFault>
         requires fact { IsRing D.tells self.header self.next (D.state deck.old) }
         requires some_bytes { 0 < length bytes.now }
         requires fits { length bytes.now ≤ self.header.payload }
-        ensures seq_end { (result ≡ Err RingFault.SeqEnd) ↔ (self.next ≡ 2 ^ 48) }
+        ensures seq_end { (result ≡ Err RingFault.SeqEnd) ↔ (self.next ≡ sequence_end) }
         ensures untouched { result ≡ Err RingFault.SeqEnd → deck.new ≡ deck.old }
         ensures only { OnErr result (result ≡ Err RingFault.SeqEnd ⊎ result ≡ Err RingFault.DiskFault) }
         ensures prepared { IfOk result (λ p. (p.header ≡ self.header) × (p.next ≡ self.next)) }
-        ensures held { OnOk result (IsTrue D.tells.bytes
-            → (D.state deck.new).held ≡ image_to_commit self.header self.next bytes.now (D.state deck.old).held) }
         ensures fact { IfOk result (λ p. IsPrepared D.tells p.header p.next (D.state deck.new)) }
-        ensures block { OnOk result (IsTrue D.tells.bytes
-            → waiting_block self.header (D.state deck.new).held self.next
-            ≡ Some (record { number = self.next; payload = bytes.now })) }
-        ensures run { OnOk result (IsTrue D.tells.bytes → recovered_run self.header (D.state deck.new).held
-            ≡ last_blocks (self.header.slots - 2) (recovered_run self.header (D.state deck.old).held)) }
-        ensures keeps { IsTrue D.tells.bytes → IsPreparing self.header self.next (length bytes.now)
-            (D.state deck.old).held (D.state deck.new).held }
-        ensures settled { OnOk result (IsTrue D.tells.stops → IsSettled (D.state deck.new)) }
-        ensures extent { (D.state deck.new).extent ≡ (D.state deck.old).extent }
-        ensures disk_work { IsDiskWork D.tells
-            (OfSettled (D.state deck.old) (IsPreparing self.header self.next (length bytes.now)))
+        ensures placed { OnOk result
+            (HasPlaced D.tells self.header self.next bytes.now (D.state deck.old) (D.state deck.new)) }
+        ensures changes { ChangesImage D.tells (IsPreparing self.header self.next (length bytes.now))
             (D.state deck.old) (D.state deck.new) }
-        ensures succeeds { OnOk result (Succeeds (D.state deck.old) (D.state deck.new)) }
         ensures cause { result ≡ Err RingFault.DiskFault
             → Rose (D.state deck.old).disk_faults (D.state deck.new).disk_faults }
         ensures rest { D.same_rest deck.old deck.new }
@@ -104,39 +88,24 @@ impl Ring {
 }
 
 impl Ring {
-    ghost use Rattle.std.specs.Prelude.{◌≡◌, ◌≤◌, ◌-◌, Err, IfOk, OnOk, OnErr, IsTrue};
+    ghost use Rattle.std.specs.Prelude.{◌≡◌, ◌≤◌, Err, IfOk, OnErr};
     ghost use Rattle.fdr_io.specs.Faults.{Rose};
-    ghost use Rattle.fdr_deck.specs.Disk.{IsSettled};
-    ghost use Rattle.fdr_deck.specs.Calls.{IsDiskWork, Succeeds};
     ghost use Rattle.fdr_slot.specs.Limits.{IsInLimits};
     ghost use Rattle.fdr_slot.specs.Places.{image_size};
-    ghost use Rattle.fdr_recover.specs.Images.{next_of, recovered_run};
-    ghost use Rattle.fdr_ring.specs.Gates.{gate_at};
-    ghost use Rattle.fdr_ring.specs.Closing.{image_with_closed_gate};
-    ghost use Rattle.fdr_ring.specs.Runs.{last_blocks};
-    ghost use Rattle.fdr_ring.specs.Rings.{IsSureRing, IsAttaching, OfSettled};
+    ghost use Rattle.fdr_ring.specs.Rings.{IsSureRing, IsAttaching, ChangesImage, HasAttached};
 
     /// Opens an image again: finds its next number, closes the gate of that number's slot where it is
     /// open, and makes what the disk holds durable, whoever wrote it: a block that was found isn't
-    /// lost to a later stop. Nothing else is written. At every moment a stop leaves all blocks but the
-    /// oldest. Only `DiskFault` is answered besides.
+    /// lost to a later stop. Nothing else is written. At every moment a stop leaves all blocks except
+    /// the oldest. Only `DiskFault` is answered besides.
     pub fn attach<D: Deck>(deck: &mut D, h: Header) -> Result<Ring, RingFault>
         requires limits { IsInLimits h }
         requires whole { image_size h ≤ (D.state deck.old).extent }
         ensures only { OnErr result (result ≡ Err RingFault.DiskFault) }
         ensures header { IfOk result (λ r. r.header ≡ h) }
-        ensures next { IsTrue D.tells.bytes → IfOk result (λ r. r.next ≡ next_of h (D.state deck.old).held) }
-        ensures held { OnOk result (IsTrue D.tells.bytes → (D.state deck.new).held
-            ≡ image_with_closed_gate (gate_at h (next_of h (D.state deck.old).held)) (D.state deck.old).held) }
         ensures fact { IfOk result (λ r. IsSureRing D.tells r.header r.next (D.state deck.new)) }
-        ensures run { OnOk result (IsTrue D.tells.bytes → recovered_run h (D.state deck.new).held
-            ≡ last_blocks (h.slots - 1) (recovered_run h (D.state deck.old).held)) }
-        ensures keeps { IsTrue D.tells.bytes → IsAttaching h (D.state deck.old).held (D.state deck.new).held }
-        ensures settled { OnOk result (IsTrue D.tells.stops → IsSettled (D.state deck.new)) }
-        ensures extent { (D.state deck.new).extent ≡ (D.state deck.old).extent }
-        ensures disk_work { IsDiskWork D.tells (OfSettled (D.state deck.old) (IsAttaching h))
-            (D.state deck.old) (D.state deck.new) }
-        ensures succeeds { OnOk result (Succeeds (D.state deck.old) (D.state deck.new)) }
+        ensures attached { IfOk result (λ r. HasAttached D.tells h r.next (D.state deck.old) (D.state deck.new)) }
+        ensures changes { ChangesImage D.tells (IsAttaching h) (D.state deck.old) (D.state deck.new) }
         ensures cause { OnErr result (Rose (D.state deck.old).disk_faults (D.state deck.new).disk_faults) }
         ensures rest { D.same_rest deck.old deck.new }
     {
@@ -149,11 +118,11 @@ impl Prepared {
     ghost use Rattle.std.specs.Prelude.{◌≡◌, ◌+◌, Err, Some, IfOk, OnOk, OnErr, IsTrue};
     ghost use Rattle.fdr_io.specs.Faults.{Rose};
     ghost use Rattle.fdr_deck.specs.Disk.{IsSettled};
-    ghost use Rattle.fdr_deck.specs.Calls.{IsDiskWork, Succeeds};
+    ghost use Rattle.fdr_deck.specs.Calls.{Succeeds};
     ghost use Rattle.fdr_recover.specs.Blocks.{Block};
     ghost use Rattle.fdr_ring.specs.Gates.{image_with_open_gate, waiting_block};
     ghost use Rattle.fdr_ring.specs.Runs.{HasAdded};
-    ghost use Rattle.fdr_ring.specs.Rings.{IsPrepared, IsSureRing, IsCommitting, OfSettled};
+    ghost use Rattle.fdr_ring.specs.Rings.{IsPrepared, IsSureRing, IsCommitting, ChangesImage};
 
     /// Opens the gate of the prepared block and makes that durable: the block is after the run, and
     /// the ring's next number is one more. Nothing else is written. At every moment a stop leaves the
@@ -168,12 +137,8 @@ impl Prepared {
         ensures added { OnOk result (IsTrue D.tells.bytes
             → (b : Block) → waiting_block self.header (D.state deck.old).held self.next ≡ Some b
             → HasAdded self.header b (D.state deck.old).held (D.state deck.new).held) }
-        ensures keeps { IsTrue D.tells.bytes
-            → IsCommitting self.header self.next (D.state deck.old).held (D.state deck.new).held }
         ensures settled { OnOk result (IsTrue D.tells.stops → IsSettled (D.state deck.new)) }
-        ensures extent { (D.state deck.new).extent ≡ (D.state deck.old).extent }
-        ensures disk_work { IsDiskWork D.tells (OfSettled (D.state deck.old) (IsCommitting self.header self.next))
-            (D.state deck.old) (D.state deck.new) }
+        ensures changes { ChangesImage D.tells (IsCommitting self.header self.next) (D.state deck.old) (D.state deck.new) }
         ensures succeeds { OnOk result (Succeeds (D.state deck.old) (D.state deck.new)) }
         ensures cause { OnErr result (Rose (D.state deck.old).disk_faults (D.state deck.new).disk_faults) }
         ensures rest { D.same_rest deck.old deck.new }

@@ -39,7 +39,7 @@ fn makes_an_image_and_adds_a_block(rt: HostRuntime) -> Result<(), Fail> {
 }
 
 #[test]
-fn refuses_the_block_behind_the_last_number(rt: HostRuntime) -> Result<(), Fail> {
+fn refuses_the_block_after_the_last_number(rt: HostRuntime) -> Result<(), Fail> {
     let alloc = rt.alloc();
     let mut image = Vec::from_slice(alloc, &write_header(&SMALL))?;
     image.extend_from_slice(&[0; 240])?;

@@ -3,28 +3,18 @@
 ghost use Rattle.std.specs.Prelude.{◌≡◌, ℕ, ◌+◌, ◌≤◌, ◌<◌, ◌^◌, List, [], ◌∷◌, take, length, OnOk, OnErr, IsTrue};
 ghost use Rattle.fdr_io.specs.Faults.{Rose};
 ghost use Rattle.fdr_deck.specs.Disk.{IsSettled, Torn, patched};
-ghost use Rattle.fdr_deck.specs.Calls.{IsDiskWork, Succeeds};
-ghost use Rattle.fdr_slot.specs.Limits.{IsInLimits};
-ghost use Rattle.fdr_slot.specs.Places.{image_size};
-ghost use Rattle.fdr_ring.specs.Gates.{gate_at};
+ghost use Rattle.fdr_deck.specs.Calls.{Succeeds};
+ghost use Rattle.fdr_slot.specs.Limits.{IsInLimits, most_payload_bytes};
+ghost use Rattle.fdr_slot.specs.Places.{image_size, gate_at};
 ghost use Rattle.fdr_ring.specs.Bodies.{body_bytes, image_with_body};
+ghost use Rattle.fdr_ring.specs.Rings.{ChangesImage};
 
 use fdr_deck::Deck;
 use fdr_io::Failed;
-use fdr_slot::{Header, OPEN, slot_at, write_slot_head};
-
-/// Where the gate of the slot of a number stands.
-pub fn gate_at(h: &Header, seq: u64) -> u64
-    requires { IsInLimits h.now }
-    ensures at { result ≡ gate_at h.now seq }
-    ensures within { result + 16 + h.now.payload ≤ image_size h.now }
-    ensures behind_header { 64 ≤ result }
-{
-    slot_at(h, (seq % u64::from(h.slots)) as u32)
-}
+use fdr_slot::{Header, MAX_PAYLOAD, OPEN, gate_at, write_slot_head};
 
 /// The rest of a head after its gate, and the largest payload.
-const MAX_BODY: usize = 15 + 4_096;
+const MAX_BODY: usize = 15 + MAX_PAYLOAD;
 
 /// Puts the bytes there.
 fn put(room: &mut [u8], at: usize, bytes: &[u8])
@@ -37,7 +27,7 @@ fn put(room: &mut [u8], at: usize, bytes: &[u8])
 /// What is after the gate of a block's slot, at the front of an array that has room for the
 /// largest.
 fn body_of(seq: u64, bytes: &[u8]) -> [u8; MAX_BODY]
-    requires { length bytes.now ≤ 4096 }
+    requires { length bytes.now ≤ most_payload_bytes }
     ensures { take (15 + length bytes.now) result ≡ body_bytes seq bytes.now }
 {
     let head = write_slot_head(bytes.len() as u16, 0, seq);
@@ -52,15 +42,9 @@ pub fn write_body<D: Deck>(deck: &mut D, h: &Header, seq: u64, bytes: &[u8]) -> 
     requires limits { IsInLimits h.now }
     requires fits { length bytes.now ≤ h.now.payload }
     requires whole { image_size h.now ≤ (D.state deck.old).extent }
-    ensures disk_work { IsDiskWork D.tells
-        (λ image. IsSettled (D.state deck.old)
-        → Torn (gate_at h.now seq + 1) (15 + length bytes.now) (D.state deck.old).held image)
-        (D.state deck.old) (D.state deck.new) }
-    ensures torn { IsTrue D.tells.bytes
-        → Torn (gate_at h.now seq + 1) (15 + length bytes.now) (D.state deck.old).held (D.state deck.new).held }
+    ensures changes { ChangesImage D.tells (Torn (gate_at h.now seq + 1) (15 + length bytes.now)) (D.state deck.old) (D.state deck.new) }
     ensures written { OnOk result (IsTrue D.tells.bytes
         → (D.state deck.new).held ≡ image_with_body h.now seq bytes.now (D.state deck.old).held) }
-    ensures extent { (D.state deck.new).extent ≡ (D.state deck.old).extent }
     ensures succeeds { OnOk result (Succeeds (D.state deck.old) (D.state deck.new)) }
     ensures cause { OnErr result (Rose (D.state deck.old).disk_faults (D.state deck.new).disk_faults) }
     ensures rest { D.same_rest deck.old deck.new }
@@ -72,13 +56,10 @@ pub fn write_body<D: Deck>(deck: &mut D, h: &Header, seq: u64, bytes: &[u8]) -> 
 /// Opens a gate, and makes it durable.
 pub fn open_gate<D: Deck>(deck: &mut D, at: u64) -> Result<(), Failed>
     requires { at + 1 ≤ (D.state deck.old).extent }
-    ensures disk_work { IsDiskWork D.tells (λ image. IsSettled (D.state deck.old) → Torn at 1 (D.state deck.old).held image)
-        (D.state deck.old) (D.state deck.new) }
-    ensures torn { IsTrue D.tells.bytes → Torn at 1 (D.state deck.old).held (D.state deck.new).held }
+    ensures changes { ChangesImage D.tells (Torn at 1) (D.state deck.old) (D.state deck.new) }
     ensures written { OnOk result (IsTrue D.tells.bytes
         → (D.state deck.new).held ≡ patched at (0x5a ∷ []) (D.state deck.old).held) }
     ensures settled { OnOk result (IsTrue D.tells.stops → IsSettled (D.state deck.new)) }
-    ensures extent { (D.state deck.new).extent ≡ (D.state deck.old).extent }
     ensures succeeds { OnOk result (Succeeds (D.state deck.old) (D.state deck.new)) }
     ensures cause { OnErr result (Rose (D.state deck.old).disk_faults (D.state deck.new).disk_faults) }
     ensures rest { D.same_rest deck.old deck.new }

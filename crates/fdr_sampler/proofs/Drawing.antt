@@ -16,12 +16,12 @@ use Rattle.fdr_layout.specs.Listed.{numbered_parts}
 use Rattle.fdr_layout.proofs.Drafting.{plain_again}
 use Rattle.fdr_sampler.specs.Held.{first_part_slot}
 use Rattle.fdr_sampler.specs.SlotWord.{piece_of, data_of}
-use Rattle.fdr_sampler.specs.Kept.{value_at, IsDrawn}
+use Rattle.fdr_sampler.specs.Kept.{value_at, IsDrawnWord}
 use Rattle.fdr_lists.proofs.Numbered.{slice_get_some}
 use Rattle.fdr_sampler.proofs.DataWords.{with_part, data_of-none, data_of-more}
 
-pub IsDrawn-none : (value : ℕ → ℕ) (raws : List ℕ) → IsDrawn value [] raws raws 0
-IsDrawn-none value raws = record {
+pub IsDrawnWord-none : (value : ℕ → ℕ) (raws : List ℕ) → IsDrawnWord value [] raws raws 0
+IsDrawnWord-none value raws = record {
   word = sym (data_of-none value);
   kept = λ n is. is;
   taken =
@@ -38,11 +38,11 @@ kept_through value raws n raw m is room before =
     (cases_eq m n)
 
 -- one more part
-pub IsDrawn-more : (value : ℕ → ℕ) (parts : List SlotPart) (i : ℕ) (a : SlotPart) (before raws after : List ℕ) (word next raw : ℕ) → i < length parts
+pub IsDrawnWord-more : (value : ℕ → ℕ) (parts : List SlotPart) (i : ℕ) (a : SlotPart) (before raws after : List ℕ) (word next raw : ℕ) → i < length parts
     → a ≡ get_or parts i a →
-    IsDrawn value (take i parts) before raws word → raw ≡ value a.sample → a.sample < length raws → after ≡ set raws a.sample raw → next < 4096 →
-    next ≡ with_field word (a.part.at % 12) a.part.width (piece_of raw a.part) → IsDrawn value (take (i + 1) parts) before after next
-IsDrawn-more value parts i a before raws after word next raw l is so_far raw_is room after_is next_fits next_is =
+    IsDrawnWord value (take i parts) before raws word → raw ≡ value a.sample → a.sample < length raws → after ≡ set raws a.sample raw → next < 4096 →
+    next ≡ with_field word (a.part.at % 12) a.part.width (piece_of raw a.part) → IsDrawnWord value (take (i + 1) parts) before after next
+IsDrawnWord-more value parts i a before raws after word next raw l is so_far raw_is room after_is next_fits next_is =
     let P : List ℕ → SlotPart → Type 0 = λ xs x. slice_index xs x.sample ≡ value x.sample in
     let new = set raws a.sample raw in
     let keeps : (m : ℕ) → slice_index raws m ≡ value m → slice_index new m ≡ value m = λ m before. kept_through value raws a.sample raw m raw_is room before in
@@ -51,7 +51,7 @@ IsDrawn-more value parts i a before raws after word next raw l is so_far raw_is 
     let more : take i parts ++ a ∷ [] ≡ take (i + 1) parts = ap (λ x. take i parts ++ x ∷ []) is ∙ sym (take_more parts i a l) in
     let drawn : next ≡ data_of value (take (i + 1) parts) =
     written ∙ data_of-more value (take i parts) a word so_far.word (subst (λ w. w < 4096) written next_fits) ∙ ap (data_of value) more in
-    let Q : List ℕ → Type 0 = λ xs. IsDrawn value (take (i + 1) parts) before xs next in
+    let Q : List ℕ → Type 0 = λ xs. IsDrawnWord value (take (i + 1) parts) before xs next in
     subst Q (sym after_is) (record {
       word = drawn;
       kept = λ n old. keeps n (so_far.kept n old);

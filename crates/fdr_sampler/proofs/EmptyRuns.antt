@@ -12,10 +12,10 @@ use Rattle.fdr_frame.specs.Slots.{frame_of, kind_of, is_counter, subframe_of, sy
 use Rattle.fdr_table.specs.Rows.{FrameRow}
 use Rattle.fdr_layout.specs.SlotParts.{SlotPart, Laid}
 use Rattle.fdr_sampler.specs.Empty.{IsEmptySlot, HasEmptyRun, IsEmptyRun}
-use Rattle.fdr_sampler.specs.Kept.{SamplerKept, slot_parts, drawn_on, IsDrawn}
+use Rattle.fdr_sampler.specs.Kept.{SamplerKept, slot_parts, with_slots_passed, IsDrawnWord}
 use Rattle.fdr_sampler.specs.SlotWord.{slot_within, slot_word, word_with}
 use Rattle.fdr_sampler.specs.Past.{SamplerPast, sampler_with_words, RepresentsSampler}
-use Rattle.fdr_sampler.proofs.Drawing.{IsDrawn-none}
+use Rattle.fdr_sampler.proofs.Drawing.{IsDrawnWord-none}
 use Rattle.fdr_sampler.proofs.Standing.{DrawsData, slot_word-stands, Stands-next}
 use Rattle.fdr_sampler.proofs.Superframes.{kind_within, within_more}
 
@@ -138,12 +138,12 @@ runs_begun f l runs are k past = run_past f l k (get_or runs k 0) (ap (λ xs. ge
 -- ---- drawing them
 
 -- nothing is drawn for an empty slot
-draws_none : (k : SamplerKept) (slot : ℕ) → slot ≡ slot_within k.frame.words k.drawn → slot < 64 * k.frame.words → slot_parts k.laid slot ≡ []
+draws_none : (k : SamplerKept) (slot : ℕ) → slot ≡ slot_within k.frame.words k.slots_drawn → slot < 64 * k.frame.words → slot_parts k.laid slot ≡ []
     → DrawsData k slot k.raws 0
 draws_none k slot is below none = record {
   slot_is = is;
   below = below;
-  drawn = λ value have. subst (λ (ps : List SlotPart). IsDrawn value ps k.raws k.raws 0) (sym none) (IsDrawn-none value k.raws);
+  word = λ value have. subst (λ (ps : List SlotPart). IsDrawnWord value ps k.raws k.raws 0) (sym none) (IsDrawnWord-none value k.raws);
 }
 
 word_none : (f : FrameRow) (k : ℕ) → kind_of f.words f.cword f.csub k ≡ Plain → 0 ≡ word_with f k 0
@@ -154,39 +154,42 @@ word_none f k plain =
       | Plain ↦ 0
     ]) plain)
 
-draws_next : (k : SamplerKept) (n : ℕ) → (slot_within k.frame.words k.drawn + n < 64 * k.frame.words)
-    × IsEmptySlot k.frame k.laid (slot_within k.frame.words k.drawn + n) → DrawsData (drawn_on k n) (slot_within k.frame.words k.drawn + n) k.raws 0
-draws_next k n at = draws_none (drawn_on k n) (slot_within k.frame.words k.drawn + n) (sym (within_more k.frame.words k.drawn n at.0)) at.0 at.1.parts
+draws_next : (k : SamplerKept) (n : ℕ) → (slot_within k.frame.words k.slots_drawn + n < 64 * k.frame.words)
+    × IsEmptySlot k.frame k.laid (slot_within k.frame.words k.slots_drawn + n)
+    → DrawsData (with_slots_passed k n) (slot_within k.frame.words k.slots_drawn + n) k.raws 0
+draws_next k n at =
+    draws_none (with_slots_passed k n) (slot_within k.frame.words k.slots_drawn + n)
+    (sym (within_more k.frame.words k.slots_drawn n at.0)) at.0 at.1.parts
 
-next_word_none : (k : SamplerKept) (n : ℕ) → (slot_within k.frame.words k.drawn + n < 64 * k.frame.words)
-    × IsEmptySlot k.frame k.laid (slot_within k.frame.words k.drawn + n) → 0 ≡ word_with k.frame (k.drawn + n) 0
+next_word_none : (k : SamplerKept) (n : ℕ) → (slot_within k.frame.words k.slots_drawn + n < 64 * k.frame.words)
+    × IsEmptySlot k.frame k.laid (slot_within k.frame.words k.slots_drawn + n) → 0 ≡ word_with k.frame (k.slots_drawn + n) 0
 next_word_none k n at =
     let f = k.frame in
-    word_none f (k.drawn + n)
-    (sym (kind_within f.words f.cword f.csub (k.drawn + n) (omega (arith, at.0)))
-    ∙ ap (kind_of f.words f.cword f.csub) (within_more f.words k.drawn n at.0) ∙ at.1.plain)
+    word_none f (k.slots_drawn + n)
+    (sym (kind_within f.words f.cword f.csub (k.slots_drawn + n) (omega (arith, at.0)))
+    ∙ ap (kind_of f.words f.cword f.csub) (within_more f.words k.slots_drawn n at.0) ∙ at.1.plain)
 
 -- the value after n empty slots
 pub Stands-empty : (k : SamplerKept) (past : SamplerPast) (n : ℕ) → RepresentsSampler k past
-    → HasEmptyRun k.frame k.laid (slot_within k.frame.words k.drawn) n → RepresentsSampler (drawn_on k n) (sampler_with_words past n)
+    → HasEmptyRun k.frame k.laid (slot_within k.frame.words k.slots_drawn) n → RepresentsSampler (with_slots_passed k n) (sampler_with_words past n)
 Stands-empty k past zero st run =
-    let same : k.drawn ≡ k.drawn + zero = omega arith in
-    let same_past : past.drawn ≡ past.drawn + zero = omega arith in
-    subst (λ m. RepresentsSampler (record k { drawn = m }) (sampler_with_words past zero)) same
-    (subst (λ m. RepresentsSampler k (record past { drawn = m })) same_past st)
+    let same : k.slots_drawn ≡ k.slots_drawn + zero = omega arith in
+    let same_past : past.slots_drawn ≡ past.slots_drawn + zero = omega arith in
+    subst (λ m. RepresentsSampler (record k { slots_drawn = m }) (sampler_with_words past zero)) same
+    (subst (λ m. RepresentsSampler k (record past { slots_drawn = m })) same_past st)
 Stands-empty k past (suc n) st run =
     let at = run n (omega arith) in
     let before = Stands-empty k past n st (λ j l. run j (omega arith)) in
-    let count : past.drawn + n + 1 ≡ past.drawn + suc n = omega arith in
-    subst (λ m. RepresentsSampler (drawn_on k (suc n)) (record past { drawn = m })) count
-    (Stands-next (drawn_on k n) (drawn_on k (suc n)) (sampler_with_words past n) (slot_within k.frame.words k.drawn + n) k.raws 0 before
+    let count : past.slots_drawn + n + 1 ≡ past.slots_drawn + suc n = omega arith in
+    subst (λ m. RepresentsSampler (with_slots_passed k (suc n)) (record past { slots_drawn = m })) count
+    (Stands-next (with_slots_passed k n) (with_slots_passed k (suc n)) (sampler_with_words past n) (slot_within k.frame.words k.slots_drawn + n) k.raws 0 before
     (draws_next k n at) refl refl refl refl refl (omega arith))
 
 -- whose words are 0
 pub words_empty : (k : SamplerKept) (past : SamplerPast) (n j : ℕ) → RepresentsSampler k past
-    → HasEmptyRun k.frame k.laid (slot_within k.frame.words k.drawn) n → j < n → slot_word past.table past.records (past.drawn + j) ≡ 0
+    → HasEmptyRun k.frame k.laid (slot_within k.frame.words k.slots_drawn) n → j < n → slot_word past.table past.records (past.slots_drawn + j) ≡ 0
 words_empty k past n j st run less =
     let at = run j less in
     let before = Stands-empty k past j st (λ i l. run i (omega arith)) in
-    sym (slot_word-stands (drawn_on k j) (sampler_with_words past j) (slot_within k.frame.words k.drawn + j) k.raws 0 0 before (draws_next k j at)
-    (next_word_none k j at))
+    sym (slot_word-stands (with_slots_passed k j) (sampler_with_words past j) (slot_within k.frame.words k.slots_drawn + j) k.raws 0 0 before
+    (draws_next k j at) (next_word_none k j at))

@@ -19,7 +19,7 @@ use Rattle.fdr_layout.proofs.Endings.{samples_params}
 use Rattle.fdr_sampler.specs.Held.{Source, HeldWord, source_of, is_from, counts_for, held_record, word_and_time, held_word, raw_of_held, raw_value}
 use Rattle.fdr_sampler.specs.Held.{first_part_slot}
 use Rattle.fdr_sampler.specs.SlotWord.{numbered_value, slot_within, start_of, data_of, data_word, word_with, slot_word}
-use Rattle.fdr_sampler.specs.Kept.{SamplerKept, sampler_at_start, held_word_after, HasHeld, raw_number_at, value_at, slot_parts, HaveValues, IsDrawn}
+use Rattle.fdr_sampler.specs.Kept.{SamplerKept, sampler_at_start, held_word_after, HasHeld, raw_number_at, value_at, slot_parts, HaveValues, IsDrawnWord}
 use Rattle.fdr_sampler.specs.Past.{SamplerPast, sampler_made, sampler_with_record, sampler_with_word, MayTake, RepresentsSampler}
 use Rattle.fdr_lists.proofs.Numbered.{slice_get_some}
 use Rattle.fdr_sampler.proofs.SlotFacts.{IsOfSample, parts_in_of, parts_of_slot_in, beginning_holds}
@@ -94,33 +94,33 @@ slot_parts-laid k t slot laid below =
 
 -- the raw numbers of the parameters at the next slot
 abbrev pub number_kept : SamplerKept → ℕ → ℕ
-number_kept k = raw_number_at k.frame.words k.drawn k.sources k.held
+number_kept k = raw_number_at k.frame.words k.slots_drawn k.sources k.held
 
 number_stands : (k : SamplerKept) (past : SamplerPast) (n : ℕ) (p : ParamRow) → RepresentsSampler k past → slice_get past.table.params n ≡ Some p
-    → number_kept k n ≡ raw_of_held past.table.frame.words (source_of p) past.drawn
-    (held_word past.table.frame.words (source_of p) past.records past.drawn)
+    → number_kept k n ≡ raw_of_held past.table.frame.words (source_of p) past.slots_drawn
+    (held_word past.table.frame.words (source_of p) past.records past.slots_drawn)
 unfolding raw_number_at
 number_stands k past n p st got =
     let t = past.table in
     let s = source_of p in
     let from : slice_get k.sources n ≡ Some s = ap (λ xs. slice_get xs n) st.sources ∙ slice_get-map source_of t.params n
     ∙ ap (option_map source_of) got in
-    ap (λ o. option_map_or (λ (x : Source). raw_of_held k.frame.words x k.drawn (slice_index_or k.held n None)) o 0) from
-    ∙ ap (λ (f : FrameRow). raw_of_held f.words s k.drawn (slice_index_or k.held n None)) st.frame
-    ∙ ap (λ d. raw_of_held t.frame.words s d (slice_index_or k.held n None)) st.drawn
-    ∙ ap (raw_of_held t.frame.words s past.drawn) (st.held n p got)
+    ap (λ o. option_map_or (λ (x : Source). raw_of_held k.frame.words x k.slots_drawn (slice_index_or k.held n None)) o 0) from
+    ∙ ap (λ (f : FrameRow). raw_of_held f.words s k.slots_drawn (slice_index_or k.held n None)) st.frame
+    ∙ ap (λ d. raw_of_held t.frame.words s d (slice_index_or k.held n None)) st.slots_drawn
+    ∙ ap (raw_of_held t.frame.words s past.slots_drawn) (st.held n p got)
 
 -- a sample with a part in the next slot
 value_stands : (k : SamplerKept) (past : SamplerPast) (n : ℕ) (s : Sample) → RepresentsSampler k past → slice_get (samples past.table) n ≡ Some s
     → 0 < length s.parts →
-    first_part_slot s ≤ slot_within past.table.frame.words past.drawn →
-    value_at k.laid (slot_within past.table.frame.words past.drawn) (number_kept k) k.raws n ≡ numbered_value past.table past.records
-    (start_of past.table.frame.words past.drawn) n
+    first_part_slot s ≤ slot_within past.table.frame.words past.slots_drawn →
+    value_at k.laid (slot_within past.table.frame.words past.slots_drawn) (number_kept k) k.raws n ≡ numbered_value past.table past.records
+    (start_of past.table.frame.words past.slots_drawn) n
 value_stands k past n s st got some low =
     let t = past.table in
     let w = t.frame.words in
-    let slot = slot_within w past.drawn in
-    let start = start_of w past.drawn in
+    let slot = slot_within w past.slots_drawn in
+    let start = start_of w past.slots_drawn in
     let choice : Sample → ℕ = λ s. if first_part_slot s == slot then number_kept k s.param else slice_index k.raws n in
     let here : value_at k.laid slot (number_kept k) k.raws n ≡ choice s =
     ap (λ (l : Laid). value_at l slot (number_kept k) k.raws n) st.laid ∙ ap (λ o. option_map_or choice o 0) got in
@@ -128,7 +128,7 @@ value_stands k past n s st got some low =
     here ∙ ⊎_elim
     (λ (begins : first_part_slot s ≡ slot).
     let p = param_of t n s got in
-    let now : start + first_part_slot s ≡ past.drawn = ap (λ x. start + x) begins ∙ start_and_within w past.drawn in
+    let now : start + first_part_slot s ≡ past.slots_drawn = ap (λ x. start + x) begins ∙ start_and_within w past.slots_drawn in
     cond-true _ _ _ (eq-eqb (first_part_slot s) slot begins) ∙ number_stands k past s.param p.0 st p.1
     ∙ ap (λ x. raw_of_held w (source_of p.0) x (held_word w (source_of p.0) past.records x)) (sym now)
     ∙ sym (raw_value_at t past.records start s p.0 p.1) ∙ value)
@@ -139,15 +139,16 @@ value_stands k past n s st got some low =
 
 -- the samples in the next slot have the raw values of the definition
 pub HaveValues-stands : (k : SamplerKept) (past : SamplerPast) → RepresentsSampler k past → 0 < past.table.frame.words →
-    HaveValues (numbered_value past.table past.records (start_of past.table.frame.words past.drawn)) k.laid (slot_within past.table.frame.words past.drawn)
+    HaveValues (numbered_value past.table past.records (start_of past.table.frame.words past.slots_drawn)) k.laid
+    (slot_within past.table.frame.words past.slots_drawn)
     (number_kept k) k.raws
 HaveValues-stands k past st some =
     let t = past.table in
-    let slot = slot_within t.frame.words past.drawn in
-    let value = numbered_value t past.records (start_of t.frame.words past.drawn) in
+    let slot = slot_within t.frame.words past.slots_drawn in
+    let value = numbered_value t past.records (start_of t.frame.words past.slots_drawn) in
     let P : SlotPart → Type 0 = λ a. value_at k.laid slot (number_kept k) k.raws a.sample ≡ value a.sample in
     let parts = parts_in t slot in
-    All-same P (slot_parts k.laid slot) parts (slot_parts-laid k t slot st.laid (within_below t.frame.words past.drawn some))
+    All-same P (slot_parts k.laid slot) parts (slot_parts-laid k t slot st.laid (within_below t.frame.words past.slots_drawn some))
     (λ i d l.
     let a = get_or parts i d in
     let of : IsOfSample (samples t) a = parts_in_of t slot i d l in
@@ -156,14 +157,14 @@ HaveValues-stands k past st some =
 
 -- so the word that was drawn is that of the definition
 pub word-stands : (k : SamplerKept) (past : SamplerPast) (after : List ℕ) (word : ℕ) → RepresentsSampler k past → 0 < past.table.frame.words →
-    IsDrawn (numbered_value past.table past.records (start_of past.table.frame.words past.drawn))
-    (slot_parts k.laid (slot_within past.table.frame.words past.drawn)) k.raws after word →
-    word ≡ data_word past.table past.records (start_of past.table.frame.words past.drawn) (slot_within past.table.frame.words past.drawn)
+    IsDrawnWord (numbered_value past.table past.records (start_of past.table.frame.words past.slots_drawn))
+    (slot_parts k.laid (slot_within past.table.frame.words past.slots_drawn)) k.raws after word →
+    word ≡ data_word past.table past.records (start_of past.table.frame.words past.slots_drawn) (slot_within past.table.frame.words past.slots_drawn)
 word-stands k past after word st some drawn =
     let t = past.table in
     let w = t.frame.words in
-    drawn.word ∙ ap (data_of (numbered_value t past.records (start_of w past.drawn)))
-    (slot_parts-laid k t (slot_within w past.drawn) st.laid (within_below w past.drawn some))
+    drawn.word ∙ ap (data_of (numbered_value t past.records (start_of w past.slots_drawn)))
+    (slot_parts-laid k t (slot_within w past.slots_drawn) st.laid (within_below w past.slots_drawn some))
 
 -- ---- after a call
 
@@ -173,7 +174,7 @@ Stands-made t l laid = record {
   frame = refl;
   sources = refl;
   laid = laid;
-  drawn = refl;
+  slots_drawn = refl;
   records = All-nil (λ (r : BusRecord). IsTrue (counts_for t.frame.words 0 r));
   held = λ n p got. get_or-replicate (length t.params) n None None (slice_get_within t.params n p got)
       ∙ sym (ap (option_map word_and_time) (held_record-none t.frame.words 0 (source_of p)));
@@ -188,18 +189,19 @@ Stands-made_of t frame params l frame_is params_is laid =
 
 -- after a slot was drawn
 pub Stands-word : (k k' : SamplerKept) (past : SamplerPast) (word : ℕ) → RepresentsSampler k past → 0 < past.table.frame.words →
-    IsDrawn (numbered_value past.table past.records (start_of past.table.frame.words past.drawn))
-    (slot_parts k.laid (slot_within past.table.frame.words past.drawn)) k.raws k'.raws word →
-    k'.frame ≡ k.frame → k'.sources ≡ k.sources → k'.laid ≡ k.laid → k'.held ≡ k.held → k'.drawn ≡ k.drawn + 1 → RepresentsSampler k' (sampler_with_word past)
+    IsDrawnWord (numbered_value past.table past.records (start_of past.table.frame.words past.slots_drawn))
+    (slot_parts k.laid (slot_within past.table.frame.words past.slots_drawn)) k.raws k'.raws word →
+    k'.frame ≡ k.frame → k'.sources ≡ k.sources → k'.laid ≡ k.laid → k'.held ≡ k.held → k'.slots_drawn ≡ k.slots_drawn + 1
+    → RepresentsSampler k' (sampler_with_word past)
 Stands-word k k' past word st some drawn frame sources laid held count =
     let t = past.table in
     let w = t.frame.words in
-    let slot = slot_within w past.drawn in
-    let start = start_of w past.drawn in
+    let slot = slot_within w past.slots_drawn in
+    let start = start_of w past.slots_drawn in
     let value = numbered_value t past.records start in
     let taken : All (λ (a : SlotPart). slice_index k'.raws a.sample ≡ value a.sample) (parts_in t slot) =
     All-same (λ (a : SlotPart). slice_index k'.raws a.sample ≡ value a.sample) (parts_in t slot) (slot_parts k.laid slot)
-    (sym (slot_parts-laid k t slot st.laid (within_below w past.drawn some))) drawn.taken in
+    (sym (slot_parts-laid k t slot st.laid (within_below w past.slots_drawn some))) drawn.taken in
     let raws : (n : ℕ) (s : Sample) → slice_get (samples t) n ≡ Some s → 0 < length s.parts → first_part_slot s < slot + 1
     → slice_index k'.raws n ≡ raw_value t past.records start s =
     λ n s got parts below.
@@ -213,16 +215,16 @@ Stands-word k k' past word st some drawn frame sources laid held count =
       frame = frame ∙ st.frame;
       sources = sources ∙ st.sources;
       laid = laid ∙ st.laid;
-      drawn = count ∙ ap (λ n. n + 1) st.drawn;
-      records = All-weaker (λ (r : BusRecord). IsTrue (counts_for w past.drawn r)) (λ (r : BusRecord). IsTrue (counts_for w (past.drawn + 1) r))
-          (counts_later w past.drawn) past.records st.records;
+      slots_drawn = count ∙ ap (λ n. n + 1) st.slots_drawn;
+      records = All-weaker (λ (r : BusRecord). IsTrue (counts_for w past.slots_drawn r)) (λ (r : BusRecord). IsTrue (counts_for w (past.slots_drawn + 1) r))
+          (counts_later w past.slots_drawn) past.records st.records;
       held = λ n p got. ap (λ (xs : List (Option HeldWord)). slice_index_or xs n None) held ∙ st.held n p got
-          ∙ ap (option_map word_and_time) (sym (held_record-next w past.drawn (source_of p) past.records st.records));
+          ∙ ap (option_map word_and_time) (sym (held_record-next w past.slots_drawn (source_of p) past.records st.records));
       raws = λ n s got parts below. ⊎_elim
-          (λ (none : slot_within w (past.drawn + 1) ≡ 0). absurd (omega arith))
-          (λ (next : (slot_within w (past.drawn + 1) ≡ slot + 1) × (start_of w (past.drawn + 1) ≡ start)).
+          (λ (none : slot_within w (past.slots_drawn + 1) ≡ 0). absurd (omega arith))
+          (λ (next : (slot_within w (past.slots_drawn + 1) ≡ slot + 1) × (start_of w (past.slots_drawn + 1) ≡ start)).
           raws n s got parts (omega (arith, next.0)) ∙ ap (λ x. raw_value t past.records x s) (sym next.1))
-          (next_slot w past.drawn some);
+          (next_slot w past.slots_drawn some);
     }
 
 word_after : (s : Source) (r : BusRecord) (before : Option BusRecord)
@@ -236,26 +238,27 @@ word_after s r before =
 -- after a record was given
 pub Stands-record : (k k' : SamplerKept) (past : SamplerPast) (r : BusRecord) → RepresentsSampler k past → MayTake past r →
     ((n : ℕ) (s : Source) → slice_get k.sources n ≡ Some s → slice_index_or k'.held n None ≡ held_word_after s r (slice_index_or k.held n None)) →
-    k'.frame ≡ k.frame → k'.sources ≡ k.sources → k'.laid ≡ k.laid → k'.raws ≡ k.raws → k'.drawn ≡ k.drawn → RepresentsSampler k' (sampler_with_record past r)
+    k'.frame ≡ k.frame → k'.sources ≡ k.sources → k'.laid ≡ k.laid → k'.raws ≡ k.raws → k'.slots_drawn ≡ k.slots_drawn
+    → RepresentsSampler k' (sampler_with_record past r)
 Stands-record k k' past r st may held frame sources laid raws count =
     let t = past.table in
     let w = t.frame.words in
-    let counts : IsTrue (counts_for w past.drawn r) = le-leb (r.time * w) (past.drawn * 1000000) may.none_due in
+    let counts : IsTrue (counts_for w past.slots_drawn r) = le-leb (r.time * w) (past.slots_drawn * 1000000) may.none_due in
     record {
       frame = frame ∙ st.frame;
       sources = sources ∙ st.sources;
       laid = laid ∙ st.laid;
-      drawn = count ∙ st.drawn;
-      records = All-push (λ (r : BusRecord). IsTrue (counts_for w past.drawn r)) past.records r st.records counts;
+      slots_drawn = count ∙ st.slots_drawn;
+      records = All-push (λ (r : BusRecord). IsTrue (counts_for w past.slots_drawn r)) past.records r st.records counts;
       held = λ n p got.
           let s = source_of p in
           let from : slice_get k.sources n ≡ Some s = ap (λ xs. slice_get xs n) st.sources ∙ slice_get-map source_of t.params n
           ∙ ap (option_map source_of) got in
-          held n s from ∙ ap (held_word_after s r) (st.held n p got) ∙ word_after s r (held_record w s past.records past.drawn)
-          ∙ ap (option_map word_and_time) (sym (held_record-counted w past.drawn s past.records r counts));
+          held n s from ∙ ap (held_word_after s r) (st.held n p got) ∙ word_after s r (held_record w s past.records past.slots_drawn)
+          ∙ ap (option_map word_and_time) (sym (held_record-counted w past.slots_drawn s past.records r counts));
       raws = λ n s got parts below.
-          let start = start_of w past.drawn in
-          let before : start + first_part_slot s < past.drawn = omega (arith, start_and_within w past.drawn) in
+          let start = start_of w past.slots_drawn in
+          let before : start + first_part_slot s < past.slots_drawn = omega (arith, start_and_within w past.slots_drawn) in
           ap (λ xs. slice_index xs n) raws ∙ st.raws n s got parts below
           ∙ sym (raw_value-late t past.records start n s r got (may.counts_for_none (start + first_part_slot s) before));
     }
@@ -276,37 +279,41 @@ some_words k past slot st below =
 
 -- What drawing a word of data for a slot says: the word, and the raw values that are kept.
 pub record DrawsData (k : SamplerKept) (slot : ℕ) (after : List ℕ) (plain : ℕ) : Type 0 where
-  pub slot_is : slot ≡ slot_within k.frame.words k.drawn
+  pub slot_is : slot ≡ slot_within k.frame.words k.slots_drawn
   pub below : slot < 64 * k.frame.words
-  pub drawn : (value : ℕ → ℕ) → HaveValues value k.laid slot (number_kept k) k.raws → IsDrawn value (slot_parts k.laid slot) k.raws after plain
+  pub word : (value : ℕ → ℕ) → HaveValues value k.laid slot (number_kept k) k.raws → IsDrawnWord value (slot_parts k.laid slot) k.raws after plain
 
 drawn_for : (k : SamplerKept) (past : SamplerPast) (slot : ℕ) (after : List ℕ) (plain : ℕ) → RepresentsSampler k past → DrawsData k slot after plain →
-    IsDrawn (numbered_value past.table past.records (start_of past.table.frame.words past.drawn))
-    (slot_parts k.laid (slot_within past.table.frame.words past.drawn)) k.raws after plain
+    IsDrawnWord (numbered_value past.table past.records (start_of past.table.frame.words past.slots_drawn))
+    (slot_parts k.laid (slot_within past.table.frame.words past.slots_drawn)) k.raws after plain
 drawn_for k past slot after plain st draws =
     let w = past.table.frame.words in
-    let value = numbered_value past.table past.records (start_of w past.drawn) in
-    let is : slot ≡ slot_within w past.drawn = draws.slot_is ∙ ap (λ (f : FrameRow). slot_within f.words k.drawn) st.frame ∙ ap (slot_within w) st.drawn in
-    subst (λ x. IsDrawn value (slot_parts k.laid x) k.raws after plain) is
-    (draws.drawn value (subst (λ x. HaveValues value k.laid x (number_kept k) k.raws) (sym is)
+    let value = numbered_value past.table past.records (start_of w past.slots_drawn) in
+    let is : slot ≡ slot_within w past.slots_drawn =
+    draws.slot_is ∙ ap (λ (f : FrameRow). slot_within f.words k.slots_drawn) st.frame ∙ ap (slot_within w) st.slots_drawn in
+    subst (λ x. IsDrawnWord value (slot_parts k.laid x) k.raws after plain) is
+    (draws.word value (subst (λ x. HaveValues value k.laid x (number_kept k) k.raws) (sym is)
     (HaveValues-stands k past st (some_words k past slot st draws.below))))
 
 -- the word of the next slot
 pub slot_word-stands : (k : SamplerKept) (past : SamplerPast) (slot : ℕ) (after : List ℕ) (plain word : ℕ) → RepresentsSampler k past
     → DrawsData k slot after plain →
-    word ≡ word_with k.frame k.drawn plain → word ≡ slot_word past.table past.records past.drawn
+    word ≡ word_with k.frame k.slots_drawn plain → word ≡ slot_word past.table past.records past.slots_drawn
 slot_word-stands k past slot after plain word st draws is =
     let t = past.table in
-    is ∙ ap (λ (f : FrameRow). word_with f k.drawn plain) st.frame ∙ ap (λ n. word_with t.frame n plain) st.drawn
-    ∙ ap (word_with t.frame past.drawn) (word-stands k past after plain st (some_words k past slot st draws.below) (drawn_for k past slot after plain st draws))
+    is ∙ ap (λ (f : FrameRow). word_with f k.slots_drawn plain) st.frame ∙ ap (λ n. word_with t.frame n plain) st.slots_drawn
+    ∙ ap (word_with t.frame past.slots_drawn)
+    (word-stands k past after plain st (some_words k past slot st draws.below) (drawn_for k past slot after plain st draws))
 
 -- the value after that word
 pub Stands-next : (k k' : SamplerKept) (past : SamplerPast) (slot : ℕ) (after : List ℕ) (plain : ℕ) → RepresentsSampler k past → DrawsData k slot after plain
     → k'.raws ≡ after →
-    k'.frame ≡ k.frame → k'.sources ≡ k.sources → k'.laid ≡ k.laid → k'.held ≡ k.held → k'.drawn ≡ k.drawn + 1 → RepresentsSampler k' (sampler_with_word past)
+    k'.frame ≡ k.frame → k'.sources ≡ k.sources → k'.laid ≡ k.laid → k'.held ≡ k.held → k'.slots_drawn ≡ k.slots_drawn + 1
+    → RepresentsSampler k' (sampler_with_word past)
 Stands-next k k' past slot after plain st draws raws frame sources laid held count =
     let w = past.table.frame.words in
-    let value = numbered_value past.table past.records (start_of w past.drawn) in
+    let value = numbered_value past.table past.records (start_of w past.slots_drawn) in
     Stands-word k k' past plain st (some_words k past slot st draws.below)
-    (subst (λ xs. IsDrawn value (slot_parts k.laid (slot_within w past.drawn)) k.raws xs plain) (sym raws) (drawn_for k past slot after plain st draws))
+    (subst (λ xs. IsDrawnWord value (slot_parts k.laid (slot_within w past.slots_drawn)) k.raws xs plain) (sym raws)
+    (drawn_for k past slot after plain st draws))
     frame sources laid held count

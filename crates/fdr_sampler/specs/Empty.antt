@@ -6,8 +6,8 @@ use Rattle.fdr_table.specs.Rows.{FrameRow}
 use Rattle.fdr_layout.specs.SlotParts.{Laid}
 use Rattle.fdr_sampler.specs.Kept.{slot_parts}
 
--- The slot has no part, no sync word and no counter. Its word rests on nothing that is held, so it may be drawn later; no
--- slot with a part may be, since what is held may be too old there.
+-- The slot has no part, no sync word and no counter. Its word rests on nothing that is held, so it may be drawn later. A slot
+-- with a part may not: another word may be held by then.
 pub record IsEmptySlot (f : FrameRow) (l : Laid) (slot : ℕ) : Type 0 where
   pub parts : slot_parts l slot ≡ []
   pub plain : kind_of f.words f.cword f.csub slot ≡ Plain

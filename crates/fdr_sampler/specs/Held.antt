@@ -1,5 +1,5 @@
 -- The bus word that is held for a parameter, whether it is fresh, and the raw value that a sample takes from it.
-use Rattle.std.specs.Prelude.{ℕ, ◌+◌, ◌-◌, ◌*◌, ◌/◌, ◌^◌, ◌==◌, Bool, true, false, not, ◌&&◌, nat_le, if◌then◌else◌, List, reverse, find, slice_get, Option}
+use Rattle.std.specs.Prelude.{ℕ, ◌+◌, ◌-◌, ◌/◌, ◌^◌, ◌==◌, Bool, true, false, not, ◌&&◌, nat_le, if◌then◌else◌, List, reverse, find, slice_get, Option}
 use Rattle.std.specs.Prelude.{is_some}
 use Rattle.std.specs.Option.{option_map, option_map_or}
 use Rattle.fdr_bus.specs.declared.BusRecord.{BusRecord}
@@ -7,10 +7,11 @@ use Rattle.fdr_bus.specs.Records.{is_end}
 use Rattle.fdr_bus.specs.Words.{bits_at, is_odd, label_of, sdi_of}
 use Rattle.fdr_table.specs.Rows.{ParamRow, TableRows}
 use Rattle.fdr_layout.specs.Samples.{Sample, first_at}
+use Rattle.fdr_sampler.specs.SlotTimes.{slot_time, time_of_slot}
 
 -- Where a parameter comes from: the words of a bus with a label, and with an SDI where one is given, and the field of
 -- such a word that has its raw number; for how many microseconds a word is fresh, where that ends; and whether the raw
--- number tells just this, and isn't the field.
+-- number tells freshness in place of the field.
 pub record Source : Type 0 where
   pub bus : ℕ
   pub label : ℕ
@@ -30,7 +31,7 @@ is_from s r =
 
 -- the record counts for word slot k, which is sampled k / w seconds after the start; times are in microseconds
 abbrev pub counts_for : ℕ → ℕ → BusRecord → Bool
-counts_for w k r = nat_le (r.time * w) (k * 1000000)
+counts_for w k r = nat_le (slot_time w r.time) (time_of_slot k)
 
 -- the record that is held at slot k: the last one of the source that counts for it
 unfoldable pub held_record : ℕ → Source → List BusRecord → ℕ → Option BusRecord
@@ -50,21 +51,21 @@ held_word w s records k = option_map word_and_time (held_record w s records k)
 
 -- what is held is fresh at slot k: there is a word, and words of the source have no age, or it isn't older than that
 abbrev pub is_fresh : ℕ → Source → ℕ → Option HeldWord → Bool
-is_fresh w s k held = option_map_or (λ (h : HeldWord). option_map_or (λ age. nat_le (k * 1000000) ((h.time + age) * w)) s.age true) held false
+is_fresh w s k held = option_map_or (λ (h : HeldWord). option_map_or (λ age. nat_le (time_of_slot k) (slot_time w (h.time + age))) s.age true) held false
 
 -- the source's field of what is held, or 0 where nothing is
 abbrev pub field_held : Source → Option HeldWord → ℕ
 field_held s held = option_map_or (λ (h : HeldWord). bits_at h.word s.lsb s.width) held 0
 
--- The raw number of a source at slot k, where this is held: whether it is fresh, where the source tells that; of another
--- source whose words have an age the field where it is fresh, and else all ones; of all others the field.
+-- The raw number of a source at slot k, where this is held: whether it is fresh, where the source tells that; where its words
+-- have an age, the field of a fresh word, and all ones without one; where it has neither, the field, or 0 where nothing is held.
 unfoldable pub raw_of_held : ℕ → Source → ℕ → Option HeldWord → ℕ
 raw_of_held w s k held =
     if s.tells then (if is_fresh w s k held then 1 else 0)
     else if is_some s.age then (if is_fresh w s k held then field_held s held else 2 ^ s.width - 1)
     else field_held s held
 
--- the word slot of the superframe in which a sample's earliest part stands
+-- the word slot of the superframe in which a sample's earliest part is
 abbrev pub first_part_slot : Sample → ℕ
 first_part_slot s = first_at s.parts / 12
 

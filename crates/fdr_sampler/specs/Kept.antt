@@ -22,7 +22,7 @@ pub record SamplerKept : Type 0 where
   pub laid : Laid
   pub held : List (Option HeldWord)
   pub raws : List ℕ
-  pub drawn : ℕ
+  pub slots_drawn : ℕ
 
 -- what holds of every value
 pub record IsSamplerKept (k : SamplerKept) : Type 0 where
@@ -31,7 +31,7 @@ pub record IsSamplerKept (k : SamplerKept) : Type 0 where
   pub params : All (λ (s : Sample). s.param < length k.sources) k.laid.samples
   pub held : length k.held ≡ length k.sources
   pub raws : length k.raws ≡ length k.laid.samples
-  pub drawn : k.drawn ≤ most_word_slots
+  pub slots_drawn : k.slots_drawn ≤ most_word_slots
 
 -- what is held for a source after a record, where it was `before`
 abbrev pub held_word_after : Source → BusRecord → Option HeldWord → Option HeldWord
@@ -44,8 +44,8 @@ pub record HasHeld (before after : SamplerKept) (r : BusRecord) : Type 0 where
       → slice_index_or after.held n None ≡ held_word_after s r (slice_index_or before.held n None)
 
 -- what is kept n slots on, where nothing was drawn for them
-abbrev pub drawn_on : SamplerKept → ℕ → SamplerKept
-drawn_on k n = record k { drawn = k.drawn + n }
+abbrev pub with_slots_passed : SamplerKept → ℕ → SamplerKept
+with_slots_passed k n = record k { slots_drawn = k.slots_drawn + n }
 
 -- the raw number of source n at slot k of a recording, by what is held for it
 unfoldable pub raw_number_at : ℕ → ℕ → List Source → List (Option HeldWord) → ℕ → ℕ
@@ -67,10 +67,10 @@ HaveValues value l slot number raws = All (λ (a : SlotPart). value_at l slot nu
 
 -- A word of data was drawn for these parts: it has their pieces of the raw values, each of their samples is now kept
 -- with its raw value, and so is each that was before.
-pub record IsDrawn (value : ℕ → ℕ) (parts : List SlotPart) (before after : List ℕ) (drawn : ℕ) : Type 0 where
-  pub word : drawn ≡ data_of value parts
-  pub kept : (n : ℕ) → slice_index before n ≡ value n → slice_index after n ≡ value n
-  pub taken : All (λ (a : SlotPart). slice_index after a.sample ≡ value a.sample) parts
+pub record IsDrawnWord (value : ℕ → ℕ) (parts : List SlotPart) (raws_before raws_after : List ℕ) (drawn_word : ℕ) : Type 0 where
+  pub word : drawn_word ≡ data_of value parts
+  pub kept : (n : ℕ) → slice_index raws_before n ≡ value n → slice_index raws_after n ≡ value n
+  pub taken : All (λ (a : SlotPart). slice_index raws_after a.sample ≡ value a.sample) parts
 
 -- the parameter of each sample of a superframe: as often as the parameter's rate says
 unfoldable pub owners_of : List ParamRow → List ℕ
@@ -84,5 +84,5 @@ sampler_at_start frame params l = record {
   laid = l;
   held = replicate (length params) None;
   raws = replicate (length l.samples) 0;
-  drawn = 0;
+  slots_drawn = 0;
 }

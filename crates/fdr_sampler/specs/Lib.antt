@@ -1,3 +1,4 @@
+pub mod SlotTimes
 pub mod Held
 pub mod HeldWords
 pub mod SlotWord

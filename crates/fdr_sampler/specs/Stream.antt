@@ -5,11 +5,12 @@ use Rattle.fdr_bits.specs.Bits.{number_of}
 use Rattle.fdr_bus.specs.declared.BusRecord.{BusRecord}
 use Rattle.fdr_bus.specs.Records.{time_of}
 use Rattle.fdr_table.specs.Rows.{TableRows}
+use Rattle.fdr_sampler.specs.SlotTimes.{slot_time, slots_before}
 use Rattle.fdr_sampler.specs.SlotWord.{slot_word}
 
--- how many slots k have k * 1000000 < time * w
+-- how many slots are sampled before a time in microseconds
 abbrev pub slot_count : ℕ → ℕ → ℕ
-slot_count w time = (time * w + 999999) / 1000000
+slot_count w time = slots_before (slot_time w time)
 
 -- the words of the slots before the time of the records
 abbrev pub stream_words : TableRows → List BusRecord → List ℕ

@@ -9,5 +9,5 @@ sampler_kept s = record {
   laid = s.schedule;
   held = s.held.words;
   raws = s.raws.items;
-  drawn = s.drawn;
+  slots_drawn = s.slots_drawn;
 }

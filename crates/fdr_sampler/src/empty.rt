@@ -45,8 +45,8 @@ pub(crate) fn empty_runs(alloc: Global, frame: Frame, layout: &Layout) -> Result
     let count = 64 * frame.words;
     let mut runs = zeros(alloc, count as usize)?;
     let mut run = 0;
-    for behind in 0..count {
-        let slot = count - 1 - behind;
+    for slots_after in 0..count {
+        let slot = count - 1 - slots_after;
         run = run_from(frame, layout, slot, run);
         runs[slot as usize] = run;
     }

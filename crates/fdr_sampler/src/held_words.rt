@@ -105,7 +105,7 @@ impl HeldWords {
     }
 }
 
-/// So many words, none of which came.
+/// `count` words, none of which came.
 fn no_words(alloc: Global, count: usize) -> Result<Vec<TimedWord>, NoMemory>
     ensures { IfOk result (λ v. v.items ≡ replicate count no_word) }
 {

@@ -5,7 +5,7 @@ ghost use Rattle.fdr_bits.specs.Fields.{with_field};
 ghost use Rattle.fdr_layout.specs.Samples.{earliest_of, first_at};
 ghost use Rattle.fdr_layout.specs.SlotParts.{plain_parts};
 ghost use Rattle.fdr_sampler.specs.Held.{first_part_slot};
-ghost use Rattle.fdr_sampler.specs.Kept.{raw_number_at, slot_parts, HaveValues, IsDrawn};
+ghost use Rattle.fdr_sampler.specs.Kept.{raw_number_at, slot_parts, HaveValues, IsDrawnWord};
 
 use crate::held_words::HeldWords;
 use crate::moment::Moment;
@@ -15,7 +15,7 @@ use fdr_layout::{Layout, Part};
 use fdr_table::NoMemory;
 use std::alloc::Global;
 
-/// The slot in which the earliest of these parts stands; 0 where there is none.
+/// The slot of the earliest of these parts; 0 where there is none.
 #[tactic(auto, unfolding(fdr_layout::specs::Samples::first_at))]
 fn first_slot(parts: &[Part]) -> u32
     ensures { result ≡ first_at (plain_parts parts.now) / 12 }
@@ -36,7 +36,7 @@ fn earliest_slot(first: &Part, parts: &[Part]) -> u32
     earliest
 }
 
-/// The slot in which the earliest part of each sample stands; 0 where there is none.
+/// The slot of the earliest part of each sample; 0 where there is none.
 pub(crate) fn first_slots(alloc: Global, layout: &Layout) -> Result<Vec<u32>, NoMemory>
     ensures { IfOk result (λ v. v.items ≡ map first_part_slot layout.now.samples) }
 {
@@ -90,8 +90,8 @@ pub(crate) fn data_word(
     requires slot { slot < length schedule.now.slots }
     requires params { All (λ s. s.param < length held.now.sources) schedule.now.samples }
     requires raws { length raws.old ≡ length schedule.now.samples }
-    ensures drawn { (value : ℕ → ℕ) → HaveValues value schedule.now slot
-        (raw_number_at moment.words moment.slot held.now.sources held.now.words) raws.old → IsDrawn value (slot_parts schedule.now slot) raws.old raws.new result }
+    ensures word { (value : ℕ → ℕ) → HaveValues value schedule.now slot
+        (raw_number_at moment.words moment.slot held.now.sources held.now.words) raws.old → IsDrawnWord value (slot_parts schedule.now slot) raws.old raws.new result }
     ensures twelve_bits { result < 4096 }
 {
     let mut word = 0;

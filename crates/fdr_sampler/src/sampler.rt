@@ -1,21 +1,22 @@
 //! The sampler.
 
-ghost use Rattle.std.specs.Prelude.{◌≡◌, ◌<◌, ◌≤◌, ◌+◌, ◌-◌, ◌*◌, ◌^◌, ◌↔◌, ℕ, All, IsTrue, IfOk, length, map, replicate};
+ghost use Rattle.std.specs.Prelude.{◌≡◌, ◌<◌, ◌≤◌, ◌+◌, ◌*◌, ◌^◌, ◌↔◌, ℕ, All, IsTrue, IfOk, length, map, replicate};
 ghost use Rattle.fdr_bus.specs.declared.RecordKind.TheVariants.{Word};
 ghost use Rattle.fdr_bus.specs.Records.{last_time};
 ghost use Rattle.fdr_sampler.specs.SlotWord.{slot_word, slot_within, word_with};
 ghost use Rattle.fdr_layout.specs.Samples.{Sample};
 ghost use Rattle.fdr_layout.specs.SlotParts.{laid_of};
 ghost use Rattle.fdr_sampler.specs.Empty.{HasEmptyRun, IsEmptyRun};
-ghost use Rattle.fdr_sampler.specs.Kept.{sampler_at_start, drawn_on, most_word_slots, owners_of, HasHeld};
+ghost use Rattle.fdr_sampler.specs.Kept.{sampler_at_start, with_slots_passed, most_word_slots, owners_of, HasHeld};
 ghost use Rattle.fdr_sampler.specs.Past.{SamplerPast, sampler_made, sampler_with_record, sampler_with_word, sampler_with_words, MayTake, RepresentsSampler};
-ghost use Rattle.fdr_sampler.specs.Stream.{slot_count};
+ghost use Rattle.fdr_sampler.specs.SlotTimes.{slot_time, time_of_slot};
 
 use crate::empty::empty_runs;
 use crate::held_words::HeldWords;
 use crate::moment::Moment;
 use crate::pieces::data_word;
 use crate::schedule::Schedule;
+use crate::slot_time::SlotTime;
 use fdr_bus::BusRecord;
 use fdr_check::Sound;
 use fdr_frame::{
@@ -32,11 +33,12 @@ pub struct Sampler {
     frame: Frame,
     held: HeldWords,
     schedule: Schedule,
-    // How many empty slots follow one another from each slot on, and from the next one.
+    // How many empty slots follow one another from each slot of a superframe on.
     empty_runs: Vec<u32>,
-    empty_next: u32,
+    // How many do from the next slot on.
+    next_empty_slots: u32,
     raws: Vec<u32>,
-    drawn: u64,
+    slots_drawn: u64,
 }
 
 impl Model for Sampler {
@@ -51,7 +53,7 @@ impl Model for Sampler {
     ghost view = { sampler_kept };
 
     ghost invariant = { λ s. IsSamplerKept (sampler_kept s) × AreEmptyRuns s.frame s.schedule s.empty_runs.items
-        × IsEmptyRun s.frame s.schedule (slot_within s.frame.words s.drawn) s.empty_next };
+        × IsEmptyRun s.frame s.schedule (slot_within s.frame.words s.slots_drawn) s.next_empty_slots };
 }
 
 impl Sampler {
@@ -69,18 +71,9 @@ impl Sampler {
     pub fn due(&self, time: u64) -> bool
         requires { time ≤ last_time }
         ensures { (past : SamplerPast) → RepresentsSampler self.now past →
-            IsTrue result ↔ (past.drawn * 1000000 < time * past.table.frame.words) }
+            IsTrue result ↔ (past.slots_drawn * 1000000 < time * past.table.frame.words) }
     {
-        self.slots_before(0) < self.slots_at(time)
-    }
-
-    /// How many slots come before this time, in microseconds from the start, and weren't drawn. Takes no memory.
-    pub fn count_due(&self, time: u64) -> u64
-        requires { time ≤ last_time }
-        ensures { result ≡ slot_count self.now.frame.words time - self.now.drawn }
-    {
-        let before = (time * u64::from(self.frame.words) + 999_999) / 1_000_000;
-        before.saturating_sub(self.drawn)
+        self.sampling_time(0).is_before(self.slot_time(time))
     }
 
     /// Holds the next bus word. It counts for the slots that it should where all slots before its time were drawn, and no
@@ -95,61 +88,68 @@ impl Sampler {
 
     /// The word of the next slot. A recording has at most 1,474,560,000. Takes no memory.
     pub fn next_word(&mut self) -> u16
-        requires { (past : SamplerPast) × RepresentsSampler self.old past × (past.drawn < most_word_slots) }
-        ensures word { (past : SamplerPast) → RepresentsSampler self.old past → result ≡ slot_word past.table past.records past.drawn }
+        requires { (past : SamplerPast) × RepresentsSampler self.old past × (past.slots_drawn < most_word_slots) }
+        ensures word { (past : SamplerPast) → RepresentsSampler self.old past → result ≡ slot_word past.table past.records past.slots_drawn }
         ensures stands { (past : SamplerPast) → RepresentsSampler self.old past → RepresentsSampler self.new (sampler_with_word past) }
         ensures twelve_bits { result < 4096 }
     {
         let frame = self.frame;
-        let slot = slot_within(frame, self.drawn);
+        let slot = slot_within(frame, self.slots_drawn);
         let moment = Moment {
-            slot: self.drawn,
+            slot: self.slots_drawn,
             words: frame.words,
         };
         let plain = data_word(&self.schedule, slot, &self.held, moment, &mut self.raws);
-        let word = word_with(frame, self.drawn, plain);
-        self.drawn += 1;
-        self.empty_next = self.empty_runs[slot_within(frame, self.drawn) as usize];
+        let word = word_with(frame, self.slots_drawn, plain);
+        self.slots_drawn += 1;
+        self.next_empty_slots = self.empty_runs[slot_within(frame, self.slots_drawn) as usize];
         word
     }
 
     /// How many slots that have no part, no sync word and no counter come next in the superframe. Takes no memory.
-    pub fn empty_ahead(&self) -> u32
-        ensures { IsEmptyRun self.now.frame self.now.laid (slot_within self.now.frame.words self.now.drawn) result }
+    pub fn next_empty_slots(&self) -> u32
+        ensures { IsEmptyRun self.now.frame self.now.laid (slot_within self.now.frame.words self.now.slots_drawn) result }
     {
-        self.empty_next
+        self.next_empty_slots
     }
 
-    /// How many slots pass until a time in microseconds from the start, in millionths of a slot. Takes no memory.
-    pub fn slots_at(&self, time: u64) -> u64
+    /// How many slots were drawn. Takes no memory.
+    pub fn slots_drawn(&self) -> u64
+        ensures { result ≡ self.now.slots_drawn }
+    {
+        self.slots_drawn
+    }
+
+    /// A time in microseconds from the start, as the recording counts it. Takes no memory.
+    pub fn slot_time(&self, time: u64) -> SlotTime
         requires { time ≤ last_time }
-        ensures { result ≡ time * self.now.frame.words }
+        ensures { result ≡ slot_time self.now.frame.words time }
     {
-        time * u64::from(self.frame.words)
+        SlotTime::of_time(time, self.frame)
     }
 
-    /// How many slots come before the one that is this many after the next, in millionths of a slot. Takes no memory.
-    pub fn slots_before(&self, behind: u32) -> u64
-        ensures { result ≡ (self.now.drawn + behind) * 1000000 }
+    /// When the slot is sampled that is this many after the next one. Takes no memory.
+    pub fn sampling_time(&self, slots: u32) -> SlotTime
+        ensures { result ≡ time_of_slot (self.now.slots_drawn + slots) }
     {
-        (self.drawn + u64::from(behind)) * 1_000_000
+        SlotTime::of_slot(self.slots_drawn + u64::from(slots))
     }
 
     /// Draws slots that have no part, no sync word and no counter, as long as they come next in the superframe, and at most
     /// `most`. Their words are 0. Answers how many it drew. Takes no memory.
-    pub fn draw_empty(&mut self, most: u32) -> u32
-        requires { self.old.drawn + most ≤ most_word_slots }
+    pub fn draw_empty_slots(&mut self, most: u32) -> u32
+        requires { self.old.slots_drawn + most ≤ most_word_slots }
         ensures most { result ≤ most }
-        ensures empty { HasEmptyRun self.old.frame self.old.laid (slot_within self.old.frame.words self.old.drawn) result }
-        ensures all { result < most → IsEmptyRun self.old.frame self.old.laid (slot_within self.old.frame.words self.old.drawn) result }
-        ensures drawn { self.new ≡ drawn_on self.old result }
+        ensures empty { HasEmptyRun self.old.frame self.old.laid (slot_within self.old.frame.words self.old.slots_drawn) result }
+        ensures all { result < most → IsEmptyRun self.old.frame self.old.laid (slot_within self.old.frame.words self.old.slots_drawn) result }
+        ensures passed { self.new ≡ with_slots_passed self.old result }
         ensures zeros { (past : SamplerPast) → RepresentsSampler self.old past
-            → (k : ℕ) → k < result → slot_word past.table past.records (past.drawn + k) ≡ 0 }
+            → (k : ℕ) → k < result → slot_word past.table past.records (past.slots_drawn + k) ≡ 0 }
         ensures stands { (past : SamplerPast) → RepresentsSampler self.old past → RepresentsSampler self.new (sampler_with_words past result) }
     {
-        let count = self.empty_next.min(most);
-        self.empty_next -= count;
-        self.drawn += u64::from(count);
+        let count = self.next_empty_slots.min(most);
+        self.next_empty_slots -= count;
+        self.slots_drawn += u64::from(count);
         count
     }
 
@@ -175,9 +175,9 @@ impl Sampler {
             schedule,
             empty_runs,
             // A superframe begins with a sync word.
-            empty_next: 0,
+            next_empty_slots: 0,
             raws,
-            drawn: 0,
+            slots_drawn: 0,
         })
     }
 }

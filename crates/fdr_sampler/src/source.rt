@@ -14,7 +14,7 @@ use std::marker::Model;
 pub(crate) const ANY_SDI: u32 = 4;
 
 /// Where a parameter comes from: the words of a bus, and the field in them that has its raw number; how long they are
-/// fresh, and whether the raw number tells just this.
+/// fresh, and whether the raw number tells freshness in place of a field.
 #[derive(Drop)]
 pub(crate) struct Source {
     bus: u8,

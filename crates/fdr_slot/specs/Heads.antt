@@ -1,6 +1,8 @@
 -- The head of a slot: its first 16 bytes.
-use Rattle.std.specs.Prelude.{◌≡◌, ◌≤◌, ◌<◌, ℕ, ◌%◌, ◌^◌, ◌==◌, Bool, false, ◌&&◌, nat_lt, nat_le, List, ◌∷◌, ◌++◌, drop, IsTrue}
+use Rattle.std.specs.Prelude.{◌≡◌, ◌≤◌, ◌<◌, ℕ, ◌==◌, Bool, false, ◌&&◌, nat_lt, nat_le, List, ◌∷◌, ◌++◌, drop, IsTrue}
 use Rattle.byteorder.specs.Endian.{big_number, big_bytes}
+use Rattle.fdr_slot.specs.Limits.{sequence_end}
+use Rattle.fdr_slot.specs.Places.{slot_number_of}
 use Rattle.fdr_slot.specs.Headers.{has_open_gate}
 use Rattle.fdr_slot.specs.declared.image.Header.{Header}
 use Rattle.fdr_slot.specs.declared.head.SlotHead.{SlotHead}
@@ -24,12 +26,13 @@ head_bytes len session seq = (0 ∷ 0 ∷ big_bytes 2 len) ++ big_bytes 4 sessio
 
 -- a slot with this head holds a block
 abbrev pub is_valid : Header → ℕ → SlotHead → Bool
-is_valid h slot head = head.gate && nat_lt head.seq (2 ^ 48) && (head.seq % h.slots == slot) && nat_le 1 head.len && nat_le head.len h.payload
+is_valid h slot head =
+    head.gate && nat_lt head.seq sequence_end && (slot_number_of h.slots head.seq == slot) && nat_le 1 head.len && nat_le head.len h.payload
 
 -- the same as facts
 pub record IsValid (h : Header) (slot : ℕ) (head : SlotHead) : Type 0 where
   pub gate : IsTrue head.gate
-  pub number : head.seq < 2 ^ 48
-  pub place : head.seq % h.slots ≡ slot
+  pub number : head.seq < sequence_end
+  pub place : slot_number_of h.slots head.seq ≡ slot
   pub not_empty : 1 ≤ head.len
   pub fits : head.len ≤ h.payload

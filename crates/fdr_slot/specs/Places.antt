@@ -1,5 +1,5 @@
--- Where the slots of an image stand.
-use Rattle.std.specs.Prelude.{ℕ, ◌+◌, ◌*◌}
+-- Where the slots of an image are.
+use Rattle.std.specs.Prelude.{ℕ, ◌+◌, ◌*◌, ◌%◌}
 use Rattle.fdr_slot.specs.declared.image.Header.{Header}
 
 -- a head of 16 bytes, and room for the payload
@@ -12,3 +12,11 @@ slot_at h i = 64 + i * slot_size h
 
 abbrev pub image_size : Header → ℕ
 image_size h = slot_at h h.slots
+
+-- of n slots, the one that the block with this number takes
+abbrev pub slot_number_of : ℕ → ℕ → ℕ
+slot_number_of n number = number % n
+
+-- where the slot of this number begins: its gate
+abbrev pub gate_at : Header → ℕ → ℕ
+gate_at h number = slot_at h (slot_number_of h.slots number)

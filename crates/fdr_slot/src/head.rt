@@ -5,7 +5,7 @@ ghost use Rattle.fdr_slot.specs.Heads.{head_of, head_bytes, closed_head, IsValid
 ghost use Rattle.fdr_slot.specs.Heads as heads;
 ghost use Rattle.fdr_slot.specs.Limits.{IsInLimits};
 
-use crate::{Header, OPEN, SEQUENCE_END};
+use crate::{Header, OPEN, SEQUENCE_END, slot_of};
 use byteorder::{BigEndian, ByteOrder};
 
 /// What a slot's head says.
@@ -56,7 +56,7 @@ pub fn is_valid(head: &SlotHead, h: &Header, slot: u32) -> bool
 {
     head.gate
         && head.seq < SEQUENCE_END
-        && head.seq % u64::from(h.slots) == u64::from(slot)
+        && slot_of(h, head.seq) == slot
         && head.len > 0
         && u32::from(head.len) <= h.payload
 }

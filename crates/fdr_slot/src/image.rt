@@ -1,4 +1,4 @@
-//! The header, and how large it makes an image.
+//! The header of an image.
 
 ghost use Rattle.std.specs.Prelude.{◌≡◌, ◌≢◌, ◌≤◌, ◌<◌, ◌↔◌, ℕ, true, false, Err, Some, None, IsTrue, IsOk, IfOk, IfErr, slice_index};
 ghost use Rattle.fdr_slot.specs.Headers.{header_of, header_bytes, has_magic, image_fault};
@@ -7,7 +7,7 @@ ghost use Rattle.fdr_slot.specs.Limits as limits;
 ghost use Rattle.fdr_slot.specs.Places as places;
 ghost use Rattle.fdr_slot.specs.declared.image.ImageFault.TheVariants as fault;
 
-use crate::OPEN;
+use crate::{MAX_PAYLOAD, MAX_SLOTS, MIN_PAYLOAD, MIN_SLOTS, OPEN, image_size};
 use byteorder::{BigEndian, ByteOrder};
 
 /// What a header says of its image.
@@ -48,27 +48,10 @@ pub fn in_limits(h: &Header) -> bool
     ensures within { IsTrue result ↔ IsInLimits h.now }
     ensures value { result ≡ limits.in_limits h.now }
 {
-    (4..=65_536).contains(&h.slots)
-        && (64..=4_096).contains(&h.payload)
+    (MIN_SLOTS..=MAX_SLOTS).contains(&h.slots)
+        && (MIN_PAYLOAD..=MAX_PAYLOAD as u32).contains(&h.payload)
         && matches!(h.words, 64 | 128 | 256 | 512 | 1024)
         && h.version == 1
-}
-
-/// How many bytes an image with this header has: the header and all slots.
-pub fn image_size(h: &Header) -> u64
-    requires { IsInLimits h.now }
-    ensures { result ≡ places.image_size h.now }
-{
-    64 + u64::from(h.slots) * (16 + u64::from(h.payload))
-}
-
-/// Where a slot begins in an image with this header.
-pub fn slot_at(h: &Header, slot: u32) -> u64
-    requires limits { IsInLimits h.now }
-    requires exists { slot < h.now.slots }
-    ensures { result ≡ places.slot_at h.now slot }
-{
-    64 + u64::from(slot) * (16 + u64::from(h.payload))
 }
 
 /// What the bytes of a header say.

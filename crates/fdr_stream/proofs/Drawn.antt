@@ -25,12 +25,12 @@ pub length-whole_to : (past : StreamPast) (n : ℕ) → length (whole_bytes (wor
 length-whole_to past n = length-whole_bytes (words_to past n) ∙ ap (λ m. 3 * m / 2) (length-words_to past n)
 
 -- how many bytes wait
-pub length-waiting : (k : StreamKept) (past : StreamPast) → IsPacked k past → length k.bytes + past.payload * past.blocks ≡ 3 * k.sampler.drawn / 2
+pub length-waiting : (k : StreamKept) (past : StreamPast) → IsPacked k past → length k.bytes + past.payload * past.blocks ≡ 3 * k.sampler.slots_drawn / 2
 length-waiting k past at =
     let given = past.payload * past.blocks in
-    let whole = whole_bytes (words_to past k.sampler.drawn) in
+    let whole = whole_bytes (words_to past k.sampler.slots_drawn) in
     let len : length k.bytes ≡ length whole - given = ap (λ (bytes : List ℕ). length bytes) at.bytes ∙ length-drop given whole in
-    let all = length-whole_to past k.sampler.drawn in
+    let all = length-whole_to past k.sampler.slots_drawn in
     let low = at.given in
     omega (arith, len, all, low)
 
@@ -39,13 +39,14 @@ three_halves m n le = omega arith
 
 -- after n further words
 pub IsPacked-words : (k k' : StreamKept) (past : StreamPast) (n : ℕ) (words : List ℕ) → IsPacked k past
-    → words_to past (k.sampler.drawn + n) ≡ words_to past k.sampler.drawn ++ words → k'.sampler.drawn ≡ k.sampler.drawn + n → k'.payload ≡ k.payload
+    → words_to past (k.sampler.slots_drawn + n) ≡ words_to past k.sampler.slots_drawn ++ words → k'.sampler.slots_drawn ≡ k.sampler.slots_drawn + n
+    → k'.payload ≡ k.payload
     → k'.odd ≡ unpaired_after k.odd words → k'.bytes ≡ k.bytes ++ filled_by k.odd words → IsPacked k' past
 IsPacked-words k k' past n words at drawn_words drawn payload odd bytes =
-    let d = k.sampler.drawn in
+    let d = k.sampler.slots_drawn in
     let given = past.payload * past.blocks in
     let before = words_to past d in
-    let more : words_to past k'.sampler.drawn ≡ before ++ words = ap (words_to past) drawn ∙ drawn_words in
+    let more : words_to past k'.sampler.slots_drawn ≡ before ++ words = ap (words_to past) drawn ∙ drawn_words in
     let low : given ≤ length (whole_bytes before) = omega (arith, at.given, length-whole_to past d) in
     record {
       payload = payload ∙ at.payload;
@@ -74,10 +75,10 @@ packed-words_to past n m le =
     ap packed later ∙ packed-whole (words_to past n) (drop n (words_to past m)) (subst (All IsWord) later (words_to-fit past m))
 
 -- the bytes that wait begin the rest of the stream
-pub waiting_is : (k : StreamKept) (past : StreamPast) (m : ℕ) → IsPacked k past → k.sampler.drawn ≤ m →
+pub waiting_is : (k : StreamKept) (past : StreamPast) (m : ℕ) → IsPacked k past → k.sampler.slots_drawn ≤ m →
     (more : List ℕ) × (drop (past.payload * past.blocks) (packed (words_to past m)) ≡ k.bytes ++ more)
 waiting_is k past m at le =
-    let n = k.sampler.drawn in
+    let n = k.sampler.slots_drawn in
     let given = past.payload * past.blocks in
     let words = words_to past n in
     let more = bytes_after (unpaired words) (drop n (words_to past m)) in
@@ -88,7 +89,7 @@ waiting_is k past m at le =
     )
 
 -- so a whole block of them is the next block
-pub block_is : (k : StreamKept) (past : StreamPast) (r : BusRecord) → IsPacked k past → k.sampler.drawn ≤ slot_count past.table.frame.words r.time
+pub block_is : (k : StreamKept) (past : StreamPast) (r : BusRecord) → IsPacked k past → k.sampler.slots_drawn ≤ slot_count past.table.frame.words r.time
     → past.payload ≤ length k.bytes →
     take past.payload k.bytes ≡ cut_block past.payload (stream_of past.table (past.records ++ r ∷ [])) past.blocks
 block_is k past r at le whole =
@@ -109,21 +110,21 @@ due_blocks-push past r =
 
 -- where a whole block waits, one is due
 pub is_due : (k : StreamKept) (past : StreamPast) (r : BusRecord) → IsPacked k past → 0 < past.payload
-    → k.sampler.drawn ≤ slot_count past.table.frame.words r.time → past.payload ≤ length k.bytes →
+    → k.sampler.slots_drawn ≤ slot_count past.table.frame.words r.time → past.payload ≤ length k.bytes →
     past.blocks < due_blocks past.table past.payload (past.records ++ r ∷ [])
 is_due k past r at some le whole =
     let n = slot_count past.table.frame.words r.time in
-    let low : (past.blocks + 1) * past.payload ≤ 3 * n / 2 = omega (arith, length-waiting k past at, three_halves k.sampler.drawn n le) in
+    let low : (past.blocks + 1) * past.payload ≤ 3 * n / 2 = omega (arith, length-waiting k past at, three_halves k.sampler.slots_drawn n le) in
     let fits = le-div (past.blocks + 1) (3 * n / 2) past.payload some low in
     omega (arith, fits, due_blocks-push past r)
 
 -- where all words were drawn and no whole block waits, all that are due were given
 pub none_due : (k : StreamKept) (past : StreamPast) (r : BusRecord) → IsPacked k past → 0 < past.payload
-    → k.sampler.drawn ≡ slot_count past.table.frame.words r.time → length k.bytes < past.payload →
+    → k.sampler.slots_drawn ≡ slot_count past.table.frame.words r.time → length k.bytes < past.payload →
     past.blocks ≡ due_blocks past.table past.payload (past.records ++ r ∷ [])
 none_due k past r at some is few =
     let n = slot_count past.table.frame.words r.time in
-    let same : 3 * k.sampler.drawn / 2 ≡ 3 * n / 2 = ap (λ m. 3 * m / 2) is in
+    let same : 3 * k.sampler.slots_drawn / 2 ≡ 3 * n / 2 = ap (λ m. 3 * m / 2) is in
     let waiting = length-waiting k past at in
     let low : past.blocks * past.payload ≤ 3 * n / 2 = omega (arith, waiting, same) in
     let high : 3 * n / 2 < (past.blocks + 1) * past.payload = omega (arith, waiting, same) in

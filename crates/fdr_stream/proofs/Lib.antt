@@ -5,4 +5,4 @@ pub mod Later
 pub mod Zeros
 pub mod ZeroWords
 pub mod Rooms
-pub mod Behind
+pub mod LateSlots

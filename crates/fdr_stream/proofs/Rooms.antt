@@ -244,10 +244,10 @@ word_pushed room h word is fits small =
     ]
 
 -- with the bits that wait filled with zeros
-pub bits_padded : (room : List ℕ) (h : ℕ) → IsWaiting room h → h / 2 < length room
+pub byte_filled : (room : List ℕ) (h : ℕ) → IsWaiting room h → h / 2 < length room
     → waiting_of room (h + h % 2) ≡ record (waiting_of room h) { items = take (h / 2) room ++ last_byte (waiting_of room h).odd; odd = None }
 unfolding last_byte
-bits_padded room h is within =
+byte_filled room h is within =
     let Padded : Option ℕ → WaitingBytes = λ o. record { items = take (h / 2) room ++ last_byte o; odd = None; capacity = length room } in
     elim (even_or_odd h) [
       | inl even ↦

@@ -1,9 +1,11 @@
 -- What a stream was made from, and what was fed and given since.
 use Rattle.std.specs.Prelude.{ℕ, ◌≡◌, ◌<◌, ◌≤◌, ◌+◌, ◌*◌, ◌/◌, ◌⊎◌, false, List, [], ◌∷◌, ◌++◌, length, map, drop, Option, Some, None}
 use Rattle.std.specs.List.{range_with_len}
+use Rattle.fdr_slot.specs.Limits.{least_payload_bytes, most_payload_bytes}
 use Rattle.fdr_bus.specs.declared.BusRecord.{BusRecord}
 use Rattle.fdr_bus.specs.Records.{time_of, last_time, has_end}
 use Rattle.fdr_table.specs.Rows.{TableRows}
+use Rattle.fdr_sampler.specs.SlotTimes.{slots_before}
 use Rattle.fdr_sampler.specs.SlotWord.{slot_word}
 use Rattle.fdr_sampler.specs.Stream.{slot_count}
 use Rattle.fdr_sampler.specs.Past.{RepresentsSampler}
@@ -56,30 +58,31 @@ time_reached past = time_from past.records past.begun
 pub record IsPacked (k : StreamKept) (past : StreamPast) : Type 0 where
   pub payload : k.payload ≡ past.payload
   pub words : past.table.frame.words ≤ 1024
-  pub given : past.payload * past.blocks ≤ 3 * k.sampler.drawn / 2
-  pub odd : k.odd ≡ unpaired (words_to past k.sampler.drawn)
-  pub bytes : k.bytes ≡ drop (past.payload * past.blocks) (whole_bytes (words_to past k.sampler.drawn))
+  pub given : past.payload * past.blocks ≤ 3 * k.sampler.slots_drawn / 2
+  pub odd : k.odd ≡ unpaired (words_to past k.sampler.slots_drawn)
+  pub bytes : k.bytes ≡ drop (past.payload * past.blocks) (whole_bytes (words_to past k.sampler.slots_drawn))
 
 -- the sampler stands for the records that were taken
 abbrev pub IsSampled : StreamKept → StreamPast → Type 0
-IsSampled k past = RepresentsSampler k.sampler (record { table = past.table; records = past.records; drawn = k.sampler.drawn })
+IsSampled k past = RepresentsSampler k.sampler (record { table = past.table; records = past.records; slots_drawn = k.sampler.slots_drawn })
 
--- A record of this time comes next: the words of some of the slots before it were drawn, and of no others.
+-- A record comes next at this time, in millionths of a slot: the words of some of the slots before it were drawn, and of
+-- no others.
 pub record IsDrawing (k : StreamKept) (past : StreamPast) (time : ℕ) : Type 0 where
   pub sampler : IsSampled k past
   pub packed : IsPacked k past
-  pub undrawn : k.sampler.drawn ≤ slot_count past.table.frame.words time
+  pub no_later_slots : k.sampler.slots_drawn ≤ slots_before time
 
 -- The value stands where it was made of this table for blocks of this size, where these records were taken and this many
 -- blocks given. No whole block waits. The sampler needs no end record, since nothing is fed after it.
 pub record RepresentsStream (k : StreamKept) (past : StreamPast) : Type 0 where
-  pub low : 64 ≤ past.payload
-  pub high : past.payload ≤ 4096
+  pub low : least_payload_bytes ≤ past.payload
+  pub high : past.payload ≤ most_payload_bytes
   pub sampler : has_end past.records ≡ false → IsSampled k past
   pub packed : IsPacked k past
   pub within_payload : length k.bytes < past.payload
-  pub drawn : slot_count past.table.frame.words (time_of past.records) ≤ k.sampler.drawn
-  pub undrawn : k.sampler.drawn ≤ slot_count past.table.frame.words (time_reached past)
+  pub slots_drawn : slot_count past.table.frame.words (time_of past.records) ≤ k.sampler.slots_drawn
+  pub no_later_slots : k.sampler.slots_drawn ≤ slot_count past.table.frame.words (time_reached past)
   pub blocks : past.begun ≡ None → past.blocks ≡ due_blocks past.table past.payload past.records
 
 -- All blocks of the stream were given, a short last one too: nothing waits, and the sampler is the one that stood for the

@@ -1,15 +1,17 @@
 //! The words of a stream that were drawn.
 
 ghost use Rattle.std.specs.Prelude.{◌≡◌, ◌<◌, ◌≤◌, ◌+◌, ◌*◌, ◌/◌, ◌↔◌, ℕ, [], ◌∷◌, ◌++◌, None, length, take, drop, replicate, IfOk, IsTrue};
+ghost use Rattle.fdr_slot.specs.Limits.{least_payload_bytes, most_payload_bytes};
 ghost use Rattle.fdr_bus.specs.Records.{last_time};
 ghost use Rattle.fdr_sampler.specs.Kept.{most_word_slots};
-ghost use Rattle.fdr_stream.specs.Kept.{stream_at_start, padded, with_packed, with_zeros, undrawn, caught_up, HasEmptyAhead, HasSampled};
+ghost use Rattle.fdr_sampler.specs.SlotTimes.{slot_time, time_of_slot};
+ghost use Rattle.fdr_stream.specs.Kept.{stream_at_start, with_filled_byte, with_packed_words, with_empty_slots, HasEmptySlots, HasSampled};
 ghost use Rattle.fdr_stream.specs.Packing.{last_byte};
-ghost use Rattle.fdr_stream.specs.Past.{StreamPast, IsPacked, IsSampled, IsDrawing};
+ghost use Rattle.fdr_stream.specs.Past.{StreamPast, IsPacked, IsSampled};
 
 use crate::waiting::Waiting;
 use fdr_bus::{BusRecord, RecordKind};
-use fdr_sampler::Sampler;
+use fdr_sampler::{Sampler, SlotTime};
 use fdr_table::NoMemory;
 use std::alloc::Global;
 use std::marker::Model;
@@ -41,8 +43,8 @@ impl Drawing {
         sampler: Sampler,
         payload: usize,
     ) -> Result<Drawing, NoMemory>
-        requires low { 64 ≤ payload }
-        requires high { payload ≤ 4096 }
+        requires low { least_payload_bytes ≤ payload }
+        requires high { payload ≤ most_payload_bytes }
         ensures { IfOk result (λ d. d ≡ stream_at_start sampler payload) }
     {
         let waiting = Waiting::with_capacity(alloc, payload + 2)?;
@@ -54,101 +56,64 @@ impl Drawing {
     }
 
     /// How many empty slots come next, as far as the block has room for them and stays short of its last byte.
-    fn empty_ahead(&self) -> u32
+    pub(crate) fn next_empty_slots(&self) -> u32
         requires room { length self.now.bytes < self.now.payload }
-        ensures { HasEmptyAhead self.now result }
+        ensures { HasEmptySlots self.now result }
     {
         // Two words fill three bytes.
         let room = 2 * (self.payload - 1 - self.waiting.len()) / 3;
-        self.sampler.empty_ahead().min(room as u32)
+        self.sampler.next_empty_slots().min(room as u32)
     }
 
-    /// How many slots pass until a time, in millionths of a slot.
-    pub(crate) fn slots_at(&self, time: u64) -> u64
+    /// A time in microseconds from the start, as the recording counts it.
+    pub(crate) fn slot_time(&self, time: u64) -> SlotTime
         requires { time ≤ last_time }
-        ensures { result ≡ time * self.now.sampler.frame.words }
+        ensures { result ≡ slot_time self.now.sampler.frame.words time }
     {
-        self.sampler.slots_at(time)
+        self.sampler.slot_time(time)
     }
 
-    /// How many slots come before the one that is this many after the next, in millionths of a slot.
-    pub(crate) fn slots_before(&self, behind: u32) -> u64
-        ensures { result ≡ (self.now.sampler.drawn + behind) * 1000000 }
+    /// When the slot is sampled that is this many after the next one.
+    pub(crate) fn sampling_time(&self, slots: u32) -> SlotTime
+        ensures { result ≡ time_of_slot (self.now.sampler.slots_drawn + slots) }
     {
-        self.sampler.slots_before(behind)
+        self.sampler.sampling_time(slots)
+    }
+
+    /// How many slots were drawn.
+    pub(crate) fn slots_drawn(&self) -> u64
+        ensures { result ≡ self.now.sampler.slots_drawn }
+    {
+        self.sampler.slots_drawn()
     }
 
     /// Draws `count` empty slots.
-    fn pass(&mut self, count: u32)
-        requires empty { HasEmptyAhead self.old count }
-        requires slots { self.old.sampler.drawn + count ≤ most_word_slots }
-        ensures { self.new ≡ with_zeros self.old count }
+    pub(crate) fn draw_empty_slots(&mut self, count: u32)
+        requires empty { HasEmptySlots self.old count }
+        requires slots { self.old.sampler.slots_drawn + count ≤ most_word_slots }
+        ensures { self.new ≡ with_empty_slots self.old count }
     {
-        let count = self.sampler.draw_empty(count);
+        let count = self.sampler.draw_empty_slots(count);
         self.pack_zeros(count);
-    }
-
-    /// Draws the slots before a time that weren't drawn, which are empty.
-    pub(crate) fn catch_up(&mut self, time: u64)
-        requires empty { HasEmptyAhead self.old (undrawn self.old time) }
-        requires in_time { time ≤ last_time }
-        requires words { self.old.sampler.frame.words ≤ 1024 }
-        requires slots { self.old.sampler.drawn ≤ most_word_slots }
-        ensures { self.new ≡ caught_up self.old time }
-    {
-        let count = self.sampler.count_due(time);
-        self.pass(count as u32);
-    }
-
-    /// Draws the words of the slots before this time, up to the first that makes a block whole. The first `empty` of them are
-    /// empty, and one more comes before this time. Answers how many empty slots come next, as far as the block has room for
-    /// them; 0 where it is whole. The call stays one: most records come before the next slot that has data.
-    #[inline(never)]
-    pub(crate) fn draw(&mut self, empty: u32, time: u64) -> u32
-        requires past { (past : StreamPast) × (n : ℕ) × (n ≤ empty) × IsDrawing (with_zeros self.old n) past time }
-        requires empty { HasEmptyAhead self.old empty }
-        requires due { (self.old.sampler.drawn + empty) * 1000000 < time * self.old.sampler.frame.words }
-        requires in_time { time ≤ last_time }
-        ensures draws { (past : StreamPast) (n : ℕ) → n ≤ empty → IsDrawing (with_zeros self.old n) past time → IsDrawing self.new past time }
-        ensures ahead { length self.new.bytes < self.new.payload → HasEmptyAhead self.new result }
-        ensures all { length self.new.bytes < self.new.payload
-            → time * self.new.sampler.frame.words ≤ (self.new.sampler.drawn + result) * 1000000 }
-        ensures whole { self.new.payload ≤ length self.new.bytes → result ≡ 0 }
-        ensures on { self.old.sampler.drawn + empty ≤ self.new.sampler.drawn }
-        ensures within_room { length self.new.bytes ≤ self.new.payload + 1 }
-    {
-        let slots = self.slots_at(time);
-        let mut ahead = empty;
-        loop {
-            self.pass(ahead);
-            self.draw_word();
-            if self.is_full() {
-                return 0;
-            }
-            ahead = self.empty_ahead();
-            if slots <= self.slots_before(ahead) {
-                return ahead;
-            }
-        }
     }
 
     /// Packs `count` words that are 0.
     fn pack_zeros(&mut self, count: u32)
         requires within_block { count ≤ 4096 }
         requires room { length self.old.bytes + 3 * count / 2 ≤ self.old.payload + 1 }
-        ensures { self.new ≡ with_packed self.old (replicate count 0) }
+        ensures { self.new ≡ with_packed_words self.old (replicate count 0) }
     {
         self.waiting.push_zeros(count as usize);
     }
 
     /// Draws the word of the next slot.
-    fn draw_word(&mut self)
+    pub(crate) fn draw_word(&mut self)
         requires past { (past : StreamPast) × IsSampled self.old past × IsPacked self.old past }
-        requires more { self.old.sampler.drawn < most_word_slots }
+        requires more { self.old.sampler.slots_drawn < most_word_slots }
         requires room { length self.old.bytes < self.old.payload }
         ensures sampled { (past : StreamPast) → IsSampled self.old past → IsSampled self.new past }
         ensures packed { (past : StreamPast) → IsSampled self.old past → IsPacked self.old past → IsPacked self.new past }
-        ensures drawn { self.new.sampler.drawn ≡ self.old.sampler.drawn + 1 }
+        ensures slots_drawn { self.new.sampler.slots_drawn ≡ self.old.sampler.slots_drawn + 1 }
         ensures payload { self.new.payload ≡ self.old.payload }
         ensures filled { length self.old.bytes < length self.new.bytes }
         ensures within_room { length self.new.bytes ≤ self.new.payload + 1 }
@@ -161,17 +126,17 @@ impl Drawing {
     fn pack(&mut self, word: u16)
         requires twelve_bits { word < 4096 }
         requires room { length self.old.bytes < self.old.payload }
-        ensures { self.new ≡ with_packed self.old (word ∷ []) }
+        ensures { self.new ≡ with_packed_words self.old (word ∷ []) }
     {
         self.waiting.push(word);
     }
 
     /// Fills four bits that wait for the next word with zero bits.
-    fn pad(&mut self)
+    fn fill_byte(&mut self)
         requires { length self.old.bytes < self.old.payload }
-        ensures { self.new ≡ padded self.old }
+        ensures { self.new ≡ with_filled_byte self.old }
     {
-        self.waiting.pad();
+        self.waiting.fill_byte();
     }
 
     /// Whether a whole block waits.
@@ -201,7 +166,7 @@ impl Drawing {
         ensures rest { out.new ≡ self.old.bytes ++ last_byte self.old.odd ++ drop result out.old }
         ensures left { self.new ≡ record self.old { odd = None; bytes = [] } }
     {
-        self.pad();
+        self.fill_byte();
         let count = self.waiting.len();
         self.waiting.give(count, out);
         count

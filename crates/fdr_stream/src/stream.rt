@@ -1,18 +1,20 @@
 //! The stream.
 
-ghost use Rattle.std.specs.Prelude.{◌≡◌, ◌<◌, ◌≤◌, ◌+◌, ◌-◌, ◌*◌, ◌/◌, ◌^◌, ◌↔◌, false, [], ◌∷◌, ◌++◌, None, length, min, take, drop, replicate, IfOk, IsTrue};
-ghost use Rattle.fdr_bus.specs.Records.{has_end, last_time};
+ghost use Rattle.std.specs.Prelude.{◌≡◌, ◌<◌, ◌≤◌, ◌+◌, ◌-◌, ◌*◌, ◌↔◌, ℕ, [], ◌∷◌, ◌++◌, None, length, min, take, drop, IfOk};
+ghost use Rattle.fdr_slot.specs.Limits.{least_payload_bytes, most_payload_bytes};
+ghost use Rattle.fdr_bus.specs.Records.{last_time};
 ghost use Rattle.fdr_sampler.specs.Kept.{most_word_slots};
-ghost use Rattle.fdr_sampler.specs.Stream.{slot_count, stream_of};
+ghost use Rattle.fdr_sampler.specs.SlotTimes.{time_of_slot, slots_before};
+ghost use Rattle.fdr_sampler.specs.Stream.{stream_of};
 ghost use Rattle.fdr_stream.specs.Blocks.{cut_block, blocks_of, due_blocks};
-ghost use Rattle.fdr_stream.specs.Kept.{stream_at_start, padded, with_packed};
-ghost use Rattle.fdr_stream.specs.Past.{StreamPast, stream_made, with_block, stream_with_record, HasFinished, MayFeedStream, RepresentsStream, IsPacked, IsSampled, IsDrawing};
+ghost use Rattle.fdr_stream.specs.Kept.{late_slots, with_empty_slots, with_late_slots, HasEmptySlots};
+ghost use Rattle.fdr_stream.specs.Past.{StreamPast, stream_made, with_block, stream_with_record, HasFinished, MayFeedStream, RepresentsStream, IsDrawing};
 
 use crate::drawing::Drawing;
 use fdr_bus::BusRecord;
 use fdr_check::Sound;
 use fdr_layout::Layout;
-use fdr_sampler::Sampler;
+use fdr_sampler::{Sampler, SlotTime};
 use fdr_table::NoMemory;
 use std::alloc::Global;
 use std::marker::Model;
@@ -27,19 +29,23 @@ pub enum Fed {
 }
 
 /// Makes the stream of a trace, a block at a time.
+///
+/// Empty slots are drawn late. A stream keeps how many of them come next, and when the slot after them is sampled. A record
+/// that comes before that is just taken, and the empty slots before it count as drawn; a later record, or the end, draws
+/// them.
 #[derive(Drop)]
 pub struct Stream {
     drawing: Drawing,
-    // All slots before this time count as drawn; those that weren't are empty.
-    time: u64,
-    // How many empty slots come next, and the block has room for them.
-    ahead: u32,
-    // How many slots come before the one after them, in millionths of a slot.
-    before: u64,
+    // How many empty slots come next, as far as the block has room for them.
+    empty_slots: u32,
+    // When the slot after these is sampled.
+    data_time: SlotTime,
+    // The empty slots before this time count as drawn.
+    counted_to: SlotTime,
 }
 
 impl Model for Stream {
-    ghost use Rattle.fdr_stream.specs.Kept.{StreamKept, IsBehind};
+    ghost use Rattle.fdr_stream.specs.Kept.{StreamKept, HasLateSlots};
 
     ghost Value = { StreamKept };
 
@@ -47,15 +53,15 @@ impl Model for Stream {
 
     ghost view = { stream_kept };
 
-    ghost invariant = { λ s. IsBehind s.drawing s.time s.ahead s.before };
+    ghost invariant = { λ s. HasLateSlots s.drawing s.empty_slots s.data_time s.counted_to };
 }
 
 impl Stream {
     /// A stream at the start of a trace by this table, in blocks of `payload` bytes, 64 to 4,096. Fails only where memory
     /// ends, and later calls take none.
     pub fn new(alloc: Global, sound: &Sound, payload: u32) -> Result<Stream, NoMemory>
-        requires low { 64 ≤ payload }
-        requires high { payload ≤ 4096 }
+        requires low { least_payload_bytes ≤ payload }
+        requires high { payload ≤ most_payload_bytes }
         ensures { IfOk result (λ s. RepresentsStream s (stream_made sound.now payload)) }
     {
         let frame = sound.table().frame();
@@ -65,9 +71,9 @@ impl Stream {
         let drawing = Drawing::with_sampler(alloc, sampler, payload as usize)?;
         Ok(Stream {
             drawing,
-            time: 0,
-            ahead: 0,
-            before: 0,
+            empty_slots: 0,
+            data_time: SlotTime::start(),
+            counted_to: SlotTime::start(),
         })
     }
 
@@ -89,20 +95,21 @@ impl Stream {
             → drop past.payload out.new ≡ drop past.payload out.old }
         ensures untouched { result ≡ Fed.Taken → out.new ≡ out.old }
     {
-        if self.drawing.slots_at(next.time) <= self.before {
+        let time = self.drawing.slot_time(next.time);
+        if !self.data_time.is_before(time) {
             self.drawing.take(next);
-            self.time = next.time;
+            self.counted_to = time;
             return Fed::Taken;
         }
-        self.ahead = self.drawing.draw(self.ahead, next.time);
-        self.before = self.drawing.slots_before(self.ahead);
+        self.empty_slots = draw_words(&mut self.drawing, self.empty_slots, time);
+        self.data_time = self.drawing.sampling_time(self.empty_slots);
         if self.drawing.is_full() {
             self.drawing.give(out);
-            self.time = 0;
+            self.counted_to = SlotTime::start();
             return Fed::Block;
         }
         self.drawing.take(next);
-        self.time = next.time;
+        self.counted_to = time;
         Fed::Taken
     }
 
@@ -124,12 +131,53 @@ impl Stream {
         ensures beyond { drop result out.new ≡ drop result out.old }
         ensures finished { (past : StreamPast) → RepresentsStream self.old past → past.begun ≡ None → HasFinished self.new past }
     {
-        self.drawing.catch_up(self.time);
-        self.time = 0;
-        self.ahead = 0;
-        self.before = self.drawing.slots_before(0);
+        draw_late_slots(&mut self.drawing, self.counted_to);
+        self.empty_slots = 0;
+        self.data_time = self.drawing.sampling_time(0);
+        self.counted_to = SlotTime::start();
         self.drawing.give_rest(out)
     }
+}
+
+/// Draws the words of the slots before this time, up to the first that makes a block whole. The first `empty_slots` of them
+/// are empty, and one more comes before this time. Answers how many empty slots come next, as far as the block has room for
+/// them; 0 where it is whole. The call stays one: most records come before the next slot that has data.
+#[inline(never)]
+fn draw_words(drawing: &mut Drawing, empty_slots: u32, time: SlotTime) -> u32
+    requires past { (past : StreamPast) × (n : ℕ) × (n ≤ empty_slots) × IsDrawing (with_empty_slots drawing.old n) past time }
+    requires empty { HasEmptySlots drawing.old empty_slots }
+    requires due { time_of_slot (drawing.old.sampler.slots_drawn + empty_slots) < time }
+    requires in_time { slots_before time ≤ most_word_slots }
+    ensures draws { (past : StreamPast) (n : ℕ) → n ≤ empty_slots → IsDrawing (with_empty_slots drawing.old n) past time → IsDrawing drawing.new past time }
+    ensures empty { length drawing.new.bytes < drawing.new.payload → HasEmptySlots drawing.new result }
+    ensures all { length drawing.new.bytes < drawing.new.payload → time ≤ time_of_slot (drawing.new.sampler.slots_drawn + result) }
+    ensures whole { drawing.new.payload ≤ length drawing.new.bytes → result ≡ 0 }
+    ensures empty_drawn { drawing.old.sampler.slots_drawn + empty_slots ≤ drawing.new.sampler.slots_drawn }
+    ensures within_room { length drawing.new.bytes ≤ drawing.new.payload + 1 }
+{
+    let mut empty = empty_slots;
+    loop {
+        drawing.draw_empty_slots(empty);
+        drawing.draw_word();
+        if drawing.is_full() {
+            return 0;
+        }
+        empty = drawing.next_empty_slots();
+        if !drawing.sampling_time(empty).is_before(time) {
+            return empty;
+        }
+    }
+}
+
+/// Draws the slots before this time that weren't drawn, which are empty.
+fn draw_late_slots(drawing: &mut Drawing, time: SlotTime)
+    requires empty { HasEmptySlots drawing.old (late_slots drawing.old time) }
+    requires in_time { slots_before time ≤ most_word_slots }
+    requires slots { drawing.old.sampler.slots_drawn ≤ most_word_slots }
+    ensures { drawing.new ≡ with_late_slots drawing.old time }
+{
+    let late_slots = time.slots_before().saturating_sub(drawing.slots_drawn());
+    drawing.draw_empty_slots(late_slots as u32);
 }
 
 #[cfg(test)]

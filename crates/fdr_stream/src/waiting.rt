@@ -69,7 +69,7 @@ impl Waiting {
     }
 
     /// Fills four bits that wait with zero bits.
-    pub(crate) fn pad(&mut self)
+    pub(crate) fn fill_byte(&mut self)
         requires { length self.old.items < self.old.capacity }
         ensures { self.new ≡ record self.old { items = self.old.items ++ last_byte self.old.odd; odd = None } }
     {

@@ -11,7 +11,8 @@ use Rattle.fdr_recover.specs.ImageHeader.{header_in}
 use Rattle.fdr_ring.specs.Runs.{last_blocks}
 use Rattle.fdr_recorder.specs.Keeping.{RecoversPrefix}
 use Rattle.fdr_recorder.specs.Recording.{IsClose}
-use Rattle.fdr_top.specs.Record.{MayRecord, RecordsTrace, new_blocks, next_in}
+use Rattle.fdr_recorder.specs.NewBlocks.{MayRecord, new_blocks, next_in}
+use Rattle.fdr_top.specs.Record.{RecordsTrace}
 use Rattle.fdr_recover.specs.Payloads.{run_in}
 use Rattle.fdr_top.specs.declared.outcome.Outcome.{Outcome}
 use Rattle.fdr_sure.specs.InMemory.{IsRecordedInMemory}

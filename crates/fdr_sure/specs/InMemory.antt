@@ -9,7 +9,7 @@ use Rattle.fdr_recover.specs.ImageHeader.{header_in}
 use Rattle.fdr_ring.specs.Runs.{last_blocks}
 use Rattle.fdr_recorder.specs.Keeping.{RecoversPrefix}
 use Rattle.fdr_recorder.specs.Recording.{IsClose}
-use Rattle.fdr_top.specs.Record.{new_blocks, next_in}
+use Rattle.fdr_recorder.specs.NewBlocks.{new_blocks, next_in}
 use Rattle.fdr_top.specs.Stages.{EndsRecording}
 use Rattle.fdr_recover.specs.Payloads.{run_in}
 use Rattle.fdr_top.specs.declared.outcome.Outcome.{Outcome}

@@ -4,7 +4,7 @@ ghost use Rattle.std.specs.Prelude.{◌≡◌, ℕ, List, [], map, string_bytes,
 ghost use Rattle.fdr_deck.specs.Memory.{held_in, memory_state};
 ghost use Rattle.fdr_table.specs.Rows.{TableRows};
 ghost use Rattle.fdr_words.specs.Forms.{form_of, record_line};
-ghost use Rattle.fdr_top.specs.Record.{MayRecord};
+ghost use Rattle.fdr_recorder.specs.NewBlocks.{MayRecord};
 ghost use Rattle.fdr_top.specs.Tables.{ByTable};
 ghost use Rattle.fdr_sure.specs.InMemory.{IsRecordedInMemory};
 

@@ -4,8 +4,6 @@
 mod frames;
 mod law;
 mod search;
-#[cfg(test)]
-mod tests;
 
 pub use frames::{Gap, accepted_frames, gaps};
 pub use law::events_are_unique;

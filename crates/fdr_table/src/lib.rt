@@ -25,7 +25,4 @@ pub use name::Name;
 pub use param::Param;
 pub use path::PathText;
 pub use place::Place;
-pub use table::Table;
-
-#[cfg(test)]
-mod tests;
+pub use table::{MAX_TABLE_BYTES, Table};

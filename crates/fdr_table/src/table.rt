@@ -15,8 +15,11 @@ use crate::place::Place;
 use std::alloc::Global;
 use std::marker::Model;
 
-/// How many bytes a table may have.
-const MAX_BYTES: usize = 1_048_576;
+/// The most bytes of a table.
+pub const MAX_TABLE_BYTES: usize = 1_048_576;
+
+// The number that the contracts name: `most_table_bytes` of the definitions.
+const _: () = prove!(MAX_TABLE_BYTES == 1_048_576);
 
 /// A parameter table without faults in its rows.
 #[derive(Drop)]
@@ -55,7 +58,7 @@ impl Table {
         ensures refused { (row : ℕ) (f : TableFault) → result ≡ Err (refused row f) → table_bytes_fault bytes.now ≡ Some (row, f) }
         ensures too_large { most_table_bytes < length bytes.now → result ≡ Err (refused 0 fault.Size) }
     {
-        if MAX_BYTES < bytes.len() {
+        if MAX_TABLE_BYTES < bytes.len() {
             return Err(refused(0, TableFault::Size));
         }
         let draft = Draft::read(alloc, bytes)?;

@@ -26,7 +26,8 @@ use Rattle.fdr_top.specs.Answers.{PullsInput, PullsTrace, ReadsBoth, ReadsImage,
 use Rattle.fdr_top.specs.Format.{Makes}
 use Rattle.fdr_top.specs.Leaves.{HasCause, LeavesAll, LeavesUnused}
 use Rattle.fdr_top.specs.Runs.{WorkRun}
-use Rattle.fdr_top.specs.Limits.{most_input_bytes, piece_bytes}
+use Rattle.fdr_io.specs.Limits.{piece_bytes}
+use Rattle.fdr_pieces.specs.Limits.{most_input_bytes}
 use Rattle.fdr_top.specs.InputTexts.{WritesOfInput}
 use Rattle.fdr_top.specs.Recover.{Recovers, RecoversImage}
 use Rattle.fdr_top.specs.Stream.{Streams, StreamsTrace, WritesStreamPart}

@@ -18,7 +18,7 @@ use Rattle.fdr_top.specs.Commands.{ByItsTable, CarriesOut, RunsCommand, Works}
 use Rattle.fdr_top.specs.Complete.{ByAccepted, TellsAccepted}
 use Rattle.fdr_top.specs.Leaves.{HasCause, LeavesAll, LeavesUnused, PassesOverNoFault}
 use Rattle.fdr_load.specs.Limits.{TakesAtMost}
-use Rattle.fdr_top.specs.Limits.{piece_bytes}
+use Rattle.fdr_io.specs.Limits.{piece_bytes}
 use Rattle.fdr_top.specs.Runs.{CommandRun, WorkRun}
 use Rattle.fdr_load.specs.Tables.{IsAccepted, table_in}
 use Rattle.fdr_top.specs.Tables.{ReadsItsTable}

@@ -11,17 +11,17 @@ use Rattle.fdr_biphase.specs.Packed.{decoded_bytes}
 use Rattle.fdr_biphase.specs.Phases.{missing_place}
 use Rattle.fdr_biphase.specs.Reading.{MissesLevel, ReadsLevels}
 use Rattle.fdr_biphase.specs.declared.reader.LevelReader.{LevelReader}
-use Rattle.fdr_biphase.proofs.CellLemmas.{have_cells}
-use Rattle.fdr_biphase.proofs.Struck.{bits_of_struck}
+use Rattle.fdr_biphase.proofs.CellLemmas.{have_cells, only_cells}
+use Rattle.fdr_biphase.proofs.Struck.{bits_of_struck, both_fit, same_bits}
 use Rattle.fdr_biphase.proofs.Texts.{missed_place, reads_none_missing}
-use Rattle.fdr_biphase.proofs.Turned.{same_bits_turned}
+use Rattle.fdr_biphase.proofs.Turned.{same_bits_turned, same_missing_turned}
 use Rattle.fdr_pieces.specs.Pieces.{EndsInput, PullsPieces, before_last, last_piece}
 use Rattle.fdr_pieces.specs.declared.pieces.InputEnd.{InputEnd}
 use Rattle.fdr_pieces.specs.declared.pieces.InputEnd.TheVariants as input_end
 use Rattle.fdr_top.specs.Coding.{HasDecoded, HasEncoded, SinkState}
 use Rattle.fdr_top.specs.Decode.{DecodesLevels, IsMissing}
 use Rattle.fdr_top.specs.Encode.{EncodesInput, levels_text}
-use Rattle.fdr_top.specs.Limits.{most_input_bytes}
+use Rattle.fdr_pieces.specs.Limits.{most_input_bytes}
 use Rattle.fdr_top.specs.InputTexts.{WritesFront, WritesOfInput, answer_of}
 use Rattle.fdr_top.specs.declared.encoding.Encoding.{Encoding}
 use Rattle.fdr_top.specs.declared.outcome.Outcome.{Outcome}
@@ -38,6 +38,7 @@ encodes tells old new start now answer all too_long = record {
   encodes = all;
   too_long_always = too_long;
   cells = λ bytes. have_cells false (bits_of_bytes bytes);
+  only = λ bytes. only_cells false (bits_of_bytes bytes);
 }
 
 -- all that was taken went out, or waits to
@@ -66,7 +67,10 @@ decodes tells old new start now answer all missing always of_line always_of_line
   missing_always_of_line = always_of_line;
   too_long_always = too_long;
   reads_back = bits_of_struck;
+  both_fit = both_fit;
+  same_bits = same_bits;
   turned = same_bits_turned;
+  turned_missing = same_missing_turned;
 }
 
 -- a place that is missing isn't

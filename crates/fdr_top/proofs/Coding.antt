@@ -35,33 +35,6 @@ front_of_longer text front rest before now begins part =
     let longer = EmitsPart-longer before now [] front rest part in
     (longer.count, longer.written ∙ ap (λ (xs : List ℕ). followed_by before (take longer.count xs)) (sym begins))
 
--- a sink that failed in a piece failed in all that begin with it
-pub stops_later : (text : List ℕ → List ℕ) (bytes more : List ℕ) (before now : SinkState) → StopsWriting text bytes before now
-    → StopsWriting text (bytes ++ more) before now
-stops_later text bytes more before now stops = record {
-  part = λ rest. rw (append_assoc bytes more rest) (stops.part (more ++ rest));
-  cause = stops.cause;
-}
-
--- ---- a piece, byte by byte
-
--- one more byte of a piece
-pub next_of_piece : (bytes piece : List ℕ) (i : ℕ) → i < length piece
-    → (bytes ++ take i piece) ++ get_or piece i 0 ∷ [] ≡ bytes ++ take (i + 1) piece
-next_of_piece bytes piece i within =
-    append_assoc bytes (take i piece) (get_or piece i 0 ∷ []) ∙ ap (λ (xs : List ℕ). bytes ++ xs) (sym (take_at_read piece i 0 within).1)
-
--- and the rest of it
-pub rest_of_piece : (bytes piece : List ℕ) (i : ℕ) → i < length piece
-    → ((bytes ++ take i piece) ++ get_or piece i 0 ∷ []) ++ drop (i + 1) piece ≡ bytes ++ piece
-rest_of_piece bytes piece i within =
-    ap (λ (xs : List ℕ). xs ++ drop (i + 1) piece) (next_of_piece bytes piece i within)
-    ∙ append_assoc bytes (take (i + 1) piece) (drop (i + 1) piece) ∙ ap (λ (xs : List ℕ). bytes ++ xs) (take-append-drop (i + 1) piece)
-
--- all of a piece
-pub all_of_piece : (bytes piece : List ℕ) (i : ℕ) → length piece ≤ i → bytes ++ take i piece ≡ bytes ++ piece
-all_of_piece bytes piece i all = ap (λ (xs : List ℕ). bytes ++ xs) (take_all i piece all)
-
 -- ---- levels of bits
 
 pub encoded_first : (e : Encoding) (state : SinkState) → RepresentsEncoder e.encoder false [] → e.text ≡ [] → HasEncoded e [] state state
@@ -71,24 +44,24 @@ encoded_first e state encoder empty = record {
   no_fault = refl;
 }
 
--- the levels of one more byte
-pub encoded_next : (e f : Encoding) (bytes levels : List ℕ) (b : ℕ) (before mid now : SinkState) → HasEncoded e bytes before mid
-    → RepresentsEncoder f.encoder false (bytes ++ b ∷ []) → levels_text (bytes ++ b ∷ []) ≡ levels_text bytes ++ levels
-    → Emits mid.written now.written e.text f.text levels → now.faults ≡ mid.faults → HasEncoded f (bytes ++ b ∷ []) before now
-encoded_next e f bytes levels b before mid now had encoder more emits quiet = record {
+-- the levels of a piece more
+pub encoded_next : (e f : Encoding) (bytes levels piece : List ℕ) (before mid now : SinkState) → HasEncoded e bytes before mid
+    → RepresentsEncoder f.encoder false (bytes ++ piece) → levels_text (bytes ++ piece) ≡ levels_text bytes ++ levels
+    → Emits mid.written now.written e.text f.text levels → now.faults ≡ mid.faults → HasEncoded f (bytes ++ piece) before now
+encoded_next e f bytes levels piece before mid now had encoder more emits quiet = record {
   encoder = encoder;
   emits = rw more (Emits-then before.written mid.written now.written [] e.text f.text (levels_text bytes) levels had.emits emits);
   no_fault = quiet ∙ had.no_fault;
 }
 
-pub encoding_stops : (e : Encoding) (bytes levels : List ℕ) (b : ℕ) (before mid now : SinkState) → HasEncoded e bytes before mid
-    → levels_text (bytes ++ b ∷ []) ≡ levels_text bytes ++ levels → EmitsPart mid.written now.written e.text levels → Rose mid.faults now.faults
-    → StopsWriting levels_text (bytes ++ b ∷ []) before now
-encoding_stops e bytes levels b before mid now had more part cause =
+pub encoding_stops : (e : Encoding) (bytes levels piece : List ℕ) (before mid now : SinkState) → HasEncoded e bytes before mid
+    → levels_text (bytes ++ piece) ≡ levels_text bytes ++ levels → EmitsPart mid.written now.written e.text levels → Rose mid.faults now.faults
+    → StopsWriting levels_text (bytes ++ piece) before now
+encoding_stops e bytes levels piece before mid now had more part cause =
     let all = EmitsPart-then before.written mid.written now.written [] e.text (levels_text bytes) levels had.emits part in record {
       part = λ rest.
-          let begin = encoded_begin false (bytes ++ b ∷ []) rest in
-          front_of_longer (levels_text ((bytes ++ b ∷ []) ++ rest)) (levels_text bytes ++ levels) begin.0 before.written now.written
+          let begin = encoded_begin false (bytes ++ piece) rest in
+          front_of_longer (levels_text ((bytes ++ piece) ++ rest)) (levels_text bytes ++ levels) begin.0 before.written now.written
           (begin.1 ∙ ap (λ (xs : List ℕ). xs ++ begin.0) more) all;
       cause = rw had.no_fault at cause;
     }
@@ -103,37 +76,26 @@ decoded_first d state reader empty = record {
   no_fault = refl;
 }
 
--- what a byte's levels gave was added
-pub decoded_next : (d e : Decoding) (bytes given : List ℕ) (b : ℕ) (before mid now : SinkState) (had : HasDecoded d bytes before mid)
-    → ReadsLevels e.reader (bits_of_bytes (bytes ++ b ∷ [])) (had.decoded ++ given) → Emits mid.written now.written d.text e.text given
-    → now.faults ≡ mid.faults → HasDecoded e (bytes ++ b ∷ []) before now
-decoded_next d e bytes given b before mid now had reader emits quiet = record {
+-- what a piece's levels gave was added
+pub decoded_next : (d e : Decoding) (bytes given piece : List ℕ) (before mid now : SinkState) (had : HasDecoded d bytes before mid)
+    → ReadsLevels e.reader (bits_of_bytes (bytes ++ piece)) (had.decoded ++ given) → Emits mid.written now.written d.text e.text given
+    → now.faults ≡ mid.faults → HasDecoded e (bytes ++ piece) before now
+decoded_next d e bytes given piece before mid now had reader emits quiet = record {
   decoded = had.decoded ++ given;
   reader = reader;
   emits = Emits-then before.written mid.written now.written [] d.text e.text had.decoded given had.emits emits;
   no_fault = quiet ∙ had.no_fault;
 }
 
-pub decoded_missed : (d e : Decoding) (bytes given : List ℕ) (b at : ℕ) (before mid now : SinkState) (had : HasDecoded d bytes before mid)
-    → MissesLevel e.reader (bits_of_bytes (bytes ++ b ∷ [])) (had.decoded ++ given) at → Emits mid.written now.written d.text e.text given
-    → now.faults ≡ mid.faults → HasMissed e (bytes ++ b ∷ []) at before now
-decoded_missed d e bytes given b at before mid now had reader emits quiet = record {
+pub decoded_missed : (d e : Decoding) (bytes given piece : List ℕ) (at : ℕ) (before mid now : SinkState) (had : HasDecoded d bytes before mid)
+    → MissesLevel e.reader (bits_of_bytes (bytes ++ piece)) (had.decoded ++ given) at → Emits mid.written now.written d.text e.text given
+    → now.faults ≡ mid.faults → HasMissed e (bytes ++ piece) at before now
+decoded_missed d e bytes given piece at before mid now had reader emits quiet = record {
   decoded = had.decoded ++ given;
   reader = reader;
   emits = Emits-then before.written mid.written now.written [] d.text e.text had.decoded given had.emits emits;
   no_fault = quiet ∙ had.no_fault;
 }
-
--- what stopped in a byte stopped in a piece
-pub decoding_stops_later : (d : Decoding) (stop : Cut) (bytes more : List ℕ) (before now : SinkState) → StopsDecoding d stop bytes before now
-    → StopsDecoding d stop (bytes ++ more) before now
-decoding_stops_later d (cut.Missing at) bytes more before now missed = record {
-  decoded = missed.decoded;
-  reader = misses_more d.reader bytes more missed.decoded at missed.reader;
-  emits = missed.emits;
-  no_fault = missed.no_fault;
-}
-decoding_stops_later d cut.Output bytes more before now stops = stops_later decoded_bytes bytes more before now stops
 
 -- what was answered of levels begins their text, whether a place is missing or not
 given_begin : (r : LevelReader) (bytes done : List ℕ) (missing : Option Missing) → (missing ≡ None → ReadsLevels r (bits_of_bytes bytes) done)
@@ -148,17 +110,17 @@ given_begin r bytes done (Some m) reads misses more =
           ∙ ap bytes_of_bits (sym (append-nil missed.bits)) ∙ begin.1,
     )
 
--- the sink failed while what a byte's levels gave was added
-pub decoding_stops : (d : Decoding) (r : LevelReader) (bytes given : List ℕ) (b : ℕ) (missing : Option Missing) (before mid now : SinkState)
+-- the sink failed while what a piece's levels gave was added
+pub decoding_stops : (d : Decoding) (r : LevelReader) (bytes given piece : List ℕ) (missing : Option Missing) (before mid now : SinkState)
     (had : HasDecoded d bytes before mid)
-    → (missing ≡ None → ReadsLevels r (bits_of_bytes (bytes ++ b ∷ [])) (had.decoded ++ given))
-    → ((m : Missing) → missing ≡ Some m → MissesLevel r (bits_of_bytes (bytes ++ b ∷ [])) (had.decoded ++ given) m.at)
-    → EmitsPart mid.written now.written d.text given → Rose mid.faults now.faults → StopsWriting decoded_bytes (bytes ++ b ∷ []) before now
-decoding_stops d r bytes given b missing before mid now had reads misses part cause =
+    → (missing ≡ None → ReadsLevels r (bits_of_bytes (bytes ++ piece)) (had.decoded ++ given))
+    → ((m : Missing) → missing ≡ Some m → MissesLevel r (bits_of_bytes (bytes ++ piece)) (had.decoded ++ given) m.at)
+    → EmitsPart mid.written now.written d.text given → Rose mid.faults now.faults → StopsWriting decoded_bytes (bytes ++ piece) before now
+decoding_stops d r bytes given piece missing before mid now had reads misses part cause =
     let all = EmitsPart-then before.written mid.written now.written [] d.text had.decoded given had.emits part in record {
       part = λ rest.
-          let begin = given_begin r (bytes ++ b ∷ []) (had.decoded ++ given) missing reads misses rest in
-          front_of_longer (decoded_bytes ((bytes ++ b ∷ []) ++ rest)) (had.decoded ++ given) begin.0 before.written now.written begin.1 all;
+          let begin = given_begin r (bytes ++ piece) (had.decoded ++ given) missing reads misses rest in
+          front_of_longer (decoded_bytes ((bytes ++ piece) ++ rest)) (had.decoded ++ given) begin.0 before.written now.written begin.1 all;
       cause = rw had.no_fault at cause;
     }
 

@@ -1,5 +1,5 @@
 -- What a drill leaves and answers.
-use Rattle.std.proofs.Common.{◌≡◌, ◌≢◌, ◌⊎◌, ⊎_elim, inl, inr, ℕ, ◌+◌, ◌<◌, ◌≤◌, List, [], length, Option, ap, sym, refl, ◌∙◌, subst, take, arith}
+use Rattle.std.proofs.Common.{◌≡◌, ◌≢◌, ◌⊎◌, ⊎_elim, inl, inr, ℕ, ◌+◌, ◌<◌, List, length, Option, Ok, Err, ap, sym, refl, ◌∙◌, subst, take, arith}
 use Rattle.std.specs.Prelude.{IsTrue}
 use Rattle.fdr_io.specs.Told.{followed_by}
 use Rattle.fdr_io.specs.declared.Input.TheVariants as input
@@ -7,8 +7,7 @@ use Rattle.fdr_check.specs.Soundness.{IsSound}
 use Rattle.fdr_deck.specs.State.{State, Tells}
 use Rattle.fdr_deck.specs.Disk.{LearnsExtent}
 use Rattle.fdr_deck.specs.Moments.{IsSoundDeck}
-use Rattle.fdr_gen.specs.Past.{GeneratorKept, RepresentsGenerator, generator_made}
-use Rattle.fdr_gen.specs.Trace.{generated_trace, most_frames}
+use Rattle.fdr_gen.specs.Trace.{generated_trace}
 use Rattle.fdr_slot.specs.declared.image.Header.{Header}
 use Rattle.fdr_recover.specs.Images.{recovered_run}
 use Rattle.fdr_recover.specs.ImageHeader.{header_in}
@@ -18,39 +17,46 @@ use Rattle.fdr_table.specs.Rows.{TableRows}
 use Rattle.fdr_readout.specs.Summary.{summary_of}
 use Rattle.fdr_recorder.proofs.Starting.{Starts-looked}
 use Rattle.fdr_words.specs.Forms.{drill_image}
-use Rattle.fdr_top.specs.Stages.{EndsReading, EndsRecording, IsPastTable}
-use Rattle.fdr_top.specs.Answers.{IsOwn, KeepsInputAndFaults}
+use Rattle.fdr_recorder.specs.declared.source.SourceEnd.TheVariants as source
+use Rattle.fdr_top.specs.Stages.{EndsRecording, IsPastTable}
+use Rattle.fdr_top.specs.Answers.{IsOwn}
 use Rattle.fdr_top.specs.Complete.{HasRoom}
 use Rattle.fdr_top.specs.Drill.{DrillsImage, drill_line, drill_text}
 use Rattle.fdr_top.specs.List.{RefusesOpening}
-use Rattle.fdr_top.specs.Record.{RecordsStream, RefusesRecording, new_blocks, next_in}
-use Rattle.fdr_top.specs.Recording.{RecordsSupply}
+use Rattle.fdr_recorder.specs.NewBlocks.{new_blocks, next_in}
+use Rattle.fdr_recorder.specs.Supplied.{RecordsSupply}
+use Rattle.fdr_recorder.specs.Supply.{drawn_trace}
+use Rattle.fdr_recorder.specs.declared.error.SessionFault.{SessionFault}
+use Rattle.fdr_recorder.specs.declared.source.SourceEnd.{SourceEnd}
+use Rattle.fdr_recorder.specs.Ends.{RecordingEnd}
+use Rattle.fdr_recorder.proofs.Recordings.{RecordsBlocks-unbegun, nothing_started}
+use Rattle.fdr_top.specs.Ends.{recording_answer, session_refusal}
+use Rattle.fdr_top.specs.Record.{RecordsStream}
 use Rattle.fdr_recover.specs.Payloads.{payloads_of, run_in}
 use Rattle.fdr_top.specs.Recover.{OnlyLooks}
 use Rattle.fdr_top.specs.Refusals.{RefusesImage}
-use Rattle.fdr_top.specs.Supply.{RepresentsSupply, drawn_trace}
 use Rattle.fdr_top.specs.Tables.{ByTable}
 use Rattle.fdr_top.specs.declared.outcome.Outcome.{Outcome}
 use Rattle.fdr_top.specs.declared.outcome.Outcome.TheVariants as outcome
-use Rattle.fdr_top.specs.declared.supply.RecordSource.{RecordSource}
-use Rattle.fdr_top.specs.declared.supply.RecordSource.TheVariants as source
-use Rattle.fdr_top.proofs.Drills.{RecordsStream-after, RecordsStream-before}
+use Rattle.fdr_top.proofs.Drills.{RecordsBlocks-before, RecordsStream-after, image_after, image_before}
 use Rattle.fdr_top.proofs.ListedImages.{IsOfBlocks}
 use Rattle.fdr_top.proofs.Making.{table_or, table_told}
 use Rattle.fdr_top.proofs.Readable.{lists_survivors, lists_undamaged}
-use Rattle.fdr_top.proofs.RecordLines.{no_differ, no_first, RecordsStream-nothing, RecordsStream-unbegun, all_past}
+use Rattle.fdr_top.proofs.RecordingEnds.{image_by_answer, refusal_not_write, refusal_records_none, stream_by_answer}
+use Rattle.fdr_top.proofs.RecordLines.{all_past, no_differ, no_first, refuses_nothing}
 
 -- what was recorded, and what was written of it
 drills : (t : TableRows) (seed frames : ℕ) (tells : Tells) (old new : State) (before now : Option (List ℕ)) (answer : Outcome) → IsInRange t → IsSound t
-    → RecordsStream t tells (generated_trace t seed frames) old new answer
+    → RecordsStream t tells (generated_trace t seed frames) old new answer → RefusesImage t tells old new answer
     → (answer ≡ outcome.Done → IsTrue tells.bytes → now
     ≡ followed_by before (drill_line t (length (new_blocks t old.held (generated_trace t seed frames))) new.held))
     → (answer ≡ outcome.WriteFault → IsTrue tells.bytes → (k : ℕ) × (now ≡ followed_by before
     (take k (drill_line t (length (new_blocks t old.held (generated_trace t seed frames))) new.held))))
     → (answer ≢ outcome.Done → answer ≢ outcome.WriteFault → now ≡ before)
     → DrillsImage t seed frames tells old new before now answer
-drills t seed frames tells old new before now answer range sound blocks text part silent = record {
+drills t seed frames tells old new before now answer range sound blocks image text part silent = record {
   blocks = blocks;
+  image = image;
   text = text;
   part = part;
   silent = silent;
@@ -75,47 +81,54 @@ pub drill_shut : (t : TableRows) (seed frames : ℕ) (tells : Tells) (old new : 
     → DrillsImage t seed frames tells old new written written answer
 drill_shut t seed frames tells old new written answer range sound deck looks shut image =
     drills t seed frames tells old new written written answer range sound
-    (RecordsStream-unbegun t tells (generated_trace t seed frames) old new answer (Starts-looked tells (header_in old.held) old new deck looks.disk_work)
-    (shut_records_none answer shut) (shut_not_end answer shut) image)
+    (RecordsBlocks-unbegun t tells (generated_trace t seed frames) old new (EndsRecording answer) (answer ≡ outcome.SeqEnd)
+    (Starts-looked tells (header_in old.held) old new deck looks.disk_work) (shut_records_none answer shut) (shut_not_end answer shut))
+    image
     (λ done. absurd (shut_records_none answer shut (subst EndsRecording (sym done) tt)))
     (λ fails. absurd (shut_records_none answer shut (subst EndsRecording (sym fails) tt)))
     (λ done fails. refl)
 
 -- ---- where the recording was cut short
 
-pub session_not_all : (answer : Outcome) → RefusesRecording answer → EndsRecording answer → ⊥
-session_not_all (outcome.ImageRefused why) refuses all = all
-session_not_all (outcome.WordsDiffer image table) refuses all = all
-session_not_all outcome.DiskFault refuses all = all
-session_not_all outcome.SeqEnd refuses all = all
-session_not_all outcome.NoMemory refuses all = all
-session_not_all answer refuses all = refuses
-
 -- a trace that is generated is pulled of nothing
-drawn_blocks : (t : TableRows) (seed frames : ℕ) (tells : Tells) (a b c : State) (answer : Outcome) → IsSoundDeck tells a → OnlyLooks tells a b
-    → RecordsSupply (drawn_trace t seed frames) t tells b c answer → RecordsStream t tells (generated_trace t seed frames) a c answer
-drawn_blocks t seed frames tells a b c answer sound looks is =
-    RecordsStream-before t tells (generated_trace t seed frames) a b c answer sound looks is.blocks
+drawn_blocks : (t : TableRows) (seed frames : ℕ) (tells : Tells) (a b c : State) (end : RecordingEnd) → IsSoundDeck tells a → OnlyLooks tells a b
+    → RecordsSupply (drawn_trace t seed frames) t tells b c end → RecordsStream t tells (generated_trace t seed frames) a c (recording_answer end)
+drawn_blocks t seed frames tells a b c end sound looks is =
+    stream_by_answer t tells (generated_trace t seed frames) a c end
+    (RecordsBlocks-before t tells (generated_trace t seed frames) a b c _ _ sound looks is.blocks)
 
-pub drill_cut : (t : TableRows) (seed frames : ℕ) (tells : Tells) (a b c : State) (written : Option (List ℕ)) (answer : Outcome) → IsInRange t → IsSound t
-    → IsSoundDeck tells a → OnlyLooks tells a b → RefusesRecording answer → RecordsSupply (drawn_trace t seed frames) t tells b c answer
-    → DrillsImage t seed frames tells a c written written answer
-drill_cut t seed frames tells a b c written answer range sound deck looks refuses is =
-    drills t seed frames tells a c written written answer range sound (drawn_blocks t seed frames tells a b c answer deck looks is)
-    (λ done. absurd (session_not_all answer refuses (subst EndsRecording (sym done) tt)))
-    (λ fails. absurd (session_not_all answer refuses (subst EndsRecording (sym fails) tt)))
+drawn_image : (t : TableRows) (seed frames : ℕ) (tells : Tells) (a b c : State) (end : RecordingEnd) → OnlyLooks tells a b
+    → RecordsSupply (drawn_trace t seed frames) t tells b c end → RefusesImage t tells a c (recording_answer end)
+drawn_image t seed frames tells a b c end looks is =
+    image_before t tells a b c (recording_answer end) looks (image_by_answer t tells b c end is.image)
+
+pub drill_cut : (t : TableRows) (seed frames : ℕ) (tells : Tells) (a b c : State) (written : Option (List ℕ)) (f : SessionFault) → IsInRange t → IsSound t
+    → IsSoundDeck tells a → OnlyLooks tells a b → RecordsSupply (drawn_trace t seed frames) t tells b c (Err f)
+    → DrillsImage t seed frames tells a c written written (session_refusal f)
+drill_cut t seed frames tells a b c written f range sound deck looks is =
+    drills t seed frames tells a c written written (session_refusal f) range sound (drawn_blocks t seed frames tells a b c (Err f) deck looks is)
+    (drawn_image t seed frames tells a b c (Err f) looks is)
+    (λ done. absurd (refusal_records_none f (subst EndsRecording (sym done) tt)))
+    (λ fails. absurd (refusal_not_write f fails))
     (λ done fails. refl)
 
 -- ---- where all was recorded
 
-module _ (t : TableRows) (seed frames : ℕ) (tells : Tells) (a b c d : State) (h : Header) (count : ℕ) (was answer : Outcome) (before now : Option (List ℕ))
+module _ (t : TableRows) (seed frames : ℕ) (tells : Tells) (a b c d : State) (h : Header) (count : ℕ) (end : SourceEnd) (answer : Outcome)
+    (before now : Option (List ℕ))
     (sound_a : IsSoundDeck tells a) (sound_c : IsSoundDeck tells c) (first : OnlyLooks tells a b)
-    (is : RecordsSupply (drawn_trace t seed frames) t tells b c was) (reading : EndsReading was) (last : Looks tells c d) (of : IsOfBlocks answer)
+    (is : RecordsSupply (drawn_trace t seed frames) t tells b c (Ok end)) (last : Looks tells c d) (of : IsOfBlocks answer)
     (header : IsTrue tells.bytes → h ≡ header_in a.held) (blocks : IsTrue tells.bytes → next_in b.held + count ≡ c.announced)
   where
+    ended : RecordsSupply (drawn_trace t seed frames) t tells b c (Ok source.Ended)
+    ended = subst (λ (x : RecordingEnd). RecordsSupply (drawn_trace t seed frames) t tells b c x) (is.ends.1 tt) is
+
     done : RecordsStream t tells (generated_trace t seed frames) a c outcome.Done
-    done = drawn_blocks t seed frames tells a b c outcome.Done sound_a first
-        (subst (λ (x : Outcome). RecordsSupply (drawn_trace t seed frames) t tells b c x) (is.ends.1 reading) is)
+    done = drawn_blocks t seed frames tells a b c (Ok source.Ended) sound_a first ended
+
+    taken : RefusesImage t tells a d answer
+    taken = image_after t tells (generated_trace t seed frames) a c d answer done
+        (drawn_image t seed frames tells a b c (Ok source.Ended) first ended) last of
 
     whole : RecordsStream t tells (generated_trace t seed frames) a d answer
     whole = RecordsStream-after t tells (generated_trace t seed frames) a c d answer sound_a sound_c done last of
@@ -142,7 +155,7 @@ module _ (t : TableRows) (seed frames : ℕ) (tells : Tells) (a b c d : State) (
         → (answer ≡ outcome.WriteFault → IsTrue tells.bytes
         → (k : ℕ) × (now ≡ followed_by before (take k (drill_text count (summary_of t (payloads_of (recovered_run h c.held)))))))
         → (answer ≡ outcome.DiskFault → now ≡ before) → DrillsImage t seed frames tells a d before now answer
-    drill_told range sound text part unread = drills t seed frames tells a d before now answer range sound whole
+    drill_told range sound text part unread = drills t seed frames tells a d before now answer range sound whole taken
         (λ e told. text e told ∙ ap (followed_by before) (same_line told))
         (λ e told. let p = part e told in (p.0, p.1 ∙ ap (λ l. followed_by before (take p.0 l)) (same_line told)))
         (λ not_done not_write. ⊎_elim (λ e. absurd (not_done e))
@@ -158,7 +171,9 @@ drills_nothing seed frames tells rest d written answer sound early =
       t,
       table_told rest,
       record {
-        blocks = RecordsStream-nothing t tells (generated_trace t seed frames) d answer sound early;
+        blocks = RecordsBlocks-unbegun t tells (generated_trace t seed frames) d d (EndsRecording answer) (answer ≡ outcome.SeqEnd)
+            (nothing_started tells d sound) (λ all. early (all_past answer all)) (λ e. early (subst IsPastTable (sym e) tt));
+        image = refuses_nothing t tells d d answer early;
         text = λ done. absurd (early (subst IsPastTable (sym done) tt));
         part = λ fails. absurd (early (subst IsPastTable (sym fails) tt));
         silent = λ done fails. refl;
@@ -181,31 +196,16 @@ drill_done path image seed frames t tells old new before now outcome.DiskFault o
 drill_done path image seed frames t tells old new before now outcome.SeqEnd own is bytes room disk sink =
     absurd (omega (arith, is.blocks.beyond refl bytes, room.numbers))
 drill_done path image seed frames t tells old new before now (outcome.ImageRefused why) own is bytes room disk sink =
-    absurd (no_first old.held why room.image.no_fault (is.blocks.image.header.refused why refl bytes))
+    absurd (no_first old.held why room.image.no_fault (is.image.header.refused why refl bytes))
 drill_done path image seed frames t tells old new before now (outcome.WordsDiffer i w) own is bytes room disk sink =
-    absurd (no_differ t tells old new (outcome.WordsDiffer i w) i w is.blocks.image bytes room.image refl)
+    absurd (no_differ t tells old new (outcome.WordsDiffer i w) i w is.image bytes room.image refl)
 drill_done path image seed frames t tells old new before now (outcome.ReadFault input.Table) own is bytes room disk sink =
     ⊎_elim (λ memory. absurd (cc)) (λ it. absurd it) own
 drill_done path image seed frames t tells old new before now (outcome.ReadFault input.Line) own is bytes room disk sink =
     ⊎_elim (λ memory. absurd (cc)) (λ it. absurd it) own
 drill_done path image seed frames t tells old new before now answer own is bytes room disk sink = ⊎_elim (λ memory. inr memory) (λ it. absurd it) own
 
--- a generator that was just made
-pub begun_generator : (t : TableRows) (seed frames : ℕ) (g : GeneratorKept) (s : RecordSource) → s ≡ source.Generator g
-    → RepresentsGenerator g (generator_made t seed frames) → frames ≤ most_frames → RepresentsSupply (drawn_trace t seed frames) s [] []
-begun_generator t seed frames g s same stands few =
-    subst (λ (x : RecordSource). RepresentsSupply (drawn_trace t seed frames) x [] []) (sym same)
-    (record { stands = stands; first = refl; unended = refl; within = few; unpulled = refl })
-
 -- ---- one stretch of calls after another
-
-pub lines_then : (a b c : State) → KeepsInputAndFaults a b → KeepsInputAndFaults b c → KeepsInputAndFaults a c
-lines_then a b c first next = record {
-  input = next.input ∙ first.input;
-  taken = next.taken ∙ first.taken;
-  pulled_before = next.pulled_before ∙ first.pulled_before;
-  faults = next.faults ∙ first.faults;
-}
 
 pub learns_then : (tells : Tells) (a b c d : State) → LearnsExtent tells a b → LearnsExtent tells b c → d.extent ≡ c.extent → LearnsExtent tells a d
 learns_then tells a b c d first next same = record {

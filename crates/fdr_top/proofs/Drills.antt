@@ -20,13 +20,16 @@ use Rattle.fdr_recorder.specs.Keeping.{RecoversPrefix}
 use Rattle.fdr_recorder.specs.Recording.{IsClose}
 use Rattle.fdr_recorder.specs.Starting.{IsStarting}
 use Rattle.fdr_recorder.proofs.Starting.{Starts-looked}
-use Rattle.fdr_top.specs.Record.{AddsToRun, IsBlockMoment, MayRecord, RecordsStream, new_blocks, next_in}
+use Rattle.fdr_recorder.specs.NewBlocks.{AddsToRun, IsBlockMoment, MayRecord, RecordsBlocks, new_blocks, next_in}
+use Rattle.fdr_recorder.proofs.Recordings.{chained, starting_moment}
 use Rattle.fdr_recover.specs.Payloads.{run_in}
+use Rattle.fdr_top.specs.Record.{RecordsStream}
+use Rattle.fdr_top.specs.Refusals.{RefusesImage}
 use Rattle.fdr_top.specs.Recover.{OnlyLooks}
 use Rattle.fdr_top.specs.declared.outcome.Outcome.{Outcome}
 use Rattle.fdr_top.specs.declared.outcome.Outcome.TheVariants as outcome
 use Rattle.fdr_top.proofs.ListedImages.{IsOfBlocks, of_blocks_begun}
-use Rattle.fdr_top.proofs.RecordLines.{chained, starting_moment, takes_image}
+use Rattle.fdr_top.proofs.RecordLines.{takes_image}
 
 -- a recording may follow a look
 may_still : (old new : State) → old.announced ≤ old.greatest → KeepsDisk old new → KeepsAnnounced old new → MayRecord old → MayRecord new
@@ -59,9 +62,9 @@ recorded_before tells t a b c blocks same is = record {
 }
 
 -- a recording that follows a look at the disk
-pub RecordsStream-before : (t : TableRows) (tells : Tells) (records : List BusRecord) (a b c : State) (answer : Outcome) → IsSoundDeck tells a
-    → OnlyLooks tells a b → RecordsStream t tells records b c answer → RecordsStream t tells records a c answer
-RecordsStream-before t tells records a b c answer sound looks is =
+pub RecordsBlocks-before : (t : TableRows) (tells : Tells) (records : List BusRecord) (a b c : State) (all used_up : Type 0) → IsSoundDeck tells a
+    → OnlyLooks tells a b → RecordsBlocks t tells records b c all used_up → RecordsBlocks t tells records a c all used_up
+RecordsBlocks-before t tells records a b c all used_up sound looks is =
     let same : b.held ≡ a.held = looks.disk.held in
     let may : MayRecord a → MayRecord b = may_still a b sound.greatest looks.disk looks.disk_work.passes.announced in
     let starts = Starts-looked tells (header_in a.held) a b sound looks.disk_work in
@@ -71,29 +74,36 @@ RecordsStream-before t tells records a b c answer sound looks is =
     (λ m at. starting_moment t a records m at) (starts.moments ready))
     (λ stops m since. moment_before t a b records m same (is.moments (may ready) stops m since)) in
     let for : (count : ℕ) → IsFor count b.held → IsFor count a.held = λ count it. subst (IsFor count) same it in
-    let back : (count : ℕ) → IsFor count a.held → IsFor count b.held = λ count it. subst (IsFor count) (sym same) it in
     record {
       time = Elapses-then tells a b c looks.disk_work.passes.time is.time;
       moments = moments;
       chain = chained t tells a c records moments;
-      recorded = λ all told. recorded_before tells t a b c (λ i. new_blocks t i records) same (is.recorded all told);
-      within = λ all told. subst (λ (i : List ℕ). next_in i + length (new_blocks t i records) ≤ 2 ^ 48) same (is.within all told);
-      ready = λ all stops ready. is.ready all stops (may ready);
-      near = λ all told ready. subst (λ (i : List ℕ). next_in i + length (new_blocks t i records) ≤ max (next_in i) c.least + 1) same
-          (is.near all told (may ready));
+      recorded = λ whole told. recorded_before tells t a b c (λ i. new_blocks t i records) same (is.recorded whole told);
+      within = λ whole told. subst (λ (i : List ℕ). next_in i + length (new_blocks t i records) ≤ 2 ^ 48) same (is.within whole told);
+      ready = λ whole stops ready. is.ready whole stops (may ready);
+      near = λ whole told ready. subst (λ (i : List ℕ). next_in i + length (new_blocks t i records) ≤ max (next_in i) c.least + 1) same
+          (is.near whole told (may ready));
       seq_end = λ e told. recorded_before tells t a b c (λ i. take (2 ^ 48 - next_in i) (new_blocks t i records)) same (is.seq_end e told);
       beyond = λ e told. subst (λ (i : List ℕ). 2 ^ 48 < next_in i + length (new_blocks t i records)) same (is.beyond e told);
       good = λ either told. for t.frame.words (is.good either told);
-      image = record {
-        header = record {
-          refused = λ why e told. ap image_fault_of (sym same) ∙ is.image.header.refused why e told;
-          small = is.image.header.small;
-          small_always = is.image.header.small_always;
-          refused_always = λ why past told first. is.image.header.refused_always why past told (ap image_fault_of same ∙ first);
-        };
-        words = λ image table e. let here = is.image.words image table e in (here.0, here.1, λ told. for image (here.2 told));
-        words_always = λ image past told it differ. is.image.words_always image past told (back image it) differ;
+    }
+
+-- and so is its image
+pub image_before : (t : TableRows) (tells : Tells) (a b c : State) (answer : Outcome) → OnlyLooks tells a b → RefusesImage t tells b c answer
+    → RefusesImage t tells a c answer
+image_before t tells a b c answer looks is =
+    let same : b.held ≡ a.held = looks.disk.held in
+    let for : (count : ℕ) → IsFor count b.held → IsFor count a.held = λ count it. subst (IsFor count) same it in
+    let back : (count : ℕ) → IsFor count a.held → IsFor count b.held = λ count it. subst (IsFor count) (sym same) it in
+    record {
+      header = record {
+        refused = λ why e told. ap image_fault_of (sym same) ∙ is.header.refused why e told;
+        small = is.header.small;
+        small_always = is.header.small_always;
+        refused_always = λ why past told first. is.header.refused_always why past told (ap image_fault_of same ∙ first);
       };
+      words = λ image table e. let here = is.words image table e in (here.0, here.1, λ told. for image (here.2 told));
+      words_always = λ image past told it differ. is.words_always image past told (back image it) differ;
     }
 
 -- ---- after the recording
@@ -159,13 +169,8 @@ RecordsStream-after t tells records a b c answer sound_a sound_b is looks of =
       seq_end = λ e. absurd (of_blocks_going answer of e);
       beyond = λ e. absurd (of_blocks_going answer of e);
       good = λ either bytes. is.good (inl tt) bytes;
-      image = takes_image t tells a c answer (of_blocks_begun answer of)
-          (λ short. done_long (is.image.header.small_always tt (omega (arith, short, looks.extent)))) (λ bytes. is.good (inl tt) bytes);
     }
   where
-    done_long : (outcome.Done ≡ outcome.ImageRefused fault.Small) ⊎ (outcome.Done ≡ outcome.DiskFault) → ⊥
-    done_long either = ⊎_elim (λ e. cc) (λ e. cc) either
-
     of_blocks_going : (answer : Outcome) → IsOfBlocks answer → answer ≡ outcome.SeqEnd → ⊥
     of_blocks_going answer of e = ⊎_elim
         (λ (x : answer ≡ outcome.Done). let c : outcome.SeqEnd ≡ outcome.Done = sym e ∙ x in cc)
@@ -174,3 +179,13 @@ RecordsStream-after t tells records a b c answer sound_a sound_b is looks of =
         (λ (x : answer ≡ outcome.DiskFault). let c : outcome.SeqEnd ≡ outcome.DiskFault = sym e ∙ x in cc)
         rest)
         of
+
+-- and its image is taken
+pub image_after : (t : TableRows) (tells : Tells) (records : List BusRecord) (a b c : State) (answer : Outcome)
+    → RecordsStream t tells records a b outcome.Done → RefusesImage t tells a b outcome.Done → Looks tells b c → IsOfBlocks answer
+    → RefusesImage t tells a c answer
+image_after t tells records a b c answer is image looks of = takes_image t tells a c answer (of_blocks_begun answer of)
+    (λ short. done_long (image.header.small_always tt (omega (arith, short, looks.extent)))) (λ bytes. is.good (inl tt) bytes)
+  where
+    done_long : (outcome.Done ≡ outcome.ImageRefused fault.Small) ⊎ (outcome.Done ≡ outcome.DiskFault) → ⊥
+    done_long either = ⊎_elim (λ e. cc) (λ e. cc) either

@@ -17,7 +17,7 @@ use Rattle.fdr_pieces.specs.declared.pieces.InputEnd.TheVariants as input_end
 use Rattle.fdr_words.specs.Forms.{Form}
 use Rattle.fdr_top.specs.Answers.{IsOwn, PullsBits, PullsInput, WritesText}
 use Rattle.fdr_top.specs.Coding.{SinkState, StopsWriting}
-use Rattle.fdr_top.specs.Limits.{most_input_bytes}
+use Rattle.fdr_pieces.specs.Limits.{most_input_bytes}
 use Rattle.fdr_top.specs.InputTexts.{AnswersEnd, WritesFront, WritesOfInput, answer_of}
 use Rattle.fdr_top.specs.declared.outcome.Outcome.{Outcome}
 use Rattle.fdr_top.specs.declared.outcome.Outcome.TheVariants as outcome

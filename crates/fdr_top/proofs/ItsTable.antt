@@ -9,7 +9,7 @@ use Rattle.fdr_table.specs.Rows.{TableRows}
 use Rattle.fdr_table.specs.declared.fault.TableFault.{TableFault}
 use Rattle.fdr_top.specs.Stages.{IsOfTable, IsPastTable}
 use Rattle.fdr_top.specs.Complete.{TellsAccepted}
-use Rattle.fdr_top.specs.Limits.{piece_bytes}
+use Rattle.fdr_io.specs.Limits.{piece_bytes}
 use Rattle.fdr_load.specs.Tables.{IsAccepted, IsTableRefused, table_in}
 use Rattle.fdr_top.specs.Tables.{ByTable, ReadsItsTable}
 use Rattle.fdr_top.specs.declared.outcome.Outcome.{Outcome}

@@ -1,5 +1,4 @@
 pub mod TableAnswers
-pub mod Longer
 pub mod Blocks
 pub mod Records
 pub mod TraceAnswers
@@ -9,11 +8,7 @@ pub mod Images
 pub mod Making
 pub mod ItsTable
 pub mod Answering
-pub mod Lag
-pub mod NewBlocks
-pub mod Sessions
-pub mod Supplies
-pub mod SessionEnds
+pub mod RecordingEnds
 pub mod RecordLines
 pub mod OneRun
 pub mod Readable

@@ -19,7 +19,7 @@ use Rattle.fdr_readout.proofs.EntryLemmas.{lines_of_entries}
 use Rattle.fdr_readout.proofs.Taking.{lines_of_taken, nothing_decided, taken_first}
 use Rattle.fdr_deck.specs.State.{State, Tells}
 use Rattle.fdr_pieces.specs.Pieces.{before_last}
-use Rattle.fdr_top.specs.Limits.{most_input_bytes}
+use Rattle.fdr_pieces.specs.Limits.{most_input_bytes}
 use Rattle.fdr_top.specs.Listbits.{HasWrittenDecided, ListsInput}
 use Rattle.fdr_top.specs.InputTexts.{WritesFront, WritesOfInput}
 use Rattle.fdr_top.specs.declared.outcome.Outcome.{Outcome}

@@ -28,14 +28,20 @@ use Rattle.fdr_readout.specs.Listing.{listing_of}
 use Rattle.fdr_readout.proofs.ReadsBack.{stream_lists_back}
 use Rattle.fdr_readout.proofs.Surviving.{surviving_run_listed}
 use Rattle.fdr_top.specs.Stages.{EndsRecording, IsPastTable}
-use Rattle.fdr_top.specs.Record.{ListsSurvivors, ListsUndamaged, RecordsStream, RecordsTrace, new_blocks, next_in}
-use Rattle.fdr_top.specs.Recording.{RecordsSupply}
-use Rattle.fdr_top.specs.Supply.{line_trace}
+use Rattle.fdr_recorder.specs.Ends.{RecordingEnd}
+use Rattle.fdr_recorder.specs.NewBlocks.{new_blocks, next_in}
+use Rattle.fdr_recorder.specs.Supplied.{RecordsSupply}
+use Rattle.fdr_recorder.specs.Supply.{line_trace}
+use Rattle.fdr_recorder.proofs.Recordings.{RecordsBlocks-unbegun, none_pulled, nothing_started, starting_lag}
+use Rattle.fdr_top.specs.Ends.{recording_answer}
+use Rattle.fdr_top.specs.Record.{ListsSurvivors, ListsUndamaged, RecordsStream, RecordsTrace}
 use Rattle.fdr_recover.specs.Payloads.{payloads_of, run_in}
 use Rattle.fdr_top.specs.Tables.{ByTable}
 use Rattle.fdr_top.specs.declared.outcome.Outcome.{Outcome}
+use Rattle.fdr_top.specs.declared.outcome.Outcome.TheVariants as outcome
 use Rattle.fdr_top.proofs.Making.{table_or, table_told}
-use Rattle.fdr_top.proofs.RecordLines.{RecordsSupply-nothing, all_past, limits_in, reading_past, refusal_told, told_end}
+use Rattle.fdr_top.proofs.RecordingEnds.{fault_ends, image_by_answer, stream_by_answer, trace_by_answer}
+use Rattle.fdr_top.proofs.RecordLines.{all_past, limits_in, reading_past, refusal_told, refuses_nothing, told_end}
 
 -- whole blocks of p bytes that hold n of them
 enough : (p n : ℕ) → 0 < p → n ≤ p * ((n + p - 1) / p)
@@ -91,34 +97,48 @@ lists_undamaged t tells records old new answer range sound blocks all bytes none
 pub lists_survivors : (t : TableRows) (records : List BusRecord) → IsInRange t → IsSound t → ListsSurvivors t records
 lists_survivors t records range sound b q j m it = surviving_run_listed t records b q j m range sound it
 
+records_end : (t : TableRows) (tells : Tells) (old new : State) (end : RecordingEnd) → IsInRange t → IsSound t
+    → RecordsSupply line_trace t tells old new end → RecordsTrace t tells old new (recording_answer end)
+records_end t tells old new end range sound is =
+    let answer = recording_answer end in
+    let blocks = stream_by_answer t tells (good_prefix is.pulled) old new end is.blocks in
+    let ends = trace_by_answer tells old new is.pulled end is.ends in
+    record {
+      pulled = is.pulled;
+      pulls = is.pulls;
+      blocks = blocks;
+      image = image_by_answer t tells old new end is.image;
+      in_time = is.in_time;
+      trace = ends;
+      whole = λ done told. told_end tells old new is.pulled answer is.pulls ends done told;
+      trace_always = λ index why all told first. refusal_told tells old new is.pulled answer index why is.pulls ends all told first;
+      survives = λ past. lists_survivors t (good_prefix is.pulled) range sound;
+      undamaged = λ all. lists_undamaged t tells (good_prefix is.pulled) old new answer range sound blocks all;
+    }
+
+-- what was recorded of the trace on the input
 pub records_line : (t : TableRows) (tells : Tells) (old new : State) (answer : Outcome) → IsInRange t → IsSound t
-    → RecordsSupply line_trace t tells old new answer → RecordsTrace t tells old new answer
-records_line t tells old new answer range sound is = record {
-  pulled = is.pulled;
-  pulls = is.pulls;
-  blocks = is.blocks;
-  in_time = is.in_time;
-  trace = is.ends;
-  whole = λ done told. told_end tells old new is.pulled answer is.pulls is.ends done told;
-  trace_always = λ index why all told first. refusal_told tells old new is.pulled answer index why is.pulls is.ends all told first;
-  survives = λ past. lists_survivors t (good_prefix is.pulled) range sound;
-  undamaged = λ all. lists_undamaged t tells (good_prefix is.pulled) old new answer range sound is.blocks all;
-}
+    → (end : RecordingEnd) × (answer ≡ recording_answer end) × RecordsSupply line_trace t tells old new end → RecordsTrace t tells old new answer
+records_line t tells old new answer range sound is =
+    subst (λ (x : Outcome). RecordsTrace t tells old new x) (sym is.1) (records_end t tells old new is.0 range sound is.2)
 
 -- where the table isn't read, the deck isn't touched and nothing is recorded
 pub records_nothing : (tells : Tells) (rest : Option (List ℕ)) (d : State) (answer : Outcome) → IsSoundDeck tells d
     → (IsPastTable answer → ⊥) → ByTable rest (λ (t : TableRows). RecordsTrace t tells d d answer)
 records_nothing tells rest d answer sound early =
     let t = table_or rest in
-    let is = RecordsSupply-nothing line_trace t tells d answer sound early in (
+    let starts = nothing_started tells d sound in (
       t,
       table_told rest,
       record {
-        pulled = is.pulled;
-        pulls = is.pulls;
-        blocks = is.blocks;
-        in_time = is.in_time;
-        trace = is.ends;
+        pulled = [];
+        pulls = none_pulled tells d d starts.input starts.input_faults;
+        blocks = RecordsBlocks-unbegun t tells (good_prefix []) d d (EndsRecording answer) (answer ≡ outcome.SeqEnd) starts
+            (λ all. early (all_past answer all)) (λ e. early (subst IsPastTable (sym e) tt));
+        image = refuses_nothing t tells d d answer early;
+        in_time = λ ready. starting_lag t tells d d starts ready;
+        trace = fault_ends tells d d [] answer (λ all. early (reading_past answer all)) (λ index why e. early (subst IsPastTable (sym e) tt))
+            (λ known. starts.input_faults);
         whole = λ done. absurd (early (subst IsPastTable (sym done) tt));
         trace_always = λ index why all. absurd (early (reading_past answer all));
         survives = λ past. absurd (early past);

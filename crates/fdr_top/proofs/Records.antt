@@ -1,8 +1,7 @@
 -- The records that were streamed of a trace.
-use Rattle.std.proofs.Common.{◌≡◌, ◌≢◌, ℕ, ◌-◌, ◌*◌, ◌<◌, ◌≤◌, ⊎_elim, min, true, false, List, [], ◌∷◌, ◌++◌, length, take, Option, Some, None, ap, sym}
-use Rattle.std.proofs.Common.{refl, ◌∙◌, subst, append_assoc, length-append, arith}
-use Rattle.std.proofs.lemmas.Bool.{cases_Bool}
-use Rattle.std.proofs.lemmas.List.{append-nil, take_all}
+use Rattle.std.proofs.Common.{◌≡◌, ◌≢◌, ℕ, ◌*◌, ◌≤◌, min, true, List, [], ◌∷◌, ◌++◌, length, take, Option, Some, None, ap, sym}
+use Rattle.std.proofs.Common.{refl, ◌∙◌, subst, append_assoc, arith}
+use Rattle.std.proofs.lemmas.List.{take_all}
 use Rattle.fdr_io.specs.Told.{followed_by}
 use Rattle.fdr_io.specs.declared.Input.TheVariants as input
 use Rattle.fdr_io.proofs.Telling.{followed_by-nil}
@@ -10,7 +9,6 @@ use Rattle.fdr_deck.specs.State.{State, Tells}
 use Rattle.fdr_bus.specs.declared.BusRecord.{BusRecord}
 use Rattle.fdr_bus.specs.declared.TraceFault.{TraceFault}
 use Rattle.fdr_bus.specs.declared.TraceFault.TheVariants as trace
-use Rattle.fdr_bus.specs.declared.RecordKind.TheVariants.{Word, End}
 use Rattle.fdr_bus.specs.Records.{IsDecided, good_prefix, has_end, is_end}
 use Rattle.fdr_bus.proofs.TraceLemmas.{good_prefix-append, has_end-push}
 use Rattle.fdr_table.specs.Rows.{TableRows}
@@ -24,15 +22,14 @@ use Rattle.fdr_trace.specs.Pulls.{PullsUntilDecided}
 use Rattle.fdr_trace.specs.Reading.{RepresentsTrace, IsNextRecord, IsTraceStopped}
 use Rattle.fdr_trace.specs.declared.TraceStop.{TraceStop}
 use Rattle.fdr_trace.specs.declared.TraceStop.TheVariants as stop
-use Rattle.fdr_trace.proofs.Pulling.{PullsUntilDecided-then}
-use Rattle.fdr_trace.proofs.Records.{Reads-counts}
 use Rattle.fdr_top.specs.declared.outcome.Outcome.{Outcome}
 use Rattle.fdr_top.specs.declared.outcome.Outcome.TheVariants as outcome
-use Rattle.fdr_top.specs.Stream.{Streams, answer_of_stop}
+use Rattle.fdr_top.specs.Ends.{answer_of_stop}
+use Rattle.fdr_top.specs.Stream.{Streams}
 use Rattle.fdr_top.specs.Streaming.{due_text, ComesNext, IsStreamed, IsStreamedTo, IsStreamedPart}
-use Rattle.fdr_top.proofs.Longer.{InOrder-good_prefix, stream_of-good}
+use Rattle.fdr_recorder.proofs.Longer.{InOrder-good_prefix, stream_of-good}
+use Rattle.fdr_recorder.proofs.ReadRecords.{PullsUntilDecided-next}
 use Rattle.fdr_top.proofs.Blocks.{take_min}
-use Rattle.std.specs.Prelude.{◌⊎◌}
 
 -- nothing was fed yet
 pub IsStreamed-made : (k : StreamKept) (t : TableRows) (written : Option (List ℕ)) → RepresentsStream k (stream_made t 4096) → IsStreamed k t [] written written
@@ -51,11 +48,6 @@ ComesNext-read k k' bytes more records r reads next = record {
   in_time = next.in_time;
   unended = ap has_end reads.good ∙ reads.unended.unended;
 }
-
-pub PullsUntilDecided-next : (tells : Tells) (a b c : State) (bytes more : List ℕ) → PullsUntilDecided tells a b [] bytes
-    → PullsUntilDecided tells b c bytes more
-    → PullsUntilDecided tells a c [] (bytes ++ more)
-PullsUntilDecided-next tells a b c bytes more first second = PullsUntilDecided-then tells a b c [] bytes more first second
 
 -- after the end record
 pub IsStreamedTo-end : (t : TableRows) (tells : Tells) (a c : State) (k : StreamKept) (bytes : List ℕ) (records : List BusRecord) (r : BusRecord)
@@ -150,33 +142,6 @@ IsStreamedPart-next t tells a c bytes records later before now m pulls good part
           );
       no_fault = quiet;
     }
-
--- the good records of the bytes begin with those that were read
-pub good_so_far : (k : TraceKept) (bytes : List ℕ) (records : List BusRecord) → RepresentsTrace k bytes records
-    → (later : List BusRecord) × (good_prefix bytes ≡ records ++ later)
-good_so_far k bytes records reads =
-    let grown = good_prefix-append reads.read k.waiting in
-    (grown.0, ap good_prefix reads.split ∙ grown.1 ∙ ap (λ (x : List BusRecord). x ++ grown.0) (sym reads.good))
-
--- the good records of the bytes begin with those that were read and the next
-pub good_with_next : (k : TraceKept) (bytes : List ℕ) (records : List BusRecord) (r : BusRecord) → IsNextRecord k bytes records r
-    → (later : List BusRecord) × (good_prefix bytes ≡ (records ++ r ∷ []) ++ later)
-good_with_next k bytes records r next = ⊎_elim
-    (λ (ends : is_end r ≡ true). ([], next.ends ends ∙ sym (append-nil (records ++ r ∷ []))))
-    (λ (goes_on : is_end r ≡ false). good_so_far k bytes (records ++ r ∷ []) (next.more goes_on))
-    (cases_Bool (is_end r))
-
-pub is_end-yes : (r : BusRecord) → r.kind ≡ End → is_end r ≡ true
-is_end-yes r e = rw e refl
-
-pub is_end-no : (r : BusRecord) → r.kind ≡ Word → is_end r ≡ false
-is_end-no r e = rw e refl
-
--- a record more was counted
-pub count_rises : (k k' : TraceKept) (bytes bytes' : List ℕ) (records : List BusRecord) (r : BusRecord) → RepresentsTrace k bytes records
-    → RepresentsTrace k' bytes' (records ++ r ∷ []) → 4294967296 - k'.count < 4294967296 - k.count
-count_rises k k' bytes bytes' records r before after =
-    omega (arith, before.count, after.count, length-append records (r ∷ []), Reads-counts k' bytes' (records ++ r ∷ []) after)
 
 -- ---- what was streamed when the answer is given
 

@@ -16,7 +16,7 @@ use Rattle.fdr_table.specs.declared.fault.TableFault.{TableFault}
 use Rattle.fdr_table.specs.declared.fault.TableFault.TheVariants as fault
 use Rattle.fdr_top.specs.declared.outcome.Outcome.{Outcome}
 use Rattle.fdr_top.specs.declared.outcome.Outcome.TheVariants as outcome
-use Rattle.fdr_top.specs.Limits.{most_input_bytes}
+use Rattle.fdr_pieces.specs.Limits.{most_input_bytes}
 use Rattle.fdr_top.specs.Stages.{IsOfTable, IsPastTable}
 use Rattle.fdr_readout.specs.Listing.{listing_of}
 use Rattle.fdr_load.specs.Tables.{IsAccepted, IsTableRefused, fault_in}

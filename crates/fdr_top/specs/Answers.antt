@@ -14,6 +14,7 @@ abbrev pub Yes : Bool → Type 0
 Yes true = Unit {0}
 Yes false = ⊥
 
+-- the input is a trace
 abbrev pub IsTraceTaken : InputUse → Type 0
 IsTraceTaken takes_nothing = ⊥
 IsTraceTaken takes_trace = Unit {0}
@@ -27,30 +28,35 @@ AreBitsTaken takes_trace = ⊥
 AreBitsTaken takes_bits = Unit {0}
 AreBitsTaken takes_levels = Unit {0}
 
+-- the input is levels of bits
 abbrev pub AreLevelsTaken : InputUse → Type 0
 AreLevelsTaken takes_nothing = ⊥
 AreLevelsTaken takes_trace = ⊥
 AreLevelsTaken takes_bits = ⊥
 AreLevelsTaken takes_levels = Unit {0}
 
+-- the input is pulled at all
 abbrev pub IsInputTaken : InputUse → Type 0
 IsInputTaken takes_nothing = ⊥
 IsInputTaken takes_trace = Unit {0}
 IsInputTaken takes_bits = Unit {0}
 IsInputTaken takes_levels = Unit {0}
 
+-- there is an image
 abbrev pub IsImageUsed : ImageUse → Type 0
 IsImageUsed has_no_image = ⊥
 IsImageUsed makes_image = Unit {0}
 IsImageUsed records_in_image = Unit {0}
 IsImageUsed reads_image = Unit {0}
 
+-- the image is made
 abbrev pub IsImageMade : ImageUse → Type 0
 IsImageMade has_no_image = ⊥
 IsImageMade makes_image = Unit {0}
 IsImageMade records_in_image = ⊥
 IsImageMade reads_image = ⊥
 
+-- the image is recorded in
 abbrev pub IsImageRecorded : ImageUse → Type 0
 IsImageRecorded has_no_image = ⊥
 IsImageRecorded makes_image = ⊥
@@ -141,7 +147,7 @@ MayAnswer form outcome.TooLong = PullsBits form
 MayAnswer form outcome.NoMemory = Unit {0}
 MayAnswer form (outcome.CellFault at) = PullsLevels form
 
--- an answer that a command gives once its words and its table are right, want of memory aside
+-- an answer that may be given and comes after the words and the table, want of memory aside
 abbrev pub OwnAt : Stage → Type 0 → Type 0
 OwnAt at_words may = ⊥
 OwnAt at_table may = ⊥
@@ -149,6 +155,7 @@ OwnAt at_image may = may
 OwnAt (at_work ending) may = may
 OwnAt out_of_memory may = ⊥
 
+-- an answer that this command gives once its words and its table are right, want of memory aside
 abbrev pub IsOwn : Form → Outcome → Type 0
 IsOwn form answer = OwnAt (stage_of answer) (MayAnswer form answer)
 

@@ -1,7 +1,6 @@
 -- What was made so far of the pieces of an input.
-use Rattle.std.specs.Prelude.{◌≡◌, ◌≤◌, ℕ, false, List, [], ◌++◌, length, take, Option}
+use Rattle.std.specs.Prelude.{◌≡◌, ℕ, false, List, [], ◌++◌, Option}
 use Rattle.fdr_io.specs.Faults.{Rose}
-use Rattle.fdr_io.specs.Told.{followed_by}
 use Rattle.fdr_io.specs.Output.{Emits}
 use Rattle.fdr_biphase.specs.Cells.{bits_of_bytes}
 use Rattle.fdr_biphase.specs.Packed.{decoded_bytes}

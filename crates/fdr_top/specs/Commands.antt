@@ -17,7 +17,7 @@ use Rattle.fdr_top.specs.Encode.{EncodesInput}
 use Rattle.fdr_top.specs.Format.{Makes, new_header}
 use Rattle.fdr_top.specs.Leaves.{HasCause, LeavesAll, LeavesUnused, PassesOverNoFault}
 use Rattle.fdr_load.specs.Limits.{TakesAtMost}
-use Rattle.fdr_top.specs.Limits.{piece_bytes}
+use Rattle.fdr_io.specs.Limits.{piece_bytes}
 use Rattle.fdr_top.specs.List.{ListsImage}
 use Rattle.fdr_top.specs.Listbits.{ListsInput}
 use Rattle.fdr_top.specs.Record.{RecordsTrace}

@@ -1,21 +1,22 @@
 -- When a command does all that it is asked, or memory ends.
-use Rattle.std.specs.Prelude.{◌≡◌, ℕ, ◌+◌, ◌^◌, ◌≤◌, true, List, length, Option, Some, None, IsTrue}
+use Rattle.std.specs.Prelude.{◌≡◌, ℕ, ◌+◌, ◌≤◌, true, List, length, Option, Some, None, IsTrue}
 use Rattle.fdr_io.specs.Faults.{Rose}
 use Rattle.fdr_biphase.specs.Cells.{bits_of_bytes}
 use Rattle.fdr_biphase.specs.Phases.{missing_place}
 use Rattle.fdr_bus.specs.declared.BusRecord.{BusRecord}
 use Rattle.fdr_bus.specs.Records.{good_prefix, has_end}
 use Rattle.fdr_deck.specs.State.{State, Tells}
+use Rattle.fdr_slot.specs.Limits.{sequence_end}
 use Rattle.fdr_recover.specs.ImageHeader.{image_fault_of, IsFor}
 use Rattle.fdr_words.specs.Forms.{Form, check_table, stream_line, list_bits, encode_bytes, decode_levels}
 use Rattle.fdr_words.specs.Forms.{format_image, record_line, recover_image, list_image, drill_image}
 use Rattle.fdr_words.specs.Forms.{table_path}
 use Rattle.fdr_top.specs.Answers.{HasImage, PullsInput, ReadsTable, WritesText}
 use Rattle.fdr_top.specs.Runs.{CommandRun, WorkRun}
-use Rattle.fdr_top.specs.Limits.{most_input_bytes}
+use Rattle.fdr_pieces.specs.Limits.{most_input_bytes}
 use Rattle.fdr_gen.specs.Trace.{generated_trace}
 use Rattle.fdr_table.specs.Rows.{TableRows}
-use Rattle.fdr_top.specs.Record.{new_blocks, next_in}
+use Rattle.fdr_recorder.specs.NewBlocks.{new_blocks, next_in}
 use Rattle.fdr_load.specs.Tables.{IsAccepted, table_in}
 
 -- a source that tells its bytes, whose table is accepted
@@ -25,7 +26,7 @@ TellsAccepted rest = (bytes : List ℕ) × (rest ≡ Some bytes) × IsAccepted b
 -- the disk holds an image for the table's frames, and there are numbers for the blocks of these records
 pub record HasRoom (t : TableRows) (d : State) (records : List BusRecord) : Type 0 where
   pub image : IsFor t.frame.words d.held
-  pub numbers : next_in d.held + length (new_blocks t d.held records) ≤ 2 ^ 48
+  pub numbers : next_in d.held + length (new_blocks t d.held records) ≤ sequence_end
 
 -- what the work of the command of a form needs is whole, where it is done by this table
 abbrev pub IsWholeWork : Form → TableRows → Tells → State → Type 0

@@ -1,12 +1,11 @@
 -- What `decode` promises: the bits of all levels of the input, wherever in a cell it begins, or which place is missing.
-use Rattle.std.specs.Prelude.{◌≡◌, ◌≢◌, ℕ, ◌+◌, ◌*◌, ◌/◌, ◌<◌, ◌≤◌, ◌⊎◌, Bool, not, List, length, map, drop, take, Option, Some, IsTrue}
+use Rattle.std.specs.Prelude.{◌≡◌, ℕ, ◌+◌, ◌*◌, ◌/◌, ◌%◌, ◌<◌, ◌≤◌, ◌⊎◌, Bool, true, not, All, List, length, map, drop, take, Option, None, Some, IsTrue}
 use Rattle.fdr_io.specs.Faults.{Rose}
-use Rattle.fdr_io.specs.declared.Input.TheVariants as input
 use Rattle.fdr_deck.specs.State.{State, Tells}
 use Rattle.fdr_biphase.specs.Cells.{bits_of_bytes, cells_of}
 use Rattle.fdr_biphase.specs.Packed.{decoded_bytes}
-use Rattle.fdr_biphase.specs.Phases.{cell_bits, missing_place}
-use Rattle.fdr_top.specs.Limits.{most_input_bytes}
+use Rattle.fdr_biphase.specs.Phases.{cell_bits, fails_at, missing_place, phase_bits}
+use Rattle.fdr_pieces.specs.Limits.{most_input_bytes}
 use Rattle.fdr_top.specs.InputTexts.{WritesOfInput}
 use Rattle.fdr_top.specs.declared.outcome.Outcome.{Outcome}
 use Rattle.fdr_top.specs.declared.outcome.Outcome.TheVariants as outcome
@@ -28,4 +27,11 @@ pub record DecodesLevels (tells : Tells) (old new : State) (written_before writt
   -- Of the cells of bits any number of levels may be struck from the front, and all levels may be turned.
   pub reads_back : (first : Bool) (sent : List Bool) (struck : ℕ) → struck ≤ 2 * length sent
       → cell_bits (drop struck (cells_of first sent)) ≡ drop ((struck + 1) / 2) sent
+  -- Where the rest begins in the middle of a cell and all of these bits are 1, both phases fit, and give the same bits.
+  pub both_fit : (first : Bool) (sent : List Bool) (struck phase : ℕ) → struck ≤ 2 * length sent → struck % 2 ≡ 1 → phase ≤ 1
+      → All (λ bit. bit ≡ true) (drop ((struck + 1) / 2) sent) → fails_at (drop struck (cells_of first sent)) phase ≡ None
+  pub same_bits : (first : Bool) (sent : List Bool) (struck phase : ℕ) → struck ≤ 2 * length sent → struck % 2 ≡ 1 → phase ≤ 1
+      → All (λ bit. bit ≡ true) (drop ((struck + 1) / 2) sent)
+      → phase_bits (drop struck (cells_of first sent)) phase ≡ drop ((struck + 1) / 2) sent
   pub turned : (levels : List Bool) → cell_bits (map not levels) ≡ cell_bits levels
+  pub turned_missing : (levels : List Bool) → missing_place (map not levels) ≡ missing_place levels

@@ -7,7 +7,9 @@ use Rattle.fdr_table.specs.Rows.{TableRows}
 use Rattle.fdr_readout.specs.Summary.{summary_of}
 use Rattle.fdr_readout.specs.declared.tally.Summary.{Summary}
 use Rattle.fdr_top.specs.Stages.{EndsRecording, IsPastTable}
-use Rattle.fdr_top.specs.Record.{ListsSurvivors, ListsUndamaged, RecordsStream, new_blocks}
+use Rattle.fdr_recorder.specs.NewBlocks.{new_blocks}
+use Rattle.fdr_top.specs.Record.{ListsSurvivors, ListsUndamaged, RecordsStream}
+use Rattle.fdr_top.specs.Refusals.{RefusesImage}
 use Rattle.fdr_recover.specs.Payloads.{payloads_of, run_in}
 use Rattle.fdr_top.specs.declared.outcome.Outcome.{Outcome}
 use Rattle.fdr_top.specs.declared.outcome.Outcome.TheVariants as outcome
@@ -30,6 +32,7 @@ drill_line t blocks image = drill_text blocks (summary_of t (payloads_of (run_in
 pub record DrillsImage (t : TableRows) (seed frames : ℕ) (tells : Tells) (old new : State) (written_before written_now : Option (List ℕ))
     (answer : Outcome) : Type 0 where
   pub blocks : RecordsStream t tells (generated_trace t seed frames) old new answer
+  pub image : RefusesImage t tells old new answer
   pub text : answer ≡ outcome.Done → IsTrue tells.bytes → written_now
       ≡ followed_by written_before (drill_line t (length (new_blocks t old.held (generated_trace t seed frames))) new.held)
   pub part : answer ≡ outcome.WriteFault → IsTrue tells.bytes → (k : ℕ) × (written_now ≡ followed_by written_before

@@ -8,7 +8,8 @@ use Rattle.fdr_words.specs.Forms.{Form}
 use Rattle.fdr_top.specs.Stages.{IsBeforeInput, IsWorkEnded, stage_of}
 use Rattle.fdr_top.specs.Stages.{Ending, all_done, input_ended, input_too_long, input_without_cells, output_cut, recording_cut}
 use Rattle.fdr_top.specs.Answers.{HasImage, KeepsInputAndFaults, ListsBlocks, PullsBits, PullsInput, RecordsImage}
-use Rattle.fdr_top.specs.Limits.{most_input_bytes, piece_bytes}
+use Rattle.fdr_io.specs.Limits.{piece_bytes}
+use Rattle.fdr_pieces.specs.Limits.{most_input_bytes}
 use Rattle.fdr_top.specs.Runs.{WorkRun}
 use Rattle.fdr_top.specs.declared.outcome.Outcome.{Outcome}
 use Rattle.fdr_top.specs.declared.outcome.Outcome.TheVariants as outcome

@@ -1,12 +1,11 @@
 pub mod Outcome
-pub mod Limits
 pub mod Tables
 pub mod Stages
 pub mod Answers
 pub mod Runs
 pub mod Refusals
+pub mod Ends
 pub mod Traces
-pub mod Lag
 pub mod Streaming
 pub mod Check
 pub mod InputTexts
@@ -20,8 +19,6 @@ pub mod Record
 pub mod List
 pub mod Drill
 pub mod Coding
-pub mod Supply
-pub mod Recording
 pub mod Leaves
 pub mod Complete
 pub mod Commands

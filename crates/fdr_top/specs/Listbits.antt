@@ -5,7 +5,7 @@ use Rattle.fdr_deck.specs.State.{State, Tells}
 use Rattle.fdr_table.specs.Rows.{TableRows}
 use Rattle.fdr_readout.specs.Listing.{decided_listing, listing_of}
 use Rattle.fdr_pieces.specs.Pieces.{before_last}
-use Rattle.fdr_top.specs.Limits.{most_input_bytes}
+use Rattle.fdr_pieces.specs.Limits.{most_input_bytes}
 use Rattle.fdr_top.specs.InputTexts.{WritesOfInput}
 use Rattle.fdr_top.specs.declared.outcome.Outcome.{Outcome}
 use Rattle.fdr_top.specs.declared.outcome.Outcome.TheVariants as outcome

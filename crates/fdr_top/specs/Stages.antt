@@ -22,6 +22,7 @@ pub data Stage : Type 0 where
   at_work : Ending → Stage
   out_of_memory : Stage
 
+-- the step at which an answer comes
 abbrev pub stage_of : Outcome → Stage
 stage_of outcome.Done = at_work all_done
 stage_of outcome.Usage = at_words
@@ -105,14 +106,6 @@ HasRecordedAll input_without_cells = ⊥
 HasRecordedAll output_cut = Unit {0}
 HasRecordedAll recording_cut = ⊥
 
-abbrev pub IsCutRecording : Ending → Type 0
-IsCutRecording all_done = ⊥
-IsCutRecording input_ended = ⊥
-IsCutRecording input_too_long = ⊥
-IsCutRecording input_without_cells = ⊥
-IsCutRecording output_cut = ⊥
-IsCutRecording recording_cut = Unit {0}
-
 -- the answers that reading the table gives
 abbrev pub IsOfTable : Outcome → Type 0
 IsOfTable answer = IsStageOfTable (stage_of answer)
@@ -140,7 +133,3 @@ EndsReading answer = IsWorkEnded HasReadInput (stage_of answer)
 -- the answers after which all of a trace is recorded that there was to record; a drill's line alone can fail to be written
 abbrev pub EndsRecording : Outcome → Type 0
 EndsRecording answer = IsWorkEnded HasRecordedAll (stage_of answer)
-
--- the answers that cut a recording short
-abbrev pub CutsRecording : Outcome → Type 0
-CutsRecording answer = IsWorkEnded IsCutRecording (stage_of answer)

@@ -7,23 +7,15 @@ use Rattle.fdr_deck.specs.State.{State, Tells}
 use Rattle.fdr_bus.specs.declared.BusRecord.{BusRecord}
 use Rattle.fdr_bus.specs.Records.{good_prefix, trace_fault}
 use Rattle.fdr_bus.specs.declared.TraceFault.{TraceFault}
-use Rattle.fdr_bus.specs.declared.TraceFault.TheVariants as trace
 use Rattle.fdr_table.specs.Rows.{TableRows}
 use Rattle.fdr_sampler.specs.Exchange.{AreExchanged}
 use Rattle.fdr_sampler.specs.Stream.{stream_of}
 use Rattle.fdr_readout.specs.Listing.{listing_of}
 use Rattle.fdr_readout.specs.SampledRows.{sampled_listing}
 use Rattle.fdr_trace.specs.Pulls.{PullsUntilDecided}
-use Rattle.fdr_trace.specs.declared.TraceStop.{TraceStop}
-use Rattle.fdr_trace.specs.declared.TraceStop.TheVariants as stop
 use Rattle.fdr_top.specs.Traces.{EndsTrace}
 use Rattle.fdr_top.specs.declared.outcome.Outcome.{Outcome}
 use Rattle.fdr_top.specs.declared.outcome.Outcome.TheVariants as outcome
-
--- the answer where no further record of a trace comes and all was written
-abbrev pub answer_of_stop : TraceStop → Outcome
-answer_of_stop (stop.Refused index why) = outcome.TraceRefused index why
-answer_of_stop stop.Failed = outcome.ReadFault input.Line
 
 -- a front part of the recording of all good records that the input has was written
 abbrev pub WritesStreamPart : TableRows → State → Option (List ℕ) → Option (List ℕ) → Type 0

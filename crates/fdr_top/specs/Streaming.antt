@@ -8,6 +8,7 @@ use Rattle.fdr_deck.specs.State.{State, Tells}
 use Rattle.fdr_bus.specs.declared.TraceFault.{TraceFault}
 use Rattle.fdr_bus.specs.declared.TraceFault.TheVariants as trace
 use Rattle.fdr_bus.specs.Records.{IsDecided, good_prefix, has_end, last_time, time_of, trace_fault}
+use Rattle.fdr_slot.specs.Limits.{most_payload_bytes}
 use Rattle.fdr_trace.specs.Pulls.{PullsUntilDecided}
 use Rattle.fdr_trace.specs.Reading.{RepresentsTrace}
 use Rattle.fdr_words.specs.Forms.{stream_line}
@@ -24,11 +25,11 @@ use Rattle.fdr_stream.specs.Past.{StreamPast, stream_made, RepresentsStream}
 
 -- these records were taken, and the blocks of 4,096 bytes that are due at them were given
 abbrev pub past_of : TableRows → List BusRecord → StreamPast
-past_of t records = record { table = t; payload = 4096; records = records; begun = None; blocks = due_blocks t 4096 records }
+past_of t records = record { table = t; payload = most_payload_bytes; records = records; begun = None; blocks = due_blocks t most_payload_bytes records }
 
 -- the text of these blocks
 abbrev pub due_text : TableRows → List BusRecord → List ℕ
-due_text t records = take (4096 * due_blocks t 4096 records) (stream_of t records)
+due_text t records = take (most_payload_bytes * due_blocks t most_payload_bytes records) (stream_of t records)
 
 -- The records were fed, and all blocks that are due were written.
 pub record IsStreamed (k : StreamKept) (t : TableRows) (records : List BusRecord) (written_before written_now : Option (List ℕ)) : Type 0 where
@@ -44,7 +45,7 @@ pub record ComesNext (records : List BusRecord) (r : BusRecord) : Type 0 where
 -- Nothing was pulled of the trace and nothing drawn.
 pub record IsUnbegun (r : Recording) (t : TableRows) : Type 0 where
   pub trace : RepresentsTrace r.trace [] []
-  pub stream : RepresentsStream r.stream (stream_made t 4096)
+  pub stream : RepresentsStream r.stream (stream_made t most_payload_bytes)
 
 -- the good records of these bytes were fed, and the answer is why there are no more
 pub record IsStreamedTo (t : TableRows) (tells : Tells) (old new : State) (k : StreamKept) (written_before written_now : Option (List ℕ)) (answer : Outcome)

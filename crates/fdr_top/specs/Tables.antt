@@ -10,7 +10,7 @@ use Rattle.fdr_load.specs.Tables.{IsAccepted, IsTableRefused, table_in}
 use Rattle.fdr_load.specs.declared.load.LoadFault.{LoadFault}
 use Rattle.fdr_load.specs.declared.load.LoadFault.TheVariants as load
 use Rattle.fdr_top.specs.Stages.{IsOfTable, IsPastTable}
-use Rattle.fdr_top.specs.Limits.{piece_bytes}
+use Rattle.fdr_io.specs.Limits.{piece_bytes}
 use Rattle.fdr_top.specs.declared.outcome.Outcome.{Outcome}
 use Rattle.fdr_top.specs.declared.outcome.Outcome.TheVariants as outcome
 

@@ -10,19 +10,20 @@ ghost use Rattle.fdr_top.specs.Answers.{IsOwn, KeepsInputAndFaults};
 ghost use Rattle.fdr_top.specs.Coding.{HasDecoded, SinkState, StopsDecoding, HasMissed};
 ghost use Rattle.fdr_top.specs.Commands.{Works};
 ghost use Rattle.fdr_top.specs.Decode.{DecodesLevels};
-ghost use Rattle.fdr_top.specs.Limits.{most_input_bytes, piece_bytes};
+ghost use Rattle.fdr_io.specs.Limits.{piece_bytes};
+ghost use Rattle.fdr_pieces.specs.Limits.{most_input_bytes};
 ghost use Rattle.fdr_biphase.specs.Packed.{answered_byte, decoded_bytes};
 ghost use Rattle.fdr_io.specs.Output.{Emits, EmitsPart};
 ghost use Rattle.fdr_biphase.specs.Reading.{RepresentsPacker};
 ghost use Rattle.fdr_io.specs.Told.{followed_by};
 ghost use Rattle.fdr_top.specs.InputTexts.{WritesFront};
 
-use crate::input_end::{MAX_INPUT_BYTES, answer_of};
+use crate::input_end::answer_of;
 use crate::outcome::Outcome;
 use fdr_biphase::LevelReader;
 use fdr_deck::Deck;
-use fdr_io::{Failed, OutBuffer, Sink};
-use fdr_pieces::{PieceTaker, take_pieces};
+use fdr_io::{Failed, OutBuffer, PIECE, Sink};
+use fdr_pieces::{MAX_INPUT_BYTES, PieceTaker, take_pieces};
 use std::alloc::Global;
 
 /// Decodes the pieces of an input. The bits are gathered, and go out where no more of them fit.
@@ -66,36 +67,23 @@ fn add_answer<O: Sink>(text: &mut OutBuffer, byte: Option<u8>, out: &mut O) -> R
 }
 
 impl Decoding {
-    /// Decodes the levels of a byte.
-    fn add_byte<O: Sink>(&mut self, levels: u8, out: &mut O) -> Result<(), Cut>
-        requires { (bytes : List ℕ) × (before : SinkState) × HasDecoded self.old bytes before (record { written = O.written out.old; faults = O.faults out.old })
-            × (length bytes ≤ most_input_bytes) }
-        ensures all { (bytes : List ℕ) (before : SinkState) → HasDecoded self.old bytes before (record { written = O.written out.old; faults = O.faults out.old })
-            → OnOk result (HasDecoded self.new (bytes ++ levels ∷ []) before (record { written = O.written out.new; faults = O.faults out.new })) }
-        ensures part { (bytes : List ℕ) (before : SinkState) → HasDecoded self.old bytes before (record { written = O.written out.old; faults = O.faults out.old })
-            → IfErr result (λ stop. StopsDecoding self.new stop (bytes ++ levels ∷ []) before (record { written = O.written out.new; faults = O.faults out.new })) }
-    {
-        let given = self.reader.byte(levels);
-        add_answer(&mut self.text, given.byte, out)?;
-        match given.missing {
-            None => Ok(()),
-            Some(missing) => Err(Cut::Missing(missing.at)),
-        }
-    }
-
     /// Decodes the levels of a piece.
     fn add<O: Sink>(&mut self, piece: &[u8], out: &mut O) -> Result<(), Cut>
-        requires { (bytes : List ℕ) × (before : SinkState) × HasDecoded self.old bytes before (record { written = O.written out.old; faults = O.faults out.old })
+        requires piece { length piece.now ≤ piece_bytes }
+        requires reads { (bytes : List ℕ) × (before : SinkState) × HasDecoded self.old bytes before (record { written = O.written out.old; faults = O.faults out.old })
             × (length bytes + length piece.now ≤ most_input_bytes) }
         ensures all { (bytes : List ℕ) (before : SinkState) → HasDecoded self.old bytes before (record { written = O.written out.old; faults = O.faults out.old })
             → OnOk result (HasDecoded self.new (bytes ++ piece.now) before (record { written = O.written out.new; faults = O.faults out.new })) }
         ensures part { (bytes : List ℕ) (before : SinkState) → HasDecoded self.old bytes before (record { written = O.written out.old; faults = O.faults out.old })
             → IfErr result (λ stop. StopsDecoding self.new stop (bytes ++ piece.now) before (record { written = O.written out.new; faults = O.faults out.new })) }
     {
-        for levels in piece {
-            self.add_byte(*levels, out)?;
+        let mut bytes = [0; PIECE];
+        let filled = self.reader.bytes(piece, &mut bytes);
+        self.text.add(out, &bytes[..filled.count])?;
+        match filled.missing {
+            None => Ok(()),
+            Some(missing) => Err(Cut::Missing(missing.at)),
         }
-        Ok(())
     }
 
     /// Writes what waits, and the last bits, which fill no byte of themselves.

@@ -22,16 +22,16 @@ ghost use Rattle.fdr_recover.specs.Payloads.{payloads_of};
 ghost use Rattle.fdr_top.specs.Commands.{Works};
 ghost use Rattle.fdr_top.specs.Refusals.{HasHeader};
 
+use crate::ends::session_refusal;
 use crate::listing::{BlockReader, ImageReader, open_image, take_blocks};
 use crate::outcome::Outcome;
-use crate::recording::record_source;
-use crate::supply::RecordSource;
 use fdr_check::Sound;
 use fdr_deck::Deck;
 use fdr_gen::Gen;
 use fdr_io::{Failed, NullSink, Sink, write_whole};
 use fdr_line::Line;
 use fdr_readout::Summary;
+use fdr_recorder::record_source;
 use fdr_recover::BlocksFault;
 use fdr_slot::Header;
 use std::alloc::Global;
@@ -135,13 +135,12 @@ fn drill_image<D: Deck, O: Sink>(
         Ok(reader) => reader,
         Err(answer) => return answer,
     };
-    let Ok(generator) = Gen::new(alloc, sound, seed, frames) else {
+    let Ok(mut generator) = Gen::new(alloc, sound, seed, frames) else {
         return Outcome::NoMemory;
     };
-    let mut source = RecordSource::Generator(generator);
-    let recorded = match record_source(alloc, sound, &mut source, deck) {
+    let recorded = match record_source(alloc, sound, &mut generator, deck) {
         Ok(recorded) => recorded,
-        Err(answer) => return answer,
+        Err(fault) => return session_refusal(fault),
     };
     let ImageReader { header, events } = reader;
     let mut reader = BlockReader {

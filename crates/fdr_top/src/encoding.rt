@@ -1,6 +1,6 @@
 //! The levels of the bits of a deck's input.
 
-ghost use Rattle.std.specs.Prelude.{◌≡◌, ◌≢◌, ◌+◌, ◌≤◌, ◌++◌, ◌∷◌, ℕ, List, [], OnErr, OnOk, IfOk, ◌⊎◌};
+ghost use Rattle.std.specs.Prelude.{◌≡◌, ◌≢◌, ◌+◌, ◌≤◌, ◌++◌, ℕ, List, [], length, OnErr, OnOk, IfOk, ◌⊎◌};
 ghost use Rattle.fdr_io.specs.Faults.{Rose};
 ghost use Rattle.fdr_io.specs.declared.Input.TheVariants as input;
 ghost use Rattle.fdr_deck.specs.Calls.{LeavesDisk};
@@ -10,16 +10,20 @@ ghost use Rattle.fdr_top.specs.Answers.{IsOwn, KeepsInputAndFaults};
 ghost use Rattle.fdr_top.specs.Coding.{HasEncoded, SinkState, StopsWriting};
 ghost use Rattle.fdr_top.specs.Commands.{Works};
 ghost use Rattle.fdr_top.specs.Encode.{EncodesInput, levels_text};
-ghost use Rattle.fdr_top.specs.Limits.{most_input_bytes, piece_bytes};
+ghost use Rattle.fdr_io.specs.Limits.{piece_bytes};
+ghost use Rattle.fdr_pieces.specs.Limits.{most_input_bytes};
 ghost use Rattle.fdr_top.specs.InputTexts.{answer_of};
 
-use crate::input_end::{MAX_INPUT_BYTES, answer_of};
+use crate::input_end::answer_of;
 use crate::outcome::Outcome;
 use fdr_biphase::Encoder;
 use fdr_deck::Deck;
 use fdr_io::{Failed, OutBuffer, Sink};
-use fdr_pieces::{InputEnd, PieceTaker, take_pieces};
+use fdr_pieces::{InputEnd, MAX_INPUT_BYTES, PieceTaker, take_pieces};
 use std::alloc::Global;
+
+/// How many bytes the levels of a piece fill at most.
+const PIECE_LEVELS: usize = 8192;
 
 /// Encodes the pieces of an input. The levels are gathered, and go out where no more of them fit.
 #[derive(Drop)]
@@ -31,16 +35,15 @@ struct Encoding {
 impl Encoding {
     /// Encodes a piece.
     fn add<O: Sink>(&mut self, piece: &[u8], out: &mut O) -> Result<(), Failed>
+        requires { length piece.now ≤ piece_bytes }
         ensures all { (bytes : List ℕ) (before : SinkState) → HasEncoded self.old bytes before (record { written = O.written out.old; faults = O.faults out.old })
             → OnOk result (HasEncoded self.new (bytes ++ piece.now) before (record { written = O.written out.new; faults = O.faults out.new })) }
         ensures part { (bytes : List ℕ) (before : SinkState) → HasEncoded self.old bytes before (record { written = O.written out.old; faults = O.faults out.old })
             → OnErr result (StopsWriting levels_text (bytes ++ piece.now) before (record { written = O.written out.new; faults = O.faults out.new })) }
     {
-        for byte in piece {
-            let levels = self.encoder.byte(*byte);
-            self.text.add(out, &levels)?;
-        }
-        Ok(())
+        let mut levels = [0; PIECE_LEVELS];
+        self.encoder.bytes(piece, &mut levels);
+        self.text.add(out, &levels[..2 * piece.len()])
     }
 }
 

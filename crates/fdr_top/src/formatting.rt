@@ -4,7 +4,8 @@ ghost use Rattle.std.specs.Prelude.{◌≡◌, ◌≤◌, ℕ, List, Option, ◌
 ghost use Rattle.fdr_frame.specs.WordCount.{IsWordCount};
 ghost use Rattle.fdr_top.specs.Answers.{IsOwn};
 ghost use Rattle.fdr_top.specs.Format.{Makes, new_header};
-ghost use Rattle.fdr_words.specs.Forms.{format_image, least_payload, least_slots, most_payload, most_slots};
+ghost use Rattle.fdr_slot.specs.Limits.{least_payload_bytes, least_slot_count, most_payload_bytes, most_slot_count};
+ghost use Rattle.fdr_words.specs.Forms.{format_image};
 ghost use Rattle.fdr_top.specs.Commands.{Works};
 
 use crate::outcome::Outcome;
@@ -28,10 +29,10 @@ fn new_header(sound: &Sound, slots: u32, payload: u32) -> Header
 
 /// Makes an image without blocks on a disk of length 0, and gives the answer.
 fn make_image<D: Deck>(sound: &Sound, slots: u32, payload: u32, deck: &mut D) -> Outcome
-    requires least_slots { least_slots ≤ slots }
-    requires most_slots { slots ≤ most_slots }
-    requires least_payload { least_payload ≤ payload }
-    requires most_payload { payload ≤ most_payload }
+    requires least_slots { least_slot_count ≤ slots }
+    requires most_slots { slots ≤ most_slot_count }
+    requires least_payload { least_payload_bytes ≤ payload }
+    requires most_payload { payload ≤ most_payload_bytes }
     requires word_count { IsWordCount sound.now.frame.words }
     ensures answer { (path image : List ℕ) → IsOwn (format_image path image slots payload) result }
     ensures makes { Makes (new_header slots payload sound.now.frame.words) D.tells (D.state deck.old) (D.state deck.new) result }
@@ -47,10 +48,10 @@ fn make_image<D: Deck>(sound: &Sound, slots: u32, payload: u32, deck: &mut D) ->
 
 /// `format`: makes an image without blocks for a table's frames.
 pub fn format<D: Deck>(sound: &Sound, slots: u32, payload: u32, deck: &mut D) -> Outcome
-    requires least_slots { least_slots ≤ slots }
-    requires most_slots { slots ≤ most_slots }
-    requires least_payload { least_payload ≤ payload }
-    requires most_payload { payload ≤ most_payload }
+    requires least_slots { least_slot_count ≤ slots }
+    requires most_slots { slots ≤ most_slot_count }
+    requires least_payload { least_payload_bytes ≤ payload }
+    requires most_payload { payload ≤ most_payload_bytes }
     requires word_count { IsWordCount sound.now.frame.words }
     ensures works { (path image : List ℕ) (written : Option (List ℕ)) (faults : ℕ)
         → Works (format_image path image slots payload) sound.now (record {

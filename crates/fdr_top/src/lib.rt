@@ -8,6 +8,7 @@ mod checking;
 mod decoding;
 mod drilling;
 mod encoding;
+mod ends;
 mod formatting;
 mod input_end;
 mod list_bits;
@@ -17,7 +18,6 @@ mod outcome;
 mod recording;
 mod recovering;
 mod streaming;
-mod supply;
 mod top;
 
 pub use outcome::Outcome;

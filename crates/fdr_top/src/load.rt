@@ -11,7 +11,7 @@ ghost use Rattle.fdr_check.specs.Soundness.{IsSound};
 ghost use Rattle.fdr_load.specs.Limits.{TakesAtMost};
 ghost use Rattle.fdr_load.specs.Tables.{IsAccepted, IsTableRefused, table_in};
 ghost use Rattle.fdr_top.specs.Stages.{IsOfTable};
-ghost use Rattle.fdr_top.specs.Limits.{piece_bytes};
+ghost use Rattle.fdr_io.specs.Limits.{piece_bytes};
 ghost use Rattle.fdr_top.specs.Tables.{load_answer};
 
 use crate::outcome::Outcome;

@@ -49,7 +49,7 @@ pub enum Outcome {
     WriteFault,
     /// The disk failed.
     DiskFault,
-    /// The input has more than 268,435,456 bytes; what is written of so many was written.
+    /// The input has more than 268,435,456 bytes; the text of the first 268,435,456 was written.
     TooLong,
     /// There was not enough memory.
     NoMemory,

@@ -8,7 +8,7 @@ ghost use Rattle.fdr_sampler.specs.Stream.{stream_of};
 ghost use Rattle.fdr_bus.specs.declared.BusRecord.{BusRecord};
 ghost use Rattle.fdr_stream.specs.Past.{RepresentsStream};
 ghost use Rattle.fdr_top.specs.Answers.{IsOwn, KeepsInputAndFaults};
-ghost use Rattle.fdr_top.specs.Stream.{Streams, answer_of_stop, WritesStreamPart};
+ghost use Rattle.fdr_top.specs.Stream.{Streams, WritesStreamPart};
 ghost use Rattle.fdr_top.specs.Streaming.{past_of, due_text, ComesNext, IsStreamed, IsStreamedTo, IsStreamedPart, IsUnbegun};
 ghost use Rattle.fdr_table.specs.Rows.{TableRows};
 ghost use Rattle.fdr_words.specs.Forms.{stream_line};
@@ -16,18 +16,20 @@ ghost use Rattle.fdr_top.specs.Commands.{Works};
 ghost use Rattle.fdr_table.specs.Ranges.{IsInRange};
 ghost use Rattle.fdr_check.specs.Soundness.{IsSound};
 
+use crate::ends::answer_of_stop;
 use crate::outcome::Outcome;
 use fdr_bus::{BusRecord, RecordKind};
 use fdr_check::Sound;
 use fdr_deck::Deck;
 use fdr_io::{Failed, Input, Sink, write_whole};
+use fdr_slot::MAX_PAYLOAD;
 use fdr_stream::{Fed, Stream};
 use fdr_table::NoMemory;
-use fdr_trace::{TraceLine, TraceStop};
+use fdr_trace::TraceLine;
 use std::alloc::Global;
 
 /// How many bytes of the stream are written at a time.
-const PAYLOAD: usize = 4096;
+const PAYLOAD: usize = MAX_PAYLOAD;
 
 /// More blocks than a recording has.
 const MANY_BLOCKS: u32 = 1_000_000;
@@ -93,16 +95,6 @@ fn write_rest<O: Sink>(stream: &mut Stream, block: &mut [u8], out: &mut O) -> Re
 {
     let count = stream.finish(block);
     write_whole(out, &block[..count])
-}
-
-/// The answer where no further record of a trace comes and all was written.
-pub fn answer_of_stop(stop: TraceStop) -> Outcome
-    ensures { result ≡ answer_of_stop stop }
-{
-    match stop {
-        TraceStop::Refused { index, fault } => Outcome::TraceRefused { index, fault },
-        TraceStop::Failed => Outcome::ReadFault(Input::Line),
-    }
 }
 
 /// Streams the records of a trace up to its end, or to where no further one comes, and gives the answer. The last bytes,

@@ -1,5 +1,6 @@
 -- The moments of a call that reads the next record of a trace.
 use Rattle.std.specs.Prelude.{◌≡◌, ◌⊎◌, ℕ, ◌+◌, ◌-◌, ◌<◌, ◌≤◌, List, ◌++◌, length, take}
+use Rattle.fdr_io.specs.Limits.{piece_bytes}
 use Rattle.fdr_bus.specs.declared.BusRecord.{BusRecord}
 use Rattle.fdr_bus.specs.Records.{IsDecided, good_prefix}
 use Rattle.fdr_deck.specs.State.{State, Tells, Moment}
@@ -11,7 +12,7 @@ use Rattle.fdr_deck.specs.Moments.{HasSamePulls, EachMoment}
 pub record IsNeededPull (start : ℕ) (bytes more : List ℕ) (records : List BusRecord) (before taken : ℕ) : Type 0 where
   pub begins : start ≤ before
   pub gave_bytes : before < taken
-  pub within_piece : taken ≤ before + 4096
+  pub within_piece : taken ≤ before + piece_bytes
   pub within : taken ≤ start + length more
   pub read : good_prefix (bytes ++ take (before - start) more) ≡ records
   pub undecided : IsDecided (bytes ++ take (before - start) more) → ⊥

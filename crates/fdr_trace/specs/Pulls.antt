@@ -1,5 +1,6 @@
 -- What is pulled of a trace.
 use Rattle.std.specs.Prelude.{◌≡◌, ℕ, ◌+◌, ◌-◌, ◌<◌, ◌≤◌, List, [], ◌++◌, length, take, IsTrue}
+use Rattle.fdr_io.specs.Limits.{piece_bytes}
 use Rattle.fdr_bus.specs.Records.{IsDecided}
 use Rattle.fdr_deck.specs.State.{State, Tells}
 use Rattle.fdr_deck.specs.Pull.{TakesInput}
@@ -7,7 +8,7 @@ use Rattle.fdr_deck.specs.Pull.{TakesInput}
 -- one pull that gave these bytes, at most 4,096 of them; none only at the input's end
 pub record PullsPiece (tells : Tells) (old new : State) (piece : List ℕ) : Type 0 where
   pub takes : TakesInput tells old new piece
-  pub within_piece : length piece ≤ 4096
+  pub within_piece : length piece ≤ piece_bytes
   pub began : 0 < length piece → new.pulled_before ≡ old.taken
   pub none : length piece ≡ 0 → new.pulled_before ≡ old.pulled_before
   pub end : length piece ≡ 0 → IsTrue tells.input → new.input ≡ []
@@ -20,6 +21,6 @@ pub record PullsUntilDecided (tells : Tells) (old new : State) (bytes more : Lis
   pub none : length more ≡ 0 → new.pulled_before ≡ old.pulled_before
   pub begins : 0 < length more → old.taken ≤ new.pulled_before
   pub gave_bytes : 0 < length more → new.pulled_before < new.taken
-  pub within_piece : 0 < length more → new.taken ≤ new.pulled_before + 4096
+  pub within_piece : 0 < length more → new.taken ≤ new.pulled_before + piece_bytes
   pub undecided : 0 < length more → IsDecided (bytes ++ take (new.pulled_before - old.taken) more) → ⊥
   pub faults : old.input_faults ≤ new.input_faults

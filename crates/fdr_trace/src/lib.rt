@@ -15,7 +15,7 @@ ghost use Rattle.fdr_trace.specs.Reading.{RepresentsTrace, IsNextRecord, IsTrace
 use circular_buffer::HeapCircularBuffer;
 use fdr_bus::{BusRecord, TraceFault, parse};
 use fdr_deck::Deck;
-use fdr_io::Failed;
+use fdr_io::{Failed, PIECE};
 use std::alloc::{AllocError, Global};
 use std::marker::Model;
 
@@ -24,9 +24,6 @@ pub const MAX_RECORDS: u64 = 4_294_967_296;
 
 /// How many bytes a record has.
 const RECORD: usize = 16;
-
-/// How many bytes are pulled at a time, at most.
-const PIECE: usize = 4096;
 
 /// Why no further record of a trace comes.
 #[derive(Clone, Copy, Debug, PartialEq, Eq)]
@@ -233,6 +230,3 @@ impl TraceLine {
         bytes
     }
 }
-
-#[cfg(test)]
-mod tests;

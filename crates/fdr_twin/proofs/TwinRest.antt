@@ -6,7 +6,7 @@ use Rattle.fdr_deck.specs.Disk.{KeepsDisk}
 use Rattle.fdr_deck.specs.declared.announced.Announced.{Announced}
 use Rattle.fdr_twin.specs.declared.calls.SideCall.{SideCall}
 use Rattle.fdr_deck.specs.Memory.{memory_state, IsEntered, left_in}
-use Rattle.fdr_twin.proofs.MemoryDisk.{keeps_disk_pass}
+use Rattle.fdr_deck.proofs.MemoryDisk.{keeps_disk_pass}
 use Rattle.fdr_twin.specs.declared.side.Side.{Side}
 use Rattle.fdr_twin.specs.declared.side.Side.TheVariants.{First, Second}
 use Rattle.fdr_twin.specs.Pair.{PairMoment, other_side, disk_on, image_on, faults_on}

@@ -8,8 +8,8 @@ use Rattle.std.proofs.Common.{Vec}
 use Rattle.std.specs.declared.alloc.Global.{Global}
 use Rattle.fdr_deck.specs.declared.calls.Entry.{Entry}
 use Rattle.fdr_deck.specs.Memory.{HasOneCallMore, IsEntered, IsUnentered, KeepsPulled, FitsDisk, AreInside, held_by, held_after, held_in, current}
-use Rattle.fdr_twin.proofs.MemoryCalls.{held_push}
-use Rattle.fdr_twin.proofs.MemoryStops.{AreInside-push}
+use Rattle.fdr_deck.proofs.MemoryCalls.{held_push}
+use Rattle.fdr_deck.proofs.MemoryStops.{AreInside-push}
 use Rattle.fdr_twin.specs.declared.calls.Snapshot.{Snapshot}
 use Rattle.fdr_twin.specs.TwinFaces.{entries_long, entries_push}
 use Rattle.fdr_twin.specs.declared.side.Side.{Side}

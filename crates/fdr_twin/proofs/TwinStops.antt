@@ -2,7 +2,7 @@
 use Rattle.std.proofs.Common.{◌≡◌, ℕ, zero, suc, ◌<◌, List, [], ◌∷◌, length, take, get_or, refl, sym, ap, ◌∙◌, subst, ◌≤◌, arith}
 use Rattle.std.proofs.lemmas.List.{take_all}
 use Rattle.fdr_deck.specs.Memory.{left_after, held_after}
-use Rattle.fdr_twin.proofs.MemoryStops.{IsLeft}
+use Rattle.fdr_deck.proofs.MemoryStops.{IsLeft}
 use Rattle.fdr_deck.specs.declared.calls.Entry.{Entry}
 use Rattle.fdr_twin.specs.declared.side.Side.{Side}
 use Rattle.fdr_twin.specs.declared.calls.TwinEntry.{TwinEntry}

@@ -3,14 +3,11 @@
 #![tactic(auto)]
 
 mod calls;
-mod image;
 mod law;
 mod memory;
 mod side;
 mod stops;
 mod sure;
-#[cfg(test)]
-mod tests;
 mod twin;
 
 pub use law::calls_serve_one_side;

@@ -23,10 +23,9 @@ ghost use Rattle.fdr_twin.specs.TwinFaces.{twin_faces};
 ghost use Rattle.fdr_twin.specs.TwinSound.{twin_is_sound, twin_rest_here, twin_rest_then};
 
 use crate::calls::{SideCall, Snapshot, Span, TwinEntry};
-use crate::image::{copy_from, copy_of, patch, zeros_of};
 use crate::stops::stop_side;
 use crate::{Side, Twin};
-use fdr_deck::{Announced, Deck, NoMemory, Tear};
+use fdr_deck::{Announced, Deck, NoMemory, Tear, copy_from, copy_of, patch, zeros_of};
 use fdr_io::{Failed, copy_next};
 use std::alloc::Global;
 use std::marker::Model;

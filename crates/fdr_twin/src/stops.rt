@@ -10,8 +10,7 @@ ghost use Rattle.fdr_twin.specs.TwinMemory.{call_of, call_on, entries_on};
 
 use crate::Side;
 use crate::calls::{SideCall, TwinEntry};
-use crate::image::{copy_of, fill, patch, zeros_of};
-use fdr_deck::{NoMemory, Tear};
+use fdr_deck::{NoMemory, Tear, copy_of, fill, patch, zeros_of};
 use std::alloc::Global;
 
 // Tears a range that these bytes were to be written to.

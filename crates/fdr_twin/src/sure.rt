@@ -13,9 +13,8 @@ ghost use Rattle.fdr_twin.specs.Same.{Turns};
 ghost use Rattle.fdr_twin.specs.Rest.{HasSameRest};
 ghost use Rattle.fdr_twin.specs.SureSides.{sure_image, sure_on, sure_twin_state, sure_pair, sure_faces, sure_twin_is_sound, sure_rest_here, sure_rest_then};
 
-use crate::image::{copy_from, patch};
 use crate::{Side, Twin};
-use fdr_deck::{Announced, Deck};
+use fdr_deck::{Announced, Deck, copy_from, patch};
 use fdr_io::{Failed, copy_next};
 use std::marker::Model;
 

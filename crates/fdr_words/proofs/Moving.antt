@@ -10,7 +10,8 @@ use Rattle.fdr_words.specs.declared.uses.OptionName.TheVariants as name
 use Rattle.fdr_words.specs.Words.{Word, plain, named, given, wrong, is_plain, word_meaning, value_after, Uses, no_uses, with_plain, with_value, followed}
 use Rattle.fdr_words.specs.Words.{uses_of, value_in}
 use Rattle.fdr_words.specs.Spelling.{option_word, Spelling, two_words, one_word, option_args, is_option_name, ends_in_option_name}
-use Rattle.fdr_words.specs.Forms.{form_with, form_of_uses, form_of, format_form, drill_form, least_slots, most_slots, least_payload, most_payload}
+use Rattle.fdr_slot.specs.Limits.{least_payload_bytes, least_slot_count, most_payload_bytes, most_slot_count}
+use Rattle.fdr_words.specs.Forms.{form_with, form_of_uses, form_of, format_form, drill_form}
 use Rattle.fdr_words.specs.Forms.{most_seed, least_drill_frames, most_drill_frames}
 use Rattle.fdr_words.proofs.UsesSteps.{given_step, then_some, where_some}
 
@@ -438,7 +439,8 @@ unfit_option how option value rest h = subst EachUnfit (sym (option_first how op
 
 -- no form has such a value
 no_ring : (table image slots payload : List ℕ) (b : Bool) → (has_minus (Some slots) || has_minus (Some payload)) ≡ true
-    → (if b then format_form table image (value_in least_slots most_slots slots) (value_in least_payload most_payload payload) else None) ≡ None
+    → (if b then format_form table image (value_in least_slot_count most_slot_count slots)
+    (value_in least_payload_bytes most_payload_bytes payload) else None) ≡ None
 no_ring table image slots payload false h = refl
 no_ring table image slots payload true h = go (starts_with_minus slots) (starts_with_minus payload) refl refl h
   where
@@ -447,12 +449,14 @@ no_ring table image slots payload true h = go (starts_with_minus slots) (starts_
     no_payload (Some n) = refl
 
     go : (p q : Bool) → starts_with_minus slots ≡ p → starts_with_minus payload ≡ q → (p || q) ≡ true
-        → format_form table image (value_in least_slots most_slots slots) (value_in least_payload most_payload payload) ≡ None
+        → format_form table image (value_in least_slot_count most_slot_count slots) (value_in least_payload_bytes most_payload_bytes payload) ≡ None
     go true q e f h =
-        ap (λ (o : Option ℕ). format_form table image o (value_in least_payload most_payload payload)) (no_number least_slots most_slots slots e)
+        ap (λ (o : Option ℕ). format_form table image o (value_in least_payload_bytes most_payload_bytes payload))
+        (no_number least_slot_count most_slot_count slots e)
     go false true e f h =
-        ap (λ (o : Option ℕ). format_form table image (value_in least_slots most_slots slots) o) (no_number least_payload most_payload payload f)
-        ∙ no_payload (value_in least_slots most_slots slots)
+        ap (λ (o : Option ℕ). format_form table image (value_in least_slot_count most_slot_count slots) o)
+        (no_number least_payload_bytes most_payload_bytes payload f)
+        ∙ no_payload (value_in least_slot_count most_slot_count slots)
     go false false e f h = cc
 
 no_drill : (table image seed frames : List ℕ) (b : Bool) → (has_minus (Some seed) || has_minus (Some frames)) ≡ true

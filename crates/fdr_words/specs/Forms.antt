@@ -1,6 +1,7 @@
 -- The forms of the arguments after the program's name.
 use Rattle.std.specs.Prelude.{ℕ, ◌≤◌, Bool, false, true, if◌then◌else◌, List, [], ◌∷◌, codes, bytes_eq, Option, Some, None}
 use Rattle.std.specs.Option.{option_and_then}
+use Rattle.fdr_slot.specs.Limits.{least_payload_bytes, least_slot_count, most_payload_bytes, most_slot_count}
 use Rattle.fdr_words.specs.Words.{Uses, uses_of, value_in}
 
 -- the forms, with the paths and numbers that they name
@@ -45,24 +46,11 @@ format_form table image None payload = None
 format_form table image (Some slots) None = None
 format_form table image (Some slots) (Some payload) = Some (format_image table image slots payload)
 
--- how many slots a ring may have, and how many bytes of payload
-abbrev pub least_slots : ℕ
-least_slots = 4
-
-abbrev pub most_slots : ℕ
-most_slots = 65536
-
-abbrev pub least_payload : ℕ
-least_payload = 64
-
-abbrev pub most_payload : ℕ
-most_payload = 4096
-
 -- the form of a command with two paths and the options of a ring
 abbrev pub ring_form : List ℕ → List ℕ → List ℕ → List ℕ → List ℕ → Option Form
 ring_form command table image slots payload =
     if bytes_eq command (codes "format")
-    then format_form table image (value_in least_slots most_slots slots) (value_in least_payload most_payload payload) else None
+    then format_form table image (value_in least_slot_count most_slot_count slots) (value_in least_payload_bytes most_payload_bytes payload) else None
 
 -- the drill of an image, where both numbers are within their bounds
 abbrev pub drill_form : List ℕ → List ℕ → Option ℕ → Option ℕ → Option Form
@@ -177,7 +165,7 @@ IsInBounds (list_bits table) = Unit {0}
 IsInBounds encode_bytes = Unit {0}
 IsInBounds decode_levels = Unit {0}
 IsInBounds (format_image table image slots payload) =
-    (least_slots ≤ slots) × (slots ≤ most_slots) × (least_payload ≤ payload) × (payload ≤ most_payload)
+    (least_slot_count ≤ slots) × (slots ≤ most_slot_count) × (least_payload_bytes ≤ payload) × (payload ≤ most_payload_bytes)
 IsInBounds (record_line table image) = Unit {0}
 IsInBounds (recover_image image) = Unit {0}
 IsInBounds (list_image table image) = Unit {0}

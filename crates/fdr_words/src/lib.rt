@@ -11,6 +11,7 @@ ghost use Rattle.fdr_words.specs.declared.WordsFault.TheVariants as fault;
 
 use crate::reader::read;
 use crate::uses::{PlainWords, Uses, uses_of};
+use fdr_slot::{MAX_PAYLOAD, MAX_SLOTS, MIN_PAYLOAD, MIN_SLOTS};
 use fdr_table::{NoMemory, PathText, number_in};
 use std::alloc::Global;
 
@@ -241,8 +242,8 @@ fn ring_request(
     if command != "format" {
         return Err(WordsFault::Usage);
     }
-    let slots = value_in(slots, 4, 65_536).ok_or(WordsFault::Usage)?;
-    let payload = value_in(payload, 64, 4_096).ok_or(WordsFault::Usage)?;
+    let slots = value_in(slots, MIN_SLOTS, MAX_SLOTS).ok_or(WordsFault::Usage)?;
+    let payload = value_in(payload, MIN_PAYLOAD, MAX_PAYLOAD as u32).ok_or(WordsFault::Usage)?;
     Ok(Request::FormatImage {
         table: PathText::new(alloc, table)?,
         image: PathText::new(alloc, image)?,
@@ -331,6 +332,3 @@ pub fn read_words(alloc: Global, args: &[String]) -> Result<Request, WordsFault>
         None => Err(WordsFault::Usage),
     }
 }
-
-#[cfg(test)]
-mod tests;

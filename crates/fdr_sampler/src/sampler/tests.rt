@@ -93,7 +93,7 @@ fn drawn_words(alloc: Global, sampler: Sampler, count: u32) -> Result<Vec<(u32, 
     while slot < count {
         words.push((slot, sampler.next_word()))?;
         slot += 1;
-        slot += sampler.draw_empty(count - slot);
+        slot += sampler.draw_empty_slots(count - slot);
     }
     Ok(words)
 }

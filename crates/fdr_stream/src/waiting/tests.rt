@@ -24,7 +24,7 @@ fn words_wait_as_their_pairs_are_packed(rt: HostRuntime) -> Result<(), Fail> {
     assert_eq!(rt; &out[6..9], pack_pair(0, 0xabc).as_slice());
     assert_eq!(rt; &out[9..], [7, 7, 7].as_slice());
     assert_eq!(rt; waiting.len(), 1);
-    waiting.pad();
+    waiting.fill_byte();
     assert_eq!(rt; waiting.len(), 2);
     waiting.give(2, &mut out);
     assert_eq!(rt; &out[..2], [0xff, 0xf].as_slice());

@@ -7,13 +7,13 @@ pub returns-in_err-ring-clause-serves : goal.returns-in_err-ring-clause-serves
 returns-in_err-ring-clause-serves g c =
     serves_side _ (IsAttaching c.args.h) _ _ _ _ _ _ (g.met.T.Twin.sound_pair c.args.twin.now) (g.met.T.Twin.sound_pair c.turn.new.self) c.turn.ensures.turns
     (g.met.T.Twin.faces c.turn.new.self) (g.met.T.Twin.faces c.attach.new.deck)
-    (g.met.T.Twin.leaves_rest c.turn.new.self c.attach.new.deck c.attach.ensures.rest) c.attach.ensures.disk_work
+    (g.met.T.Twin.leaves_rest c.turn.new.self c.attach.new.deck c.attach.ensures.rest) c.attach.ensures.changes.disk_work
 
 pub returns-clause-serves : goal.returns-clause-serves
 returns-clause-serves g c =
     serves_side _ (IsAttaching c.args.h) _ _ _ _ _ _ (g.met.T.Twin.sound_pair c.args.twin.now) (g.met.T.Twin.sound_pair c.turn.new.self) c.turn.ensures.turns
     (g.met.T.Twin.faces c.turn.new.self) (g.met.T.Twin.faces c.attach.new.deck)
-    (g.met.T.Twin.leaves_rest c.turn.new.self c.attach.new.deck c.attach.ensures.rest) c.attach.ensures.disk_work
+    (g.met.T.Twin.leaves_rest c.turn.new.self c.attach.new.deck c.attach.ensures.rest) c.attach.ensures.changes.disk_work
 
 pub returns-clause-fact : goal.returns-clause-fact
 returns-clause-fact g c =

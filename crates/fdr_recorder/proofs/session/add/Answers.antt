@@ -31,7 +31,7 @@ pub returns-in_err-prepared-clause-records : goal.returns-in_err-prepared-clause
 returns-in_err-prepared-clause-records g c =
     let s = g.D.Deck.state in
     RecordsFirstOf-unprepared g.D.Deck.tells c.args.ring.header c.args.ring.next (length c.args.bytes.now) (s c.args.deck.now) (s c.prepare.new.deck)
-    (g.met.D.Deck.sound c.args.deck.now) c.requires.fact c.prepare.ensures.extent c.prepare.ensures.disk_work _
+    (g.met.D.Deck.sound c.args.deck.now) c.requires.fact c.prepare.ensures.changes.extent c.prepare.ensures.changes.disk_work _
 
 pub returns-in_err-ring-clause-records : goal.returns-in_err-ring-clause-records
 returns-in_err-ring-clause-records g c =
@@ -42,9 +42,9 @@ returns-in_err-ring-clause-records g c =
     let ok = c.in_ok-prepared.ensures in
     let b : Block = record { number = next; payload = c.args.bytes.now } in
     RecordsFirstOf-prepared g.D.Deck.tells h next (length c.args.bytes.now) (s c.args.deck.now) (s c.prepare.new.deck)
-    (g.met.D.Deck.sound c.args.deck.now) c.requires.fact c.prepare.ensures.extent c.prepare.ensures.disk_work
-    b ok.settled ok.succeeds c.prepare.ensures.keeps ok.block (s c.commit.new.deck) c.commit.ensures.extent
-    (quiet_as _ h p.header next p.next _ _ ok.prepared.0 ok.prepared.1 c.commit.ensures.disk_work)
+    (g.met.D.Deck.sound c.args.deck.now) c.requires.fact c.prepare.ensures.changes.extent c.prepare.ensures.changes.disk_work
+    b ok.placed.settled ok.placed.succeeds c.prepare.ensures.changes.keeps ok.placed.block (s c.commit.new.deck) c.commit.ensures.changes.extent
+    (quiet_as _ h p.header next p.next _ _ ok.prepared.0 ok.prepared.1 c.commit.ensures.changes.disk_work)
 
 -- what a call that added its block recorded
 added : (g : Over) (c : After-announce g) → let s = g.D.Deck.state in
@@ -63,14 +63,14 @@ added g c =
     let announces : Announces (next + 1) (s c.commit.new.deck) (s c.announce.new.self) =
     subst (λ (n : ℕ). Announces n (s c.commit.new.deck) (s c.announce.new.self)) (c.next.ensures.number ∙ up) c.announce.ensures.announces in
     recorded-added g.D.Deck.tells h next (length c.args.bytes.now) (s c.args.deck.now) (s c.prepare.new.deck)
-    (g.met.D.Deck.sound c.args.deck.now) c.requires.fact c.prepare.ensures.extent c.prepare.ensures.disk_work
-    b ok.settled ok.succeeds c.prepare.ensures.keeps ok.block (s c.commit.new.deck) c.commit.ensures.extent
-    (quiet_as _ h p.header next p.next _ _ ok.prepared.0 ok.prepared.1 c.commit.ensures.disk_work)
+    (g.met.D.Deck.sound c.args.deck.now) c.requires.fact c.prepare.ensures.changes.extent c.prepare.ensures.changes.disk_work
+    b ok.placed.settled ok.placed.succeeds c.prepare.ensures.changes.keeps ok.placed.block (s c.commit.new.deck) c.commit.ensures.changes.extent
+    (quiet_as _ h p.header next p.next _ _ ok.prepared.0 ok.prepared.1 c.commit.ensures.changes.disk_work)
     (in_limits-is h c.args.ring.limits) done.settled done.succeeds
     (sure_as _ h c.in_ok-ring.ring.header (next + 1) c.in_ok-ring.ring.next _ (done.ring.0 ∙ ok.prepared.0) up done.fact)
-    ok.run
+    ok.placed.run
     (λ told. subst (λ (hh : Header). HasAdded hh b (s c.prepare.new.deck).held (s c.commit.new.deck).held) ok.prepared.0
-    (done.added told b (waits_as h p.header _ next p.next b ok.prepared.0 ok.prepared.1 (ok.block told))))
+    (done.added told b (waits_as h p.header _ next p.next b ok.prepared.0 ok.prepared.1 (ok.placed.block told))))
     (s c.announce.new.self) announces c.announce.ensures.disk
     c.announce.ensures.input c.announce.ensures.input_faults c.announce.ensures.time c.announce.ensures.moments
 

@@ -49,7 +49,7 @@ pub returns-clause-disk_work : goal.returns-clause-disk_work
 returns-clause-disk_work g c =
     let sound = g.met.D.Deck.sound c.args.deck.now in
     let at = goal.at.returns-clause-disk_work g c in
-    IsDiskWork-then _ _ _ _ _ _ _ sound (synced g at.After-sync (tail_laid g at.After-write)) c.open_gate.ensures.disk_work
+    IsDiskWork-then _ _ _ _ _ _ _ sound (synced g at.After-sync (tail_laid g at.After-write)) c.open_gate.ensures.changes.disk_work
     (λ told image torn. torn_stop _ _ _ _ torn)
     (λ told image turned.
     let bytes_told = sound.stops_need_bytes told in

@@ -1,100 +1,98 @@
-use Rattle.std.proofs.Common.{◌≡◌, ◌-◌, Some, sym, subst, arith}
+use Rattle.std.proofs.Common.{◌≡◌, ◌∙◌, length, sym, subst, arith}
 use Rattle.std.specs.Prelude.{IsTrue}
+use Rattle.fdr_deck.specs.Disk.{IsSettled}
+use Rattle.fdr_deck.specs.Calls.{Succeeds}
 use Rattle.fdr_deck.proofs.Moments.{IsDiskWork-keep}
-use Rattle.fdr_recover.specs.Images.{recovered_run}
-use Rattle.fdr_ring.specs.Gates.{waiting_block}
 use Rattle.fdr_ring.specs.Closing.{IsTurned}
 use Rattle.fdr_ring.specs.Bodies.{image_to_commit}
-use Rattle.fdr_ring.specs.Runs.{last_blocks}
-use Rattle.fdr_ring.specs.Rings.{IsPrepared}
-use Rattle.fdr_ring.proofs.Results.{always_ok}
-use Rattle.fdr_ring.proofs.Placing.{IsReady-deck, body_image, body_quiet, placing_image, placing_quiet, prepared_held}
+use Rattle.fdr_ring.specs.Rings.{IsPrepared, IsPreparing, ChangesImage, HasPlaced}
+use Rattle.fdr_ring.proofs.Results.{always_ok, map_both}
+use Rattle.fdr_ring.proofs.Placing.{IsReady, IsReady-deck, body_image, body_quiet, placing_image, placing_quiet, prepared_held}
 use Rattle.fdr_ring.proofs.Placing.{prepared_block, prepared_run, prepared_ring}
+use Rattle.fdr_ring.proofs.place.place_block.Given.{Over}
+use Rattle.fdr_ring.proofs.place.place_block.Goals.{After-write_body, After-close_open_gate, After-sync}
 use Rattle.fdr_ring.proofs.place.place_block.Goals as goal
 
-pub returns-in_err-write_body-clause-keeps : goal.returns-in_err-write_body-clause-keeps
-returns-in_err-write_body-clause-keeps g c told =
-    body_image _ _ _ _ _ (IsReady-deck _ _ _ _ _ c.requires.limits c.requires.fits
-    (g.met.D.Deck.sound c.args.deck.now) c.requires.fact told)
-    (c.write_body.ensures.torn told)
+-- the ring has room for the block
+ready : (g : Over) (c : After-write_body g) → IsTrue g.D.Deck.tells.bytes
+    → IsReady c.args.h.now c.args.next (length c.args.bytes.now) (g.D.Deck.state c.args.deck.now).held
+ready g c = IsReady-deck _ _ _ _ _ c.requires.limits c.requires.fits (g.met.D.Deck.sound c.args.deck.now) c.requires.fact
 
-pub returns-in_err-write_body-clause-disk_work : goal.returns-in_err-write_body-clause-disk_work
-returns-in_err-write_body-clause-disk_work g c =
-    let sound = g.met.D.Deck.sound c.args.deck.now in
-    body_quiet _ _ _ _ _ _ sound
-    (IsReady-deck _ _ _ _ _ c.requires.limits c.requires.fits sound c.requires.fact) c.write_body.ensures.disk_work
+pub returns-in_err-write_body-clause-changes : goal.returns-in_err-write_body-clause-changes
+returns-in_err-write_body-clause-changes g c =
+    let at = (goal.at.returns-in_err-write_body-clause-changes g c).After-write_body in
+    record {
+      keeps = λ told. body_image _ _ _ _ _ (ready g at told) (c.write_body.ensures.changes.keeps told);
+      extent = c.write_body.ensures.changes.extent;
+      disk_work = body_quiet _ _ _ _ _ _ (g.met.D.Deck.sound c.args.deck.now) (ready g at) c.write_body.ensures.changes.disk_work;
+    }
 
-pub returns-in_err-close_open_gate-clause-keeps : goal.returns-in_err-close_open_gate-clause-keeps
-returns-in_err-close_open_gate-clause-keeps g c told =
-    placing_image _ _ _ _ _ _ _ (IsReady-deck _ _ _ _ _ c.requires.limits c.requires.fits
-    (g.met.D.Deck.sound c.args.deck.now) c.requires.fact told)
-    (c.write_body.ensures.torn told) c.gate_at.ensures.at (c.close_open_gate.ensures.turned told)
+-- the body and the following gate, before they are synced
+closing : (g : Over) (b : After-write_body g) (c : After-close_open_gate g) → let s = g.D.Deck.state in
+    ChangesImage g.D.Deck.tells (IsPreparing c.args.h.now c.args.next (length c.args.bytes.now)) (s c.args.deck.now) (s c.close_open_gate.new.deck)
+closing g b c = record {
+  keeps = λ told. placing_image _ _ _ _ _ _ _ (IsReady-deck _ _ _ _ _ c.requires.limits c.requires.fits
+      (g.met.D.Deck.sound c.args.deck.now) c.requires.fact told)
+      (c.write_body.ensures.changes.keeps told) c.gate_at.ensures.at (c.close_open_gate.ensures.closes.turned told);
+  extent = c.close_open_gate.ensures.closes.extent ∙ c.write_body.ensures.changes.extent;
+  disk_work = placing_quiet _ _ _ _ _ _ _ _ (g.met.D.Deck.sound c.args.deck.now) (g.met.D.Deck.sound c.write_body.new.deck)
+      (IsReady-deck _ _ _ _ _ c.requires.limits c.requires.fits (g.met.D.Deck.sound c.args.deck.now) c.requires.fact)
+      c.gate_at.ensures.at c.write_body.ensures.changes.keeps c.write_body.ensures.changes.disk_work c.close_open_gate.ensures.closes.disk_work;
+}
 
-pub returns-in_err-close_open_gate-clause-disk_work : goal.returns-in_err-close_open_gate-clause-disk_work
-returns-in_err-close_open_gate-clause-disk_work g c =
-    let sound = g.met.D.Deck.sound c.args.deck.now in
-    placing_quiet _ _ _ _ _ _ _ _ sound (g.met.D.Deck.sound c.write_body.new.deck)
-    (IsReady-deck _ _ _ _ _ c.requires.limits c.requires.fits sound c.requires.fact)
-    c.gate_at.ensures.at c.write_body.ensures.torn c.write_body.ensures.disk_work c.close_open_gate.ensures.disk_work
+pub returns-in_err-close_open_gate-clause-changes : goal.returns-in_err-close_open_gate-clause-changes
+returns-in_err-close_open_gate-clause-changes g c =
+    let at = goal.at.returns-in_err-close_open_gate-clause-changes g c in
+    closing g at.After-write_body at.After-close_open_gate
 
-pub returns-clause-keeps : goal.returns-clause-keeps
-returns-clause-keeps g c told =
-    let turned = subst (IsTurned c.gate_at.result (g.D.Deck.state c.write_body.new.deck).held) (sym c.sync.ensures.held)
-    (c.close_open_gate.ensures.turned told) in
-    placing_image _ _ _ _ _ _ _ (IsReady-deck _ _ _ _ _ c.requires.limits c.requires.fits
-    (g.met.D.Deck.sound c.args.deck.now) c.requires.fact told)
-    (c.write_body.ensures.torn told) c.gate_at.ensures.at turned
+pub returns-clause-changes : goal.returns-clause-changes
+returns-clause-changes g c =
+    let s = g.D.Deck.state in
+    let at = goal.at.returns-clause-changes g c in
+    let before = closing g at.After-write_body at.After-close_open_gate in
+    record {
+      keeps = λ told. subst (IsPreparing c.args.h.now c.args.next (length c.args.bytes.now) (s c.args.deck.now).held) (sym c.sync.ensures.held)
+          (before.keeps told);
+      extent = c.sync.ensures.extent ∙ before.extent;
+      disk_work = IsDiskWork-keep _ _ _ _ _ (g.met.D.Deck.sound c.args.deck.now) (g.met.D.Deck.sound c.close_open_gate.new.deck)
+          before.disk_work c.sync.ensures.passes c.sync.ensures.moments c.sync.ensures.no_more;
+    }
 
-pub returns-clause-disk_work : goal.returns-clause-disk_work
-returns-clause-disk_work g c =
-    let sound = g.met.D.Deck.sound c.args.deck.now in
-    IsDiskWork-keep _ _ _ _ _ sound (g.met.D.Deck.sound c.close_open_gate.new.deck)
-    (placing_quiet _ _ _ _ _ _ _ _ sound (g.met.D.Deck.sound c.write_body.new.deck)
-    (IsReady-deck _ _ _ _ _ c.requires.limits c.requires.fits sound c.requires.fact)
-    c.gate_at.ensures.at c.write_body.ensures.torn c.write_body.ensures.disk_work c.close_open_gate.ensures.disk_work)
-    c.sync.ensures.passes c.sync.ensures.moments c.sync.ensures.no_more
+-- what the disk holds then
+held : (g : Over) (c : After-sync g) → IsTrue g.D.Deck.tells.bytes → (g.D.Deck.state c.sync.new.self).held
+    ≡ image_to_commit c.args.h.now c.args.next c.args.bytes.now (g.D.Deck.state c.args.deck.now).held
+held g c told =
+    prepared_held c.args.h.now c.args.next _ _ _ _ _ _ c.gate_at.ensures.at (c.in_ok-write_body.ensures.written told)
+    (c.in_ok-close_open_gate.ensures.closed.held told) c.sync.ensures.held
 
-pub returns-clause-held : goal.returns-clause-held
-returns-clause-held g c =
-    let old = (g.D.Deck.state c.args.deck.now).held in
-    let new = (g.D.Deck.state c.sync.new.self).held in
-    let Prepared : Type 0 = IsTrue g.D.Deck.tells.bytes
-    → new ≡ image_to_commit c.args.h.now c.args.next c.args.bytes.now old in
-    always_ok c.sync.result Prepared
-    (λ told. prepared_held c.args.h.now c.args.next _ _ _ _ _ _ c.gate_at.ensures.at
-    (c.in_ok-write_body.ensures.written told) (c.in_ok-close_open_gate.ensures.written told) c.sync.ensures.held)
-
-pub returns-clause-block : goal.returns-clause-block
-returns-clause-block g c =
-    let new = (g.D.Deck.state c.sync.new.self).held in
-    let Waits : Type 0 = IsTrue g.D.Deck.tells.bytes
-    → waiting_block c.args.h.now new c.args.next ≡ Some (record { number = c.args.next; payload = c.args.bytes.now }) in
-    always_ok c.sync.result Waits
-    (λ told. prepared_block _ _ _ _ _
-    (IsReady-deck _ _ _ _ _ c.requires.limits c.requires.fits
-    (g.met.D.Deck.sound c.args.deck.now) c.requires.fact told) c.requires.number c.requires.some_bytes
-    (prepared_held c.args.h.now c.args.next _ _ _ _ _ _ c.gate_at.ensures.at (c.in_ok-write_body.ensures.written told)
-    (c.in_ok-close_open_gate.ensures.written told) c.sync.ensures.held))
-
-pub returns-clause-run : goal.returns-clause-run
-returns-clause-run g c =
-    let run_of = recovered_run c.args.h.now in
-    let old = (g.D.Deck.state c.args.deck.now).held in
-    let Exact : Type 0 = IsTrue g.D.Deck.tells.bytes
-    → run_of (g.D.Deck.state c.sync.new.self).held ≡ last_blocks (c.args.h.now.slots - 2) (run_of old) in
-    always_ok c.sync.result Exact
-    (λ told. prepared_run _ _ c.args.bytes.now _ _
-    (IsReady-deck _ _ _ _ _ c.requires.limits c.requires.fits (g.met.D.Deck.sound c.args.deck.now) c.requires.fact told)
-    (prepared_held c.args.h.now c.args.next _ _ _ _ _ _ c.gate_at.ensures.at (c.in_ok-write_body.ensures.written told)
-    (c.in_ok-close_open_gate.ensures.written told) c.sync.ensures.held))
+pub returns-clause-placed : goal.returns-clause-placed
+returns-clause-placed g c =
+    let s = g.D.Deck.state in
+    let at = goal.at.returns-clause-placed g c in
+    let now = s c.sync.new.self in
+    let Settled : Type 0 = IsTrue g.D.Deck.tells.stops → IsSettled now in
+    let Synced : Type 0 = Succeeds (s c.close_open_gate.new.deck) now in
+    let Placed : Type 0 = HasPlaced g.D.Deck.tells c.args.h.now c.args.next c.args.bytes.now (s c.args.deck.now) now in
+    map_both c.sync.result Settled Synced Placed
+    (λ settled synced. record {
+      held = held g at.After-sync;
+      block = λ told. prepared_block _ _ _ _ _ (ready g at.After-write_body told) c.requires.number c.requires.some_bytes (held g at.After-sync told);
+      run = λ told. prepared_run _ _ c.args.bytes.now _ _ (ready g at.After-write_body told) (held g at.After-sync told);
+      settled = settled;
+      succeeds = record {
+        fresh = synced.fresh;
+        disk_faults = synced.disk_faults ∙ c.in_ok-close_open_gate.ensures.closed.succeeds.disk_faults
+            ∙ c.in_ok-write_body.ensures.succeeds.disk_faults;
+      };
+    })
+    c.sync.ensures.settles c.sync.ensures.succeeds
 
 pub returns-clause-fact : goal.returns-clause-fact
 returns-clause-fact g c =
-    let sound = g.met.D.Deck.sound c.args.deck.now in
+    let at = goal.at.returns-clause-fact g c in
     let Fact : Type 0 = IsPrepared g.D.Deck.tells c.args.h.now c.args.next (g.D.Deck.state c.sync.new.self) in
     always_ok c.sync.result Fact
     (prepared_ring _ _ _ c.args.bytes.now (g.D.Deck.state c.args.deck.now) _
-    (IsReady-deck _ _ _ _ _ c.requires.limits c.requires.fits sound c.requires.fact) c.requires.number c.requires.some_bytes
-    (omega (arith, c.requires.fact.extent, c.write_body.ensures.extent, c.close_open_gate.ensures.extent, c.sync.ensures.extent))
-    (λ told. prepared_held c.args.h.now c.args.next _ _ _ _ _ _ c.gate_at.ensures.at
-    (c.in_ok-write_body.ensures.written told) (c.in_ok-close_open_gate.ensures.written told) c.sync.ensures.held))
+    (ready g at.After-write_body) c.requires.number c.requires.some_bytes
+    (omega (arith, c.requires.fact.extent, c.write_body.ensures.changes.extent, c.close_open_gate.ensures.closes.extent, c.sync.ensures.extent))
+    (held g at.After-sync))

@@ -8,21 +8,21 @@ use Rattle.fdr_ring.proofs.Results.{map_ok}
 use Rattle.fdr_ring.proofs.Bytes.{Torn-then, Torn-within, Torn-of-same}
 use Rattle.fdr_ring.proofs.write.write_body.Goals as goal
 
-pub returns-clause-disk_work : goal.returns-clause-disk_work
-returns-clause-disk_work g c =
+pub returns-clause-changes : goal.returns-clause-changes
+returns-clause-changes g c =
     let sound = g.met.D.Deck.sound c.args.deck.now in
-    IsDiskWork-write _ _ _ _ _ _ _ sound sound
-    (IsDiskWork-here _ _ _ sound (λ told image leaves settled. Torn-of-same _ _ _ _ (settled image leaves)))
-    c.write.ensures.passes c.write.ensures.moments c.write.ensures.tears
-    (λ told from image leaves has torn settled. Torn-then _ _ _ _ _ (has settled)
-    (Torn-within _ _ _ _ _ _ (omega (arith, c.gate_at.ensures.at))
-    (omega (arith, c.gate_at.ensures.at, length-take (15 + length c.args.bytes.now) c.body_of-body.result)) torn))
-
-pub returns-clause-torn : goal.returns-clause-torn
-returns-clause-torn g c told =
-    Torn-within _ _ _ _ _ _ (omega (arith, c.gate_at.ensures.at))
-    (omega (arith, c.gate_at.ensures.at, length-take (15 + length c.args.bytes.now) c.body_of-body.result))
-    (c.write.ensures.tears.held told)
+    record {
+      keeps = λ told. Torn-within _ _ _ _ _ _ (omega (arith, c.gate_at.ensures.at))
+          (omega (arith, c.gate_at.ensures.at, length-take (15 + length c.args.bytes.now) c.body_of-body.result))
+          (c.write.ensures.tears.held told);
+      extent = c.write.ensures.extent;
+      disk_work = IsDiskWork-write _ _ _ _ _ _ _ sound sound
+          (IsDiskWork-here _ _ _ sound (λ told image leaves settled. Torn-of-same _ _ _ _ (settled image leaves)))
+          c.write.ensures.passes c.write.ensures.moments c.write.ensures.tears
+          (λ told from image leaves has torn settled. Torn-then _ _ _ _ _ (has settled)
+          (Torn-within _ _ _ _ _ _ (omega (arith, c.gate_at.ensures.at))
+          (omega (arith, c.gate_at.ensures.at, length-take (15 + length c.args.bytes.now) c.body_of-body.result)) torn));
+    }
 
 pub returns-clause-written : goal.returns-clause-written
 returns-clause-written g c =

@@ -7,9 +7,9 @@ use Rattle.fdr_layout.specs.Samples.{Sample}
 use Rattle.fdr_layout.specs.SlotParts.{SlotPart, Laid}
 use Rattle.fdr_lists.proofs.Numbered.{slice_get_some}
 use Rattle.fdr_sampler.specs.Held.{first_part_slot}
-use Rattle.fdr_sampler.specs.Kept.{raw_number_at, slot_parts, value_at, IsDrawn}
+use Rattle.fdr_sampler.specs.Kept.{raw_number_at, slot_parts, value_at, IsDrawnWord}
 use Rattle.fdr_sampler.specs.Schedule.{SlotStep, slot_steps, step_of}
-use Rattle.fdr_sampler.proofs.Drawing.{IsDrawn-none, IsDrawn-more, param_within, value_read}
+use Rattle.fdr_sampler.proofs.Drawing.{IsDrawnWord-none, IsDrawnWord-more, param_within, value_read}
 use Rattle.fdr_sampler.proofs.pieces.data_word.Goals as goal
 use Rattle.fdr_sampler.proofs.pieces.data_word.Goals.{After-step-item}
 
@@ -36,7 +36,7 @@ part_of l slot i items x all low is =
     }
 
 pub loop-step-init : goal.loop-step-init
-loop-step-init c = record { small = omega arith; drawn = λ value have. IsDrawn-none value c.args.raws.now }
+loop-step-init c = record { small = omega arith; word = λ value have. IsDrawnWord-none value c.args.raws.now }
 
 here : (c : After-step-item) → IsPartOf c.args.schedule.now c.args.slot c.loop-step.step-index c.step-item.result
 here c =
@@ -81,21 +81,21 @@ loop-step-preserved c =
     let room : a.sample < length raws = omega (arith, below, c.requires.raws, c.loop-step.auto.raws) in
     record {
       small = c.with_piece-word.ensures.twelve_bits;
-      drawn = λ value have.
-          let so_far = c.loop-step.invariant.drawn value have in
+      word = λ value have.
+          let so_far = c.loop-step.invariant.word value have in
           let At : SlotPart → Type 0 = λ y. value_at laid slot number before y.sample ≡ value y.sample in
           let Taken : SlotStep → Type 0 = λ y. raw ≡ (if y.begins then number y.param else slice_index raws y.sample) in
           let raw_is = value_read value laid slot number before raws a.sample firsts owners (slice_index firsts a.sample) (slice_index owners a.sample) raw
           (subst At (sym p.at) (have i a p.within)) below refl refl refl refl so_far.kept (subst Taken p.step c.value_at-raw.ensures.value) in
-          IsDrawn-more value parts i a before raws c.value_at-raw.new.raws c.loop-step.word c.with_piece-word.result raw p.within p.at so_far raw_is room
+          IsDrawnWord-more value parts i a before raws c.value_at-raw.new.raws c.loop-step.word c.with_piece-word.result raw p.within p.at so_far raw_is room
           (subst (λ (y : SlotStep). c.value_at-raw.new.raws ≡ slice_set raws y.sample raw) p.step c.value_at-raw.ensures.kept)
           c.with_piece-word.ensures.twelve_bits
           (subst (λ (y : SlotStep). c.with_piece-word.result ≡ with_field c.loop-step.word y.low y.width (raw / 2 ^ y.shift % 2 ^ y.width)) p.step
           c.with_piece-word.ensures.value);
     }
 
-pub returns-clause-drawn : goal.returns-clause-drawn
-returns-clause-drawn c = λ value have.
+pub returns-clause-word : goal.returns-clause-word
+returns-clause-word c = λ value have.
     let laid = c.args.schedule.now in
     let slot = c.args.slot in
     let parts = slot_parts laid slot in
@@ -103,5 +103,5 @@ returns-clause-drawn c = λ value have.
     let count = ap length c.at_slot-step-items.ensures.steps
     ∙ length-map parts (step_of (map (λ (s : Sample). s.param) laid.samples) (map first_part_slot laid.samples) slot) in
     let all : length parts ≤ i = omega (arith, count, c.loop-step-test.false) in
-    subst (λ (xs : List SlotPart). IsDrawn value xs c.args.raws.now c.loop-step.raws c.loop-step.word) (take_all i parts all)
-    (c.loop-step.invariant.drawn value have)
+    subst (λ (xs : List SlotPart). IsDrawnWord value xs c.args.raws.now c.loop-step.raws c.loop-step.word) (take_all i parts all)
+    (c.loop-step.invariant.word value have)

@@ -2,7 +2,7 @@ use Rattle.std.proofs.Common.{◌≡◌, inl, inr, ⊎_elim, ap, sym, ◌∙◌,
 use Rattle.std.proofs.lemmas.List.{take_all}
 use Rattle.fdr_biphase.specs.Cells.{bits_of_bytes}
 use Rattle.fdr_biphase.specs.Phases.{missing_place}
-use Rattle.fdr_top.specs.Limits.{most_input_bytes}
+use Rattle.fdr_pieces.specs.Limits.{most_input_bytes}
 use Rattle.fdr_words.specs.Forms.{decode_levels}
 use Rattle.fdr_top.proofs.Answering.{begun_leaves, has_cause, line_done, line_unused}
 use Rattle.fdr_top.proofs.Commands.{own_not_memory, uncovered_line}

@@ -2,7 +2,7 @@ use Rattle.std.proofs.Common.{◌≡◌, ◌⊎◌, ⊎_elim, ◌++◌, List, �
 use Rattle.fdr_io.specs.Told.{followed_by}
 use Rattle.fdr_biphase.specs.Packed.{decoded_bytes}
 use Rattle.fdr_pieces.specs.Pieces.{before_last, last_piece}
-use Rattle.fdr_top.specs.Limits.{most_input_bytes}
+use Rattle.fdr_pieces.specs.Limits.{most_input_bytes}
 use Rattle.fdr_top.specs.Coding.{HasMissed, SinkState}
 use Rattle.fdr_top.specs.Decode.{DecodesLevels}
 use Rattle.fdr_top.specs.InputTexts.{WritesFront, answer_of}

@@ -1,11 +1,14 @@
-use Rattle.std.proofs.Common.{◌∙◌, ap, refl, inr, ⊎_elim, arith}
-use Rattle.fdr_top.specs.Supply.{drawn_trace}
+use Rattle.std.proofs.Common.{◌∙◌, ap, refl, sym, inr, ⊎_elim, arith}
+use Rattle.fdr_recorder.specs.Supply.{drawn_trace}
+use Rattle.fdr_recorder.proofs.SessionEnds.{keeps_input_then}
+use Rattle.fdr_recorder.proofs.Supplies.{drawn_made}
+use Rattle.fdr_top.specs.Ends.{session_refusal}
 use Rattle.fdr_top.specs.declared.outcome.Outcome.TheVariants as outcome
-use Rattle.fdr_top.proofs.Drilled.{begun_generator, drill_cut, drill_shut, drill_told, learns_then, lines_then}
+use Rattle.fdr_top.proofs.Drilled.{drill_cut, drill_shut, drill_told, learns_then}
 use Rattle.fdr_top.proofs.ListedImages.{of_blocks_begun, of_blocks_drill}
 use Rattle.fdr_top.proofs.Answering.{memory_writes}
 use Rattle.fdr_top.proofs.RecordLines.{refuses_nothing}
-use Rattle.fdr_top.proofs.SessionEnds.{keeps_line, keeps_line_then}
+use Rattle.fdr_top.proofs.RecordingEnds.{is_disk_fault, is_no_memory, keeps_line, refusal_not_write, refusal_own_drill, refused_at_start}
 use Rattle.fdr_top.proofs.drilling.drill_image.Goals as goal
 
 pub returns-in-Err-clause-drills : goal.returns-in-Err-clause-drills
@@ -21,17 +24,17 @@ returns-in_default-clause-drills g c =
 pub record_source-requires : goal.record_source-requires
 record_source-requires g c = (
   drawn_trace c.args.sound.now c.args.seed c.args.frames,
-  begun_generator c.args.sound.now c.args.seed c.args.frames _ _ refl c.in-Ok-new.ensures c.requires.frame_limit,
+  drawn_made c.args.sound.now c.args.seed c.args.frames _ c.in-Ok-new.ensures c.requires.frame_limit,
 )
 
 pub returns-clause-drills : goal.returns-clause-drills
 returns-clause-drills g c =
     let s = g.met.D.Deck.sound in
     let e = c.in-Ok-record_source.ensures in
-    let begun = begun_generator c.args.sound.now c.args.seed c.args.frames _ _ refl c.in-Ok-new.ensures c.requires.frame_limit in
+    let begun = drawn_made c.args.sound.now c.args.seed c.args.frames _ c.in-Ok-new.ensures c.requires.frame_limit in
     drill_told c.args.sound.now c.args.seed c.args.frames _ _ _ _ _ c.in-Ok.reader.header c.in-Ok-record_source.recorded.blocks
-    c.in-Ok-record_source.recorded.answer _ _ _ (s c.args.deck.now) (s c.record_source.new.deck) c.open_image.ensures.looks
-    (e.recorded (drawn_trace c.args.sound.now c.args.seed c.args.frames) begun) e.all c.write_summary.ensures.looks
+    c.in-Ok-record_source.recorded.end _ _ _ (s c.args.deck.now) (s c.record_source.new.deck) c.open_image.ensures.looks
+    (e.recorded (drawn_trace c.args.sound.now c.args.seed c.args.frames) begun) c.write_summary.ensures.looks
     c.write_summary.ensures.answer c.in-Ok.ensures.opened.header e.blocks c.requires.in_range c.requires.sound
     c.write_summary.ensures.text c.write_summary.ensures.part (λ x. ap g.O.Sink.written (c.write_summary.ensures.unread x))
 
@@ -45,10 +48,10 @@ returns-clause-disk_fault g c = λ fails.
 pub returns-in-Err-record_source-clause-drills : goal.returns-in-Err-record_source-clause-drills
 returns-in-Err-record_source-clause-drills g c =
     let e = c.in-Err-record_source.ensures in
-    let begun = begun_generator c.args.sound.now c.args.seed c.args.frames _ _ refl c.in-Ok-new.ensures c.requires.frame_limit in
-    drill_cut c.args.sound.now _ _ _ _ _ _ _ c.in-Err-record_source.answer c.requires.in_range c.requires.sound
-    (g.met.D.Deck.sound c.args.deck.now) c.open_image.ensures.looks e.refused
-    (e.ended (drawn_trace c.args.sound.now c.args.seed c.args.frames) begun)
+    let begun = drawn_made c.args.sound.now c.args.seed c.args.frames _ c.in-Ok-new.ensures c.requires.frame_limit in
+    rw c.session_refusal.ensures (drill_cut c.args.sound.now _ _ _ _ _ _ _ c.in-Err-record_source.fault c.requires.in_range c.requires.sound
+    (g.met.D.Deck.sound c.args.deck.now) c.open_image.ensures.looks
+    (e.ended (drawn_trace c.args.sound.now c.args.seed c.args.frames) begun))
 
 pub returns-clause-untouched : goal.returns-clause-untouched
 returns-clause-untouched g c = λ nothing. absurd (of_blocks_begun c.write_summary.result c.write_summary.ensures.answer nothing)
@@ -64,10 +67,9 @@ pub returns-clause-input : goal.returns-clause-input
 returns-clause-input g c =
     let opened = c.open_image.ensures.looks.disk_work.passes in
     let read = c.write_summary.ensures.looks.disk_work.passes in
-    keeps_line_then _ _ _ _
-    (lines_then _ _ _ (keeps_line_then _ _ _ _ (keeps_line _ _ refl refl refl refl) refl opened.input opened.input_faults)
-    (c.in-Ok-record_source.ensures.unpulled tt))
-    refl read.input read.input_faults
+    let left = c.in-Ok-record_source.ensures.unpulled tt in
+    keeps_line _ _ (keeps_input_then _ _ _ _
+    (keeps_input_then _ _ _ _ (opened.input, opened.input_faults) refl left.0 left.1) refl read.input read.input_faults)
 
 pub returns-clause-learns : goal.returns-clause-learns
 returns-clause-learns g c =
@@ -87,7 +89,8 @@ returns-in_default-clause-memory g c = λ e.
 
 pub returns-in-Err-record_source-clause-memory : goal.returns-in-Err-record_source-clause-memory
 returns-in-Err-record_source-clause-memory g c = λ e.
-    record { long = (c.in-Err-record_source.ensures.memory e).long; good = λ told. (c.in-Ok.ensures.opened.image told).no_fault }
+    let is = is_no_memory c.in-Err-record_source.fault (sym c.session_refusal.ensures ∙ e) in
+    record { long = c.in-Err-record_source.ensures.memory is; good = λ told. (c.in-Ok.ensures.opened.image told).no_fault }
 
 pub returns-clause-memory : goal.returns-clause-memory
 returns-clause-memory g c = λ e. absurd (of_blocks_begun c.write_summary.result c.write_summary.ensures.answer (memory_writes _ e))
@@ -95,3 +98,40 @@ returns-clause-memory g c = λ e. absurd (of_blocks_begun c.write_summary.result
 pub returns-clause-no_disk_fault : goal.returns-clause-no_disk_fault
 returns-clause-no_disk_fault g c = λ other.
     c.write_summary.ensures.no_disk_fault other ∙ c.in-Ok-record_source.ensures.no_disk_fault ∙ c.in-Ok.ensures.no_disk_fault (λ e. absurd (cc))
+
+-- ---- where the session was refused or cut short
+
+pub returns-in-Err-record_source-clause-answer : goal.returns-in-Err-record_source-clause-answer
+returns-in-Err-record_source-clause-answer g c = λ path image.
+    rw c.session_refusal.ensures (refusal_own_drill path image c.args.seed c.args.frames c.in-Err-record_source.fault)
+
+pub returns-in-Err-record_source-clause-untouched : goal.returns-in-Err-record_source-clause-untouched
+returns-in-Err-record_source-clause-untouched g c = λ nothing.
+    let looked = c.open_image.ensures.looks.disk in
+    let left = c.in-Err-record_source.ensures.untouched
+    (refused_at_start c.in-Err-record_source.fault (rw c.session_refusal.ensures at nothing)) in
+    record {
+      held = left.held ∙ looked.held;
+      no_more = λ image leaves. looked.no_more image (left.no_more image leaves);
+      no_less = λ image leaves. left.no_less image (looked.no_less image leaves);
+    }
+
+pub returns-in-Err-record_source-clause-announced : goal.returns-in-Err-record_source-clause-announced
+returns-in-Err-record_source-clause-announced g c = λ nothing.
+    c.in-Err-record_source.ensures.announced (refused_at_start c.in-Err-record_source.fault (rw c.session_refusal.ensures at nothing))
+    ∙ c.open_image.ensures.looks.disk_work.passes.announced.announced
+
+pub returns-in-Err-record_source-clause-disk_fault : goal.returns-in-Err-record_source-clause-disk_fault
+returns-in-Err-record_source-clause-disk_fault g c = λ fails.
+    let looked = c.open_image.ensures.looks.disk_work.passes.disk_faults in
+    let rose = c.in-Err-record_source.ensures.disk_fault (is_disk_fault c.in-Err-record_source.fault (sym c.session_refusal.ensures ∙ fails)) in
+    omega (arith, looked, rose)
+
+pub returns-in-Err-record_source-clause-write_fault : goal.returns-in-Err-record_source-clause-write_fault
+returns-in-Err-record_source-clause-write_fault g c = λ fails.
+    absurd (refusal_not_write c.in-Err-record_source.fault (sym c.session_refusal.ensures ∙ fails))
+
+pub returns-in-Err-record_source-clause-no_disk_fault : goal.returns-in-Err-record_source-clause-no_disk_fault
+returns-in-Err-record_source-clause-no_disk_fault g c = λ other.
+    c.in-Err-record_source.ensures.no_fault_if_cut (λ e. other (c.session_refusal.ensures ∙ ap session_refusal e))
+    ∙ c.in-Ok.ensures.no_disk_fault (λ e. absurd (cc))

@@ -7,7 +7,7 @@ use Rattle.fdr_readout.specs.Listing.{listing_of}
 use Rattle.fdr_readout.specs.Taken.{HasTaken, WritesLines}
 use Rattle.fdr_readout.proofs.EntryLemmas.{lines_of_entries}
 use Rattle.fdr_top.specs.Coding.{SinkState}
-use Rattle.fdr_top.specs.Limits.{most_input_bytes}
+use Rattle.fdr_pieces.specs.Limits.{most_input_bytes}
 use Rattle.fdr_top.specs.InputTexts.{WritesFront}
 use Rattle.fdr_top.proofs.InputTexts.{all_taken, end_not_write, end_too_long, writes_all, writes_cut, writes_end}
 use Rattle.fdr_top.proofs.ListedLines.{grown_by, in_time_more, lists, part_of_lines}

@@ -8,6 +8,7 @@ use Rattle.fdr_top.proofs.recording.record.Goals as goal
 pub returns-clause-works : goal.returns-clause-works
 returns-clause-works g c = λ path image written faults.
     let answer = c.record_line.ensures.answer path image in
+    let does = records_line _ _ _ _ _ c.requires.in_range c.requires.sound c.record_line.ensures.records in
     record {
       answer = answer;
       refusal = λ nothing. left_all _ refl refl (c.record_line.ensures.untouched nothing) c.record_line.ensures.learns
@@ -21,7 +22,7 @@ returns-clause-works g c = λ path image written faults.
         write = λ other covers. refl;
         disk = λ other. c.record_line.ensures.no_disk_fault other;
       };
-      does = records_line _ _ _ _ _ c.requires.in_range c.requires.sound c.record_line.ensures.records;
-      complete = λ whole faultless. record_done path image _ _ _ _ _ answer c.record_line.ensures.records whole.0 whole.1 whole.2 whole.3
+      does = does;
+      complete = λ whole faultless. record_done path image _ _ _ _ _ answer does whole.0 whole.1 whole.2 whole.3
           (λ e. faultless.input tt (c.record_line.ensures.input_fault e)) (λ e. faultless.disk tt (c.record_line.ensures.disk_fault e));
     }

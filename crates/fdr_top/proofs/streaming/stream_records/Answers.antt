@@ -3,9 +3,8 @@ use Rattle.std.proofs.lemmas.Result.{err_from_is_err_and}
 use Rattle.fdr_bus.specs.declared.BusRecord.{BusRecord}
 use Rattle.fdr_trace.specs.declared.TraceStop.{TraceStop}
 use Rattle.fdr_trace.proofs.Pulling.{LeavesDisk-here, LeavesDisk-then, PullsUntilDecided-none}
-use Rattle.fdr_top.proofs.Records.{IsStreamed-made, ComesNext-read, PullsUntilDecided-next}
-use Rattle.fdr_top.proofs.Records.{IsStreamedTo-end, IsStreamedTo-stop, IsStreamedPart-next, good_with_next}
-use Rattle.fdr_top.proofs.Records.{is_end-yes, is_end-no, count_rises}
+use Rattle.fdr_recorder.proofs.ReadRecords.{PullsUntilDecided-next, count_rises, good_with_next, is_end-no, is_end-yes}
+use Rattle.fdr_top.proofs.Records.{IsStreamed-made, ComesNext-read, IsStreamedTo-end, IsStreamedTo-stop, IsStreamedPart-next}
 use Rattle.fdr_top.proofs.streaming.stream_records.Goals as goal
 
 err_same : (s s' : TraceStop) → ◌≡◌ {A = Result BusRecord TraceStop} (Err s) (Err s') → s ≡ s'

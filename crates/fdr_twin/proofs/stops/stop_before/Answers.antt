@@ -2,7 +2,7 @@ use Rattle.std.proofs.Common.{◌≡◌, List, ℕ, length, subst, sym, ◌∙�
 use Rattle.fdr_deck.specs.declared.calls.Call.{Call}
 use Rattle.fdr_deck.specs.Memory.{IsStoppedAfter, FitsIn, FitsDisk, held_by}
 use Rattle.fdr_deck.specs.Stops.{image_after}
-use Rattle.fdr_twin.proofs.MemoryStops.{IsLeft-start, IsLeft-inside, IsLeft-fits, IsLeft-more, image_before-start, image_before-more, image_before-all}
+use Rattle.fdr_deck.proofs.MemoryStops.{IsLeft-start, IsLeft-inside, IsLeft-fits, IsLeft-more, image_before-start, image_before-more, image_before-all}
 use Rattle.fdr_twin.specs.TwinMemory.{call_of, entry_on, entries_on}
 use Rattle.fdr_twin.specs.TwinFaces.{entries_long}
 use Rattle.fdr_twin.proofs.TwinStops.{entry_is, below_on, left_all}

@@ -1,5 +1,5 @@
 use Rattle.std.proofs.Common.{◌≡◌}
-use Rattle.fdr_twin.proofs.MemoryStops.{IsLeft, image_before}
+use Rattle.fdr_deck.proofs.MemoryStops.{IsLeft, image_before}
 use Rattle.fdr_twin.specs.TwinMemory.{entries_on}
 use Rattle.fdr_twin.proofs.stops.stop_before.Given as goal
 

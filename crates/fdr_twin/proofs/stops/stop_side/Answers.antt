@@ -3,7 +3,7 @@ use Rattle.std.proofs.lemmas.Option.{get_or_from_slice_get}
 use Rattle.fdr_deck.specs.Memory.{held_after, left_after, IsLeftWithin, AreInside, FitsIn}
 use Rattle.fdr_deck.specs.declared.calls.Call.{Call}
 use Rattle.fdr_deck.specs.declared.calls.Entry.{Entry}
-use Rattle.fdr_twin.proofs.MemoryStops.{AreInside-take, AreInside-at, FitsIn-from_inside, stopped_within, image_at-within}
+use Rattle.fdr_deck.proofs.MemoryStops.{AreInside-take, AreInside-at, FitsIn-from_inside, stopped_within, image_at-within}
 use Rattle.fdr_deck.specs.Stops.{image_within, image_at}
 use Rattle.fdr_twin.specs.declared.side.Side.{Side}
 use Rattle.fdr_twin.specs.declared.calls.TwinEntry.{TwinEntry}

@@ -1,11 +1,12 @@
-use Rattle.std.proofs.Common.{◌≡◌, ◌∙◌, ◌+◌, ◌-◌, ℕ, List, length, ap, arith, refl, sym, subst}
-use Rattle.std.specs.Prelude.{IsTrue}
-use Rattle.fdr_deck.specs.Calls.{HasOneAnnounced, IsDiskWork, Announces}
+use Rattle.std.proofs.Common.{◌≡◌, ◌∙◌, ◌+◌, ◌-◌, ℕ, List, Result, Ok, Err, length, ap, arith, refl, sym, subst}
+use Rattle.std.specs.Prelude.{IsTrue, OnErr}
+use Rattle.fdr_deck.specs.Calls.{HasOneAnnounced, IsDiskWork, KeepsAnnounced, Announces}
+use Rattle.fdr_deck.proofs.Moments.{KeepsAnnounced-then}
 use Rattle.fdr_slot.specs.declared.image.Header.{Header}
+use Rattle.fdr_slot.specs.Places.{gate_at}
 use Rattle.fdr_recover.specs.Images.{recovered_run, next_of}
 use Rattle.fdr_recover.specs.ImageHeader.{IsFor, header_in}
 use Rattle.fdr_ring.specs.Closing.{image_with_closed_gate}
-use Rattle.fdr_ring.specs.Gates.{gate_at}
 use Rattle.fdr_ring.specs.Runs.{last_blocks}
 use Rattle.fdr_ring.specs.Rings.{IsAttaching, OfSettled}
 use Rattle.fdr_table.specs.Rows.{FrameRow, TableRows}
@@ -48,7 +49,7 @@ attaching : (g : Over) (c : After-attach g) → let s = g.D.Deck.state in
 attaching g c stops =
     let d1 = g.D.Deck.state c.read_header_for.new.deck in
     subst (λ (h : Header). IsDiskWork g.D.Deck.tells (OfSettled d1 (IsAttaching h)) d1 (g.D.Deck.state c.attach.new.deck)) (same_header g c stops)
-    c.attach.ensures.disk_work
+    c.attach.ensures.changes.disk_work
 
 pub returns-in_err-stream-2-clause-starts : goal.returns-in_err-stream-2-clause-starts
 returns-in_err-stream-2-clause-starts g c =
@@ -64,7 +65,17 @@ returns-in_err-ring-clause-starts g c =
     let at = (goal.at.returns-in_err-ring-clause-starts g c).After-attach in
     let read = c.read_header_for.ensures in
     Starts-attached g.D.Deck.tells _ _ _ (g.met.D.Deck.sound c.args.deck.now) read.disk_work read.disk (header_read g at) (s c.attach.new.deck)
-    c.attach.ensures.disk_work.passes (attaching g at)
+    c.attach.ensures.changes.disk_work.passes (attaching g at)
+
+always_err : {T E : Type 0} (r : Result T E) (P : Type 0) → P → OnErr r P
+always_err (Ok x) P p = tt
+always_err (Err e) P p = p
+
+pub returns-in_err-ring-clause-refused : goal.returns-in_err-ring-clause-refused
+returns-in_err-ring-clause-refused g c =
+    let Kept : Type 0 = KeepsAnnounced (g.D.Deck.state c.args.deck.now) (g.D.Deck.state c.attach.new.deck) in
+    always_err c.from_residual-in_err-ring.result Kept
+    (KeepsAnnounced-then _ _ _ c.read_header_for.ensures.disk_work.passes.announced c.attach.ensures.changes.disk_work.passes.announced)
 
 pub returns-clause-starts : goal.returns-clause-starts
 returns-clause-starts g c =
@@ -75,10 +86,11 @@ returns-clause-starts g c =
     let at = (goal.at.returns-clause-starts g c).After-attach in
     let read = c.read_header_for.ensures in
     let ok = c.in_ok-ring.ensures in
-    Starts-announced g.D.Deck.tells _ _ _ is read.disk_work read.disk (header_read g at) (s d2) c.attach.ensures.disk_work.passes (attaching g at)
-    ok.succeeds.fresh c.next.result (s c.announce.new.self) c.announce.ensures.announces ok.settled
-    (λ stops. subst (λ (h : Header). IsAttaching h (s d1).held (s d2).held) (same_header g at stops) (c.attach.ensures.keeps (is.stops_need_bytes stops)))
-    (λ stops. c.next.ensures.number ∙ ok.next (is.stops_need_bytes stops) ∙ ap (λ (h : Header). next_of h (s d1).held) (same_header g at stops))
+    Starts-announced g.D.Deck.tells _ _ _ is read.disk_work read.disk (header_read g at) (s d2) c.attach.ensures.changes.disk_work.passes (attaching g at)
+    ok.attached.succeeds.fresh c.next.result (s c.announce.new.self) c.announce.ensures.announces ok.attached.settled
+    (λ stops. subst (λ (h : Header). IsAttaching h (s d1).held (s d2).held) (same_header g at stops)
+    (c.attach.ensures.changes.keeps (is.stops_need_bytes stops)))
+    (λ stops. c.next.ensures.number ∙ ok.attached.next (is.stops_need_bytes stops) ∙ ap (λ (h : Header). next_of h (s d1).held) (same_header g at stops))
     c.announce.ensures.disk c.announce.ensures.input c.announce.ensures.input_faults c.announce.ensures.time c.announce.ensures.moments
 
 pub returns-clause-started : goal.returns-clause-started
@@ -105,7 +117,7 @@ returns-clause-started g c =
     let fresh = header_read g (goal.at.returns-clause-started g c).After-attach in
     let announces : Announces r.next (s d2) (s d3) = subst (λ (n : ℕ). Announces n (s d2) (s d3)) c.next.ensures.number c.announce.ensures.announces in
     let next : IsTrue t.bytes → r.next ≡ next_of r.header (s d0).held =
-    (λ told. ok.next told ∙ ap (λ (l : List ℕ). next_of h l) held01 ∙ ap (λ (hh : Header). next_of hh (s d0).held) (sym same)) in
+    (λ told. ok.attached.next told ∙ ap (λ (l : List ℕ). next_of h l) held01 ∙ ap (λ (hh : Header). next_of hh (s d0).held) (sym same)) in
     record {
       stands = record {
         header = refl;
@@ -118,23 +130,23 @@ returns-clause-started g c =
       words = ap (λ (hh : Header). hh.words) same ∙ words;
       header = λ told. same ∙ c.in_ok-header.ensures.read told;
       next = next;
-      held = λ told. held23 ∙ ok.held told ∙ ap (λ (l : List ℕ). image_with_closed_gate (gate_at h (next_of h l)) l) held01
+      held = λ told. held23 ∙ ok.attached.held told ∙ ap (λ (l : List ℕ). image_with_closed_gate (gate_at h (next_of h l)) l) held01
           ∙ ap (λ (hh : Header). image_with_closed_gate (gate_at hh (next_of hh (s d0).held)) (s d0).held) (sym same);
-      run = λ told. ap (λ (l : List ℕ). recovered_run r.header l) held23 ∙ ap (λ (hh : Header). recovered_run hh (s d2).held) same ∙ ok.run told
+      run = λ told. ap (λ (l : List ℕ). recovered_run r.header l) held23 ∙ ap (λ (hh : Header). recovered_run hh (s d2).held) same ∙ ok.attached.run told
           ∙ ap (λ (l : List ℕ). last_blocks (h.slots - 1) (recovered_run h l)) held01
           ∙ ap (λ (hh : Header). last_blocks (hh.slots - 1) (recovered_run hh (s d0).held)) (sym same);
       fact = IsSureRing-told _ _ _ _ _ c.announce.ensures.disk ok.fact;
-      settled = λ stops image left. ok.settled stops image (c.announce.ensures.disk.disk.no_more image left) ∙ sym held23;
+      settled = λ stops image left. ok.attached.settled stops image (c.announce.ensures.disk.disk.no_more image left) ∙ sym held23;
       announced = announces.announced;
-      greatest = greatest-started t h (s d0) (s d1) (is d0) read.disk_work read.disk fresh (s d2) c.attach.ensures.disk_work.passes
-          (λ stops. c.attach.ensures.disk_work) ok.succeeds.fresh r.next (s d3) announces;
-      least = least-started t h (s d0) (s d1) (is d0) read.disk_work read.disk fresh (s d2) c.attach.ensures.disk_work.passes
-          (λ stops. c.attach.ensures.disk_work) ok.succeeds.fresh r.next (s d3) announces;
+      greatest = greatest-started t h (s d0) (s d1) (is d0) read.disk_work read.disk fresh (s d2) c.attach.ensures.changes.disk_work.passes
+          (λ stops. c.attach.ensures.changes.disk_work) ok.attached.succeeds.fresh r.next (s d3) announces;
+      least = least-started t h (s d0) (s d1) (is d0) read.disk_work read.disk fresh (s d2) c.attach.ensures.changes.disk_work.passes
+          (λ stops. c.attach.ensures.changes.disk_work) ok.attached.succeeds.fresh r.next (s d3) announces;
     }
 
 pub returns-clause-learns : goal.returns-clause-learns
 returns-clause-learns g c =
-    let same = c.announce.ensures.disk.extent ∙ c.attach.ensures.extent in
+    let same = c.announce.ensures.disk.extent ∙ c.attach.ensures.changes.extent in
     let learns = c.read_header_for.ensures.learns in
     record {
       bytes = λ told. same ∙ learns.bytes told;
@@ -152,9 +164,9 @@ pub returns-in_err-ring-clause-learns : goal.returns-in_err-ring-clause-learns
 returns-in_err-ring-clause-learns g c =
     let learns = c.read_header_for.ensures.learns in
     record {
-      bytes = λ told. c.attach.ensures.extent ∙ learns.bytes told;
-      stops = λ told. c.attach.ensures.extent ∙ learns.stops told;
-      known = λ some. c.attach.ensures.extent ∙ learns.known some;
+      bytes = λ told. c.attach.ensures.changes.extent ∙ learns.bytes told;
+      stops = λ told. c.attach.ensures.changes.extent ∙ learns.stops told;
+      known = λ some. c.attach.ensures.changes.extent ∙ learns.known some;
     }
 
 pub returns-in_err-ring-clause-rest : goal.returns-in_err-ring-clause-rest
@@ -167,4 +179,4 @@ returns-clause-good g c told = subst (λ (n : ℕ). IsFor n (g.D.Deck.state c.ar
 
 pub returns-clause-no_fault : goal.returns-clause-no_fault
 returns-clause-no_fault g c ok =
-    c.announce.ensures.disk.disk_faults ∙ c.in_ok-ring.ensures.succeeds.disk_faults ∙ (c.in_ok-header.ensures.succeeds (λ e. absurd (cc))).disk_faults
+    c.announce.ensures.disk.disk_faults ∙ c.in_ok-ring.ensures.attached.succeeds.disk_faults ∙ (c.in_ok-header.ensures.succeeds (λ e. absurd (cc))).disk_faults

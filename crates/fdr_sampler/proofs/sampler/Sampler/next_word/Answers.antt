@@ -1,6 +1,6 @@
 use Rattle.std.proofs.Common.{◌≡◌, ℕ, List, length, refl, sym, ap, subst, arith}
 use Rattle.std.proofs.lemmas.List.{with_items_is}
-use Rattle.fdr_sampler.specs.Kept.{SamplerKept, raw_number_at, slot_parts, HaveValues, IsDrawn}
+use Rattle.fdr_sampler.specs.Kept.{SamplerKept, raw_number_at, slot_parts, HaveValues, IsDrawnWord}
 use Rattle.fdr_sampler.specs.View.{sampler_kept}
 use Rattle.fdr_table.specs.Rows.{FrameRow}
 use Rattle.fdr_sampler.specs.Past.{RepresentsSampler}
@@ -14,14 +14,14 @@ draws c =
     let plain = c.data_word-plain.result in
     let after = c.data_word-plain.new.raws in
     let Draws : ℕ → List ℕ → Type 0 = λ w raws. (value : ℕ → ℕ)
-    → HaveValues value inside.schedule slot (raw_number_at w inside.drawn inside.held.sources inside.held.words) raws
-    → IsDrawn value (slot_parts inside.schedule slot) raws after plain in
+    → HaveValues value inside.schedule slot (raw_number_at w inside.slots_drawn inside.held.sources inside.held.words) raws
+    → IsDrawnWord value (slot_parts inside.schedule slot) raws after plain in
     let words = ap (λ (f : FrameRow). f.words) c.frame.view_is in
     record {
       slot_is = c.slot_within-slot.ensures.slot;
       below = c.slot_within-slot.ensures.below;
-      drawn = subst (λ w. Draws w inside.raws.items) words
-          (subst (Draws c.frame.inside.words) c.deref_mut.ensures.value c.data_word-plain.ensures.drawn);
+      word = subst (λ w. Draws w inside.raws.items) words
+          (subst (Draws c.frame.inside.words) c.deref_mut.ensures.value c.data_word-plain.ensures.word);
     }
 
 pub returns-clause-word : goal.returns-clause-word

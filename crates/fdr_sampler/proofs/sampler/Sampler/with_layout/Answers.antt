@@ -24,7 +24,7 @@ invariant_of-result c =
             (subst (λ n. All (λ (s : Sample). s.param < n) c.args.layout.samples) (sym sources) c.requires.params);
         held = ap length c.in_ok-held.ensures.words ∙ length-replicate (length params) None ∙ sym sources;
         raws = ap length c.in_ok-raws.ensures ∙ length-replicate c.samples.result 0 ∙ c.samples.ensures ∙ ap (λ (l : Laid). length l.samples) laid;
-        drawn = omega arith;
+        slots_drawn = omega arith;
       },
       subst (λ (l : Laid). AreEmptyRuns c.args.frame l c.in_ok-empty_runs.empty_runs.items) laid c.in_ok-empty_runs.ensures,
       run_first c.args.frame c.in_ok-schedule.schedule (slot_within c.args.frame.words 0) (zero-mod (64 * c.args.frame.words)),

@@ -9,7 +9,7 @@ use Rattle.fdr_lists.proofs.Options.{not_below}
 use Rattle.fdr_sampler.proofs.sampler.tests.words_of.Goals as goal
 
 drawn_past : TableRows → ℕ → SamplerPast
-drawn_past t n = record { table = t; records = []; drawn = n }
+drawn_past t n = record { table = t; records = []; slots_drawn = n }
 
 first_record : (t : TableRows) (n : ℕ) (r : BusRecord) (b : Bool) → r.kind ≡ Word → r.time ≤ last_time → (IsTrue b ↔ (n * 1000000 < r.time * t.frame.words))
     → b ≡ false →

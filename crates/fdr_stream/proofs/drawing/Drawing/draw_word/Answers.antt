@@ -13,10 +13,10 @@ here : (c : goal.After-pack) (past : StreamPast) → IsSampled c.args.self.now p
 here c past st = subst (λ (k : StreamKept). IsSampled k past) (sym c.self.view_is) st
 
 at : (c : goal.After-pack) → StreamPast → SamplerPast
-at c past = record { table = past.table; records = past.records; drawn = c.self.inside.sampler.drawn }
+at c past = record { table = past.table; records = past.records; slots_drawn = c.self.inside.sampler.slots_drawn }
 
 stands : (c : goal.After-pack) (past : StreamPast) → IsSampled c.args.self.now past →
-    RepresentsSampler c.next_word-word.new.self (record { table = past.table; records = past.records; drawn = c.self.inside.sampler.drawn + 1 })
+    RepresentsSampler c.next_word-word.new.self (record { table = past.table; records = past.records; slots_drawn = c.self.inside.sampler.slots_drawn + 1 })
 unfolding at
 stands c past st = c.next_word-word.ensures.stands (at c past) (here c past st)
 
@@ -28,16 +28,16 @@ returns-clause-sampled c past st =
 pub returns-clause-packed : goal.returns-clause-packed
 unfolding at
 returns-clause-packed c past st packed =
-    let d = c.self.inside.sampler.drawn in
+    let d = c.self.inside.sampler.slots_drawn in
     let word = c.next_word-word.ensures.word (at c past) (here c past st) in
     IsPacked-drawn (drawing_kept c.self.inside) c.pack.new.self c.next_word-word.new.self past 1 (c.next_word-word.result ∷ []) c.pack.ensures
     (stands c past st) (words_to-more past d ∙ ap (λ w. words_to past d ++ w ∷ []) (sym word))
     (subst (λ (k : StreamKept). IsPacked k past) (sym c.self.view_is) packed)
 
-pub returns-clause-drawn : goal.returns-clause-drawn
-returns-clause-drawn c =
-    ap (λ (k : StreamKept). k.sampler.drawn) c.pack.ensures ∙ (stands c c.requires.past.0 c.requires.past.1).drawn
-    ∙ ap (λ (k : StreamKept). k.sampler.drawn + 1) c.self.view_is
+pub returns-clause-slots_drawn : goal.returns-clause-slots_drawn
+returns-clause-slots_drawn c =
+    ap (λ (k : StreamKept). k.sampler.slots_drawn) c.pack.ensures ∙ (stands c c.requires.past.0 c.requires.past.1).slots_drawn
+    ∙ ap (λ (k : StreamKept). k.sampler.slots_drawn + 1) c.self.view_is
 
 length_after : (c : goal.After-pack) → length c.pack.new.self.bytes ≡ length c.args.self.now.bytes + length
     (filled_by (drawing_kept c.self.inside).odd (c.next_word-word.result ∷ []))

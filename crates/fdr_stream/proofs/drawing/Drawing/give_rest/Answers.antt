@@ -8,7 +8,7 @@ use Rattle.fdr_stream.proofs.drawing.Drawing.give_rest.Goals as goal
 few : (c : goal.After-give-arg-2-1) → c.len-count.result ≤ c.args.self.now.payload
 few c =
     let k = c.args.self.now in
-    let left : c.self.inside.waiting.items ≡ k.bytes ++ last_byte k.odd = ap (λ (x : StreamKept). x.bytes) (c.self.view_is ∙ c.pad.ensures) in
+    let left : c.self.inside.waiting.items ≡ k.bytes ++ last_byte k.odd = ap (λ (x : StreamKept). x.bytes) (c.self.view_is ∙ c.fill_byte.ensures) in
     omega (
       arith,
       c.len-count.ensures.len,
@@ -20,7 +20,7 @@ few c =
 
 pub give-requires-clause-room : goal.give-requires-clause-room
 give-requires-clause-room c =
-    omega (arith, few c, ap (λ (x : StreamKept). x.payload) (c.self.view_is ∙ c.pad.ensures), c.self.invariant.room)
+    omega (arith, few c, ap (λ (x : StreamKept). x.payload) (c.self.view_is ∙ c.fill_byte.ensures), c.self.invariant.room)
 
 pub give-requires-clause-fits : goal.give-requires-clause-fits
 give-requires-clause-fits c = omega (arith, few c, c.requires.room)

@@ -2,19 +2,19 @@ use Rattle.std.proofs.Common.{◌≡◌, ℕ, ◌+◌, ◌*◌, ◌<◌, List, [
 use Rattle.std.proofs.lemmas.List.{take-append-le, take_all, length-drop}
 use Rattle.fdr_sampler.specs.Stream.{stream_of}
 use Rattle.fdr_stream.specs.Packing.{last_byte}
-use Rattle.fdr_stream.specs.Kept.{StreamKept, undrawn, caught_up, IsBehind}
+use Rattle.fdr_stream.specs.Kept.{StreamKept, late_slots, with_late_slots, HasLateSlots}
 use Rattle.fdr_stream.specs.Past.{HasFinished}
 use Rattle.fdr_stream.proofs.Standing.{rest_is, few_left, blocks_left}
-use Rattle.fdr_stream.proofs.Behind.{HasEmptyAhead-fewer, HasEmptyAhead-none, caught_up-none, within_slots}
+use Rattle.fdr_stream.proofs.LateSlots.{HasEmptySlots-fewer, HasEmptySlots-none, with_late_slots-none}
 use Rattle.fdr_stream.proofs.stream.Stream.finish.Goals as goal
 
-pub catch_up-requires-clause-empty : goal.catch_up-requires-clause-empty
-catch_up-requires-clause-empty c =
+pub draw_late_slots-requires-clause-empty : goal.draw_late_slots-requires-clause-empty
+draw_late_slots-requires-clause-empty c =
     let inside = c.self.inside in
-    HasEmptyAhead-fewer inside.drawing (undrawn inside.drawing inside.time) inside.ahead c.self.invariant.empty c.self.invariant.within
+    HasEmptySlots-fewer inside.drawing (late_slots inside.drawing inside.counted_to) inside.empty_slots c.self.invariant.empty c.self.invariant.within
 
-caught : (c : goal.After-slice_known-2-1) → c.catch_up.new.self ≡ c.args.self.now
-caught c = c.catch_up.ensures ∙ c.self.view_is
+caught : (c : goal.After-slice_known-2-1) → c.draw_late_slots.new.drawing ≡ c.args.self.now
+caught c = c.draw_late_slots.ensures ∙ c.self.view_is
 
 -- what waited, with the byte that waiting bits begin
 rest : goal.After-slice_known-2-1 → List ℕ
@@ -27,19 +27,19 @@ count_is c = c.give_rest.ensures.count ∙ ap (λ (k : StreamKept). length (k.by
 pub invariant_of-self : goal.invariant_of-self
 invariant_of-self c =
     let inside = c.self.inside in
-    let caught = c.catch_up.ensures in
-    let empty : StreamKept = record c.catch_up.new.self { odd = None; bytes = [] } in
+    let caught = c.draw_late_slots.ensures in
+    let empty : StreamKept = record c.draw_late_slots.new.drawing { odd = None; bytes = [] } in
     let some : 0 < empty.payload = omega (arith, ap (λ (k : StreamKept). k.payload) (caught ∙ c.self.view_is), c.requires.1.packed.payload, c.requires.1.low) in
     let frame : empty.sampler.frame.words ≡ inside.drawing.sampler.frame.words = ap (λ (k : StreamKept). k.sampler.frame.words) caught in
-    let drawn : empty.sampler.drawn ≡ (caught_up inside.drawing inside.time).sampler.drawn = ap (λ (k : StreamKept). k.sampler.drawn) caught in
-    let most = within_slots inside.drawing.sampler.frame.words inside.time c.self.invariant.words c.self.invariant.in_time in
-    subst (λ (x : StreamKept). IsBehind x 0 0 c.slots_before-self-inside.result) (sym c.give_rest.ensures.left) (record {
-      empty = HasEmptyAhead-none empty some;
-      before_is = c.slots_before-self-inside.ensures;
-      within = omega arith;
-      in_time = omega arith;
+    let slots : empty.sampler.slots_drawn ≡ (with_late_slots inside.drawing inside.counted_to).sampler.slots_drawn =
+    ap (λ (k : StreamKept). k.sampler.slots_drawn) caught in
+    subst (λ (x : StreamKept). HasLateSlots x 0 c.sampling_time-self-inside.result c.start-self-inside.result) (sym c.give_rest.ensures.left) (record {
+      empty = HasEmptySlots-none empty some;
+      data_time_is = c.sampling_time-self-inside.ensures;
+      within = omega (arith, c.start-self-inside.ensures);
+      in_time = omega (arith, c.start-self-inside.ensures);
       words = omega (arith, frame, c.self.invariant.words);
-      slots = omega (arith, drawn, c.self.invariant.slots, most);
+      slots = omega (arith, slots, c.self.invariant.slots, c.self.invariant.in_time);
     })
 
 pub returns-clause-rest : goal.returns-clause-rest
@@ -78,7 +78,9 @@ returns-clause-finished c past st none =
     let k = c.args.self.now in
     let left : c.give_rest.new.self ≡ record k { odd = None; bytes = [] } =
     c.give_rest.ensures.left ∙ ap (λ (x : StreamKept). let y : StreamKept = record x { odd = None; bytes = [] } in y) (caught c) in
-    subst (λ (x : StreamKept). HasFinished x past) (sym left ∙ sym (caught_up-none c.give_rest.new.self)) (record {
+    let none_late : c.give_rest.new.self ≡ with_late_slots c.give_rest.new.self c.start-self-inside.result =
+    sym (with_late_slots-none c.give_rest.new.self) ∙ ap (with_late_slots c.give_rest.new.self) (sym c.start-self-inside.ensures) in
+    subst (λ (x : StreamKept). HasFinished x past) (sym left ∙ none_late) (record {
       payload = st.packed.payload;
       odd = refl;
       bytes = refl;

@@ -24,7 +24,7 @@ returns-clause-refused c row f same =
     let draft = c.in_ok-draft.ensures.draft in
     let why = without-frame c.in_ok-draft.draft.frame _ c.of.result c.refused-2.result 0 row fault.NoFrame f c.ok_or.result c.of.ensures c.refused-2.ensures
     c.ok_or.ensures.value same in
-    let few : length c.args.bytes.now ≤ most_table_bytes = omega (arith, c.if-bytes-gt-MAX_BYTES.false) in
+    let few : length c.args.bytes.now ≤ most_table_bytes = omega (arith, c.if-bytes-gt-MAX_TABLE_BYTES.false) in
     fault-of-rows c.args.bytes.now few ∙ ap first_fault (no-frame-no-rows (records_of c.args.bytes.now) c.in_ok-draft.draft draft why.0) ∙ why.1
 
 pub returns-clause-names : goal.returns-clause-names

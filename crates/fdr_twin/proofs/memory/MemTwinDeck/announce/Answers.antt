@@ -1,4 +1,4 @@
-use Rattle.fdr_twin.proofs.MemoryPass.{leaves_told, time_told, now_told}
+use Rattle.fdr_deck.proofs.MemoryPass.{leaves_told, time_told, now_told}
 use Rattle.fdr_twin.specs.TwinMemory.{side_memory}
 use Rattle.fdr_twin.proofs.memory.MemTwinDeck.announce.Goals as goal
 

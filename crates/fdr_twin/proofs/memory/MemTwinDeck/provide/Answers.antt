@@ -2,10 +2,10 @@ use Rattle.std.proofs.Common.{◌≡◌, length, inl, rules}
 use Rattle.fdr_deck.specs.Memory.{held_in, memory_state, memory_tells}
 use Rattle.fdr_deck.specs.Disk.{Begins}
 use Rattle.fdr_deck.specs.declared.calls.Call.TheVariants.{Provide}
-use Rattle.fdr_twin.proofs.MemoryCalls.{passes_entered}
-use Rattle.fdr_twin.proofs.MemoryDisk.{passes_unentered, within_provide_unentered, provides_provide, within_provide}
-use Rattle.fdr_twin.proofs.MemoryWrite.{begins_unentered, begins_failed, zeros_failed, passes_unprovided, within_unprovided}
-use Rattle.fdr_twin.proofs.MemoryPass.{extent_passed, disk_passed, passes_passed, within_provide_passed}
+use Rattle.fdr_deck.proofs.MemoryCalls.{passes_entered}
+use Rattle.fdr_deck.proofs.MemoryDisk.{passes_unentered, within_provide_unentered, provides_provide, within_provide}
+use Rattle.fdr_deck.proofs.MemoryWrite.{begins_unentered, begins_failed, zeros_failed, passes_unprovided, within_unprovided}
+use Rattle.fdr_deck.proofs.MemoryPass.{extent_passed, disk_passed, passes_passed, within_provide_passed}
 use Rattle.fdr_twin.specs.TwinMemory.{side_memory}
 use Rattle.fdr_twin.proofs.TwinSides.{side_numbered}
 use Rattle.fdr_twin.proofs.memory.MemTwinDeck.provide.Goals as goal

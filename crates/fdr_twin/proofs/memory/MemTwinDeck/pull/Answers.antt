@@ -1,5 +1,5 @@
 use Rattle.std.proofs.Common.{inl, ◌∙◌}
-use Rattle.fdr_twin.proofs.MemoryPass.{leaves_passed, time_passed, within_passed}
+use Rattle.fdr_deck.proofs.MemoryPass.{leaves_passed, time_passed, within_passed}
 use Rattle.fdr_twin.specs.TwinMemory.{side_memory}
 use Rattle.fdr_twin.proofs.TwinSides.{side_entered, entered_twin_rest, took_entered, took_count}
 use Rattle.fdr_twin.proofs.memory.MemTwinDeck.pull.Goals as goal

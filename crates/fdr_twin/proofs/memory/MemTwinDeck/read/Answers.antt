@@ -1,5 +1,5 @@
 use Rattle.std.proofs.Common.{ℕ, ◌+◌, List, length, slice_range, inl, ap, ◌∙◌, arith}
-use Rattle.fdr_twin.proofs.MemoryPass.{extent_passed, disk_passed, passes_passed, within_passed}
+use Rattle.fdr_deck.proofs.MemoryPass.{extent_passed, disk_passed, passes_passed, within_passed}
 use Rattle.fdr_twin.specs.TwinMemory.{side_memory}
 use Rattle.fdr_twin.proofs.memory.MemTwinDeck.read.Goals as goal
 

@@ -1,5 +1,5 @@
 use Rattle.std.proofs.Common.{inl}
-use Rattle.fdr_twin.proofs.MemoryPass.{learns_passed, disk_passed, passes_passed, within_passed}
+use Rattle.fdr_deck.proofs.MemoryPass.{learns_passed, disk_passed, passes_passed, within_passed}
 use Rattle.fdr_twin.specs.TwinMemory.{side_memory}
 use Rattle.fdr_twin.proofs.memory.MemTwinDeck.size.Goals as goal
 

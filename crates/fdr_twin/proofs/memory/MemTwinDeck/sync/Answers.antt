@@ -1,8 +1,8 @@
 use Rattle.std.proofs.Common.{List, ℕ, length, ap, rules}
 use Rattle.fdr_deck.specs.declared.calls.Call.TheVariants.{Sync}
-use Rattle.fdr_twin.proofs.MemoryCalls.{held_entered, passes_entered}
-use Rattle.fdr_twin.proofs.MemoryDisk.{settled_sync, no_more_sync, within_sync}
-use Rattle.fdr_twin.proofs.MemoryPass.{extent_passed, disk_passed, passes_passed, within_passed}
+use Rattle.fdr_deck.proofs.MemoryCalls.{held_entered, passes_entered}
+use Rattle.fdr_deck.proofs.MemoryDisk.{settled_sync, no_more_sync, within_sync}
+use Rattle.fdr_deck.proofs.MemoryPass.{extent_passed, disk_passed, passes_passed, within_passed}
 use Rattle.fdr_deck.specs.Disk.{KeepsDisk}
 use Rattle.fdr_deck.specs.Memory.{memory_state}
 use Rattle.fdr_twin.specs.TwinMemory.{side_memory}

@@ -1,7 +1,7 @@
 use Rattle.std.proofs.Common.{length}
-use Rattle.fdr_twin.proofs.MemoryDisk.{passes_unentered, within_unentered}
-use Rattle.fdr_twin.proofs.MemoryWrite.{tears_unentered, writes_put, tears_put, extent_put, passes_put, within_put, tears_failed}
-use Rattle.fdr_twin.proofs.MemoryWrite.{pending_failed, extent_failed, passes_failed, within_failed}
+use Rattle.fdr_deck.proofs.MemoryDisk.{passes_unentered, within_unentered}
+use Rattle.fdr_deck.proofs.MemoryWrite.{tears_unentered, writes_put, tears_put, extent_put, passes_put, within_put, tears_failed}
+use Rattle.fdr_deck.proofs.MemoryWrite.{pending_failed, extent_failed, passes_failed, within_failed}
 use Rattle.fdr_twin.specs.TwinMemory.{side_memory}
 use Rattle.fdr_twin.proofs.TwinSides.{side_numbered}
 use Rattle.fdr_twin.proofs.memory.MemTwinDeck.write.Goals as goal

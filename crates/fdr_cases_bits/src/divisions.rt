@@ -1,0 +1,41 @@
+//! How far divisors reach, and quotients there beside those of a division.
+
+use fdr_divisor::Divisor;
+
+/// Divisors from the least to the greatest, each with the greatest number within its reach.
+const REACH: [(u32, u64); 14] = [
+    (1, 8_388_607),
+    (2, 16_777_215),
+    (3, 25_165_823),
+    (7, 58_720_255),
+    (10, 83_886_079),
+    (100, 838_860_799),
+    (362, 3_036_676_095),
+    (363, 3_028_957_652),
+    (1_000, 1_099_511_627),
+    (4_095, 268_501_008),
+    (65_536, 16_777_215),
+    (1_000_000_000, 1_099),
+    (2_147_483_648, 511),
+    (4_294_967_295, 256),
+];
+
+#[test]
+fn reaches_up_to_the_last_number_and_no_further(rt: HostRuntime) {
+    for (by, last) in REACH {
+        assert!(rt; by > 0);
+        let divisor = Divisor::new(by);
+        assert!(rt; last < u64::MAX);
+        let next = last + 1;
+        assert!(rt; divisor.reaches(0), "0 by {by}");
+        assert!(rt; divisor.reaches(last), "{last} by {by}");
+        assert!(rt; !divisor.reaches(next), "{next} by {by}");
+        assert!(rt; !divisor.reaches(u64::MAX), "the greatest number by {by}");
+        if divisor.reaches(last) {
+            let (quotient, rest) = divisor.split(last);
+            assert_eq!(rt; divisor.quotient(last), quotient, "{last} by {by}");
+            assert_eq!(rt; u64::from(quotient), last / u64::from(by), "{last} by {by}");
+            assert_eq!(rt; u64::from(rest), last % u64::from(by), "{last} by {by}");
+        }
+    }
+}

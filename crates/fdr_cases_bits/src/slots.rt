@@ -1,0 +1,22 @@
+//! Worked slots of a stream of frames.
+
+use fdr_frame::{SlotKind, counter_of, slot_kind, subframe_of, word_of};
+
+#[test]
+fn places_slots(rt: HostRuntime) {
+    let cases = [
+        (0, SlotKind::Sync, 0, 1, 1),
+        (1, SlotKind::Plain, 0, 1, 2),
+        (63, SlotKind::Plain, 0, 1, 64),
+        (64, SlotKind::Sync, 0, 2, 1),
+        (255, SlotKind::Counter, 0, 4, 64),
+        (256, SlotKind::Sync, 1, 1, 1),
+        (256 * 4096 + 255, SlotKind::Counter, 0, 4, 64),
+    ];
+    for (k, kind, counter, subframe, word) in cases {
+        assert_eq!(rt; slot_kind(k, 64, 64, 4), kind, "kind of slot {k}");
+        assert_eq!(rt; counter_of(k, 64), counter, "counter of slot {k}");
+        assert_eq!(rt; subframe_of(k, 64), subframe, "subframe of slot {k}");
+        assert_eq!(rt; word_of(k, 64), word, "word of slot {k}");
+    }
+}

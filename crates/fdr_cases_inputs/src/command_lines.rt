@@ -1,0 +1,171 @@
+//! Worked command lines. Their words are parted by one space.
+
+use fdr_words::{Request, WordsFault, read_words};
+use std::alloc::Global;
+use std::test::Fail;
+
+fn read(alloc: Global, line: &str) -> Result<Result<Request, WordsFault>, Fail> {
+    let mut args = Vec::new(alloc);
+    for word in line.split(' ') {
+        args.push(word.to_string(alloc)?)?;
+    }
+    Ok(read_words(alloc, args.as_slice()))
+}
+
+/// The name of the command that is asked for.
+fn command_of(request: &Request) -> &'static str {
+    match request {
+        Request::CheckTable { .. } => "check",
+        Request::StreamLine { .. } => "stream",
+        Request::ListBits { .. } => "listbits",
+        Request::Encode => "encode",
+        Request::Decode => "decode",
+        Request::FormatImage { .. } => "format",
+        Request::RecordLine { .. } => "record",
+        Request::RecoverImage { .. } => "recover",
+        Request::ListImage { .. } => "list",
+        Request::Drill { .. } => "drill",
+    }
+}
+
+/// The numbers of the two options, 0 where the command has none.
+fn numbers_of(request: &Request) -> (u64, u32) {
+    match request {
+        Request::FormatImage { slots, payload, .. } => (u64::from(*slots), *payload),
+        Request::Drill { seed, frames, .. } => (*seed, *frames),
+        _ => (0, 0),
+    }
+}
+
+#[test]
+fn reads_each_command(rt: HostRuntime) -> Result<(), Fail> {
+    let cases = [
+        ("check t1.csv", Some("t1.csv"), None, false),
+        ("stream t1.csv", Some("t1.csv"), None, false),
+        ("listbits t1.csv", Some("t1.csv"), None, false),
+        ("encode", None, None, false),
+        ("decode", None, None, false),
+        ("record t1.csv a.img", Some("t1.csv"), Some("a.img"), true),
+        ("recover a.img", None, Some("a.img"), false),
+        ("list t1.csv a.img", Some("t1.csv"), Some("a.img"), false),
+    ];
+    for (line, table, image, writes) in cases {
+        let request = read(rt.alloc(), line)?.ok().ok_or(line)?;
+        let (command, _) = line.split_once(' ').unwrap_or((line, ""));
+        assert_eq!(rt; command_of(&request), command, "{line}");
+        assert_eq!(rt;
+            (request.table(), request.image()),
+            (table, image),
+            "{line}"
+        );
+        assert_eq!(rt; request.writes(), writes, "{line}");
+    }
+    Ok(())
+}
+
+#[test]
+fn reads_options_anywhere(rt: HostRuntime) -> Result<(), Fail> {
+    let cases = [
+        ("format t i --payload=64 --slots 016", "format", (16, 64)),
+        (
+            "--slots=16 format --payload 0000000064 t i",
+            "format",
+            (16, 64),
+        ),
+        (
+            "format --slots 65536 t --payload 4096 i",
+            "format",
+            (65_536, 4096),
+        ),
+        ("format t i --slots 4 --payload 64", "format", (4, 64)),
+        ("drill t i --seed 1 --frames 10", "drill", (1, 10)),
+        ("drill t i --frames=10 --seed=1", "drill", (1, 10)),
+        ("--frames 0000000010 drill --seed=01 t i", "drill", (1, 10)),
+        ("drill t i --seed=0 --frames=1", "drill", (0, 1)),
+        (
+            "drill t --seed=4294967295 i --frames=100000",
+            "drill",
+            (4_294_967_295, 100_000),
+        ),
+    ];
+    for (line, command, numbers) in cases {
+        let request = read(rt.alloc(), line)?.ok().ok_or(line)?;
+        assert_eq!(rt; command_of(&request), command, "{line}");
+        assert_eq!(rt;
+            (request.table(), request.image()),
+            (Some("t"), Some("i")),
+            "{line}"
+        );
+        assert_eq!(rt; numbers_of(&request), numbers, "{line}");
+        assert!(rt; request.writes(), "{line}");
+    }
+    Ok(())
+}
+
+#[test]
+fn refuses_other_words(rt: HostRuntime) -> Result<(), Fail> {
+    let lines = [
+        "",
+        "listbits",
+        "listbits t more",
+        "listbits ",
+        "check -",
+        "check --",
+        "--help t",
+        "--version",
+        "stream",
+        "encode t",
+        "decode --slots 16",
+        "encodes",
+        "record t",
+        "record t i --slots 16",
+        "record t i --seed 1",
+        "record t i more",
+        "list t",
+        "list t i --slots 16",
+        "list t i more",
+        "lists t i",
+        "recover i --slots 16",
+        "recover t i",
+        "format t i",
+        "format t i --slots 16",
+        "format t i --slots 16 --slots 16 --payload 64",
+        "format t i --slots=16 --payload=",
+        "format t i --slots=16 --payload",
+        "format t i --payload --slots=16 64",
+        "format t i --slots 3 --payload 64",
+        "format t i --slots 65537 --payload 64",
+        "format t i --slots 4 --payload 63",
+        "format t i --slots 4 --payload 4097",
+        "format t i --slots 00000000004 --payload 64",
+        "format t i --slots +4 --payload 64",
+        "format t i --seed=1 --frames=1",
+        "drill t i",
+        "drill t i --seed 1",
+        "drill t i --frames 1",
+        "drill t --seed=1 --frames=1",
+        "drill t i --seed=1 --frames=0",
+        "drill t i --seed=1 --frames=100001",
+        "drill t i --seed=4294967296 --frames=1",
+        "drill t i --seed=1 --seed=1",
+        "drill t i --slots=16 --payload=64",
+    ];
+    for line in lines {
+        let answer = read(rt.alloc(), line)?;
+        assert_eq!(rt; answer.err(), Some(WordsFault::Usage), "{line}");
+    }
+    let none = read_words(rt.alloc(), &[]);
+    assert_eq!(rt; none.err(), Some(WordsFault::Usage));
+    Ok(())
+}
+
+#[test]
+fn refuses_any_number_of_words(rt: HostRuntime) -> Result<(), Fail> {
+    let mut args = Vec::new(rt.alloc());
+    for _ in 0..20_000 {
+        args.push("check".to_string(rt.alloc())?)?;
+    }
+    let answer = read_words(rt.alloc(), args.as_slice());
+    assert_eq!(rt; answer.err(), Some(WordsFault::Usage));
+    Ok(())
+}

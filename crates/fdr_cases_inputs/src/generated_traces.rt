@@ -1,0 +1,83 @@
+//! Worked traces. The words were computed by another program, except the first one of seed 1.
+
+use fdr_bus::{BusRecord, RecordKind};
+use fdr_check::check;
+use fdr_gen::Gen;
+use fdr_table::Table;
+use std::alloc::Global;
+use std::test::Fail;
+
+const ONE: &[u8] = b"F,64,2,1\nP,ALT,0,203,,11,12,U,1,1,0,0,16\nL,ALT,1,1,10,0,1,12,0,1\n";
+
+const TWO: &[u8] =
+    b"F,64,2,1\nP,ALT,0,203,,11,12,U,1,1,0,0,16\nP,POS,3,310,2,11,12,U,1,1,0,0,16\nL,ALT,1,1,10,0,1,12,0,1\nL,POS,1,1,11,0,1,12,0,1\n";
+
+const NONE: &[u8] = b"F,64,2,1\n";
+
+fn generator_of(alloc: Global, table: &[u8], seed: u64) -> Result<Gen, Fail> {
+    let table = Table::read(alloc, table).ok().ok_or("table")?;
+    let sound = check(alloc, table).ok().ok_or("sound")?;
+    let generator = Gen::new(alloc, &sound, seed, 1).ok().ok_or("memory")?;
+    Ok(generator)
+}
+
+fn word(bus: u8, word: u32, second: u8) -> Option<BusRecord> {
+    Some(BusRecord {
+        kind: RecordKind::Word,
+        bus,
+        word,
+        time: 1_000_000 * u64::from(second),
+    })
+}
+
+const END: Option<BusRecord> = Some(BusRecord {
+    kind: RecordKind::End,
+    bus: 0,
+    word: 0,
+    time: 4_000_000,
+});
+
+#[test]
+fn gives_the_trace_of_seed_1(rt: HostRuntime) -> Result<(), Fail> {
+    let mut generator = generator_of(rt.alloc(), ONE, 1)?;
+    for (bits, second) in [
+        (0xec57_6cc1, 0),
+        (0x0268_84c1, 1),
+        (0x25fa_e0c1, 2),
+        (0x6203_54c1, 3),
+    ] {
+        assert_eq!(rt; generator.next(), word(0, bits, second));
+    }
+    assert_eq!(rt; generator.next(), END);
+    assert_eq!(rt; generator.next(), None);
+    assert_eq!(rt; generator.next(), None);
+    Ok(())
+}
+
+#[test]
+fn gives_each_parameter_a_word_in_turn(rt: HostRuntime) -> Result<(), Fail> {
+    let mut generator = generator_of(rt.alloc(), TWO, 0xfedc_ba98_7654_3210)?;
+    for (bus, bits, second) in [
+        (0, 0xa2d5_d4c1, 0),
+        (3, 0x8199_6613, 0),
+        (0, 0xa4d9_30c1, 1),
+        (3, 0x700c_6213, 1),
+        (0, 0x14f0_d4c1, 2),
+        (3, 0x2a5b_6613, 2),
+        (0, 0x37a2_48c1, 3),
+        (3, 0xa854_8213, 3),
+    ] {
+        assert_eq!(rt; generator.next(), word(bus, bits, second));
+    }
+    assert_eq!(rt; generator.next(), END);
+    assert_eq!(rt; generator.next(), None);
+    Ok(())
+}
+
+#[test]
+fn gives_the_end_alone_without_parameters(rt: HostRuntime) -> Result<(), Fail> {
+    let mut generator = generator_of(rt.alloc(), NONE, 1)?;
+    assert_eq!(rt; generator.next(), END);
+    assert_eq!(rt; generator.next(), None);
+    Ok(())
+}

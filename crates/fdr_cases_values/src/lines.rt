@@ -1,0 +1,106 @@
+//! Worked lines.
+
+use fdr_io::{MemSink, OutBuffer};
+use fdr_listing::{Line, NumberTexts, ShortText, gap_line, put_row, row_line, value_text};
+use fdr_recon::Row;
+use fdr_table::Name;
+use std::alloc::Global;
+use std::test::Fail;
+
+#[test]
+fn writes_values(rt: HostRuntime) {
+    let cases: [(i64, u8, &[u8]); 7] = [
+        (0, 0, b"0"),
+        (0, 1, b"0.0"),
+        (-1, 1, b"-0.1"),
+        (12345, 0, b"12345"),
+        (12345, 2, b"123.45"),
+        (5, 9, b"0.000000005"),
+        (i64::MIN, 9, b"-9223372036.854775808"),
+    ];
+    for (value, decimals, text) in cases {
+        assert!(rt; decimals <= 9);
+        assert_eq!(rt;
+            value_text(value, decimals).bytes(),
+            text,
+            "{value} with {decimals} decimals"
+        );
+    }
+}
+
+#[tactic(auto, using(fdr_line::proofs::Lengths::numbers))]
+#[test]
+fn writes_lines(rt: HostRuntime) -> Result<(), Fail> {
+    let name = Name::new(b"VRTG").ok_or("name")?;
+    let row = Row {
+        counter: 4095,
+        subframe: 4,
+        word: 1024,
+        param: 0,
+        value: -1,
+    };
+    assert_eq!(rt;
+        row_line(&row, &name, 3).bytes(),
+        b"row,4095,4,1024,VRTG,-0.001\n".as_slice()
+    );
+    assert_eq!(rt; gap_line(0, 3072).bytes(), b"gap,0,3072\n".as_slice());
+    let mut line = Line::new();
+    line.add(b"frames ");
+    line.add_number(0);
+    assert_eq!(rt; line.bytes(), b"frames 0".as_slice());
+    Ok(())
+}
+
+/// The line of a row out of texts that are ready.
+fn put_together(alloc: Global, row: &Row, name: &Name, decimals: u8) -> Result<Vec<u8>, Fail> {
+    if row.counter >= 4096 || row.subframe > 4 || row.word > 1024 || decimals > 9 {
+        return Err("a row")?;
+    }
+    let mut buffer = OutBuffer::new(alloc)?;
+    let numbers = NumberTexts::new(alloc).ok().ok_or("numbers")?;
+    let start = ShortText::row_start(row.counter);
+    let place = ShortText::row_place(row.subframe, row.word);
+    put_row(&mut buffer, &numbers, &start, &place, name, row, decimals);
+    let mut sink = MemSink::new(alloc, Vec::new(alloc));
+    buffer.finish(&mut sink).ok().ok_or("write")?;
+    Ok(Vec::from_slice(alloc, sink.bytes())?)
+}
+
+#[test]
+fn puts_together_the_line_of_a_row(rt: HostRuntime) -> Result<(), Fail> {
+    let names: [&[u8]; 2] = [b"A", b"SIXTEEN_LETTERS_"];
+    let cases = [
+        (0, 1, 1, 0, 0),
+        (7, 2, 10, -1, 0),
+        (89, 3, 999, -1, 1),
+        (4095, 4, 1024, i64::MIN, 9),
+        (512, 4, 64, i64::MAX, 2),
+        (1, 1, 2, 4095, 0),
+        (1, 1, 2, 4096, 0),
+        (1, 1, 2, -40959, 1),
+        (1, 1, 2, 409605, 2),
+        (1, 1, 2, 5, 3),
+        (1, 1, 2, -4096099, 3),
+        (1, 1, 2, 10001, 4),
+    ];
+    for name in names {
+        let name = Name::new(name).ok_or("name")?;
+        for (counter, subframe, word, value, decimals) in cases {
+            let row = Row {
+                counter,
+                subframe,
+                word,
+                param: 0,
+                value,
+            };
+            let line = put_together(rt.alloc(), &row, &name, decimals)?;
+            assert!(rt; decimals <= 9 && counter < 4096 && subframe <= 4 && word <= 1024);
+            assert_eq!(rt;
+                line.as_slice(),
+                row_line(&row, &name, decimals).bytes(),
+                "{counter}, {value}"
+            );
+        }
+    }
+    Ok(())
+}

@@ -1,0 +1,140 @@
+//! Rows of worked tables.
+
+ghost use Rattle.std.specs.Prelude.{◌≡◌, ◌<◌, All, IfOk};
+
+use crate::frames::frame_of;
+use fdr_check::check;
+use fdr_layout::Layout;
+use fdr_recon::{Rebuild, Row};
+use fdr_table::Table;
+use std::alloc::Global;
+use std::test::Fail;
+
+/// An altitude in each frame.
+const ALTITUDE: &[u8] = b"F,64,2,1\nP,ALT,0,203,,11,12,U,1,1,0,0,16\nL,ALT,1,1,10,0,1,12,0,1\n";
+
+/// A position of two parts, one in each of two frames, and an altitude in each frame.
+const POSITION: &[u8] = b"F,64,2,1
+P,POS,1,310,,9,20,U,1,1,0,0,1
+L,POS,1,1,20,0,1,12,0,16
+L,POS,2,1,20,0,1,8,1,16
+P,ALT,0,203,,11,12,U,1,1,0,0,16
+L,ALT,1,1,10,0,1,12,0,1
+";
+
+fn rebuild_by(alloc: Global, table: &[u8]) -> Result<Rebuild, Fail>
+    ensures { IfOk result (λ r. r.frame.words ≡ 64) }
+{
+    let table = Table::read(alloc, table).ok().ok_or("table")?;
+    let sound = check(alloc, table).ok().ok_or("sound")?;
+    if sound.table().frame().words != 64 {
+        return Err("words")?;
+    }
+    let Ok(layout) = Layout::make(alloc, &sound) else {
+        return Err("memory")?;
+    };
+    let Ok(rebuild) = Rebuild::new(alloc, layout, &sound) else {
+        return Err("memory")?;
+    };
+    Ok(rebuild)
+}
+
+fn altitude(param: u32, counter: u16, value: i64) -> Option<Row> {
+    Some(Row {
+        counter,
+        subframe: 1,
+        word: 10,
+        param,
+        value,
+    })
+}
+
+fn position(counter: u16, value: i64) -> Option<Row> {
+    Some(Row {
+        counter,
+        subframe: 1,
+        word: 20,
+        param: 0,
+        value,
+    })
+}
+
+// The counter counts from 4095 to 0.
+#[test]
+fn lists_an_altitude_of_each_frame(rt: HostRuntime) -> Result<(), Fail> {
+    let mut rebuild = rebuild_by(rt.alloc(), ALTITUDE)?;
+    assert_eq!(rt; rebuild.rows(), 0);
+    rebuild.frame(true, &frame_of(4095, 5, 0));
+    assert_eq!(rt; rebuild.rows(), 1);
+    assert_eq!(rt; rebuild.row(0), altitude(0, 4095, 5));
+    rebuild.frame(true, &frame_of(0, 5, 0));
+    assert_eq!(rt; rebuild.rows(), 1);
+    assert_eq!(rt; rebuild.row(0), altitude(0, 0, 5));
+    Ok(())
+}
+
+// Scales that are small on the way, that fall with the raw number, and that are larger.
+#[test]
+fn values_are_those_of_the_table(rt: HostRuntime) -> Result<(), Fail> {
+    let alloc = rt.alloc();
+    let scales = [
+        "U,1,1,0,0",
+        "S,1,2,0,1",
+        "S,3,7,-100,1",
+        "U,-1,3,7,2",
+        "S,0,1,5,0",
+        "U,2048,1,0,0",
+        "U,2049,1,0,0",
+        "U,268501,1000,0,0",
+        "U,268502,1000,0,0",
+        "S,1000000000,1,0,0",
+        "S,1,1000000000,-1000000000000000,9",
+    ];
+    for scale in scales {
+        let text = format!(in alloc;
+            "F,64,2,1\nP,ALT,0,203,,11,12,{scale},16\nL,ALT,1,1,10,0,1,12,0,1\n"
+        )?;
+        let table = Table::read(alloc, text.as_bytes()).ok().ok_or(scale)?;
+        let param = table.params().first().ok_or(scale)?;
+        assert_eq!(rt; param.width, 12, "{scale}");
+        for raw in [0, 1, 7, 0x7ff, 0x800, 0xffe, 0xfff] {
+            let words = frame_of(0, raw, 0);
+            let value = param.value(u32::from(raw));
+            let mut rebuild = rebuild_by(alloc, text.as_bytes())?;
+            rebuild.frame(false, &words);
+            assert_eq!(rt; rebuild.rows(), 1);
+            assert_eq!(rt; rebuild.row(0), altitude(0, 0, value), "{raw} by {scale}");
+        }
+    }
+    Ok(())
+}
+
+// The low twelve bits of the position are in a frame of cycle 0, the high eight in the next one.
+#[test]
+fn joins_the_parts_of_a_position(rt: HostRuntime) -> Result<(), Fail> {
+    let mut rebuild = rebuild_by(rt.alloc(), POSITION)?;
+    rebuild.frame(false, &frame_of(0, 5, 0xcde));
+    assert_eq!(rt; rebuild.rows(), 1);
+    assert_eq!(rt; rebuild.row(0), altitude(1, 0, 5));
+    rebuild.frame(true, &frame_of(1, 5, 0xab));
+    assert_eq!(rt; rebuild.rows(), 2);
+    assert_eq!(rt; rebuild.row(0), altitude(1, 1, 5));
+    assert_eq!(rt; rebuild.row(1), position(0, 703_710));
+    Ok(())
+}
+
+// A frame that is apart, or whose counter isn't the next, is joined with none before it.
+#[test]
+fn joins_no_parts_over_a_gap(rt: HostRuntime) -> Result<(), Fail> {
+    for (before, adjacent, counter) in [(0, false, 1), (0, true, 17), (2, true, 1)] {
+        let first = frame_of(before, 5, 0xcde);
+        let second = frame_of(counter, 5, 0xab);
+        let mut rebuild = rebuild_by(rt.alloc(), POSITION)?;
+        rebuild.frame(false, &first);
+        rebuild.frame(adjacent, &second);
+        assert_eq!(rt; rebuild.rows(), 2);
+        assert_eq!(rt; rebuild.row(0), altitude(1, counter, 5));
+        assert_eq!(rt; rebuild.row(1), None);
+    }
+    Ok(())
+}

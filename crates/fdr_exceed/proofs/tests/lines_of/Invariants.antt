@@ -1,8 +1,0 @@
-use Rattle.std.proofs.Common.{◌≡◌, ◌≤◌, []}
-use Rattle.fdr_exceed.proofs.tests.lines_of.Given as goal
-
-abbrev pub invariant-loop-step : goal.invariant-loop-step
-invariant-loop-step l = record {
-  drained : l.watch.due ≡ [];
-  few : l.watch.rows ≤ l.step-index;
-}

@@ -1,0 +1,447 @@
+-- What a recording of all that a source gives promises, from the start of its session on.
+use Rattle.std.proofs.Common.{◌≡◌, ◌≢◌, ◌⊎◌, inl, inr, ⊎_elim, ℕ, ◌+◌, ◌-◌, ◌^◌, ◌<◌, ◌≤◌, max, List, [], ◌++◌, length, take}
+use Rattle.std.proofs.Common.{Option, Some, None, Err, ap, sym, refl, ◌∙◌, subst, arith}
+use Rattle.std.specs.Prelude.{IsTrue, slice_index, ◌↔◌}
+use Rattle.std.proofs.lemmas.Bool.{cases_lt}
+use Rattle.std.proofs.lemmas.List.{get_or_past, take-take}
+use Rattle.fdr_bus.specs.declared.BusRecord.{BusRecord}
+use Rattle.fdr_deck.specs.State.{Moment, State, Tells}
+use Rattle.fdr_deck.specs.Pull.{KeepsInput}
+use Rattle.fdr_deck.specs.Moments.{EachMoment, HasSamePulls, IsSoundDeck}
+use Rattle.fdr_deck.proofs.Moments.{EachMoment-then, EachMoment-weaken, Elapses-then, IsDiskWork-here}
+use Rattle.fdr_slot.specs.Headers.{header_of}
+use Rattle.fdr_slot.specs.declared.image.Header.{Header}
+use Rattle.fdr_slot.specs.declared.image.ImageFault.{ImageFault}
+use Rattle.fdr_slot.specs.declared.image.ImageFault.TheVariants as fault
+use Rattle.fdr_recover.specs.Blocks.{Block}
+use Rattle.fdr_recover.specs.Images.{next_of, recovered_run}
+use Rattle.fdr_recover.specs.ImageHeader.{image_fault_of, header_in, IsFor}
+use Rattle.fdr_recover.specs.Payloads.{run_in}
+use Rattle.fdr_ring.specs.Closing.{image_with_closed_gate}
+use Rattle.fdr_slot.specs.Places.{gate_at}
+use Rattle.fdr_ring.proofs.Bytes.{shut_closed, shut_turned}
+use Rattle.fdr_ring.specs.Runs.{IsTail, last_blocks}
+use Rattle.fdr_table.specs.Rows.{TableRows}
+use Rattle.fdr_trace.specs.Pulls.{PullsUntilDecided}
+use Rattle.fdr_trace.proofs.Pulling.{PullsUntilDecided-kept, PullsUntilDecided-none}
+use Rattle.fdr_recorder.specs.Ends.{HasRecordedSource, IsRefusedAtStart, RecordingEnd}
+use Rattle.fdr_recorder.specs.Keeping.{RecoversAll, RecoversPrefixAfter}
+use Rattle.fdr_recorder.specs.Lag.{IsInTime, IsLagMoment}
+use Rattle.fdr_recorder.specs.NewBlocks.{AddsToRun, IsBlockMoment, MayRecord, RecordsBlocks, new_blocks, next_in, owed_number}
+use Rattle.fdr_recorder.specs.Past.{all_blocks, past_at_start}
+use Rattle.fdr_recorder.specs.Recording.{RecordsAllOf, IsReady}
+use Rattle.fdr_recorder.specs.Refusing.{RefusesSession}
+use Rattle.fdr_recorder.specs.Starting.{IsStarted, IsStarting, Starts}
+use Rattle.fdr_recorder.specs.Supplied.{Continues, IsSupplyMoment, RecordsSupply, past_fed}
+use Rattle.fdr_recorder.specs.Supply.{RecordSupply, EndsSupply, PullsNothing, drawn_trace, line_trace, supplied_records}
+use Rattle.fdr_recorder.specs.declared.error.SessionFault.{SessionFault}
+use Rattle.fdr_recorder.specs.declared.error.SessionFault.TheVariants as session
+use Rattle.fdr_recorder.specs.declared.session.Session.{Session}
+use Rattle.fdr_recorder.proofs.ReadRecords.{PullsUntilDecided-next}
+use Rattle.fdr_recorder.proofs.SessionEnds.{EndsSupply-cut, is_seq_end}
+use Rattle.fdr_recorder.proofs.Starting.{Starts-looked}
+use Rattle.fdr_recorder.proofs.Steps.{keeps_behind, keeps_more, keeps_on}
+
+-- ---- moments by the image at entry
+
+-- a session's moment, by the header and the next number of the image at entry
+at_entry : (t : TableRows) (h : Header) (first : ℕ) (entry : State) (blocks new : List Block) (pulled : List ℕ) (m : Moment)
+    → h ≡ header_in entry.held → first ≡ next_in entry.held → blocks ≡ new
+    → IsSupplyMoment t h first entry blocks pulled m → IsSupplyMoment t (header_in entry.held) (next_in entry.held) entry new pulled m
+at_entry t h first entry blocks new pulled m header next same at =
+    let by_header = subst (λ (x : Header). IsSupplyMoment t x first entry blocks pulled m) header at in
+    let by_next = subst (λ (n : ℕ). IsSupplyMoment t (header_in entry.held) n entry blocks pulled m) next by_header in
+    subst (λ (l : List Block). IsSupplyMoment t (header_in entry.held) (next_in entry.held) entry l pulled m) same by_next
+
+take_none : (n : ℕ) (xs : List Block) → n ≡ 0 → take n xs ≡ []
+take_none n xs none = ap (λ m. take m xs) none
+
+-- while the session starts
+pub starting_moment : (t : TableRows) (entry : State) (records : List BusRecord) (m : Moment) → IsStarting (header_in entry.held) entry m
+    → IsBlockMoment t entry records m
+starting_moment t entry records m at =
+    let keeps = at.recording.image in
+    record {
+      keeps = keeps_more (header_in entry.held) entry.held m.image (run_in entry.held) [] (new_blocks t entry.held records) m.announced keeps;
+      close = omega (arith, keeps.next, keeps.fits);
+    }
+
+-- from the start of the session on
+module _ (tells : Tells) (t : TableRows) (s : Session) (d0 d1 : State) (sound1 : IsSoundDeck tells d1)
+    (starts : Starts tells (header_in d0.held) d0 d1) (is : IsStarted tells t s d0 d1)
+  where
+    -- what the disk holds then keeps all blocks at entry
+    kept : IsTrue tells.stops → IsReady (next_in d0.held) d0
+        → RecoversAll (header_in d0.held) d0.held (run_in d0.held) [] d1.held
+    kept stops ready =
+        let h = header_in d0.held in
+        let m : Moment = record { image = d1.held; announced = d1.announced; taken = d1.taken; pulled_before = d1.pulled_before } in
+        let since = sound1.counts_now stops m (sound1.held stops) refl (record { taken = refl; pulled_before = refl }) in
+        let first = sound1.falls stops d0.clock d1.clock m starts.time.later (omega arith) since in
+        let at = (starts.moments ready stops m first).recording.image in
+        record {
+          kept = at.kept;
+          run = subst (λ (l : List Block). IsTail (h.slots - 2) (run_in d0.held ++ l) (recovered_run h d1.held))
+              (take_none at.count [] (omega (arith, at.fits))) at.run;
+          next = omega (arith, at.next, at.fits);
+        }
+
+    line_same : (m : Moment) → HasSamePulls d1 m → HasSamePulls d0 m
+    line_same m at = record { taken = at.taken ∙ starts.input.taken; pulled_before = at.pulled_before ∙ starts.input.pulled_before }
+
+    lag_before : (owed_of : List BusRecord → ℕ) (pulled : List ℕ) (m : Moment) → IsLagMoment owed_of d1 pulled m
+        → IsLagMoment owed_of d0 pulled m
+    lag_before owed_of pulled m at = record {
+      pulled = ⊎_elim (λ here. inl (line_same m here))
+          (λ late. inr (subst (λ n. IsInTime owed_of n pulled m.announced m.pulled_before m.taken) starts.input.taken late)) at.pulled;
+    }
+
+    session_moment : (blocks : List Block) (pulled : List ℕ) (m : Moment) → IsTrue tells.stops → IsTrue tells.bytes
+        → MayRecord d0 → IsSupplyMoment t s.ring.header s.ring.next d1 blocks pulled m
+        → IsSupplyMoment t s.ring.header s.ring.next d0 blocks pulled m
+    session_moment blocks pulled m stops bytes ready at =
+        let all : RecoversAll s.ring.header d0.held (recovered_run s.ring.header d0.held) [] d1.held =
+        subst (λ (h : Header). RecoversAll h d0.held (recovered_run h d0.held) [] d1.held) (sym (is.header bytes)) (kept stops ready) in
+        let low = is.least (omega (arith, ready.greatest, is.next bytes, ap (λ (h : Header). next_of h d0.held) (is.header bytes))) in
+        record {
+          keeps = keeps_on s.ring.header d0.held d1.held m.image (recovered_run s.ring.header d0.held) [] blocks m.announced all at.keeps;
+          close = at.close;
+          least = omega (arith, low, at.least);
+          in_time = lag_before (owed_number t s.ring.header s.ring.next) pulled m at.in_time;
+        }
+
+-- ---- all promises
+
+pub none_pulled : (tells : Tells) (d0 d1 : State) → KeepsInput d0 d1 → d1.input_faults ≡ d0.input_faults → PullsUntilDecided tells d0 d1 [] []
+none_pulled tells d0 d1 line faults = PullsUntilDecided-kept tells d0 d0 d1 [] [] (PullsUntilDecided-none tells d0 []) line (omega (arith, faults))
+
+pub chained : (t : TableRows) (tells : Tells) (old new : State) (records : List BusRecord)
+    → (MayRecord old → EachMoment tells old new (IsBlockMoment t old records))
+    → (whole : List Block) → IsTail ((header_in old.held).slots - 2) whole (run_in old.held) → MayRecord old
+    → EachMoment tells old new (λ (m : Moment). RecoversPrefixAfter (header_in old.held) whole (new_blocks t old.held records) m.image)
+chained t tells old new records moments whole tail ready = EachMoment-weaken tells old new (IsBlockMoment t old records)
+    (λ (m : Moment). RecoversPrefixAfter (header_in old.held) whole (new_blocks t old.held records) m.image)
+    (λ m at. keeps_behind (header_in old.held) old.held m.image whole (run_in old.held) (new_blocks t old.held records) m.announced tail at.keeps)
+    (moments ready)
+
+-- where no record was fed
+pub RecordsBlocks-unbegun : (t : TableRows) (tells : Tells) (records : List BusRecord) (d0 d1 : State) (all used_up : Type 0)
+    → Starts tells (header_in d0.held) d0 d1 → (all → ⊥) → (used_up → ⊥) → RecordsBlocks t tells records d0 d1 all used_up
+RecordsBlocks-unbegun t tells records d0 d1 all used_up starts not_all not_end =
+    let moments : MayRecord d0 → EachMoment tells d0 d1 (IsBlockMoment t d0 records) = λ ready.
+    EachMoment-weaken tells d0 d1 (IsStarting (header_in d0.held) d0) (IsBlockMoment t d0 records)
+    (λ m at. starting_moment t d0 records m at) (starts.moments ready) in
+    record {
+      time = starts.time;
+      moments = moments;
+      chain = chained t tells d0 d1 records moments;
+      recorded = λ whole. absurd (not_all whole);
+      within = λ whole. absurd (not_all whole);
+      ready = λ whole. absurd (not_all whole);
+      near = λ whole. absurd (not_all whole);
+      seq_end = λ e. absurd (not_end e);
+      beyond = λ e. absurd (not_end e);
+      good = λ either. absurd (⊎_elim not_all not_end either);
+    }
+
+-- less is promised where less is known to be recorded
+pub RecordsBlocks-weaken : (t : TableRows) (tells : Tells) (records : List BusRecord) (old new : State) (all all' used_up used_up' : Type 0)
+    → (all' → all) → (used_up' → used_up) → RecordsBlocks t tells records old new all used_up → RecordsBlocks t tells records old new all' used_up'
+RecordsBlocks-weaken t tells records old new all all' used_up used_up' whole ended is = record {
+  time = is.time;
+  moments = is.moments;
+  chain = is.chain;
+  recorded = λ e. is.recorded (whole e);
+  within = λ e. is.within (whole e);
+  ready = λ e. is.ready (whole e);
+  near = λ e. is.near (whole e);
+  seq_end = λ e. is.seq_end (ended e);
+  beyond = λ e. is.beyond (ended e);
+  good = λ either. is.good (⊎_elim (λ e. inl (whole e)) (λ e. inr (ended e)) either);
+}
+
+none_of : (from : RecordSupply) → PullsNothing from []
+none_of line_trace = tt
+none_of (drawn_trace t seed frames) = refl
+
+-- what is owed then
+pub starting_lag : (t : TableRows) (tells : Tells) (d0 d1 : State) → Starts tells (header_in d0.held) d0 d1 → MayRecord d0
+    → EachMoment tells d0 d1 (IsLagMoment (owed_number t (header_in d0.held) (next_in d0.held)) d0 [])
+starting_lag t tells d0 d1 starts ready = EachMoment-weaken tells d0 d1 (IsStarting (header_in d0.held) d0)
+    (IsLagMoment (owed_number t (header_in d0.held) (next_in d0.held)) d0 [])
+    (λ m at. record { pulled = inl at.recording.pulled }) (starts.moments ready)
+
+-- so nothing was pulled
+pub RecordsSupply-unbegun : (from : RecordSupply) (t : TableRows) (tells : Tells) (d0 d1 : State) (f : SessionFault)
+    → Starts tells (header_in d0.held) d0 d1 → (f ≡ session.SeqEnd → ⊥) → RefusesSession t tells d0 d1 (Err f)
+    → RecordsSupply from t tells d0 d1 (Err f)
+RecordsSupply-unbegun from t tells d0 d1 f starts not_end image = record {
+  pulled = [];
+  pulls = none_pulled tells d0 d1 starts.input starts.input_faults;
+  blocks = RecordsBlocks-unbegun t tells (supplied_records from []) d0 d1 (HasRecordedSource (Err f)) (◌≡◌ {A = RecordingEnd} (Err f) (Err session.SeqEnd))
+      starts (λ all. all) (λ e. not_end (is_seq_end f e));
+  image = image;
+  in_time = λ ready. starting_lag t tells d0 d1 starts ready;
+  ends = EndsSupply-cut from tells d0 d1 [] f (none_of from) (λ line known. starts.input_faults);
+}
+
+-- where the deck wasn't used
+pub nothing_started : (tells : Tells) (d : State) → IsSoundDeck tells d → Starts tells (header_in d.held) d d
+nothing_started tells d sound =
+    Starts-looked tells (header_in d.held) d d sound (IsDiskWork-here tells d.may_leave d sound (λ stops image leaves. leaves))
+
+-- ---- which refusal is answered
+
+words_same : (i w j v : ℕ) → ◌≡◌ {A = RecordingEnd} (Err (session.WordsDiffer i w)) (Err (session.WordsDiffer j v))
+    → session.WordsDiffer i w ≡ session.WordsDiffer j v
+words_same i w j v e = cc
+
+words_are : (i w j v : ℕ) → i ≡ j → w ≡ v → ◌≡◌ {A = RecordingEnd} (Err (session.WordsDiffer i w)) (Err (session.WordsDiffer j v))
+words_are i w j v a b = ap (λ n. Err (session.WordsDiffer n w)) a ∙ ap (λ n. Err (session.WordsDiffer j n)) b
+
+some_same : (a b : ImageFault) → ◌≡◌ {A = Option ImageFault} (Some a) (Some b) → a ≡ b
+some_same a b e = cc
+
+-- an image has one first fault, or none
+pub no_first : (image : List ℕ) (why : ImageFault) → image_fault_of image ≡ None → image_fault_of image ≡ Some why → ⊥
+no_first image why none some = let c : ◌≡◌ {A = Option ImageFault} None (Some why) = sym none ∙ some in cc
+
+same_fault : (a b : ImageFault) → ◌≡◌ {A = RecordingEnd} (Err (session.Image a)) (Err (session.Image b)) → a ≡ b
+same_fault a b e = cc
+
+-- the image's first fault is answered
+image_refused : (t : TableRows) (tells : Tells) (old new : State) (found : ImageFault) → (IsTrue tells.bytes → image_fault_of old.held ≡ Some found)
+    → ((found ≡ fault.Small) ↔ (new.extent < 64)) → RefusesSession t tells old new (Err (session.Image found))
+image_refused t tells old new found first small = record {
+  refused = λ why e bytes. first bytes ∙ ap Some (same_fault found why e);
+  small = λ why e. subst (λ (x : ImageFault). (x ≡ fault.Small) ↔ (new.extent < 64)) (same_fault found why e) small;
+  small_always = λ past short. inl (ap (λ (x : ImageFault). Err (session.Image x)) (small.1 short));
+  refused_always = λ why past bytes some. inl (ap (λ (x : ImageFault). Err (session.Image x)) (some_same found why (sym (first bytes) ∙ some)));
+  words = λ image table e. absurd (cc);
+  words_always = λ image past bytes other differ. absurd (no_first old.held found other.no_fault (first bytes));
+}
+
+-- the disk failed before the image was known
+disk_failed : (t : TableRows) (tells : Tells) (old new : State) → RefusesSession t tells old new (Err session.DiskFault)
+disk_failed t tells old new = record {
+  refused = λ why e. absurd (cc);
+  small = λ why e. absurd (cc);
+  small_always = λ past short. inr refl;
+  refused_always = λ why past bytes first. inr refl;
+  words = λ image table e. absurd (cc);
+  words_always = λ image past bytes other differ. inr refl;
+}
+
+-- memory ended before it was
+refuses_nothing : (t : TableRows) (tells : Tells) (old new : State) → RefusesSession t tells old new (Err session.NoMemory)
+refuses_nothing t tells old new = record {
+  refused = λ why e. absurd (cc);
+  small = λ why e. absurd (cc);
+  small_always = λ past. absurd (past refl);
+  refused_always = λ why past. absurd (past refl);
+  words = λ image table e. absurd (cc);
+  words_always = λ image past. absurd (past refl);
+}
+
+-- where memory ended before the deck was used
+pub RecordsSupply-nothing : (from : RecordSupply) (t : TableRows) (tells : Tells) (d : State) → IsSoundDeck tells d
+    → RecordsSupply from t tells d d (Err session.NoMemory)
+RecordsSupply-nothing from t tells d sound = RecordsSupply-unbegun from t tells d d session.NoMemory (nothing_started tells d sound)
+    (λ e. cc) (refuses_nothing t tells d d)
+
+-- where the session was refused
+session_image : (t : TableRows) (tells : Tells) (d0 d1 : State) (f : SessionFault) → (f ≡ session.SeqEnd → ⊥)
+    → (IsTrue tells.bytes → (why : ImageFault) → f ≡ session.Image why → image_fault_of d0.held ≡ Some why)
+    → ((why : ImageFault) → f ≡ session.Image why → (why ≡ fault.Small) ↔ (d1.extent < 64))
+    → (d1.extent < 64 → (f ≡ session.Image fault.Small) ⊎ (f ≡ session.DiskFault))
+    → ((image table : ℕ) → f ≡ session.WordsDiffer image table
+    → (table ≡ t.frame.words) × (image ≢ table) × (IsTrue tells.bytes → IsFor image d0.held))
+    → RefusesSession t tells d0 d1 (Err f)
+session_image t tells d0 d1 (session.Image w) not_end image small short words = image_refused t tells d0 d1 w (λ bytes. image bytes w refl) (small w refl)
+session_image t tells d0 d1 (session.WordsDiffer i w) not_end image small short words =
+    let here = words i w refl in
+    record {
+      refused = λ why e. absurd (cc);
+      small = λ why e. absurd (cc);
+      small_always = λ past few. absurd (⊎_elim (λ e. cc) (λ e. cc) (short few));
+      refused_always = λ why past bytes first. absurd (no_first d0.held why (here.2 bytes).no_fault first);
+      words = λ j table e. words j table (words_same i w j table e);
+      words_always = λ j past bytes other differ. inl (words_are i w j t.frame.words (sym (here.2 bytes).words ∙ other.words) here.0);
+    }
+session_image t tells d0 d1 session.DiskFault not_end image small short words = disk_failed t tells d0 d1
+session_image t tells d0 d1 session.SeqEnd not_end image small short words = absurd (not_end refl)
+session_image t tells d0 d1 session.NoMemory not_end image small short words = refuses_nothing t tells d0 d1
+
+pub RecordsSupply-refused : (from : RecordSupply) (t : TableRows) (tells : Tells) (d0 d1 : State) (f : SessionFault) → Starts tells (header_in d0.held) d0 d1
+    → (f ≡ session.SeqEnd → ⊥)
+    → (IsTrue tells.bytes → (why : ImageFault) → f ≡ session.Image why → image_fault_of d0.held ≡ Some why)
+    → ((why : ImageFault) → f ≡ session.Image why → (why ≡ fault.Small) ↔ (d1.extent < 64))
+    → (d1.extent < 64 → (f ≡ session.Image fault.Small) ⊎ (f ≡ session.DiskFault))
+    → ((image table : ℕ) → f ≡ session.WordsDiffer image table
+    → (table ≡ t.frame.words) × (image ≢ table) × (IsTrue tells.bytes → IsFor image d0.held))
+    → RecordsSupply from t tells d0 d1 (Err f)
+RecordsSupply-refused from t tells d0 d1 f starts not_end image small short words = RecordsSupply-unbegun from t tells d0 d1 f starts not_end
+    (session_image t tells d0 d1 f not_end image small short words)
+
+-- an image that is for the table's frames isn't refused
+takes_image : (t : TableRows) (tells : Tells) (old new : State) (end : RecordingEnd)
+    → ((f : SessionFault) → end ≡ Err f → IsRefusedAtStart f → ⊥)
+    → (new.extent < 64 → ⊥) → (IsTrue tells.bytes → IsFor t.frame.words old.held) → RefusesSession t tells old new end
+takes_image t tells old new end begun long good = record {
+  refused = λ why e. absurd (begun (session.Image why) e tt);
+  small = λ why e. absurd (begun (session.Image why) e tt);
+  small_always = λ past short. absurd (long short);
+  refused_always = λ why past bytes first. absurd (no_first old.held why (good bytes).no_fault first);
+  words = λ image table e. absurd (begun (session.WordsDiffer image table) e tt);
+  words_always = λ image past bytes other differ. absurd (differ (sym other.words ∙ (good bytes).words));
+}
+
+-- ---- from the start of a session on
+
+same_blocks : (t : TableRows) (h h' : Header) (n n' : ℕ) (records : List BusRecord) → h ≡ h' → n ≡ n'
+    → all_blocks (record { table = t; header = h; first = n; records = records })
+    ≡ all_blocks (record { table = t; header = h'; first = n'; records = records })
+same_blocks t h h' n n' records header next =
+    ap (λ (x : Header). all_blocks (record { table = t; header = x; first = n; records = records })) header
+    ∙ ap (λ (m : ℕ). all_blocks (record { table = t; header = h'; first = m; records = records })) next
+
+-- a gate that is shut is after the header
+shut_front : (h : Header) (n : ℕ) (image : List ℕ) → take 64 (image_with_closed_gate (gate_at h n) image) ≡ take 64 image
+shut_front h n image = ⊎_elim
+    (λ (within : gate_at h n < length image).
+    let at = gate_at h n in
+    let front = (shut_turned at image within).torn.front in
+    let few : 64 ≤ at = omega arith in
+    sym (take-take 64 at (image_with_closed_gate at image) few) ∙ ap (λ (l : List ℕ). take 64 l) front ∙ take-take 64 at image few)
+    (λ (past : length image ≤ gate_at h n).
+    let none : slice_index image (gate_at h n) ≡ 0 = get_or_past image (gate_at h n) 0 past in
+    ap (λ (l : List ℕ). take 64 l) (shut_closed (gate_at h n) image (λ is. absurd (omega (arith, none, is)))))
+    (cases_lt (gate_at h n) (length image))
+
+EndsSupply-since : (from : RecordSupply) (tells : Tells) (d0 d1 d2 : State) (pulled : List ℕ) (end : RecordingEnd) → d1.input_faults ≡ d0.input_faults
+    → EndsSupply from tells d1 d2 pulled end → EndsSupply from tells d0 d2 pulled end
+EndsSupply-since line_trace tells d0 d1 d2 pulled end faults ends = record {
+  ended = ends.ended;
+  refused = ends.refused;
+  truncated = ends.truncated;
+  undecided = ends.undecided;
+  no_fault = λ all not. ends.no_fault all not ∙ faults;
+  decided = λ known. ends.decided known ∙ faults;
+}
+EndsSupply-since (drawn_trace t seed frames) tells d0 d1 d2 pulled end faults ends = ends
+
+-- where a session was started
+module _ (from : RecordSupply) (t : TableRows) (tells : Tells) (s : Session) (d0 d1 d2 : State) (end : RecordingEnd) (sound0 : IsSoundDeck tells d0)
+    (sound1 : IsSoundDeck tells d1) (starts : Starts tells (header_in d0.held) d0 d1) (is : IsStarted tells t s d0 d1)
+    (on : Continues from tells (past_at_start t s.ring.header s.ring.next) d1 d2 end)
+  where
+    first_is : IsTrue tells.bytes → s.ring.next ≡ next_in d0.held
+    first_is bytes = is.next bytes ∙ ap (λ (h : Header). next_of h d0.held) (is.header bytes)
+
+    blocks_are : IsTrue tells.bytes
+        → all_blocks (past_fed (past_at_start t s.ring.header s.ring.next) (supplied_records from on.pulled)) ≡ new_blocks t d0.held
+        (supplied_records from on.pulled)
+    blocks_are bytes = same_blocks t s.ring.header (header_in d0.held) s.ring.next (next_in d0.held) (supplied_records from on.pulled)
+        (is.header bytes) (first_is bytes)
+
+    session_moments : MayRecord d0 → IsTrue tells.stops → (m : Moment) → d2.since d1.clock m
+        → IsSupplyMoment t (header_in d0.held) (next_in d0.held) d0 (new_blocks t d0.held (supplied_records from on.pulled)) on.pulled m
+    session_moments ready stops m since =
+        let bytes = sound0.stops_need_bytes stops in
+        let few = is.greatest (omega (arith, ready.greatest, first_is bytes)) in
+        let at = on.moments few stops m since in
+        let all = all_blocks (past_fed (past_at_start t s.ring.header s.ring.next) (supplied_records from on.pulled)) in
+        at_entry t s.ring.header s.ring.next d0 all (new_blocks t d0.held (supplied_records from on.pulled)) on.pulled m
+        (is.header bytes) (first_is bytes) (blocks_are bytes)
+        (session_moment tells t s d0 d1 sound1 starts is all on.pulled m stops bytes ready at)
+
+    moments : MayRecord d0 → EachMoment tells d0 d2 (IsBlockMoment t d0 (supplied_records from on.pulled))
+    moments ready = EachMoment-then tells d0 d1 d2 (IsBlockMoment t d0 (supplied_records from on.pulled)) starts.time on.time
+        (EachMoment-weaken tells d0 d1 (IsStarting (header_in d0.held) d0) (IsBlockMoment t d0 (supplied_records from on.pulled))
+        (λ m at. starting_moment t d0 (supplied_records from on.pulled) m at) (starts.moments ready))
+        (λ stops m since. let at = session_moments ready stops m since in record { keeps = at.keeps; close = at.close })
+
+    lags : MayRecord d0 → EachMoment tells d0 d2 (IsLagMoment (owed_number t (header_in d0.held) (next_in d0.held)) d0 on.pulled)
+    lags ready = EachMoment-then tells d0 d1 d2 (IsLagMoment (owed_number t (header_in d0.held) (next_in d0.held)) d0 on.pulled) starts.time on.time
+        (EachMoment-weaken tells d0 d1 (IsStarting (header_in d0.held) d0)
+        (IsLagMoment (owed_number t (header_in d0.held) (next_in d0.held)) d0 on.pulled)
+        (λ m at. record { pulled = inl at.recording.pulled }) (starts.moments ready))
+        (λ stops m since. (session_moments ready stops m since).in_time)
+
+    -- the header stays: only a gate was closed at the start, and no call after it changes the header
+    header_kept : IsTrue tells.bytes → (blocks : List Block) → RecordsAllOf tells s.ring.header s.ring.next blocks d1 d2
+        → header_in d2.held ≡ header_in d0.held
+    header_kept bytes blocks has = ap header_of ((has.keeps bytes).kept.header
+        ∙ ap (λ (l : List ℕ). take 64 l) (is.held bytes) ∙ shut_front s.ring.header (next_of s.ring.header d0.held) d0.held)
+
+    are_recorded : (blocks new : List Block) → IsTrue tells.bytes → blocks ≡ new
+        → RecordsAllOf tells s.ring.header s.ring.next blocks d1 d2 → AddsToRun tells new d0 d2
+    are_recorded blocks new bytes same has =
+        let h = header_in d0.held in
+        let ring = (has.fact is.fact.ring).next bytes in
+        let count = ap length same in
+        record {
+          header = header_kept bytes blocks has;
+          run = subst (λ (x : Header). recovered_run x d2.held ≡ last_blocks (x.slots - 1) (recovered_run x d0.held ++ new)) (is.header bytes)
+              (subst (λ (l : List Block). recovered_run s.ring.header d2.held
+              ≡ last_blocks (s.ring.header.slots - 1) (recovered_run s.ring.header d0.held ++ l)) same
+              (has.last bytes (recovered_run s.ring.header d0.held) (is.run bytes)));
+          next = ap (λ (x : Header). next_of x d2.held) (sym (is.header bytes))
+              ∙ omega (arith, ring, count, first_is bytes);
+          announced = omega (arith, has.announced is.announced, count, first_is bytes);
+          settled = λ stops. has.settled stops (is.settled stops);
+        }
+
+    all_pulls : PullsUntilDecided tells d0 d2 [] on.pulled
+    all_pulls = PullsUntilDecided-next tells d0 d1 d2 [] on.pulled (none_pulled tells d0 d1 starts.input starts.input_faults) on.pulls
+
+    all_ends : EndsSupply from tells d0 d2 on.pulled end
+    all_ends = EndsSupply-since from tells d0 d1 d2 on.pulled end starts.input_faults on.ends
+
+    -- what a further recording rests on
+    recorded_all : IsTrue tells.bytes → MayRecord d0
+        → RecordsAllOf tells s.ring.header s.ring.next
+        (all_blocks (past_fed (past_at_start t s.ring.header s.ring.next) (supplied_records from on.pulled))) d1 d2
+        → (next_in d2.held ≡ next_in d0.held + length (new_blocks t d0.held (supplied_records from on.pulled)))
+        × (d2.greatest ≤ next_in d2.held) × (next_in d2.held ≤ max (next_in d0.held) d2.least + 1)
+    recorded_all bytes may has =
+        let blocks = all_blocks (past_fed (past_at_start t s.ring.header s.ring.next) (supplied_records from on.pulled)) in
+        let first = first_is bytes in
+        let count = ap length (blocks_are bytes) in
+        let stands = are_recorded _ _ bytes (blocks_are bytes) has in
+        let next : next_in d2.held ≡ next_in d0.held + length (new_blocks t d0.held (supplied_records from on.pulled)) =
+        ap (λ (h : Header). next_of h d2.held) stands.header ∙ stands.next in
+        let top = has.greatest (is.greatest (omega (arith, may.greatest, first))) in
+        let low = has.near s.ring.next (record { announced = is.announced; least = omega arith }) in
+        (next, omega (arith, top, next, first, count), omega (arith, low.least, next, first, count))
+
+    pub RecordsSupply-past_at_start : d2.extent ≡ d1.extent → ((f : SessionFault) → end ≡ Err f → IsRefusedAtStart f → ⊥)
+        → (IsTrue tells.bytes → IsFor t.frame.words d0.held) → RecordsSupply from t tells d0 d2 end
+    RecordsSupply-past_at_start extent begun good = record {
+      pulled = on.pulled;
+      pulls = all_pulls;
+      blocks = record {
+        time = Elapses-then tells d0 d1 d2 starts.time on.time;
+        moments = moments;
+        chain = chained t tells d0 d2 (supplied_records from on.pulled) moments;
+        recorded = λ all bytes. are_recorded _ _ bytes (blocks_are bytes) (on.recorded all);
+        within = λ all bytes. omega (arith, on.within all, ap length (blocks_are bytes), first_is bytes);
+        ready = λ all stops may.
+            let has = on.recorded all in
+            record {
+              settled = has.settled stops (is.settled stops);
+              greatest = (recorded_all (sound0.stops_need_bytes stops) may has).1;
+            };
+        near = λ all bytes may.
+            let after = recorded_all bytes may (on.recorded all) in
+            omega (arith, after.0, after.2);
+        seq_end = λ e bytes. are_recorded _ _ bytes
+            (ap (λ (l : List Block). take (2 ^ 48 - s.ring.next) l) (blocks_are bytes)
+            ∙ ap (λ n. take (2 ^ 48 - n) (new_blocks t d0.held (supplied_records from on.pulled))) (first_is bytes)) (on.seq_end e);
+        beyond = λ e bytes. omega (arith, on.beyond e, ap length (blocks_are bytes), first_is bytes);
+        good = λ either bytes. good bytes;
+      };
+      image = takes_image t tells d0 d2 end begun (λ short. omega (arith, short, extent, is.fact.ring.extent)) good;
+      in_time = lags;
+      ends = all_ends;
+    }

@@ -1,0 +1,512 @@
+-- How a recording in a session begins and ends.
+use Rattle.std.proofs.Common.{◌≡◌, ◌≢◌, ◌⊎◌, ⊎_elim, inl, inr, Result, Ok, Err, Option, Some, None, true, ℕ, ◌+◌, ◌-◌, ◌^◌, ◌<◌, ◌≤◌}
+use Rattle.std.proofs.Common.{List, [], ◌∷◌, ◌++◌, length, take, ap, sym, refl, ◌∙◌, subst, length-append, arith}
+use Rattle.std.proofs.lemmas.Bool.{cases_lt}
+use Rattle.std.proofs.lemmas.List.{take-append-le}
+use Rattle.std.proofs.Math.Seq.{take-append-add}
+use Rattle.fdr_io.specs.Faults.{Rose}
+use Rattle.fdr_bus.specs.declared.BusRecord.{BusRecord}
+use Rattle.fdr_bus.specs.declared.TraceFault.{TraceFault}
+use Rattle.fdr_bus.specs.declared.TraceFault.TheVariants as trace
+use Rattle.fdr_bus.specs.Records.{IsDecided, good_prefix, has_end, is_end}
+use Rattle.fdr_deck.specs.State.{State, Tells}
+use Rattle.fdr_deck.specs.Calls.{LeavesDisk}
+use Rattle.fdr_deck.specs.Pull.{KeepsInput}
+use Rattle.fdr_deck.specs.Moments.{EachMoment, Elapses, IsSoundDeck}
+use Rattle.fdr_deck.proofs.Moments.{EachMoment-weaken}
+use Rattle.fdr_slot.specs.Limits.{IsInLimits}
+use Rattle.fdr_slot.proofs.HeaderLemmas.{in_limits-is}
+use Rattle.fdr_slot.specs.declared.image.Header.{Header}
+use Rattle.fdr_recover.specs.Blocks.{Block}
+use Rattle.fdr_recover.specs.Images.{recovered_run}
+use Rattle.fdr_ring.specs.Rings.{IsRing, IsSureRing}
+use Rattle.fdr_trace.specs.Pulls.{PullsUntilDecided}
+use Rattle.fdr_trace.specs.Reading.{IsTraceStopped}
+use Rattle.fdr_trace.specs.declared.TraceStop.{TraceStop}
+use Rattle.fdr_trace.specs.declared.TraceStop.TheVariants as stop
+use Rattle.fdr_recorder.specs.Past.{RecordingPast, MayFeedRecording, RepresentsRecording, all_blocks, blocks_due_at, recorded_of, rest_of, past_at_start}
+use Rattle.fdr_recorder.specs.Recording.{HasEnded, RecordsAllOf, RecordsFirstOf}
+use Rattle.fdr_recorder.specs.Starting.{IsStarted}
+use Rattle.fdr_table.specs.Rows.{TableRows}
+use Rattle.fdr_recorder.specs.declared.error.SessionFault.{SessionFault}
+use Rattle.fdr_recorder.specs.declared.error.SessionFault.TheVariants as session
+use Rattle.fdr_recorder.specs.declared.session.Session.{Session}
+use Rattle.fdr_recorder.proofs.Adding.{IsSureRing-told}
+use Rattle.fdr_recorder.proofs.Composing.{RecordsAllOf-then}
+use Rattle.fdr_recorder.proofs.Joined.{recorded_of-fed}
+use Rattle.fdr_recorder.proofs.Steps.{keeps_more}
+use Rattle.fdr_recorder.specs.Ends.{CutsSession, IsRefusedAtStart, RecordingEnd}
+use Rattle.fdr_recorder.specs.Supplied.{Continues, HasFed, HasFedAll, IsBegun, SupplyMoment, past_fed}
+use Rattle.fdr_recorder.specs.Supply.{RecordSupply, EndsLine, EndsSupply, HasRunOut, PullsNothing, drawn_trace, line_trace, supplied_records}
+use Rattle.fdr_recorder.specs.declared.source.SourceEnd.{SourceEnd}
+use Rattle.fdr_recorder.specs.declared.source.SourceEnd.TheVariants as source
+use Rattle.fdr_recorder.proofs.NewBlocks.{new_blocks-begin, recorded-long}
+use Rattle.fdr_recorder.proofs.Sessions.{HasFed-begun, block_moments, block_pulls, block_time}
+use Rattle.fdr_recorder.proofs.Supplies.{supplied_records-rises}
+use Rattle.fdr_bus.proofs.TraceLemmas.{has_end-push}
+
+-- ---- the input is left alone
+
+pub keeps_input : (a : State) → KeepsInput a a × (a.input_faults ≡ a.input_faults)
+keeps_input a = (record { input = refl; taken = refl; pulled_before = refl }, refl)
+
+-- a call that does nothing, and then one that leaves the input
+pub keeps_input_then : (a b c d : State) → KeepsInput a b × (b.input_faults ≡ a.input_faults) → c ≡ b → KeepsInput c d → d.input_faults ≡ c.input_faults
+    → KeepsInput a d × (d.input_faults ≡ a.input_faults)
+keeps_input_then a b c d kept same line faults = (
+  record {
+    input = line.input ∙ ap (λ (x : State). x.input) same ∙ kept.0.input;
+    taken = line.taken ∙ ap (λ (x : State). x.taken) same ∙ kept.0.taken;
+    pulled_before = line.pulled_before ∙ ap (λ (x : State). x.pulled_before) same ∙ kept.0.pulled_before;
+  },
+  faults ∙ ap (λ (x : State). x.input_faults) same ∙ kept.1,
+)
+
+-- ---- how it begins
+
+-- nothing was fed
+pub begun : (tells : Tells) (Gave : List ℕ → List BusRecord → Type 0) (s : Session) (past : RecordingPast) (d : State) → IsSoundDeck tells d
+    → Gave [] [] → IsBegun tells s past d
+    → (bytes : List ℕ) × (records : List BusRecord) × Gave bytes records × RepresentsRecording s (past_fed past records)
+    × HasFed tells (past_fed past records) bytes d d
+begun tells Gave s past d sound gave is =
+    let stands : RepresentsRecording s (past_fed past []) = subst (λ (r : List BusRecord). RepresentsRecording s (past_fed past r)) is.none is.stands in (
+      [],
+      [],
+      gave,
+      stands,
+      HasFed-begun tells (past_fed past []) d sound (omega (arith, stands.next, is.number)) is.ring is.settled is.announced,
+    )
+
+-- a session that was just started
+pub begun_at : (tells : Tells) (t : TableRows) (s : Session) (d0 d1 : State) → IsStarted tells t s d0 d1
+    → IsBegun tells s (past_at_start t s.ring.header s.ring.next) d1
+begun_at tells t s d0 d1 is = record {
+  none = refl;
+  stands = is.stands;
+  number = refl;
+  ring = is.fact;
+  settled = is.settled;
+  announced = is.announced;
+}
+
+-- the ring after the records so far
+pub sure_at : (tells : Tells) (past : RecordingPast) (bytes : List ℕ) (d0 d d' : State) → IsSureRing tells past.header past.first d0
+    → HasFed tells past bytes d0 d → LeavesDisk d d' → IsSureRing tells past.header (past.first + length (recorded_of past)) d'
+sure_at tells past bytes d0 d d' ring has leaves =
+    IsSureRing-told tells past.header (past.first + length (recorded_of past)) d d' leaves (has.recorded.sure ring)
+
+pub next_at : (past : RecordingPast) (s : Session) → RepresentsRecording s past → past.first + length (recorded_of past) ≡ s.ring.next
+next_at past s stands = omega (arith, stands.next, recorded-long past)
+
+pub ring_at : (tells : Tells) (past : RecordingPast) (s : Session) (d : State) → RepresentsRecording s past
+    → IsSureRing tells past.header (past.first + length (recorded_of past)) d → IsRing tells s.ring.header s.ring.next d
+ring_at tells past s d stands sure =
+    subst (λ (h : Header). IsRing tells h s.ring.next d) (sym stands.header)
+    (subst (λ (n : ℕ). IsRing tells past.header n d) (next_at past s stands) sure.ring)
+
+pub ring_of : (tells : Tells) (past : RecordingPast) (s : Session) (d : State) → RepresentsRecording s past → IsSureRing tells past.header s.ring.next d
+    → IsRing tells s.ring.header s.ring.next d
+ring_of tells past s d stands sure = subst (λ (h : Header). IsRing tells h s.ring.next d) (sym stands.header) sure.ring
+
+-- the header of a ring is within its limits, and its number below the last
+pub limits_of : (past : RecordingPast) (s : Session) → RepresentsRecording s past → IsInLimits past.header
+limits_of past s stands = subst IsInLimits stands.header (in_limits-is s.ring.header s.ring.limits)
+
+pub bound_of : (past : RecordingPast) (s : Session) → RepresentsRecording s past → past.first + length (recorded_of past) ≤ 2 ^ 48
+bound_of past s stands = omega (arith, next_at past s stands, s.ring.bound)
+
+-- what holds by the numbers of a session's ring holds by those of its past
+at_past : (P : Header → ℕ → Type 0) (past : RecordingPast) (s : Session) → RepresentsRecording s past → P s.ring.header s.ring.next
+    → P past.header (past.first + length (recorded_of past))
+at_past P past s stands is =
+    subst (λ (n : ℕ). P past.header n) (sym (next_at past s stands)) (subst (λ (h : Header). P h s.ring.next) stands.header is)
+
+-- what was recorded at a record, by the numbers of the past
+module _ (tells : Tells) (past : RecordingPast) (s : Session) (blocks : List Block) (d d' : State) (stands : RepresentsRecording s past) where
+  pub RecordsFirstOf-at : RecordsFirstOf tells s.ring.header s.ring.next blocks d d' → RecordsFirstOf tells past.header
+      (past.first + length (recorded_of past)) blocks d d'
+  RecordsFirstOf-at = at_past (λ (h : Header) (n : ℕ). RecordsFirstOf tells h n blocks d d') past s stands
+
+  pub RecordsAllOf-at : RecordsAllOf tells s.ring.header s.ring.next blocks d d'
+      → RecordsAllOf tells past.header (past.first + length (recorded_of past)) blocks d d'
+  RecordsAllOf-at = at_past (λ (h : Header) (n : ℕ). RecordsAllOf tells h n blocks d d') past s stands
+
+  pub HasEnded-at : HasEnded tells s.ring.header s.ring.next blocks d d' → HasEnded tells past.header (past.first + length (recorded_of past)) blocks d d'
+  HasEnded-at = at_past (λ (h : Header) (n : ℕ). HasEnded tells h n blocks d d') past s stands
+
+-- ---- how the source ended
+
+-- the end record was fed
+EndsLine-end : (tells : Tells) (d0 d' : State) (bytes : List ℕ) (records : List BusRecord) (r : BusRecord)
+    → good_prefix bytes ≡ records ++ r ∷ [] → is_end r ≡ true → d'.input_faults ≡ d0.input_faults
+    → EndsLine tells d0 d' bytes (Ok source.Ended)
+EndsLine-end tells d0 d' bytes records r good ends quiet = record {
+  ended = λ e. ap has_end good ∙ has_end-push records r ends;
+  refused = λ index why e. absurd (cc);
+  truncated = λ index e. absurd (cc);
+  undecided = λ e. absurd (cc);
+  no_fault = λ all not. quiet;
+  decided = λ known. quiet;
+}
+
+-- the refusal of a trace that an end names
+refusal_of : RecordingEnd → Option (ℕ × TraceFault)
+refusal_of (Ok source.Ended) = None
+refusal_of (Ok (source.Stopped (stop.Refused index why))) = Some (index, why)
+refusal_of (Ok (source.Stopped stop.Failed)) = None
+refusal_of (Err f) = None
+
+same_refusal : (index i : ℕ) (why w : TraceFault)
+    → ◌≡◌ {A = RecordingEnd} (Ok (source.Stopped (stop.Refused index why))) (Ok (source.Stopped (stop.Refused i w)))
+    → ◌≡◌ {A = Option (ℕ × TraceFault)} (Some (index, why)) (Some (i, w))
+unfolding refusal_of
+same_refusal index i why w e = ap refusal_of e
+
+same_cause : (index i : ℕ) (why w : TraceFault)
+    → ◌≡◌ {A = RecordingEnd} (Ok (source.Stopped (stop.Refused index why))) (Ok (source.Stopped (stop.Refused i w))) → why ≡ w
+same_cause index i why w e = cc
+
+-- no further record came
+EndsLine-stop : (tells : Tells) (d0 d d' : State) (bytes : List ℕ) (records : List BusRecord) (s : TraceStop)
+    → IsTraceStopped tells d d' bytes records s → d.input_faults ≡ d0.input_faults → (s ≢ stop.Failed → d'.input_faults ≡ d.input_faults)
+    → EndsLine tells d0 d' bytes (Ok (source.Stopped s))
+EndsLine-stop tells d0 d d' bytes records (stop.Refused index why) stopped before quiet = record {
+  ended = λ e. absurd (cc);
+  refused = λ i w e. stopped.first ∙ same_refusal index i why w e;
+  truncated = λ i e told. stopped.end (same_cause index i why trace.Truncated e) told;
+  undecided = λ e. absurd (cc);
+  no_fault = λ all not. quiet (λ e. absurd (cc)) ∙ before;
+  decided = λ known. quiet (λ e. absurd (cc)) ∙ before;
+}
+EndsLine-stop tells d0 d d' bytes records stop.Failed stopped before quiet = record {
+  ended = λ e. absurd (cc);
+  refused = λ i w e. absurd (cc);
+  truncated = λ i e. absurd (cc);
+  undecided = λ e. stopped.undecided;
+  no_fault = λ all not. absurd (not refl);
+  decided = λ known. absurd (stopped.undecided known);
+}
+
+-- the recording was refused or cut short
+EndsLine-cut : (tells : Tells) (d0 d' : State) (bytes : List ℕ) (f : SessionFault) → (IsDecided bytes → d'.input_faults ≡ d0.input_faults)
+    → EndsLine tells d0 d' bytes (Err f)
+EndsLine-cut tells d0 d' bytes f decided = record {
+  ended = λ e. absurd (cc);
+  refused = λ i w e. absurd (cc);
+  truncated = λ i e. absurd (cc);
+  undecided = λ e. absurd (cc);
+  no_fault = λ all. absurd all;
+  decided = decided;
+}
+
+-- so of every supply
+pub EndsSupply-cut : (from : RecordSupply) (tells : Tells) (d0 d' : State) (bytes : List ℕ) (f : SessionFault) → PullsNothing from bytes
+    → (from ≡ line_trace → IsDecided bytes → d'.input_faults ≡ d0.input_faults) → EndsSupply from tells d0 d' bytes (Err f)
+EndsSupply-cut line_trace tells d0 d' bytes f none decided = EndsLine-cut tells d0 d' bytes f (decided refl)
+EndsSupply-cut (drawn_trace t seed frames) tells d0 d' bytes f none decided = (none, λ reading. absurd reading)
+
+-- the end record was fed
+EndsSupply-end : (from : RecordSupply) (tells : Tells) (d0 d' : State) (bytes : List ℕ) (records : List BusRecord) (r : BusRecord)
+    → supplied_records from bytes ≡ records ++ r ∷ [] → is_end r ≡ true → PullsNothing from bytes → d'.input_faults ≡ d0.input_faults
+    → EndsSupply from tells d0 d' bytes (Ok source.Ended)
+EndsSupply-end line_trace tells d0 d' bytes records r good ends none quiet = EndsLine-end tells d0 d' bytes records r good ends quiet
+EndsSupply-end (drawn_trace t seed frames) tells d0 d' bytes records r good ends none quiet = (none, λ reading. refl)
+
+-- no further record came
+EndsSupply-stop : (from : RecordSupply) (tells : Tells) (d0 d d' : State) (bytes : List ℕ) (records : List BusRecord) (why : TraceStop)
+    → HasRunOut from tells d d' bytes records why → d.input_faults ≡ d0.input_faults
+    → (why ≢ stop.Failed → d'.input_faults ≡ d.input_faults) → EndsSupply from tells d0 d' bytes (Ok (source.Stopped why))
+EndsSupply-stop from tells d0 d d' bytes records why out before quiet =
+    subst (λ (x : RecordSupply). EndsSupply x tells d0 d' bytes (Ok (source.Stopped why))) (sym out.input)
+    (EndsLine-stop tells d0 d d' bytes records why out.stopped before quiet)
+
+stop_good : (tells : Tells) (d d' : State) (bytes : List ℕ) (records : List BusRecord) (s : TraceStop)
+    → IsTraceStopped tells d d' bytes records s → good_prefix bytes ≡ records
+stop_good tells d d' bytes records (stop.Refused index why) stopped = stopped.good
+stop_good tells d d' bytes records stop.Failed stopped = stopped.good
+
+out_good : (from : RecordSupply) (tells : Tells) (d d' : State) (bytes : List ℕ) (records : List BusRecord) (why : TraceStop)
+    → HasRunOut from tells d d' bytes records why → supplied_records from bytes ≡ records
+out_good from tells d d' bytes records why out =
+    ap (λ (x : RecordSupply). supplied_records x bytes) out.input ∙ stop_good tells d d' bytes records why out.stopped
+
+-- an input that failed was counted
+stop_failed : (tells : Tells) (d0 d d' : State) (bytes : List ℕ) (records : List BusRecord) (s : TraceStop)
+    → source.Stopped s ≡ source.Stopped stop.Failed → IsTraceStopped tells d d' bytes records s → d.input_faults ≡ d0.input_faults
+    → Rose d0.input_faults d'.input_faults
+stop_failed tells d0 d d' bytes records (stop.Refused index why) is stopped quiet = absurd (cc)
+stop_failed tells d0 d d' bytes records stop.Failed is stopped quiet = subst (λ n. Rose n d'.input_faults) quiet stopped.cause
+
+pub line_failed : (from : RecordSupply) (tells : Tells) (d0 d d' : State) (bytes : List ℕ) (records : List BusRecord) (why : TraceStop)
+    → source.Stopped why ≡ source.Stopped stop.Failed → HasRunOut from tells d d' bytes records why → d.input_faults ≡ d0.input_faults
+    → Rose d0.input_faults d'.input_faults
+line_failed from tells d0 d d' bytes records why is out quiet = stop_failed tells d0 d d' bytes records why is out.stopped quiet
+
+-- all records of the supply were fed
+fed_all : (from : RecordSupply) (tells : Tells) (past : RecordingPast) (s : Session) (d0 d' : State) (bytes : List ℕ) (records : List BusRecord)
+    (end : SourceEnd) → IsSureRing tells past.header past.first d0 → RepresentsRecording s (past_fed past records)
+    → HasFed tells (past_fed past records) bytes d0 d' → supplied_records from bytes ≡ records → EndsSupply from tells d0 d' bytes (Ok end)
+    → HasFedAll from tells past s d0 d' end
+fed_all from tells past s d0 d' bytes records end ring stands has good ends = record {
+  pulled = bytes;
+  stands = subst (λ (r : List BusRecord). RepresentsRecording s (past_fed past r)) (sym good) stands;
+  ring = subst (λ (n : ℕ). IsSureRing tells past.header n d') (next_at (past_fed past records) s stands) (has.recorded.sure ring);
+  has = subst (λ (r : List BusRecord). HasFed tells (past_fed past r) bytes d0 d') (sym good) has;
+  ends = ends;
+}
+
+pub HasFedAll-stop : (from : RecordSupply) (tells : Tells) (past : RecordingPast) (s : Session) (d0 d d' : State) (bytes : List ℕ)
+    (records : List BusRecord) (why : TraceStop) → IsSureRing tells past.header past.first d0 → RepresentsRecording s (past_fed past records)
+    → HasFed tells (past_fed past records) bytes d0 d' → HasRunOut from tells d d' bytes records why → d.input_faults ≡ d0.input_faults
+    → (why ≢ stop.Failed → d'.input_faults ≡ d.input_faults) → HasFedAll from tells past s d0 d' (source.Stopped why)
+HasFedAll-stop from tells past s d0 d d' bytes records why ring stands has out before quiet =
+    fed_all from tells past s d0 d' bytes records (source.Stopped why) ring stands has (out_good from tells d d' bytes records why out)
+    (EndsSupply-stop from tells d0 d d' bytes records why out before quiet)
+
+pub HasFedAll-end : (from : RecordSupply) (tells : Tells) (past : RecordingPast) (s : Session) (d0 d' : State) (bytes : List ℕ)
+    (records : List BusRecord) (r : BusRecord) → IsSureRing tells past.header past.first d0 → RepresentsRecording s (past_fed past (records ++ r ∷ []))
+    → HasFed tells (past_fed past (records ++ r ∷ [])) bytes d0 d' → supplied_records from bytes ≡ records ++ r ∷ []
+    → is_end r ≡ true → PullsNothing from bytes → d'.input_faults ≡ d0.input_faults → HasFedAll from tells past s d0 d' source.Ended
+HasFedAll-end from tells past s d0 d' bytes records r ring stands has good ends none quiet =
+    fed_all from tells past s d0 d' bytes (records ++ r ∷ []) source.Ended ring stands has good
+    (EndsSupply-end from tells d0 d' bytes records r good ends none quiet)
+
+-- ---- where a record couldn't be fed
+
+close_same : (f f' : SessionFault) → ◌≡◌ {A = Result ℕ SessionFault} (Err f) (Err f') → f ≡ f'
+close_same f f' e = cc
+
+pub fault_same : (f f' : SessionFault) → ◌≡◌ {A = Result Session SessionFault} (Err f) (Err f') → f ≡ f'
+fault_same f f' e = cc
+
+-- the same of the answer of a session that is closed
+pub only_close : (f : SessionFault) → ◌≡◌ {A = Result ℕ SessionFault} (Err f) (Err session.DiskFault)
+    ⊎ ◌≡◌ {A = Result ℕ SessionFault} (Err f) (Err session.SeqEnd) → (f ≡ session.DiskFault) ⊎ (f ≡ session.SeqEnd)
+only_close f only = ⊎_elim (λ e. inl (close_same f session.DiskFault e)) (λ e. inr (close_same f session.SeqEnd e)) only
+
+pub only_two : (f : SessionFault) → ◌≡◌ {A = Result Session SessionFault} (Err f) (Err session.DiskFault)
+    ⊎ ◌≡◌ {A = Result Session SessionFault} (Err f) (Err session.SeqEnd) → (f ≡ session.DiskFault) ⊎ (f ≡ session.SeqEnd)
+only_two f only = ⊎_elim (λ e. inl (fault_same f session.DiskFault e)) (λ e. inr (fault_same f session.SeqEnd e)) only
+
+-- where the disk didn't fail, the numbers ended
+pub ended_only : (f : SessionFault) → (f ≡ session.DiskFault) ⊎ (f ≡ session.SeqEnd) → (f ≡ session.DiskFault → ⊥) → f ≡ session.SeqEnd
+ended_only f only other = ⊎_elim (λ e. absurd (other e)) (λ e. e) only
+
+-- the two faults that cut a recording short
+pub two_cut : (f : SessionFault) → (f ≡ session.DiskFault) ⊎ (f ≡ session.SeqEnd) → CutsSession f
+two_cut f only = ⊎_elim
+    (λ (e : f ≡ session.DiskFault). rw e tt)
+    (λ (e : f ≡ session.SeqEnd). rw e tt)
+    only
+
+pub is_seq_end : (f : SessionFault) → ◌≡◌ {A = RecordingEnd} (Err f) (Err session.SeqEnd) → f ≡ session.SeqEnd
+is_seq_end f e = cc
+
+-- the first blocks of three stretches, as many as reach into the second
+take_two : (xs ys zs : List Block) (n m : ℕ) → n ≡ length xs + m → m ≤ length ys → take n ((xs ++ ys) ++ zs) ≡ xs ++ take m ys
+take_two xs ys zs n m is within =
+    take-append-le n (xs ++ ys) zs (omega (arith, is, within, length-append xs ys))
+    ∙ ap (λ k. take k (xs ++ ys)) is ∙ take-append-add xs ys m
+
+module _ (from : RecordSupply) (tells : Tells) (past : RecordingPast) (d0 d d' : State) (bytes : List ℕ) (records later : List BusRecord) (r : BusRecord)
+    (f : SessionFault) (sound0 : IsSoundDeck tells d0) (s : Session) (is : IsBegun tells s past d0)
+    (limits : IsInLimits past.header) (has : HasFed tells (past_fed past records) bytes d0 d) (may : MayFeedRecording (past_fed past records) r)
+    (good : supplied_records from bytes ≡ (records ++ r ∷ []) ++ later) (none : PullsNothing from bytes)
+    (wrote : RecordsFirstOf tells past.header (past.first + length (recorded_of (past_fed past records))) (blocks_due_at (past_fed past records) r) d d')
+    (only : (f ≡ session.DiskFault) ⊎ (f ≡ session.SeqEnd))
+  where
+    rest : List Block
+    rest = (new_blocks-begin past (supplied_records from bytes) (records ++ r ∷ []) later (supplied_records-rises from bytes) good limits).0
+
+    parts : all_blocks (past_fed past (supplied_records from bytes))
+        ≡ (recorded_of (past_fed past records) ++ blocks_due_at (past_fed past records) r) ++ rest
+    unfolding rest
+    parts = (new_blocks-begin past (supplied_records from bytes) (records ++ r ∷ []) later (supplied_records-rises from bytes) good limits).1
+        ∙ ap (λ (l : List Block). l ++ rest) (recorded_of-fed (past_fed past records) r limits may)
+
+    moments : d0.greatest ≤ past.first
+        → EachMoment tells d0 d' (SupplyMoment past d0 (all_blocks (past_fed past (supplied_records from bytes))) bytes)
+    moments few = subst (λ (l : List Block). EachMoment tells d0 d' (SupplyMoment past d0 l bytes)) (sym parts)
+        (EachMoment-weaken tells d0 d'
+        (SupplyMoment past d0 (recorded_of (past_fed past records) ++ blocks_due_at (past_fed past records) r) bytes)
+        (SupplyMoment past d0 ((recorded_of (past_fed past records) ++ blocks_due_at (past_fed past records) r) ++ rest) bytes)
+        (λ m at. record {
+          keeps = keeps_more past.header d0.held m.image (recovered_run past.header d0.held)
+              (recorded_of (past_fed past records) ++ blocks_due_at (past_fed past records) r) rest m.announced at.keeps;
+          close = at.close;
+          least = at.least;
+          in_time = at.in_time;
+        })
+        (block_moments tells (past_fed past records) d0 d d' bytes sound0 is.ring is.settled is.announced has
+        (blocks_due_at (past_fed past records) r) wrote few))
+
+    pub Continues-fault : d.input_faults ≡ d0.input_faults → (past.first + length (recorded_of (past_fed past records)) ≤ 2 ^ 48)
+        → (f ≡ session.SeqEnd
+        → HasEnded tells past.header (past.first + length (recorded_of (past_fed past records))) (blocks_due_at (past_fed past records) r) d d')
+        → Continues from tells past d0 d' (Err f)
+    Continues-fault quiet bound ended =
+        let a = recorded_of (past_fed past records) in
+        let b = blocks_due_at (past_fed past records) r in
+        let long = ap length parts in
+        record {
+          pulled = bytes;
+          pulls = block_pulls tells (past_fed past records) d0 d d' bytes sound0 is.ring is.settled is.announced has b wrote;
+          time = block_time tells (past_fed past records) d0 d d' bytes sound0 is.ring is.settled is.announced has b wrote;
+          moments = moments;
+          recorded = λ whole. absurd whole;
+          within = λ whole. absurd whole;
+          seq_end = λ e.
+              let end = ended (is_seq_end f e) in
+              let n : 2 ^ 48 - past.first ≡ length a + (2 ^ 48 - (past.first + length a)) = omega (arith, bound) in
+              let cut : 2 ^ 48 - (past.first + length a) ≤ length b = omega (arith, end.beyond) in
+              subst (λ (l : List Block). RecordsAllOf tells past.header past.first l d0 d')
+              (sym (ap (λ (l : List Block). take (2 ^ 48 - past.first) l) parts
+              ∙ take_two a b rest (2 ^ 48 - past.first) (2 ^ 48 - (past.first + length a)) n cut))
+              (RecordsAllOf-then tells past.header past.first a (take (2 ^ 48 - (past.first + length a)) b) d0 d d' has.recorded end.recorded);
+          beyond = λ e.
+              let end = ended (is_seq_end f e) in
+              omega (arith, end.beyond, long, length-append (a ++ b) rest, length-append a b);
+          ends = EndsSupply-cut from tells d0 d' bytes f none (λ line known. wrote.input_faults ∙ quiet);
+        }
+
+-- ---- where the session is closed
+
+-- a fault that cuts a recording short comes after its start
+pub cut_begun : (f : SessionFault) → CutsSession f → IsRefusedAtStart f → ⊥
+cut_begun (session.Image why) cut early = cut
+cut_begun (session.WordsDiffer image table) cut early = cut
+cut_begun session.DiskFault cut early = early
+cut_begun session.SeqEnd cut early = early
+cut_begun session.NoMemory cut early = cut
+
+-- so no fault at the start is how it ended
+pub cut_after_start : (f : SessionFault) → CutsSession f → (f' : SessionFault) → ◌≡◌ {A = RecordingEnd} (Err f) (Err f') → IsRefusedAtStart f' → ⊥
+cut_after_start f cut f' e early = let same : f' ≡ f = cc in cut_begun f cut (subst IsRefusedAtStart same early)
+
+pub recorded_after_start : (end : SourceEnd) (f : SessionFault) → ◌≡◌ {A = RecordingEnd} (Ok end) (Err f) → IsRefusedAtStart f → ⊥
+recorded_after_start end f e early = cc
+
+pub cut_not_memory : (f : SessionFault) → CutsSession f → f ≡ session.NoMemory → ⊥
+cut_not_memory f cut e = rw e at cut
+
+-- an image that isn't too small
+pub not_short : (n : ℕ) → (n < 64 → ⊥) → 64 ≤ n
+not_short n long = ⊎_elim (λ (short : n < 64). absurd (long short)) (λ (fits : 64 ≤ n). fits) (cases_lt n 64)
+
+-- a call that leaves the input leaves how the trace ended
+EndsLine-kept : (tells : Tells) (d0 d d' : State) (bytes : List ℕ) (end : RecordingEnd) → EndsLine tells d0 d bytes end
+    → d'.input ≡ d.input → d'.input_faults ≡ d.input_faults → EndsLine tells d0 d' bytes end
+EndsLine-kept tells d0 d d' bytes end ends line faults = record {
+  ended = ends.ended;
+  refused = ends.refused;
+  truncated = λ index e told. line ∙ ends.truncated index e told;
+  undecided = ends.undecided;
+  no_fault = λ all not. faults ∙ ends.no_fault all not;
+  decided = λ known. faults ∙ ends.decided known;
+}
+
+EndsSupply-kept : (from : RecordSupply) (tells : Tells) (d0 d d' : State) (bytes : List ℕ) (end : RecordingEnd) → EndsSupply from tells d0 d bytes end
+    → d'.input ≡ d.input → d'.input_faults ≡ d.input_faults → EndsSupply from tells d0 d' bytes end
+EndsSupply-kept line_trace tells d0 d d' bytes end ends line faults = EndsLine-kept tells d0 d d' bytes end ends line faults
+EndsSupply-kept (drawn_trace t seed frames) tells d0 d d' bytes end ends line faults = ends
+
+-- where the trace on the input is decided, no fault of it was met
+decided_quiet : (from : RecordSupply) (tells : Tells) (d0 d d' : State) (bytes : List ℕ) (end : RecordingEnd) → EndsSupply from tells d0 d bytes end
+    → d'.input_faults ≡ d.input_faults → from ≡ line_trace → IsDecided bytes → d'.input_faults ≡ d0.input_faults
+decided_quiet line_trace tells d0 d d' bytes end ends faults line known = faults ∙ ends.decided known
+decided_quiet (drawn_trace t seed frames) tells d0 d d' bytes end ends faults line known = absurd (cc)
+
+nothing_pulled : (from : RecordSupply) (tells : Tells) (d0 d : State) (bytes : List ℕ) (end : RecordingEnd) → EndsSupply from tells d0 d bytes end
+    → PullsNothing from bytes
+nothing_pulled line_trace tells d0 d bytes end ends = tt
+nothing_pulled (drawn_trace t seed frames) tells d0 d bytes end ends = ends.0
+
+module _ (from : RecordSupply) (tells : Tells) (past : RecordingPast) (d0 d d' : State) (s0 s : Session) (end : SourceEnd)
+    (sound0 : IsSoundDeck tells d0) (is : IsBegun tells s0 past d0) (whole : HasFedAll from tells past s d0 d end)
+  where
+    -- the last block is written, or an error comes
+    module _ (parts : all_blocks (past_fed past (supplied_records from whole.pulled))
+        ≡ recorded_of (past_fed past (supplied_records from whole.pulled)) ++ rest_of (past_fed past (supplied_records from whole.pulled)))
+        (wrote : RecordsFirstOf tells s.ring.header s.ring.next (rest_of (past_fed past (supplied_records from whole.pulled))) d d')
+      where
+        wrote_at : RecordsFirstOf tells past.header (past.first + length (recorded_of (past_fed past (supplied_records from whole.pulled))))
+            (rest_of (past_fed past (supplied_records from whole.pulled))) d d'
+        wrote_at = RecordsFirstOf-at tells (past_fed past (supplied_records from whole.pulled)) s
+            (rest_of (past_fed past (supplied_records from whole.pulled))) d d'
+            whole.stands wrote
+
+        closing_moments : d0.greatest ≤ past.first
+            → EachMoment tells d0 d' (SupplyMoment past d0 (all_blocks (past_fed past (supplied_records from whole.pulled))) whole.pulled)
+        closing_moments few = subst (λ (l : List Block). EachMoment tells d0 d' (SupplyMoment past d0 l whole.pulled)) (sym parts)
+            (block_moments tells (past_fed past (supplied_records from whole.pulled)) d0 d d' whole.pulled sound0 is.ring is.settled is.announced whole.has
+            (rest_of (past_fed past (supplied_records from whole.pulled))) wrote_at few)
+
+        closing_time : Elapses tells d0 d'
+        closing_time = block_time tells (past_fed past (supplied_records from whole.pulled)) d0 d d' whole.pulled sound0 is.ring is.settled is.announced
+            whole.has (rest_of (past_fed past (supplied_records from whole.pulled))) wrote_at
+
+        closing_pulls : PullsUntilDecided tells d0 d' [] whole.pulled
+        closing_pulls = block_pulls tells (past_fed past (supplied_records from whole.pulled)) d0 d d' whole.pulled sound0 is.ring is.settled is.announced
+            whole.has (rest_of (past_fed past (supplied_records from whole.pulled))) wrote_at
+
+        pub Continues-closed : (n : ℕ) → n ≡ s.ring.next + length (rest_of (past_fed past (supplied_records from whole.pulled))) → n ≤ 2 ^ 48
+            → RecordsAllOf tells s.ring.header s.ring.next (rest_of (past_fed past (supplied_records from whole.pulled))) d d'
+            → Continues from tells past d0 d' (Ok end)
+        Continues-closed n next bound recorded =
+            let p = past_fed past (supplied_records from whole.pulled) in
+            let a = recorded_of p in
+            let b = rest_of p in
+            record {
+              pulled = whole.pulled;
+              pulls = closing_pulls;
+              time = closing_time;
+              moments = closing_moments;
+              recorded = λ all. subst (λ (l : List Block). RecordsAllOf tells past.header past.first l d0 d') (sym parts)
+                  (RecordsAllOf-then tells past.header past.first a b d0 d d' whole.has.recorded
+                  (RecordsAllOf-at tells p s b d d' whole.stands recorded));
+              within = λ all. omega (arith, bound, next, next_at p s whole.stands, ap length parts, length-append a b);
+              seq_end = λ e. absurd (cc);
+              beyond = λ e. absurd (cc);
+              ends = EndsSupply-kept from tells d0 d d' whole.pulled (Ok end) whole.ends wrote.input.input wrote.input_faults;
+            }
+
+        -- its number is announced
+        pub told_closed : (n : ℕ) → n ≡ s.ring.next + length (rest_of (past_fed past (supplied_records from whole.pulled)))
+            → RecordsAllOf tells s.ring.header s.ring.next (rest_of (past_fed past (supplied_records from whole.pulled))) d d' → n ≡ d'.announced
+        told_closed n next recorded =
+            let p = past_fed past (supplied_records from whole.pulled) in
+            let here = whole.has.recorded.announced is.announced in
+            omega (arith, next, next_at p s whole.stands, here, recorded.announced (omega (arith, here, next_at p s whole.stands)))
+
+        pub Continues-unclosed : (f : SessionFault) → (f ≡ session.DiskFault) ⊎ (f ≡ session.SeqEnd)
+            → (f ≡ session.SeqEnd
+            → HasEnded tells s.ring.header s.ring.next (rest_of (past_fed past (supplied_records from whole.pulled))) d d')
+            → Continues from tells past d0 d' (Err f)
+        Continues-unclosed f only ended =
+            let p = past_fed past (supplied_records from whole.pulled) in
+            let a = recorded_of p in
+            let b = rest_of p in
+            let bound = bound_of p s whole.stands in
+            record {
+              pulled = whole.pulled;
+              pulls = closing_pulls;
+              time = closing_time;
+              moments = closing_moments;
+              recorded = λ all. absurd all;
+              within = λ all. absurd all;
+              seq_end = λ e.
+                  let end = HasEnded-at tells p s b d d' whole.stands (ended (is_seq_end f e)) in
+                  let n : 2 ^ 48 - past.first ≡ length a + (2 ^ 48 - (past.first + length a)) = omega (arith, bound) in
+                  subst (λ (l : List Block). RecordsAllOf tells past.header past.first l d0 d')
+                  (sym (ap (λ (l : List Block). take (2 ^ 48 - past.first) l) parts
+                  ∙ ap (λ m. take m (a ++ b)) n ∙ take-append-add a b (2 ^ 48 - (past.first + length a))))
+                  (RecordsAllOf-then tells past.header past.first a (take (2 ^ 48 - (past.first + length a)) b) d0 d d'
+                  whole.has.recorded end.recorded);
+              beyond = λ e.
+                  let end = HasEnded-at tells p s b d d' whole.stands (ended (is_seq_end f e)) in
+                  omega (arith, end.beyond, ap length parts, length-append a b);
+              ends = EndsSupply-cut from tells d0 d' whole.pulled f
+                  (nothing_pulled from tells d0 d whole.pulled (Ok end) whole.ends)
+                  (decided_quiet from tells d0 d d' whole.pulled (Ok end) whole.ends wrote.input_faults);
+            }

@@ -1,0 +1,23 @@
+-- Which refusal of an image a recording ends with.
+use Rattle.std.specs.Prelude.{◌≡◌, ◌≢◌, ◌⊎◌, ◌↔◌, ◌<◌, ℕ, Some, Err, IsTrue}
+use Rattle.fdr_deck.specs.State.{State, Tells}
+use Rattle.fdr_slot.specs.declared.image.ImageFault.{ImageFault}
+use Rattle.fdr_slot.specs.declared.image.ImageFault.TheVariants as image_fault
+use Rattle.fdr_recover.specs.ImageHeader.{image_fault_of, IsFor}
+use Rattle.fdr_table.specs.Rows.{TableRows}
+use Rattle.fdr_recorder.specs.Ends.{RecordingEnd}
+use Rattle.fdr_recorder.specs.declared.error.SessionFault.TheVariants as fault
+
+-- An image is refused for its first fault, as too small by its length on every deck, and where it is for frames of other words
+-- than the table's; and one that is to be refused is, unless the disk failed or memory ended.
+pub record RefusesSession (t : TableRows) (tells : Tells) (old new : State) (end : RecordingEnd) : Type 0 where
+  pub refused : (why : ImageFault) → end ≡ Err (fault.Image why) → IsTrue tells.bytes → image_fault_of old.held ≡ Some why
+  pub small : (why : ImageFault) → end ≡ Err (fault.Image why) → (why ≡ image_fault.Small) ↔ (new.extent < 64)
+  pub small_always : end ≢ Err fault.NoMemory → new.extent < 64
+      → (end ≡ Err (fault.Image image_fault.Small)) ⊎ (end ≡ Err fault.DiskFault)
+  pub refused_always : (why : ImageFault) → end ≢ Err fault.NoMemory → IsTrue tells.bytes → image_fault_of old.held ≡ Some why
+      → (end ≡ Err (fault.Image why)) ⊎ (end ≡ Err fault.DiskFault)
+  pub words : (image table : ℕ) → end ≡ Err (fault.WordsDiffer image table)
+      → (table ≡ t.frame.words) × (image ≢ table) × (IsTrue tells.bytes → IsFor image old.held)
+  pub words_always : (image : ℕ) → end ≢ Err fault.NoMemory → IsTrue tells.bytes → IsFor image old.held → image ≢ t.frame.words
+      → (end ≡ Err (fault.WordsDiffer image t.frame.words)) ⊎ (end ≡ Err fault.DiskFault)
