@@ -34,7 +34,6 @@ from inputs import ORDINARY, T1, TOP, largest_table, t1_frame, word_at
 
 SOURCE = TOP / "tests" / "refuse.c"
 CASES = TOP / "examples" / "cases"
-IMAGES = ["ring.img", "recorded.img", "cut.img"]
 NO_MEMORY = (12, b"", b"fdr: no memory\n")
 LIMIT = 60  # seconds that a run has
 
@@ -95,8 +94,7 @@ def refused_numbers(requests, most):
 
 def stored_works():
     """The cases of examples/, which `make demo` runs too."""
-    files = {"t1.csv": T1, "ordinary.csv": ORDINARY}
-    files |= {name: (TOP / "examples" / name).read_bytes() for name in IMAGES}
+    files = {path.name: path.read_bytes() for path in (TOP / "examples").iterdir() if path.suffix in (".csv", ".img")}
     for words in sorted(CASES.glob("*.args")):
         given, output = words.with_suffix("").read_bytes(), words.with_suffix(".stdout").read_bytes()
         yield Work(words.stem.replace("_", " "), words.read_text().split("\n")[:-1], given, files, output)
