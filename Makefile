@@ -19,7 +19,8 @@ demo:
 	cd $(PROGRAM) && rt try --cases ../../examples/cases --data t1.csv=../../examples/t1.csv \
 		--data ordinary.csv=../../examples/ordinary.csv --data fresh.csv=../../examples/fresh.csv \
 		--data ring.img=../../examples/ring.img --data recorded.img=../../examples/recorded.img \
-		--data cut.img=../../examples/cut.img
+		--data cut.img=../../examples/cut.img --data again.img=../../examples/again.img \
+		--data old.img=../../examples/old.img
 
 # Checks the documents and the images of examples/ against what they are made from: two seconds.
 check:

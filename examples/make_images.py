@@ -13,7 +13,7 @@ HERE = pathlib.Path(__file__).resolve().parent
 sys.dont_write_bytecode = True
 sys.path.insert(0, str(HERE.parent / "tests"))
 
-from formats import CLOSED, HEAD, SYNCS, empty_image, recorded, shape_of, slot_at
+from formats import CLOSED, HEAD, SYNCS, VERSION_1, empty_image, recorded, shape_of, slot_at
 from inputs import t1_frame
 
 FIRST, SECOND = t1_frame(0, 5), t1_frame(1, 7)
@@ -43,7 +43,17 @@ def ring_image():
     return recorded(empty_image(4, PAYLOAD), FIRST)
 
 
-IMAGES = {"recorded.img": recorded_image, "cut.img": cut_image, "ring.img": ring_image}
+def again_image():
+    """The trace is recorded, and then its first frame."""
+    return recorded(recorded_image(), FIRST)
+
+
+def old_image():
+    """The trace was recorded in an image of version 1."""
+    return recorded(empty_image(SLOTS, PAYLOAD, version=VERSION_1), FIRST + SECOND)
+
+
+IMAGES = {"recorded.img": recorded_image, "cut.img": cut_image, "ring.img": ring_image, "again.img": again_image, "old.img": old_image}
 
 
 def differences():

@@ -8,7 +8,7 @@ of acknowledgements and a random while; some runs are let end by themselves. The
 alone, and must hold:
 
 - the last blocks of all that was recorded so far, with no number left out, each byte for byte as `PROGRAM stream` gives
-  the stream of the trace, cut into blocks, whose numbers go on over the recordings;
+  the stream of the trace, cut into blocks, whose numbers go on over the recordings, and with the session of its recording;
 - at least as many as the ring promises, which is its slots less two, or all that were recorded;
 - each block that was acknowledged, unless the ring promises it no longer, and at most one more.
 
@@ -77,11 +77,12 @@ class Image:
         self.header = path.read_bytes()[: HEADER.size]
 
     def blocks_of(self, trace):
-        """The blocks that a recording of a trace adds."""
+        """The blocks that a recording of a trace adds, each with its session."""
         status, stream = answer_of([self.program, "stream", self.table], input=trace)
         if status != 0:
             raise Mismatch(f"stream ended with {status}")
-        return blocks_of(stream, self.payload)
+        session = self.blocks[-1][0] + 1 if self.blocks else 1
+        return [(session, block) for block in blocks_of(stream, self.payload)]
 
     def look(self, coming, told):
         """Compares the image with what was recorded before and what a recording with these acknowledgements added to it."""
@@ -89,18 +90,18 @@ class Image:
         if image[: HEADER.size] != self.header:
             raise Mismatch("the header isn't what it was")
         run = recovered(image)
-        following = run[-1][0] + 1 if run else 0
+        following = run[-1].number + 1 if run else 0
         every = self.blocks + coming
         least, most = (told[-1], min(told[-1] + 1, len(every))) if told else (len(self.blocks), len(self.blocks))
         if not least <= following <= most:
             raise Mismatch(f"the next number is {following}, and it has to be {least} to {most}")
         if len(run) < min(self.slots - PROMISED_LESS, following):
             raise Mismatch(f"the run has {len(run)} blocks of {following}, in {self.slots} slots")
-        for number, held in run:
-            if held != every[number]:
-                raise Mismatch(f"block {number} isn't that of the stream")
+        for number, session, held in run:
+            if (session, held) != every[number]:
+                raise Mismatch(f"block {number} isn't that of the stream, or of another recording")
         status, written = answer_of([self.program, "recover", self.path])
-        if status != 0 or written != b"".join(held for _, held in run):
+        if status != 0 or written != b"".join(held for _, _, held in run):
             raise Mismatch(f"recover ended with {status} and wrote {len(written)} bytes, which aren't those of the run")
         added = following - len(self.blocks)
         self.blocks = every[:following]

@@ -11,7 +11,7 @@ from collections.abc import Callable
 from typing import NamedTuple
 
 import reader
-from formats import BUS_WORD, CLOSED, HEAD, NUMBERS, OPEN, RECORD, SYNCS, bits_of, bus_word, bytes_of_bits
+from formats import BUS_WORD, CLOSED, HEAD, NUMBERS, OPEN, RECORD, SESSIONS, SYNCS, VERSION_1, VERSION_2, bits_of, bus_word, bytes_of_bits
 from formats import empty_image, end_at, head_of, levels_of, recorded, shape_of, slot_at, valid_blocks
 from inputs import T1, t1_frame, word_at
 
@@ -443,7 +443,7 @@ def draw_image(chance: random.Random, rows: Rows) -> bytes:
     """An image in which some blocks are, of slots and payloads that are drawn."""
     words = int(rows[0][1])
     slots, payload = chance.choice([4, 5, 8, 17, 33]), chance.choice([64, 65, 100, 384, 500, 6 * words, 4096])
-    image = empty_image(slots, payload, words)
+    image = empty_image(slots, payload, words, chance.choice([VERSION_1, 0x17, *[VERSION_2] * 8]))
     for _ in range(chance.choice([0, 1, 1, 2, 3])):
         image = recorded(image, draw_bits(chance, rows))
     return with_numbers_up(chance, image) if chance.random() < 0.1 else image
@@ -454,8 +454,9 @@ def with_numbers_up(chance: random.Random, image: bytes) -> bytes:
     shape = shape_of(image)
     number = NUMBERS - chance.choice([1, 1, 2, 3, 5, 10])
     block = chance.randbytes(chance.randint(1, shape.payload))
+    session = chance.choice([0, 1, SESSIONS - 2, SESSIONS - 1])
     at, image = slot_at(shape, number), bytearray(empty_image(*shape))
-    image[at : at + HEAD.size + len(block)] = head_of(number, len(block)) + block
+    image[at : at + HEAD.size + len(block)] = head_of(number, len(block), session) + block
     return bytes(image)
 
 
@@ -471,7 +472,8 @@ def with_damaged_head(chance: random.Random, image: bytes) -> bytes:
     number = here - here % shape.slots + chance.choice([slot, slot, slot, slot + 1])
     length = chance.choice([0, 1, shape.payload, shape.payload + 1, 65_535])
     gate = bytes([chance.choice([OPEN, OPEN, CLOSED, 0x33, 0x5B])])
-    kinds = [(0, gate), (2, length.to_bytes(2, "big")), (4, chance.randbytes(4)), (8, number.to_bytes(8, "big")), (1, chance.randbytes(1))]
+    session = chance.choice([bytes(4), b"\0\0\0\1", b"\0\0\0\2", b"\xff" * 4, chance.randbytes(4)])
+    kinds = [(0, gate), (2, length.to_bytes(2, "big")), (4, session), (4, session), (8, number.to_bytes(8, "big")), (1, chance.randbytes(1))]
     image = with_bytes(image, at + 16, chance.randbytes(8)) if chance.random() < 0.2 else image
     for place, put in chance.sample(kinds, chance.randint(1, 3)):
         image = with_bytes(image, at + place, put)
@@ -481,8 +483,8 @@ def with_damaged_head(chance: random.Random, image: bytes) -> bytes:
 def with_damaged_header(chance: random.Random, image: bytes) -> bytes:
     """The image with another field of the header, or short, or with bytes behind it."""
     number = chance.choice([0, 3, 4, 5, 63, 64, 65, 128, 1024, 4096, 4097, 65_536, 65_537, (1 << 32) - 1]).to_bytes(4, "big")
-    gate, version = bytes([chance.choice([0, 0x5B, OPEN])]), bytes([chance.choice([1, 0xA4, 0xA5, 0xFF])])
-    kinds = [(0, gate), (1, version), (1, b"\xa5"), (2, b"FDR718"), (2, b"fdr717"), (8, number), (12, number), (16, number)]
+    gate, version = bytes([chance.choice([0, 0x5B, OPEN])]), bytes([chance.choice([0, 1, 0xA4, 0xA5, 0xFF])])
+    kinds = [(0, gate), (1, version), (1, version), (2, b"FDR718"), (2, b"fdr717"), (8, number), (12, number), (16, number)]
     kinds += [(20, chance.randbytes(44))]
     for at, put in chance.sample(kinds, chance.choice([1, 1, 1, 2])):
         image = with_bytes(image, at, put)
@@ -503,12 +505,12 @@ def damaged_image(chance: random.Random, image: bytes) -> bytes:
 
 # --- words
 
-WORDS = ["check", "stream", "listbits", "encode", "decode", "format", "record", "recover", "list", "drill", "Check", "help"]
+WORDS = ["check", "stream", "listbits", "encode", "decode", "format", "record", "recover", "list", "drill", "upgrade", "Check", "help"]
 WORDS += ["t.csv", "i.img", "none.csv", "", "-", "--", "--help", "--version", "-h", "--slots", "--payload", "--seed", "--frames"]
 WORDS += ["--slots=4", "--payload=64", "--seed=1", "--frames=1", "--slots=", "--slots=+4", "--slot=4", "--slots=4=4", "--=4"]
 WORDS += ["4", "64", "0"]
 LINES = ["check t.csv", "stream t.csv", "listbits t.csv", "encode", "decode", "format t.csv new.img --slots 4 --payload 64"]
-LINES += ["record t.csv i.img", "recover i.img", "list t.csv i.img", "drill --seed=1 t.csv i.img --frames 1"]
+LINES += ["record t.csv i.img", "recover i.img", "list t.csv i.img", "drill --seed=1 t.csv i.img --frames 1", "upgrade i.img"]
 VALUES = ["4", "64", "0", "1", "3", "5", "63", "65", "0000000004", "00000000064", "100001", "4294967295", "4294967296"]
 VALUES += ["-1", "+4", " 4", "4 ", "", "0x4", "4.0", "9999999999", "\u0664"]
 
@@ -607,6 +609,12 @@ def case_of_drill(chance: random.Random) -> Case:
     return Case(with_options(chance, ["drill", "t.csv", "i.img"], values), files_for(chance, text, image))
 
 
+def case_of_upgrade(chance: random.Random) -> Case:
+    image = damaged_image(chance, draw_image(chance, draw_rows(chance)))
+    image = with_bytes(image, 1, bytes([VERSION_1])) if chance.random() < 0.5 and len(image) > 1 else image
+    return Case([b"upgrade", b"i.img"], files_for(chance, b"", image))
+
+
 def case_of_words(chance: random.Random) -> Case:
     rows = draw_rows(chance)
     return Case(draw_words(chance), files_for(chance, text_of(rows), draw_image(chance, rows)), draw_trace(chance, rows))
@@ -623,5 +631,6 @@ DRAWS: dict[str, Callable[[random.Random], Case]] = {
     "recover": case_of_recover,
     "list": case_of_list,
     "drill": case_of_drill,
+    "upgrade": case_of_upgrade,
     "words": case_of_words,
 }

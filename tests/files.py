@@ -36,7 +36,7 @@ import time
 
 sys.dont_write_bytecode = True
 
-from formats import HEADER, bits_of, bytes_of_bits, empty_image, end_at, frame, levels_of, recorded, shape_of, slot_at
+from formats import HEADER, VERSION_1, bits_of, bytes_of_bits, empty_image, end_at, frame, levels_of, recorded, shape_of, slot_at, upgraded
 from inputs import T1, largest_table, t1_frame, table_of_every_word, word_at
 
 APART = "FDR_TESTS_APART"  # set where the script has mounts of its own
@@ -48,12 +48,16 @@ PAGE = 4096
 BITS = t1_frame(0, 5) + t1_frame(1, 7)
 TRACE = word_at(0, 5) + word_at(4_000_000, 7) + end_at(8_000_000)
 LISTING = b"row,0,1,10,ALT,5\nrow,1,1,10,ALT,7\n"
+SESSION = b"session,1,0\n"
 LEVELS = bytes_of_bits(levels_of(bits_of(BITS)))
 REPORT = b"frame,64,1,16\nparam,ALT,16,even\n"
 EMPTY = empty_image(16, 64)
 IMAGE = recorded(EMPTY, BITS)
 AGAIN = recorded(IMAGE, BITS)
 DRILLED = recorded(IMAGE, t1_frame(0, 1499))
+OLD = recorded(empty_image(16, 64, version=VERSION_1), BITS)
+NEW = upgraded(OLD)
+NEW_AGAIN = recorded(NEW, BITS)
 DRILL_LINE = b"drill,6,2,2,1506\n"
 FIVES = b"".join(t1_frame(counter, 5) for counter in range(11))
 
@@ -62,7 +66,7 @@ EVERY = table_of_every_word()
 MANY_FRAMES = [frame({(1, 2): counter}) for counter in range(672)]
 BIG_BITS = b"".join(MANY_FRAMES)
 BIG_IMAGE = recorded(empty_image(64, 4096), BIG_BITS)
-BIG_LISTING = "".join(
+BIG_LISTING = SESSION + "".join(
     f"row,{counter},{subframe},{word},V,0\n"
     for counter in range(len(MANY_FRAMES))
     for subframe in range(1, 5)
@@ -77,6 +81,7 @@ DECODE = ["decode"]
 RECORD = ["record", "t1.csv", "a.img"]
 RECOVER = ["recover", "a.img"]
 LIST = ["list", "t1.csv", "a.img"]
+UPGRADE = ["upgrade", "a.img"]
 LIST_EVERY = ["list", "every.csv", "a.img"]
 SEED = ["--seed", "1", "--frames", "1"]
 SIZES = ["--slots", "16", "--payload", "64"]
@@ -94,6 +99,7 @@ NO_OUTPUT = (9, "fdr: output cannot be written")
 DISK_FAULT = (10, "fdr: disk fault")
 TOO_LONG = (11, "fdr: input too long")
 NO_MEMORY = (12, "fdr: no memory")
+OLD_VERSION = (13, "fdr: image is version 1")
 NO_TRANSITION = (14, "fdr: no transition at level 2")
 NO_FRAME = (2, "fdr: table row 0: no frame row")
 TOO_LARGE = (2, "fdr: table row 0: too large")
@@ -505,7 +511,7 @@ def shrinks_while_recorded_in(place, run):
 def others_come(place, run):
     """While an image is recorded in, every other command on it is refused."""
     run.says(text_of((12, 12)))
-    for words in (RECORD, DRILL, RECOVER, LIST, ["format", "t1.csv", "a.img", *SIZES]):
+    for words in (RECORD, DRILL, RECOVER, LIST, UPGRADE, ["format", "t1.csv", "a.img", *SIZES]):
         place.expect(words, DISK_FAULT, given=TRACE)
     run.feed(TRACE)
 
@@ -514,7 +520,7 @@ def readers_come(place, run):
     """While an image is read, others may read it, and none may write it."""
     run.fills_its_pipe()
     place.expect(RECOVER, DONE, BIG_BITS)
-    for words in (RECORD, DRILL, ["format", "t1.csv", "a.img", *SIZES]):
+    for words in (RECORD, DRILL, UPGRADE, ["format", "t1.csv", "a.img", *SIZES]):
         place.expect(words, DISK_FAULT, given=TRACE)
 
 
@@ -699,6 +705,7 @@ def images(name, answer, what, formatted=None, **how):
     yield Case(f"recover, {what}", ["recover", name], answer, **how)
     yield Case(f"list, {what}", ["list", "t1.csv", name], answer, **how)
     yield Case(f"drill, {what}", ["drill", "t1.csv", name, *SEED], answer, **how)
+    yield Case(f"upgrade, {what}", ["upgrade", name], answer, **how)
     if formatted:
         yield Case(f"format, {what}", ["format", "t1.csv", name, *SIZES], formatted, **how)
 
@@ -723,7 +730,7 @@ def stream_cases():
     yield Case("recover, all streams closed", RECOVER, NO_OUTPUT, **closed)
     yield Case("drill, all streams closed", DRILL, NO_OUTPUT, changes={"a.img": DRILLED}, **closed)
     yield Case("check, input closed", CHECK, DONE, REPORT, given=CLOSED)
-    yield Case("list, input closed", LIST, DONE, LISTING, given=CLOSED)
+    yield Case("list, input closed", LIST, DONE, SESSION + LISTING, given=CLOSED)
     yield Case("listbits, input /dev/null", LISTBITS, DONE, given=NOTHING)
     yield Case("encode", ENCODE, DONE, LEVELS, given=BITS)
     yield Case("decode", DECODE, DONE, BITS, given=LEVELS)
@@ -795,7 +802,8 @@ def image_cases():
     yield Case("record, the image may not be written", RECORD, DISK_FAULT, given=TRACE, **unwritable)
     yield Case("drill, the image may not be written", DRILL, DISK_FAULT, **unwritable)
     yield Case("recover, the image may not be written", RECOVER, DONE, BITS, **unwritable)
-    yield Case("list, the image may not be written", LIST, DONE, LISTING, **unwritable)
+    yield Case("list, the image may not be written", LIST, DONE, SESSION + LISTING, **unwritable)
+    yield Case("upgrade, the image may not be written", UPGRADE, DISK_FAULT, **unwritable)
     yield Case("format, the folder may not be written", FORMAT, DISK_FAULT, makes=mode(".", 0o555), user=NOBODY)
     yield Case("format, a name that ends with /", [*FORMAT[:2], "new.img/", *SIZES], DISK_FAULT)
     yield Case("format, in a folder that was removed", ["format", "../t1.csv", *FORMAT[2:]], DISK_FAULT, by=IN_REMOVED)
@@ -809,6 +817,17 @@ def image_cases():
     yield Case("record, a link to an image", linked, DONE, makes=link("a.img"), **recorded)
     yield Case("recover, a link to an image", ["recover", "link"], DONE, BITS, makes=link("a.img"))
     yield Case("recover, the image is /dev/stdin", ["recover", "/dev/stdin"], DONE, BITS, given=IMAGE)
+    old = {"makes": file("a.img", OLD)}
+    yield Case("upgrade, the image is of version 1", UPGRADE, DONE, changes={"a.img": NEW}, **old)
+    yield Case("upgrade, the image is of version 2", UPGRADE, DONE)
+    yield Case("record, the image is of version 1", RECORD, OLD_VERSION, given=TRACE, **old)
+    yield Case("drill, the image is of version 1", DRILL, OLD_VERSION, **old)
+    yield Case("recover, the image is of version 1", RECOVER, DONE, BITS, **old)
+    yield Case("list, the image is of version 1", LIST, DONE, LISTING, **old)
+    new = {"makes": file("a.img", NEW)}
+    yield Case("list, the image was upgraded", LIST, DONE, b"session,0,0\n" + LISTING, **new)
+    twice = {"changes": {"a.img": NEW_AGAIN}, "acks": (12, 24), "given": TRACE}
+    yield Case("record, the image was upgraded", RECORD, DONE, **new, **twice)
 
 
 def meanwhile_cases():
@@ -870,6 +889,7 @@ def memory_cases():
     yield Case("list", ["list", "large.csv", "a.img"], DONE, **with_image)
     yield Case("recover", RECOVER, DONE, BITS)
     yield Case("drill", DRILL, DONE, DRILL_LINE, acks=(12, 18), changes={"a.img": DRILLED})
+    yield Case("upgrade", UPGRADE, DONE, makes=file("a.img", OLD), changes={"a.img": NEW})
 
 
 def word_cases():
@@ -916,7 +936,8 @@ def mount_cases():
     yield Case("record, the file system may only be read", record, DISK_FAULT, given=TRACE, makes=read_only)
     yield Case("recover, the file system may only be read", ["recover", "small/a.img"], DONE, BITS, makes=read_only)
     listing = ["list", "t1.csv", "small/a.img"]
-    yield Case("list, the file system may only be read", listing, DONE, LISTING, makes=read_only)
+    yield Case("list, the file system may only be read", listing, DONE, SESSION + LISTING, makes=read_only)
+    yield Case("upgrade, the file system may only be read", ["upgrade", "small/a.img"], DISK_FAULT, makes=read_only)
 
 
 def begin_apart():

@@ -14,13 +14,14 @@ BUS_WORD, END = 1, 2
 HEADER = struct.Struct(">BB6sIII44x")  # gate, version, letters, slots, payload, words; the rest is zero
 HEAD = struct.Struct(">BxHIQ")  # gate, length, session, number
 OPEN, CLOSED = 0x5A, 0x00
-VERSION = 0x00
+VERSION_1, VERSION_2 = 0x00, 0xA5  # the bytes; any other byte is version 1 too
 LETTERS = b"FDR717"
-SESSION = 0
 NUMBERS = 1 << 48  # a block's number is below this
+SESSIONS = 1 << 32  # a session is below this
 
 Shape = collections.namedtuple("Shape", "slots payload words")
 Head = collections.namedtuple("Head", "gate length session number")
+Block = collections.namedtuple("Block", "number session payload")
 
 
 # --- bits
@@ -102,9 +103,9 @@ def end_at(time):
 # --- images
 
 
-def header_of(shape):
+def header_of(shape, version=VERSION_2):
     """The header of an image."""
-    return HEADER.pack(OPEN, VERSION, LETTERS, *shape)
+    return HEADER.pack(OPEN, version, LETTERS, *shape)
 
 
 def shape_of(image):
@@ -112,9 +113,14 @@ def shape_of(image):
     return Shape(*HEADER.unpack_from(image)[3:])
 
 
-def head_of(number, length, gate=OPEN):
+def is_version_2(image):
+    """Whether the header of an image says version 2."""
+    return HEADER.unpack_from(image)[1] == VERSION_2
+
+
+def head_of(number, length, session=1, gate=OPEN):
     """The head of a slot that has the block of this number."""
-    return HEAD.pack(gate, length, SESSION, number)
+    return HEAD.pack(gate, length, session, number)
 
 
 def head_at(image, at):
@@ -137,30 +143,31 @@ def blocks_of(bits, payload):
     return [bits[at : at + payload] for at in range(0, len(bits), payload)]
 
 
-def empty_image(slots, payload, words=64):
+def empty_image(slots, payload, words=64, version=VERSION_2):
     """An image without blocks."""
     shape = Shape(slots, payload, words)
-    return header_of(shape) + bytes(slots * size_of_slot(shape))
+    return header_of(shape, version) + bytes(slots * size_of_slot(shape))
 
 
 def valid_blocks(image):
-    """The blocks of the valid slots, by their numbers."""
-    shape, found = shape_of(image), {}
+    """The blocks of the valid slots, by their numbers. In version 1 their session is 0."""
+    shape, has_sessions, found = shape_of(image), is_version_2(image), {}
     for slot in range(shape.slots):
         at = slot_at(shape, slot)
         head = head_at(image, at)
         is_here = head.number < NUMBERS and head.number % shape.slots == slot
         if head.gate == OPEN and is_here and 1 <= head.length <= shape.payload:
-            found[head.number] = image[at + HEAD.size : at + HEAD.size + head.length]
+            payload = image[at + HEAD.size : at + HEAD.size + head.length]
+            found[head.number] = Block(head.number, head.session if has_sessions else 0, payload)
     return found
 
 
 def recovered(image):
-    """The recovered run: the blocks with consecutive numbers up to the greatest, each with its number."""
+    """The recovered run: the blocks with consecutive numbers up to the greatest."""
     found, run = valid_blocks(image), []
     number = max(found, default=-1)
     while number in found:
-        run.append((number, found[number]))
+        run.append(found[number])
         number -= 1
     return run[::-1]
 
@@ -170,9 +177,15 @@ def next_number(image):
     return max(valid_blocks(image), default=-1) + 1
 
 
+def next_session(image):
+    """The session of a recording in an image: one more than the last block's, or 1; in version 1 it is written as 0."""
+    run = recovered(image)
+    return (run[-1].session + 1) % SESSIONS if run and is_version_2(image) else int(is_version_2(image))
+
+
 def recorded(image, bits):
     """The image after a recording of these bits: each block in its slot, and the gate of the following slot closed."""
-    shape, first = shape_of(image), next_number(image)
+    shape, first, session = shape_of(image), next_number(image), next_session(image)
     image = bytearray(image)
 
     def close(at):
@@ -182,7 +195,12 @@ def recorded(image, bits):
     close(slot_at(shape, first))
     for number, block in enumerate(blocks_of(bits, shape.payload), first):
         here = slot_at(shape, number)
-        image[here + 1 : here + HEAD.size + len(block)] = head_of(number, len(block))[1:] + block
+        image[here + 1 : here + HEAD.size + len(block)] = head_of(number, len(block), session)[1:] + block
         close(slot_at(shape, number + 1))
         image[here] = OPEN
     return bytes(image)
+
+
+def upgraded(image):
+    """The image with the version byte of version 2: the same blocks, whose sessions are what stood in their place."""
+    return image[:1] + bytes([VERSION_2]) + image[2:]

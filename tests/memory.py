@@ -29,7 +29,7 @@ from concurrent import futures
 
 sys.dont_write_bytecode = True
 
-from formats import bus_word, empty_image, end_at, frame, record_at, recorded, with_bit
+from formats import VERSION_1, bus_word, empty_image, end_at, frame, record_at, recorded, with_bit
 from inputs import ORDINARY, T1, TOP, largest_table, t1_frame, word_at
 
 SOURCE = TOP / "tests" / "refuse.c"
@@ -138,13 +138,17 @@ def worked_works():
     files["e.img"] = empty_image(16, 64)
     files["p.img"] = recorded(empty_image(16, 64), two_parts_bits())
     report = b"frame,64,2,12\nparam,A,8,even\nparam,B,4,even\n"
-    listing = b"row,0,1,10,ALT,5\nrow,1,1,10,ALT,5\nrow,0,1,20,POS,703710\n"
+    listing = b"session,1,0\nrow,0,1,10,ALT,5\nrow,1,1,10,ALT,5\nrow,0,1,20,POS,703710\n"
+    files["old.img"] = recorded(empty_image(16, 64, version=VERSION_1), two_parts_bits())
     cut, apart = with_bit_before(two_parts_bits(), 3072), b"row,0,1,10,ALT,5\ngap,3072,1\nrow,1,1,10,ALT,5\ngap,6145,7\n"
     yield Work("check, a bit in turns", ["check", "turns.csv"], b"", files, report)
     yield Work("check, a bit shared", ["check", "shared.csv"], b"", files, b"")
     yield Work("stream, two parts", ["stream", "p.csv"], two_parts_trace(), files, two_parts_bits())
     yield Work("record, two parts", ["record", "p.csv", "e.img"], two_parts_trace(), files, b"")
     yield Work("list, two parts", ["list", "p.csv", "p.img"], b"", files, listing)
+    yield Work("list, version 1", ["list", "p.csv", "old.img"], b"", files, listing.partition(b"\n")[2])
+    yield Work("record, version 1", ["record", "p.csv", "old.img"], two_parts_trace(), files, b"")
+    yield Work("upgrade", ["upgrade", "old.img"], b"", files, b"")
     yield Work("listbits, two parts apart", ["listbits", "p.csv"], cut, files, apart)
     drill = ["drill", "t1.csv", "e.img", "--seed", "1", "--frames", "1"]
     yield Work("drill, one frame", drill, b"", files, b"drill,6,1,1,1499\n")

@@ -15,10 +15,11 @@ from __future__ import annotations
 
 import bisect
 import functools
+import itertools
 import pathlib
 import re
 import sys
-from collections.abc import Callable, Iterator, Mapping, Sequence
+from collections.abc import Callable, Iterable, Iterator, Mapping, Sequence
 from typing import Any, NamedTuple
 
 MAX_TABLE, MAX_PARAMS, MAX_PLACES, MAX_PARTS = 1_048_576, 2_048, 8_192, 262_144
@@ -28,8 +29,9 @@ NUMBERS = 1 << 48
 SECOND = 1_000_000
 WORDS = (64, 128, 256, 512, 1024)
 SYNCS = (0o1107, 0o2670, 0o5107, 0o6670)
-OPEN, CLOSED = 0x5A, 0x00
+OPEN, CLOSED, SECOND_VERSION = 0x5A, 0x00, 0xA5
 LETTERS = b"FDR717"
+SESSIONS = 1 << 32
 
 
 class Answer(NamedTuple):
@@ -578,6 +580,7 @@ class Ring(NamedTuple):
     slots: int
     payload: int
     words: int
+    has_sessions: bool  # whether the image is of version 2
 
     def slot_of(self, number: int) -> int:
         """The first byte of the slot of a block."""
@@ -585,13 +588,14 @@ class Ring(NamedTuple):
 
 
 def ring_of(image: bytes) -> Ring:
-    ring = Ring(*(int.from_bytes(image[at : at + 4], "big") for at in (8, 12, 16)))
+    slots, payload, words = (int.from_bytes(image[at : at + 4], "big") for at in (8, 12, 16))
+    ring = Ring(slots, payload, words, image[1:2] == bytes([SECOND_VERSION]))
     is_in_range = 4 <= ring.slots <= 65_536 and 64 <= ring.payload <= 4_096 and ring.words in WORDS
     faults = [
         ("too small", len(image) < 64),
         ("header closed", image[:1] != bytes([OPEN])),
         ("not a recorder image", image[2:8] != LETTERS),
-        ("geometry", not is_in_range or image[1:2] == b"\xa5"),
+        ("geometry", not is_in_range),
         ("shorter than its ring", len(image) < 64 + ring.slots * (16 + ring.payload)),
     ]
     for text, is_there in faults:
@@ -607,24 +611,55 @@ def ring_for(table: Table, image: bytes) -> Ring:
     return ring
 
 
-def valid_blocks(image: bytes | bytearray, ring: Ring) -> dict[int, bytes]:
-    """The bytes of the blocks in valid slots, by their sequence numbers."""
+def ring_to_record_in(table: Table, image: bytes) -> Ring:
+    ring = ring_for(table, image)
+    if not ring.has_sessions:
+        raise Refused(13, "image is version 1")
+    return ring
+
+
+class Block(NamedTuple):
+    number: int
+    session: int
+    data: bytes
+
+
+def valid_blocks(image: bytes | bytearray, ring: Ring) -> dict[int, Block]:
+    """The blocks in valid slots, by their sequence numbers."""
     found = {}
     for slot in range(ring.slots):
         at = ring.slot_of(slot)
         length, number = int.from_bytes(image[at + 2 : at + 4], "big"), int.from_bytes(image[at + 8 : at + 16], "big")
         if image[at] == OPEN and number < NUMBERS and number % ring.slots == slot and 1 <= length <= ring.payload:
-            found[number] = bytes(image[at + 16 : at + 16 + length])
+            session = int.from_bytes(image[at + 4 : at + 8], "big") if ring.has_sessions else 0
+            found[number] = Block(number, session, bytes(image[at + 16 : at + 16 + length]))
     return found
 
 
-def recovered_run(image: bytes, ring: Ring) -> bytes:
-    found, run = valid_blocks(image, ring), b""
-    wanted = max(found, default=-1)
-    while wanted in found:
-        run = found[wanted] + run
-        wanted -= 1
-    return run
+def recovered_run(image: bytes | bytearray, ring: Ring) -> list[Block]:
+    found = valid_blocks(image, ring)
+    first = end = max(found, default=-1) + 1
+    while first - 1 in found:
+        first -= 1
+    return [found[number] for number in range(first, end)]
+
+
+def bits_in(blocks: Iterable[Block]) -> bytes:
+    return b"".join(block.data for block in blocks)
+
+
+def listing_of_blocks(table: Table, ring: Ring, blocks: list[Block]) -> Listing:
+    """The listing of all bits, or in version 2 of each session by itself, after its line."""
+    if not ring.has_sessions:
+        return listing_of(table, bits_in(blocks))
+    whole = Listing([], [], [])
+    for session, together in itertools.groupby(blocks, key=lambda block: block.session):
+        of_session = list(together)
+        listing = listing_of(table, bits_in(of_session))
+        whole.lines.extend([f"session,{session},{of_session[0].number}", *listing.lines])
+        whole.frames.extend(listing.frames)
+        whole.values.extend(listing.values)
+    return whole
 
 
 def format_image(text: bytes, image: bytes, slots: int, payload: int) -> Answer:
@@ -632,17 +667,23 @@ def format_image(text: bytes, image: bytes, slots: int, payload: int) -> Answer:
     if image:
         return Answer(5, errors=line("image is not empty"), image=image)
     numbers = b"".join(value.to_bytes(4, "big") for value in (slots, payload, table.words))
-    header = bytes([OPEN, 0]) + LETTERS + numbers + bytes(44)
+    header = bytes([OPEN, SECOND_VERSION]) + LETTERS + numbers + bytes(44)
     return Answer(0, image=header + bytes(slots * (16 + payload)))
 
 
 def recover(image: bytes) -> Answer:
-    return Answer(0, recovered_run(image, ring_of(image)), image=image)
+    return Answer(0, bits_in(recovered_run(image, ring_of(image))), image=image)
+
+
+def upgrade(image: bytes) -> Answer:
+    ring_of(image)
+    return Answer(0, image=image[:1] + bytes([SECOND_VERSION]) + image[2:])
 
 
 def list_image(text: bytes, image: bytes) -> Answer:
     table = table_of(text)
-    return Answer(0, listing_of(table, recovered_run(image, ring_for(table, image))).written(), image=image)
+    ring = ring_for(table, image)
+    return Answer(0, listing_of_blocks(table, ring, recovered_run(image, ring)).written(), image=image)
 
 
 # --- record and drill
@@ -656,13 +697,15 @@ def close_gate(image: bytearray, ring: Ring, number: int) -> None:
 def add_blocks(before: bytes, ring: Ring, bits: bytes) -> tuple[bytes, bytes, int]:
     """The image with the blocks of a stream, the announcements, and how many of the bits are in it."""
     image = bytearray(before)
-    number = max(valid_blocks(image, ring), default=-1) + 1
+    run = recovered_run(image, ring)
+    number = run[-1].number + 1 if run else 0
+    session = (run[-1].session + 1) % SESSIONS if run else 1
     acks = f"ack {number}\n"
     close_gate(image, ring, number)
     at = 0
     while at < len(bits) and number < NUMBERS:
         block = bits[at : at + ring.payload]
-        head = bytes([0]) + len(block).to_bytes(2, "big") + bytes(4) + number.to_bytes(8, "big")
+        head = bytes([0]) + len(block).to_bytes(2, "big") + session.to_bytes(4, "big") + number.to_bytes(8, "big")
         here = ring.slot_of(number)
         image[here + 1 : here + 16 + len(block)] = head + block
         close_gate(image, ring, number + 1)
@@ -681,7 +724,7 @@ def record_bits(image: bytes, ring: Ring, bits: bytes, status: int, fault: str) 
 
 def record(text: bytes, image: bytes, trace: bytes) -> Answer:
     table = table_of(text)
-    return record_bits(image, ring_for(table, image), *recorded(table, trace))
+    return record_bits(image, ring_to_record_in(table, image), *recorded(table, trace))
 
 
 def generated_words(table: Table, seed: int, frames: int) -> Iterator[Record]:
@@ -695,12 +738,12 @@ def generated_words(table: Table, seed: int, frames: int) -> Iterator[Record]:
 
 def drill(text: bytes, image: bytes, seed: int, frames: int) -> Answer:
     table = table_of(text)
-    ring = ring_for(table, image)
+    ring = ring_to_record_in(table, image)
     bits = stream_of(table, list(generated_words(table, seed, frames)), 4 * SECOND * frames)
     answer = record_bits(image, ring, bits, 0, "")
     if answer.status:
         return answer
-    listing = listing_of(table, recovered_run(answer.image or b"", ring))
+    listing = listing_of_blocks(table, ring, recovered_run(answer.image or b"", ring))
     blocks = -(-len(bits) // ring.payload)
     told = f"drill,{blocks},{len(listing.frames)},{len(listing.values)},{sum(listing.values) % 2**64}\n"
     return answer._replace(output=told.encode())
@@ -725,6 +768,7 @@ COMMANDS = {
     "format": Command(format_image, "TI", False, ("--slots", "--payload")),
     "record": Command(record, "TI", True),
     "recover": Command(recover, "I"),
+    "upgrade": Command(upgrade, "I"),
     "list": Command(list_image, "TI"),
     "drill": Command(drill, "TI", False, ("--seed", "--frames")),
 }

@@ -3,9 +3,10 @@
 
 tests/walk.py PROGRAM
 
-All blocks of commands, of the first page and then of the second, run one after another in one shell, in a folder with the tables alone, as a reader types them. The block
-after one of commands is what they print. Where it has no line of an announcement, those lines are left out of the comparison;
-commands without such a block print announcements or nothing.
+All blocks of commands, of the first page and then of the second, run one after another in one shell, in a folder with the
+tables and the image of version 1 alone, as a reader types them. The block after one of commands is what they print. Where
+it has no line of an announcement, those lines are left out of the comparison; commands without such a block print
+announcements or nothing.
 """
 import pathlib
 import re
@@ -54,8 +55,8 @@ def printed(program, walk):
         tools = pathlib.Path(room, "tools")
         folder.mkdir()
         tools.mkdir()
-        for table in EXAMPLES.glob("*.csv"):
-            shutil.copy(table, folder)
+        for given in [*EXAMPLES.glob("*.csv"), EXAMPLES / "old.img"]:
+            shutil.copy(given, folder)
         (tools / "fdr").symlink_to(pathlib.Path(program).resolve())
         script = f"PATH={tools}:$PATH\n" + "".join("\n".join(lines) + f"\necho '{MARK}'\n" for _, lines, _ in walk)
         run = subprocess.run(["bash"], input=script, cwd=folder, stdout=subprocess.PIPE, stderr=subprocess.STDOUT, text=True, timeout=600)

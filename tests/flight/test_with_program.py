@@ -65,9 +65,11 @@ def test_examples_with_a_power_cut(fdr, flight, write):
         flight("table", write("l", listing), "--table", encoder.TOP / "examples" / "t1.csv").out.decode().splitlines()
     )
     assert rows[1:] == [
+        "0.000000,,,,(session),session 1 from block 9",
         ',,,,(gap),"from bit 0, 1536 bits: 2 s by its bits"',
+        "0.000000,,,,(session),session 2 from block 12",
         "0.140625,0,1,10,ALT,5",
-        '4.000000,,,,(gap),"from bit 4608, 2560 bits: 3.333008 s by its bits"',
+        '4.000000,,,,(gap),"from bit 3072, 2560 bits: 3.333008 s by its bits"',
     ]
 
 

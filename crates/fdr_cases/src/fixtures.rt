@@ -56,6 +56,34 @@ pub const POSITION_AT_1000000: [u8; 16] = [
 /// An end at 8,000,000, after two frames.
 pub const END_AT_8000000: [u8; 16] = [2, 0, 0, 0, 0, 0, 0, 0, 0, 0, 0, 0, 0, 0x7a, 0x12, 0];
 
+/// A ring of 16 slots of 64 bytes for subframes of 64 words, with this version byte in its header. Its blocks are these bytes,
+/// numbered from 0, each with its session.
+pub fn ring_with(
+    alloc: Global,
+    version: u8,
+    sessions: &[u32],
+    bytes: &[u8],
+) -> Result<Vec<u8>, AllocError> {
+    let header = [
+        0x5a, version, 0x46, 0x44, 0x52, 0x37, 0x31, 0x37, 0, 0, 0, 16, 0, 0, 0, 64, 0, 0, 0, 64,
+    ];
+    let mut ring = header.to_vec(alloc)?;
+    ring.resize(64, 0)?;
+    for (number, (block, session)) in bytes.chunks(64).zip(sessions).enumerate() {
+        let [first, second, third, last] = session.to_be_bytes();
+        let (length, number) = ((block.len() % 256) as u8, (number % 256) as u8);
+        let head = [
+            0x5a, 0, 0, length, first, second, third, last, 0, 0, 0, 0, 0, 0, 0, number,
+        ];
+        ring.extend_from_slice(&head)?;
+        ring.extend_from_slice(block)?;
+        let slots = ring.len().saturating_sub(64).div_ceil(80);
+        ring.resize(slots.saturating_mul(80).saturating_add(64), 0)?;
+    }
+    ring.resize(64 + 16 * 80, 0)?;
+    Ok(ring)
+}
+
 /// The 384 bytes of a frame of subframes of 64 words: its sync words, these bytes at their places, and zeros.
 pub fn frame_with(alloc: Global, put: &[(usize, u8)]) -> Result<Vec<u8>, AllocError> {
     let mut frame = vec![in alloc; 0; 384]?;

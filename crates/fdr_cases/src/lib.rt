@@ -8,7 +8,7 @@ use fdr_io::{MemSink, MemSource};
 use fdr_top::{Outcome, run};
 pub use fixtures::{
     ALTITUDE, END_AT_4000000, END_AT_4000001, END_AT_8000000, ORDINARY, POSITION_AT_0,
-    POSITION_AT_1000000, TWO_PARTS, WORD_AT_0, WORD_AT_4000000, frame_with,
+    POSITION_AT_1000000, TWO_PARTS, WORD_AT_0, WORD_AT_4000000, frame_with, ring_with,
 };
 use std::alloc::{AllocError, Global};
 

@@ -10,7 +10,7 @@ use std::test::Fail;
 #[test]
 fn refuses_other_words(rt: HostRuntime) -> Result<(), Fail> {
     let alloc = rt.alloc();
-    let cases: [&[&str]; 11] = [
+    let cases: [&[&str]; 12] = [
         &[],
         &["list"],
         &["listbits"],
@@ -32,6 +32,7 @@ fn refuses_other_words(rt: HostRuntime) -> Result<(), Fail> {
         &["listbits", "-x"],
         &["check", "t1.csv", "t2.csv"],
         &["listbits", ""],
+        &["upgrade", "t1.csv", "flight.img"],
     ];
     for case in cases {
         let words = words_of(alloc, case)?;
@@ -112,7 +113,7 @@ fn says_each_answer(rt: HostRuntime) -> Result<(), Fail> {
     for (fault, text) in faults {
         assert_eq!(rt; Outcome::TableRefused { row, fault }.text().bytes(), text);
     }
-    let answers: [(Outcome, u8, &[u8]); 24] = [
+    let answers: [(Outcome, u8, &[u8]); 25] = [
         (Outcome::Done, 0, b""),
         (Outcome::Usage, 1, b"fdr: usage"),
         (
@@ -212,6 +213,7 @@ fn says_each_answer(rt: HostRuntime) -> Result<(), Fail> {
         (Outcome::DiskFault, 10, b"fdr: disk fault"),
         (Outcome::TooLong, 11, b"fdr: input too long"),
         (Outcome::NoMemory, 12, b"fdr: no memory"),
+        (Outcome::OldVersion, 13, b"fdr: image is version 1"),
         (
             Outcome::CellFault { at: 15 },
             14,

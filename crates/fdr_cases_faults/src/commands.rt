@@ -2,7 +2,7 @@
 
 use fdr_cases::{
     ALTITUDE, END_AT_4000000, END_AT_4000001, ORDINARY, WORD_AT_0, answer, deck_of, frame_with,
-    run_words, words_of,
+    ring_with, run_words, words_of,
 };
 use fdr_deck::MemDeck;
 use fdr_io::{MemSink, MemSource};
@@ -26,6 +26,8 @@ pub struct Inputs {
     // A ring of sixteen slots without blocks, and with the blocks of the trace.
     fresh: Vec<u8>,
     recorded: Vec<u8>,
+    // The same blocks in a ring of version 1.
+    old: Vec<u8>,
 }
 
 /// Five zero bits, two frames with the altitude 5, and three zero bits.
@@ -74,12 +76,15 @@ impl Inputs {
             eleven: eleven_frames(alloc)?,
             fresh,
             recorded,
+            old: ring_with(alloc, 0, &[0; 6], &frame_with(alloc, &[(13, 0x50)])?)?,
         })
     }
 }
 
 /// The end of a trace after eleven frames.
 const END_AT_44000000: [u8; 16] = [2, 0, 0, 0, 0, 0, 0, 0, 0, 0, 0, 0, 0x02, 0x9f, 0x63, 0];
+
+const LIST: &[&str] = &["list", "t.csv", "flight.img"];
 
 const STREAM: &[&str] = &["stream", "t.csv"];
 
@@ -127,26 +132,32 @@ fn by_altitude<'a>(
     }
 }
 
-/// All commands, of which only `recover` reads no table, and `format` and `record` write nothing.
-pub fn commands<'a>(inputs: &'a Inputs) -> [Command<'a>; 10] {
+/// Commands, of which `recover` and `upgrade` read no table, and `format`, `record` and `upgrade` write nothing.
+pub fn commands<'a>(inputs: &'a Inputs) -> [Command<'a>; 12] {
     let recorded: &[u8] = &inputs.recorded;
     let mut check = by_altitude(&["check", "t.csv"], &[], &[], REPORT.as_bytes(), 1);
     check.table = ORDINARY;
     let mut recover = by_altitude(&["recover", "flight.img"], recorded, &[], &inputs.frame, 1);
     recover.reads = 0;
+    let mut upgrade = by_altitude(&["upgrade", "flight.img"], &inputs.old, &[], &[], 0);
+    upgrade.reads = 0;
     [
         check,
         by_altitude(&["listbits", "t.csv"], &[], &inputs.frames, LISTING, 2),
         by_altitude(STREAM, &[], &END_AT_4000000, &inputs.zero, 1),
         by_altitude(STREAM, &[], &END_AT_4000001, &inputs.longer, 1),
         by_altitude(STREAM, &[], &END_AT_44000000, &inputs.eleven, 2),
-        by_altitude(&["list", "t.csv", "flight.img"], recorded, &[], ROW, 1),
+        by_altitude(LIST, recorded, &[], SESSION, 1),
+        by_altitude(LIST, &inputs.old, &[], ROW, 1),
         recover,
+        upgrade,
         by_altitude(DRILL, &inputs.fresh, &[], b"drill,6,1,1,1499\n", 1),
         by_altitude(FORMAT, &[], &[], &[], 0),
         by_altitude(RECORD, &inputs.fresh, &inputs.trace, &[], 0),
     ]
 }
+
+const SESSION: &[u8] = b"session,1,0\nrow,0,1,10,ALT,5\n";
 
 const ROW: &[u8] = b"row,0,1,10,ALT,5\n";
 

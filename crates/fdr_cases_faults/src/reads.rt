@@ -35,6 +35,6 @@ fn writes_nothing_where_a_read_of_the_table_fails(rt: HostRuntime) -> Result<(),
         assert_eq!(rt; count, command.reads, "{:?}", command.words);
         reads = reads.saturating_add(count);
     }
-    assert_eq!(rt; reads, 18);
+    assert_eq!(rt; reads, 20);
     Ok(())
 }

@@ -42,6 +42,6 @@ fn writes_a_front_part_where_a_write_fails(rt: HostRuntime) -> Result<(), Fail> 
         assert_eq!(rt; count, command.writes, "{:?}", command.words);
         writes = writes.saturating_add(count);
     }
-    assert_eq!(rt; writes, 10);
+    assert_eq!(rt; writes, 11);
     Ok(())
 }

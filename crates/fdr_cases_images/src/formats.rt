@@ -7,7 +7,7 @@ use std::test::Fail;
 
 /// The header of an image of 4 slots of 64 bytes for subframes of 64 words, except the zeros at its end.
 pub const HEADER: [u8; 20] = [
-    0x5a, 0, 0x46, 0x44, 0x52, 0x37, 0x31, 0x37, 0, 0, 0, 4, 0, 0, 0, 64, 0, 0, 0, 64,
+    0x5a, 0xa5, 0x46, 0x44, 0x52, 0x37, 0x31, 0x37, 0, 0, 0, 4, 0, 0, 0, 64, 0, 0, 0, 64,
 ];
 
 /// An image of 4 slots of 64 bytes without blocks.

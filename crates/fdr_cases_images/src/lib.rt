@@ -9,3 +9,7 @@ mod heads;
 mod listings;
 #[cfg(test)]
 mod recoveries;
+#[cfg(test)]
+mod sessions;
+#[cfg(test)]
+mod upgrades;

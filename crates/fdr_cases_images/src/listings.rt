@@ -19,7 +19,7 @@ const TRACE: [u8; 32] = [
 const LIST: &[&str] = &["list", "t1.csv", "flight.img"];
 
 /// Lists an image by a table.
-fn list(alloc: Global, table: &str, deck: &mut MemDeck) -> Result<Ran, AllocError> {
+pub fn list(alloc: Global, table: &str, deck: &mut MemDeck) -> Result<Ran, AllocError> {
     run_words(alloc, LIST, table, deck, &[])
 }
 
@@ -46,7 +46,8 @@ fn lists_what_was_recorded(rt: HostRuntime) -> Result<(), Fail> {
     let mut deck = deck_of(alloc, &image, &TRACE, &[])?;
     let listed = list(alloc, ALTITUDE, &mut deck)?;
     assert_eq!(rt; listed.outcome, Outcome::Done);
-    assert_eq!(rt; listed.written.as_slice(), b"row,0,1,10,ALT,5\n".as_slice());
+    let lines = b"session,1,0\nrow,0,1,10,ALT,5\n";
+    assert_eq!(rt; listed.written.as_slice(), lines.as_slice());
     assert_eq!(rt; deck.image(), image.as_slice());
     assert_eq!(rt; deck.told(), 0);
     Ok(())
@@ -80,8 +81,9 @@ fn lists_blocks_in_the_order_of_their_numbers(rt: HostRuntime) -> Result<(), Fai
     let mut deck = deck_of(alloc, &recorded(alloc, 3)?, &[], &[])?;
     let listed = list(alloc, ALTITUDE, &mut deck)?;
     assert_eq!(rt; listed.outcome, Outcome::Done);
-    let lines = b"gap,0,1536\nrow,0,1,10,ALT,5\nrow,0,1,10,ALT,5\n";
-    assert_eq!(rt; listed.written.as_slice(), lines.as_slice());
+    let lines =
+        "session,1,3\ngap,0,1536\nsession,2,6\nrow,0,1,10,ALT,5\nsession,3,12\nrow,0,1,10,ALT,5\n";
+    assert_eq!(rt; listed.written.as_slice(), lines.as_bytes());
     Ok(())
 }
 
@@ -98,7 +100,8 @@ fn lists_the_blocks_that_a_ring_holds(rt: HostRuntime) -> Result<(), Fail> {
     let mut deck = deck_of(alloc, &image, &[], &[])?;
     let listed = list(alloc, ALTITUDE, &mut deck)?;
     assert_eq!(rt; listed.outcome, Outcome::Done);
-    assert_eq!(rt; listed.written.as_slice(), b"gap,0,1536\n".as_slice());
+    let lines = b"session,1,3\ngap,0,1536\n";
+    assert_eq!(rt; listed.written.as_slice(), lines.as_slice());
     assert_eq!(rt; deck.image(), image.as_slice());
     Ok(())
 }
@@ -140,14 +143,19 @@ fn refuses_an_image_for_other_words(rt: HostRuntime) -> Result<(), Fail> {
 #[test]
 fn says_what_of_a_listing_failed(rt: HostRuntime) -> Result<(), Fail> {
     let alloc = rt.alloc();
-    let image = image_of_a_frame(alloc)?;
-    // The size, the header, the heads of four slots, those of four numbers downward, and three blocks in two reads each.
-    for call in 0..16 {
-        let mut deck = deck_of(alloc, &image, &[], &[call])?;
-        let listed = list(alloc, ALTITUDE, &mut deck)?;
-        assert_eq!(rt; listed.outcome, Outcome::DiskFault, "call {call}");
-        assert_eq!(rt; listed.written.len(), 0, "call {call}");
-        assert_eq!(rt; deck.image(), image.as_slice(), "call {call}");
+    let mut image = image_of_a_frame(alloc)?;
+    for (version, lines) in [(0x00, "gap,0,1536\n"), (0xa5, "session,1,3\ngap,0,1536\n")] {
+        *image.get_mut(1).ok_or("a version")? = version;
+        // The size, the header, the heads of four slots, those of four numbers downward, and three blocks in two reads each.
+        for call in 0..16 {
+            let mut deck = deck_of(alloc, &image, &[], &[call])?;
+            let listed = list(alloc, ALTITUDE, &mut deck)?;
+            let written = listed.written;
+            assert_eq!(rt; listed.outcome, Outcome::DiskFault, "call {call}");
+            assert!(rt; lines.as_bytes().starts_with(&written), "call {call}");
+            assert!(rt; written.len() < lines.len(), "call {call}");
+            assert_eq!(rt; deck.image(), image.as_slice(), "call {call}");
+        }
     }
     let mut deck = deck_of(alloc, &image, &[], &[])?;
     let unwritten = run_words(alloc, LIST, ALTITUDE, &mut deck, &[0])?;

@@ -13,14 +13,14 @@ pub fn recover(alloc: Global, deck: &mut MemDeck) -> Result<Ran, AllocError> {
     run_words(alloc, &["recover", "flight.img"], "", deck, &[])
 }
 
-/// Adds a block to the ring of an image, which has room for its bytes.
+/// Adds a block of session 1 to the ring of an image, which has room for its bytes.
 fn add_block(deck: &mut MemDeck, bytes: &[u8]) -> Result<(), RingFault> {
     let header = read_image_header(deck)?;
     let ring = Ring::attach(deck, header)?;
-    if bytes.is_empty() || bytes.len() > header.payload as usize {
+    if header.version != 2 || bytes.is_empty() || bytes.len() > header.payload as usize {
         return Err(RingFault::SeqEnd);
     }
-    let prepared = ring.prepare(deck, bytes)?;
+    let prepared = ring.prepare(deck, 1, bytes)?;
     prepared.commit(deck)?;
     Ok(())
 }
@@ -39,11 +39,11 @@ pub fn image_of_a_frame(alloc: Global) -> Result<Vec<u8>, Fail> {
 fn calls_of_a_block(deck: &mut MemDeck, block: &[u8; 64]) -> Result<u64, RingFault> {
     let header = read_image_header(deck)?;
     let ring = Ring::attach(deck, header)?;
-    if header.payload < 64 {
+    if header.version != 2 || header.payload < 64 {
         return Err(RingFault::SeqEnd);
     }
     let before = deck.calls();
-    let prepared = ring.prepare(deck, block)?;
+    let prepared = ring.prepare(deck, 1, block)?;
     prepared.commit(deck)?;
     Ok(deck.calls().saturating_sub(before))
 }
@@ -107,7 +107,8 @@ fn refuses_what_is_no_image(rt: HostRuntime) -> Result<(), Fail> {
         (0, 0x00, 384, Outcome::ImageRefused(ImageFault::Closed)),
         (2, 0x00, 384, Outcome::ImageRefused(ImageFault::Magic)),
         (11, 3, 384, Outcome::ImageRefused(ImageFault::Geometry)),
-        (1, 0xa5, 384, Outcome::ImageRefused(ImageFault::Geometry)),
+        (1, 0x00, 384, Outcome::Done),
+        (1, 0x17, 384, Outcome::Done),
         (0, 0x5a, 383, Outcome::ImageRefused(ImageFault::Short)),
         (0, 0x5a, 385, Outcome::Done),
     ];
@@ -140,13 +141,13 @@ fn says_what_failed(rt: HostRuntime) -> Result<(), Fail> {
     Ok(())
 }
 
-/// An image of eight slots with blocks 2, 3, 4, 7 and 8, each in its slot. A block's bytes are its number.
+/// An image of eight slots with blocks 2, 3, 4, 7 and 8, each in its slot. A block's session and bytes are its number.
 fn broken_ring(alloc: Global) -> Result<Vec<u8>, AllocError> {
     let header = Header {
         slots: 8,
         payload: 64,
         words: 64,
-        version: 1,
+        version: 2,
     };
     let mut image = Vec::from_slice(alloc, &write_header(&header))?;
     for (open, number) in [
@@ -159,7 +160,7 @@ fn broken_ring(alloc: Global) -> Result<Vec<u8>, AllocError> {
         (false, 6),
         (true, 7),
     ] {
-        let mut head = write_slot_head(64, 0, u64::from(number));
+        let mut head = write_slot_head(64, u32::from(number), u64::from(number));
         if open {
             head[0] = OPEN;
         }
@@ -182,8 +183,16 @@ fn found(deck: &mut MemDeck) -> Result<Found, RingFault> {
 fn recovers_the_run_that_ends_at_the_greatest(rt: HostRuntime) -> Result<(), Fail> {
     let alloc = rt.alloc();
     let mut deck = deck_of(alloc, &broken_ring(alloc)?, &[], &[])?;
-    let run = Found { first: 7, next: 9 };
+    let run = Found {
+        first: 7,
+        next: 9,
+        session: 8,
+    };
     assert_eq!(rt; found(&mut deck).ok(), Some(run));
+    let mut old = broken_ring(alloc)?;
+    *old.get_mut(1).ok_or("a version")? = 0;
+    let run = Found { session: 0, ..run };
+    assert_eq!(rt; found(&mut deck_of(alloc, &old, &[], &[])?).ok(), Some(run));
     let recovered = recover(alloc, &mut deck)?;
     assert_eq!(rt; recovered.outcome, Outcome::Done);
     let mut blocks = vec![in alloc; 7; 64]?;

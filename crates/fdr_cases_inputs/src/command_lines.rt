@@ -25,6 +25,7 @@ fn command_of(request: &Request) -> &'static str {
         Request::RecoverImage { .. } => "recover",
         Request::ListImage { .. } => "list",
         Request::Drill { .. } => "drill",
+        Request::Upgrade { .. } => "upgrade",
     }
 }
 
@@ -48,6 +49,7 @@ fn reads_each_command(rt: HostRuntime) -> Result<(), Fail> {
         ("record t1.csv a.img", Some("t1.csv"), Some("a.img"), true),
         ("recover a.img", None, Some("a.img"), false),
         ("list t1.csv a.img", Some("t1.csv"), Some("a.img"), false),
+        ("upgrade a.img", None, Some("a.img"), true),
     ];
     for (line, table, image, writes) in cases {
         let request = read(rt.alloc(), line)?.ok().ok_or(line)?;
@@ -149,6 +151,9 @@ fn refuses_other_words(rt: HostRuntime) -> Result<(), Fail> {
         "drill t i --seed=4294967296 --frames=1",
         "drill t i --seed=1 --seed=1",
         "drill t i --slots=16 --payload=64",
+        "upgrade",
+        "upgrade t i",
+        "upgrade i --slots 16",
     ];
     for line in lines {
         let answer = read(rt.alloc(), line)?;

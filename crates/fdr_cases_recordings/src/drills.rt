@@ -1,6 +1,6 @@
 use crate::images::{END_AT_0, formatted, fresh, listed, record, recovered, stopped};
 use fdr_bus::{RecordKind, parse};
-use fdr_cases::{ALTITUDE, ORDINARY, Ran, deck_of, frame_with, run_words};
+use fdr_cases::{ALTITUDE, ORDINARY, Ran, deck_of, frame_with, ring_with, run_words};
 use fdr_deck::{MemDeck, Tear};
 use fdr_slot::{Header, in_limits};
 use fdr_table::Table;
@@ -43,7 +43,7 @@ fn drills_one_frame(rt: HostRuntime) -> Result<(), Fail> {
     assert_eq!(rt; recovered(alloc, deck.image())?, frame);
     assert_eq!(rt;
         listed(alloc, ALTITUDE, deck.image())?.as_slice(),
-        b"row,0,1,10,ALT,1499\n".as_slice()
+        b"session,1,0\nrow,0,1,10,ALT,1499\n".as_slice()
     );
     Ok(())
 }
@@ -115,7 +115,7 @@ fn has_recorded_all_where_its_line_fails(rt: HostRuntime) -> Result<(), Fail> {
     assert_eq!(rt; deck.told(), 6);
     assert_eq!(rt;
         listed(alloc, ALTITUDE, deck.image())?.as_slice(),
-        b"row,0,1,10,ALT,1499\n".as_slice()
+        b"session,1,0\nrow,0,1,10,ALT,1499\n".as_slice()
     );
     Ok(())
 }
@@ -134,6 +134,11 @@ fn refuses_what_a_recording_refuses(rt: HostRuntime) -> Result<(), Fail> {
     assert_eq!(rt; ran.outcome, differ);
     assert_eq!(rt; ran.written.len(), 0);
     assert_eq!(rt; deck.image(), image.as_slice());
+    let old = ring_with(alloc, 0, &[], &[])?;
+    let (ran, deck) = drill(alloc, &old, "1", "1", &[], &[])?;
+    assert_eq!(rt; ran.outcome, Outcome::OldVersion);
+    assert_eq!(rt; ran.written.len(), 0);
+    assert_eq!(rt; deck.image(), old.as_slice());
     // Its slot 3 holds the block of the greatest number.
     let mut last = image.clone()?;
     let head = [
@@ -166,7 +171,7 @@ fn twenty_five_hours_are_within_the_limits(rt: HostRuntime) -> Result<(), Fail> 
         slots: 8_448,
         payload: 4_096,
         words,
-        version: 1,
+        version: 2,
     };
     assert!(rt; in_limits(&header));
     let bytes: u64 = 22_500 * 1_536;

@@ -24,7 +24,7 @@ fn keeps_what_was_pulled_before_a_fault(rt: HostRuntime) -> Result<(), Fail> {
     assert_eq!(rt; recovered(alloc, deck.image())?, five);
     assert_eq!(rt;
         listed(alloc, ALTITUDE, deck.image())?.as_slice(),
-        b"row,0,1,10,ALT,5\n".as_slice()
+        b"session,1,0\nrow,0,1,10,ALT,5\n".as_slice()
     );
     Ok(())
 }

@@ -2,7 +2,7 @@ use crate::images::{END_AT_0, RECORD, fresh, goes_on_with, line_of, listed, reco
 use fdr_bus::TraceFault;
 use fdr_cases::{
     ALTITUDE, END_AT_4000000, END_AT_4000001, END_AT_8000000, POSITION_AT_0, POSITION_AT_1000000,
-    TWO_PARTS, WORD_AT_0, WORD_AT_4000000, deck_of, frame_with, run_words,
+    TWO_PARTS, WORD_AT_0, WORD_AT_4000000, deck_of, frame_with, ring_with, run_words,
 };
 use fdr_top::Outcome;
 use std::test::Fail;
@@ -45,7 +45,7 @@ fn records_worked_traces(rt: HostRuntime) -> Result<(), Fail> {
             answer: Outcome::Done,
             announced: 6,
             recovered: last,
-            listed: "gap,0,1536\n",
+            listed: "session,1,3\ngap,0,1536\n",
         },
         Case {
             shows: "a whole frame",
@@ -54,7 +54,7 @@ fn records_worked_traces(rt: HostRuntime) -> Result<(), Fail> {
             answer: Outcome::Done,
             announced: 6,
             recovered: &five,
-            listed: "row,0,1,10,ALT,5\n",
+            listed: "session,1,0\nrow,0,1,10,ALT,5\n",
         },
         Case {
             shows: "a short last block",
@@ -63,7 +63,7 @@ fn records_worked_traces(rt: HostRuntime) -> Result<(), Fail> {
             answer: Outcome::Done,
             announced: 7,
             recovered: &longer,
-            listed: "row,0,1,10,ALT,0\ngap,3072,16\n",
+            listed: "session,1,0\nrow,0,1,10,ALT,0\ngap,3072,16\n",
         },
         Case {
             shows: "an end before the first word",
@@ -84,7 +84,7 @@ fn records_worked_traces(rt: HostRuntime) -> Result<(), Fail> {
             },
             announced: 6,
             recovered: &five,
-            listed: "row,0,1,10,ALT,5\n",
+            listed: "session,1,0\nrow,0,1,10,ALT,5\n",
         },
         Case {
             shows: "no record",
@@ -127,7 +127,7 @@ fn lays_blocks_round_a_ring(rt: HostRuntime) -> Result<(), Fail> {
     let frame = frame_with(alloc, &[])?;
     let mut expected = image.get(..64).ok_or("a header")?.to_vec(alloc)?;
     for (gate, number, at) in [(0x5a, 4, 256), (0x5a, 5, 320), (0, 2, 128), (0x5a, 3, 192)] {
-        expected.extend_from_slice(&[gate, 0, 0, 64, 0, 0, 0, 0, 0, 0, 0, 0, 0, 0, 0, number])?;
+        expected.extend_from_slice(&[gate, 0, 0, 64, 0, 0, 0, 1, 0, 0, 0, 0, 0, 0, 0, number])?;
         expected.extend_from_slice(frame.get(at..at + 64).ok_or("a block")?)?;
     }
     assert_eq!(rt; deck.image(), expected.as_slice());
@@ -149,7 +149,44 @@ fn numbers_go_on_in_a_second_recording(rt: HostRuntime) -> Result<(), Fail> {
     assert_eq!(rt; recovered(alloc, deck.image())?, twice);
     assert_eq!(rt;
         listed(alloc, ALTITUDE, deck.image())?.as_slice(),
-        b"row,0,1,10,ALT,5\nrow,0,1,10,ALT,5\n".as_slice()
+        b"session,1,0\nrow,0,1,10,ALT,5\nsession,2,6\nrow,0,1,10,ALT,5\n".as_slice()
+    );
+    Ok(())
+}
+
+// Seven blocks each, of which the last has two bytes.
+#[test]
+fn counts_the_places_of_gaps_from_the_first_bit_of_a_session(rt: HostRuntime) -> Result<(), Fail> {
+    let alloc = rt.alloc();
+    let (_, deck) = record(alloc, &fresh(alloc, "16")?, &[END_AT_4000001], &[])?;
+    let (answer, deck) = record(alloc, deck.image(), &[END_AT_4000001], &[])?;
+    assert_eq!(rt; answer, Outcome::Done);
+    let first = "session,1,0\nrow,0,1,10,ALT,0\ngap,3072,16\n";
+    let second = "session,2,7\nrow,0,1,10,ALT,0\ngap,3072,16\n";
+    let lines = format!(in alloc; "{first}{second}")?;
+    assert_eq!(rt;
+        listed(alloc, ALTITUDE, deck.image())?.as_slice(),
+        lines.as_bytes()
+    );
+    Ok(())
+}
+
+#[test]
+fn the_session_after_the_greatest_is_0(rt: HostRuntime) -> Result<(), Fail> {
+    let alloc = rt.alloc();
+    let mut image = ring_with(alloc, 0xa5, &[u32::MAX], &[0])?;
+    let trace = [WORD_AT_0, END_AT_4000000];
+    for _ in 0..2 {
+        let (answer, deck) = record(alloc, &image, &trace, &[])?;
+        assert_eq!(rt; answer, Outcome::Done);
+        image = deck.image().to_vec(alloc)?;
+    }
+    let before = "session,4294967295,0\ngap,0,8\n";
+    let after = "session,0,1\nrow,0,1,10,ALT,5\nsession,1,7\nrow,0,1,10,ALT,5\n";
+    let lines = format!(in alloc; "{before}{after}")?;
+    assert_eq!(rt;
+        listed(alloc, ALTITUDE, &image)?.as_slice(),
+        lines.as_bytes()
     );
     Ok(())
 }
@@ -170,7 +207,7 @@ fn lists_a_recording_in_two_parts(rt: HostRuntime) -> Result<(), Fail> {
     assert_eq!(rt; deck.told(), 12);
     assert_eq!(rt;
         listed(alloc, TWO_PARTS, deck.image())?.as_slice(),
-        b"row,0,1,10,ALT,5\nrow,1,1,10,ALT,5\nrow,0,1,20,POS,703710\n".as_slice()
+        b"session,1,0\nrow,0,1,10,ALT,5\nrow,1,1,10,ALT,5\nrow,0,1,20,POS,703710\n".as_slice()
     );
     Ok(())
 }

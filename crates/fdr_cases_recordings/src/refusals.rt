@@ -37,6 +37,7 @@ fn refuses_what_is_no_image_for_the_table(rt: HostRuntime) -> Result<(), Fail> {
         image: 64,
         table: 256,
     };
+    let short = Outcome::ImageRefused(ImageFault::Short);
     let cases = [
         (
             0,
@@ -78,23 +79,13 @@ fn refuses_what_is_no_image_for_the_table(rt: HostRuntime) -> Result<(), Fail> {
             Outcome::ImageRefused(ImageFault::Geometry),
             0,
         ),
-        (
-            0,
-            0x5a,
-            383,
-            ALTITUDE,
-            Outcome::ImageRefused(ImageFault::Short),
-            0,
-        ),
+        (0, 0x5a, 383, ALTITUDE, short, 0),
         (0, 0x5a, 384, ORDINARY, words_differ, 0),
-        (
-            0,
-            0x5a,
-            383,
-            ORDINARY,
-            Outcome::ImageRefused(ImageFault::Short),
-            0,
-        ),
+        (0, 0x5a, 383, ORDINARY, short, 0),
+        (1, 0x00, 383, ALTITUDE, short, 0),
+        (1, 0x00, 384, ORDINARY, words_differ, 0),
+        (1, 0x00, 384, ALTITUDE, Outcome::OldVersion, 0),
+        (1, 0x5a, 384, ALTITUDE, Outcome::OldVersion, 0),
         (0, 0x5a, 385, ALTITUDE, Outcome::Done, 6),
     ];
     for (at, byte, length, table, outcome, announced) in cases {

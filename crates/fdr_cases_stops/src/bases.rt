@@ -66,7 +66,7 @@ impl Base {
     pub fn stands_in_slot_0(&self, image: &[u8]) -> Option<bool> {
         let length = self.stream.len();
         let (high, low) = ((length / 256 % 256) as u8, (length % 256) as u8);
-        let head = [0x5a, 0, high, low, 0, 0, 0, 0, 0, 0, 0, 0, 0, 0, 0, 0];
+        let head = [0x5a, 0, high, low, 0, 0, 0, 1, 0, 0, 0, 0, 0, 0, 0, 0];
         let slot = image.get(64..)?;
         if slot.first() != Some(&0x5a) {
             return Some(false);
@@ -89,9 +89,34 @@ impl Base {
         Ok(deck.calls().checked_sub(1))
     }
 
-    /// Whether an image has the length and the header of the ring.
+    /// Whether an image has the length and the header of the ring, and each open slot the session of its block's recording.
     pub fn is_same_ring(&self, image: &[u8]) -> bool {
-        image.len() == self.image.len() && image.get(..64) == self.image.get(..64)
+        image.len() == self.image.len()
+            && image.get(..64) == self.image.get(..64)
+            && self.has_sessions(image)
+    }
+
+    fn has_sessions(&self, image: &[u8]) -> bool {
+        let Some(slots) = image.get(64..) else {
+            return false;
+        };
+        for slot in slots.chunks(self.block.saturating_add(16)) {
+            if !self.has_session(slot) {
+                return false;
+            }
+        }
+        true
+    }
+
+    /// Whether a slot is closed, or has the session of its block's recording: 2 after another recording, and else 1.
+    fn has_session(&self, slot: &[u8]) -> bool {
+        let number = u64::from(*slot.get(15).unwrap_or(&0));
+        let session = if self.began > 0 && number >= self.began {
+            2
+        } else {
+            1
+        };
+        slot.first() != Some(&0x5a) || slot.get(4..8) == Some([0, 0, 0, session].as_slice())
     }
 
     /// The number of the next block in what is left of the ring, where what is in it is what is promised while this

@@ -19,7 +19,7 @@ pub const TEARS: [Tear; 6] = [
 /// A ring of `slots` slots of `payload` bytes without blocks, for subframes of 64 words.
 pub fn empty_ring(alloc: Global, slots: u16, payload: u16) -> Result<Vec<u8>, AllocError> {
     let mut image = Vec::new(alloc);
-    image.extend_from_slice(&[0x5a, 0, b'F', b'D', b'R', b'7', b'1', b'7'])?;
+    image.extend_from_slice(&[0x5a, 0xa5, b'F', b'D', b'R', b'7', b'1', b'7'])?;
     for number in [slots, payload, 64] {
         let [high, low] = number.to_be_bytes();
         image.extend_from_slice(&[0, 0, high, low])?;

@@ -1,5 +1,6 @@
 -- What calls do to the input.
-use Rattle.std.specs.Prelude.{◌≡◌, ℕ, ◌+◌, ◌<◌, List, ◌++◌, length, drop, IsTrue}
+use Rattle.std.specs.Prelude.{◌≡◌, ℕ, ◌+◌, ◌<◌, ◌≤◌, List, ◌++◌, length, drop, IsTrue}
+use Rattle.fdr_io.specs.Limits.{piece_bytes}
 use Rattle.fdr_io.specs.Told.{Gives}
 use Rattle.fdr_deck.specs.State.{State, Tells}
 
@@ -11,6 +12,13 @@ pub record GivesPiece (tells : Tells) (old new : State) (buffer : List ℕ) (n :
   pub given : IsTrue tells.input → Gives old.input buffer n
   pub left : IsTrue tells.input → new.input ≡ drop n old.input
   pub faults : new.input_faults ≡ old.input_faults
+
+-- The last pull that gave bytes was made once `start` bytes or more were taken. It gave those from `before` to `taken`, at
+-- most 4,096.
+pub record IsLastPull (start before taken : ℕ) : Type 0 where
+  pub begins : start ≤ before
+  pub gave_bytes : before < taken
+  pub within_piece : taken ≤ before + piece_bytes
 
 -- a call that leaves the input where it is
 pub record KeepsInput (old new : State) : Type 0 where

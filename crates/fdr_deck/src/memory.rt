@@ -121,7 +121,7 @@ impl MemDeck {
         self.entries.len() as u64
     }
 
-    /// The greatest number that was told as this call began.
+    /// The greatest number that was announced as this call began.
     pub fn told_at(&self, call: u64) -> u64
         requires { call < length self.now.entries }
         ensures { (e : Entry) → slice_get self.now.entries call ≡ Some e → result ≡ greatest_announced e.numbers.announced }

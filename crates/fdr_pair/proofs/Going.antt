@@ -61,18 +61,18 @@ may_stand h b entry held image done told may all le = keeps_on h entry held imag
     may)
 
 -- the number that the blocks end at, on a disk that tells its bytes
-ends_at : (tells : Tells) (side : Side) (r s : Ring) (number : ℕ) (bytes : List ℕ) (done : List Block) (start p : Pair)
-    → IsReadyRing tells side r number bytes start
+ends_at : (tells : Tells) (side : Side) (r s : Ring) (number session : ℕ) (bytes : List ℕ) (done : List Block) (start p : Pair)
+    → IsReadyRing tells side r number session bytes start
     → HasGoneOn tells side r s done start p → IsTrue tells.bytes → next_of r.header (disk_on side p).held ≡ number + length done
-ends_at tells side r s number bytes done start p ready gone told =
+ends_at tells side r s number session bytes done start p ready gone told =
     omega (arith, (gone.keeps told).next, ready.ring.sure.ring.next told, ready.next)
 
 -- the blocks so far, and those to come
-module _ (tells : Tells) (side : Side) (number : ℕ) (bytes : List ℕ) (new done : List Block) (start p q : Pair) (sound : IsSoundPair tells p)
+module _ (tells : Tells) (side : Side) (number session : ℕ) (bytes : List ℕ) (new done : List Block) (start p q : Pair) (sound : IsSoundPair tells p)
     (before : PairElapses start p) (time : PairElapses p q) where
   -- while the other side is served
   pub going_away : (first o : Option Ring) (more : List Block) → new ≡ done ++ more → LeavesSide side p q
-      → EachPairMoment tells p q (λ m. m.announced ≤ number + length done) → IsReadyFor tells side first number bytes start
+      → EachPairMoment tells p q (λ m. m.announced ≤ number + length done) → IsReadyFor tells side first number session bytes start
       → GoesOn tells side first new done start o p → GoesOn tells side first new done start o q
   going_away None None more is leaves told ready going = record {
     moments = on tells (SideMoment side None new start) start p q before time going.moments
@@ -96,7 +96,7 @@ module _ (tells : Tells) (side : Side) (number : ℕ) (bytes : List ℕ) (new do
         (image_on side m)) (sym is)
         (stands r.header (disk_on side start).held (disk_on side p).held (image_on side m) done more m.announced
         (going.now.ring.settled stops (image_on side m) image) (going.now.keeps tells_bytes)
-        (omega (arith, told stops m since, ends_at tells side r s number bytes done start p ready going.now tells_bytes)))));
+        (omega (arith, told stops m since, ends_at tells side r s number session bytes done start p ready going.now tells_bytes)))));
     now = record {
       header = going.now.header;
       next = going.now.next;
@@ -108,30 +108,32 @@ module _ (tells : Tells) (side : Side) (number : ℕ) (bytes : List ℕ) (new do
   }
 
   -- the next block of the ring
-  same_block : (r s : Ring) (b : Block) → b ≡ record { number = number + length done; payload = bytes } → IsReadyRing tells side r number bytes start
-      → HasGoneOn tells side r s done start p → next_block s bytes ≡ b
+  same_block : (r s : Ring) (b : Block) → b ≡ record { number = number + length done; session = session; payload = bytes }
+      → IsReadyRing tells side r number session bytes start
+      → HasGoneOn tells side r s done start p → next_block s session bytes ≡ b
   same_block r s b block ready gone =
       let at : s.next ≡ number + length done = omega (arith, gone.next, ready.next) in
-      ap (λ (n : ℕ). let x : Block = record { number = n; payload = bytes } in x) at ∙ sym block
+      ap (λ (n : ℕ). let x : Block = record { number = n; session = session; payload = bytes } in x) at ∙ sym block
 
-  kept_put : (r s : Ring) (b : Block) → new ≡ done ++ b ∷ [] → b ≡ record { number = number + length done; payload = bytes }
-      → EachPairMoment tells p q (λ m. MayPut s.header (next_block s bytes) (disk_on side p).held (image_on side m))
-      → EachPairMoment tells p q (λ m. m.announced ≤ number + length done) → IsReadyRing tells side r number bytes start
+  kept_put : (r s : Ring) (b : Block) → new ≡ done ++ b ∷ [] → b ≡ record { number = number + length done; session = session; payload = bytes }
+      → EachPairMoment tells p q (λ m. MayPut s.header (next_block s session bytes) (disk_on side p).held (image_on side m))
+      → EachPairMoment tells p q (λ m. m.announced ≤ number + length done) → IsReadyRing tells side r number session bytes start
       → HasGoneOn tells side r s done start p → EachPairMoment tells p q (SideMoment side (Some r) new start)
   kept_put r s b is block own told ready gone stops m since =
       let tells_bytes = (sound.sides side).stops_need_bytes stops in
       let may : MayPut r.header b (disk_on side p).held (image_on side m) =
       subst (λ (x : Block). MayPut r.header x (disk_on side p).held (image_on side m)) (same_block r s b block ready gone)
-      (subst (λ (h : Header). MayPut h (next_block s bytes) (disk_on side p).held (image_on side m)) gone.header (own stops m since)) in
+      (subst (λ (h : Header). MayPut h (next_block s session bytes) (disk_on side p).held (image_on side m)) gone.header (own stops m since)) in
       inr (subst (λ (l : List Block). RecoversPrefix r.header (disk_on side start).held (recovered_run r.header (disk_on side start).held) l m.announced
       (image_on side m)) (sym is)
       (may_stand r.header b (disk_on side start).held (disk_on side p).held (image_on side m) done m.announced may (gone.keeps tells_bytes)
-      (omega (arith, told stops m since, ends_at tells side r s number bytes done start p ready gone tells_bytes))))
+      (omega (arith, told stops m since, ends_at tells side r s number session bytes done start p ready gone tells_bytes))))
 
   -- while it is served itself
-  pub going_put : (first o o' : Option Ring) (b : Block) → new ≡ done ++ b ∷ [] → b ≡ record { number = number + length done; payload = bytes }
-      → PutOwn tells side o o' bytes p q
-      → EachPairMoment tells p q (λ m. m.announced ≤ number + length done) → IsReadyFor tells side first number bytes start
+  pub going_put : (first o o' : Option Ring) (b : Block) → new ≡ done ++ b ∷ []
+      → b ≡ record { number = number + length done; session = session; payload = bytes }
+      → PutOwn tells side o o' session bytes p q
+      → EachPairMoment tells p q (λ m. m.announced ≤ number + length done) → IsReadyFor tells side first number session bytes start
       → GoesOn tells side first new done start o p → GoesOn tells side first new (done ++ b ∷ []) start o' q
   going_put None None None b is block own told ready going = record {
     moments = on tells (SideMoment side None new start) start p q before time going.moments
@@ -161,7 +163,7 @@ module _ (tells : Tells) (side : Side) (number : ℕ) (bytes : List ℕ) (new do
       keeps = λ tells_bytes.
           let put : HasPut r.header b (disk_on side p).held (disk_on side q).held =
           subst (λ (x : Block). HasPut r.header x (disk_on side p).held (disk_on side q).held) (same_block r s b block ready going.now)
-          (subst (λ (h : Header). HasPut h (next_block s bytes) (disk_on side p).held (disk_on side q).held) going.now.header (own.put tells_bytes)) in
+          (subst (λ (h : Header). HasPut h (next_block s session bytes) (disk_on side p).held (disk_on side q).held) going.now.header (own.put tells_bytes)) in
           all_on r.header (disk_on side start).held (disk_on side p).held (disk_on side q).held
           (recovered_run r.header (disk_on side start).held) done (b ∷ []) (going.now.keeps tells_bytes)
           (record { kept = put.kept; run = put.run; next = put.next });
@@ -172,7 +174,7 @@ module _ (tells : Tells) (side : Side) (number : ℕ) (bytes : List ℕ) (new do
   -- while a number is announced, no greater than the one that the blocks end at
   pub going_told : (first : Option Ring) (s : Ring) (count : ℕ) (more : List Block) → new ≡ done ++ more → PairAnnounces tells side count p q
       → p.greatest ≤ number + length done
-      → count ≤ number + length done → IsReadyFor tells side first number bytes start
+      → count ≤ number + length done → IsReadyFor tells side first number session bytes start
       → GoesOn tells side first new done start (Some s) p → GoesOn tells side first new done start (Some s) q
   going_told None s count more is tell greatest le ready going = absurd going.now
   going_told (Some r) s count more is tell greatest le ready going = record {
@@ -184,7 +186,7 @@ module _ (tells : Tells) (side : Side) (number : ℕ) (bytes : List ℕ) (new do
         (image_on side m)) (sym is)
         (stands r.header (disk_on side start).held (disk_on side p).held (image_on side m) done more m.announced
         (going.now.ring.settled stops (image_on side m) at.image) (going.now.keeps tells_bytes)
-        (omega (arith, at.announced, greatest, le, ends_at tells side r s number bytes done start p ready going.now tells_bytes)))));
+        (omega (arith, at.announced, greatest, le, ends_at tells side r s number session bytes done start p ready going.now tells_bytes)))));
     now = record {
       header = going.now.header;
       next = going.now.next;
@@ -196,10 +198,11 @@ module _ (tells : Tells) (side : Side) (number : ℕ) (bytes : List ℕ) (new do
   }
 
 -- before the first block
-pub going_none : (tells : Tells) (side : Side) (number : ℕ) (bytes : List ℕ) (new : List Block) (start : Pair) (first : Option Ring) → IsSoundPair tells start
-    → start.greatest ≤ number → IsReadyFor tells side first number bytes start → GoesOn tells side first new [] start first start
-going_none tells side number bytes new start None sound greatest ready = record { moments = λ stops m since. inl since; now = refl }
-going_none tells side number bytes new start (Some r) sound greatest ready = record {
+pub going_none : (tells : Tells) (side : Side) (number session : ℕ) (bytes : List ℕ) (new : List Block) (start : Pair) (first : Option Ring)
+    → IsSoundPair tells start
+    → start.greatest ≤ number → IsReadyFor tells side first number session bytes start → GoesOn tells side first new [] start first start
+going_none tells side number session bytes new start None sound greatest ready = record { moments = λ stops m since. inl since; now = refl }
+going_none tells side number session bytes new start (Some r) sound greatest ready = record {
   moments = λ stops m since.
       let tells_bytes = (sound.sides side).stops_need_bytes stops in
       let here = LeavesSide-here side start in

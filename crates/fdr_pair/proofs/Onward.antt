@@ -82,14 +82,15 @@ module _ (tells : Tells) (side : Side) (done more : List Block) (start p q : Pai
   }
 
 -- a side is ready for the next block, where it was for this one
-pub ready_next : (tells : Tells) (side : Side) (o o' : Option Ring) (number : ℕ) (bytes : List ℕ) (b : Block) (p q : Pair)
-    → IsReadyFor tells side o number bytes p → SideNow tells side o o' (b ∷ []) p q → IsReadyFor tells side o' (number + 1) bytes q
-ready_next tells side None None number bytes b p q ready now = tt
-ready_next tells side None (Some t) number bytes b p q ready now = absurd now
-ready_next tells side (Some s) None number bytes b p q ready now = tt
-ready_next tells side (Some s) (Some t) number bytes b p q ready now = record {
+pub ready_next : (tells : Tells) (side : Side) (o o' : Option Ring) (number session : ℕ) (bytes : List ℕ) (b : Block) (p q : Pair)
+    → IsReadyFor tells side o number session bytes p → SideNow tells side o o' (b ∷ []) p q → IsReadyFor tells side o' (number + 1) session bytes q
+ready_next tells side None None number session bytes b p q ready now = tt
+ready_next tells side None (Some t) number session bytes b p q ready now = absurd now
+ready_next tells side (Some s) None number session bytes b p q ready now = tt
+ready_next tells side (Some s) (Some t) number session bytes b p q ready now = record {
   ring = now.ring;
   next = omega (arith, now.next, ready.next);
+  old_version = λ old. ready.old_version (subst (λ (h : Header). h.version ≡ 1) now.header old);
   fits = subst (λ (h : Header). length bytes ≤ h.payload) (sym now.header) ready.fits;
 }
 
@@ -99,13 +100,14 @@ told_time tells None (Some s) count p q tell = tell.time
 told_time tells None None count p q tell = tell.time
 
 -- one block more of the same bytes
-pub one_more : (tells : Tells) (side : Side) (number : ℕ) (bytes : List ℕ) (k : ℕ) (start p q : Pair) (first o o' : Option Ring) → IsSoundPair tells p
-    → PairElapses start p → PairElapses p q → GoesOn tells side first (copied_blocks number bytes k) (copied_blocks number bytes k) start o p
-    → EachPairMoment tells p q (SideMoment side o (record { number = number + k; payload = bytes } ∷ []) p)
-    → SideNow tells side o o' (record { number = number + k; payload = bytes } ∷ []) p q
-    → GoesOn tells side first (copied_blocks number bytes (k + 1)) (copied_blocks number bytes (k + 1)) start o' q
-one_more tells side number bytes k start p q first o o' sound before time going moments now =
+pub one_more : (tells : Tells) (side : Side) (number session : ℕ) (bytes : List ℕ) (k : ℕ) (start p q : Pair) (first o o' : Option Ring) → IsSoundPair tells p
+    → PairElapses start p → PairElapses p q → GoesOn tells side first (copied_blocks number session bytes k) (copied_blocks number session bytes k) start o p
+    → EachPairMoment tells p q (SideMoment side o (record { number = number + k; session = session; payload = bytes } ∷ []) p)
+    → SideNow tells side o o' (record { number = number + k; session = session; payload = bytes } ∷ []) p q
+    → GoesOn tells side first (copied_blocks number session bytes (k + 1)) (copied_blocks number session bytes (k + 1)) start o' q
+one_more tells side number session bytes k start p q first o o' sound before time going moments now =
     let one : k + 1 ≡ suc k = omega arith in
-    subst (λ (n : ℕ). GoesOn tells side first (copied_blocks number bytes n) (copied_blocks number bytes n) start o' q) (sym one)
-    (going_on tells side (copied_blocks number bytes k) (record { number = number + k; payload = bytes } ∷ []) start p q sound before time first o o' going
+    subst (λ (n : ℕ). GoesOn tells side first (copied_blocks number session bytes n) (copied_blocks number session bytes n) start o' q) (sym one)
+    (going_on tells side (copied_blocks number session bytes k)
+    (record { number = number + k; session = session; payload = bytes } ∷ []) start p q sound before time first o o' going
     moments now)

@@ -22,8 +22,9 @@ now_told tells side p sound stops m since =
     ((sound.sides side).only_now stops shown (m, (since, record { image = refl; announced = refl; taken = refl; pulled_before = refl }))).greatest
 
 -- nothing is done on a side that has failed
-pub puts_none : (tells : Tells) (side : Side) (bytes : List ℕ) (p : Pair) → IsSoundPair tells p → PutsUnlessFailed tells side None None bytes p p
-puts_none tells side bytes p sound = record {
+pub puts_none : (tells : Tells) (side : Side) (session : ℕ) (bytes : List ℕ) (p : Pair) → IsSoundPair tells p
+    → PutsUnlessFailed tells side None None session bytes p p
+puts_none tells side session bytes p sound = record {
   time = PairElapses-here p sound.falls;
   away = LeavesSide-here (other_side side) p;
   greatest = omega arith;
@@ -31,16 +32,16 @@ puts_none tells side bytes p sound = record {
   own = record { moments = λ stops m since. since; faults = refl };
 }
 
-module _ (tells : Tells) (side : Side) (r : Ring) (bytes : List ℕ) (old new : Pair) (sound : IsSoundPair tells old)
+module _ (tells : Tells) (side : Side) (r : Ring) (session : ℕ) (bytes : List ℕ) (old new : Pair) (sound : IsSoundPair tells old)
     (settled : IsTrue tells.stops → IsSettled (seen side old))
-    (served : Serves tells side (OfSettled (seen side old) (MayPut r.header (next_block r bytes))) old new) where
-  own_moments : EachPairMoment tells old new (λ m. MayPut r.header (next_block r bytes) (disk_on side old).held (image_on side m))
+    (served : Serves tells side (OfSettled (seen side old) (MayPut r.header (next_block r session bytes))) old new) where
+  own_moments : EachPairMoment tells old new (λ m. MayPut r.header (next_block r session bytes) (disk_on side old).held (image_on side m))
   own_moments stops m since = (served.moments stops m since).image (settled stops)
 
   greatest : new.greatest ≤ old.greatest
   greatest = KeepsAnnounced-greatest tells (seen side old) (seen side new) (sound.sides side) served.disk_work.passes.announced
 
-  pub puts_failed : Rose (disk_on side old).faults (disk_on side new).faults → PutsUnlessFailed tells side (Some r) None bytes old new
+  pub puts_failed : Rose (disk_on side old).faults (disk_on side new).faults → PutsUnlessFailed tells side (Some r) None session bytes old new
   puts_failed rose = record {
     time = served.time;
     away = served.other;
@@ -50,8 +51,8 @@ module _ (tells : Tells) (side : Side) (r : Ring) (bytes : List ℕ) (old new : 
   }
 
   pub puts_put : (s : Ring) → s.header ≡ r.header → s.next ≡ r.next + 1
-      → (IsTrue tells.bytes → HasPut r.header (next_block r bytes) (disk_on side old).held (disk_on side new).held)
-      → IsSettledRing tells side s new → PutsUnlessFailed tells side (Some r) (Some s) bytes old new
+      → (IsTrue tells.bytes → HasPut r.header (next_block r session bytes) (disk_on side old).held (disk_on side new).held)
+      → IsSettledRing tells side s new → PutsUnlessFailed tells side (Some r) (Some s) session bytes old new
   puts_put s header next put ring = record {
     time = served.time;
     away = served.other;

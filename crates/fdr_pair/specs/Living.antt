@@ -12,15 +12,16 @@ use Rattle.fdr_twin.specs.Serving.{EachPairMoment}
 use Rattle.fdr_recorder.specs.Keeping.{RecoversPrefix, RecoversAll}
 use Rattle.fdr_pair.specs.SidePuts.{IsSettledRing}
 
--- a ring on a settled side, whose next block has this number, and in whose slots these bytes fit
-pub record IsReadyRing (tells : Tells) (side : Side) (r : Ring) (number : ℕ) (bytes : List ℕ) (p : Pair) : Type 0 where
+-- a ring on a settled side, whose next block has this number and may be of the session with this number, and in whose slots these bytes fit
+pub record IsReadyRing (tells : Tells) (side : Side) (r : Ring) (number session : ℕ) (bytes : List ℕ) (p : Pair) : Type 0 where
   pub ring : IsSettledRing tells side r p
   pub next : r.next ≡ number
+  pub old_version : r.header.version ≡ 1 → session ≡ 0
   pub fits : length bytes ≤ r.header.payload
 
-abbrev pub IsReadyFor : Tells → Side → Option Ring → ℕ → List ℕ → Pair → Type 0
-IsReadyFor tells side None next bytes p = ⊤
-IsReadyFor tells side (Some r) next bytes p = IsReadyRing tells side r next bytes p
+abbrev pub IsReadyFor : Tells → Side → Option Ring → ℕ → ℕ → List ℕ → Pair → Type 0
+IsReadyFor tells side None next session bytes p = ⊤
+IsReadyFor tells side (Some r) next session bytes p = IsReadyRing tells side r next session bytes p
 
 -- A moment after the old pair, as a side has it that had this ring then. A side that had failed has the count that it had, or the moment is one from before.
 -- One that hadn't has failed by then, or its image keeps the run that it had and these new blocks.
@@ -49,7 +50,7 @@ pub record GoesOn (tells : Tells) (side : Side) (first : Option Ring) (new done 
   pub moments : EachPairMoment tells start p (SideMoment side first new start)
   pub now : SideNow tells side first o done start p
 
--- so many blocks of these bytes, one after another, from this number on
-abbrev pub copied_blocks : ℕ → List ℕ → ℕ → List Block
-copied_blocks number bytes zero = []
-copied_blocks number bytes (suc k) = copied_blocks number bytes k ++ (record { number = number + k; payload = bytes } ∷ [])
+-- this many blocks of one session and with these bytes, one after another, from this number on
+abbrev pub copied_blocks : ℕ → ℕ → List ℕ → ℕ → List Block
+copied_blocks number session bytes zero = []
+copied_blocks number session bytes (suc k) = copied_blocks number session bytes k ++ (record { number = number + k; session = session; payload = bytes } ∷ [])

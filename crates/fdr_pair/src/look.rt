@@ -4,7 +4,8 @@ ghost use Rattle.std.specs.Prelude.{◌≡◌, ◌≤◌, IfOk, OnOk, OnErr, IsT
 ghost use Rattle.fdr_io.specs.Faults.{Rose};
 ghost use Rattle.fdr_slot.specs.Limits.{IsInLimits};
 ghost use Rattle.fdr_slot.specs.Places.{image_size};
-ghost use Rattle.fdr_recover.specs.Images.{next_of};
+ghost use Rattle.fdr_recover.specs.Images.{next_of, recovered_run};
+ghost use Rattle.fdr_recover.specs.Stretches.{last_session};
 ghost use Rattle.fdr_ring.specs.Rings.{IsSureRing, IsAttaching, OfSettled};
 ghost use Rattle.fdr_twin.specs.Pair.{seen, disk_on};
 ghost use Rattle.fdr_twin.specs.Serving.{Serves};
@@ -20,6 +21,8 @@ pub fn scan_on<T: Twin>(twin: &mut T, side: Side, h: &Header) -> Result<Found, F
     requires limits { IsInLimits h.now }
     requires whole { image_size h.now ≤ (disk_on side (T.pair twin.old)).extent }
     ensures next { IsTrue T.tells.bytes → IfOk result (λ f. f.next ≡ next_of h.now (disk_on side (T.pair twin.old)).held) }
+    ensures session { IsTrue T.tells.bytes
+        → IfOk result (λ f. f.session ≡ last_session (recovered_run h.now (disk_on side (T.pair twin.old)).held)) }
     ensures held { (disk_on side (T.pair twin.new)).held ≡ (disk_on side (T.pair twin.old)).held }
     ensures serves { Serves T.tells side (disk_on side (T.pair twin.old)).may_leave (T.pair twin.old) (T.pair twin.new) }
     ensures cause { OnErr result (Rose (disk_on side (T.pair twin.old)).faults (disk_on side (T.pair twin.new)).faults) }
@@ -34,6 +37,8 @@ pub fn attach_on<T: Twin>(twin: &mut T, side: Side, h: Header) -> Result<Ring, R
     requires limits { IsInLimits h }
     requires whole { image_size h ≤ (disk_on side (T.pair twin.old)).extent }
     ensures next { IsTrue T.tells.bytes → IfOk result (λ r. r.next ≡ next_of h (disk_on side (T.pair twin.old)).held) }
+    ensures session { IsTrue T.tells.bytes
+        → IfOk result (λ r. r.session ≡ last_session (recovered_run h (disk_on side (T.pair twin.old)).held)) }
     ensures fact { IfOk result (λ r. IsSureRing T.tells r.header r.next (seen side (T.pair twin.new))) }
     ensures serves { Serves T.tells side (OfSettled (seen side (T.pair twin.old)) (IsAttaching h)) (T.pair twin.old) (T.pair twin.new) }
 {

@@ -2,21 +2,15 @@
 use Rattle.std.specs.Prelude.{◌≡◌, ℕ, ◌+◌, ◌-◌, ◌<◌, ◌≤◌, List, [], length, take, drop, IsTrue}
 use Rattle.fdr_io.specs.Limits.{piece_bytes}
 use Rattle.fdr_deck.specs.State.{State, Tells}
-use Rattle.fdr_deck.specs.Pull.{TakesInput}
+use Rattle.fdr_deck.specs.Pull.{IsLastPull, TakesInput}
 use Rattle.fdr_pieces.specs.declared.pieces.InputEnd.{InputEnd}
 use Rattle.fdr_pieces.specs.declared.pieces.InputEnd.TheVariants as input_end
-
--- The last pull that gave bytes gave at most 4,096.
-pub record IsLastPiece (old new : State) : Type 0 where
-  pub begins : old.taken ≤ new.pulled_before
-  pub gave_bytes : new.pulled_before < new.taken
-  pub within_piece : new.taken ≤ new.pulled_before + piece_bytes
 
 -- Of the input these bytes were pulled, piece by piece, and at most a piece more than the limit. No pull that gave bytes began
 -- once more than the limit had been pulled.
 pub record PullsPieces (limit : ℕ) (tells : Tells) (old new : State) (pulled : List ℕ) : Type 0 where
   pub takes : TakesInput tells old new pulled
-  pub last : 0 < length pulled → IsLastPiece old new
+  pub last : 0 < length pulled → IsLastPull old.taken new.pulled_before new.taken
   pub begun_within_limit : 0 < length pulled → new.pulled_before ≤ old.taken + limit
   pub bounded : length pulled ≤ limit + piece_bytes
 

@@ -342,7 +342,7 @@ fn an_image_file_is_made_once_and_recovered(rt: HostRuntime) -> Result<(), Fail>
     assert_eq!(rt; answer(&rt, &format, true)?.status(), 0);
     let image = fs::read(&rt, "flight.img")?;
     assert_eq!(rt; image.len(), 384);
-    assert_eq!(rt; image.get(..8), Some(b"\x5a\x00FDR717".as_slice()));
+    assert_eq!(rt; image.get(..8), Some(b"\x5a\xa5FDR717".as_slice()));
     assert_eq!(rt; answer(&rt, &format, true)?.status(), 5);
     assert_eq!(rt; answer(&rt, &recover, false)?.status(), 0);
     assert_eq!(rt; fs::read(&rt, "flight.img")?, image);

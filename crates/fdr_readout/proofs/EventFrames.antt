@@ -1,8 +1,8 @@
 -- The accepted frames up to one of the events, and the entries of that event.
 use Rattle.std.proofs.Common.{◌≡◌, ℕ, ◌+◌, ◌-◌, ◌*◌, ◌<◌, ◌≤◌, List, [], ◌∷◌, ◌++◌, length, map, true, false, sym}
 use Rattle.std.proofs.Common.{ap, refl, ◌∙◌, subst, arith, append-nil, append_assoc, length-append}
-use Rattle.std.specs.Prelude.{All, AllPairs, filter, nat_le, IsSome}
-use Rattle.std.specs.List.{filter_map}
+use Rattle.std.specs.Prelude.{All, AllPairs, Option, filter, nat_le, IsSome}
+use Rattle.std.specs.List.{filter_map, flat_map}
 use Rattle.std.proofs.lemmas.Bool.{le-leb, lt-leb}
 use Rattle.std.proofs.lemmas.List.{length-map}
 use Rattle.std.proofs.lemmas.List.Concat.{flat_map-append}
@@ -16,9 +16,12 @@ use Rattle.fdr_sync.specs.Events.{Event, Frame, Gap, events_of, frame_of_event}
 use Rattle.fdr_sync.proofs.AcceptedLemmas.{accepted_apart}
 use Rattle.fdr_sync.proofs.EventLemmas.{frames_of_events}
 use Rattle.fdr_table.specs.Rows.{TableRows}
+use Rattle.fdr_recon.specs.declared.Row.{Row}
+use Rattle.fdr_recon.specs.Past.{BeginsApart}
 use Rattle.fdr_recon.specs.Rows.{ReadFrame, rows_looked_at, rows_of_frame}
+use Rattle.fdr_recon.proofs.ApartFrames.{last_rows-apart}
 use Rattle.fdr_readout.specs.Listing.{accepted_to, frame_read, rows_at}
-use Rattle.fdr_readout.specs.Entries.{Entry, FrameEntry, RowEntry, event_entries, last_frame_entries, entries_at, entries_of}
+use Rattle.fdr_readout.specs.Entries.{Entry, FrameEntry, RowEntry, event_entries, row_entries, last_frame_entries, entries_at, entries_of}
 use Rattle.fdr_readout.specs.Reading.{entries_in}
 use Rattle.fdr_readout.proofs.SoFarLemmas.{filter_all}
 use Rattle.fdr_readout.proofs.EntryLemmas.{flat_map_row_entries}
@@ -94,6 +97,15 @@ entries_as_read t b taken (Frame a) after read count is as_read =
     ∙ ap (λ n. map RowEntry (filter_map (λ r. r) (rows_looked_at t (map f xs) (n - 1)))) (length-map xs f)
     ∙ ap (λ (ys : List ℕ). map RowEntry (filter_map (λ r. r) (rows_looked_at t (map f ys) (length ys - 1)))) (sym to_here)
     )
+
+-- the entries of an event are the same without the frames of other bytes that were read before
+pub entries_apart : (t : TableRows) (earlier read : List ReadFrame) (e : Event) → IsWordCount t.frame.words → BeginsApart read
+    → (IsSome (frame_of_event e) → 0 < length read) → event_entries t (earlier ++ read) e ≡ event_entries t read e
+unfolding last_frame_entries
+entries_apart t earlier read (Gap a n) count apart some = refl
+entries_apart t earlier read (Frame a) count apart some =
+    ap (λ (rows : List (Option Row)). FrameEntry ∷ flat_map row_entries rows)
+    (last_rows-apart t earlier read (omega (arith, word_count_bounds t.frame.words count)) apart (some refl))
 
 module _ (t : TableRows) (b : List ℕ) (taken es : List Event) (e : Event) (after : List Event) (entries : List Entry) (read : List ReadFrame)
     (count : IsWordCount t.frame.words) (ahead : events_of b t.frame.words ≡ (taken ++ es) ++ e ∷ after)

@@ -1,5 +1,5 @@
 -- The listing of bits is that of their events, and they have no others.
-use Rattle.std.proofs.Common.{◌≡◌, List, ℕ, sym, ap}
+use Rattle.std.proofs.Common.{List, ℕ, sym, ap}
 use Rattle.std.specs.List.{flat_map}
 use Rattle.fdr_sync.proofs.EventLemmas.{events_unique}
 use Rattle.fdr_table.specs.Rows.{TableRows}

@@ -18,7 +18,7 @@ use Rattle.fdr_resync.specs.declared.Event.TheVariants.{Frame as FrameAnswer, Ga
 use Rattle.fdr_resync.specs.Answers.{answered_event, answered_frame}
 use Rattle.fdr_table.specs.Rows.{TableRows}
 use Rattle.fdr_recon.specs.Rows.{ReadFrame}
-use Rattle.fdr_recon.specs.Past.{read_frame}
+use Rattle.fdr_recon.specs.Past.{BeginsApart, read_frame}
 use Rattle.fdr_readout.specs.Listing.{frame_read, frame_words}
 use Rattle.fdr_readout.specs.Reading.{MayGoOn, AreRead}
 
@@ -33,6 +33,30 @@ pub ends_with_one : (es : List Event) (e : Event) → ends_with_frame (es ++ e �
 ends_with_one es e = fold-append (λ was e. is_some (frame_of_event e)) false es (e ∷ [])
 
 -- ---- what was read, as the past goes on
+
+cons_nil : {X : Type 0} (x : X) (xs : List X) → x ∷ xs ≡ [] → ⊥
+cons_nil x xs e = cc
+
+-- a further frame, which isn't adjacent where it is the first
+pub apart_push : (read : List ReadFrame) (r : ReadFrame) → BeginsApart read → (read ≡ [] → r.adjacent ≡ false) → BeginsApart (read ++ r ∷ [])
+apart_push [] r apart first = first refl
+apart_push (x ∷ read) r apart first = apart
+
+no_frame_last : (es : List Event) → filter_map frame_of_event es ≡ [] → ends_with_frame es ≡ false
+no_frame_last [] none = refl
+no_frame_last (Gap a n ∷ es) none = no_frame_last es none
+no_frame_last (Frame a ∷ es) none = absurd (cons_nil a (filter_map frame_of_event es) none)
+
+map_none : {X Y : Type 0} (f : X → Y) (xs : List X) → map f xs ≡ [] → xs ≡ []
+map_none f [] none = refl
+map_none f (x ∷ xs) none = absurd (cons_nil (f x) (map f xs) none)
+
+-- where no frame was read, the last event is none
+pub first_after_no_frame : (t : TableRows) (past : ScannerPast) (read : List ReadFrame) → AreRead t past read → read ≡ []
+    → ends_with_frame past.taken ≡ false
+first_after_no_frame t past read is none =
+    no_frame_last past.taken
+    (map_none (frame_read (past.bytes ++ []) t.frame.words) (filter_map frame_of_event past.taken) (sym (is [] (λ finished. refl)) ∙ none))
 
 pub read_made : (t : TableRows) (past : ScannerPast) → past.taken ≡ [] → AreRead t past []
 read_made t past none = λ more may. ap (λ es. map (frame_read (past.bytes ++ more) t.frame.words) (filter_map frame_of_event es)) (sym none)

@@ -57,11 +57,11 @@ frames_of_entries t b (Frame a ∷ es) =
     ∙ ap (λ n. suc n) (frames_of_entries t b es)
 frames_of_entries t b (Gap a n ∷ es) = frames_of_entries t b es
 
-rows_are : (t : TableRows) (b : List ℕ) → rows_among (entries_of t b) ≡ listed_rows t b
+pub rows_are : (t : TableRows) (b : List ℕ) → rows_among (entries_of t b) ≡ listed_rows t b
 unfolding entries_of listed_rows
 rows_are t b = rows_of_events t b (events_of b t.frame.words) ∙ ap (flat_map (rows_at t b)) (frames_of_events b t.frame.words)
 
-frames_are : (t : TableRows) (b : List ℕ) → length (filter is_frame_entry (entries_of t b)) ≡ length (accepted_frames b t.frame.words)
+pub frames_are : (t : TableRows) (b : List ℕ) → length (filter is_frame_entry (entries_of t b)) ≡ length (accepted_frames b t.frame.words)
 unfolding entries_of
 frames_are t b = frames_of_entries t b (events_of b t.frame.words) ∙ ap length (frames_of_events b t.frame.words)
 
@@ -76,7 +76,7 @@ few_chosen len free (p ∷ ps) =
       | false ↦ omega (arith, few_chosen len free ps)
     ]
 
-few_frames : (b : List ℕ) (w : ℕ) → length (accepted_frames b w) ≤ bits_in b
+pub few_frames : (b : List ℕ) (w : ℕ) → length (accepted_frames b w) ≤ bits_in b
 unfolding accepted_from
 few_frames b w =
     let all = range_with_len 0 (bits_in b) in
@@ -112,7 +112,7 @@ few_rows t b (x ∷ xs) sound =
       few_rows t b xs sound,
     )
 
-few_listed : (t : TableRows) (b : List ℕ) → IsSound t → length (listed_rows t b) ≤ 262144 * length (accepted_frames b t.frame.words)
+pub few_listed : (t : TableRows) (b : List ℕ) → IsSound t → length (listed_rows t b) ≤ 262144 * length (accepted_frames b t.frame.words)
 unfolding listed_rows
 few_listed t b sound = few_rows t b (accepted_frames b t.frame.words) sound
 
@@ -130,16 +130,23 @@ no_wrap now n small few e = omega arith
 last_bits : (now n : ℕ) → now < 2 ^ 64 → now % 2 ^ 64 ≡ (0 + n) % 2 ^ 64 → now ≡ n % 2 ^ 64
 last_bits now n small e = omega arith
 
--- what is counted from nothing on is the summary
+-- what is counted from nothing on, of entries of which the frames and the rows are known
+pub counted_is : (entries : List Entry) (frames : ℕ) (rows : List Row) (now : Summary)
+    → length (filter is_frame_entry entries) ≡ frames → rows_among entries ≡ rows → frames < 2 ^ 64 → length rows < 2 ^ 64 → Tallies no_summary now entries
+    → now ≡ record { frames = frames; rows = length rows; sum = sum_by value_bits rows % 2 ^ 64 }
+counted_is entries frames rows now frames_are rows_are few_frames few_rows h =
+    let fits = h.fits (record { frames = omega arith; rows = omega arith; sum = omega arith }) in
+    same_summary now (record { frames = frames; rows = length rows; sum = sum_by value_bits rows % 2 ^ 64 })
+    (no_wrap now.frames frames fits.frames few_frames (rw frames_are at h.frames))
+    (no_wrap now.rows (length rows) fits.rows few_rows (rw rows_are at h.rows))
+    (last_bits now.sum (sum_by value_bits rows) fits.sum (rw rows_are at h.sum))
+
+-- of bits it is the summary
 pub summary_is : (t : TableRows) (b : List ℕ) (now : Summary) → IsSound t → length b ≤ 2 ^ 32
     → Tallies no_summary now (entries_of t b) → now ≡ summary_of t b
 unfolding summary_of
 summary_is t b now sound short h =
-    let fits = h.fits (record { frames = omega arith; rows = omega arith; sum = omega arith }) in
     let accepted = accepted_frames b t.frame.words in
     let few : length accepted ≤ 2 ^ 35 = omega (arith, few_frames b t.frame.words) in
     let few_all : length (listed_rows t b) < 2 ^ 64 = omega (arith, few_listed t b sound) in
-    same_summary now (summary_of t b)
-    (no_wrap now.frames (length accepted) fits.frames (omega arith) (rw (frames_are t b) at h.frames))
-    (no_wrap now.rows (length (listed_rows t b)) fits.rows few_all (rw (rows_are t b) at h.rows))
-    (last_bits now.sum (sum_by value_bits (listed_rows t b)) fits.sum (rw (rows_are t b) at h.sum))
+    counted_is (entries_of t b) (length accepted) (listed_rows t b) now (frames_are t b) (rows_are t b) (omega arith) few_all h

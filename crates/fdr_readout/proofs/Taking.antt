@@ -7,7 +7,7 @@ use Rattle.fdr_frame.specs.WordCount.{IsWordCount}
 use Rattle.fdr_resync.proofs.Growing.{events_extend}
 use Rattle.fdr_sync.specs.Events.{decided_events, events_of}
 use Rattle.fdr_sync.proofs.FrameLemmas.{none_in_few_bytes}
-use Rattle.fdr_sync.proofs.EventSteps.{decided_from_none}
+use Rattle.fdr_sync.proofs.EventSteps.{decided_from_none, events_from_none}
 use Rattle.fdr_sync.proofs.FrameSteps.{word_count_some}
 use Rattle.fdr_table.specs.Rows.{TableRows}
 use Rattle.fdr_readout.specs.declared.events.EventReader.{EventReader}
@@ -58,6 +58,13 @@ unfolding decided_listing
 nothing_decided t count =
     let w = t.frame.words in
     ap (flat_map (lines_of t [])) (decided_from_none [] w 0 (none_in_few_bytes [] w 0 (omega (arith, word_count_some w count))))
+
+-- and nothing is listed of them
+pub nothing_listed : (t : TableRows) → IsWordCount t.frame.words → entries_of t [] ≡ []
+unfolding entries_of
+nothing_listed t count =
+    let w = t.frame.words in
+    ap (entries_in t []) (events_from_none [] w 0 (none_in_few_bytes [] w 0 (omega (arith, word_count_some w count))))
 
 -- what was taken comes first, however the bytes go on
 pub taken_first : {S O : Type 0} (took : TableRows → S → O → S → O → List Entry → Type 0) (t : TableRows) (r : EventReader) (bytes more : List ℕ)

@@ -1,4 +1,4 @@
--- What bits hold, entry by entry: their gaps, their accepted frames, and after each frame its rows.
+-- What bits hold, entry by entry: their gaps, their accepted frames, and after each frame its rows. Other lines may come between.
 use Rattle.std.specs.Prelude.{ℕ, ◌-◌, Bool, true, false, List, [], ◌∷◌, length, map, Option, Some, None}
 use Rattle.std.specs.List.{flat_map}
 use Rattle.fdr_sync.specs.Events.{Event, Frame, Gap, events_of}
@@ -8,11 +8,12 @@ use Rattle.fdr_recon.specs.Rows.{ReadFrame, rows_looked_at}
 use Rattle.fdr_listing.specs.Text.{gap_text}
 use Rattle.fdr_readout.specs.Listing.{rows_at, row_line_of}
 
--- a gap, by its first bit and its number of bits, a frame, or a row of the frame before
+-- a gap, by its first bit and its number of bits, a frame, a row of the frame before, or a line of its own
 pub data Entry : Type 0 where
   GapEntry : ℕ → ℕ → Entry
   FrameEntry : Entry
   RowEntry : Row → Entry
+  LineEntry : List ℕ → Entry
 
 -- the entry of a row, where it is listed
 unfoldable pub row_entries : Option Row → List Entry
@@ -42,15 +43,18 @@ unfoldable pub entry_lines : TableRows → Entry → List ℕ
 entry_lines t (GapEntry a n) = gap_text a n
 entry_lines t FrameEntry = []
 entry_lines t (RowEntry r) = row_line_of t r
+entry_lines t (LineEntry line) = line
 
 -- the row of an entry that is one
 abbrev pub row_of_entry : Entry → Option Row
 row_of_entry (GapEntry a n) = None
 row_of_entry FrameEntry = None
 row_of_entry (RowEntry r) = Some r
+row_of_entry (LineEntry line) = None
 
 -- whether an entry is a frame
 abbrev pub is_frame_entry : Entry → Bool
 is_frame_entry (GapEntry a n) = false
 is_frame_entry FrameEntry = true
 is_frame_entry (RowEntry r) = false
+is_frame_entry (LineEntry line) = false

@@ -7,7 +7,7 @@ use Rattle.fdr_resync.specs.Past.{ScannerPast, RepresentsScanner}
 use Rattle.fdr_resync.specs.Adjacency.{ends_with_frame}
 use Rattle.fdr_table.specs.Rows.{TableRows}
 use Rattle.fdr_recon.specs.Rows.{ReadFrame}
-use Rattle.fdr_recon.specs.Past.{RepresentsRebuild}
+use Rattle.fdr_recon.specs.Past.{RepresentsRebuild, BeginsApart}
 use Rattle.fdr_readout.specs.declared.events.EventReader.{EventReader}
 use Rattle.fdr_readout.specs.Listing.{frame_read}
 use Rattle.fdr_readout.specs.Entries.{Entry, entries_at}
@@ -21,14 +21,19 @@ abbrev pub AreRead : TableRows → ScannerPast → List ReadFrame → Type 0
 AreRead t past read = (more : List ℕ) → MayGoOn past more
     → read ≡ map (frame_read (past.bytes ++ more) t.frame.words) (filter_map frame_of_event past.taken)
 
--- A reader stands where these bytes came and these of their events were taken.
+-- A reader stands where these bytes came and these of their events were taken. It may have read frames of other bytes before:
+-- the first frame of these bytes isn't adjacent to them.
 pub record ReadsEvents (t : TableRows) (r : EventReader) (past : ScannerPast) : Type 0 where
   pub count : IsWordCount t.frame.words
   pub words : past.words ≡ t.frame.words
   pub scanner : RepresentsScanner r.scanner past
   pub room : vec_len r.words ≡ 4 * t.frame.words
   pub adjacent : r.after_frame ≡ ends_with_frame past.taken
-  pub frames : (read : List ReadFrame) × RepresentsRebuild r.rebuild t read × AreRead t past read
+  pub earlier : List ReadFrame
+  pub read : List ReadFrame
+  pub frames : RepresentsRebuild r.rebuild t (earlier ++ read)
+  pub apart : BeginsApart read
+  pub as_read : AreRead t past read
 
 -- the past where these bytes came and the events that they decide were taken
 abbrev pub decided_past : ℕ → List ℕ → ScannerPast

@@ -150,7 +150,7 @@ pub fn take_piece<O: Sink, T: Taker<O>>(
     take_known(reader, table, taker, out)
 }
 
-/// Hands on what is left once no further byte comes. At `Failed` the taker failed in it.
+/// Hands on what is left once no further byte comes; the reader may be restarted then. At `Failed` the taker failed in it.
 pub fn take_rest<O: Sink, T: Taker<O>>(
     reader: &mut EventReader,
     table: &Table,
@@ -168,6 +168,9 @@ pub fn take_rest<O: Sink, T: Taker<O>>(
     ensures events { (bytes : List ℕ) (first : T) (out_first : O) (es : List Rattle.fdr_sync.specs.Events.Event)
         → HasTaken T.took table.now reader.old bytes first out_first taker.old out.old → AreEvents bytes table.now.frame.words es
         → OnOk result (T.took table.now first out_first taker.new out.new (entries_in table.now bytes es)) }
+    ensures reads { (bytes : List ℕ) (first : T) (out_first : O)
+        → HasTaken T.took table.now reader.old bytes first out_first taker.old out.old
+        → OnOk result ((past : ScannerPast) × ReadsEvents table.now reader.new past) }
     ensures step { OnOk result ((entries : List Entry) × T.took table.now taker.old out.old taker.new out.new entries) }
     ensures step_part { OnErr result ((entries : List Entry) × T.failed_in table.now taker.old out.old out.new entries) }
     ensures cause { OnErr result (Rose (O.faults out.old) (O.faults out.new)) }

@@ -1,4 +1,5 @@
-//! The events of bytes that come in pieces, one after another, with the rows of their frames.
+//! The events of bytes that come in pieces, one after another, with the rows of their frames. Other bytes may follow, whose
+//! events are read anew.
 
 ghost use Rattle.std.specs.Prelude.{◌≡◌, ◌+◌, ◌*◌, ◌≤◌, ◌<◌, ◌^◌, ℕ, List, [], ◌∷◌, ◌++◌, false, Some, length, min, take, IfOk, IfSome, OnSome, IsSome, IsNone};
 ghost use Rattle.fdr_table.specs.Rows.{TableRows};
@@ -18,7 +19,8 @@ use fdr_resync::{Event, Scanner, adjacent_after_a_frame, stays_decided};
 use fdr_table::NoMemory;
 use std::alloc::Global;
 
-/// Reads the events of bytes that come in pieces, 268,435,456 at most. It takes all its memory when it is made.
+/// Reads the events of bytes that come in pieces, 268,435,456 at most, and then, once it is restarted, those of other bytes.
+/// It takes all its memory when it is made.
 #[derive(Drop)]
 pub struct EventReader {
     scanner: Scanner,
@@ -48,6 +50,16 @@ impl EventReader {
             words,
             after_frame: false,
         })
+    }
+
+    /// Begins a new bit list: no byte of it came yet, and what was read before counts no more. Takes no memory.
+    pub fn restart(&mut self)
+        ensures { (t : TableRows) (past : ScannerPast) → ReadsEvents t self.old past
+            → ReadsEvents t self.new (decided_past t.frame.words []) }
+    {
+        stays_decided();
+        self.scanner.restart();
+        self.after_frame = false;
     }
 
     /// Takes bytes from the front of a piece, and answers how many: of up to 4,096 all, where all known events were taken.

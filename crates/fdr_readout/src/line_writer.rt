@@ -14,7 +14,7 @@ ghost use Rattle.fdr_readout.specs.TakersSound.{text_laws};
 
 use crate::takers::Taker;
 use fdr_io::{Failed, OutBuffer, Sink};
-use fdr_listing::{NumberTexts, ROW_ROOM, ShortText, gap_line, put_row};
+use fdr_listing::{Line, NumberTexts, ROW_ROOM, ShortText, gap_line, put_row};
 use fdr_recon::Row;
 use fdr_table::{NoMemory, Table};
 use std::alloc::Global;
@@ -169,6 +169,10 @@ impl<O: Sink> Taker<O> for LineWriter {
             row,
         );
         Ok(())
+    }
+
+    fn line(&mut self, line: &Line, out: &mut O) -> Result<(), Failed> {
+        self.buffer.add(out, line.bytes())
     }
 
     ghost laws = { text_laws O.written };

@@ -1,18 +1,19 @@
-//! What takes the gaps, the frames and the rows of bits.
+//! What takes the gaps, the frames and the rows of bits, and lines between them.
 
 ghost use Rattle.std.specs.Prelude.{◌≡◌, ◌≤◌, List, [], ◌∷◌, length, OnOk, OnErr};
 ghost use Rattle.fdr_io.specs.Faults.{Rose};
 ghost use Rattle.fdr_table.specs.Rows.{TableRows};
 ghost use Rattle.fdr_recon.specs.Kept.{IsRow};
-ghost use Rattle.fdr_readout.specs.Entries.{Entry, GapEntry, FrameEntry, RowEntry};
+ghost use Rattle.fdr_readout.specs.Entries.{Entry, GapEntry, FrameEntry, RowEntry, LineEntry};
 ghost use Rattle.fdr_readout.specs.Takers.{TakerLaws};
 
 use fdr_io::{Failed, Sink};
+use fdr_listing::Line;
 use fdr_recon::Row;
 use fdr_table::Table;
 
-/// Takes the gaps, the frames and the rows of bits in their order. The rows of a frame follow it. What is handed on goes
-/// to the sink beside it.
+/// Takes the gaps, the frames and the rows of bits in their order, and lines between the listings of several bit lists. The
+/// rows of a frame follow it. What is handed on goes to the sink beside it.
 pub trait Taker<O: Sink> {
     // These entries were taken, from one state of the taker and of the sink to another.
     ghost took: { TableRows → Self → O → Self → O → List Entry → Type 0 };
@@ -37,6 +38,14 @@ pub trait Taker<O: Sink> {
         requires { IsRow (length table.now.params) row.now }
         ensures all { OnOk result (took table.now self.old out.old self.new out.new (RowEntry row.now ∷ [])) }
         ensures part { OnErr result (failed_in table.now self.old out.old out.new (RowEntry row.now ∷ [])) }
+        ensures cause { OnErr result (Rose (O.faults out.old) (O.faults out.new)) }
+        ensures no_fault { OnOk result (O.faults out.new ≡ O.faults out.old) }
+        ensures monotone { O.faults out.old ≤ O.faults out.new };
+
+    /// Takes a line of its own, at most 96 bytes, that stands between the listings of two bit lists.
+    fn line(&mut self, line: &Line, out: &mut O) -> Result<(), Failed>
+        ensures all { (t : TableRows) → OnOk result (took t self.old out.old self.new out.new (LineEntry line.now ∷ [])) }
+        ensures part { (t : TableRows) → OnErr result (failed_in t self.old out.old out.new (LineEntry line.now ∷ [])) }
         ensures cause { OnErr result (Rose (O.faults out.old) (O.faults out.new)) }
         ensures no_fault { OnOk result (O.faults out.new ≡ O.faults out.old) }
         ensures monotone { O.faults out.old ≤ O.faults out.new };

@@ -6,6 +6,7 @@ ghost use Rattle.fdr_readout.specs.TakersSound.{tally_laws};
 
 use crate::takers::Taker;
 use fdr_io::{Failed, Sink};
+use fdr_listing::Line;
 use fdr_recon::Row;
 use fdr_table::Table;
 
@@ -33,7 +34,7 @@ impl Summary {
     }
 }
 
-/// Counts what it takes, and never fails.
+/// Counts what it takes, except lines, and never fails.
 impl<O: Sink> Taker<O> for Summary {
     ghost took = { λ t before out_before now out_now entries. Tallies before now entries };
 
@@ -50,6 +51,10 @@ impl<O: Sink> Taker<O> for Summary {
     fn row(&mut self, table: &Table, row: &Row, out: &mut O) -> Result<(), Failed> {
         self.rows = self.rows.wrapping_add(1);
         self.sum = self.sum.wrapping_add_signed(row.value);
+        Ok(())
+    }
+
+    fn line(&mut self, line: &Line, out: &mut O) -> Result<(), Failed> {
         Ok(())
     }
 

@@ -10,3 +10,4 @@ pub mod StandingSteps
 pub mod KeptRows
 pub mod LastFrames
 pub mod Planning
+pub mod ApartFrames

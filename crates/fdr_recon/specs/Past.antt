@@ -1,5 +1,5 @@
 -- The frames that were read, for which a value stands.
-use Rattle.std.specs.Prelude.{ℕ, ◌-◌, ◌*◌, ◌<◌, ◌≡◌, min, Bool, if◌then◌else◌, List, length, zero, suc}
+use Rattle.std.specs.Prelude.{ℕ, ◌-◌, ◌*◌, ◌<◌, ◌≡◌, min, Bool, false, if◌then◌else◌, List, [], ◌∷◌, length, zero, suc}
 use Rattle.std.specs.List.{All, flat_map}
 use Rattle.circular_buffer.specs.Buffer.{keep_last}
 use Rattle.fdr_table.specs.Rows.{FrameRow, TableRows}
@@ -14,6 +14,16 @@ read_frame adjacent words = record { adjacent = adjacent; words = words }
 unfoldable pub joined_count : FrameRow → List ReadFrame → ℕ → ℕ
 joined_count f frames zero = 0
 joined_count f frames (suc i) = if are_linked f (frame_at frames i) (frame_at frames (suc i)) then suc (joined_count f frames i) else 0
+
+-- whether frame i is linked to the one before it
+abbrev pub is_linked_at : FrameRow → List ReadFrame → ℕ → Bool
+is_linked_at f frames zero = false
+is_linked_at f frames (suc i) = are_linked f (frame_at frames i) (frame_at frames (suc i))
+
+-- the first of these frames, if there is one, isn't adjacent to a frame before it
+abbrev pub BeginsApart : List ReadFrame → Type 0
+BeginsApart [] = Unit {0}
+BeginsApart (r ∷ frames) = r.adjacent ≡ false
 
 -- a frame has four subframes of w words of 12 bits
 pub record IsWholeFrame (w : ℕ) (r : ReadFrame) : Type 0 where

@@ -1,6 +1,6 @@
 //! The frames that were read, as far as rows still need them.
 
-ghost use Rattle.std.specs.Prelude.{◌≡◌, ℕ, ◌+◌, ◌-◌, ◌*◌, ◌/◌, ◌^◌, ◌<◌, ◌≤◌, List, [], ◌∷◌, ◌++◌, Some, length, map, IfOk, IfSome, All, slice_get, unwrap_or};
+ghost use Rattle.std.specs.Prelude.{◌≡◌, ℕ, ◌+◌, ◌-◌, ◌*◌, ◌/◌, ◌^◌, ◌<◌, ◌≤◌, List, [], ◌∷◌, ◌++◌, false, Some, length, map, IfOk, IfSome, All, slice_get, unwrap_or};
 ghost use Rattle.std.specs.List.{range_with_len, slice_index_or};
 ghost use Rattle.fdr_frame.specs.WordCount.{IsWordCount};
 ghost use Rattle.fdr_table.specs.Rows.{TableRows};
@@ -9,7 +9,7 @@ ghost use Rattle.fdr_layout.specs.Samples.{Sample};
 ghost use Rattle.fdr_recon.specs.Plans.{row_plan, planned_bits, planned_raw, FitsWord};
 ghost use Rattle.fdr_recon.specs.Rows.{ReadFrame, counter_in, counter_place, rows_looked_at};
 ghost use Rattle.fdr_recon.specs.Kept.{kept_word, kept_counter, kept_cycle, kept_value, kept_row, kept_samples, is_next, word_back, EndsInCycle, IsRow, IsSampleOf};
-ghost use Rattle.fdr_recon.specs.Past.{RepresentsRebuild, read_frame};
+ghost use Rattle.fdr_recon.specs.Past.{RepresentsRebuild, is_linked_at, read_frame};
 
 use crate::Row;
 use crate::plans::{Field, Plans, RowPlan};
@@ -77,6 +77,16 @@ impl Rebuild {
         };
         self.words.extend_from_slice(words);
         self.counter = counter_of(self.frame, words);
+    }
+
+    /// Whether the last frame is linked to the one before it: it begins where that ends, and its counter is one more. False
+    /// before the second frame. Takes no memory.
+    pub fn linked(&self) -> bool
+        ensures before { (t : TableRows) → RepresentsRebuild self.now t [] → result ≡ false }
+        ensures linked { (t : TableRows) (past : List ReadFrame) → RepresentsRebuild self.now t past → 0 < length past
+            → result ≡ is_linked_at t.frame past (length past - 1) }
+    {
+        self.joined > 0
     }
 
     /// How many samples end in the last frame's cycle; 0 before the first frame. Takes no memory.

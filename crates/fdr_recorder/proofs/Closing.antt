@@ -14,15 +14,18 @@ rest-none past n count none =
     let zero : length (blocks_of past.header.payload (recorded_bytes past)) - due_count past ≡ 0 = omega (arith, count, none) in
     ap (λ m. blocks_from past (due_count past) m) zero
 
-pub rest-one : (past : RecordingPast) (n next : ℕ) (bytes : List ℕ) → length
+pub rest-one : (past : RecordingPast) (n next session : ℕ) (bytes : List ℕ) → length
     (blocks_of past.header.payload (recorded_bytes past)) ≡ due_count past + min n 1 → 0 < n
-    → next ≡ past.first + due_count past
-    → bytes ≡ cut_block past.header.payload (recorded_bytes past) (due_count past) → rest_of past ≡ record { number = next; payload = bytes } ∷ []
-rest-one past n next bytes count some at is =
+    → next ≡ past.first + due_count past → session ≡ past.session
+    → bytes ≡ cut_block past.header.payload (recorded_bytes past) (due_count past)
+    → rest_of past ≡ record { number = next; session = session; payload = bytes } ∷ []
+rest-one past n next session bytes count some at of is =
     let one : length (blocks_of past.header.payload (recorded_bytes past)) - due_count past ≡ 1 = omega (arith, count, some) in
     ap (λ m. blocks_from past (due_count past) m) one
-    ∙ ap (λ (k : ℕ). record { number = k; payload = cut_block past.header.payload (recorded_bytes past) (due_count past) } ∷ []) (sym at)
-    ∙ ap (λ (l : List ℕ). record { number = next; payload = l } ∷ []) (sym is)
+    ∙ ap (λ (k : ℕ). record { number = k; session = past.session; payload = cut_block past.header.payload (recorded_bytes past) (due_count past) } ∷ [])
+    (sym at)
+    ∙ ap (λ (m : ℕ). record { number = next; session = m; payload = cut_block past.header.payload (recorded_bytes past) (due_count past) } ∷ []) (sym of)
+    ∙ ap (λ (l : List ℕ). record { number = next; session = session; payload = l } ∷ []) (sym is)
 
 -- there was no number for it
 pub HasEnded-rest : (tells : Tells) (h : Header) (next : ℕ) (b : Block) (d : State) → next ≡ 2 ^ 48 → HasEnded tells h next (b ∷ []) d d

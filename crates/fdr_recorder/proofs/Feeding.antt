@@ -124,13 +124,15 @@ module _ (tells : Tells) (h : Header) (first : ℕ) (past : RecordingPast) (r : 
     }
 
 -- the block that is given next, with the ring's number
-pub block_is : (past : RecordingPast) (r : BusRecord) (first at blocks : ℕ) (bytes : List ℕ) → first ≡ past.first + due_count past
-    → at ≡ first + (blocks - due_count past) → due_count past ≤ blocks
+pub block_is : (past : RecordingPast) (r : BusRecord) (first at session blocks : ℕ) (bytes : List ℕ) → first ≡ past.first + due_count past
+    → session ≡ past.session → at ≡ first + (blocks - due_count past) → due_count past ≤ blocks
     → bytes ≡ cut_block past.header.payload (recorded_bytes (recording_with_record past r)) blocks
-    → ◌≡◌ {A = Block} (record { number = at; payload = bytes }) (numbered_block (recording_with_record past r) blocks)
-block_is past r first at blocks bytes begins number since is =
+    → ◌≡◌ {A = Block} (record { number = at; session = session; payload = bytes }) (numbered_block (recording_with_record past r) blocks)
+block_is past r first at session blocks bytes begins of number since is =
     let same : at ≡ past.first + blocks = omega (arith, begins, number, since) in
-    ap (λ (n : ℕ). record { number = n; payload = bytes }) same ∙ ap (λ (l : List ℕ). record { number = past.first + blocks; payload = l }) is
+    ap (λ (n : ℕ). record { number = n; session = session; payload = bytes }) same
+    ∙ ap (λ (m : ℕ). record { number = past.first + blocks; session = m; payload = bytes }) of
+    ∙ ap (λ (l : List ℕ). record { number = past.first + blocks; session = past.session; payload = l }) is
 
 -- all blocks that are due were recorded, and the record is taken
 module _ (tells : Tells) (h : Header) (first : ℕ) (past : RecordingPast) (r : BusRecord) (k : StreamKept) (at : ℕ) (old now : State) (begun : Option BusRecord)

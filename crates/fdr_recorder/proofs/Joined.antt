@@ -47,7 +47,7 @@ same_block past r may i before =
     let is : cut_block p (recorded_bytes (recording_with_record past r)) i ≡ cut_block p (recorded_bytes past) i =
     sym (drop-take (p * i) p (recorded_bytes (recording_with_record past r))) ∙ ap (λ (l : List ℕ). drop (p * i) l) same
     ∙ drop-take (p * i) p (recorded_bytes past) in
-    ap (λ (l : List ℕ). record { number = past.first + i; payload = l }) is
+    ap (λ (l : List ℕ). record { number = past.first + i; session = past.session; payload = l }) is
 
 -- no block is due less with a further record
 pub due_count-grows : (past : RecordingPast) (r : BusRecord) → IsInLimits past.header → MayFeedRecording past r → due_count past ≤ due_count

@@ -17,14 +17,12 @@ pub IsInTime-more : (owed : List BusRecord → ℕ) (start : ℕ) (bytes more : 
     → told ≤ told' → IsInTime owed start bytes told before taken
     → IsInTime owed start (bytes ++ more) told' before taken
 IsInTime-more owed start bytes more told told' before taken le is =
-    let inside : before - start ≤ length bytes = omega (arith, is.begins, is.gave_bytes, is.within) in
+    let inside : before - start ≤ length bytes = omega (arith, is.pull.begins, is.pull.gave_bytes, is.within) in
     let front : take (before - start) (bytes ++ more) ≡ take (before - start) bytes = take-append-le (before - start)
     bytes more inside in
     let same = ap (λ (x : List ℕ). owed (good_prefix x)) front in
     record {
-      begins = is.begins;
-      gave_bytes = is.gave_bytes;
-      within_piece = is.within_piece;
+      pull = is.pull;
       within = omega (arith, is.within, length-append bytes more);
       announced = omega (arith, le, is.announced, same);
     }
@@ -35,15 +33,17 @@ pub IsInTime-pull : (owed : List BusRecord → ℕ) (start at : ℕ) (bytes more
     → at ≡ start + length bytes → owed records ≤ told → IsNeededPull at bytes more records before taken
     → IsInTime owed start (bytes ++ more) told before taken
 IsInTime-pull owed start at bytes more records told before taken is enough last =
-    let n : length bytes + (before - at) ≡ before - start = omega (arith, is, last.begins) in
+    let n : length bytes + (before - at) ≡ before - start = omega (arith, is, last.pull.begins) in
     let front : take (before - start) (bytes ++ more) ≡ bytes ++ take (before - at) more = ap
     (λ k. take k (bytes ++ more)) (sym n) ∙ take-append-add bytes more (before - at) in
     let same : owed (good_prefix (take (before - start) (bytes ++ more))) ≡ owed records = ap
     (λ (x : List ℕ). owed (good_prefix x)) front ∙ ap owed last.read in
     record {
-      begins = omega (arith, last.begins, is);
-      gave_bytes = last.gave_bytes;
-      within_piece = last.within_piece;
+      pull = record {
+        begins = omega (arith, last.pull.begins, is);
+        gave_bytes = last.pull.gave_bytes;
+        within_piece = last.pull.within_piece;
+      };
       within = omega (arith, last.within, is, length-append bytes more);
       announced = omega (arith, same, enough);
     }

@@ -46,7 +46,7 @@ module _ (past : RecordingPast) (all records later : List BusRecord) (order : Ri
         let is : cut_block p (stream_of past.table all) i ≡ cut_block p (stream_of past.table records) i =
         sym (drop-take (p * i) p (stream_of past.table all)) ∙ ap (λ (l : List ℕ). drop (p * i) l) same
         ∙ drop-take (p * i) p (stream_of past.table records) in
-        ap (λ (l : List ℕ). record { number = past.first + i; payload = l }) is
+        ap (λ (l : List ℕ). record { number = past.first + i; session = past.session; payload = l }) is
 
     -- the stream of all records has this many blocks at least
     enough : due_count (past_fed past records) ≤ length (blocks_of p (stream_of past.table all))

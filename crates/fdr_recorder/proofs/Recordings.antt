@@ -28,9 +28,9 @@ use Rattle.fdr_recorder.specs.Ends.{HasRecordedSource, IsRefusedAtStart, Recordi
 use Rattle.fdr_recorder.specs.Keeping.{RecoversAll, RecoversPrefixAfter}
 use Rattle.fdr_recorder.specs.Lag.{IsInTime, IsLagMoment}
 use Rattle.fdr_recorder.specs.NewBlocks.{AddsToRun, IsBlockMoment, MayRecord, RecordsBlocks, new_blocks, next_in, owed_number}
-use Rattle.fdr_recorder.specs.Past.{all_blocks, past_at_start}
+use Rattle.fdr_recorder.specs.Past.{all_blocks, past_at_start, session_of}
 use Rattle.fdr_recorder.specs.Recording.{RecordsAllOf, IsReady}
-use Rattle.fdr_recorder.specs.Refusing.{RefusesSession}
+use Rattle.fdr_recorder.specs.Refusing.{RefusesOldVersion, RefusesSession}
 use Rattle.fdr_recorder.specs.Starting.{IsStarted, IsStarting, Starts}
 use Rattle.fdr_recorder.specs.Supplied.{Continues, IsSupplyMoment, RecordsSupply, past_fed}
 use Rattle.fdr_recorder.specs.Supply.{RecordSupply, EndsSupply, PullsNothing, drawn_trace, line_trace, supplied_records}
@@ -142,6 +142,7 @@ RecordsBlocks-unbegun t tells records d0 d1 all used_up starts not_all not_end =
       seq_end = λ e. absurd (not_end e);
       beyond = λ e. absurd (not_end e);
       good = λ either. absurd (⊎_elim not_all not_end either);
+      current = λ either. absurd (⊎_elim not_all not_end either);
     }
 
 -- less is promised where less is known to be recorded
@@ -158,6 +159,7 @@ RecordsBlocks-weaken t tells records old new all all' used_up used_up' whole end
   seq_end = λ e. is.seq_end (ended e);
   beyond = λ e. is.beyond (ended e);
   good = λ either. is.good (⊎_elim (λ e. inl (whole e)) (λ e. inr (ended e)) either);
+  current = λ either. is.current (⊎_elim (λ e. inl (whole e)) (λ e. inr (ended e)) either);
 }
 
 none_of : (from : RecordSupply) → PullsNothing from []
@@ -174,13 +176,14 @@ starting_lag t tells d0 d1 starts ready = EachMoment-weaken tells d0 d1 (IsStart
 -- so nothing was pulled
 pub RecordsSupply-unbegun : (from : RecordSupply) (t : TableRows) (tells : Tells) (d0 d1 : State) (f : SessionFault)
     → Starts tells (header_in d0.held) d0 d1 → (f ≡ session.SeqEnd → ⊥) → RefusesSession t tells d0 d1 (Err f)
-    → RecordsSupply from t tells d0 d1 (Err f)
-RecordsSupply-unbegun from t tells d0 d1 f starts not_end image = record {
+    → RefusesOldVersion t tells d0 (Err f) → RecordsSupply from t tells d0 d1 (Err f)
+RecordsSupply-unbegun from t tells d0 d1 f starts not_end image version = record {
   pulled = [];
   pulls = none_pulled tells d0 d1 starts.input starts.input_faults;
   blocks = RecordsBlocks-unbegun t tells (supplied_records from []) d0 d1 (HasRecordedSource (Err f)) (◌≡◌ {A = RecordingEnd} (Err f) (Err session.SeqEnd))
       starts (λ all. all) (λ e. not_end (is_seq_end f e));
   image = image;
+  version = version;
   in_time = λ ready. starting_lag t tells d0 d1 starts ready;
   ends = EndsSupply-cut from tells d0 d1 [] f (none_of from) (λ line known. starts.input_faults);
 }
@@ -247,7 +250,7 @@ refuses_nothing t tells old new = record {
 pub RecordsSupply-nothing : (from : RecordSupply) (t : TableRows) (tells : Tells) (d : State) → IsSoundDeck tells d
     → RecordsSupply from t tells d d (Err session.NoMemory)
 RecordsSupply-nothing from t tells d sound = RecordsSupply-unbegun from t tells d d session.NoMemory (nothing_started tells d sound)
-    (λ e. cc) (refuses_nothing t tells d d)
+    (λ e. cc) (refuses_nothing t tells d d) (record { refused = λ e. absurd (cc); refused_always = λ past. absurd (past refl) })
 
 -- where the session was refused
 session_image : (t : TableRows) (tells : Tells) (d0 d1 : State) (f : SessionFault) → (f ≡ session.SeqEnd → ⊥)
@@ -256,9 +259,11 @@ session_image : (t : TableRows) (tells : Tells) (d0 d1 : State) (f : SessionFaul
     → (d1.extent < 64 → (f ≡ session.Image fault.Small) ⊎ (f ≡ session.DiskFault))
     → ((image table : ℕ) → f ≡ session.WordsDiffer image table
     → (table ≡ t.frame.words) × (image ≢ table) × (IsTrue tells.bytes → IsFor image d0.held))
+    → (f ≡ session.OldVersion → IsTrue tells.bytes → IsFor t.frame.words d0.held)
     → RefusesSession t tells d0 d1 (Err f)
-session_image t tells d0 d1 (session.Image w) not_end image small short words = image_refused t tells d0 d1 w (λ bytes. image bytes w refl) (small w refl)
-session_image t tells d0 d1 (session.WordsDiffer i w) not_end image small short words =
+session_image t tells d0 d1 (session.Image w) not_end image small short words old =
+    image_refused t tells d0 d1 w (λ bytes. image bytes w refl) (small w refl)
+session_image t tells d0 d1 (session.WordsDiffer i w) not_end image small short words old =
     let here = words i w refl in
     record {
       refused = λ why e. absurd (cc);
@@ -268,9 +273,48 @@ session_image t tells d0 d1 (session.WordsDiffer i w) not_end image small short 
       words = λ j table e. words j table (words_same i w j table e);
       words_always = λ j past bytes other differ. inl (words_are i w j t.frame.words (sym (here.2 bytes).words ∙ other.words) here.0);
     }
-session_image t tells d0 d1 session.DiskFault not_end image small short words = disk_failed t tells d0 d1
-session_image t tells d0 d1 session.SeqEnd not_end image small short words = absurd (not_end refl)
-session_image t tells d0 d1 session.NoMemory not_end image small short words = refuses_nothing t tells d0 d1
+session_image t tells d0 d1 session.OldVersion not_end image small short words old = record {
+  refused = λ why e. absurd (cc);
+  small = λ why e. absurd (cc);
+  small_always = λ past few. absurd (⊎_elim (λ e. cc) (λ e. cc) (short few));
+  refused_always = λ why past bytes first. absurd (no_first d0.held why (old refl bytes).no_fault first);
+  words = λ j table e. absurd (cc);
+  words_always = λ j past bytes other differ. absurd (differ (sym other.words ∙ (old refl bytes).words));
+}
+session_image t tells d0 d1 session.DiskFault not_end image small short words old = disk_failed t tells d0 d1
+session_image t tells d0 d1 session.SeqEnd not_end image small short words old = absurd (not_end refl)
+session_image t tells d0 d1 session.NoMemory not_end image small short words old = refuses_nothing t tells d0 d1
+
+-- an image of version 1 is refused as such
+session_version : (t : TableRows) (tells : Tells) (d0 : State) (f : SessionFault) → (f ≡ session.SeqEnd → ⊥)
+    → (IsTrue tells.bytes → (why : ImageFault) → f ≡ session.Image why → image_fault_of d0.held ≡ Some why)
+    → ((image table : ℕ) → f ≡ session.WordsDiffer image table
+    → (table ≡ t.frame.words) × (image ≢ table) × (IsTrue tells.bytes → IsFor image d0.held))
+    → (f ≡ session.OldVersion → IsTrue tells.bytes → IsFor t.frame.words d0.held × ((header_in d0.held).version ≡ 1))
+    → RefusesOldVersion t tells d0 (Err f)
+session_version t tells d0 (session.Image w) not_end image words old = record {
+  refused = λ e. absurd (cc);
+  refused_always = λ past bytes good first. absurd (no_first d0.held w good.no_fault (image bytes w refl));
+}
+session_version t tells d0 (session.WordsDiffer i w) not_end image words old = record {
+  refused = λ e. absurd (cc);
+  refused_always = λ past bytes good first.
+      let here = words i w refl in
+      absurd (here.1 (sym (here.2 bytes).words ∙ good.words ∙ sym here.0));
+}
+session_version t tells d0 session.OldVersion not_end image words old = record {
+  refused = λ e. old refl;
+  refused_always = λ past bytes good first. inl refl;
+}
+session_version t tells d0 session.DiskFault not_end image words old = record {
+  refused = λ e. absurd (cc);
+  refused_always = λ past bytes good first. inr refl;
+}
+session_version t tells d0 session.SeqEnd not_end image words old = absurd (not_end refl)
+session_version t tells d0 session.NoMemory not_end image words old = record {
+  refused = λ e. absurd (cc);
+  refused_always = λ past. absurd (past refl);
+}
 
 pub RecordsSupply-refused : (from : RecordSupply) (t : TableRows) (tells : Tells) (d0 d1 : State) (f : SessionFault) → Starts tells (header_in d0.held) d0 d1
     → (f ≡ session.SeqEnd → ⊥)
@@ -279,9 +323,11 @@ pub RecordsSupply-refused : (from : RecordSupply) (t : TableRows) (tells : Tells
     → (d1.extent < 64 → (f ≡ session.Image fault.Small) ⊎ (f ≡ session.DiskFault))
     → ((image table : ℕ) → f ≡ session.WordsDiffer image table
     → (table ≡ t.frame.words) × (image ≢ table) × (IsTrue tells.bytes → IsFor image d0.held))
+    → (f ≡ session.OldVersion → IsTrue tells.bytes → IsFor t.frame.words d0.held × ((header_in d0.held).version ≡ 1))
     → RecordsSupply from t tells d0 d1 (Err f)
-RecordsSupply-refused from t tells d0 d1 f starts not_end image small short words = RecordsSupply-unbegun from t tells d0 d1 f starts not_end
-    (session_image t tells d0 d1 f not_end image small short words)
+RecordsSupply-refused from t tells d0 d1 f starts not_end image small short words old = RecordsSupply-unbegun from t tells d0 d1 f starts not_end
+    (session_image t tells d0 d1 f not_end image small short words (λ e bytes. (old e bytes).0))
+    (session_version t tells d0 f not_end image words old)
 
 -- an image that is for the table's frames isn't refused
 takes_image : (t : TableRows) (tells : Tells) (old new : State) (end : RecordingEnd)
@@ -296,14 +342,24 @@ takes_image t tells old new end begun long good = record {
   words_always = λ image past bytes other differ. absurd (differ (sym other.words ∙ (good bytes).words));
 }
 
+-- and one of version 2 isn't refused as one of version 1
+takes_version : (t : TableRows) (tells : Tells) (old : State) (end : RecordingEnd)
+    → ((f : SessionFault) → end ≡ Err f → IsRefusedAtStart f → ⊥)
+    → (IsTrue tells.bytes → (header_in old.held).version ≡ 2) → RefusesOldVersion t tells old end
+takes_version t tells old end begun current = record {
+  refused = λ e. absurd (begun session.OldVersion e tt);
+  refused_always = λ past bytes good first. absurd (omega (arith, current bytes, first));
+}
+
 -- ---- from the start of a session on
 
-same_blocks : (t : TableRows) (h h' : Header) (n n' : ℕ) (records : List BusRecord) → h ≡ h' → n ≡ n'
-    → all_blocks (record { table = t; header = h; first = n; records = records })
-    ≡ all_blocks (record { table = t; header = h'; first = n'; records = records })
-same_blocks t h h' n n' records header next =
-    ap (λ (x : Header). all_blocks (record { table = t; header = x; first = n; records = records })) header
-    ∙ ap (λ (m : ℕ). all_blocks (record { table = t; header = h'; first = m; records = records })) next
+same_blocks : (t : TableRows) (h h' : Header) (n n' m m' : ℕ) (records : List BusRecord) → h ≡ h' → n ≡ n' → m ≡ m'
+    → all_blocks (record { table = t; header = h; first = n; session = m; records = records })
+    ≡ all_blocks (record { table = t; header = h'; first = n'; session = m'; records = records })
+same_blocks t h h' n n' m m' records header next session_is =
+    ap (λ (x : Header). all_blocks (record { table = t; header = x; first = n; session = m; records = records })) header
+    ∙ ap (λ (k : ℕ). all_blocks (record { table = t; header = h'; first = k; session = m; records = records })) next
+    ∙ ap (λ (k : ℕ). all_blocks (record { table = t; header = h'; first = n'; session = k; records = records })) session_is
 
 -- a gate that is shut is after the header
 shut_front : (h : Header) (n : ℕ) (image : List ℕ) → take 64 (image_with_closed_gate (gate_at h n) image) ≡ take 64 image
@@ -333,16 +389,19 @@ EndsSupply-since (drawn_trace t seed frames) tells d0 d1 d2 pulled end faults en
 -- where a session was started
 module _ (from : RecordSupply) (t : TableRows) (tells : Tells) (s : Session) (d0 d1 d2 : State) (end : RecordingEnd) (sound0 : IsSoundDeck tells d0)
     (sound1 : IsSoundDeck tells d1) (starts : Starts tells (header_in d0.held) d0 d1) (is : IsStarted tells t s d0 d1)
-    (on : Continues from tells (past_at_start t s.ring.header s.ring.next) d1 d2 end)
+    (on : Continues from tells (past_at_start t s.ring.header s.ring.next s.session) d1 d2 end)
   where
     first_is : IsTrue tells.bytes → s.ring.next ≡ next_in d0.held
     first_is bytes = is.next bytes ∙ ap (λ (h : Header). next_of h d0.held) (is.header bytes)
 
+    session_is : IsTrue tells.bytes → s.session ≡ session_of (run_in d0.held)
+    session_is bytes = is.session bytes ∙ ap (λ (h : Header). session_of (recovered_run h d0.held)) (is.header bytes)
+
     blocks_are : IsTrue tells.bytes
-        → all_blocks (past_fed (past_at_start t s.ring.header s.ring.next) (supplied_records from on.pulled)) ≡ new_blocks t d0.held
+        → all_blocks (past_fed (past_at_start t s.ring.header s.ring.next s.session) (supplied_records from on.pulled)) ≡ new_blocks t d0.held
         (supplied_records from on.pulled)
-    blocks_are bytes = same_blocks t s.ring.header (header_in d0.held) s.ring.next (next_in d0.held) (supplied_records from on.pulled)
-        (is.header bytes) (first_is bytes)
+    blocks_are bytes = same_blocks t s.ring.header (header_in d0.held) s.ring.next (next_in d0.held) s.session (session_of (run_in d0.held))
+        (supplied_records from on.pulled) (is.header bytes) (first_is bytes) (session_is bytes)
 
     session_moments : MayRecord d0 → IsTrue tells.stops → (m : Moment) → d2.since d1.clock m
         → IsSupplyMoment t (header_in d0.held) (next_in d0.held) d0 (new_blocks t d0.held (supplied_records from on.pulled)) on.pulled m
@@ -350,7 +409,7 @@ module _ (from : RecordSupply) (t : TableRows) (tells : Tells) (s : Session) (d0
         let bytes = sound0.stops_need_bytes stops in
         let few = is.greatest (omega (arith, ready.greatest, first_is bytes)) in
         let at = on.moments few stops m since in
-        let all = all_blocks (past_fed (past_at_start t s.ring.header s.ring.next) (supplied_records from on.pulled)) in
+        let all = all_blocks (past_fed (past_at_start t s.ring.header s.ring.next s.session) (supplied_records from on.pulled)) in
         at_entry t s.ring.header s.ring.next d0 all (new_blocks t d0.held (supplied_records from on.pulled)) on.pulled m
         (is.header bytes) (first_is bytes) (blocks_are bytes)
         (session_moment tells t s d0 d1 sound1 starts is all on.pulled m stops bytes ready at)
@@ -401,11 +460,11 @@ module _ (from : RecordSupply) (t : TableRows) (tells : Tells) (s : Session) (d0
     -- what a further recording rests on
     recorded_all : IsTrue tells.bytes → MayRecord d0
         → RecordsAllOf tells s.ring.header s.ring.next
-        (all_blocks (past_fed (past_at_start t s.ring.header s.ring.next) (supplied_records from on.pulled))) d1 d2
+        (all_blocks (past_fed (past_at_start t s.ring.header s.ring.next s.session) (supplied_records from on.pulled))) d1 d2
         → (next_in d2.held ≡ next_in d0.held + length (new_blocks t d0.held (supplied_records from on.pulled)))
         × (d2.greatest ≤ next_in d2.held) × (next_in d2.held ≤ max (next_in d0.held) d2.least + 1)
     recorded_all bytes may has =
-        let blocks = all_blocks (past_fed (past_at_start t s.ring.header s.ring.next) (supplied_records from on.pulled)) in
+        let blocks = all_blocks (past_fed (past_at_start t s.ring.header s.ring.next s.session) (supplied_records from on.pulled)) in
         let first = first_is bytes in
         let count = ap length (blocks_are bytes) in
         let stands = are_recorded _ _ bytes (blocks_are bytes) has in
@@ -414,6 +473,9 @@ module _ (from : RecordSupply) (t : TableRows) (tells : Tells) (s : Session) (d0
         let top = has.greatest (is.greatest (omega (arith, may.greatest, first))) in
         let low = has.near s.ring.next (record { announced = is.announced; least = omega arith }) in
         (next, omega (arith, top, next, first, count), omega (arith, low.least, next, first, count))
+
+    current : IsTrue tells.bytes → (header_in d0.held).version ≡ 2
+    current bytes = ap (λ (h : Header). h.version) (sym (is.header bytes)) ∙ is.version
 
     pub RecordsSupply-past_at_start : d2.extent ≡ d1.extent → ((f : SessionFault) → end ≡ Err f → IsRefusedAtStart f → ⊥)
         → (IsTrue tells.bytes → IsFor t.frame.words d0.held) → RecordsSupply from t tells d0 d2 end
@@ -440,8 +502,10 @@ module _ (from : RecordSupply) (t : TableRows) (tells : Tells) (s : Session) (d0
             ∙ ap (λ n. take (2 ^ 48 - n) (new_blocks t d0.held (supplied_records from on.pulled))) (first_is bytes)) (on.seq_end e);
         beyond = λ e bytes. omega (arith, on.beyond e, ap length (blocks_are bytes), first_is bytes);
         good = λ either bytes. good bytes;
+        current = λ either bytes. current bytes;
       };
       image = takes_image t tells d0 d2 end begun (λ short. omega (arith, short, extent, is.fact.ring.extent)) good;
+      version = takes_version t tells d0 end begun current;
       in_time = lags;
       ends = all_ends;
     }

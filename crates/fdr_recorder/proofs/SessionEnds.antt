@@ -80,7 +80,7 @@ begun tells Gave s past d sound gave is =
 
 -- a session that was just started
 pub begun_at : (tells : Tells) (t : TableRows) (s : Session) (d0 d1 : State) → IsStarted tells t s d0 d1
-    → IsBegun tells s (past_at_start t s.ring.header s.ring.next) d1
+    → IsBegun tells s (past_at_start t s.ring.header s.ring.next s.session) d1
 begun_at tells t s d0 d1 is = record {
   none = refl;
   stands = is.stands;
@@ -376,6 +376,7 @@ module _ (from : RecordSupply) (tells : Tells) (past : RecordingPast) (d0 d d' :
 pub cut_begun : (f : SessionFault) → CutsSession f → IsRefusedAtStart f → ⊥
 cut_begun (session.Image why) cut early = cut
 cut_begun (session.WordsDiffer image table) cut early = cut
+cut_begun session.OldVersion cut early = cut
 cut_begun session.DiskFault cut early = early
 cut_begun session.SeqEnd cut early = early
 cut_begun session.NoMemory cut early = cut

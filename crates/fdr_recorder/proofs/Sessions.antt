@@ -52,9 +52,11 @@ lag_still owed tells first now bytes records m up here least = record {
       let was = up.least some in
       let same = ap (λ n. owed (good_prefix (take (n - first.taken) bytes))) here.pulled_before in
       inr (record {
-        begins = omega (arith, here.pulled_before, was.begins);
-        gave_bytes = omega (arith, here.pulled_before, here.taken, was.gave_bytes);
-        within_piece = omega (arith, here.pulled_before, here.taken, was.within_piece);
+        pull = record {
+          begins = omega (arith, here.pulled_before, was.pull.begins);
+          gave_bytes = omega (arith, here.pulled_before, here.taken, was.pull.gave_bytes);
+          within_piece = omega (arith, here.pulled_before, here.taken, was.pull.within_piece);
+        };
         within = omega (arith, here.taken, was.within);
         announced = omega (arith, same, was.announced, least);
       }))
@@ -258,9 +260,11 @@ module _ (tells : Tells) (past : RecordingPast) (d0 d d' : State) (bytes : List 
                 let line = records.input in
                 let same = ap (λ n. owed_number_by past (good_prefix (take (n - d0.taken) bytes))) line.pulled_before in
                 record {
-                  begins = omega (arith, line.pulled_before, was.begins);
-                  gave_bytes = omega (arith, line.pulled_before, line.taken, was.gave_bytes);
-                  within_piece = omega (arith, line.pulled_before, line.taken, was.within_piece);
+                  pull = record {
+                    begins = omega (arith, line.pulled_before, was.pull.begins);
+                    gave_bytes = omega (arith, line.pulled_before, line.taken, was.pull.gave_bytes);
+                    within_piece = omega (arith, line.pulled_before, line.taken, was.pull.within_piece);
+                  };
                   within = omega (arith, line.taken, was.within);
                   announced = omega (arith, same, was.announced, low);
                 };

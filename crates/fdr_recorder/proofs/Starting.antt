@@ -1,5 +1,5 @@
 -- The moments while a session starts.
-use Rattle.std.proofs.Common.{◌≡◌, ℕ, ◌+◌, ◌-◌, ◌≤◌, List, [], refl, sym, ◌∙◌, ap, subst, arith, None}
+use Rattle.std.proofs.Common.{◌≡◌, ℕ, ◌+◌, ◌-◌, ◌%◌, ◌^◌, ◌≤◌, List, [], ◌∷◌, refl, sym, ◌∙◌, ap, subst, arith, None}
 use Rattle.std.specs.Prelude.{IsTrue}
 use Rattle.fdr_deck.specs.State.{State, Tells, Moment}
 use Rattle.fdr_deck.specs.Disk.{IsSettled, KeepsDisk}
@@ -8,6 +8,8 @@ use Rattle.fdr_deck.specs.Moments.{HasSamePulls, IsNow, Elapses, EachMoment, IsS
 use Rattle.fdr_deck.specs.Calls.{HasOneAnnounced, IsDiskWork, Passes, Announces, LeavesDisk}
 use Rattle.fdr_deck.proofs.Moments.{EachMoment-then, Elapses-then}
 use Rattle.fdr_slot.specs.declared.image.Header.{Header}
+use Rattle.fdr_recover.specs.Blocks.{Block}
+use Rattle.fdr_recover.specs.Stretches.{last_session}
 use Rattle.fdr_recover.specs.Images.{recovered_run, next_of}
 use Rattle.fdr_ring.specs.Runs.{KeepsRun}
 use Rattle.fdr_ring.specs.Rings.{IsAttaching, OfSettled}
@@ -15,6 +17,7 @@ use Rattle.fdr_table.specs.Rows.{TableRows}
 use Rattle.fdr_stream.specs.Kept.{StreamKept}
 use Rattle.fdr_stream.specs.Blocks.{due_blocks}
 use Rattle.fdr_stream.specs.Past.{stream_made, RepresentsStream}
+use Rattle.fdr_recorder.specs.Past.{session_of}
 use Rattle.fdr_recorder.specs.Recording.{IsReady}
 use Rattle.fdr_recorder.specs.Starting.{IsStarting, Starts}
 use Rattle.fdr_recorder.proofs.Steps.{keeps_run, tail_same}
@@ -135,6 +138,11 @@ module _ (tells : Tells) (h : Header) (d0 d1 : State) (sound : IsSoundDeck tells
             input_faults = line_faults3 ∙ was.input_faults;
             disk_faults = omega (arith, was.disk_faults, leaves.disk_faults);
           }
+
+-- the session after any blocks
+pub session_of-is : (blocks : List Block) → session_of blocks ≡ (last_session blocks + 1) % 2 ^ 32
+session_of-is [] = refl
+session_of-is (b ∷ bs) = refl
 
 -- no block is due before the first record
 pub stream-started : (k : StreamKept) (t : TableRows) (payload : ℕ) → RepresentsStream k (stream_made t payload)

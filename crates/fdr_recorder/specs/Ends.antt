@@ -17,6 +17,7 @@ HasRecordedSource (Err why) = ⊥
 abbrev pub IsRefusedAtStart : SessionFault → Type 0
 IsRefusedAtStart (fault.Image why) = Unit {0}
 IsRefusedAtStart (fault.WordsDiffer image table) = Unit {0}
+IsRefusedAtStart fault.OldVersion = Unit {0}
 IsRefusedAtStart fault.DiskFault = ⊥
 IsRefusedAtStart fault.SeqEnd = ⊥
 IsRefusedAtStart fault.NoMemory = Unit {0}
@@ -25,6 +26,7 @@ IsRefusedAtStart fault.NoMemory = Unit {0}
 abbrev pub CutsSession : SessionFault → Type 0
 CutsSession (fault.Image why) = ⊥
 CutsSession (fault.WordsDiffer image table) = ⊥
+CutsSession fault.OldVersion = ⊥
 CutsSession fault.DiskFault = Unit {0}
 CutsSession fault.SeqEnd = Unit {0}
 CutsSession fault.NoMemory = ⊥

@@ -1,20 +1,18 @@
 -- How far what is announced lags behind what was pulled.
 use Rattle.std.specs.Prelude.{◌⊎◌, ℕ, ◌+◌, ◌-◌, ◌<◌, ◌≤◌, List, [], length, take}
-use Rattle.fdr_io.specs.Limits.{piece_bytes}
 use Rattle.fdr_bus.specs.declared.BusRecord.{BusRecord}
 use Rattle.fdr_bus.specs.Records.{good_prefix}
 use Rattle.fdr_deck.specs.State.{State, Tells, Moment}
 use Rattle.fdr_deck.specs.Moments.{HasSamePulls}
+use Rattle.fdr_deck.specs.Pull.{IsLastPull}
 use Rattle.fdr_trace.specs.Pulls.{PullsUntilDecided}
 
 -- The last pull that gave bytes gave at most 4,096 of these, and what is owed for the good records of those before it is
 -- announced.
-pub record IsInTime (owed : List BusRecord → ℕ) (start : ℕ) (bytes : List ℕ) (told before taken : ℕ) : Type 0 where
-  pub begins : start ≤ before
-  pub gave_bytes : before < taken
-  pub within_piece : taken ≤ before + piece_bytes
+pub record IsInTime (owed : List BusRecord → ℕ) (start : ℕ) (bytes : List ℕ) (number before taken : ℕ) : Type 0 where
+  pub pull : IsLastPull start before taken
   pub within : taken ≤ start + length bytes
-  pub announced : owed (good_prefix (take (before - start) bytes)) ≤ told
+  pub announced : owed (good_prefix (take (before - start) bytes)) ≤ number
 
 -- a moment at which nothing was pulled yet, or at which what is owed is announced
 pub record IsLagMoment (owed : List BusRecord → ℕ) (first : State) (bytes : List ℕ) (m : Moment) : Type 0 where

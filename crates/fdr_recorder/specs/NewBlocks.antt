@@ -14,18 +14,22 @@ use Rattle.fdr_ring.specs.Runs.{IsTail, last_blocks}
 use Rattle.fdr_table.specs.Rows.{TableRows}
 use Rattle.fdr_stream.specs.Blocks.{due_blocks}
 use Rattle.fdr_recorder.specs.Keeping.{RecoversPrefix, RecoversPrefixAfter}
-use Rattle.fdr_recorder.specs.Past.{all_blocks}
+use Rattle.fdr_recorder.specs.Past.{RecordingPast, all_blocks, session_of}
 use Rattle.fdr_recorder.specs.Recording.{IsClose, IsReady}
 
 -- the number of the next block of an image, by its own header
 abbrev pub next_in : List ℕ → ℕ
 next_in image = next_of (header_in image) image
 
+-- a session of these records in an image
+abbrev pub past_in : TableRows → List ℕ → List BusRecord → RecordingPast
+past_in t image records =
+    record { table = t; header = header_in image; first = next_in image; session = session_of (run_in image); records = records }
+
 -- The blocks that a recording of these records adds to an image: those of their stream, with numbers that go on from the
--- image's next.
+-- image's next, and with the session after that of the image's last block.
 abbrev pub new_blocks : TableRows → List ℕ → List BusRecord → List Block
-new_blocks t image records =
-    all_blocks (record { table = t; header = header_in image; first = next_in image; records = records })
+new_blocks t image records = all_blocks (past_in t image records)
 
 -- the number that is announced once all blocks stand that are due at these records
 abbrev pub owed_number : TableRows → Header → ℕ → List BusRecord → ℕ
@@ -71,3 +75,5 @@ pub record RecordsBlocks (t : TableRows) (tells : Tells) (records : List BusReco
       → AddsToRun tells (take (sequence_end - next_in old.held) (new_blocks t old.held records)) old new
   pub beyond : used_up → IsTrue tells.bytes → sequence_end < next_in old.held + length (new_blocks t old.held records)
   pub good : all ⊎ used_up → IsTrue tells.bytes → IsFor t.frame.words old.held
+  -- The image is of version 2, which has sessions.
+  pub current : all ⊎ used_up → IsTrue tells.bytes → (header_in old.held).version ≡ 2

@@ -1,25 +1,33 @@
 -- What a session was started on, and what it was fed since.
-use Rattle.std.specs.Prelude.{◌≡◌, ◌≤◌, ℕ, ◌+◌, ◌-◌, false, List, [], ◌∷◌, ◌++◌, length, map, None}
+use Rattle.std.specs.Prelude.{◌≡◌, ◌≤◌, ℕ, ◌+◌, ◌-◌, ◌%◌, ◌^◌, false, List, [], ◌∷◌, ◌++◌, length, map, None}
 use Rattle.std.specs.List.{range_with_len}
 use Rattle.fdr_bus.specs.declared.BusRecord.{BusRecord}
 use Rattle.fdr_bus.specs.Records.{time_of, last_time, has_end}
 use Rattle.fdr_slot.specs.declared.image.Header.{Header}
 use Rattle.fdr_table.specs.Rows.{TableRows}
 use Rattle.fdr_recover.specs.Blocks.{Block}
+use Rattle.fdr_recover.specs.Stretches.{last_session}
 use Rattle.fdr_sampler.specs.Stream.{stream_of}
 use Rattle.fdr_stream.specs.Blocks.{cut_block, blocks_of, due_blocks}
 use Rattle.fdr_stream.specs.Past.{StreamPast, RepresentsStream}
 use Rattle.fdr_recorder.specs.declared.session.Session.{Session}
 
--- The table, the header of the image and its next number as the session was started, and the records that were fed.
+-- the session of a recording after these blocks: one more than the last one's, modulo 2^32, or 1 where there is none
+abbrev pub session_of : List Block → ℕ
+session_of [] = 1
+session_of (b ∷ bs) = (last_session (b ∷ bs) + 1) % 2 ^ 32
+
+-- The table, the header of the image and its next number as the session was started, the session's number, and the records
+-- that were fed.
 pub record RecordingPast : Type 0 where
   pub table : TableRows
   pub header : Header
   pub first : ℕ
+  pub session : ℕ
   pub records : List BusRecord
 
-abbrev pub past_at_start : TableRows → Header → ℕ → RecordingPast
-past_at_start t h first = record { table = t; header = h; first = first; records = [] }
+abbrev pub past_at_start : TableRows → Header → ℕ → ℕ → RecordingPast
+past_at_start t h first session = record { table = t; header = h; first = first; session = session; records = [] }
 
 abbrev pub recording_with_record : RecordingPast → BusRecord → RecordingPast
 recording_with_record past r = record past { records = past.records ++ r ∷ [] }
@@ -38,9 +46,10 @@ recorded_bytes past = stream_of past.table past.records
 abbrev pub due_count : RecordingPast → ℕ
 due_count past = due_blocks past.table past.header.payload past.records
 
--- block i of the bytes, with its number in the image
+-- block i of the bytes, with its number in the image and the session's
 abbrev pub numbered_block : RecordingPast → ℕ → Block
-numbered_block past i = record { number = past.first + i; payload = cut_block past.header.payload (recorded_bytes past) i }
+numbered_block past i =
+    record { number = past.first + i; session = past.session; payload = cut_block past.header.payload (recorded_bytes past) i }
 
 -- this many blocks, from block `from` on
 abbrev pub blocks_from : RecordingPast → ℕ → ℕ → List Block
@@ -70,5 +79,6 @@ stream_past past = record { table = past.table; payload = past.header.payload; r
 pub record RepresentsRecording (s : Session) (past : RecordingPast) : Type 0 where
   pub header : s.ring.header ≡ past.header
   pub stream : RepresentsStream s.stream.value (stream_past past)
+  pub session : s.session ≡ past.session
   pub next : s.ring.next ≡ past.first + due_count past
   pub room : past.header.payload ≤ length s.block.value

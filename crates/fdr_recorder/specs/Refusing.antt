@@ -3,7 +3,7 @@ use Rattle.std.specs.Prelude.{◌≡◌, ◌≢◌, ◌⊎◌, ◌↔◌, ◌<�
 use Rattle.fdr_deck.specs.State.{State, Tells}
 use Rattle.fdr_slot.specs.declared.image.ImageFault.{ImageFault}
 use Rattle.fdr_slot.specs.declared.image.ImageFault.TheVariants as image_fault
-use Rattle.fdr_recover.specs.ImageHeader.{image_fault_of, IsFor}
+use Rattle.fdr_recover.specs.ImageHeader.{image_fault_of, header_in, IsFor}
 use Rattle.fdr_table.specs.Rows.{TableRows}
 use Rattle.fdr_recorder.specs.Ends.{RecordingEnd}
 use Rattle.fdr_recorder.specs.declared.error.SessionFault.TheVariants as fault
@@ -21,3 +21,11 @@ pub record RefusesSession (t : TableRows) (tells : Tells) (old new : State) (end
       → (table ≡ t.frame.words) × (image ≢ table) × (IsTrue tells.bytes → IsFor image old.held)
   pub words_always : (image : ℕ) → end ≢ Err fault.NoMemory → IsTrue tells.bytes → IsFor image old.held → image ≢ t.frame.words
       → (end ≡ Err (fault.WordsDiffer image t.frame.words)) ⊎ (end ≡ Err fault.DiskFault)
+
+-- An image of version 1 for frames of the table's words is refused as such, unless the disk failed or memory ended, and no
+-- other image is.
+pub record RefusesOldVersion (t : TableRows) (tells : Tells) (old : State) (end : RecordingEnd) : Type 0 where
+  pub refused : end ≡ Err fault.OldVersion → IsTrue tells.bytes
+      → IsFor t.frame.words old.held × ((header_in old.held).version ≡ 1)
+  pub refused_always : end ≢ Err fault.NoMemory → IsTrue tells.bytes → IsFor t.frame.words old.held → (header_in old.held).version ≡ 1
+      → (end ≡ Err fault.OldVersion) ⊎ (end ≡ Err fault.DiskFault)

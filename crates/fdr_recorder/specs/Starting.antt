@@ -13,7 +13,7 @@ use Rattle.fdr_ring.specs.Runs.{last_blocks}
 use Rattle.fdr_ring.specs.Rings.{IsSureRing, IsAttaching}
 use Rattle.fdr_table.specs.Rows.{TableRows}
 use Rattle.fdr_recorder.specs.Recording.{IsReady, IsRecordingMoment}
-use Rattle.fdr_recorder.specs.Past.{RepresentsRecording, past_at_start}
+use Rattle.fdr_recorder.specs.Past.{RepresentsRecording, past_at_start, session_of}
 use Rattle.fdr_recorder.specs.declared.session.Session.{Session}
 
 -- a moment while a session starts: no block is recorded, and only the gate of the next number may be another, where it was open
@@ -31,9 +31,12 @@ pub record Starts (tells : Tells) (h : Header) (old now : State) : Type 0 where
   pub input_faults : now.input_faults ≡ old.input_faults
   pub disk_faults : old.disk_faults ≤ now.disk_faults
 
--- The session stands for the image on the disk without any records, and its next number is announced.
+-- The session is that of a recording after the run at entry, and stands for the image on the disk without any records, and its
+-- next number is announced.
 pub record IsStarted (tells : Tells) (t : TableRows) (s : Session) (old now : State) : Type 0 where
-  pub stands : RepresentsRecording s (past_at_start t s.ring.header s.ring.next)
+  pub stands : RepresentsRecording s (past_at_start t s.ring.header s.ring.next s.session)
+  pub session : IsTrue tells.bytes → s.session ≡ session_of (recovered_run s.ring.header old.held)
+  pub version : s.ring.header.version ≡ 2
   pub words : s.ring.header.words ≡ t.frame.words
   pub header : IsTrue tells.bytes → s.ring.header ≡ header_in old.held
   pub next : IsTrue tells.bytes → s.ring.next ≡ next_of s.ring.header old.held

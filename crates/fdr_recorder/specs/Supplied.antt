@@ -19,7 +19,7 @@ use Rattle.fdr_recorder.specs.declared.session.Session.{Session}
 use Rattle.fdr_recorder.specs.Ends.{HasRecordedSource, RecordingEnd}
 use Rattle.fdr_recorder.specs.Lag.{IsLagMoment, KeepsUp}
 use Rattle.fdr_recorder.specs.NewBlocks.{MayRecord, RecordsBlocks, next_in, owed_number}
-use Rattle.fdr_recorder.specs.Refusing.{RefusesSession}
+use Rattle.fdr_recorder.specs.Refusing.{RefusesOldVersion, RefusesSession}
 use Rattle.fdr_recorder.specs.Supply.{RecordSupply, EndsSupply, supplied_records}
 use Rattle.fdr_recorder.specs.declared.error.SessionFault.TheVariants as fault
 use Rattle.fdr_recorder.specs.declared.source.SourceEnd.{SourceEnd}
@@ -89,6 +89,7 @@ pub record RecordsSupply (from : RecordSupply) (t : TableRows) (tells : Tells) (
   pub pulls : PullsUntilDecided tells old new [] pulled
   pub blocks : RecordsBlocks t tells (supplied_records from pulled) old new (HasRecordedSource end) (end ≡ Err fault.SeqEnd)
   pub image : RefusesSession t tells old new end
+  pub version : RefusesOldVersion t tells old end
   pub in_time : MayRecord old
       → EachMoment tells old new (IsLagMoment (owed_number t (header_in old.held) (next_in old.held)) old pulled)
   pub ends : EndsSupply from tells old new pulled end

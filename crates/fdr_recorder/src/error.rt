@@ -16,6 +16,8 @@ pub enum SessionFault {
         /// The words in a subframe by the table.
         table: u32,
     },
+    /// The image is of version 1, which has no sessions.
+    OldVersion,
     /// The disk failed: its count of faults rose in this call.
     DiskFault,
     /// There is no number left for a block.

@@ -12,8 +12,8 @@ ghost use Rattle.fdr_recorder.specs.Past.{RecordingPast, MayFeedRecording, recor
 /// What is promised doesn't wear away over recordings of which each begins on the image that the one before it left, however
 /// it was stopped. It does no work.
 pub fn keeps_chain()
-    ensures { (h : Header) (entry image : List ℕ) (whole old new : List Block) (told : ℕ)
-        → IsTail (h.slots - 2) whole old → RecoversPrefix h entry old new told image → RecoversPrefixAfter h whole new image }
+    ensures { (h : Header) (entry image : List ℕ) (whole old new : List Block) (announced : ℕ)
+        → IsTail (h.slots - 2) whole old → RecoversPrefix h entry old new announced image → RecoversPrefixAfter h whole new image }
 {}
 
 /// A further record changes none of the blocks that were due before it: those of all records one after another are those of

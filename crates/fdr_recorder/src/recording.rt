@@ -4,7 +4,7 @@ ghost use Rattle.std.specs.Prelude.{◌≡◌, ◌≢◌, ◌+◌, ◌≤◌, []
 ghost use Rattle.fdr_io.specs.Faults.{Rose};
 ghost use Rattle.fdr_deck.specs.Disk.{KeepsDisk, LearnsExtent};
 ghost use Rattle.fdr_deck.specs.Pull.{KeepsInput};
-ghost use Rattle.fdr_recover.specs.ImageHeader.{IsFor};
+ghost use Rattle.fdr_recover.specs.ImageHeader.{IsFor, header_in};
 ghost use Rattle.fdr_recorder.specs.Ends.{CutsSession, IsRefusedAtStart};
 ghost use Rattle.fdr_recorder.specs.NewBlocks.{next_in};
 ghost use Rattle.fdr_recorder.specs.Past.{RecordingPast};
@@ -137,6 +137,8 @@ pub fn record_source<D: Deck, S: RecordSource<D>>(
     ensures memory { IfErr result (λ fault. fault ≡ SessionFault.NoMemory → 64 ≤ (D.state deck.new).extent) }
     ensures memory_good { IfErr result (λ fault. fault ≡ SessionFault.NoMemory → IsTrue D.tells.bytes
         → IsFor sound.now.frame.words (D.state deck.old).held) }
+    ensures memory_current { IfErr result (λ fault. fault ≡ SessionFault.NoMemory → IsTrue D.tells.bytes
+        → (header_in (D.state deck.old).held).version ≡ 2) }
     ensures untouched { IfErr result (λ fault. IsRefusedAtStart fault → KeepsDisk (D.state deck.old) (D.state deck.new)) }
     ensures announced { IfErr result (λ fault. IsRefusedAtStart fault → (D.state deck.new).announced ≡ (D.state deck.old).announced) }
     ensures input { IfErr result (λ fault. IsRefusedAtStart fault → KeepsInput (D.state deck.old) (D.state deck.new)

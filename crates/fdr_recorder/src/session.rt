@@ -10,8 +10,6 @@ ghost use Rattle.fdr_slot.specs.declared.image.ImageFault.TheVariants as image_f
 ghost use Rattle.fdr_recover.specs.ImageHeader.{IsFor, image_fault_of, header_in};
 ghost use Rattle.fdr_ring.specs.Rings.{IsRing, IsSureRing};
 ghost use Rattle.fdr_recorder.specs.Recording.{RecordsFirstOf, RecordsAllOf, HasEnded};
-ghost use Rattle.fdr_recorder.specs.Past.{RecordingPast, MayFeedRecording, RepresentsRecording, recording_with_record, blocks_due_at, rest_of, recorded_of, all_blocks};
-ghost use Rattle.fdr_recorder.specs.Starting.{Starts, IsStarted};
 
 use crate::SessionFault;
 use fdr_bus::BusRecord;
@@ -28,15 +26,22 @@ use std::alloc::Global;
 #[derive(Drop)]
 pub struct Session {
     ring: Ring,
+    session: u32,
     // These stay where they were made, so that a session is small where it is moved.
     stream: Box<Stream>,
     block: Box<[u8; MAX_PAYLOAD]>,
+    ghost current: { ring.header.version ≡ 2 },
 }
 
 impl Session {
-    /// Starts a recording by a table in the image on the disk, and announces its next number. `Image` names the first fault
-    /// of the length and the bytes; `WordsDiffer` is answered where the image is for other words than the table has. Only
-    /// where a session is answered or the disk failed was the disk written, and announced was nothing but `next`.
+    ghost use Rattle.fdr_recorder.specs.Past.{RecordingPast, MayFeedRecording, RepresentsRecording, recording_with_record, blocks_due_at, rest_of, recorded_of, all_blocks};
+    ghost use Rattle.fdr_recorder.specs.Starting.{Starts, IsStarted};
+
+    /// Starts a recording by a table in the image on the disk, and announces its next number. The session's number is one
+    /// more, modulo 2^32, than that of the image's last block, or 1 where it has none. `Image` names the first fault of the
+    /// length and the bytes; `WordsDiffer` is answered where the image is for other words than the table has, and else
+    /// `OldVersion` where it is of version 1. Only where a session is answered or the disk failed was the disk written, and
+    /// announced was nothing but `next`.
     pub fn start<D: Deck>(
         alloc: Global,
         sound: &Sound,
@@ -54,7 +59,12 @@ impl Session {
             × (IsTrue D.tells.bytes → IsFor image (D.state deck.old).held) }
         ensures no_memory { IsTrue D.tells.bytes → result ≡ Err SessionFault.NoMemory
             → IsFor sound.now.frame.words (D.state deck.old).held }
+        ensures memory_current { IsTrue D.tells.bytes → result ≡ Err SessionFault.NoMemory
+            → (header_in (D.state deck.old).held).version ≡ 2 }
         ensures good { IsTrue D.tells.bytes → OnOk result (IsFor sound.now.frame.words (D.state deck.old).held) }
+        ensures current { IsTrue D.tells.bytes → OnOk result ((header_in (D.state deck.old).held).version ≡ 2) }
+        ensures old_version { result ≡ Err SessionFault.OldVersion → IsTrue D.tells.bytes
+            → IsFor sound.now.frame.words (D.state deck.old).held × ((header_in (D.state deck.old).held).version ≡ 1) }
         ensures started { IfOk result (λ s. IsStarted D.tells sound.now s (D.state deck.old) (D.state deck.new)) }
         ensures starts { Starts D.tells (header_in (D.state deck.old).held) (D.state deck.old) (D.state deck.new) }
         ensures refused { OnErr result (KeepsAnnounced (D.state deck.old) (D.state deck.new)) }
@@ -69,13 +79,18 @@ impl Session {
     {
         let words = sound.table().frame().words;
         let header = read_header_for(deck, words)?;
+        if header.version == 1 {
+            return Err(SessionFault::OldVersion);
+        }
         let stream = Stream::new(alloc, sound, header.payload)?;
         let stream = boxed(alloc, stream)?;
         let block = boxed(alloc, [0; MAX_PAYLOAD])?;
         let ring = Ring::attach(deck, header)?;
+        let session = ring.session().wrapping_add(1);
         deck.announce(ring.next());
         Ok(Session {
             ring,
+            session,
             stream,
             block,
         })
@@ -109,6 +124,7 @@ impl Session {
     {
         let Session {
             mut ring,
+            session,
             mut stream,
             mut block,
         } = self;
@@ -117,13 +133,14 @@ impl Session {
                 Fed::Taken => {
                     return Ok(Session {
                         ring,
+                        session,
                         stream,
                         block,
                     });
                 }
                 Fed::Block => {
                     let payload = ring.header().payload as usize;
-                    ring = add(ring, deck, &block[..payload])?;
+                    ring = add(ring, deck, session, &block[..payload])?;
                 }
             }
         }
@@ -151,6 +168,7 @@ impl Session {
     {
         let Session {
             ring,
+            session,
             mut stream,
             mut block,
         } = self;
@@ -158,7 +176,7 @@ impl Session {
         if count == 0 {
             return Ok(ring.next());
         }
-        let ring = add(ring, deck, &block[..count])?;
+        let ring = add(ring, deck, session, &block[..count])?;
         Ok(ring.next())
     }
 
@@ -180,10 +198,11 @@ fn boxed<T: Drop>(alloc: Global, value: T) -> Result<Box<T>, NoMemory>
     }
 }
 
-/// Adds a block and announces it. The call stays one: at most records no block is due.
+/// Adds a block of a session and announces it. The call stays one: at most records no block is due.
 #[inline(never)]
-fn add<D: Deck>(ring: Ring, deck: &mut D, bytes: &[u8]) -> Result<Ring, RingFault>
+fn add<D: Deck>(ring: Ring, deck: &mut D, session: u32, bytes: &[u8]) -> Result<Ring, RingFault>
     requires fact { IsRing D.tells ring.header ring.next (D.state deck.old) }
+    requires current { ring.header.version ≡ 2 }
     requires some_bytes { 0 < length bytes.now }
     requires fits { length bytes.now ≤ ring.header.payload }
     ensures seq_end { (result ≡ Err RingFault.SeqEnd) ↔ (ring.next ≡ sequence_end) }
@@ -192,14 +211,14 @@ fn add<D: Deck>(ring: Ring, deck: &mut D, bytes: &[u8]) -> Result<Ring, RingFaul
     ensures ring { IfOk result (λ r. (r.header ≡ ring.header) × (r.next ≡ ring.next + 1)) }
     ensures fact { IfOk result (λ r. IsRing D.tells r.header r.next (D.state deck.new)) }
     ensures records { RecordsFirstOf D.tells ring.header ring.next
-        (record { number = ring.next; payload = bytes.now } ∷ []) (D.state deck.old) (D.state deck.new) }
+        (record { number = ring.next; session = session; payload = bytes.now } ∷ []) (D.state deck.old) (D.state deck.new) }
     ensures recorded { OnOk result (RecordsAllOf D.tells ring.header ring.next
-        (record { number = ring.next; payload = bytes.now } ∷ []) (D.state deck.old) (D.state deck.new)) }
+        (record { number = ring.next; session = session; payload = bytes.now } ∷ []) (D.state deck.old) (D.state deck.new)) }
     ensures cause { result ≡ Err RingFault.DiskFault
         → Rose (D.state deck.old).disk_faults (D.state deck.new).disk_faults }
     ensures rest { D.same_rest deck.old deck.new }
 {
-    let prepared = ring.prepare(deck, bytes)?;
+    let prepared = ring.prepare(deck, session, bytes)?;
     let ring = prepared.commit(deck)?;
     deck.announce(ring.next());
     Ok(ring)

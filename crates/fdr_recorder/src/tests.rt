@@ -14,13 +14,21 @@ const IMAGE: Header = Header {
     slots: 4,
     payload: 64,
     words: 64,
-    version: 1,
+    version: 2,
 };
 
 const WIDE: Header = Header {
     slots: 4,
     payload: 64,
     words: 256,
+    version: 2,
+};
+
+// Of the table's words, without sessions.
+const OLD: Header = Header {
+    slots: 4,
+    payload: 64,
+    words: 64,
     version: 1,
 };
 
@@ -71,10 +79,10 @@ fn records_a_trace(rt: HostRuntime) -> Result<(), Fail> {
     assert_eq!(rt; deck.told(), 2);
     assert_eq!(rt; deck.image().len(), 384);
     let first = [
-        0x5a, 0, 0, 64, 0, 0, 0, 0, 0, 0, 0, 0, 0, 0, 0, 0, 0x47, 0x02, 0x00,
+        0x5a, 0, 0, 64, 0, 0, 0, 1, 0, 0, 0, 0, 0, 0, 0, 0, 0x47, 0x02, 0x00,
     ];
     assert!(rt; deck.image()[64..].starts_with(&first));
-    let last = [0x5a, 0, 0, 32, 0, 0, 0, 0, 0, 0, 0, 0, 0, 0, 0, 1];
+    let last = [0x5a, 0, 0, 32, 0, 0, 0, 1, 0, 0, 0, 0, 0, 0, 0, 1];
     assert!(rt; deck.image()[144..].starts_with(&last));
     Ok(())
 }
@@ -98,6 +106,14 @@ fn refuses_what_is_no_image_for_the_table(rt: HostRuntime) -> Result<(), Fail> {
                 image: 256,
                 table: 64
             })
+        )
+    );
+    let mut old = MemDeck::new(alloc, Vec::new(alloc), Vec::new(alloc), Vec::new(alloc));
+    format(&mut old, &OLD)?;
+    assert!(rt;
+        matches!(
+            Session::start(alloc, &sound, &mut old),
+            Err(SessionFault::OldVersion)
         )
     );
     Ok(())

@@ -114,7 +114,14 @@ read_payload h image mid buf rest number slot len at head held same place size l
     ∙ ap (λ k. slice_range image k (k + head.len)) place
     ∙ sym (ap payload_of held)
 
-pub ruleset numbers_after = (number_after-valid, number_after-invalid)
+-- a valid slot is the one that its block's number has
+pub number_after-place : (h : Header) (slot number : ℕ) (head : SlotHead) → is_valid h slot head ≡ true → head.seq + 1 ≡ number + 1
+    → number % h.slots ≡ slot
+number_after-place h slot number head valid same =
+    let is : head.seq ≡ number = omega (arith, same) in
+    subst (λ k. k % h.slots ≡ slot) is (valid_place h slot head valid)
+
+pub ruleset numbers_after = (number_after-valid, number_after-invalid, number_after-place)
 
 pub ruleset blocks_at = (block_at-invalid, block_at-other, block_at-some)
 

@@ -6,4 +6,8 @@ pub mod Nexts
 pub mod Runs
 pub mod Walking
 pub mod BlockLemmas
-pub mod RunPayloads
+pub mod Stretching
+pub mod Sessions
+pub mod Between
+pub mod Handing
+pub mod Contents

@@ -4,6 +4,7 @@ use Rattle.fdr_slot.specs.Places.{slot_number_of}
 
 pub record Block : Type 0 where
   pub number : ℕ
+  pub session : ℕ
   pub payload : List ℕ
 
 -- what each slot holds

@@ -1,9 +1,10 @@
 -- The blocks of an image with a given header.
-use Rattle.std.specs.Prelude.{ℕ, ◌+◌, if◌then◌else◌, List, [], slice_range, Option, Some, None}
+use Rattle.std.specs.Prelude.{ℕ, ◌+◌, ◌-◌, filter_map, if◌then◌else◌, List, [], slice_range, Option, Some, None}
+use Rattle.std.specs.List.{range_with_len}
 use Rattle.fdr_slot.specs.declared.image.Header.{Header}
 use Rattle.fdr_slot.specs.declared.head.SlotHead.{SlotHead}
 use Rattle.fdr_slot.specs.Places.{slot_at}
-use Rattle.fdr_slot.specs.Heads.{head_of, is_valid}
+use Rattle.fdr_slot.specs.Heads.{head_of, is_valid, session_in}
 use Rattle.fdr_recover.specs.Blocks.{Block, IsNextOfBlocks, IsLongestRun, next_among, standing_block, run_below}
 
 -- the head of slot i
@@ -16,7 +17,7 @@ bytes_in h image i n = slice_range image (slot_at h i + 16) (slot_at h i + 16 + 
 
 -- the block with this head in slot i
 abbrev pub block_of : Header → List ℕ → ℕ → SlotHead → Block
-block_of h image i head = record { number = head.seq; payload = bytes_in h image i head.len }
+block_of h image i head = record { number = head.seq; session = session_in h head; payload = bytes_in h image i head.len }
 
 -- the block that slot i holds, where it is valid
 unfoldable pub block_in : Header → List ℕ → ℕ → Option Block
@@ -34,6 +35,18 @@ payload_of (Some b) = b.payload
 
 abbrev pub payload_at : Header → List ℕ → ℕ → List ℕ
 payload_at h image number = payload_of (block_numbered h image number)
+
+-- its session, or 0
+abbrev pub session_of_slot : Option Block → ℕ
+session_of_slot None = 0
+session_of_slot (Some b) = b.session
+
+abbrev pub session_at : Header → List ℕ → ℕ → ℕ
+session_at h image number = session_of_slot (block_numbered h image number)
+
+-- the blocks that the image has of the numbers from the first on, below the next
+abbrev pub blocks_between : Header → List ℕ → ℕ → ℕ → List Block
+blocks_between h image first next = filter_map (block_numbered h image) (range_with_len first (next - first))
 
 -- one more than the greatest number in a valid slot, or 0 where no slot is valid
 unfoldable pub next_of : Header → List ℕ → ℕ

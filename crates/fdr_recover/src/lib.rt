@@ -14,11 +14,12 @@ mod walk;
 
 pub use error::{HeaderFault, RingFault};
 pub use header::read_header_for;
-pub use laws::recovered_run_is_longest;
+pub use laws::{recovered_run_is_longest, stretches_are_maximal};
 pub use open::read_image_header;
-pub use payload::block;
+pub use payload::{BlockInfo, block};
 pub use run::{Found, scan};
-pub use walk::{BlockTaker, BlocksFault, walk_blocks};
+pub use slots::number_after;
+pub use walk::{BlockTaker, BlocksFault, walk_between, walk_blocks};
 
 #[cfg(test)]
 mod tests;

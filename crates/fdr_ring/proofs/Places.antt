@@ -11,7 +11,7 @@ use Rattle.fdr_slot.specs.declared.head.SlotHead.{SlotHead}
 use Rattle.fdr_slot.specs.Limits.{IsInLimits}
 use Rattle.fdr_slot.specs.Places.{slot_at, slot_size}
 use Rattle.fdr_slot.specs.Headers.{has_open_gate}
-use Rattle.fdr_slot.specs.Heads.{head_of, is_valid}
+use Rattle.fdr_slot.specs.Heads.{head_of, is_valid, session_in}
 use Rattle.fdr_recover.specs.Blocks.{Block, IsNextOfBlocks, run_below, if_numbered}
 use Rattle.fdr_recover.specs.Images.{head_at, bytes_in, block_of, block_in, next_of, blocks_below, recovered_run}
 use Rattle.fdr_recover.proofs.Nexts.{IsNext-one}
@@ -41,7 +41,7 @@ block_in-same : (h : Header) (old new : List ℕ) (i : ℕ) → head_at h new i 
 block_in-same h old new i head bytes = ⊎_elim
     (λ valid. block_in-valid h new i (ap (is_valid h i) head ∙ valid)
     ∙ ap (λ x. Some (block_of h new i x)) head
-    ∙ ap (λ (p : List ℕ). Some (record { number = (head_at h old i).seq; payload = p }))
+    ∙ ap (λ (p : List ℕ). Some (record { number = (head_at h old i).seq; session = session_in h (head_at h old i); payload = p }))
     (bytes (head_at h old i).len (fits_valid h i (head_at h old i) valid))
     ∙ sym (block_in-valid h old i valid))
     (λ invalid. block_in-invalid h new i (ap (is_valid h i) head ∙ invalid) ∙ sym (block_in-invalid h old i invalid))

@@ -25,27 +25,27 @@ use Rattle.fdr_ring.proofs.Bytes.{Torn-within, IsTurned-here, patched_append, sh
 use Rattle.fdr_ring.proofs.Turning.{gate_within, far_gate, close_after_body, still_closed, exact_run}
 use Rattle.fdr_ring.proofs.Turning.{waiting_written, tail_length}
 
-head_tail : (len number : ℕ) → take 15 (drop 1 (head_bytes len 0 number)) ≡ drop 1 (head_bytes len 0 number)
+head_tail : (len session number : ℕ) → take 15 (drop 1 (head_bytes len session number)) ≡ drop 1 (head_bytes len session number)
 unfolding head_bytes
-head_tail len number = refl
+head_tail len session number = refl
 
-pub body_length : (number : ℕ) (bytes : List ℕ) → length (body_bytes number bytes) ≡ 15 + length bytes
+pub body_length : (number session : ℕ) (bytes : List ℕ) → length (body_bytes number session bytes) ≡ 15 + length bytes
 unfolding body_bytes
-body_length number bytes =
-    length-append (drop 1 (head_bytes (length bytes) 0 number)) bytes
-    ∙ ap (λ n. n + length bytes) (tail_length (length bytes) number)
+body_length number session bytes =
+    length-append (drop 1 (head_bytes (length bytes) session number)) bytes
+    ∙ ap (λ n. n + length bytes) (tail_length (length bytes) session number)
 
 -- the front of an array, in which a head and the payload after it were put
-pub body_front : (number : ℕ) (bytes head zeros first room : List ℕ) → head ≡ head_bytes (length bytes) 0 number
+pub body_front : (number session : ℕ) (bytes head zeros first room : List ℕ) → head ≡ head_bytes (length bytes) session number
     → first ≡ patched 0 (take 15 (drop 1 head)) zeros → room ≡ patched 15 bytes first
-    → take (15 + length bytes) room ≡ body_bytes number bytes
+    → take (15 + length bytes) room ≡ body_bytes number session bytes
 unfolding body_bytes
-body_front number bytes head zeros first room is put_head put_bytes =
-    let tail : List ℕ = drop 1 (head_bytes (length bytes) 0 number) in
-    let long : length tail ≡ 15 = tail_length (length bytes) number in
+body_front number session bytes head zeros first room is put_head put_bytes =
+    let tail : List ℕ = drop 1 (head_bytes (length bytes) session number) in
+    let long : length tail ≡ 15 = tail_length (length bytes) session number in
     let here : first ≡ patched 0 tail zeros =
     put_head ∙ ap (λ (l : List ℕ). patched 0 (take 15 (drop 1 l)) zeros) is
-    ∙ ap (λ (l : List ℕ). patched 0 l zeros) (head_tail (length bytes) number) in
+    ∙ ap (λ (l : List ℕ). patched 0 l zeros) (head_tail (length bytes) session number) in
     let place : 15 ≡ 0 + length tail = omega (arith, long) in
     let both : room ≡ patched 0 (tail ++ bytes) zeros =
     put_bytes ∙ ap (patched 15 bytes) here ∙ ap (λ n. patched n bytes (patched 0 tail zeros)) place
@@ -140,87 +140,88 @@ placing_quiet tells h number size at old mid new sound sound_mid ready there hel
         ∙ sym (far_gate h number size old.held mid.held (ready bytes).limits (ready bytes).fits (held bytes)))
 
 -- the body is placed, the following gate is shut, and a sync changes no byte
-pub prepared_held : (h : Header) (number at : ℕ) (payload old mid closed new : List ℕ) → at ≡ gate_at h (number + 1)
-    → mid ≡ image_with_body h number payload old
-    → closed ≡ image_with_closed_gate at mid → new ≡ closed → new ≡ image_to_commit h number payload old
-prepared_held h number at payload old mid closed new there body shuts same =
-    same ∙ shuts ∙ ap (image_with_closed_gate at) body ∙ ap (λ k. image_with_closed_gate k (image_with_body h number payload old)) there
+pub prepared_held : (h : Header) (number session at : ℕ) (payload old mid closed new : List ℕ) → at ≡ gate_at h (number + 1)
+    → mid ≡ image_with_body h number session payload old
+    → closed ≡ image_with_closed_gate at mid → new ≡ closed → new ≡ image_to_commit h number session payload old
+prepared_held h number session at payload old mid closed new there body shuts same =
+    same ∙ shuts ∙ ap (image_with_closed_gate at) body ∙ ap (λ k. image_with_closed_gate k (image_with_body h number session payload old)) there
 
 -- the gate of the following slot, in an image in which the body is placed
-following_within : (h : Header) (number : ℕ) (payload old : List ℕ) → IsReady h number (length payload) old
-    → gate_at h (number + 1) < length (image_with_body h number payload old)
-following_within h number payload old ready =
+following_within : (h : Header) (number session : ℕ) (payload old : List ℕ) → IsReady h number (length payload) old
+    → gate_at h (number + 1) < length (image_with_body h number session payload old)
+following_within h number session payload old ready =
     let room : gate_at h number + slot_size h ≤ length old = gate_within h number old ready.limits ready.whole in
     let next_room : gate_at h (number + 1) + slot_size h ≤ length old =
     gate_within h (number + 1) old ready.limits ready.whole in
-    let long : length (image_with_body h number payload old) ≡ length old =
-    length-patched (gate_at h number + 1) (body_bytes number payload) old
-    (omega (arith, body_length number payload, room, ready.fits)) in
+    let long : length (image_with_body h number session payload old) ≡ length old =
+    length-patched (gate_at h number + 1) (body_bytes number session payload) old
+    (omega (arith, body_length number session payload, room, ready.fits)) in
     omega (arith, long, next_room)
 
-placed_torn : (h : Header) (number : ℕ) (payload old : List ℕ) → IsReady h number (length payload) old
-    → Torn (gate_at h number + 1) (15 + length payload) old (image_with_body h number payload old)
-placed_torn h number payload old ready =
+placed_torn : (h : Header) (number session : ℕ) (payload old : List ℕ) → IsReady h number (length payload) old
+    → Torn (gate_at h number + 1) (15 + length payload) old (image_with_body h number session payload old)
+placed_torn h number session payload old ready =
     let room : gate_at h number + slot_size h ≤ length old = gate_within h number old ready.limits ready.whole in
-    subst (λ n. Torn (gate_at h number + 1) n old (image_with_body h number payload old)) (body_length number payload)
-    (Torn-patched (gate_at h number + 1) (body_bytes number payload) old
-    (omega (arith, body_length number payload, room, ready.fits)))
+    subst (λ n. Torn (gate_at h number + 1) n old (image_with_body h number session payload old)) (body_length number session payload)
+    (Torn-patched (gate_at h number + 1) (body_bytes number session payload) old
+    (omega (arith, body_length number session payload, room, ready.fits)))
 
-following_turned : (h : Header) (number : ℕ) (payload old new : List ℕ) → IsReady h number (length payload) old
-    → new ≡ image_to_commit h number payload old
-    → IsTurned (gate_at h (number + 1)) (image_with_body h number payload old) new
-following_turned h number payload old new ready is =
-    subst (IsTurned (gate_at h (number + 1)) (image_with_body h number payload old)) (sym is)
-    (shut_turned (gate_at h (number + 1)) (image_with_body h number payload old) (following_within h number payload old ready))
+following_turned : (h : Header) (number session : ℕ) (payload old new : List ℕ) → IsReady h number (length payload) old
+    → new ≡ image_to_commit h number session payload old
+    → IsTurned (gate_at h (number + 1)) (image_with_body h number session payload old) new
+following_turned h number session payload old new ready is =
+    subst (IsTurned (gate_at h (number + 1)) (image_with_body h number session payload old)) (sym is)
+    (shut_turned (gate_at h (number + 1)) (image_with_body h number session payload old) (following_within h number session payload old ready))
 
-following_closed : (h : Header) (number : ℕ) (payload old new : List ℕ) → IsReady h number (length payload) old
-    → new ≡ image_to_commit h number payload old
+following_closed : (h : Header) (number session : ℕ) (payload old new : List ℕ) → IsReady h number (length payload) old
+    → new ≡ image_to_commit h number session payload old
     → IsClosed h new (number + 1)
-following_closed h number payload old new ready is =
+following_closed h number session payload old new ready is =
     subst (λ l. IsClosed h l (number + 1)) (sym is)
-    (shut_gate (gate_at h (number + 1)) (image_with_body h number payload old) (following_within h number payload old ready))
+    (shut_gate (gate_at h (number + 1)) (image_with_body h number session payload old) (following_within h number session payload old ready))
 
-prepared_image : (h : Header) (number : ℕ) (payload old new : List ℕ) → IsReady h number (length payload) old
-    → new ≡ image_to_commit h number payload old
+prepared_image : (h : Header) (number session : ℕ) (payload old new : List ℕ) → IsReady h number (length payload) old
+    → new ≡ image_to_commit h number session payload old
     → IsPreparing h number (length payload) old new
-prepared_image h number payload old new ready is =
-    placing_image h number (length payload) (gate_at h (number + 1)) old (image_with_body h number payload old) new ready
-    (placed_torn h number payload old ready) refl (following_turned h number payload old new ready is)
+prepared_image h number session payload old new ready is =
+    placing_image h number (length payload) (gate_at h (number + 1)) old (image_with_body h number session payload old) new ready
+    (placed_torn h number session payload old ready) refl (following_turned h number session payload old new ready is)
 
-pub prepared_block : (h : Header) (number : ℕ) (payload old new : List ℕ) → IsReady h number (length payload) old
-    → number < 2 ^ 48 → 0 < length payload
-    → new ≡ image_to_commit h number payload old → waiting_block h new number ≡ Some (record { number = number; payload = payload })
-prepared_block h number payload old new ready small some is =
-    waiting_written h number old
-    (image_with_body h number payload old) new payload ready.limits small some ready.fits ready.whole refl
-    (following_turned h number payload old new ready is)
+pub prepared_block : (h : Header) (number session : ℕ) (payload old new : List ℕ) → IsReady h number (length payload) old
+    → number < 2 ^ 48 → session < 2 ^ 32 → (h.version ≡ 1 → session ≡ 0) → 0 < length payload
+    → new ≡ image_to_commit h number session payload old → waiting_block h new number ≡ Some (record { number = number; session = session; payload = payload })
+prepared_block h number session payload old new ready small short none some is =
+    waiting_written h number session old
+    (image_with_body h number session payload old) new payload ready.limits small short none some ready.fits ready.whole refl
+    (following_turned h number session payload old new ready is)
 
-pub prepared_run : (h : Header) (number : ℕ) (payload old new : List ℕ) → IsReady h number (length payload) old
-    → new ≡ image_to_commit h number payload old
+pub prepared_run : (h : Header) (number session : ℕ) (payload old new : List ℕ) → IsReady h number (length payload) old
+    → new ≡ image_to_commit h number session payload old
     → recovered_run h new ≡ last_blocks (h.slots - 2) (recovered_run h old)
-prepared_run h number payload old new ready is =
+prepared_run h number session payload old new ready is =
     exact_run h 1 number old new ready.limits (omega arith) ready.next
-    (prepared_image h number payload old new ready is).run
-    (following_closed h number payload old new ready is)
+    (prepared_image h number session payload old new ready is).run
+    (following_closed h number session payload old new ready is)
 
 -- what the ring knows then
-pub prepared_ring : (tells : Tells) (h : Header) (number : ℕ) (payload : List ℕ) (old new : State)
-    → (IsTrue tells.bytes → IsReady h number (length payload) old.held) → number < 2 ^ 48 → 0 < length payload
+pub prepared_ring : (tells : Tells) (h : Header) (number session : ℕ) (payload : List ℕ) (old new : State)
+    → (IsTrue tells.bytes → IsReady h number (length payload) old.held) → number < 2 ^ 48 → session < 2 ^ 32
+    → (h.version ≡ 1 → session ≡ 0) → 0 < length payload
     → image_size h ≤ new.extent
-    → (IsTrue tells.bytes → new.held ≡ image_to_commit h number payload old.held) → IsPrepared tells h number new
-prepared_ring tells h number payload old new ready small some extent held = record {
+    → (IsTrue tells.bytes → new.held ≡ image_to_commit h number session payload old.held) → IsPrepared tells h number new
+prepared_ring tells h number session payload old new ready small short none some extent held = record {
   ring = record {
     extent = extent;
-    next = λ told. (ready told).next ∙ sym (prepared_image h number payload old.held new.held (ready told)
+    next = λ told. (ready told).next ∙ sym (prepared_image h number session payload old.held new.held (ready told)
         (held told)).run.next;
-    closed = λ told. still_closed h number old.held (image_with_body h number payload old.held) new.held (ready told).limits
+    closed = λ told. still_closed h number old.held (image_with_body h number session payload old.held) new.held (ready told).limits
         (ready told).closed
         (Torn-within (gate_at h number + 1) (15 + h.payload) (gate_at h number + 1) (15 + length payload) old.held
-        (image_with_body h number payload old.held)
-        (omega arith) (omega (arith, (ready told).fits)) (placed_torn h number payload old.held (ready told)))
-        (following_turned h number payload old.held new.held (ready told) (held told));
+        (image_with_body h number session payload old.held)
+        (omega arith) (omega (arith, (ready told).fits)) (placed_torn h number session payload old.held (ready told)))
+        (following_turned h number session payload old.held new.held (ready told) (held told));
   };
-  waits = λ told. subst (λ o. IsSome o) (sym (prepared_block h number payload old.held new.held (ready told) small some
+  waits = λ told. subst (λ o. IsSome o) (sym (prepared_block h number session payload old.held new.held (ready told) small short none some
       (held told))) refl;
-  following = λ told. following_closed h number payload old.held new.held (ready told) (held told);
+  following = λ told. following_closed h number session payload old.held new.held (ready told) (held told);
 }

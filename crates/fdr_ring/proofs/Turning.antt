@@ -12,8 +12,8 @@ use Rattle.fdr_slot.specs.declared.image.Header.{Header}
 use Rattle.fdr_slot.specs.declared.head.SlotHead.{SlotHead}
 use Rattle.fdr_slot.specs.Limits.{IsInLimits}
 use Rattle.fdr_slot.specs.Places.{slot_at, slot_size, image_size, gate_at}
-use Rattle.fdr_slot.specs.Heads.{head_of, head_bytes, is_valid}
-use Rattle.fdr_slot.proofs.HeadLemmas.{head_of-head_bytes}
+use Rattle.fdr_slot.specs.Heads.{head_of, head_bytes, is_valid, session_in}
+use Rattle.fdr_slot.proofs.HeadLemmas.{head_of-head_bytes, session_in-written}
 use Rattle.fdr_recover.specs.Blocks.{Block, if_numbered}
 use Rattle.fdr_recover.specs.Images.{head_at, bytes_in, block_of, block_in, block_numbered, next_of, blocks_below, recovered_run}
 use Rattle.fdr_recover.proofs.Placing.{slot_within}
@@ -142,15 +142,15 @@ opened_tail : (tail : List ℕ) → head_of (0x5a ∷ tail) ≡ opened_as (head_
 unfolding head_of
 opened_tail tail = refl
 
-closed_tail : (len seq : ℕ) → 0 ∷ drop 1 (head_bytes len 0 seq) ≡ head_bytes len 0 seq
+closed_tail : (len session seq : ℕ) → 0 ∷ drop 1 (head_bytes len session seq) ≡ head_bytes len session seq
 unfolding head_bytes
-closed_tail len seq = refl
+closed_tail len session seq = refl
 
-opened_head : (len seq : ℕ) → len < 2 ^ 16 → seq < 2 ^ 64
-    → head_of (0x5a ∷ drop 1 (head_bytes len 0 seq)) ≡ record { gate = true; len = len; session = 0; seq = seq }
-opened_head len seq short fits =
-    opened_tail (drop 1 (head_bytes len 0 seq)) ∙ ap (λ l. opened_as (head_of l)) (closed_tail len seq)
-    ∙ ap opened_as (head_of-head_bytes len 0 seq short (omega arith) fits)
+opened_head : (len session seq : ℕ) → len < 2 ^ 16 → session < 2 ^ 32 → seq < 2 ^ 64
+    → head_of (0x5a ∷ drop 1 (head_bytes len session seq)) ≡ record { gate = true; len = len; session = session; seq = seq }
+opened_head len session seq short small fits =
+    opened_tail (drop 1 (head_bytes len session seq)) ∙ ap (λ l. opened_as (head_of l)) (closed_tail len session seq)
+    ∙ ap opened_as (head_of-head_bytes len session seq short small fits)
 
 take_one_more : (n x : ℕ) (xs : List ℕ) → take (1 + n) (x ∷ xs) ≡ x ∷ take n xs
 take_one_more n x xs = let more : 1 + n ≡ suc n = omega arith in rw more refl
@@ -172,42 +172,45 @@ pub opened_torn : (h : Header) (number : ℕ) (image : List ℕ) → gate_at h n
 opened_torn h number image within = Torn-patched (gate_at h number) (0x5a ∷ []) image (omega arith)
 
 -- the block after a closed gate, by its bytes
-pub waiting_is : (h : Header) (number : ℕ) (image bytes : List ℕ) → IsInLimits h → number < 2 ^ 48 → 0 < length bytes
+pub waiting_is : (h : Header) (number session : ℕ) (image bytes : List ℕ) → IsInLimits h → number < 2 ^ 48 → session < 2 ^ 32
+    → (h.version ≡ 1 → session ≡ 0) → 0 < length bytes
     → length bytes ≤ h.payload → gate_at h number < length image
-    → slice_range image (gate_at h number + 1) (gate_at h number + 1 + 15) ≡ drop 1 (head_bytes (length bytes) 0 number)
+    → slice_range image (gate_at h number + 1) (gate_at h number + 1 + 15) ≡ drop 1 (head_bytes (length bytes) session number)
     → slice_range image (gate_at h number + 16) (gate_at h number + 16 + length bytes) ≡ bytes
-    → waiting_block h image number ≡ Some (record { number = number; payload = bytes })
+    → waiting_block h image number ≡ Some (record { number = number; session = session; payload = bytes })
 unfolding waiting_block block_numbered head_at bytes_in
-waiting_is h number image bytes limits small some fits within head payload =
+waiting_is h number session image bytes limits small short old some fits within head payload =
     let i : ℕ = number % h.slots in
     let open_image : List ℕ = image_with_open_gate h image number in
-    let head_is : head_at h open_image i ≡ record { gate = true; len = length bytes; session = 0; seq = number } =
+    let written : SlotHead = record { gate = true; len = length bytes; session = session; seq = number } in
+    let head_is : head_at h open_image i ≡ written =
     ap head_of (opened_range (gate_at h number) 15 image within ∙ ap (λ l. 0x5a ∷ l) head)
-    ∙ opened_head (length bytes) number (omega arith) (omega arith) in
+    ∙ opened_head (length bytes) session number (omega arith) short (omega arith) in
     let bytes_are : bytes_in h open_image i (length bytes) ≡ bytes =
     range_outside (gate_at h number) 1 (gate_at h number + 16) (length bytes) image open_image (inr (omega arith))
     (opened_torn h number image within) ∙ payload in
-    let valid : is_valid h i (record { gate = true; len = length bytes; session = 0; seq = number }) ≡ true = grind (arith, nat_tests) in
+    let valid : is_valid h i (record { gate = true; len = length bytes; session = session; seq = number }) ≡ true = grind (arith, nat_tests) in
     ap (if_numbered number) (block_in-valid h open_image i (ap (is_valid h i) head_is ∙ valid)
     ∙ ap (λ x. Some (block_of h open_image i x)) head_is
-    ∙ ap (λ (p : List ℕ). Some (record { number = number; payload = p })) bytes_are)
-    ∙ numbered_same number (record { number = number; payload = bytes }) refl
+    ∙ ap (λ (p : List ℕ). Some (record { number = number; session = session_in h written; payload = p })) bytes_are
+    ∙ ap (λ (s : ℕ). Some (record { number = number; session = s; payload = bytes })) (session_in-written h written limits old))
+    ∙ numbered_same number (record { number = number; session = session; payload = bytes }) refl
 
-pub tail_length : (len seq : ℕ) → length (drop 1 (head_bytes len 0 seq)) ≡ 15
+pub tail_length : (len session seq : ℕ) → length (drop 1 (head_bytes len session seq)) ≡ 15
 unfolding head_bytes
-tail_length len seq = refl
+tail_length len session seq = refl
 
 -- what was written after the gate of the next number, and then another gate was torn
-pub waiting_written : (h : Header) (number : ℕ) (old mid new bytes : List ℕ) → IsInLimits h → number < 2 ^ 48 → 0 < length bytes
-    → length bytes ≤ h.payload
-    → image_size h ≤ length old → mid ≡ image_with_body h number bytes old → IsTurned (gate_at h (number + 1)) mid new
-    → waiting_block h new number ≡ Some (record { number = number; payload = bytes })
+pub waiting_written : (h : Header) (number session : ℕ) (old mid new bytes : List ℕ) → IsInLimits h → number < 2 ^ 48
+    → session < 2 ^ 32 → (h.version ≡ 1 → session ≡ 0) → 0 < length bytes → length bytes ≤ h.payload
+    → image_size h ≤ length old → mid ≡ image_with_body h number session bytes old → IsTurned (gate_at h (number + 1)) mid new
+    → waiting_block h new number ≡ Some (record { number = number; session = session; payload = bytes })
 unfolding body_bytes
-waiting_written h number old mid new bytes limits small some fits whole written turned =
+waiting_written h number session old mid new bytes limits small short none some fits whole written turned =
     let at : ℕ = gate_at h number in
-    let tail : List ℕ = drop 1 (head_bytes (length bytes) 0 number) in
+    let tail : List ℕ = drop 1 (head_bytes (length bytes) session number) in
     let first : List ℕ = patched (at + 1) tail old in
-    let tail_long : length tail ≡ 15 = tail_length (length bytes) number in
+    let tail_long : length tail ≡ 15 = tail_length (length bytes) session number in
     let place : at + 1 + length tail ≡ at + 16 = omega (arith, tail_long) in
     let room : at + slot_size h ≤ length old = gate_within h number old limits whole in
     let split : mid ≡ patched (at + 16) bytes first =
@@ -229,7 +232,7 @@ waiting_written h number old mid new bytes limits small some fits whole written 
     (⊎_elim (λ front. inl (omega (arith, front))) (λ behind. inr (omega (arith, behind))) apart) turned.torn
     ∙ ap (λ (l : List ℕ). slice_range l (at + 16) (at + 16 + length bytes)) split
     ∙ range_patched (at + 16) bytes first (omega (arith, long, room)) in
-    waiting_is h number new bytes limits small some fits (omega (arith, turned.torn.size, long_mid, room)) head payload
+    waiting_is h number session new bytes limits small short none some fits (omega (arith, turned.torn.size, long_mid, room)) head payload
 
 -- the gate of the next number is open
 pub opened_image : (h : Header) (number : ℕ) (b : Block) (old new : List ℕ) → IsInLimits h → number ≡ next_of h old → IsClosed h old number

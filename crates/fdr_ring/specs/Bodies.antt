@@ -7,16 +7,17 @@ use Rattle.fdr_slot.specs.Places.{gate_at}
 use Rattle.fdr_ring.specs.Closing.{IsTurned, image_with_closed_gate}
 
 -- the 15 bytes of the head after the gate, and the payload
-unfoldable pub body_bytes : ℕ → List ℕ → List ℕ
-body_bytes number payload = drop 1 (head_bytes (length payload) 0 number) ++ payload
+unfoldable pub body_bytes : ℕ → ℕ → List ℕ → List ℕ
+body_bytes number session payload = drop 1 (head_bytes (length payload) session number) ++ payload
 
 -- the image with these after the gate of the number's slot
-abbrev pub image_with_body : Header → ℕ → List ℕ → List ℕ → List ℕ
-image_with_body h number payload image = patched (gate_at h number + 1) (body_bytes number payload) image
+abbrev pub image_with_body : Header → ℕ → ℕ → List ℕ → List ℕ → List ℕ
+image_with_body h number session payload image = patched (gate_at h number + 1) (body_bytes number session payload) image
 
 -- the same, and the gate of the following slot is 00 where it was open
-abbrev pub image_to_commit : Header → ℕ → List ℕ → List ℕ → List ℕ
-image_to_commit h number payload image = image_with_closed_gate (gate_at h (number + 1)) (image_with_body h number payload image)
+abbrev pub image_to_commit : Header → ℕ → ℕ → List ℕ → List ℕ → List ℕ
+image_to_commit h number session payload image =
+    image_with_closed_gate (gate_at h (number + 1)) (image_with_body h number session payload image)
 
 -- Only bytes 1 to 15 + size of the number's slot may be others, and the gate of the following slot where it was open.
 pub record IsPlacing (h : Header) (number size : ℕ) (old new : List ℕ) : Type 0 where

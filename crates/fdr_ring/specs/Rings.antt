@@ -64,9 +64,10 @@ pub record HasAttached (tells : Tells) (h : Header) (number : ℕ) (old new : St
   pub succeeds : Succeeds old new
 
 -- What `prepare` has done where it answers: the block waits after the closed gate of its slot.
-pub record HasPlaced (tells : Tells) (h : Header) (number : ℕ) (payload : List ℕ) (old new : State) : Type 0 where
-  pub held : IsTrue tells.bytes → new.held ≡ image_to_commit h number payload old.held
-  pub block : IsTrue tells.bytes → waiting_block h new.held number ≡ Some (record { number = number; payload = payload })
+pub record HasPlaced (tells : Tells) (h : Header) (number session : ℕ) (payload : List ℕ) (old new : State) : Type 0 where
+  pub held : IsTrue tells.bytes → new.held ≡ image_to_commit h number session payload old.held
+  pub block : IsTrue tells.bytes
+      → waiting_block h new.held number ≡ Some (record { number = number; session = session; payload = payload })
   pub run : IsTrue tells.bytes → recovered_run h new.held ≡ last_blocks (h.slots - 2) (recovered_run h old.held)
   pub settled : IsTrue tells.stops → IsSettled new
   pub succeeds : Succeeds old new

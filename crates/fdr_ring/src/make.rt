@@ -47,7 +47,7 @@ pub fn format<D: Deck>(deck: &mut D, h: &Header) -> Result<Ring, RingFault>
     ensures learns { result ≡ Err RingFault.NotEmpty → LearnsExtent D.tells (D.state deck.old) (D.state deck.new) }
     ensures unchanged { result ≡ Err RingFault.NotEmpty → KeepsDisk (D.state deck.old) (D.state deck.new) }
     ensures only { OnErr result (result ≡ Err RingFault.NotEmpty ⊎ result ≡ Err RingFault.DiskFault) }
-    ensures ring { IfOk result (λ r. (r.header ≡ h.now) × (r.next ≡ 0)) }
+    ensures ring { IfOk result (λ r. (r.header ≡ h.now) × (r.next ≡ 0) × (r.session ≡ 0)) }
     ensures fact { IfOk result (λ r. IsSureRing D.tells r.header r.next (D.state deck.new)) }
     ensures held { OnOk result (IsTrue D.tells.bytes → (D.state deck.new).held ≡ fresh_image h.now) }
     ensures formatted { OnOk result (IsTrue D.tells.bytes → IsFormatted h.now (D.state deck.new).held) }
@@ -67,5 +67,6 @@ pub fn format<D: Deck>(deck: &mut D, h: &Header) -> Result<Ring, RingFault>
     Ok(Ring {
         header: *h,
         next: 0,
+        session: 0,
     })
 }

@@ -1,3 +1,5 @@
+ghost use Rattle.std.specs.Prelude.{◌≡◌};
+
 use super::*;
 use fdr_deck::{Deck, MemDeck, SureDeck, Tear};
 use fdr_recover::{Found, scan};
@@ -9,7 +11,7 @@ const SMALL: Header = Header {
     slots: 4,
     payload: 64,
     words: 64,
-    version: 1,
+    version: 2,
 };
 
 #[test]
@@ -22,19 +24,40 @@ fn makes_an_image_and_adds_a_block(rt: HostRuntime) -> Result<(), Fail> {
     assert!(rt; deck.image()[64..].iter().all(|b| *b == 0));
     assert_eq!(rt; read_image_header(&mut deck), Ok(SMALL));
 
-    let prepared = ring.prepare(&mut deck, &[7; 9])?;
-    assert_eq!(rt; scan(&mut deck, &SMALL), Ok(Found { first: 0, next: 0 }));
-    let ring = prepared.commit(&mut deck)?;
+    let ring = ring.prepare(&mut deck, 3, &[7; 9])?.commit(&mut deck)?;
     assert_eq!(rt; ring.next(), 1);
+    assert_eq!(rt; ring.session(), 3);
     assert_eq!(rt; ring.header(), SMALL);
-    let head = [OPEN, 0, 0, 9, 0, 0, 0, 0, 0, 0, 0, 0, 0, 0, 0, 0];
+    let head = [OPEN, 0, 0, 9, 0, 0, 0, 3, 0, 0, 0, 0, 0, 0, 0, 0];
     assert!(rt; deck.image()[64..].starts_with(&head));
     assert!(rt; deck.image()[80..].starts_with(&[7, 7, 7, 7, 7, 7, 7, 7, 7, 0]));
 
-    assert_eq!(rt; scan(&mut deck, &SMALL), Ok(Found { first: 0, next: 1 }));
+    assert_eq!(rt;
+        scan(&mut deck, &SMALL),
+        Ok(Found {
+            first: 0,
+            next: 1,
+            session: 3
+        })
+    );
     let again = Ring::attach(&mut deck, SMALL)?;
     assert_eq!(rt; again.next(), 1);
+    assert_eq!(rt; again.session(), 3);
     assert!(rt; matches!(format(&mut deck, &SMALL), Err(RingFault::NotEmpty)));
+    Ok(())
+}
+
+#[test]
+fn a_prepared_block_is_not_found(rt: HostRuntime) -> Result<(), Fail> {
+    let alloc = rt.alloc();
+    let mut deck = MemDeck::new(alloc, Vec::new(alloc), Vec::new(alloc), Vec::new(alloc));
+    format(&mut deck, &SMALL)?.prepare(&mut deck, 3, &[7; 9])?;
+    let none = Found {
+        first: 0,
+        next: 0,
+        session: 0,
+    };
+    assert_eq!(rt; scan(&mut deck, &SMALL), Ok(none));
     Ok(())
 }
 
@@ -51,7 +74,7 @@ fn refuses_the_block_after_the_last_number(rt: HostRuntime) -> Result<(), Fail> 
     let mut deck = SureDeck::new(image, Vec::new(alloc));
     let ring = Ring::attach(&mut deck, SMALL)?;
     assert_eq!(rt; ring.next(), SEQUENCE_END);
-    assert!(rt; matches!(ring.prepare(&mut deck, &[1]), Err(RingFault::SeqEnd)));
+    assert!(rt; matches!(ring.prepare(&mut deck, 1, &[1]), Err(RingFault::SeqEnd)));
     Ok(())
 }
 
@@ -66,11 +89,19 @@ fn names_what_is_no_image(rt: HostRuntime) -> Result<(), Fail> {
     Ok(())
 }
 
+// The session that blocks are given: an image of version 1 has none.
+fn session_for(header: &Header) -> u32
+    ensures { header.now.version ≡ 1 → result ≡ 0 }
+{
+    if header.version == 1 { 0 } else { 1 }
+}
+
 // Adds a block of one byte to the image on the disk.
 fn add_block(deck: &mut MemDeck, byte: u8) -> Result<(), RingFault> {
     let header = read_image_header(deck)?;
     let ring = Ring::attach(deck, header)?;
-    ring.prepare(deck, &[byte])?.commit(deck)?;
+    ring.prepare(deck, session_for(&header), &[byte])?
+        .commit(deck)?;
     Ok(())
 }
 
@@ -85,7 +116,7 @@ fn seven_blocks(alloc: Global) -> Result<(MemDeck, [u64; 3]), Fail> {
     let header = read_image_header(&mut deck)?;
     let ring = Ring::attach(&mut deck, header)?;
     let before = deck.calls();
-    let prepared = ring.prepare(&mut deck, &[6; 64])?;
+    let prepared = ring.prepare(&mut deck, session_for(&header), &[6; 64])?;
     let between = deck.calls();
     prepared.commit(&mut deck)?;
     let calls = [before, between, deck.calls()];
@@ -148,7 +179,7 @@ fn a_gate_is_torn_alone(rt: HostRuntime) -> Result<(), Fail> {
 // A block whose last sync, that of its gate, failed, and the number of calls then.
 fn unsettled_block(alloc: Global) -> Result<(MemDeck, u64), Fail> {
     let mut deck = MemDeck::new(alloc, Vec::new(alloc), Vec::new(alloc), vec![in alloc; 10]?);
-    let prepared = format(&mut deck, &SMALL)?.prepare(&mut deck, &[7; 9])?;
+    let prepared = format(&mut deck, &SMALL)?.prepare(&mut deck, 1, &[7; 9])?;
     match prepared.commit(&mut deck) {
         Err(RingFault::DiskFault) => {
             let calls = deck.calls();

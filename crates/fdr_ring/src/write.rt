@@ -26,11 +26,11 @@ fn put(room: &mut [u8], at: usize, bytes: &[u8])
 
 /// What is after the gate of a block's slot, at the front of an array that has room for the
 /// largest.
-fn body_of(seq: u64, bytes: &[u8]) -> [u8; MAX_BODY]
+fn body_of(seq: u64, session: u32, bytes: &[u8]) -> [u8; MAX_BODY]
     requires { length bytes.now ≤ most_payload_bytes }
-    ensures { take (15 + length bytes.now) result ≡ body_bytes seq bytes.now }
+    ensures { take (15 + length bytes.now) result ≡ body_bytes seq session bytes.now }
 {
-    let head = write_slot_head(bytes.len() as u16, 0, seq);
+    let head = write_slot_head(bytes.len() as u16, session, seq);
     let mut body = [0; MAX_BODY];
     put(&mut body, 0, &head[1..]);
     put(&mut body, 15, bytes);
@@ -38,18 +38,24 @@ fn body_of(seq: u64, bytes: &[u8]) -> [u8; MAX_BODY]
 }
 
 /// Writes what is after the gate of a block's slot, in one write. It isn't durable yet.
-pub fn write_body<D: Deck>(deck: &mut D, h: &Header, seq: u64, bytes: &[u8]) -> Result<(), Failed>
+pub fn write_body<D: Deck>(
+    deck: &mut D,
+    h: &Header,
+    seq: u64,
+    session: u32,
+    bytes: &[u8],
+) -> Result<(), Failed>
     requires limits { IsInLimits h.now }
     requires fits { length bytes.now ≤ h.now.payload }
     requires whole { image_size h.now ≤ (D.state deck.old).extent }
     ensures changes { ChangesImage D.tells (Torn (gate_at h.now seq + 1) (15 + length bytes.now)) (D.state deck.old) (D.state deck.new) }
     ensures written { OnOk result (IsTrue D.tells.bytes
-        → (D.state deck.new).held ≡ image_with_body h.now seq bytes.now (D.state deck.old).held) }
+        → (D.state deck.new).held ≡ image_with_body h.now seq session bytes.now (D.state deck.old).held) }
     ensures succeeds { OnOk result (Succeeds (D.state deck.old) (D.state deck.new)) }
     ensures cause { OnErr result (Rose (D.state deck.old).disk_faults (D.state deck.new).disk_faults) }
     ensures rest { D.same_rest deck.old deck.new }
 {
-    let body = body_of(seq, bytes);
+    let body = body_of(seq, session, bytes);
     deck.write(gate_at(h, seq) + 1, &body[..15 + bytes.len()])
 }
 

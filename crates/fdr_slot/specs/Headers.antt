@@ -25,9 +25,13 @@ header_of bytes = record {
   version = if slice_index bytes 1 == 0xa5 then 2 else 1;
 }
 
--- the bytes that are written for a header of version 1
+-- the byte that is written for a version
+abbrev pub version_byte : ℕ → ℕ
+version_byte version = if version == 2 then 0xa5 else 0
+
+-- the bytes that are written for a header
 unfoldable pub header_bytes : Header → List ℕ
-header_bytes h = ((0x5a ∷ 0 ∷ codes "FDR717") ++ big_bytes 4 h.slots ++ big_bytes 4 h.payload ++ big_bytes 4 h.words) ++ replicate 44 0
+header_bytes h = ((0x5a ∷ version_byte h.version ∷ codes "FDR717") ++ big_bytes 4 h.slots ++ big_bytes 4 h.payload ++ big_bytes 4 h.words) ++ replicate 44 0
 
 -- the first fault of an image of this length that begins with these bytes
 unfoldable pub image_fault : List ℕ → ℕ → Option ImageFault

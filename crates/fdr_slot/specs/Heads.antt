@@ -1,5 +1,5 @@
 -- The head of a slot: its first 16 bytes.
-use Rattle.std.specs.Prelude.{◌≡◌, ◌≤◌, ◌<◌, ℕ, ◌==◌, Bool, false, ◌&&◌, nat_lt, nat_le, List, ◌∷◌, ◌++◌, drop, IsTrue}
+use Rattle.std.specs.Prelude.{◌≡◌, ◌≤◌, ◌<◌, ℕ, ◌==◌, Bool, false, ◌&&◌, nat_lt, nat_le, if◌then◌else◌, List, ◌∷◌, ◌++◌, drop, IsTrue}
 use Rattle.byteorder.specs.Endian.{big_number, big_bytes}
 use Rattle.fdr_slot.specs.Limits.{sequence_end}
 use Rattle.fdr_slot.specs.Places.{slot_number_of}
@@ -15,6 +15,10 @@ head_of bytes = record {
   session = big_number 4 (drop 4 bytes);
   seq = big_number 8 (drop 8 bytes);
 }
+
+-- the session of a block with this head: in version 1 it is 0, whatever the bytes say
+abbrev pub session_in : Header → SlotHead → ℕ
+session_in h head = if h.version == 2 then head.session else 0
 
 -- a head whose gate is closed
 abbrev pub closed_head : ℕ → ℕ → ℕ → SlotHead

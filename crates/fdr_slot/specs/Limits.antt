@@ -1,5 +1,5 @@
 -- The limits of a header's numbers, and of a block's.
-use Rattle.std.specs.Prelude.{◌≡◌, ◌≤◌, ℕ, ◌^◌, Bool, ◌==◌, ◌&&◌, nat_le}
+use Rattle.std.specs.Prelude.{◌≤◌, ℕ, ◌^◌, Bool, ◌&&◌, nat_le}
 use Rattle.fdr_frame.specs.WordCount.{is_word_count, IsWordCount}
 use Rattle.fdr_slot.specs.declared.image.Header.{Header}
 
@@ -25,7 +25,7 @@ abbrev pub in_limits : Header → Bool
 in_limits h =
     (nat_le least_slot_count h.slots && nat_le h.slots most_slot_count)
     && (nat_le least_payload_bytes h.payload && nat_le h.payload most_payload_bytes)
-    && is_word_count h.words && (h.version == 1)
+    && is_word_count h.words && (nat_le 1 h.version && nat_le h.version 2)
 
 -- the same as facts
 pub record IsInLimits (h : Header) : Type 0 where
@@ -34,4 +34,5 @@ pub record IsInLimits (h : Header) : Type 0 where
   pub least_payload : least_payload_bytes ≤ h.payload
   pub most_payload : h.payload ≤ most_payload_bytes
   pub word_count : IsWordCount h.words
-  pub version : h.version ≡ 1
+  pub least_version : 1 ≤ h.version
+  pub most_version : h.version ≤ 2

@@ -15,7 +15,7 @@ pub struct SlotHead {
     pub gate: bool,
     /// How many bytes the block has.
     pub len: u16,
-    /// The session that the block is of. Version 1 doesn't use it.
+    /// The session that the block is of. In version 1 these bytes say nothing: `session_in` answers the session.
     pub session: u32,
     /// The block's sequence number.
     pub seq: u64,
@@ -44,6 +44,13 @@ pub fn write_slot_head(len: u16, session: u32, seq: u64) -> [u8; 16]
     BigEndian::write_u32(&mut bytes[4..], session);
     BigEndian::write_u64(&mut bytes[8..], seq);
     bytes
+}
+
+/// The session of a block with this head. In version 1 it is 0, whatever the head says.
+pub fn session_in(h: &Header, head: &SlotHead) -> u32
+    ensures { result ≡ heads.session_in h.now head.now }
+{
+    if h.version == 2 { head.session } else { 0 }
 }
 
 /// Whether a slot with this head holds a block: its gate is open, its number is below 2^48 and is

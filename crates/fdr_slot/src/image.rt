@@ -19,7 +19,7 @@ pub struct Header {
     pub payload: u32,
     /// The words in a subframe of what is recorded: 64, 128, 256, 512 or 1024.
     pub words: u32,
-    /// The version of the format, 1.
+    /// The version of the format, 1 or 2. In version 2 each block has its session.
     pub version: u8,
 }
 
@@ -51,7 +51,7 @@ pub fn in_limits(h: &Header) -> bool
     (MIN_SLOTS..=MAX_SLOTS).contains(&h.slots)
         && (MIN_PAYLOAD..=MAX_PAYLOAD as u32).contains(&h.payload)
         && matches!(h.words, 64 | 128 | 256 | 512 | 1024)
-        && h.version == 1
+        && (1..=2).contains(&h.version)
 }
 
 /// What the bytes of a header say.
@@ -121,6 +121,7 @@ pub fn write_header(h: &Header) -> [u8; 64]
 {
     let mut bytes = [0; 64];
     bytes[0] = OPEN;
+    bytes[1] = if h.version == 2 { SECOND } else { 0 };
     bytes[2..8].copy_from_slice(&MAGIC);
     BigEndian::write_u32(&mut bytes[8..], h.slots);
     BigEndian::write_u32(&mut bytes[12..], h.payload);

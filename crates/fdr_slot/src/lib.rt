@@ -8,7 +8,7 @@ mod head;
 mod image;
 mod places;
 
-pub use head::{SlotHead, is_valid, read_slot, write_slot_head};
+pub use head::{SlotHead, is_valid, read_slot, session_in, write_slot_head};
 pub use image::{Header, ImageFault, in_limits, read_header, write_header};
 pub use places::{gate_at, image_size, slot_at, slot_of};
 

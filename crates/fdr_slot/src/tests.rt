@@ -7,6 +7,12 @@ const SMALL: Header = Header {
     version: 1,
 };
 
+/// The same in version 2.
+const SMALL_SECOND: Header = Header {
+    version: 2,
+    ..SMALL
+};
+
 /// The header of an image of 4 slots of 64 bytes, for subframes of 64 words.
 const SMALL_START: [u8; 20] = [
     0x5a, 0, 0x46, 0x44, 0x52, 0x37, 0x31, 0x37, 0, 0, 0, 4, 0, 0, 0, 0x40, 0, 0, 0, 0x40,
@@ -26,12 +32,33 @@ fn writes_and_reads_a_header(rt: HostRuntime) {
 }
 
 #[test]
+fn writes_and_reads_a_header_of_version_2(rt: HostRuntime) {
+    let bytes = write_header(&SMALL_SECOND);
+    assert!(rt; bytes.starts_with(&[0x5a, 0xa5]));
+    assert!(rt; bytes[2..20] == SMALL_START[2..]);
+    assert!(rt; bytes[20..].iter().all(|b| *b == 0));
+    assert_eq!(rt; read_header(&bytes, 384), Ok(SMALL_SECOND));
+    assert!(rt; in_limits(&SMALL_SECOND));
+    assert!(rt;
+        !in_limits(&Header {
+            version: 3,
+            ..SMALL
+        })
+    );
+    assert!(rt;
+        !in_limits(&Header {
+            version: 0,
+            ..SMALL
+        })
+    );
+}
+
+#[test]
 fn names_the_first_fault(rt: HostRuntime) {
     // a byte of the header, another value for it, and the fault
     for (at, value, fault) in [
         (0, 0, ImageFault::Closed),
         (7, b'8', ImageFault::Magic),
-        (1, 0xa5, ImageFault::Geometry),
         (11, 3, ImageFault::Geometry),
         (15, 63, ImageFault::Geometry),
         (19, 65, ImageFault::Geometry),
@@ -45,6 +72,8 @@ fn names_the_first_fault(rt: HostRuntime) {
     bytes[1] = 7;
     bytes[63] = 1;
     assert_eq!(rt; read_header(&bytes, 384), Ok(SMALL));
+    bytes[1] = 0xa5;
+    assert_eq!(rt; read_header(&bytes, 384), Ok(SMALL_SECOND));
 }
 
 #[test]
@@ -61,6 +90,7 @@ fn writes_and_reads_heads(rt: HostRuntime) {
         }
     );
     assert!(rt; is_valid(&head, &SMALL, 0));
+    assert!(rt; is_valid(&head, &SMALL_SECOND, 0));
     assert!(rt; !is_valid(&head, &SMALL, 1));
 
     let closed = [0, 0, 0, 0x40, 0, 0, 0, 0, 0, 0, 0, 0, 0, 0, 0, 2];
@@ -70,4 +100,8 @@ fn writes_and_reads_heads(rt: HostRuntime) {
         write_slot_head(0x102, 0x304_0506, 0x708_090a_0b0c_0d0e),
         [0, 0, 1, 2, 3, 4, 5, 6, 7, 8, 9, 10, 11, 12, 13, 14]
     );
+
+    let of_session_7 = read_slot(&write_slot_head(64, 7, 2));
+    assert_eq!(rt; session_in(&SMALL, &of_session_7), 0);
+    assert_eq!(rt; session_in(&SMALL_SECOND, &of_session_7), 7);
 }

@@ -8,7 +8,7 @@ ghost use Rattle.fdr_biphase.specs.Phases.{missing_place};
 ghost use Rattle.fdr_bus.specs.Records.{good_prefix, has_end};
 ghost use Rattle.fdr_deck.specs.Sure.{sure_state};
 ghost use Rattle.fdr_pieces.specs.Limits.{most_input_bytes};
-ghost use Rattle.fdr_words.specs.Forms.{check_table, decode_levels, drill_image, encode_bytes, form_of, format_image, list_bits, list_image, record_line, recover_image, stream_line};
+ghost use Rattle.fdr_words.specs.Forms.{check_table, decode_levels, drill_image, encode_bytes, form_of, format_image, list_bits, list_image, record_line, recover_image, stream_line, upgrade_image};
 ghost use Rattle.fdr_recover.specs.ImageHeader.{image_fault_of, IsFor};
 ghost use Rattle.fdr_gen.specs.Trace.{generated_trace};
 ghost use Rattle.fdr_top.specs.Complete.{HasRoom};
@@ -25,9 +25,9 @@ use std::alloc::Global;
 /// Runs a command over a source, a deck and a sink that never fail. Words of no form give `Usage`. A table that is
 /// accepted, and for `listbits` a line of at most 268,435,456 bytes, for `stream` a trace with an end record, give `Done`,
 /// unless memory ends. So do an input of at most 268,435,456 bytes for `encode`, and for `decode` where no place is missing
-/// in its levels; an image without faults for `recover`, one for the table's frames for `list`, and one with numbers enough
-/// for all blocks for `record` and `drill`. `format` answers `NotEmpty` where the deck has an image, as a new one has: a deck
-/// that never fails can't take room.
+/// in its levels; an image without faults for `recover` and `upgrade`, one for the table's frames for `list`, and one of version
+/// 2 with numbers enough for all blocks for `record` and `drill`. `format` answers `NotEmpty` where the deck has an image, as a
+/// new one has: a deck that never fails can't take room.
 pub fn sure_command(
     alloc: Global,
     words: &[String],
@@ -39,6 +39,8 @@ pub fn sure_command(
     ensures report { (path : List ℕ) → form_of (map string_bytes words.now) ≡ Some (check_table path) → IsAccepted table.old
         → (result ≡ Outcome.Done) ⊎ (result ≡ Outcome.NoMemory) }
     ensures recovery { (path : List ℕ) → form_of (map string_bytes words.now) ≡ Some (recover_image path)
+        → image_fault_of deck.old.image ≡ None → (result ≡ Outcome.Done) ⊎ (result ≡ Outcome.NoMemory) }
+    ensures upgrade { (path : List ℕ) → form_of (map string_bytes words.now) ≡ Some (upgrade_image path)
         → image_fault_of deck.old.image ≡ None → (result ≡ Outcome.Done) ⊎ (result ≡ Outcome.NoMemory) }
     ensures listing { (path : List ℕ) → form_of (map string_bytes words.now) ≡ Some (list_bits path) → IsAccepted table.old
         → length deck.old.input ≤ most_input_bytes → (result ≡ Outcome.Done) ⊎ (result ≡ Outcome.NoMemory) }

@@ -81,6 +81,8 @@ line_done form text tells old new before now (outcome.WordsDiffer w u) own image
     absurd (both own)
 line_done form text tells old new before now outcome.SeqEnd own image reads makes both trace records lists told few line sink cell =
     absurd (records own)
+line_done form text tells old new before now outcome.OldVersion own image reads makes both trace records lists told few line sink cell =
+    absurd (records own)
 line_done form text tells old new before now answer own image reads makes both trace records lists told few line sink cell = absurd own
 
 pub streams_line : (path : List ℕ) (t : TableRows) (tells : Tells) (old new : State) (before now : Option (List ℕ)) (answer : Outcome)

@@ -106,7 +106,7 @@ IsStreamed-taken k' t records r begun blocks before now stands written =
 
 -- a recording has fewer blocks
 pub due_blocks-few : (t : TableRows) (records : List BusRecord) (r : BusRecord) → t.frame.words ≤ 1024 → r.time ≤ last_time
-    → due_blocks t 4096 (records ++ r ∷ []) < 1000000
+    → due_blocks t 4096 (records ++ r ∷ []) < 540001
 due_blocks-few t records r words in_time =
     let count : length (stream_words t (records ++ r ∷ [])) ≡ slot_count t.frame.words r.time =
     length-stream_words t (records ++ r ∷ []) ∙ ap (slot_count t.frame.words) (time_of-push records r) in

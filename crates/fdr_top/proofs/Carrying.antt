@@ -10,7 +10,7 @@ use Rattle.fdr_check.specs.Soundness.{IsSound}
 use Rattle.fdr_table.specs.Bounds.{most_table_bytes}
 use Rattle.fdr_table.specs.Rows.{TableRows}
 use Rattle.fdr_words.specs.Forms.{Form, check_table, stream_line, list_bits, encode_bytes}
-use Rattle.fdr_words.specs.Forms.{decode_levels, format_image, record_line, recover_image, list_image, drill_image}
+use Rattle.fdr_words.specs.Forms.{decode_levels, format_image, record_line, recover_image, list_image, upgrade_image, drill_image}
 use Rattle.fdr_words.specs.Forms.{table_path}
 use Rattle.fdr_top.specs.Stages.{IsOfTable}
 use Rattle.fdr_top.specs.Answers.{IsOwn, KeepsInputAndFaults, ReadsTable}
@@ -35,6 +35,7 @@ use Rattle.fdr_top.proofs.Making.{makes_nothing, table_or, table_told}
 use Rattle.fdr_load.proofs.Pieces.{TakesAtMost-none}
 use Rattle.fdr_top.proofs.Readable.{records_nothing}
 use Rattle.fdr_top.proofs.TableAnswers.{table_not_past, taken_is_all}
+use Rattle.fdr_top.proofs.Upgrades.{upgrades_nothing}
 
 -- a run that changed nothing
 abbrev pub idle : Tells → State → Option (List ℕ) → ℕ → Outcome → WorkRun
@@ -201,6 +202,7 @@ does_nothing (record_line path image) r tells d written s answer same sound read
 does_nothing (recover_image image) r tells d written s answer same sound reads of = absurd (let e : false ≡ true = reads in cc)
 does_nothing (list_image path image) r tells d written s answer same sound reads of =
     rw same (lists_nothing tells r.rest_before d written answer sound (inr of))
+does_nothing (upgrade_image image) r tells d written s answer same sound reads of = absurd (let e : false ≡ true = reads in cc)
 does_nothing (drill_image path image seed frames) r tells d written s answer same sound reads of =
     rw same (drills_nothing seed frames tells r.rest_before d written answer sound (table_not_past answer of))
 
@@ -229,6 +231,7 @@ table_refused form r tells d written s answer same sound reads of table bounded 
 nothing_carried : (form : Form) (r : CommandRun) (tells : Tells) (d : State) (written : Option (List ℕ)) (s : ℕ)
     → r.work ≡ idle tells d written s outcome.NoMemory → IsSoundDeck tells d → CarriesOut form r
 nothing_carried (recover_image image) r tells d written s same sound = rw same (λ t. recovers_nothing tells d written sound)
+nothing_carried (upgrade_image image) r tells d written s same sound = rw same (λ t. upgrades_nothing tells d sound)
 nothing_carried encode_bytes r tells d written s same sound = rw same (λ t past. absurd past)
 nothing_carried decode_levels r tells d written s same sound = rw same (λ t past. absurd past)
 nothing_carried form r tells d written s same sound = does_nothing form r tells d written s outcome.NoMemory same sound refl tt

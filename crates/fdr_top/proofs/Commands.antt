@@ -2,7 +2,7 @@
 use Rattle.std.proofs.Common.{refl, ◌≢◌, ◌≡◌, ◌⊎◌, inl, inr, ⊎_elim, ℕ, List, Option, Some, None, ap, sym, ◌∙◌, subst}
 use Rattle.std.specs.Prelude.{◌↔◌}
 use Rattle.fdr_io.specs.declared.Input.TheVariants as input
-use Rattle.fdr_words.specs.Forms.{Form}
+use Rattle.fdr_words.specs.Forms.{Form, ImageUse, has_no_image, makes_image, records_in_image, reads_image, upgrades_image, command_uses}
 use Rattle.fdr_words.specs.Request.{form_of_request}
 use Rattle.fdr_table.specs.declared.path.PathText.{PathText}
 use Rattle.fdr_words.specs.declared.Request.{Request}
@@ -11,7 +11,7 @@ use Rattle.std.specs.Prelude.{IfSome}
 use Rattle.fdr_top.specs.declared.outcome.Outcome.{Outcome}
 use Rattle.fdr_top.specs.declared.outcome.Outcome.TheVariants as outcome
 use Rattle.fdr_top.specs.Stages.{EndsBeforeDeck, IsOfTable, IsPastTable, WritesNothing}
-use Rattle.fdr_top.specs.Answers.{HasImage, IsOwn, MayAnswer, PullsInput, ReadsTable, WritesText}
+use Rattle.fdr_top.specs.Answers.{HasImage, IsImageRecorded, IsImageThere, IsOwn, MayAnswer, PullsInput, ReadsTable, WritesText}
 use Rattle.fdr_top.specs.Answers.{KeepsInputAndFaults, MakesImage, ReadsBoth, ReadsImage}
 use Rattle.fdr_deck.specs.State.{State}
 use Rattle.fdr_top.specs.Leaves.{CoversInputFault}
@@ -83,12 +83,21 @@ pub own_not_disk : (form : Form) (answer : Outcome) → (answer ≡ outcome.NoMe
     → answer ≡ outcome.DiskFault → ⊥
 own_not_disk form answer of = own_not form answer outcome.DiskFault of (λ e. absurd (cc))
 
+-- where an image is recorded in, its header is read
+recorded_there : (work : ImageUse) → IsImageRecorded work → IsImageThere work
+recorded_there has_no_image recorded = recorded
+recorded_there makes_image recorded = recorded
+recorded_there records_in_image recorded = tt
+recorded_there reads_image recorded = tt
+recorded_there upgrades_image recorded = tt
+
 -- a command that reads no image and makes none has begun to write
 pub own_begun : (form : Form) (answer : Outcome) → (ReadsImage form → ⊥) → (MakesImage form → ⊥) → (ReadsBoth form → ⊥) → IsOwn form answer
     → WritesNothing answer → ⊥
 own_begun form (outcome.ImageRefused why) reads makes both own nothing = reads own
 own_begun form outcome.NotEmpty reads makes both own nothing = makes own
 own_begun form (outcome.WordsDiffer image table) reads makes both own nothing = both own
+own_begun form outcome.OldVersion reads makes both own nothing = reads (recorded_there (command_uses form).work own)
 own_begun form outcome.Usage reads makes both own nothing = own
 own_begun form (outcome.TableRefused row f) reads makes both own nothing = own
 own_begun form (outcome.ReadFault input.Table) reads makes both own nothing = own
@@ -104,19 +113,21 @@ uncovered_line form old new answer of memory quiet covers = ⊎_elim
     (λ own. quiet own (λ e. covers (subst CoversInputFault (sym e) tt)))
     of
 
--- each request but three has a table
+-- each request but four has a table
 pub request_reads : (r : Request) → (r ≡ request.Encode → ⊥) → (r ≡ request.Decode → ⊥)
-    → ((image : PathText) → r ≡ request.RecoverImage image → ⊥) → ReadsTable (form_of_request r)
-request_reads (request.CheckTable table) encode decode recover = refl
-request_reads (request.StreamLine table) encode decode recover = refl
-request_reads (request.ListBits table) encode decode recover = refl
-request_reads request.Encode encode decode recover = absurd (encode refl)
-request_reads request.Decode encode decode recover = absurd (decode refl)
-request_reads (request.FormatImage table image slots payload) encode decode recover = refl
-request_reads (request.RecordLine table image) encode decode recover = refl
-request_reads (request.RecoverImage image) encode decode recover = absurd (recover image refl)
-request_reads (request.ListImage table image) encode decode recover = refl
-request_reads (request.Drill table image seed frames) encode decode recover = refl
+    → ((image : PathText) → r ≡ request.RecoverImage image → ⊥) → ((image : PathText) → r ≡ request.Upgrade image → ⊥)
+    → ReadsTable (form_of_request r)
+request_reads (request.CheckTable table) encode decode recover upgrade = refl
+request_reads (request.StreamLine table) encode decode recover upgrade = refl
+request_reads (request.ListBits table) encode decode recover upgrade = refl
+request_reads request.Encode encode decode recover upgrade = absurd (encode refl)
+request_reads request.Decode encode decode recover upgrade = absurd (decode refl)
+request_reads (request.FormatImage table image slots payload) encode decode recover upgrade = refl
+request_reads (request.RecordLine table image) encode decode recover upgrade = refl
+request_reads (request.RecoverImage image) encode decode recover upgrade = absurd (recover image refl)
+request_reads (request.ListImage table image) encode decode recover upgrade = refl
+request_reads (request.Upgrade image) encode decode recover upgrade = absurd (upgrade image refl)
+request_reads (request.Drill table image seed frames) encode decode recover upgrade = refl
 
 -- what holds of each form holds of the one that words are of
 pub of_form : (asked : Option Form) (P : Form → Type 0) → ((form : Form) → P form) → IfSome asked P

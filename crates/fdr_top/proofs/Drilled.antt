@@ -10,11 +10,10 @@ use Rattle.fdr_deck.specs.Moments.{IsSoundDeck}
 use Rattle.fdr_gen.specs.Trace.{generated_trace}
 use Rattle.fdr_slot.specs.declared.image.Header.{Header}
 use Rattle.fdr_recover.specs.Images.{recovered_run}
-use Rattle.fdr_recover.specs.ImageHeader.{header_in}
+use Rattle.fdr_recover.specs.ImageHeader.{header_in, IsFor}
 use Rattle.fdr_recover.specs.Looks.{Looks}
 use Rattle.fdr_table.specs.Ranges.{IsInRange}
 use Rattle.fdr_table.specs.Rows.{TableRows}
-use Rattle.fdr_readout.specs.Summary.{summary_of}
 use Rattle.fdr_recorder.proofs.Starting.{Starts-looked}
 use Rattle.fdr_words.specs.Forms.{drill_image}
 use Rattle.fdr_recorder.specs.declared.source.SourceEnd.TheVariants as source
@@ -32,31 +31,34 @@ use Rattle.fdr_recorder.specs.Ends.{RecordingEnd}
 use Rattle.fdr_recorder.proofs.Recordings.{RecordsBlocks-unbegun, nothing_started}
 use Rattle.fdr_top.specs.Ends.{recording_answer, session_refusal}
 use Rattle.fdr_top.specs.Record.{RecordsStream}
-use Rattle.fdr_recover.specs.Payloads.{payloads_of, run_in}
+use Rattle.fdr_recover.specs.Payloads.{run_in}
 use Rattle.fdr_top.specs.Recover.{OnlyLooks}
-use Rattle.fdr_top.specs.Refusals.{RefusesImage}
+use Rattle.fdr_top.specs.Refusals.{RefusesImage, RefusesOldImage}
+use Rattle.fdr_top.specs.Sessions.{summary_of_blocks}
 use Rattle.fdr_top.specs.Tables.{ByTable}
 use Rattle.fdr_top.specs.declared.outcome.Outcome.{Outcome}
 use Rattle.fdr_top.specs.declared.outcome.Outcome.TheVariants as outcome
-use Rattle.fdr_top.proofs.Drills.{RecordsBlocks-before, RecordsStream-after, image_after, image_before}
+use Rattle.fdr_top.proofs.Drills.{RecordsBlocks-before, RecordsStream-after, image_after, image_before, old_after, old_before}
 use Rattle.fdr_top.proofs.ListedImages.{IsOfBlocks}
 use Rattle.fdr_top.proofs.Making.{table_or, table_told}
 use Rattle.fdr_top.proofs.Readable.{lists_survivors, lists_undamaged}
-use Rattle.fdr_top.proofs.RecordingEnds.{image_by_answer, refusal_not_write, refusal_records_none, stream_by_answer}
-use Rattle.fdr_top.proofs.RecordLines.{all_past, no_differ, no_first, refuses_nothing}
+use Rattle.fdr_top.proofs.RecordingEnds.{image_by_answer, old_by_answer, refusal_not_write, refusal_records_none, stream_by_answer}
+use Rattle.fdr_top.proofs.RecordLines.{all_past, no_differ, no_first, no_old_version, refuses_no_version, refuses_nothing}
 
 -- what was recorded, and what was written of it
 drills : (t : TableRows) (seed frames : ℕ) (tells : Tells) (old new : State) (before now : Option (List ℕ)) (answer : Outcome) → IsInRange t → IsSound t
     → RecordsStream t tells (generated_trace t seed frames) old new answer → RefusesImage t tells old new answer
+    → RefusesOldImage t tells old answer
     → (answer ≡ outcome.Done → IsTrue tells.bytes → now
     ≡ followed_by before (drill_line t (length (new_blocks t old.held (generated_trace t seed frames))) new.held))
     → (answer ≡ outcome.WriteFault → IsTrue tells.bytes → (k : ℕ) × (now ≡ followed_by before
     (take k (drill_line t (length (new_blocks t old.held (generated_trace t seed frames))) new.held))))
     → (answer ≢ outcome.Done → answer ≢ outcome.WriteFault → now ≡ before)
     → DrillsImage t seed frames tells old new before now answer
-drills t seed frames tells old new before now answer range sound blocks image text part silent = record {
+drills t seed frames tells old new before now answer range sound blocks image old_image text part silent = record {
   blocks = blocks;
   image = image;
+  old_image = old_image;
   text = text;
   part = part;
   silent = silent;
@@ -73,6 +75,23 @@ shut_records_none outcome.DiskFault shut all = all
 shut_records_none outcome.NoMemory shut all = all
 shut_records_none answer shut all = shut
 
+-- an image of version 1 for the table's frames is opened, unless the disk fails
+shut_old : (t : TableRows) (tells : Tells) (old new : State) (answer : Outcome) → RefusesOpening answer → RefusesImage t tells old new answer
+    → RefusesOldImage t tells old answer
+shut_old t tells old new answer shut image = record {
+  version = λ e told. absurd (rw e at shut);
+  version_always = λ past told for first. shut_failed answer shut image past told for;
+}
+  where
+    shut_failed : (a : Outcome) → RefusesOpening a → RefusesImage t tells old new a → IsPastTable a → IsTrue tells.bytes → IsFor t.frame.words old.held
+        → (a ≡ outcome.OldVersion) ⊎ (a ≡ outcome.DiskFault)
+    shut_failed (outcome.ImageRefused why) shut image past told for = absurd (no_first old.held why for.no_fault (image.header.refused why refl told))
+    shut_failed (outcome.WordsDiffer i w) shut image past told for =
+        absurd (no_differ t tells old new (outcome.WordsDiffer i w) i w image told for refl)
+    shut_failed outcome.DiskFault shut image past told for = inr refl
+    shut_failed outcome.NoMemory shut image past told for = absurd past
+    shut_failed a shut image past told for = absurd shut
+
 shut_not_end : (answer : Outcome) → RefusesOpening answer → answer ≡ outcome.SeqEnd → ⊥
 shut_not_end answer shut e = rw e at shut
 
@@ -83,7 +102,7 @@ drill_shut t seed frames tells old new written answer range sound deck looks shu
     drills t seed frames tells old new written written answer range sound
     (RecordsBlocks-unbegun t tells (generated_trace t seed frames) old new (EndsRecording answer) (answer ≡ outcome.SeqEnd)
     (Starts-looked tells (header_in old.held) old new deck looks.disk_work) (shut_records_none answer shut) (shut_not_end answer shut))
-    image
+    image (shut_old t tells old new answer shut image)
     (λ done. absurd (shut_records_none answer shut (subst EndsRecording (sym done) tt)))
     (λ fails. absurd (shut_records_none answer shut (subst EndsRecording (sym fails) tt)))
     (λ done fails. refl)
@@ -102,12 +121,16 @@ drawn_image : (t : TableRows) (seed frames : ℕ) (tells : Tells) (a b c : State
 drawn_image t seed frames tells a b c end looks is =
     image_before t tells a b c (recording_answer end) looks (image_by_answer t tells b c end is.image)
 
+drawn_old : (t : TableRows) (seed frames : ℕ) (tells : Tells) (a b c : State) (end : RecordingEnd) → OnlyLooks tells a b
+    → RecordsSupply (drawn_trace t seed frames) t tells b c end → RefusesOldImage t tells a (recording_answer end)
+drawn_old t seed frames tells a b c end looks is = old_before t tells a b (recording_answer end) looks (old_by_answer t tells b end is.version)
+
 pub drill_cut : (t : TableRows) (seed frames : ℕ) (tells : Tells) (a b c : State) (written : Option (List ℕ)) (f : SessionFault) → IsInRange t → IsSound t
     → IsSoundDeck tells a → OnlyLooks tells a b → RecordsSupply (drawn_trace t seed frames) t tells b c (Err f)
     → DrillsImage t seed frames tells a c written written (session_refusal f)
 drill_cut t seed frames tells a b c written f range sound deck looks is =
     drills t seed frames tells a c written written (session_refusal f) range sound (drawn_blocks t seed frames tells a b c (Err f) deck looks is)
-    (drawn_image t seed frames tells a b c (Err f) looks is)
+    (drawn_image t seed frames tells a b c (Err f) looks is) (drawn_old t seed frames tells a b c (Err f) looks is)
     (λ done. absurd (refusal_records_none f (subst EndsRecording (sym done) tt)))
     (λ fails. absurd (refusal_not_write f fails))
     (λ done fails. refl)
@@ -130,32 +153,39 @@ module _ (t : TableRows) (seed frames : ℕ) (tells : Tells) (a b c d : State) (
     taken = image_after t tells (generated_trace t seed frames) a c d answer done
         (drawn_image t seed frames tells a b c (Ok source.Ended) first ended) last of
 
+    taken_old : RefusesOldImage t tells a answer
+    taken_old = old_after t tells (generated_trace t seed frames) a c answer done of
+
     whole : RecordsStream t tells (generated_trace t seed frames) a d answer
     whole = RecordsStream-after t tells (generated_trace t seed frames) a c d answer sound_a sound_c done last of
 
+    same_header : IsTrue tells.bytes → h ≡ header_in d.held
+    same_header told = header told ∙ sym (done.recorded tt told).header ∙ ap header_in (sym last.disk.held)
+
     same_run : IsTrue tells.bytes → recovered_run h c.held ≡ run_in d.held
     same_run told =
-        let held : c.held ≡ d.held = sym last.disk.held in
-        let head : h ≡ header_in d.held = header told ∙ sym (done.recorded tt told).header ∙ ap header_in held in
-        ap (λ (x : Header). recovered_run x c.held) head ∙ ap (recovered_run (header_in d.held)) held
+        ap (λ (x : Header). recovered_run x c.held) (same_header told) ∙ ap (recovered_run (header_in d.held)) (sym last.disk.held)
 
     same_count : IsTrue tells.bytes → count ≡ length (new_blocks t a.held (generated_trace t seed frames))
     same_count told =
         let stands = (done.recorded tt told).announced in
         omega (arith, blocks told, stands, ap next_in first.disk.held)
 
-    same_line : IsTrue tells.bytes → drill_text count (summary_of t (payloads_of (recovered_run h c.held)))
+    same_line : IsTrue tells.bytes → drill_text count (summary_of_blocks t h.version (recovered_run h c.held))
         ≡ drill_line t (length (new_blocks t a.held (generated_trace t seed frames))) d.held
     same_line told =
-        ap (λ n. drill_text n (summary_of t (payloads_of (recovered_run h c.held)))) (same_count told)
-        ∙ ap (λ run. drill_text (length (new_blocks t a.held (generated_trace t seed frames))) (summary_of t (payloads_of run))) (same_run told)
+        ap (λ n. drill_text n (summary_of_blocks t h.version (recovered_run h c.held))) (same_count told)
+        ∙ ap (λ (x : Header). drill_text (length (new_blocks t a.held (generated_trace t seed frames)))
+        (summary_of_blocks t x.version (recovered_run h c.held))) (same_header told)
+        ∙ ap (λ run. drill_text (length (new_blocks t a.held (generated_trace t seed frames)))
+        (summary_of_blocks t (header_in d.held).version run)) (same_run told)
 
     pub drill_told : IsInRange t → IsSound t
-        → (answer ≡ outcome.Done → IsTrue tells.bytes → now ≡ followed_by before (drill_text count (summary_of t (payloads_of (recovered_run h c.held)))))
+        → (answer ≡ outcome.Done → IsTrue tells.bytes → now ≡ followed_by before (drill_text count (summary_of_blocks t h.version (recovered_run h c.held))))
         → (answer ≡ outcome.WriteFault → IsTrue tells.bytes
-        → (k : ℕ) × (now ≡ followed_by before (take k (drill_text count (summary_of t (payloads_of (recovered_run h c.held)))))))
+        → (k : ℕ) × (now ≡ followed_by before (take k (drill_text count (summary_of_blocks t h.version (recovered_run h c.held))))))
         → (answer ≡ outcome.DiskFault → now ≡ before) → DrillsImage t seed frames tells a d before now answer
-    drill_told range sound text part unread = drills t seed frames tells a d before now answer range sound whole taken
+    drill_told range sound text part unread = drills t seed frames tells a d before now answer range sound whole taken taken_old
         (λ e told. text e told ∙ ap (followed_by before) (same_line told))
         (λ e told. let p = part e told in (p.0, p.1 ∙ ap (λ l. followed_by before (take p.0 l)) (same_line told)))
         (λ not_done not_write. ⊎_elim (λ e. absurd (not_done e))
@@ -174,6 +204,7 @@ drills_nothing seed frames tells rest d written answer sound early =
         blocks = RecordsBlocks-unbegun t tells (generated_trace t seed frames) d d (EndsRecording answer) (answer ≡ outcome.SeqEnd)
             (nothing_started tells d sound) (λ all. early (all_past answer all)) (λ e. early (subst IsPastTable (sym e) tt));
         image = refuses_nothing t tells d d answer early;
+        old_image = refuses_no_version t tells d answer early;
         text = λ done. absurd (early (subst IsPastTable (sym done) tt));
         part = λ fails. absurd (early (subst IsPastTable (sym fails) tt));
         silent = λ done fails. refl;
@@ -199,6 +230,8 @@ drill_done path image seed frames t tells old new before now (outcome.ImageRefus
     absurd (no_first old.held why room.image.no_fault (is.image.header.refused why refl bytes))
 drill_done path image seed frames t tells old new before now (outcome.WordsDiffer i w) own is bytes room disk sink =
     absurd (no_differ t tells old new (outcome.WordsDiffer i w) i w is.image bytes room.image refl)
+drill_done path image seed frames t tells old new before now outcome.OldVersion own is bytes room disk sink =
+    absurd (no_old_version t tells old outcome.OldVersion is.old_image bytes room.version refl)
 drill_done path image seed frames t tells old new before now (outcome.ReadFault input.Table) own is bytes room disk sink =
     ⊎_elim (λ memory. absurd (cc)) (λ it. absurd it) own
 drill_done path image seed frames t tells old new before now (outcome.ReadFault input.Line) own is bytes room disk sink =

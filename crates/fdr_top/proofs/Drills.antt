@@ -24,7 +24,8 @@ use Rattle.fdr_recorder.specs.NewBlocks.{AddsToRun, IsBlockMoment, MayRecord, Re
 use Rattle.fdr_recorder.proofs.Recordings.{chained, starting_moment}
 use Rattle.fdr_recover.specs.Payloads.{run_in}
 use Rattle.fdr_top.specs.Record.{RecordsStream}
-use Rattle.fdr_top.specs.Refusals.{RefusesImage}
+use Rattle.fdr_top.specs.Stages.{WritesNothing}
+use Rattle.fdr_top.specs.Refusals.{RefusesImage, RefusesOldImage}
 use Rattle.fdr_top.specs.Recover.{OnlyLooks}
 use Rattle.fdr_top.specs.declared.outcome.Outcome.{Outcome}
 use Rattle.fdr_top.specs.declared.outcome.Outcome.TheVariants as outcome
@@ -86,6 +87,7 @@ RecordsBlocks-before t tells records a b c all used_up sound looks is =
       seq_end = λ e told. recorded_before tells t a b c (λ i. take (2 ^ 48 - next_in i) (new_blocks t i records)) same (is.seq_end e told);
       beyond = λ e told. subst (λ (i : List ℕ). 2 ^ 48 < next_in i + length (new_blocks t i records)) same (is.beyond e told);
       good = λ either told. for t.frame.words (is.good either told);
+      current = λ either told. ap (λ (i : List ℕ). (header_in i).version) (sym same) ∙ is.current either told;
     }
 
 -- and so is its image
@@ -105,6 +107,14 @@ image_before t tells a b c answer looks is =
       words = λ image table e. let here = is.words image table e in (here.0, here.1, λ told. for image (here.2 told));
       words_always = λ image past told it differ. is.words_always image past told (back image it) differ;
     }
+
+pub old_before : (t : TableRows) (tells : Tells) (a b : State) (answer : Outcome) → OnlyLooks tells a b → RefusesOldImage t tells b answer
+    → RefusesOldImage t tells a answer
+old_before t tells a b answer looks is = record {
+  version = λ e told. subst (λ (i : List ℕ). IsFor t.frame.words i × ((header_in i).version ≡ 1)) looks.disk.held (is.version e told);
+  version_always = λ past told for first. is.version_always past told (subst (IsFor t.frame.words) (sym looks.disk.held) for)
+      (ap (λ (i : List ℕ). (header_in i).version) looks.disk.held ∙ first);
+}
 
 -- ---- after the recording
 
@@ -169,6 +179,7 @@ RecordsStream-after t tells records a b c answer sound_a sound_b is looks of =
       seq_end = λ e. absurd (of_blocks_going answer of e);
       beyond = λ e. absurd (of_blocks_going answer of e);
       good = λ either bytes. is.good (inl tt) bytes;
+      current = λ either bytes. is.current (inl tt) bytes;
     }
   where
     of_blocks_going : (answer : Outcome) → IsOfBlocks answer → answer ≡ outcome.SeqEnd → ⊥
@@ -189,3 +200,11 @@ image_after t tells records a b c answer is image looks of = takes_image t tells
   where
     done_long : (outcome.Done ≡ outcome.ImageRefused fault.Small) ⊎ (outcome.Done ≡ outcome.DiskFault) → ⊥
     done_long either = ⊎_elim (λ e. cc) (λ e. cc) either
+
+-- what was recorded in isn't of version 1
+pub old_after : (t : TableRows) (tells : Tells) (records : List BusRecord) (a b : State) (answer : Outcome)
+    → RecordsStream t tells records a b outcome.Done → IsOfBlocks answer → RefusesOldImage t tells a answer
+old_after t tells records a b answer is of = record {
+  version = λ e told. absurd (of_blocks_begun answer of (subst WritesNothing (sym e) tt));
+  version_always = λ past told for first. absurd (let one : ◌≡◌ {A = ℕ} 1 2 = sym first ∙ is.current (inl tt) told in cc);
+}

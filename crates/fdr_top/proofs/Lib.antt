@@ -4,12 +4,16 @@ pub mod Records
 pub mod TraceAnswers
 pub mod Commands
 pub mod Recovery
+pub mod SessionLemmas
+pub mod SessionEntries
+pub mod SessionSummaries
 pub mod Images
 pub mod Making
 pub mod ItsTable
 pub mod Answering
 pub mod RecordingEnds
 pub mod RecordLines
+pub mod Upgrades
 pub mod OneRun
 pub mod Readable
 pub mod InputTexts

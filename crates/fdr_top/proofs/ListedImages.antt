@@ -16,13 +16,12 @@ use Rattle.fdr_recover.specs.ImageHeader.{image_fault_of, header_in, IsFor}
 use Rattle.fdr_recover.specs.declared.error.HeaderFault.{HeaderFault}
 use Rattle.fdr_recover.specs.declared.error.HeaderFault.TheVariants as header
 use Rattle.fdr_table.specs.Rows.{TableRows}
-use Rattle.fdr_readout.specs.Listing.{listing_of}
 use Rattle.fdr_words.specs.Forms.{drill_image, list_image}
 use Rattle.fdr_top.specs.Stages.{IsOfTable, IsPastTable, WritesNothing}
 use Rattle.fdr_top.specs.Answers.{IsOwn}
-use Rattle.fdr_top.specs.List.{RefusesOpening, ListsImage, opening_refusal}
+use Rattle.fdr_top.specs.List.{RefusesOpening, ListsImage, listing_in, opening_refusal}
+use Rattle.fdr_top.specs.Sessions.{listing_of_blocks}
 use Rattle.fdr_top.specs.Refusals.{RefusesImage}
-use Rattle.fdr_recover.specs.Payloads.{payloads_of, run_in}
 use Rattle.fdr_top.specs.Recover.{OnlyLooks}
 use Rattle.fdr_load.specs.Tables.{table_in}
 use Rattle.fdr_top.specs.Tables.{ByTable}
@@ -125,15 +124,17 @@ of_blocks_drill path image seed frames answer = of_blocks (λ (a : Outcome). IsO
 pub blocks_listed : (t : TableRows) (tells : Tells) (old mid new : State) (h : Header) (before now : Option (List ℕ)) (answer : Outcome) → IsSoundDeck tells old
     → OnlyLooks tells old mid → Looks tells mid new → (IsTrue tells.bytes → h ≡ header_in old.held)
     → (IsTrue tells.bytes → IsFor t.frame.words old.held) → image_size h ≤ mid.extent → IsOfBlocks answer
-    → (answer ≡ outcome.Done → IsTrue tells.bytes → now ≡ followed_by before (listing_of t (payloads_of (recovered_run h mid.held))))
-    → (IsTrue tells.bytes → (k : ℕ) × (now ≡ followed_by before (take k (listing_of t (payloads_of (recovered_run h mid.held))))))
+    → (answer ≡ outcome.Done → IsTrue tells.bytes → now ≡ followed_by before (listing_of_blocks t h.version (recovered_run h mid.held)))
+    → (IsTrue tells.bytes → (k : ℕ) × (now ≡ followed_by before (take k (listing_of_blocks t h.version (recovered_run h mid.held)))))
     → ListsImage t tells old new before now answer
 blocks_listed t tells old mid new h before now answer sound first second header for long of text part =
-    let whole : IsTrue tells.bytes → recovered_run h mid.held ≡ run_in old.held = run_same tells old mid h first header in
+    let listed : IsTrue tells.bytes → listing_of_blocks t h.version (recovered_run h mid.held) ≡ listing_in t old.held = λ told.
+    ap (λ (x : Header). listing_of_blocks t x.version (recovered_run h mid.held)) (header told)
+    ∙ ap (listing_of_blocks t (header_in old.held).version) (run_same tells old mid h first header told) in
     record {
       looks = OnlyLooks-then tells old mid new sound first second;
-      text = λ done told. text done told ∙ ap (λ run. followed_by before (listing_of t (payloads_of run))) (whole told);
-      part = λ told. let p = part told in (p.0, p.1 ∙ ap (λ run. followed_by before (take p.0 (listing_of t (payloads_of run)))) (whole told));
+      text = λ done told. text done told ∙ ap (followed_by before) (listed told);
+      part = λ told. let p = part told in (p.0, p.1 ∙ ap (λ (l : List ℕ). followed_by before (take p.0 l)) (listed told));
       good = λ either told. for told;
       image = takes_image t tells old new answer (of_blocks_begun answer of) (λ short. omega (arith, short, second.extent, long)) for;
     }

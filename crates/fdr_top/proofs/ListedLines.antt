@@ -85,26 +85,29 @@ taken_flushed written t r bytes waiting out_first out_mid out_now had last = rec
 -- ---- parts of the listing
 
 -- where a front part of all lines was written
+pub part_of_entries : (t : TableRows) (all : List Entry) (text : List ℕ) (start now : Option (List ℕ)) → flat_map (entry_lines t) all ≡ text
+    → EmitsPart start now [] (flat_map (entry_lines t) all) → (k : ℕ) × (now ≡ followed_by start (take k text))
+part_of_entries t all text start now lines part =
+    (part.count, part.written ∙ ap (λ (xs : List ℕ). followed_by start (take part.count xs)) lines)
+
 pub part_of_lines : (t : TableRows) (bytes : List ℕ) (start now : Option (List ℕ))
     → EmitsPart start now [] (flat_map (entry_lines t) (entries_of t bytes))
     → (k : ℕ) × (now ≡ followed_by start (take k (listing_of t bytes)))
-part_of_lines t bytes start now part = (
-  part.count,
-  part.written ∙ ap (λ (xs : List ℕ). followed_by start (take part.count xs)) (lines_of_entries t bytes),
-)
+part_of_lines t bytes start now part = part_of_entries t (entries_of t bytes) (listing_of t bytes) start now (lines_of_entries t bytes) part
 
 -- where the lines of the first entries were to be written
-pub part_of_first : {E : Type 0} (t : TableRows) (bytes : List ℕ) (start mid now : Option (List ℕ)) (waiting : List ℕ) (entries rest : List Entry)
-    (r : Result (Unit {0}) E) → entries_of t bytes ≡ entries ++ rest → Emits start mid [] waiting (flat_map (entry_lines t) entries)
+pub part_of_first : {E : Type 0} (t : TableRows) (whole : List Entry) (text : List ℕ) (start mid now : Option (List ℕ)) (waiting : List ℕ)
+    (entries rest : List Entry) (r : Result (Unit {0}) E) → flat_map (entry_lines t) whole ≡ text → whole ≡ entries ++ rest
+    → Emits start mid [] waiting (flat_map (entry_lines t) entries)
     → OnOk r (now ≡ followed_by mid waiting) → OnErr r ((k : ℕ) × (now ≡ followed_by mid (take k waiting)))
-    → (k : ℕ) × (now ≡ followed_by start (take k (listing_of t bytes)))
-part_of_first t bytes start mid now waiting entries rest r split emits all part =
+    → (k : ℕ) × (now ≡ followed_by start (take k text))
+part_of_first t whole text start mid now waiting entries rest r lines split emits all part =
     let some = finished_part start mid now waiting (flat_map (entry_lines t) entries) r emits all part in
     let front : EmitsPart start now [] (flat_map (entry_lines t) entries) = record { count = some.0; written = some.1 } in
     let longer = EmitsPart-longer start now [] (flat_map (entry_lines t) entries) (flat_map (entry_lines t) rest) front in
-    let lines : flat_map (entry_lines t) entries ++ flat_map (entry_lines t) rest ≡ listing_of t bytes =
-    sym (flat_map-append (entry_lines t) entries rest) ∙ ap (flat_map (entry_lines t)) (sym split) ∙ lines_of_entries t bytes in
-    (longer.count, longer.written ∙ ap (λ (xs : List ℕ). followed_by start (take longer.count xs)) lines)
+    let both : flat_map (entry_lines t) entries ++ flat_map (entry_lines t) rest ≡ text =
+    sym (flat_map-append (entry_lines t) entries rest) ∙ ap (flat_map (entry_lines t)) (sym split) ∙ lines in
+    (longer.count, longer.written ∙ ap (λ (xs : List ℕ). followed_by start (take longer.count xs)) both)
 
 -- ---- a sink that failed
 

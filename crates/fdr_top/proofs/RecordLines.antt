@@ -20,7 +20,7 @@ use Rattle.fdr_top.proofs.Images.{same_fault}
 use Rattle.fdr_recover.specs.ImageHeader.{image_fault_of, header_in, IsFor}
 use Rattle.fdr_table.specs.Rows.{TableRows}
 use Rattle.fdr_trace.specs.Pulls.{PullsUntilDecided}
-use Rattle.fdr_recorder.specs.NewBlocks.{new_blocks, next_in}
+use Rattle.fdr_recorder.specs.NewBlocks.{new_blocks, past_in}
 use Rattle.fdr_recorder.specs.Past.{RecordingPast}
 use Rattle.fdr_recorder.proofs.NewBlocks.{blocks-fewer}
 use Rattle.fdr_words.specs.Forms.{record_line}
@@ -31,7 +31,7 @@ use Rattle.fdr_load.specs.Tables.{table_in}
 use Rattle.fdr_top.proofs.TableAnswers.{taken_is_all}
 use Rattle.fdr_top.specs.Traces.{EndsTrace}
 use Rattle.fdr_top.specs.Record.{RecordsTrace}
-use Rattle.fdr_top.specs.Refusals.{RefusesImage}
+use Rattle.fdr_top.specs.Refusals.{RefusesHeader, RefusesImage, RefusesOldImage}
 use Rattle.fdr_top.specs.declared.outcome.Outcome.{Outcome}
 use Rattle.fdr_top.specs.declared.outcome.Outcome.TheVariants as outcome
 use Rattle.fdr_top.proofs.TraceAnswers.{answer_to, ended_unrefused, refused_line}
@@ -103,6 +103,12 @@ refuses_nothing t tells old new answer early = record {
   words_always = λ image past. absurd (early past);
 }
 
+pub refuses_no_version : (t : TableRows) (tells : Tells) (old : State) (answer : Outcome) → (IsPastTable answer → ⊥) → RefusesOldImage t tells old answer
+refuses_no_version t tells old answer early = record {
+  version = λ e told. absurd (early (subst IsPastTable (sym e) tt));
+  version_always = λ past told for first. absurd (early past);
+}
+
 some_same : (a b : ImageFault) → ◌≡◌ {A = Option ImageFault} (Some a) (Some b) → a ≡ b
 some_same a b e = cc
 
@@ -116,43 +122,60 @@ pub no_differ : (t : TableRows) (tells : Tells) (old new : State) (answer : Outc
 no_differ t tells old new answer image table refuses bytes for e =
     let here = refuses.words image table e in here.1 (sym (here.2 bytes).words ∙ for.words ∙ sym here.0)
 
+-- an image of version 2 isn't refused for its version
+pub no_old_version : (t : TableRows) (tells : Tells) (old : State) (answer : Outcome) → RefusesOldImage t tells old answer → IsTrue tells.bytes
+    → (header_in old.held).version ≡ 2 → answer ≡ outcome.OldVersion → ⊥
+no_old_version t tells old answer refuses bytes second e = let one : ◌≡◌ {A = ℕ} 1 2 = sym (refuses.version e bytes).1 ∙ second in cc
+
 -- the image's first fault is answered
+pub header_faulty : (tells : Tells) (old new : State) (found : ImageFault) → (IsTrue tells.bytes → image_fault_of old.held ≡ Some found)
+    → ((found ≡ fault.Small) ↔ (new.extent < 64)) → RefusesHeader tells old new (outcome.ImageRefused found)
+header_faulty tells old new found first small = record {
+  refused = λ why e bytes. first bytes ∙ ap Some (same_fault found why e);
+  small = λ why e. subst (λ (x : ImageFault). (x ≡ fault.Small) ↔ (new.extent < 64)) (same_fault found why e) small;
+  small_always = λ past short. inl (ap outcome.ImageRefused (small.1 short));
+  refused_always = λ why past bytes some. inl (ap outcome.ImageRefused (some_same found why (sym (first bytes) ∙ some)));
+}
+
 pub image_refused : (t : TableRows) (tells : Tells) (old new : State) (found : ImageFault) → (IsTrue tells.bytes → image_fault_of old.held ≡ Some found)
     → ((found ≡ fault.Small) ↔ (new.extent < 64)) → RefusesImage t tells old new (outcome.ImageRefused found)
 image_refused t tells old new found first small = record {
-  header = record {
-    refused = λ why e bytes. first bytes ∙ ap Some (same_fault found why e);
-    small = λ why e. subst (λ (x : ImageFault). (x ≡ fault.Small) ↔ (new.extent < 64)) (same_fault found why e) small;
-    small_always = λ past short. inl (ap outcome.ImageRefused (small.1 short));
-    refused_always = λ why past bytes some. inl (ap outcome.ImageRefused (some_same found why (sym (first bytes) ∙ some)));
-  };
+  header = header_faulty tells old new found first small;
   words = λ image table e. absurd (cc);
   words_always = λ image past bytes other differ. absurd (no_first old.held found other.no_fault (first bytes));
 }
 
 -- the disk failed before the image was known
+pub header_failed : (tells : Tells) (old new : State) → RefusesHeader tells old new outcome.DiskFault
+header_failed tells old new = record {
+  refused = λ why e. absurd (cc);
+  small = λ why e. absurd (cc);
+  small_always = λ past short. inr refl;
+  refused_always = λ why past bytes first. inr refl;
+}
+
 pub disk_failed : (t : TableRows) (tells : Tells) (old new : State) → RefusesImage t tells old new outcome.DiskFault
 disk_failed t tells old new = record {
-  header = record {
-    refused = λ why e. absurd (cc);
-    small = λ why e. absurd (cc);
-    small_always = λ past short. inr refl;
-    refused_always = λ why past bytes first. inr refl;
-  };
+  header = header_failed tells old new;
   words = λ image table e. absurd (cc);
   words_always = λ image past bytes other differ. inr refl;
+}
+
+-- an image without a fault isn't refused
+pub takes_header : (tells : Tells) (old new : State) (answer : Outcome) → (WritesNothing answer → ⊥)
+    → (new.extent < 64 → ⊥) → (IsTrue tells.bytes → image_fault_of old.held ≡ None) → RefusesHeader tells old new answer
+takes_header tells old new answer begun long good = record {
+  refused = λ why e. absurd (begun (subst WritesNothing (sym e) tt));
+  small = λ why e. absurd (begun (subst WritesNothing (sym e) tt));
+  small_always = λ past short. absurd (long short);
+  refused_always = λ why past bytes first. absurd (no_first old.held why (good bytes) first);
 }
 
 -- an image that is for the table's frames isn't refused
 pub takes_image : (t : TableRows) (tells : Tells) (old new : State) (answer : Outcome) → (WritesNothing answer → ⊥)
     → (new.extent < 64 → ⊥) → (IsTrue tells.bytes → IsFor t.frame.words old.held) → RefusesImage t tells old new answer
 takes_image t tells old new answer begun long good = record {
-  header = record {
-    refused = λ why e. absurd (begun (subst WritesNothing (sym e) tt));
-    small = λ why e. absurd (begun (subst WritesNothing (sym e) tt));
-    small_always = λ past short. absurd (long short);
-    refused_always = λ why past bytes first. absurd (no_first old.held why (good bytes).no_fault first);
-  };
+  header = takes_header tells old new answer begun long (λ bytes. (good bytes).no_fault);
   words = λ image table e. absurd (begun (subst WritesNothing (sym e) tt));
   words_always = λ image past bytes other differ. absurd (differ (sym other.words ∙ (good bytes).words));
 }
@@ -193,7 +216,7 @@ has_room : (t : TableRows) (tells : Tells) (d0 d2 : State) (answer : Outcome) (i
 has_room t tells d0 d2 answer is ends bytes told room =
     let line = is.pulls.takes.input told in
     let grown = good_prefix-append is.pulled d2.input in
-    let past : RecordingPast = record { table = t; header = header_in d0.held; first = next_in d0.held; records = [] } in
+    let past : RecordingPast = past_in t d0.held [] in
     let limits : IsInLimits (header_in d0.held) = limits_in d0.held room.image.no_fault in
     let fewer = blocks-fewer past is.pulled d2.input grown.0 limits grown.1 in
     let all = ap (λ (l : List ℕ). length (new_blocks t d0.held (good_prefix l))) line in
@@ -219,4 +242,6 @@ record_done path image t tells d0 d2 (outcome.ImageRefused why) own is told ende
     absurd (no_first d0.held why room.image.no_fault (is.image.header.refused why refl bytes))
 record_done path image t tells d0 d2 (outcome.WordsDiffer i w) own is told ended bytes room line disk =
     absurd (no_differ t tells d0 d2 (outcome.WordsDiffer i w) i w is.image bytes room.image refl)
+record_done path image t tells d0 d2 outcome.OldVersion own is told ended bytes room line disk =
+    absurd (no_old_version t tells d0 outcome.OldVersion is.old_image bytes room.version refl)
 record_done path image t tells d0 d2 answer own is told ended bytes room line disk = ⊎_elim (λ memory. inr memory) (λ it. absurd it) own

@@ -12,7 +12,7 @@ use Rattle.fdr_trace.specs.declared.TraceStop.TheVariants as stop
 use Rattle.fdr_words.specs.Forms.{drill_image}
 use Rattle.fdr_recorder.specs.Ends.{HasRecordedSource, IsRefusedAtStart, RecordingEnd}
 use Rattle.fdr_recorder.specs.NewBlocks.{RecordsBlocks}
-use Rattle.fdr_recorder.specs.Refusing.{RefusesSession}
+use Rattle.fdr_recorder.specs.Refusing.{RefusesOldVersion, RefusesSession}
 use Rattle.fdr_recorder.specs.Supply.{EndsLine}
 use Rattle.fdr_recorder.proofs.Recordings.{RecordsBlocks-weaken}
 use Rattle.fdr_recorder.specs.declared.error.SessionFault.{SessionFault}
@@ -22,7 +22,7 @@ use Rattle.fdr_recorder.specs.declared.source.SourceEnd.TheVariants as source
 use Rattle.fdr_top.specs.Answers.{IsOwn, KeepsInputAndFaults}
 use Rattle.fdr_top.specs.Ends.{recording_answer, session_refusal, source_answer}
 use Rattle.fdr_top.specs.Record.{RecordsStream}
-use Rattle.fdr_top.specs.Refusals.{RefusesImage}
+use Rattle.fdr_top.specs.Refusals.{RefusesImage, RefusesOldImage}
 use Rattle.fdr_top.specs.Stages.{EndsReading, EndsRecording, IsPastTable, WritesNothing}
 use Rattle.fdr_top.specs.Traces.{EndsTrace}
 use Rattle.fdr_top.specs.declared.outcome.Outcome.{Outcome}
@@ -38,6 +38,7 @@ keeps_line a b kept = record { input = kept.0.input; taken = kept.0.taken; pulle
 pub is_disk_fault : (f : SessionFault) → session_refusal f ≡ outcome.DiskFault → f ≡ session.DiskFault
 is_disk_fault (session.Image why) e = absurd (cc)
 is_disk_fault (session.WordsDiffer image table) e = absurd (cc)
+is_disk_fault session.OldVersion e = absurd (cc)
 is_disk_fault session.DiskFault e = refl
 is_disk_fault session.SeqEnd e = absurd (cc)
 is_disk_fault session.NoMemory e = absurd (cc)
@@ -45,6 +46,7 @@ is_disk_fault session.NoMemory e = absurd (cc)
 pub is_no_memory : (f : SessionFault) → session_refusal f ≡ outcome.NoMemory → f ≡ session.NoMemory
 is_no_memory (session.Image why) e = absurd (cc)
 is_no_memory (session.WordsDiffer image table) e = absurd (cc)
+is_no_memory session.OldVersion e = absurd (cc)
 is_no_memory session.DiskFault e = absurd (cc)
 is_no_memory session.SeqEnd e = absurd (cc)
 is_no_memory session.NoMemory e = refl
@@ -52,6 +54,7 @@ is_no_memory session.NoMemory e = refl
 refusal_seq_end : (f : SessionFault) → session_refusal f ≡ outcome.SeqEnd → f ≡ session.SeqEnd
 refusal_seq_end (session.Image why) e = absurd (cc)
 refusal_seq_end (session.WordsDiffer image table) e = absurd (cc)
+refusal_seq_end session.OldVersion e = absurd (cc)
 refusal_seq_end session.DiskFault e = absurd (cc)
 refusal_seq_end session.SeqEnd e = refl
 refusal_seq_end session.NoMemory e = absurd (cc)
@@ -59,6 +62,7 @@ refusal_seq_end session.NoMemory e = absurd (cc)
 pub refused_at_start : (f : SessionFault) → WritesNothing (session_refusal f) → IsRefusedAtStart f
 refused_at_start (session.Image why) nothing = tt
 refused_at_start (session.WordsDiffer image table) nothing = tt
+refused_at_start session.OldVersion nothing = tt
 refused_at_start session.DiskFault nothing = nothing
 refused_at_start session.SeqEnd nothing = nothing
 refused_at_start session.NoMemory nothing = tt
@@ -66,6 +70,7 @@ refused_at_start session.NoMemory nothing = tt
 pub refusal_not_write : (f : SessionFault) → session_refusal f ≡ outcome.WriteFault → ⊥
 refusal_not_write (session.Image why) e = cc
 refusal_not_write (session.WordsDiffer image table) e = cc
+refusal_not_write session.OldVersion e = cc
 refusal_not_write session.DiskFault e = cc
 refusal_not_write session.SeqEnd e = cc
 refusal_not_write session.NoMemory e = cc
@@ -74,6 +79,7 @@ pub refusal_own_drill : (path image : List ℕ) (seed frames : ℕ) (f : Session
     → (session_refusal f ≡ outcome.NoMemory) ⊎ IsOwn (drill_image path image seed frames) (session_refusal f)
 refusal_own_drill path image seed frames (session.Image why) = inr tt
 refusal_own_drill path image seed frames (session.WordsDiffer i table) = inr tt
+refusal_own_drill path image seed frames session.OldVersion = inr tt
 refusal_own_drill path image seed frames session.DiskFault = inr tt
 refusal_own_drill path image seed frames session.SeqEnd = inr tt
 refusal_own_drill path image seed frames session.NoMemory = inl refl
@@ -81,6 +87,7 @@ refusal_own_drill path image seed frames session.NoMemory = inl refl
 pub refusal_records_none : (f : SessionFault) → EndsRecording (session_refusal f) → ⊥
 refusal_records_none (session.Image w) all = all
 refusal_records_none (session.WordsDiffer i w) all = all
+refusal_records_none session.OldVersion all = all
 refusal_records_none session.DiskFault all = all
 refusal_records_none session.SeqEnd all = all
 refusal_records_none session.NoMemory all = all
@@ -88,6 +95,7 @@ refusal_records_none session.NoMemory all = all
 refusal_not_all : (f : SessionFault) → EndsReading (session_refusal f) → ⊥
 refusal_not_all (session.Image w) all = all
 refusal_not_all (session.WordsDiffer i w) all = all
+refusal_not_all session.OldVersion all = all
 refusal_not_all session.DiskFault all = all
 refusal_not_all session.SeqEnd all = all
 refusal_not_all session.NoMemory all = all
@@ -95,6 +103,7 @@ refusal_not_all session.NoMemory all = all
 refusal_not_trace : (f : SessionFault) (index : ℕ) (why : TraceFault) → session_refusal f ≡ outcome.TraceRefused index why → ⊥
 refusal_not_trace (session.Image w) index why e = cc
 refusal_not_trace (session.WordsDiffer i w) index why e = cc
+refusal_not_trace session.OldVersion index why e = cc
 refusal_not_trace session.DiskFault index why e = cc
 refusal_not_trace session.SeqEnd index why e = cc
 refusal_not_trace session.NoMemory index why e = cc
@@ -135,6 +144,7 @@ answer_image (Ok (source.Stopped (stop.Refused index w))) why e = absurd (cc)
 answer_image (Ok (source.Stopped stop.Failed)) why e = absurd (cc)
 answer_image (Err (session.Image w)) why e = same_image w why e
 answer_image (Err (session.WordsDiffer i w)) why e = absurd (cc)
+answer_image (Err session.OldVersion) why e = absurd (cc)
 answer_image (Err session.DiskFault) why e = absurd (cc)
 answer_image (Err session.SeqEnd) why e = absurd (cc)
 answer_image (Err session.NoMemory) why e = absurd (cc)
@@ -145,6 +155,7 @@ answer_words (Ok (source.Stopped (stop.Refused index w))) image table e = absurd
 answer_words (Ok (source.Stopped stop.Failed)) image table e = absurd (cc)
 answer_words (Err (session.Image w)) image table e = absurd (cc)
 answer_words (Err (session.WordsDiffer i w)) image table e = same_words i w image table e
+answer_words (Err session.OldVersion) image table e = absurd (cc)
 answer_words (Err session.DiskFault) image table e = absurd (cc)
 answer_words (Err session.SeqEnd) image table e = absurd (cc)
 answer_words (Err session.NoMemory) image table e = absurd (cc)
@@ -165,6 +176,25 @@ image_by_answer t tells old new end is =
       words_always = λ image past bytes other differ. ⊎_elim (λ e. inl (ap recording_answer e)) (λ e. inr (ap recording_answer e))
           (is.words_always image (begun past) bytes other differ);
     }
+
+answer_old : (end : RecordingEnd) → recording_answer end ≡ outcome.OldVersion → end ≡ Err session.OldVersion
+answer_old (Ok source.Ended) e = absurd (cc)
+answer_old (Ok (source.Stopped (stop.Refused index w))) e = absurd (cc)
+answer_old (Ok (source.Stopped stop.Failed)) e = absurd (cc)
+answer_old (Err (session.Image w)) e = absurd (cc)
+answer_old (Err (session.WordsDiffer i w)) e = absurd (cc)
+answer_old (Err session.OldVersion) e = refl
+answer_old (Err session.DiskFault) e = absurd (cc)
+answer_old (Err session.SeqEnd) e = absurd (cc)
+answer_old (Err session.NoMemory) e = absurd (cc)
+
+pub old_by_answer : (t : TableRows) (tells : Tells) (old : State) (end : RecordingEnd) → RefusesOldVersion t tells old end
+    → RefusesOldImage t tells old (recording_answer end)
+old_by_answer t tells old end is = record {
+  version = λ e told. is.refused (answer_old end e) told;
+  version_always = λ past told for first. ⊎_elim (λ e. inl (ap recording_answer e)) (λ e. inr (ap recording_answer e))
+      (is.refused_always (λ e. rw e at past) told for first);
+}
 
 -- ---- how the trace ended
 

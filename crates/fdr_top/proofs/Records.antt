@@ -185,6 +185,7 @@ streamed_decided pulled d d' outcome.WriteFault undecided quiet known = quiet (�
 streamed_decided pulled d d' outcome.DiskFault undecided quiet known = quiet (λ e. absurd (cc))
 streamed_decided pulled d d' outcome.TooLong undecided quiet known = quiet (λ e. absurd (cc))
 streamed_decided pulled d d' outcome.NoMemory undecided quiet known = quiet (λ e. absurd (cc))
+streamed_decided pulled d d' outcome.OldVersion undecided quiet known = quiet (λ e. absurd (cc))
 streamed_decided pulled d d' (outcome.CellFault at) undecided quiet known = quiet (λ e. absurd (cc))
 
 pub Streams-failed : (t : TableRows) (tells : Tells) (a c : State) (k : StreamKept) (before middle now : Option (List ℕ)) (answer : Outcome)

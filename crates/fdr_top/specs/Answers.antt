@@ -4,7 +4,7 @@ use Rattle.fdr_io.specs.declared.Input.TheVariants as input
 use Rattle.fdr_deck.specs.State.{State}
 use Rattle.fdr_words.specs.Forms.{Form, command_uses, table_path}
 use Rattle.fdr_words.specs.Forms.{InputUse, takes_nothing, takes_trace, takes_bits, takes_levels}
-use Rattle.fdr_words.specs.Forms.{ImageUse, has_no_image, makes_image, records_in_image, reads_image}
+use Rattle.fdr_words.specs.Forms.{ImageUse, has_no_image, makes_image, records_in_image, reads_image, upgrades_image}
 use Rattle.fdr_top.specs.Stages.{Stage, at_words, at_table, at_image, at_work, out_of_memory, stage_of}
 use Rattle.fdr_top.specs.declared.outcome.Outcome.{Outcome}
 use Rattle.fdr_top.specs.declared.outcome.Outcome.TheVariants as outcome
@@ -48,6 +48,7 @@ IsImageUsed has_no_image = ⊥
 IsImageUsed makes_image = Unit {0}
 IsImageUsed records_in_image = Unit {0}
 IsImageUsed reads_image = Unit {0}
+IsImageUsed upgrades_image = Unit {0}
 
 -- the image is made
 abbrev pub IsImageMade : ImageUse → Type 0
@@ -55,6 +56,7 @@ IsImageMade has_no_image = ⊥
 IsImageMade makes_image = Unit {0}
 IsImageMade records_in_image = ⊥
 IsImageMade reads_image = ⊥
+IsImageMade upgrades_image = ⊥
 
 -- the image is recorded in
 abbrev pub IsImageRecorded : ImageUse → Type 0
@@ -62,6 +64,7 @@ IsImageRecorded has_no_image = ⊥
 IsImageRecorded makes_image = ⊥
 IsImageRecorded records_in_image = Unit {0}
 IsImageRecorded reads_image = ⊥
+IsImageRecorded upgrades_image = ⊥
 
 -- the header of the image is read
 abbrev pub IsImageThere : ImageUse → Type 0
@@ -69,6 +72,7 @@ IsImageThere has_no_image = ⊥
 IsImageThere makes_image = ⊥
 IsImageThere records_in_image = Unit {0}
 IsImageThere reads_image = Unit {0}
+IsImageThere upgrades_image = Unit {0}
 
 -- the image is only read
 abbrev pub IsImageOnlyRead : ImageUse → Type 0
@@ -76,6 +80,7 @@ IsImageOnlyRead has_no_image = ⊥
 IsImageOnlyRead makes_image = ⊥
 IsImageOnlyRead records_in_image = ⊥
 IsImageOnlyRead reads_image = Unit {0}
+IsImageOnlyRead upgrades_image = ⊥
 
 -- the commands that read a table
 abbrev pub ReadsTable : Form → Type 0
@@ -145,6 +150,7 @@ MayAnswer form outcome.WriteFault = WritesText form
 MayAnswer form outcome.DiskFault = HasImage form
 MayAnswer form outcome.TooLong = PullsBits form
 MayAnswer form outcome.NoMemory = Unit {0}
+MayAnswer form outcome.OldVersion = RecordsImage form
 MayAnswer form (outcome.CellFault at) = PullsLevels form
 
 -- an answer that may be given and comes after the words and the table, want of memory aside

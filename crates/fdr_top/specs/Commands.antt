@@ -5,7 +5,7 @@ use Rattle.fdr_io.specs.declared.Input.TheVariants as input
 use Rattle.fdr_table.specs.Bounds.{most_table_bytes}
 use Rattle.fdr_table.specs.Rows.{TableRows}
 use Rattle.fdr_words.specs.Forms.{Form, check_table, stream_line, list_bits, encode_bytes, decode_levels}
-use Rattle.fdr_words.specs.Forms.{format_image, record_line, recover_image, list_image, drill_image}
+use Rattle.fdr_words.specs.Forms.{format_image, record_line, recover_image, list_image, upgrade_image, drill_image}
 use Rattle.fdr_words.specs.Forms.{table_path}
 use Rattle.fdr_top.specs.Stages.{IsPastTable, WritesNothing}
 use Rattle.fdr_top.specs.Answers.{IsOwn, MayAnswer, ReadsTable}
@@ -25,6 +25,7 @@ use Rattle.fdr_top.specs.Recover.{RecoversImage}
 use Rattle.fdr_top.specs.Runs.{CommandRun, WorkRun}
 use Rattle.fdr_top.specs.Stream.{StreamsTrace}
 use Rattle.fdr_top.specs.Tables.{ByTable, ReadsItsTable}
+use Rattle.fdr_top.specs.Upgrade.{UpgradesImage}
 use Rattle.fdr_top.specs.declared.outcome.Outcome.TheVariants as outcome
 
 -- what the work of the command of a form does by a table
@@ -38,6 +39,7 @@ DoesWork (format_image path image slots payload) t r = Makes (new_header slots p
 DoesWork (record_line path image) t r = RecordsTrace t r.tells r.old r.new r.answer
 DoesWork (recover_image image) t r = RecoversImage r.tells r.old r.new r.written_before r.written_now r.answer
 DoesWork (list_image path image) t r = ListsImage t r.tells r.old r.new r.written_before r.written_now r.answer
+DoesWork (upgrade_image image) t r = UpgradesImage r.tells r.old r.new r.answer
 DoesWork (drill_image path image seed frames) t r =
     DrillsImage t seed frames r.tells r.old r.new r.written_before r.written_now r.answer
 

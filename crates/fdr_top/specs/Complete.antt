@@ -7,9 +7,9 @@ use Rattle.fdr_bus.specs.declared.BusRecord.{BusRecord}
 use Rattle.fdr_bus.specs.Records.{good_prefix, has_end}
 use Rattle.fdr_deck.specs.State.{State, Tells}
 use Rattle.fdr_slot.specs.Limits.{sequence_end}
-use Rattle.fdr_recover.specs.ImageHeader.{image_fault_of, IsFor}
+use Rattle.fdr_recover.specs.ImageHeader.{image_fault_of, header_in, IsFor}
 use Rattle.fdr_words.specs.Forms.{Form, check_table, stream_line, list_bits, encode_bytes, decode_levels}
-use Rattle.fdr_words.specs.Forms.{format_image, record_line, recover_image, list_image, drill_image}
+use Rattle.fdr_words.specs.Forms.{format_image, record_line, recover_image, list_image, upgrade_image, drill_image}
 use Rattle.fdr_words.specs.Forms.{table_path}
 use Rattle.fdr_top.specs.Answers.{HasImage, PullsInput, ReadsTable, WritesText}
 use Rattle.fdr_top.specs.Runs.{CommandRun, WorkRun}
@@ -23,9 +23,10 @@ use Rattle.fdr_load.specs.Tables.{IsAccepted, table_in}
 abbrev pub TellsAccepted : Option (List ℕ) → Type 0
 TellsAccepted rest = (bytes : List ℕ) × (rest ≡ Some bytes) × IsAccepted bytes
 
--- the disk holds an image for the table's frames, and there are numbers for the blocks of these records
+-- the disk holds an image of version 2 for the table's frames, and there are numbers for the blocks of these records
 pub record HasRoom (t : TableRows) (d : State) (records : List BusRecord) : Type 0 where
   pub image : IsFor t.frame.words d.held
+  pub version : (header_in d.held).version ≡ 2
   pub numbers : next_in d.held + length (new_blocks t d.held records) ≤ sequence_end
 
 -- what the work of the command of a form needs is whole, where it is done by this table
@@ -41,6 +42,7 @@ IsWholeWork (record_line path image) t tells d =
     IsTrue tells.input × (has_end (good_prefix d.input) ≡ true) × IsTrue tells.bytes × HasRoom t d (good_prefix d.input)
 IsWholeWork (recover_image image) t tells d = IsTrue tells.bytes × (image_fault_of d.held ≡ None)
 IsWholeWork (list_image path image) t tells d = IsTrue tells.bytes × IsFor t.frame.words d.held
+IsWholeWork (upgrade_image image) t tells d = IsTrue tells.bytes × (image_fault_of d.held ≡ None)
 IsWholeWork (drill_image path image seed frames) t tells d = IsTrue tells.bytes × HasRoom t d (generated_trace t seed frames)
 
 -- the table of a form's command is told and accepted, and this holds by it, or by any table where the command reads none

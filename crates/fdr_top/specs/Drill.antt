@@ -4,13 +4,14 @@ use Rattle.fdr_io.specs.Told.{followed_by}
 use Rattle.fdr_deck.specs.State.{State, Tells}
 use Rattle.fdr_gen.specs.Trace.{generated_trace}
 use Rattle.fdr_table.specs.Rows.{TableRows}
-use Rattle.fdr_readout.specs.Summary.{summary_of}
 use Rattle.fdr_readout.specs.declared.tally.Summary.{Summary}
 use Rattle.fdr_top.specs.Stages.{EndsRecording, IsPastTable}
 use Rattle.fdr_recorder.specs.NewBlocks.{new_blocks}
 use Rattle.fdr_top.specs.Record.{ListsSurvivors, ListsUndamaged, RecordsStream}
-use Rattle.fdr_top.specs.Refusals.{RefusesImage}
-use Rattle.fdr_recover.specs.Payloads.{payloads_of, run_in}
+use Rattle.fdr_top.specs.Refusals.{RefusesImage, RefusesOldImage}
+use Rattle.fdr_recover.specs.ImageHeader.{header_in}
+use Rattle.fdr_recover.specs.Payloads.{run_in}
+use Rattle.fdr_top.specs.Sessions.{summary_of_blocks}
 use Rattle.fdr_top.specs.declared.outcome.Outcome.{Outcome}
 use Rattle.fdr_top.specs.declared.outcome.Outcome.TheVariants as outcome
 
@@ -26,13 +27,14 @@ drill_text blocks s =
 
 -- the line of a drill that leaves this image, where it recorded `blocks` blocks
 abbrev pub drill_line : TableRows → ℕ → List ℕ → List ℕ
-drill_line t blocks image = drill_text blocks (summary_of t (payloads_of (run_in image)))
+drill_line t blocks image = drill_text blocks (summary_of_blocks t (header_in image).version (run_in image))
 
 -- The trace of a seed was recorded, and the line written.
 pub record DrillsImage (t : TableRows) (seed frames : ℕ) (tells : Tells) (old new : State) (written_before written_now : Option (List ℕ))
     (answer : Outcome) : Type 0 where
   pub blocks : RecordsStream t tells (generated_trace t seed frames) old new answer
   pub image : RefusesImage t tells old new answer
+  pub old_image : RefusesOldImage t tells old answer
   pub text : answer ≡ outcome.Done → IsTrue tells.bytes → written_now
       ≡ followed_by written_before (drill_line t (length (new_blocks t old.held (generated_trace t seed frames))) new.held)
   pub part : answer ≡ outcome.WriteFault → IsTrue tells.bytes → (k : ℕ) × (written_now ≡ followed_by written_before

@@ -25,6 +25,7 @@ source_answer (source.Stopped why) = answer_of_stop why
 abbrev pub session_refusal : SessionFault → Outcome
 session_refusal (session.Image why) = outcome.ImageRefused why
 session_refusal (session.WordsDiffer image table) = outcome.WordsDiffer image table
+session_refusal session.OldVersion = outcome.OldVersion
 session_refusal session.DiskFault = outcome.DiskFault
 session_refusal session.SeqEnd = outcome.SeqEnd
 session_refusal session.NoMemory = outcome.NoMemory

@@ -13,7 +13,7 @@ use Rattle.fdr_top.specs.declared.outcome.Outcome.TheVariants as outcome
 
 -- the header of a new image
 abbrev pub new_header : ℕ → ℕ → ℕ → Header
-new_header slots payload words = record { slots = slots; payload = payload; words = words; version = 1 }
+new_header slots payload words = record { slots = slots; payload = payload; words = words; version = 2 }
 
 -- The image with this header was made, or the answer says why it wasn't.
 pub record Makes (h : Header) (tells : Tells) (old new : State) (answer : Outcome) : Type 0 where

@@ -15,6 +15,9 @@ pub mod Decode
 pub mod Stream
 pub mod Format
 pub mod Recover
+pub mod Upgrade
+pub mod Sessions
+pub mod SessionsTaken
 pub mod Record
 pub mod List
 pub mod Drill

@@ -1,4 +1,4 @@
--- What `list` promises: the listing of the bits of the recovered run of what the disk holds.
+-- What `list` promises: the listing of the blocks of the recovered run of what the disk holds.
 use Rattle.std.specs.Prelude.{◌≡◌, ◌⊎◌, ◌≤◌, ℕ, List, [], Option, IsTrue, take}
 use Rattle.fdr_io.specs.Told.{followed_by}
 use Rattle.fdr_deck.specs.State.{State, Tells}
@@ -8,18 +8,18 @@ use Rattle.fdr_recover.specs.ImageHeader.{header_in, IsFor}
 use Rattle.fdr_recover.specs.declared.error.HeaderFault.{HeaderFault}
 use Rattle.fdr_recover.specs.declared.error.HeaderFault.TheVariants as header
 use Rattle.fdr_table.specs.Rows.{TableRows}
-use Rattle.fdr_readout.specs.Listing.{listing_of}
 use Rattle.fdr_readout.specs.Reading.{ReadsEvents, decided_past}
 use Rattle.fdr_top.specs.Refusals.{RefusesImage}
-use Rattle.fdr_recover.specs.Payloads.{payloads_of, run_in}
+use Rattle.fdr_recover.specs.Payloads.{run_in}
 use Rattle.fdr_top.specs.Recover.{OnlyLooks}
+use Rattle.fdr_top.specs.Sessions.{listing_of_blocks}
 use Rattle.fdr_top.specs.declared.listing.ImageReader.{ImageReader}
 use Rattle.fdr_top.specs.declared.outcome.Outcome.{Outcome}
 use Rattle.fdr_top.specs.declared.outcome.Outcome.TheVariants as outcome
 
--- the listing of the bits of an image's run
+-- the listing of the blocks of an image's run
 abbrev pub listing_in : TableRows → List ℕ → List ℕ
-listing_in t image = listing_of t (payloads_of (run_in image))
+listing_in t image = listing_of_blocks t (header_in image).version (run_in image)
 
 -- The image was listed: what was written, and which refusal is answered.
 pub record ListsImage (t : TableRows) (tells : Tells) (old new : State) (written_before written_now : Option (List ℕ)) (answer : Outcome) : Type 0 where
@@ -58,4 +58,5 @@ RefusesOpening outcome.WriteFault = ⊥
 RefusesOpening outcome.DiskFault = Unit {0}
 RefusesOpening outcome.TooLong = ⊥
 RefusesOpening outcome.NoMemory = Unit {0}
+RefusesOpening outcome.OldVersion = ⊥
 RefusesOpening (outcome.CellFault at) = ⊥

@@ -21,6 +21,7 @@ status_of outcome.WriteFault = 9
 status_of outcome.DiskFault = 10
 status_of outcome.TooLong = 11
 status_of outcome.NoMemory = 12
+status_of outcome.OldVersion = 13
 status_of (outcome.CellFault at) = 14
 
 -- which input can't be read
@@ -47,4 +48,5 @@ text_of outcome.WriteFault = codes "fdr: output cannot be written"
 text_of outcome.DiskFault = codes "fdr: disk fault"
 text_of outcome.TooLong = codes "fdr: input too long"
 text_of outcome.NoMemory = codes "fdr: no memory"
+text_of outcome.OldVersion = codes "fdr: image is version 1"
 text_of (outcome.CellFault at) = codes "fdr: no transition at level " ++ decimal at

@@ -1,5 +1,5 @@
 -- What `record` promises: the blocks of a trace in an image, at every moment and in the end.
-use Rattle.std.specs.Prelude.{◌≡◌, ◌⊎◌, ◌≤◌, ℕ, ◌-◌, List, [], length, Some, IsTrue}
+use Rattle.std.specs.Prelude.{◌≡◌, ◌⊎◌, ◌<◌, ◌≤◌, ℕ, ◌-◌, List, [], length, Some, IsTrue}
 use Rattle.fdr_io.specs.declared.Input.TheVariants as input
 use Rattle.fdr_bus.specs.declared.BusRecord.{BusRecord}
 use Rattle.fdr_bus.specs.declared.TraceFault.{TraceFault}
@@ -12,7 +12,8 @@ use Rattle.fdr_trace.specs.Pulls.{PullsUntilDecided}
 use Rattle.fdr_recorder.specs.Lag.{IsLagMoment}
 use Rattle.fdr_recorder.specs.NewBlocks.{MayRecord, RecordsBlocks, new_blocks, next_in, owed_number}
 use Rattle.fdr_top.specs.Stages.{EndsReading, EndsRecording, IsPastTable}
-use Rattle.fdr_top.specs.Refusals.{RefusesImage}
+use Rattle.fdr_top.specs.Refusals.{RefusesImage, RefusesOldImage}
+use Rattle.fdr_top.specs.Sessions.{IsLastSession}
 use Rattle.fdr_top.specs.Traces.{EndsTrace}
 use Rattle.fdr_readout.specs.Listing.{listing_of}
 use Rattle.fdr_readout.specs.SampledRows.{sampled_listing}
@@ -29,11 +30,13 @@ RecordsStream t tells records old new answer = RecordsBlocks t tells records old
 abbrev pub ListsSurvivors : TableRows → List BusRecord → Type 0
 ListsSurvivors t records = (b : List ℕ) (q j m : ℕ) → Survives t records b q j m → AreListed t records b q j m
 
--- A recording of these records on an empty ring that has room for it lists as what was sampled.
+-- A recording of these records in an image that has room for it is the last session of the held run, and lists as what was
+-- sampled, whatever the image held before.
 abbrev pub ListsUndamaged : TableRows → Tells → List BusRecord → State → State → Type 0
-ListsUndamaged t tells records old new = IsTrue tells.bytes → run_in old.held ≡ []
+ListsUndamaged t tells records old new = IsTrue tells.bytes → 0 < length (new_blocks t old.held records)
     → length (new_blocks t old.held records) ≤ (header_in old.held).slots - 1
-    → listing_of t (payloads_of (run_in new.held)) ≡ sampled_listing t records
+    → IsLastSession (new_blocks t old.held records) (run_in new.held)
+    × (listing_of t (payloads_of (new_blocks t old.held records)) ≡ sampled_listing t records)
 
 -- All that `record` promises of a table: the recording of the trace of which these bytes were pulled, which refusal of the image
 -- is answered, how the trace ended, and that what was recorded can be read back.
@@ -42,6 +45,7 @@ pub record RecordsTrace (t : TableRows) (tells : Tells) (old new : State) (answe
   pub pulls : PullsUntilDecided tells old new [] pulled
   pub blocks : RecordsStream t tells (good_prefix pulled) old new answer
   pub image : RefusesImage t tells old new answer
+  pub old_image : RefusesOldImage t tells old answer
   -- What is owed for the records before the last pull is announced.
   pub in_time : MayRecord old
       → EachMoment tells old new (IsLagMoment (owed_number t (header_in old.held) (next_in old.held)) old pulled)

@@ -3,7 +3,7 @@ use Rattle.std.specs.Prelude.{◌≡◌, ◌≢◌, ◌⊎◌, ◌↔◌, ◌<�
 use Rattle.fdr_deck.specs.State.{State, Tells}
 use Rattle.fdr_slot.specs.declared.image.ImageFault.{ImageFault}
 use Rattle.fdr_slot.specs.declared.image.ImageFault.TheVariants as fault
-use Rattle.fdr_recover.specs.ImageHeader.{image_fault_of, IsFor}
+use Rattle.fdr_recover.specs.ImageHeader.{image_fault_of, header_in, IsFor}
 use Rattle.fdr_table.specs.Rows.{TableRows}
 use Rattle.fdr_top.specs.Stages.{IsPastTable}
 use Rattle.fdr_top.specs.declared.outcome.Outcome.{Outcome}
@@ -25,6 +25,12 @@ pub record RefusesImage (t : TableRows) (tells : Tells) (old new : State) (answe
       → (table ≡ t.frame.words) × (image ≢ table) × (IsTrue tells.bytes → IsFor image old.held)
   pub words_always : (image : ℕ) → IsPastTable answer → IsTrue tells.bytes → IsFor image old.held → image ≢ t.frame.words
       → (answer ≡ outcome.WordsDiffer image t.frame.words) ⊎ (answer ≡ outcome.DiskFault)
+
+-- An image of version 1 for the table's frames isn't recorded in, unless the disk failed.
+pub record RefusesOldImage (t : TableRows) (tells : Tells) (old : State) (answer : Outcome) : Type 0 where
+  pub version : answer ≡ outcome.OldVersion → IsTrue tells.bytes → IsFor t.frame.words old.held × ((header_in old.held).version ≡ 1)
+  pub version_always : IsPastTable answer → IsTrue tells.bytes → IsFor t.frame.words old.held → (header_in old.held).version ≡ 1
+      → (answer ≡ outcome.OldVersion) ⊎ (answer ≡ outcome.DiskFault)
 
 -- The header of the image was read, and it has no fault.
 pub record HasHeader (tells : Tells) (old new : State) : Type 0 where

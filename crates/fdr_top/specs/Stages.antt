@@ -38,6 +38,7 @@ stage_of outcome.WriteFault = at_work output_cut
 stage_of outcome.DiskFault = at_work recording_cut
 stage_of outcome.TooLong = at_work input_too_long
 stage_of outcome.NoMemory = out_of_memory
+stage_of outcome.OldVersion = at_image
 stage_of (outcome.CellFault at) = at_work input_without_cells
 
 -- the words and the table are right

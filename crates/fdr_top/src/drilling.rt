@@ -11,20 +11,21 @@ ghost use Rattle.fdr_recover.specs.Images.{recovered_run};
 ghost use Rattle.fdr_recover.specs.Looks.{Looks};
 ghost use Rattle.fdr_gen.specs.Trace.{most_frames};
 ghost use Rattle.fdr_readout.specs.Reading.{ReadsEvents, decided_past};
-ghost use Rattle.fdr_readout.specs.Summary.{no_summary, summary_of};
+ghost use Rattle.fdr_readout.specs.Summary.{no_summary};
 ghost use Rattle.fdr_table.specs.Ranges.{IsInRange};
 ghost use Rattle.fdr_check.specs.Soundness.{IsSound};
 ghost use Rattle.fdr_words.specs.Forms.{drill_image};
 ghost use Rattle.fdr_top.specs.Stages.{WritesNothing};
 ghost use Rattle.fdr_top.specs.Answers.{IsOwn, KeepsInputAndFaults};
 ghost use Rattle.fdr_top.specs.Drill.{DrillsImage, drill_text, field_text};
-ghost use Rattle.fdr_recover.specs.Payloads.{payloads_of};
 ghost use Rattle.fdr_top.specs.Commands.{Works};
+ghost use Rattle.fdr_top.specs.Sessions.{summary_of_blocks};
 ghost use Rattle.fdr_top.specs.Refusals.{HasHeader};
 
 use crate::ends::session_refusal;
-use crate::listing::{BlockReader, ImageReader, open_image, take_blocks};
+use crate::listing::{ImageReader, open_image};
 use crate::outcome::Outcome;
+use crate::sessions::{BlockReader, take_blocks};
 use fdr_check::Sound;
 use fdr_deck::Deck;
 use fdr_gen::Gen;
@@ -73,14 +74,16 @@ fn write_summary<D: Deck, O: Sink>(
 ) -> Outcome
     requires table { reader.old.table.now ≡ sound.now }
     requires fresh { ReadsEvents reader.old.table.now reader.old.events (decided_past reader.old.table.now.frame.words []) }
+    requires unopened { reader.old.open_session ≡ None }
+    requires version { reader.old.version ≡ header.now.version }
     requires nothing { reader.old.taker ≡ no_summary }
     requires limits { IsInLimits header.now }
     requires whole { image_size header.now ≤ (D.state deck.old).extent }
     ensures answer { (result ≡ Outcome.Done) ⊎ ((result ≡ Outcome.WriteFault) ⊎ (result ≡ Outcome.DiskFault)) }
     ensures text { result ≡ Outcome.Done → IsTrue D.tells.bytes → O.written out.new ≡ followed_by (O.written out.old)
-        (drill_text blocks (summary_of sound.now (payloads_of (recovered_run header.now (D.state deck.old).held)))) }
+        (drill_text blocks (summary_of_blocks sound.now header.now.version (recovered_run header.now (D.state deck.old).held))) }
     ensures part { result ≡ Outcome.WriteFault → IsTrue D.tells.bytes → (k : ℕ) × (O.written out.new ≡ followed_by (O.written out.old)
-        (take k (drill_text blocks (summary_of sound.now (payloads_of (recovered_run header.now (D.state deck.old).held)))))) }
+        (take k (drill_text blocks (summary_of_blocks sound.now header.now.version (recovered_run header.now (D.state deck.old).held))))) }
     ensures looks { Looks D.tells (D.state deck.old) (D.state deck.new) }
     ensures unread { result ≡ Outcome.DiskFault → out.new ≡ out.old }
     ensures disk_fault { result ≡ Outcome.DiskFault
@@ -146,6 +149,8 @@ fn drill_image<D: Deck, O: Sink>(
     let mut reader = BlockReader {
         events,
         table: sound.table(),
+        version: header.version,
+        open_session: None,
         taker: Summary::new(),
     };
     write_summary(&header, &mut reader, sound, recorded.blocks, deck, out)

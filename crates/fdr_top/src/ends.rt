@@ -35,6 +35,7 @@ pub fn session_refusal(fault: SessionFault) -> Outcome
     match fault {
         SessionFault::Image(fault) => Outcome::ImageRefused(fault),
         SessionFault::WordsDiffer { image, table } => Outcome::WordsDiffer { image, table },
+        SessionFault::OldVersion => Outcome::OldVersion,
         SessionFault::DiskFault => Outcome::DiskFault,
         SessionFault::SeqEnd => Outcome::SeqEnd,
         SessionFault::NoMemory => Outcome::NoMemory,

@@ -23,7 +23,7 @@ fn new_header(sound: &Sound, slots: u32, payload: u32) -> Header
         slots,
         payload,
         words: sound.table().frame().words,
-        version: 1,
+        version: 2,
     }
 }
 

@@ -17,8 +17,10 @@ mod load;
 mod outcome;
 mod recording;
 mod recovering;
+mod sessions;
 mod streaming;
 mod top;
+mod upgrading;
 
 pub use outcome::Outcome;
 pub use top::run;

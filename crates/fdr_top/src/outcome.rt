@@ -53,6 +53,8 @@ pub enum Outcome {
     TooLong,
     /// There was not enough memory.
     NoMemory,
+    /// The image is of version 1, and only one of version 2 is recorded in.
+    OldVersion,
     /// The level doesn't change at a place where a cell would begin, wherever the input's cells began; the bits before it
     /// were written.
     CellFault {
@@ -80,6 +82,7 @@ impl Outcome {
             Outcome::DiskFault => 10,
             Outcome::TooLong => 11,
             Outcome::NoMemory => 12,
+            Outcome::OldVersion => 13,
             Outcome::CellFault { .. } => 14,
         }
     }
@@ -104,6 +107,7 @@ impl Outcome {
             Outcome::DiskFault => line.add(b"fdr: disk fault"),
             Outcome::TooLong => line.add(b"fdr: input too long"),
             Outcome::NoMemory => line.add(b"fdr: no memory"),
+            Outcome::OldVersion => line.add(b"fdr: image is version 1"),
             Outcome::CellFault { at } => {
                 line.add(b"fdr: no transition at level ");
                 line.add_number(*at);

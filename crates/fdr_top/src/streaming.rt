@@ -31,8 +31,11 @@ use std::alloc::Global;
 /// How many bytes of the stream are written at a time.
 const PAYLOAD: usize = MAX_PAYLOAD;
 
-/// More blocks than a recording has.
-const MANY_BLOCKS: u32 = 1_000_000;
+/// The seconds of the longest recording.
+const MAX_SECONDS: u32 = 1_440_000;
+
+/// More blocks than a recording has: a second has at most 1,024 words of 12 bits, which fill three eighths of a block.
+const MANY_BLOCKS: u32 = MAX_SECONDS * 3 / 8 + 1;
 
 /// What is kept while a trace is streamed. It takes all its memory when it is made.
 #[derive(Drop)]

@@ -27,6 +27,7 @@ use crate::outcome::Outcome;
 use crate::recording::record;
 use crate::recovering::recover;
 use crate::streaming::stream;
+use crate::upgrading::upgrade;
 use fdr_check::Sound;
 use fdr_deck::Deck;
 use fdr_io::{Sink, Source};
@@ -69,7 +70,10 @@ fn work<D: Deck, O: Sink>(
         Request::RecordLine { .. } => record(alloc, sound, deck),
         Request::ListImage { .. } => list(alloc, sound, deck, out),
         Request::Drill { seed, frames, .. } => drill(alloc, sound, *seed, *frames, deck, out),
-        Request::Encode | Request::Decode | Request::RecoverImage { .. } => unreachable!(),
+        Request::Encode
+        | Request::Decode
+        | Request::RecoverImage { .. }
+        | Request::Upgrade { .. } => unreachable!(),
     }
 }
 
@@ -109,6 +113,7 @@ fn carry_out<T: Source, D: Deck, O: Sink>(
         Request::Encode => encode(alloc, deck, out),
         Request::Decode => decode(alloc, deck, out),
         Request::RecoverImage { .. } => recover(alloc, deck, out),
+        Request::Upgrade { .. } => upgrade(deck),
         _ => match load_table(alloc, table) {
             Ok(sound) => work(alloc, request, &sound, deck, out),
             Err(answer) => answer,
@@ -126,6 +131,7 @@ fn carry_out<T: Source, D: Deck, O: Sink>(
 /// - `format TABLE IMAGE` makes an image without blocks on the deck's disk.
 /// - `record TABLE IMAGE` pulls a trace and records its stream in the image on the disk.
 /// - `recover IMAGE` writes the payloads of the blocks that the image holds.
+/// - `upgrade IMAGE` makes an image of version 1 one of version 2, in which can be recorded.
 /// - `list TABLE IMAGE` writes the listing of the bits of these payloads.
 /// - `drill TABLE IMAGE` records a generated trace in the image, and writes a line of what the image then lists as.
 ///

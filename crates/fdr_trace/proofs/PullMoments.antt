@@ -59,12 +59,10 @@ KeepsDeck-kept tells a b c first disk told line time = KeepsDeck-then tells a b 
 pub IsNeededPull-more : (start : ℕ) (bytes more later : List ℕ) (records : List BusRecord) (before taken : ℕ)
     → IsNeededPull start bytes more records before taken → IsNeededPull start bytes (more ++ later) records before taken
 IsNeededPull-more start bytes more later records before taken last =
-    let inside : before - start ≤ length more = omega (arith, last.begins, last.gave_bytes, last.within) in
+    let inside : before - start ≤ length more = omega (arith, last.pull.begins, last.pull.gave_bytes, last.within) in
     let front = ap (λ (x : List ℕ). bytes ++ x) (take-append-le (before - start) more later inside) in
     record {
-      begins = last.begins;
-      gave_bytes = last.gave_bytes;
-      within_piece = last.within_piece;
+      pull = last.pull;
       within = omega (arith, last.within, length-append more later);
       read = ap good_prefix front ∙ last.read;
       undecided = λ decided. last.undecided (subst IsDecided front decided);
@@ -101,9 +99,11 @@ IsNeededPull-pull tells a b c k bytes more piece records taken reads waits few p
     let front : take (c.pulled_before - a.taken) (more ++ piece) ≡ more = take_at more piece (c.pulled_before - a.taken) n in
     let before = ap (λ (x : List ℕ). bytes ++ x) front in
     record {
-      begins = omega (arith, began, taken);
-      gave_bytes = omega (arith, began, pull.takes.taken, some);
-      within_piece = omega (arith, began, pull.takes.taken, pull.within_piece);
+      pull = record {
+        begins = omega (arith, began, taken);
+        gave_bytes = omega (arith, began, pull.takes.taken, some);
+        within_piece = omega (arith, began, pull.takes.taken, pull.within_piece);
+      };
       within = omega (arith, taken, pull.takes.taken, length-append more piece);
       read = ap good_prefix before ∙ Reads-good k (bytes ++ more) records reads waits;
       undecided = λ decided. Reads-undecided k (bytes ++ more) records reads waits few (subst IsDecided before decided);

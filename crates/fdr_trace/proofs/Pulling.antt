@@ -33,9 +33,7 @@ pub PullsUntilDecided-none : (tells : Tells) (s : State) (bytes : List ℕ) → 
 PullsUntilDecided-none tells s bytes = record {
   takes = TakesInput-from_keeps tells s s (record { input = refl; taken = refl; pulled_before = refl });
   none = λ e. refl;
-  begins = λ some. absurd (omega (arith, some));
-  gave_bytes = λ some. absurd (omega (arith, some));
-  within_piece = λ some. absurd (omega (arith, some));
+  last = λ some. absurd (omega (arith, some));
   undecided = λ some. absurd (omega (arith, some));
   faults = omega arith;
 }
@@ -61,25 +59,26 @@ pub PullsUntilDecided-then : (tells : Tells) (a b c : State) (bytes more later :
 PullsUntilDecided-then tells a b c bytes more later first second = record {
   takes = TakesInput-then tells a b c more later first.takes second.takes;
   none = λ e. second.none (omega (arith, length-append more later)) ∙ first.none (omega (arith, length-append more later));
-  begins = λ some. ⊎_elim
-      (λ here. omega (arith, second.begins here, first.takes.taken))
-      (λ none. let same = second.none (omega (arith, none)) in
-      let earlier = first.begins (omega (arith, length-append more later, none)) in omega (arith, same, earlier))
-      (cases_lt 0 (length later));
-  gave_bytes = λ some. ⊎_elim
-      (λ here. second.gave_bytes here)
-      (λ none. let same = second.none (omega (arith, none)) in
-      let earlier = first.gave_bytes (omega (arith, length-append more later, none)) in omega
-      (arith, same, earlier, second.takes.taken, none))
-      (cases_lt 0 (length later));
-  within_piece = λ some. ⊎_elim
-      (λ here. second.within_piece here)
-      (λ none. let same = second.none (omega (arith, none)) in
-      let earlier = first.within_piece (omega (arith, length-append more later, none)) in omega (arith, same, earlier, second.takes.taken, none))
+  last = λ some. ⊎_elim
+      (λ here.
+      let pull = second.last here in
+      record {
+        begins = omega (arith, pull.begins, first.takes.taken);
+        gave_bytes = pull.gave_bytes;
+        within_piece = pull.within_piece;
+      })
+      (λ none.
+      let same = second.none (omega (arith, none)) in
+      let pull = first.last (omega (arith, length-append more later, none, some)) in
+      record {
+        begins = omega (arith, same, pull.begins);
+        gave_bytes = omega (arith, same, pull.gave_bytes, second.takes.taken, none);
+        within_piece = omega (arith, same, pull.within_piece, second.takes.taken, none);
+      })
       (cases_lt 0 (length later));
   undecided = λ some decided. ⊎_elim
       (λ here.
-      let begins = second.begins here in
+      let begins = (second.last here).begins in
       let from : length more ≤ c.pulled_before - a.taken = omega (arith, begins, first.takes.taken) in
       let rest : c.pulled_before - a.taken - length more ≡ c.pulled_before - b.taken = omega (arith, begins, first.takes.taken) in
       second.undecided here (subst IsDecided (front_of_both bytes more later (c.pulled_before - a.taken) from ∙ ap (λ n. (bytes ++ more) ++ take n later) rest)
@@ -87,8 +86,6 @@ PullsUntilDecided-then tells a b c bytes more later first second = record {
       (λ none.
       let same = second.none (omega (arith, none)) in
       let some_first : 0 < length more = omega (arith, length-append more later, none) in
-      let begins = first.begins some_first in
-      let few = first.within_piece some_first in
       first.undecided some_first (subst IsDecided (ap (λ (x : List ℕ). bytes ++ x)
       (ap (λ n. take n (more ++ later)) (ap (λ n. n - a.taken) same) ∙ nothing_more more later (b.pulled_before - a.taken) (omega (arith, none)))) decided))
       (cases_lt 0 (length later));
@@ -103,9 +100,11 @@ PullsUntilDecided-pull tells a b c bytes more piece first undecided pull faults 
     PullsUntilDecided-then tells a b c bytes more piece first (record {
       takes = pull.takes;
       none = pull.none;
-      begins = λ some. omega (arith, pull.began some);
-      gave_bytes = λ some. omega (arith, pull.began some, pull.takes.taken, some);
-      within_piece = λ some. omega (arith, pull.began some, pull.takes.taken, pull.within_piece);
+      last = λ some. record {
+        begins = omega (arith, pull.began some);
+        gave_bytes = omega (arith, pull.began some, pull.takes.taken, some);
+        within_piece = omega (arith, pull.began some, pull.takes.taken, pull.within_piece);
+      };
       undecided = λ some decided. undecided (subst IsDecided
           (ap (λ (x : List ℕ). (bytes ++ more) ++ x) (ap (λ n. take n piece) (front_none b.taken c.pulled_before (pull.began some))) ∙ append-nil
           (bytes ++ more))
@@ -121,9 +120,7 @@ PullsUntilDecided-kept tells a b c bytes more first kept faults =
     (PullsUntilDecided-then tells a b c bytes more [] first (record {
       takes = TakesInput-from_keeps tells b c kept;
       none = λ e. kept.pulled_before;
-      begins = λ some. absurd (omega (arith, some));
-      gave_bytes = λ some. absurd (omega (arith, some));
-      within_piece = λ some. absurd (omega (arith, some));
+      last = λ some. absurd (omega (arith, some));
       undecided = λ some. absurd (omega (arith, some));
       faults = faults;
     }))

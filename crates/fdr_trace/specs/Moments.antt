@@ -1,18 +1,16 @@
 -- The moments of a call that reads the next record of a trace.
 use Rattle.std.specs.Prelude.{◌≡◌, ◌⊎◌, ℕ, ◌+◌, ◌-◌, ◌<◌, ◌≤◌, List, ◌++◌, length, take}
-use Rattle.fdr_io.specs.Limits.{piece_bytes}
 use Rattle.fdr_bus.specs.declared.BusRecord.{BusRecord}
 use Rattle.fdr_bus.specs.Records.{IsDecided, good_prefix}
 use Rattle.fdr_deck.specs.State.{State, Tells, Moment}
 use Rattle.fdr_deck.specs.Moments.{HasSamePulls, EachMoment}
+use Rattle.fdr_deck.specs.Pull.{IsLastPull}
 
 -- After these bytes, which were pulled up to `start`, more were pulled, and by the last pull that gave bytes those from
 -- `before` to `taken`. No whole record was kept back then: the good ones of the bytes before that pull are those that had
 -- been read, and these bytes don't decide the trace.
 pub record IsNeededPull (start : ℕ) (bytes more : List ℕ) (records : List BusRecord) (before taken : ℕ) : Type 0 where
-  pub begins : start ≤ before
-  pub gave_bytes : before < taken
-  pub within_piece : taken ≤ before + piece_bytes
+  pub pull : IsLastPull start before taken
   pub within : taken ≤ start + length more
   pub read : good_prefix (bytes ++ take (before - start) more) ≡ records
   pub undecided : IsDecided (bytes ++ take (before - start) more) → ⊥

@@ -3,7 +3,7 @@ use Rattle.std.specs.Prelude.{◌≡◌, ℕ, ◌+◌, ◌-◌, ◌<◌, ◌≤�
 use Rattle.fdr_io.specs.Limits.{piece_bytes}
 use Rattle.fdr_bus.specs.Records.{IsDecided}
 use Rattle.fdr_deck.specs.State.{State, Tells}
-use Rattle.fdr_deck.specs.Pull.{TakesInput}
+use Rattle.fdr_deck.specs.Pull.{IsLastPull, TakesInput}
 
 -- one pull that gave these bytes, at most 4,096 of them; none only at the input's end
 pub record PullsPiece (tells : Tells) (old new : State) (piece : List ℕ) : Type 0 where
@@ -19,8 +19,6 @@ pub record PullsPiece (tells : Tells) (old new : State) (piece : List ℕ) : Typ
 pub record PullsUntilDecided (tells : Tells) (old new : State) (bytes more : List ℕ) : Type 0 where
   pub takes : TakesInput tells old new more
   pub none : length more ≡ 0 → new.pulled_before ≡ old.pulled_before
-  pub begins : 0 < length more → old.taken ≤ new.pulled_before
-  pub gave_bytes : 0 < length more → new.pulled_before < new.taken
-  pub within_piece : 0 < length more → new.taken ≤ new.pulled_before + piece_bytes
+  pub last : 0 < length more → IsLastPull old.taken new.pulled_before new.taken
   pub undecided : 0 < length more → IsDecided (bytes ++ take (new.pulled_before - old.taken) more) → ⊥
   pub faults : old.input_faults ≤ new.input_faults

@@ -38,6 +38,8 @@ pub enum TraceStop {
 #[derive(Drop)]
 pub struct TraceLine {
     waiting: HeapCircularBuffer<u8>,
+    /// Room for the piece that is pulled.
+    piece: [u8; PIECE],
     time: u64,
     count: u64,
 }
@@ -62,6 +64,7 @@ impl TraceLine {
         let waiting = HeapCircularBuffer::with_capacity(alloc, RECORD + PIECE)?;
         Ok(TraceLine {
             waiting,
+            piece: [0; PIECE],
             time: 0,
             count: 0,
         })
@@ -174,8 +177,7 @@ impl TraceLine {
         Ok(())
     }
 
-    /// Pulls a piece after what waits, and answers how many bytes came; none only at the input's end. It has room for the
-    /// piece on the stack, which the calls that pull nothing don't pay for.
+    /// Pulls a piece after what waits, and answers how many bytes came; none only at the input's end.
     #[inline(never)]
     fn pull<D: Deck>(&mut self, deck: &mut D) -> Result<usize, Failed>
         requires room { length self.old.waiting ≤ 16 }
@@ -194,9 +196,8 @@ impl TraceLine {
         ensures kept_time { self.new.time ≡ self.old.time }
         ensures kept_count { self.new.count ≡ self.old.count }
     {
-        let mut piece = [0; PIECE];
-        let n = deck.pull(&mut piece)?;
-        self.waiting.fill_from_slice(&piece[..n]);
+        let n = deck.pull(&mut self.piece)?;
+        self.waiting.fill_from_slice(&self.piece[..n]);
         Ok(n)
     }
 

@@ -19,7 +19,7 @@ pub record IsServed (side : Side) (P : List ℕ → Type 0) (old : Pair) (m : Pa
   pub taken : m.taken ≡ old.taken
   pub pulled_before : m.pulled_before ≡ old.pulled_before
 
--- quiet calls of one side, which leave the other
+-- calls that work on the disk of one side alone, announce nothing and pull nothing, and leave the other side
 pub record Serves (tells : Tells) (side : Side) (P : List ℕ → Type 0) (old new : Pair) : Type 0 where
   pub turned : new.turned ≡ side
   pub disk_work : IsDiskWork tells P (seen side old) (seen side new)

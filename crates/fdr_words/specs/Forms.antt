@@ -15,6 +15,7 @@ pub data Form : Type 0 where
   record_line : (table image : List ℕ) → Form
   recover_image : (image : List ℕ) → Form
   list_image : (table image : List ℕ) → Form
+  upgrade_image : (image : List ℕ) → Form
   drill_image : (table image : List ℕ) (seed frames : ℕ) → Form
 
 -- the form of a command with no path and no options
@@ -31,6 +32,7 @@ path_form command path =
     else if bytes_eq command (codes "stream") then Some (stream_line path)
     else if bytes_eq command (codes "listbits") then Some (list_bits path)
     else if bytes_eq command (codes "recover") then Some (recover_image path)
+    else if bytes_eq command (codes "upgrade") then Some (upgrade_image path)
     else None
 
 -- the form of a command with two paths and no options
@@ -87,7 +89,7 @@ abbrev pub form_of_uses : Uses → Option Form
 form_of_uses u = form_with u.plain u.slots u.payload u.seed u.frames
 
 -- the form that the arguments are of: `encode`, `decode`, `check TABLE`, `stream TABLE`, `listbits TABLE`, `recover IMAGE`,
--- `record TABLE IMAGE`, `list TABLE IMAGE`, `format TABLE IMAGE --slots N --payload P` or
+-- `upgrade IMAGE`, `record TABLE IMAGE`, `list TABLE IMAGE`, `format TABLE IMAGE --slots N --payload P` or
 -- `drill TABLE IMAGE --seed S --frames F`, with the options anywhere
 unfoldable pub form_of : List (List ℕ) → Option Form
 form_of args = option_and_then form_of_uses (uses_of args)
@@ -99,12 +101,13 @@ pub data InputUse : Type 0 where
   takes_bits : InputUse
   takes_levels : InputUse
 
--- what a command does with an image: it has none, makes it, records in it, or only reads it
+-- what a command does with an image: it has none, makes it, records in it, only reads it, or upgrades it
 pub data ImageUse : Type 0 where
   has_no_image : ImageUse
   makes_image : ImageUse
   records_in_image : ImageUse
   reads_image : ImageUse
+  upgrades_image : ImageUse
 
 -- What a command uses: the paths of its table and of its image, where it has them; what it takes of the input line, and does with
 -- the image; whether the image has to be for the table's words; and whether it writes text.
@@ -135,6 +138,8 @@ command_uses (recover_image image) =
     record { table = None; image = Some image; input = takes_nothing; work = reads_image; same_words = false; text = true }
 command_uses (list_image table image) =
     record { table = Some table; image = Some image; input = takes_nothing; work = reads_image; same_words = true; text = true }
+command_uses (upgrade_image image) =
+    record { table = None; image = Some image; input = takes_nothing; work = upgrades_image; same_words = false; text = false }
 command_uses (drill_image table image seed frames) =
     record { table = Some table; image = Some image; input = takes_nothing; work = records_in_image; same_words = true; text = true }
 
@@ -152,6 +157,7 @@ may_write has_no_image = false
 may_write makes_image = true
 may_write records_in_image = true
 may_write reads_image = false
+may_write upgrades_image = true
 
 -- whether the command may write the image
 abbrev pub writes_image : Form → Bool
@@ -169,4 +175,5 @@ IsInBounds (format_image table image slots payload) =
 IsInBounds (record_line table image) = Unit {0}
 IsInBounds (recover_image image) = Unit {0}
 IsInBounds (list_image table image) = Unit {0}
+IsInBounds (upgrade_image image) = Unit {0}
 IsInBounds (drill_image table image seed frames) = (seed ≤ most_seed) × (least_drill_frames ≤ frames) × (frames ≤ most_drill_frames)

@@ -1,6 +1,6 @@
 -- The form that a request stands for.
 use Rattle.fdr_words.specs.Forms.{Form, check_table, stream_line, list_bits, encode_bytes}
-use Rattle.fdr_words.specs.Forms.{decode_levels, format_image, record_line, recover_image, list_image, drill_image}
+use Rattle.fdr_words.specs.Forms.{decode_levels, format_image, record_line, recover_image, list_image, upgrade_image, drill_image}
 use Rattle.fdr_words.specs.declared.Request.{Request}
 use Rattle.fdr_words.specs.declared.Request.TheVariants as request
 
@@ -14,4 +14,5 @@ form_of_request (request.FormatImage table image slots payload) = format_image t
 form_of_request (request.RecordLine table image) = record_line table image
 form_of_request (request.RecoverImage image) = recover_image image
 form_of_request (request.ListImage table image) = list_image table image
+form_of_request (request.Upgrade image) = upgrade_image image
 form_of_request (request.Drill table image seed frames) = drill_image table image seed frames

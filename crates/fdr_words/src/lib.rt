@@ -66,6 +66,10 @@ pub enum Request {
         table: PathText,
         image: PathText,
     },
+    /// `upgrade IMAGE`: make an image of version 1 one of version 2.
+    Upgrade {
+        image: PathText,
+    },
     /// `drill TABLE IMAGE --seed S --frames F`: record a trace drawn from a seed in an image.
     Drill {
         table: PathText,
@@ -111,6 +115,7 @@ impl Request {
             Request::RecordLine { table, .. } => Some(table.text()),
             Request::RecoverImage { .. } => None,
             Request::ListImage { table, .. } => Some(table.text()),
+            Request::Upgrade { .. } => None,
             Request::Drill { table, .. } => Some(table.text()),
         }
     }
@@ -128,6 +133,7 @@ impl Request {
             Request::RecordLine { image, .. } => Some(image.text()),
             Request::RecoverImage { image } => Some(image.text()),
             Request::ListImage { image, .. } => Some(image.text()),
+            Request::Upgrade { image } => Some(image.text()),
             Request::Drill { image, .. } => Some(image.text()),
         }
     }
@@ -137,8 +143,10 @@ impl Request {
         ensures { result ≡ writes_image (form_of_request self.now) }
     {
         match self {
-            Request::FormatImage { .. } | Request::RecordLine { .. } | Request::Drill { .. } =>
-                true,
+            Request::FormatImage { .. }
+            | Request::RecordLine { .. }
+            | Request::Upgrade { .. }
+            | Request::Drill { .. } => true,
             Request::CheckTable { .. }
             | Request::StreamLine { .. }
             | Request::ListBits { .. }
@@ -194,11 +202,15 @@ fn path_request(alloc: Global, command: &str, path: &str) -> Result<Request, Wor
         let table = PathText::new(alloc, path)?;
         return Ok(Request::ListBits { table });
     }
-    if command != "recover" {
+    if command == "recover" {
+        let image = PathText::new(alloc, path)?;
+        return Ok(Request::RecoverImage { image });
+    }
+    if command != "upgrade" {
         return Err(WordsFault::Usage);
     }
     let image = PathText::new(alloc, path)?;
-    Ok(Request::RecoverImage { image })
+    Ok(Request::Upgrade { image })
 }
 
 /// What the arguments of a command with two paths and no options ask for.

@@ -1,6 +1,6 @@
 use Rattle.std.proofs.Common.{refl, arith}
 use Rattle.fdr_words.specs.Forms.{check_table, decode_levels, drill_image, encode_bytes, format_image}
-use Rattle.fdr_words.specs.Forms.{list_bits, list_image, record_line, recover_image, stream_line}
+use Rattle.fdr_words.specs.Forms.{list_bits, list_image, record_line, recover_image, stream_line, upgrade_image}
 use Rattle.fdr_sure.proofs.Makings.{faultless, making_sure}
 use Rattle.fdr_sure.proofs.sure_command.Goals as goal
 
@@ -38,6 +38,12 @@ pub returns-clause-recovery : goal.returns-clause-recovery
 returns-clause-recovery c = λ path is good.
     (rw is at c.run.ensures.runs).complete (λ t. (refl, good))
     (faultless (recover_image path) _ (λ rose. omega (arith, rose)) (λ rose. omega (arith, rose))
+    (λ rose. omega (arith, rose)) (λ rose. omega (arith, rose)))
+
+pub returns-clause-upgrade : goal.returns-clause-upgrade
+returns-clause-upgrade c = λ path is good.
+    (rw is at c.run.ensures.runs).complete (λ t. (refl, good))
+    (faultless (upgrade_image path) _ (λ rose. omega (arith, rose)) (λ rose. omega (arith, rose))
     (λ rose. omega (arith, rose)) (λ rose. omega (arith, rose)))
 
 pub returns-clause-recording : goal.returns-clause-recording

@@ -1,7 +1,30 @@
-use Rattle.std.proofs.Common.{◌∙◌}
+use Rattle.std.proofs.Common.{◌≡◌, ◌∙◌, ℕ, List, ap, sym}
+use Rattle.fdr_recover.specs.Images.{next_of, recovered_run}
+use Rattle.fdr_recover.specs.Stretches.{last_session}
 use Rattle.fdr_ring.specs.Rings.{IsAttaching}
+use Rattle.fdr_twin.specs.Pair.{disk_on}
+use Rattle.fdr_twin.proofs.Turns.{Turns-disk}
 use Rattle.fdr_pair.proofs.Sides.{serves_side, facing_side, IsSureRing-same}
+use Rattle.fdr_pair.proofs.look.attach_on.Given.{Over}
+use Rattle.fdr_pair.proofs.look.attach_on.Goals.{After-turn}
 use Rattle.fdr_pair.proofs.look.attach_on.Goals as goal
+
+-- what the twin's deck holds, once it is turned to the side
+turned_held : (g : Over) (c : After-turn g)
+    → (g.T.Deck.state c.turn.new.self).held ≡ (disk_on c.args.side (g.T.Twin.pair c.args.twin.now)).held
+turned_held g c =
+    let before = facing_side _ _ c.args.side (g.met.T.Twin.faces c.turn.new.self) c.turn.ensures.turns.turned in
+    sym before.held ∙ (Turns-disk c.args.side c.args.side _ _ c.turn.ensures.turns).held
+
+pub returns-clause-next : goal.returns-clause-next
+returns-clause-next g c told =
+    c.in_ok-ring.ensures.attached.next told
+    ∙ ap (λ (l : List ℕ). next_of c.args.h l) (turned_held g (goal.at.returns-clause-next g c).After-turn)
+
+pub returns-clause-session : goal.returns-clause-session
+returns-clause-session g c told =
+    c.in_ok-ring.ensures.session told
+    ∙ ap (λ (l : List ℕ). last_session (recovered_run c.args.h l)) (turned_held g (goal.at.returns-clause-session g c).After-turn)
 
 pub returns-in_err-ring-clause-serves : goal.returns-in_err-ring-clause-serves
 returns-in_err-ring-clause-serves g c =

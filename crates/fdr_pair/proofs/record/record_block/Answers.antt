@@ -5,28 +5,28 @@ use Rattle.fdr_pair.proofs.record.record_block.Goals as goal
 
 pub returns-clause-first_moments : goal.returns-clause-first_moments
 returns-clause-first_moments g c =
-    (first_going _ _ _ _ _ _ _ (g.met.T.Twin.sound_pair c.args.twin.now) (g.met.T.Twin.sound_pair c.put_unless_failed-first.new.twin)
+    (first_going _ _ _ _ _ _ _ _ (g.met.T.Twin.sound_pair c.args.twin.now) (g.met.T.Twin.sound_pair c.put_unless_failed-first.new.twin)
     (g.met.T.Twin.sound_pair c.put_unless_failed-second.new.twin) _ _ _ _ c.put_unless_failed-first.ensures c.put_unless_failed-second.ensures
     c.announce_living.ensures
     c.requires.greatest c.requires.first_ready c.requires.second_ready).moments
 
 pub returns-clause-second_moments : goal.returns-clause-second_moments
 returns-clause-second_moments g c =
-    (second_going _ _ _ _ _ _ _ (g.met.T.Twin.sound_pair c.args.twin.now) (g.met.T.Twin.sound_pair c.put_unless_failed-first.new.twin)
+    (second_going _ _ _ _ _ _ _ _ (g.met.T.Twin.sound_pair c.args.twin.now) (g.met.T.Twin.sound_pair c.put_unless_failed-first.new.twin)
     (g.met.T.Twin.sound_pair c.put_unless_failed-second.new.twin) _ _ _ _ c.put_unless_failed-first.ensures c.put_unless_failed-second.ensures
     c.announce_living.ensures
     c.requires.greatest c.requires.first_ready c.requires.second_ready).moments
 
 pub returns-clause-first_now : goal.returns-clause-first_now
 returns-clause-first_now g c =
-    (first_going _ _ _ _ _ _ _ (g.met.T.Twin.sound_pair c.args.twin.now) (g.met.T.Twin.sound_pair c.put_unless_failed-first.new.twin)
+    (first_going _ _ _ _ _ _ _ _ (g.met.T.Twin.sound_pair c.args.twin.now) (g.met.T.Twin.sound_pair c.put_unless_failed-first.new.twin)
     (g.met.T.Twin.sound_pair c.put_unless_failed-second.new.twin) _ _ _ _ c.put_unless_failed-first.ensures c.put_unless_failed-second.ensures
     c.announce_living.ensures
     c.requires.greatest c.requires.first_ready c.requires.second_ready).now
 
 pub returns-clause-second_now : goal.returns-clause-second_now
 returns-clause-second_now g c =
-    (second_going _ _ _ _ _ _ _ (g.met.T.Twin.sound_pair c.args.twin.now) (g.met.T.Twin.sound_pair c.put_unless_failed-first.new.twin)
+    (second_going _ _ _ _ _ _ _ _ (g.met.T.Twin.sound_pair c.args.twin.now) (g.met.T.Twin.sound_pair c.put_unless_failed-first.new.twin)
     (g.met.T.Twin.sound_pair c.put_unless_failed-second.new.twin) _ _ _ _ c.put_unless_failed-first.ensures c.put_unless_failed-second.ensures
     c.announce_living.ensures
     c.requires.greatest c.requires.first_ready c.requires.second_ready).now

@@ -1,12 +1,12 @@
-use Rattle.std.proofs.Common.{◌≡◌, ◌<◌, Some, length, [], ◌∷◌, ◌++◌, refl, sym, ap, ◌∙◌, subst, append_assoc, append-nil}
+use Rattle.std.proofs.Common.{◌≡◌, ◌<◌, Some, length, [], ◌∷◌, ◌++◌, refl, sym, ap, ◌∙◌, subst, append_assoc, append-nil, arith, length-append}
 use Rattle.std.specs.Prelude.{IsSome}
 use Rattle.std.proofs.lemmas.Result.{err_from_is_err_and}
-use Rattle.fdr_sync.specs.Events.{events_of}
+use Rattle.fdr_sync.specs.Events.{events_of, frame_of_event}
 use Rattle.fdr_resync.specs.Past.{ScannerPast, scanner_with_events, known_events}
 use Rattle.fdr_resync.specs.Answers.{answered_event, answered_frame}
 use Rattle.fdr_readout.specs.Entries.{event_entries}
 use Rattle.fdr_readout.specs.Reading.{ReadsEvents, entries_in}
-use Rattle.fdr_readout.proofs.EventFrames.{some_read, entries_step, entries_rest}
+use Rattle.fdr_readout.proofs.EventFrames.{some_read, entries_apart, entries_step, entries_rest}
 use Rattle.fdr_readout.proofs.Readings.{frame_answered}
 use Rattle.fdr_readout.proofs.entries.take_known.Given.{Over}
 use Rattle.fdr_readout.proofs.entries.take_known.Goals.{In-Some}
@@ -27,6 +27,11 @@ loop-event-init g c = record {
   no_fault = refl;
 }
 
+pub next-requires : goal.next-requires
+next-requires g c =
+    let inv = c.loop-event.invariant.taken c.requires.0 c.requires.1 in
+    (c.args.table.now, scanner_with_events c.requires.0 inv.0, inv.2)
+
 -- what is read with the event that comes next
 read_with : (g : Over) (c : In-Some g) (past : ScannerPast) (reads : ReadsEvents c.args.table.now c.args.reader.now past)
     → ReadsEvents c.args.table.now c.next.new.self
@@ -37,18 +42,33 @@ read_with g c past reads =
 
 -- where it is a frame, one was read
 frame_read : (g : Over) (c : In-Some g) (past : ScannerPast) (reads : ReadsEvents c.args.table.now c.args.reader.now past)
-    → IsSome (answered_frame (Some c.in-Some.event)) → 0 < length (read_with g c past reads).frames.0
+    → IsSome (frame_of_event (answered_event c.in-Some.event)) → 0 < length (read_with g c past reads).read
 frame_read g c past reads frame =
     let inv = c.loop-event.invariant.taken past reads in
     let now = read_with g c past reads in
-    some_read (past.bytes ++ []) c.args.table.now.frame.words (past.taken ++ inv.0) (answered_event c.in-Some.event) now.frames.0
-    (subst IsSome (frame_answered c.in-Some.event) frame) (now.frames.2 [] (λ finished. refl))
+    some_read (past.bytes ++ []) c.args.table.now.frame.words (past.taken ++ inv.0) (answered_event c.in-Some.event) now.read
+    frame (now.as_read [] (λ finished. refl))
+
+-- and so one was with those of other bytes
+frame_read_last : (g : Over) (c : In-Some g) (past : ScannerPast) (reads : ReadsEvents c.args.table.now c.args.reader.now past)
+    → IsSome (answered_frame (Some c.in-Some.event)) → 0 < length ((read_with g c past reads).earlier ++ (read_with g c past reads).read)
+frame_read_last g c past reads frame =
+    let now = read_with g c past reads in
+    omega (arith, length-append now.earlier now.read, frame_read g c past reads (subst IsSome (frame_answered c.in-Some.event) frame))
+
+-- the entries of the event are those of these bytes
+entries_alone : (g : Over) (c : In-Some g) (past : ScannerPast) (reads : ReadsEvents c.args.table.now c.args.reader.now past)
+    → event_entries c.args.table.now ((read_with g c past reads).earlier ++ (read_with g c past reads).read) (answered_event c.in-Some.event)
+    ≡ event_entries c.args.table.now (read_with g c past reads).read (answered_event c.in-Some.event)
+entries_alone g c past reads =
+    let now = read_with g c past reads in
+    entries_apart c.args.table.now now.earlier now.read (answered_event c.in-Some.event) reads.count now.apart (frame_read g c past reads)
 
 pub take_event-requires : goal.take_event-requires
 take_event-requires g c =
     let at = (goal.at.take_event-requires g c).In-Some in
-    let frames = (read_with g at c.requires.0 c.requires.1).frames in
-    (frames.0, frames.1, frame_read g at c.requires.0 c.requires.1)
+    let now = read_with g at c.requires.0 c.requires.1 in
+    (now.earlier ++ now.read, now.frames, frame_read_last g at c.requires.0 c.requires.1)
 
 pub loop-event-preserved : goal.loop-event-preserved
 loop-event-preserved g c = record {
@@ -59,15 +79,15 @@ loop-event-preserved g c = record {
       let mid = scanner_with_events past inv.0 in
       let at = (goal.at.loop-event-preserved g c).In-Some in
       let now = read_with g at past reads in
-      let took = c.in_ok-take_event.ensures.all now.frames.0 now.frames.1 (frame_read g at past reads) in (
+      let took = c.in_ok-take_event.ensures.all (now.earlier ++ now.read) now.frames (frame_read_last g at past reads) in (
         inv.0 ++ e ∷ [],
-        inv.1 ++ event_entries t now.frames.0 e,
+        inv.1 ++ event_entries t now.read e,
         subst (λ es. ReadsEvents t c.next.new.self (record past { taken = es })) (append_assoc past.taken inv.0 (e ∷ [])) now,
-        g.met.T.Taker.laws.then _ _ _ _ _ _ _ _ _ inv.3 took,
+        g.met.T.Taker.laws.then _ _ _ _ _ _ _ _ _ inv.3 (rw (entries_alone g at past reads) at took),
         λ more may.
             let ahead = c.in-Some.ensures.ahead t mid more inv.2 may in
-            entries_step t (past.bytes ++ more) past.taken inv.0 e ahead.0 inv.1 now.frames.0 reads.count
-            (ap (events_of (past.bytes ++ more)) (sym reads.words) ∙ ahead.1) (now.frames.2 more may) (inv.4 more may),
+            entries_step t (past.bytes ++ more) past.taken inv.0 e ahead.0 inv.1 now.read reads.count
+            (ap (events_of (past.bytes ++ more)) (sym reads.words) ∙ ahead.1) (now.as_read more may) (inv.4 more may),
       );
   pushed = c.next.ensures.pushed ∙ c.loop-event.invariant.pushed;
   ended = c.next.ensures.ended ∙ c.loop-event.invariant.ended;
@@ -82,16 +102,16 @@ returns-in_err-take_event-clause-part g c = λ past reads.
     let mid = scanner_with_events past inv.0 in
     let at = (goal.at.returns-in_err-take_event-clause-part g c).In-Some in
     let now = read_with g at past reads in
-    let failed = c.in_err-take_event.ensures.part now.frames.0 now.frames.1 (frame_read g at past reads) in
+    let failed = c.in_err-take_event.ensures.part (now.earlier ++ now.read) now.frames (frame_read_last g at past reads) in
     let p = err_from_is_err_and c.from_residual.result c.from_residual.ensures.1 in
     rw p.1 (
-      inv.1 ++ event_entries t now.frames.0 e,
-      g.met.T.Taker.laws.fails_then _ _ _ _ _ _ _ _ inv.3 failed,
+      inv.1 ++ event_entries t now.read e,
+      g.met.T.Taker.laws.fails_then _ _ _ _ _ _ _ _ inv.3 (rw (entries_alone g at past reads) at failed),
       λ more may.
           let ahead = c.in-Some.ensures.ahead t mid more inv.2 may in (
             entries_in t (past.bytes ++ more) ahead.0,
-            entries_rest t (past.bytes ++ more) past.taken inv.0 e ahead.0 inv.1 now.frames.0 reads.count
-                (ap (events_of (past.bytes ++ more)) (sym reads.words) ∙ ahead.1) (now.frames.2 more may) (inv.4 more may),
+            entries_rest t (past.bytes ++ more) past.taken inv.0 e ahead.0 inv.1 now.read reads.count
+                (ap (events_of (past.bytes ++ more)) (sym reads.words) ∙ ahead.1) (now.as_read more may) (inv.4 more may),
           ),
     )
 

@@ -48,6 +48,12 @@ returns-clause-part g c = λ bytes first out_first had.
     rw all (g.met.T.Taker.laws.fails_before _ _ _ _ _ rest.0 (g.met.T.Taker.laws.fails_then _ _ _ _ _ _ _ _ had.taken failed.1)))
     (c.take_known.ensures.part (scanner_finished past) ended)
 
+pub returns-clause-reads : goal.returns-clause-reads
+returns-clause-reads g c = λ bytes first out_first had.
+    let past = decided_past c.args.table.now.frame.words bytes in
+    let ended = c.finish.ensures c.args.table.now past had.reads in
+    on_ok_weaker c.take_known.result (λ reads. (_, reads)) (c.take_known.ensures.stands (scanner_finished past) ended)
+
 pub returns-clause-step : goal.returns-clause-step
 returns-clause-step g c =
     let ended = c.finish.ensures c.args.table.now (decided_past c.args.table.now.frame.words c.requires.stands.0) c.requires.stands.3.reads in

@@ -1,7 +1,7 @@
 use Rattle.std.proofs.Common.{◌≡◌, ◌∙◌, ◌≢◌, ◌≤◌, ap, sym, inl, inr, ⊎_elim, rules, Err, arith}
 use Rattle.std.specs.Prelude.{IsTrue}
 use Rattle.fdr_io.specs.Faults.{Rose}
-use Rattle.fdr_recover.specs.ImageHeader.{IsFor}
+use Rattle.fdr_recover.specs.ImageHeader.{IsFor, header_in}
 use Rattle.fdr_recorder.specs.Past.{past_at_start}
 use Rattle.fdr_recorder.specs.declared.error.SessionFault.TheVariants as session
 use Rattle.fdr_recorder.proofs.Recordings.{RecordsSupply-refused, RecordsSupply-past_at_start}
@@ -14,14 +14,14 @@ returns-in-Err-clause-ended g c = λ from gives.
     RecordsSupply-refused from c.args.sound.now _ _ _ c.in-Err.fault c.start.ensures.starts
     (λ ends. e.numbers (ap Err ends)) (λ bytes why is. e.image bytes why (ap Err is)) (λ why is. e.small why (ap Err is))
     (λ short. ⊎_elim (λ is. inl (fault_same _ _ is)) (λ is. inr (fault_same _ _ is)) (e.small_always short))
-    (λ image table is. e.words image table (ap Err is))
+    (λ image table is. e.words image table (ap Err is)) (λ is. e.old_version (ap Err is))
 
 pub returns-in_err-closed-clause-ended : goal.returns-in_err-closed-clause-ended
 returns-in_err-closed-clause-ended g c = λ from gives.
     let s = g.met.D.Deck.sound in
     let e = c.in_err-closed.ensures in
     let is = RecordsSupply-past_at_start from c.args.sound.now _ c.in-Ok.session _ _ _ _ (s c.args.deck.now) (s c.start.new.deck) c.start.ensures.starts
-    c.in-Ok.ensures.started (e.ended from (past_at_start _ _ _) gives (begun_at _ _ c.in-Ok.session _ _ c.in-Ok.ensures.started))
+    c.in-Ok.ensures.started (e.ended from (past_at_start _ _ _ _) gives (begun_at _ _ c.in-Ok.session _ _ c.in-Ok.ensures.started))
     c.record_all.ensures.extent (cut_after_start _ e.only) c.in-Ok.ensures.good in
     search rules
 
@@ -30,7 +30,7 @@ returns-clause-recorded g c = λ from gives.
     let s = g.met.D.Deck.sound in
     let e = c.in_ok-closed.ensures in
     RecordsSupply-past_at_start from c.args.sound.now _ c.in-Ok.session _ _ _ _ (s c.args.deck.now) (s c.start.new.deck) c.start.ensures.starts
-    c.in-Ok.ensures.started (e.closed from (past_at_start _ _ _) gives (begun_at _ _ c.in-Ok.session _ _ c.in-Ok.ensures.started))
+    c.in-Ok.ensures.started (e.closed from (past_at_start _ _ _ _) gives (begun_at _ _ c.in-Ok.session _ _ c.in-Ok.ensures.started))
     c.record_all.ensures.extent (recorded_after_start _) c.in-Ok.ensures.good
 
 pub returns-clause-no_disk_fault : goal.returns-clause-no_disk_fault
@@ -63,6 +63,9 @@ returns-in-Err-clause-memory g c = λ is.
 pub returns-in-Err-clause-memory_good : goal.returns-in-Err-clause-memory_good
 returns-in-Err-clause-memory_good g c = λ is told. c.in-Err.ensures.no_memory told (ap Err is)
 
+pub returns-in-Err-clause-memory_current : goal.returns-in-Err-clause-memory_current
+returns-in-Err-clause-memory_current g c = λ is told. c.in-Err.ensures.memory_current told (ap Err is)
+
 pub returns-in_err-closed-clause-memory : goal.returns-in_err-closed-clause-memory
 returns-in_err-closed-clause-memory g c =
     let none : c.in_err-closed.field-0.0 ≡ session.NoMemory → 64 ≤ (g.D.Deck.state c.record_all.new.deck).extent =
@@ -73,5 +76,12 @@ pub returns-in_err-closed-clause-memory_good : goal.returns-in_err-closed-clause
 returns-in_err-closed-clause-memory_good g c =
     let none : c.in_err-closed.field-0.0 ≡ session.NoMemory → IsTrue g.D.Deck.tells.bytes
     → IsFor c.args.sound.now.frame.words (g.D.Deck.state c.args.deck.now).held =
+    (λ e. absurd (cut_not_memory _ c.in_err-closed.ensures.only e)) in
+    search rules
+
+pub returns-in_err-closed-clause-memory_current : goal.returns-in_err-closed-clause-memory_current
+returns-in_err-closed-clause-memory_current g c =
+    let none : c.in_err-closed.field-0.0 ≡ session.NoMemory → IsTrue g.D.Deck.tells.bytes
+    → (header_in (g.D.Deck.state c.args.deck.now).held).version ≡ 2 =
     (λ e. absurd (cut_not_memory _ c.in_err-closed.ensures.only e)) in
     search rules

@@ -40,7 +40,7 @@ returns-in_err-ring-clause-records g c =
     let next = c.args.ring.next in
     let p = c.in_ok-prepared.prepared in
     let ok = c.in_ok-prepared.ensures in
-    let b : Block = record { number = next; payload = c.args.bytes.now } in
+    let b : Block = record { number = next; session = c.args.session; payload = c.args.bytes.now } in
     RecordsFirstOf-prepared g.D.Deck.tells h next (length c.args.bytes.now) (s c.args.deck.now) (s c.prepare.new.deck)
     (g.met.D.Deck.sound c.args.deck.now) c.requires.fact c.prepare.ensures.changes.extent c.prepare.ensures.changes.disk_work
     b ok.placed.settled ok.placed.succeeds c.prepare.ensures.changes.keeps ok.placed.block (s c.commit.new.deck) c.commit.ensures.changes.extent
@@ -48,7 +48,7 @@ returns-in_err-ring-clause-records g c =
 
 -- what a call that added its block recorded
 added : (g : Over) (c : After-announce g) → let s = g.D.Deck.state in
-    let b : Block = record { number = c.args.ring.next; payload = c.args.bytes.now } in
+    let b : Block = record { number = c.args.ring.next; session = c.args.session; payload = c.args.bytes.now } in
     RecordsFirstOf g.D.Deck.tells c.args.ring.header c.args.ring.next (b ∷ []) (s c.args.deck.now) (s c.announce.new.self)
     × RecordsAllOf g.D.Deck.tells c.args.ring.header c.args.ring.next (b ∷ []) (s c.args.deck.now) (s c.announce.new.self)
 added g c =
@@ -58,7 +58,7 @@ added g c =
     let p = c.in_ok-prepared.prepared in
     let ok = c.in_ok-prepared.ensures in
     let done = c.in_ok-ring.ensures in
-    let b : Block = record { number = next; payload = c.args.bytes.now } in
+    let b : Block = record { number = next; session = c.args.session; payload = c.args.bytes.now } in
     let up : c.in_ok-ring.ring.next ≡ next + 1 = done.ring.1 ∙ ap (λ (n : ℕ). n + 1) ok.prepared.1 in
     let announces : Announces (next + 1) (s c.commit.new.deck) (s c.announce.new.self) =
     subst (λ (n : ℕ). Announces n (s c.commit.new.deck) (s c.announce.new.self)) (c.next.ensures.number ∙ up) c.announce.ensures.announces in

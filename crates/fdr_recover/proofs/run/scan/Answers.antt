@@ -1,3 +1,9 @@
+use Rattle.std.proofs.Common.{◌≡◌, ◌+◌, ◌∙◌, length, subst}
+use Rattle.std.specs.Prelude.{IfOk, OnErr}
+use Rattle.fdr_io.specs.Faults.{Rose}
+use Rattle.fdr_recover.specs.Images.{blocks_below, next_of}
+use Rattle.fdr_recover.specs.Stretches.{last_session}
+use Rattle.fdr_recover.proofs.Handing.{ok_both}
 use Rattle.fdr_recover.proofs.Looking.{Looks-then}
 use Rattle.fdr_recover.proofs.BlockLemmas.{recovered_run-is_recovered}
 use Rattle.fdr_recover.proofs.run.scan.Goals as goal
@@ -6,18 +12,48 @@ pub returns-in_err-next-clause-recovered : goal.returns-in_err-next-clause-recov
 returns-in_err-next-clause-recovered g c image =
     recovered_run-is_recovered c.args.h.now image c.requires.limits
 
-pub returns-in_err-first-clause-recovered : goal.returns-in_err-first-clause-recovered
-returns-in_err-first-clause-recovered g c image =
-    recovered_run-is_recovered c.args.h.now image c.requires.limits
-
 pub returns-clause-recovered : goal.returns-clause-recovered
 returns-clause-recovered g c image =
     recovered_run-is_recovered c.args.h.now image c.requires.limits
 
-pub returns-in_err-first-clause-looks : goal.returns-in_err-first-clause-looks
-returns-in_err-first-clause-looks g c =
-    Looks-then _ _ _ _ (g.met.D.Deck.sound c.args.deck.now) c.next_number.ensures.looks c.first_number.ensures.looks
+pub returns-clause-next : goal.returns-clause-next
+returns-clause-next g c told =
+    subst (λ n. IfOk c.run_below.result (λ f. f.next ≡ n)) (c.in_ok-next.ensures.next told) c.run_below.ensures.next
+
+pub returns-clause-first : goal.returns-clause-first
+returns-clause-first g c told =
+    let h = c.args.h.now in
+    let held = (g.D.Deck.state c.args.deck.now).held in
+    subst (λ k. IfOk c.run_below.result (λ f. f.first + length (blocks_below h held k) ≡ f.next)) (c.in_ok-next.ensures.next told)
+    (subst (λ image. IfOk c.run_below.result (λ f. f.first + length (blocks_below h image c.in_ok-next.next) ≡ f.next))
+    c.next_number.ensures.looks.disk.held (c.run_below.ensures.first told))
+
+pub returns-clause-session : goal.returns-clause-session
+returns-clause-session g c told =
+    let h = c.args.h.now in
+    let held = (g.D.Deck.state c.args.deck.now).held in
+    subst (λ k. IfOk c.run_below.result (λ f. f.session ≡ last_session (blocks_below h held k))) (c.in_ok-next.ensures.next told)
+    (subst (λ image. IfOk c.run_below.result (λ f. f.session ≡ last_session (blocks_below h image c.in_ok-next.next)))
+    c.next_number.ensures.looks.disk.held (c.run_below.ensures.session told))
 
 pub returns-clause-looks : goal.returns-clause-looks
 returns-clause-looks g c =
-    Looks-then _ _ _ _ (g.met.D.Deck.sound c.args.deck.now) c.next_number.ensures.looks c.first_number.ensures.looks
+    Looks-then _ _ _ _ (g.met.D.Deck.sound c.args.deck.now) c.next_number.ensures.looks c.run_below.ensures.looks
+
+pub returns-clause-succeeds : goal.returns-clause-succeeds
+returns-clause-succeeds g c =
+    ok_both _ _ _ c.run_below.result
+    (λ fresh faults. record {
+      disk_faults = faults ∙ c.in_ok-next.ensures.succeeds.disk_faults;
+      fresh = fresh c.in_ok-next.ensures.succeeds.fresh;
+    })
+    c.run_below.ensures.fresh c.run_below.ensures.faults
+
+pub returns-clause-cause : goal.returns-clause-cause
+returns-clause-cause g c =
+    subst (λ n. OnErr c.run_below.result (Rose n (g.D.Deck.state c.run_below.new.deck).disk_faults)) c.in_ok-next.ensures.succeeds.disk_faults
+    c.run_below.ensures.cause
+
+pub returns-clause-rest : goal.returns-clause-rest
+returns-clause-rest g c =
+    g.met.D.Deck.rest_then c.args.deck.now _ _ c.next_number.ensures.rest c.run_below.ensures.rest

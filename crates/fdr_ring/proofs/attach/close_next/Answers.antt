@@ -10,8 +10,8 @@ use Rattle.fdr_ring.proofs.attach.close_next.Goals as goal
 
 -- the number that was found
 found : (g : Over) (c : After-shut_gate g) → IsTrue g.D.Deck.tells.bytes
-    → IsFound c.args.h.now c.in_ok-next.field-0.next (g.D.Deck.state c.args.deck.now).held
-found g c = IsFound-deck _ _ _ _ c.requires.limits (g.met.D.Deck.sound c.args.deck.now) c.requires.whole c.in_ok-next.ensures.next
+    → IsFound c.args.h.now c.in_ok-found.found.next (g.D.Deck.state c.args.deck.now).held
+found g c = IsFound-deck _ _ _ _ c.requires.limits (g.met.D.Deck.sound c.args.deck.now) c.requires.whole c.in_ok-found.ensures.next
 
 -- the image, whether or not the gate was closed, and the moments until then
 changes : (g : Over) (c : After-shut_gate g) → let s = g.D.Deck.state in
@@ -34,7 +34,7 @@ returns-clause-changes g c = changes g (goal.at.returns-clause-changes g c).Afte
 
 -- where the call succeeded, the gate of that number is closed
 closed : (g : Over) (c : In_ok-shut_gate g) → IsTrue g.D.Deck.tells.bytes → (g.D.Deck.state c.shut_gate.new.deck).held
-    ≡ image_with_closed_gate (gate_at c.args.h.now c.in_ok-next.field-0.next) (g.D.Deck.state c.args.deck.now).held
+    ≡ image_with_closed_gate (gate_at c.args.h.now c.in_ok-found.found.next) (g.D.Deck.state c.args.deck.now).held
 closed g c told =
     c.in_ok-shut_gate.ensures.closed.held told ∙ ap (image_with_closed_gate c.gate_at.result) c.scan.ensures.looks.disk.held
     ∙ ap (λ at. image_with_closed_gate at (g.D.Deck.state c.args.deck.now).held) c.gate_at.ensures.at
@@ -43,14 +43,14 @@ pub returns-clause-attached : goal.returns-clause-attached
 returns-clause-attached g c =
     let at = goal.at.returns-clause-attached g c in
     record {
-      next = c.in_ok-next.ensures.next;
+      next = c.in_ok-found.ensures.next;
       held = λ told. closed g at.In_ok-shut_gate told
-          ∙ ap (λ n. image_with_closed_gate (gate_at c.args.h.now n) (g.D.Deck.state c.args.deck.now).held) (c.in_ok-next.ensures.next told);
+          ∙ ap (λ n. image_with_closed_gate (gate_at c.args.h.now n) (g.D.Deck.state c.args.deck.now).held) (c.in_ok-found.ensures.next told);
       run = λ told. attached_run _ _ _ _ (found g at.After-shut_gate told) (closed g at.In_ok-shut_gate told);
       settled = c.in_ok-shut_gate.ensures.settled;
       succeeds = record {
         fresh = c.in_ok-shut_gate.ensures.closed.succeeds.fresh;
-        disk_faults = c.in_ok-shut_gate.ensures.closed.succeeds.disk_faults ∙ c.in_ok-next.ensures.succeeds.disk_faults;
+        disk_faults = c.in_ok-shut_gate.ensures.closed.succeeds.disk_faults ∙ c.in_ok-found.ensures.succeeds.disk_faults;
       };
     }
 

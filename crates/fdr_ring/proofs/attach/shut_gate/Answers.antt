@@ -1,4 +1,4 @@
-use Rattle.std.proofs.Common.{◌≡◌, ◌∙◌, sym, subst}
+use Rattle.std.proofs.Common.{◌∙◌, sym, subst}
 use Rattle.fdr_deck.specs.Calls.{Succeeds}
 use Rattle.fdr_deck.proofs.Moments.{IsDiskWork-keep}
 use Rattle.fdr_ring.specs.Closing.{IsTurned, HasClosedGate}

@@ -3,7 +3,6 @@ use Rattle.std.specs.Prelude.{IsTrue}
 use Rattle.fdr_deck.specs.Disk.{IsSettled}
 use Rattle.fdr_deck.specs.Calls.{Succeeds}
 use Rattle.fdr_deck.proofs.Moments.{IsDiskWork-keep}
-use Rattle.fdr_ring.specs.Closing.{IsTurned}
 use Rattle.fdr_ring.specs.Bodies.{image_to_commit}
 use Rattle.fdr_ring.specs.Rings.{IsPrepared, IsPreparing, ChangesImage, HasPlaced}
 use Rattle.fdr_ring.proofs.Results.{always_ok, map_both}
@@ -60,9 +59,9 @@ returns-clause-changes g c =
 
 -- what the disk holds then
 held : (g : Over) (c : After-sync g) → IsTrue g.D.Deck.tells.bytes → (g.D.Deck.state c.sync.new.self).held
-    ≡ image_to_commit c.args.h.now c.args.next c.args.bytes.now (g.D.Deck.state c.args.deck.now).held
+    ≡ image_to_commit c.args.h.now c.args.next c.args.session c.args.bytes.now (g.D.Deck.state c.args.deck.now).held
 held g c told =
-    prepared_held c.args.h.now c.args.next _ _ _ _ _ _ c.gate_at.ensures.at (c.in_ok-write_body.ensures.written told)
+    prepared_held c.args.h.now c.args.next c.args.session _ _ _ _ _ _ c.gate_at.ensures.at (c.in_ok-write_body.ensures.written told)
     (c.in_ok-close_open_gate.ensures.closed.held told) c.sync.ensures.held
 
 pub returns-clause-placed : goal.returns-clause-placed
@@ -72,12 +71,13 @@ returns-clause-placed g c =
     let now = s c.sync.new.self in
     let Settled : Type 0 = IsTrue g.D.Deck.tells.stops → IsSettled now in
     let Synced : Type 0 = Succeeds (s c.close_open_gate.new.deck) now in
-    let Placed : Type 0 = HasPlaced g.D.Deck.tells c.args.h.now c.args.next c.args.bytes.now (s c.args.deck.now) now in
+    let Placed : Type 0 = HasPlaced g.D.Deck.tells c.args.h.now c.args.next c.args.session c.args.bytes.now (s c.args.deck.now) now in
     map_both c.sync.result Settled Synced Placed
     (λ settled synced. record {
       held = held g at.After-sync;
-      block = λ told. prepared_block _ _ _ _ _ (ready g at.After-write_body told) c.requires.number c.requires.some_bytes (held g at.After-sync told);
-      run = λ told. prepared_run _ _ c.args.bytes.now _ _ (ready g at.After-write_body told) (held g at.After-sync told);
+      block = λ told. prepared_block _ _ c.args.session _ _ _ (ready g at.After-write_body told) c.requires.number (omega arith) c.requires.session
+          c.requires.some_bytes (held g at.After-sync told);
+      run = λ told. prepared_run _ _ c.args.session c.args.bytes.now _ _ (ready g at.After-write_body told) (held g at.After-sync told);
       settled = settled;
       succeeds = record {
         fresh = synced.fresh;
@@ -92,7 +92,7 @@ returns-clause-fact g c =
     let at = goal.at.returns-clause-fact g c in
     let Fact : Type 0 = IsPrepared g.D.Deck.tells c.args.h.now c.args.next (g.D.Deck.state c.sync.new.self) in
     always_ok c.sync.result Fact
-    (prepared_ring _ _ _ c.args.bytes.now (g.D.Deck.state c.args.deck.now) _
-    (ready g at.After-write_body) c.requires.number c.requires.some_bytes
+    (prepared_ring _ _ _ c.args.session c.args.bytes.now (g.D.Deck.state c.args.deck.now) _
+    (ready g at.After-write_body) c.requires.number (omega arith) c.requires.session c.requires.some_bytes
     (omega (arith, c.requires.fact.extent, c.write_body.ensures.changes.extent, c.close_open_gate.ensures.closes.extent, c.sync.ensures.extent))
     (held g at.After-sync))

@@ -31,8 +31,8 @@ returns-clause-written g c =
     let part : List ℕ = take (15 + length c.args.bytes.now) c.body_of-body.result in
     let Wrote : Type 0 = Writes g.D.Deck.tells (c.gate_at.result + 1) part (g.D.Deck.state c.args.deck.now)
     (g.D.Deck.state c.write.new.self) in
-    let Placed : Type 0 = IsTrue g.D.Deck.tells.bytes → new ≡ image_with_body c.args.h.now c.args.seq c.args.bytes.now old in
+    let Placed : Type 0 = IsTrue g.D.Deck.tells.bytes → new ≡ image_with_body c.args.h.now c.args.seq c.args.session c.args.bytes.now old in
     map_ok c.write.result Wrote Placed
     (λ wrote told. wrote.held told ∙ ap (λ (l : List ℕ). patched (c.gate_at.result + 1) l old) c.body_of-body.ensures
-    ∙ ap (λ k. patched (k + 1) (body_bytes c.args.seq c.args.bytes.now) old) c.gate_at.ensures.at)
+    ∙ ap (λ k. patched (k + 1) (body_bytes c.args.seq c.args.session c.args.bytes.now) old) c.gate_at.ensures.at)
     c.write.ensures.writes

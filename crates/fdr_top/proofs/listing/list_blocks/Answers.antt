@@ -3,10 +3,9 @@ use Rattle.std.specs.Prelude.{IsTrue}
 use Rattle.fdr_io.specs.Output.{Emits}
 use Rattle.fdr_io.proofs.OutputSteps.{part_at_end, whole_is_part, written_at_end}
 use Rattle.fdr_recover.specs.Images.{recovered_run}
-use Rattle.fdr_readout.specs.Listing.{listing_of}
-use Rattle.fdr_readout.proofs.EntryLemmas.{lines_of_entries}
-use Rattle.fdr_recover.specs.Payloads.{payloads_of}
-use Rattle.fdr_top.proofs.ListedLines.{part_of_first, part_of_lines}
+use Rattle.fdr_top.specs.Sessions.{entries_of_blocks, listing_of_blocks}
+use Rattle.fdr_top.proofs.ListedLines.{part_of_entries, part_of_first}
+use Rattle.fdr_top.proofs.SessionEntries.{lines_of_blocks}
 use Rattle.fdr_top.proofs.listing.list_blocks.Given.{Over}
 use Rattle.fdr_top.proofs.listing.list_blocks.Goals.{In-Ok}
 use Rattle.fdr_top.proofs.listing.list_blocks.Goals as goal
@@ -14,8 +13,8 @@ use Rattle.fdr_top.proofs.listing.list_blocks.Goals as goal
 -- what went out once all was taken
 emits : (g : Over) (c : In-Ok g) → IsTrue g.D.Deck.tells.bytes
     → Emits (g.O.Sink.written c.args.out.now) (g.O.Sink.written c.take_blocks.new.out) [] c.take_blocks.new.blocks.taker
-    (listing_of c.args.blocks.now.table.now (payloads_of (recovered_run c.args.header.now (g.D.Deck.state c.args.deck.now).held)))
-emits g c told = rw (c.requires.empty, lines_of_entries) at c.in-Ok.ensures.all told
+    (listing_of_blocks c.args.blocks.now.table.now c.args.header.now.version (recovered_run c.args.header.now (g.D.Deck.state c.args.deck.now).held))
+emits g c told = rw (c.requires.empty, c.requires.version, lines_of_blocks) at c.in-Ok.ensures.all told
 
 pub returns-in-Ok-finish-clause-text : goal.returns-in-Ok-finish-clause-text
 returns-in-Ok-finish-clause-text g c = λ done told.
@@ -32,14 +31,20 @@ returns-in-Err-clause-part g c = λ told.
 pub returns-in-Err-Disk-clause-part : goal.returns-in-Err-Disk-clause-part
 returns-in-Err-Disk-clause-part g c = λ told.
     let t = c.args.blocks.now.table.now in
-    let run = payloads_of (recovered_run c.args.header.now (g.D.Deck.state c.args.deck.now).held) in
+    let version = c.args.header.now.version in
+    let run = recovered_run c.args.header.now (g.D.Deck.state c.args.deck.now).held in
     let front = c.in-Err-Disk.ensures.front told (ap Err c.in-Err-Disk.field-0-is) in
     let emits = rw c.requires.empty at front.2 in
-    part_of_first t run (g.O.Sink.written c.args.out.now) (g.O.Sink.written c.take_blocks.new.out)
-    (g.O.Sink.written c.finish-in-Err-Disk.new.out) c.take_blocks.new.blocks.taker front.0 front.1 c.finish-in-Err-Disk.result front.3 emits
-    c.finish-in-Err-Disk.ensures.all c.finish-in-Err-Disk.ensures.part
+    part_of_first t (entries_of_blocks t version run) (listing_of_blocks t version run) (g.O.Sink.written c.args.out.now)
+    (g.O.Sink.written c.take_blocks.new.out) (g.O.Sink.written c.finish-in-Err-Disk.new.out) c.take_blocks.new.blocks.taker front.0 front.1
+    c.finish-in-Err-Disk.result (lines_of_blocks t version run) (rw c.requires.version at front.3) emits c.finish-in-Err-Disk.ensures.all
+    c.finish-in-Err-Disk.ensures.part
 
 pub returns-in-Err-Taker-clause-part : goal.returns-in-Err-Taker-clause-part
 returns-in-Err-Taker-clause-part g c = λ told.
-    part_of_lines c.args.blocks.now.table.now _ (g.O.Sink.written c.args.out.now) (g.O.Sink.written c.take_blocks.new.out)
-    (rw c.requires.empty at (c.in-Err-Taker.ensures.part told (ap Err c.in-Err-Taker.field-0-is)))
+    let t = c.args.blocks.now.table.now in
+    let version = c.args.header.now.version in
+    let run = recovered_run c.args.header.now (g.D.Deck.state c.args.deck.now).held in
+    part_of_entries t (entries_of_blocks t version run) (listing_of_blocks t version run) (g.O.Sink.written c.args.out.now)
+    (g.O.Sink.written c.take_blocks.new.out) (lines_of_blocks t version run)
+    (rw (c.requires.empty, c.requires.version) at (c.in-Err-Taker.ensures.part told (ap Err c.in-Err-Taker.field-0-is)))

@@ -1,7 +1,9 @@
-use Rattle.std.proofs.Common.{[], ◌++◌, Err, ap, sym}
+use Rattle.std.proofs.Common.{◌≡◌, ◌∙◌, [], ◌++◌, Err, ap, sym}
 use Rattle.std.specs.Prelude.{IsTrue}
+use Rattle.std.proofs.lemmas.Grind.{flat_map-append}
 use Rattle.fdr_io.specs.Output.{Emits, EmitsPart}
 use Rattle.fdr_io.proofs.OutputSteps.{Emits-nil, written_at_end, part_at_end, whole_is_part}
+use Rattle.fdr_recover.specs.Blocks.{Block}
 use Rattle.fdr_recover.specs.Images.{recovered_run}
 use Rattle.fdr_recover.specs.Payloads.{payloads_of}
 use Rattle.fdr_top.proofs.Recovery.{part_of_front}
@@ -16,10 +18,13 @@ pub returns-in-Err-Disk-clause-part : goal.returns-in-Err-Disk-clause-part
 returns-in-Err-Disk-clause-part g c told =
     let front = c.in-Err-Disk.ensures.front (ap Err c.in-Err-Disk.field-0-is) in
     let more = front.2 told in
-    let emits : Emits (g.O.Sink.written c.args.out.now) (g.O.Sink.written c.walk_blocks.new.out) [] c.walk_blocks.new.taker front.0 =
+    let run = recovered_run c.args.h.now (g.D.Deck.state c.args.deck.now).held in
+    let emits : Emits (g.O.Sink.written c.args.out.now) (g.O.Sink.written c.walk_blocks.new.out) [] c.walk_blocks.new.taker (payloads_of front.0) =
     rw c.requires.empty at front.1 in
-    let part : EmitsPart (g.O.Sink.written c.args.out.now) (g.O.Sink.written c.walk_blocks.new.out) []
-    (payloads_of (recovered_run c.args.h.now (g.D.Deck.state c.args.deck.now).held)) = rw more.1 (part_of_front _ _ _ front.0 more.0 emits) in
+    let all : payloads_of run ≡ payloads_of front.0 ++ payloads_of more.0 =
+    ap payloads_of more.1 ∙ flat_map-append (λ (b : Block). b.payload) front.0 more.0 in
+    let part : EmitsPart (g.O.Sink.written c.args.out.now) (g.O.Sink.written c.walk_blocks.new.out) [] (payloads_of run) =
+    rw all (part_of_front _ _ _ (payloads_of front.0) (payloads_of more.0) emits) in
     (part.count, part.written)
 
 pub returns-in-Err-Taker-clause-part : goal.returns-in-Err-Taker-clause-part

@@ -1,5 +1,5 @@
 use Rattle.std.proofs.Common.{refl, [], None, ap, Err}
-use Rattle.fdr_words.specs.Forms.{decode_levels, encode_bytes, recover_image}
+use Rattle.fdr_words.specs.Forms.{decode_levels, encode_bytes, recover_image, upgrade_image}
 use Rattle.fdr_words.specs.Request.{form_of_request}
 use Rattle.fdr_top.proofs.Carrying.{carried, carried_alone, table_refused}
 use Rattle.fdr_top.proofs.Commands.{own_uses, request_reads}
@@ -16,9 +16,18 @@ pub returns-in-RecoverImage-clause-deck_untouched : goal.returns-in-RecoverImage
 returns-in-RecoverImage-clause-deck_untouched g c = λ early.
     absurd (own_uses (recover_image []) _ (c.recover.ensures.works [] (table_or None)).answer early)
 
+pub returns-in-Upgrade-clause-runs : goal.returns-in-Upgrade-clause-runs
+returns-in-Upgrade-clause-runs g c = rw c.in-Upgrade.is (carried_alone (upgrade_image c.in-Upgrade.image) _ refl refl
+    (TakesAtMost-none 1052672 _) (λ t. c.upgrade.ensures.works _ t _ _))
+
+pub returns-in-Upgrade-clause-deck_untouched : goal.returns-in-Upgrade-clause-deck_untouched
+returns-in-Upgrade-clause-deck_untouched g c = λ early.
+    absurd (own_uses (upgrade_image []) _ (c.upgrade.ensures.works [] (table_or None) None 0).answer early)
+
 pub returns-in-Ok-clause-runs : goal.returns-in-Ok-clause-runs
 returns-in-Ok-clause-runs g c = carried (form_of_request c.args.request.now) _ c.in-Ok.sound
-    (request_reads c.args.request.now c.in_default.not-Encode c.in_default.not-Decode c.in_default.not-RecoverImage) c.in-Ok.ensures.table c.in-Ok.ensures.end
+    (request_reads c.args.request.now c.in_default.not-Encode c.in_default.not-Decode c.in_default.not-RecoverImage
+    c.in_default.not-Upgrade) c.in-Ok.ensures.table c.in-Ok.ensures.end
     c.in-Ok.ensures.sound c.load_table.ensures.bounded (c.in-Ok.ensures.no_fault (λ e. absurd (cc))) c.work.ensures.works
 
 pub returns-in-Ok-clause-deck_untouched : goal.returns-in-Ok-clause-deck_untouched
@@ -26,7 +35,8 @@ returns-in-Ok-clause-deck_untouched g c = λ early. absurd (own_uses (form_of_re
 
 pub returns-in-Err-clause-runs : goal.returns-in-Err-clause-runs
 returns-in-Err-clause-runs g c = table_refused (form_of_request c.args.request.now) _ _ _ _ _ _ refl (g.met.D.Deck.sound c.args.deck.now)
-    (request_reads c.args.request.now c.in_default.not-Encode c.in_default.not-Decode c.in_default.not-RecoverImage)
+    (request_reads c.args.request.now c.in_default.not-Encode c.in_default.not-Decode c.in_default.not-RecoverImage
+    c.in_default.not-Upgrade)
     c.in-Err.ensures.answers (read_refused _ _ _ c.in-Err.ensures.answers c.in-Err.ensures.refused c.in-Err.ensures.fault_within_limit)
     c.load_table.ensures.bounded (λ e. c.in-Err.ensures.fault (ap Err e)) (λ other. c.in-Err.ensures.no_fault (λ e. other (let same : _ = e in cc)))
 

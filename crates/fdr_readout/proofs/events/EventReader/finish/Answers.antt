@@ -8,5 +8,9 @@ returns c = λ t past reads. record {
   scanner = c.finish.ensures.stands past reads.scanner;
   room = reads.room;
   adjacent = reads.adjacent;
-  frames = (reads.frames.0, reads.frames.1, read_to_end t past reads.frames.0 reads.frames.2);
+  earlier = reads.earlier;
+  read = reads.read;
+  frames = reads.frames;
+  apart = reads.apart;
+  as_read = read_to_end t past reads.read reads.as_read;
 }

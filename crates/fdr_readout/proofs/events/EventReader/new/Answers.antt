@@ -19,5 +19,9 @@ returns c =
           (rw (← c.word_count-count.ensures) c.in-Ok.ensures);
       room = search rules;
       adjacent = sym (ap ends_with_frame empty);
-      frames = ([], c.in_ok-rebuild.ensures, read_made t past empty);
+      earlier = [];
+      read = [];
+      frames = c.in_ok-rebuild.ensures;
+      apart = tt;
+      as_read = read_made t past empty;
     }

@@ -1,4 +1,4 @@
-use Rattle.std.proofs.Common.{rules, ◌≡◌, ◌+◌, ◌*◌, ◌==◌, List, [], ◌∷◌, ◌++◌, ℕ, Some, false, length, subst, ap, sym, ◌∙◌, append-nil}
+use Rattle.std.proofs.Common.{rules, ◌≡◌, ◌+◌, ◌*◌, ◌==◌, List, [], ◌∷◌, ◌++◌, ℕ, Some, false, length, subst, ap, sym, ◌∙◌, append-nil, append_assoc}
 use Rattle.std.specs.Prelude.{slice_get}
 use Rattle.std.specs.List.{list_any}
 use Rattle.std.specs.Option.{option_map}
@@ -9,10 +9,10 @@ use Rattle.fdr_sync.specs.Events.{Frame, Gap, events_of}
 use Rattle.fdr_resync.specs.declared.Event.TheVariants as answer
 use Rattle.fdr_resync.specs.Answers.{answered_event, answered_events, answered_frame}
 use Rattle.fdr_resync.specs.Past.{RepresentsScanner, ScannerPast, known_events, scanner_with_events}
-use Rattle.fdr_recon.specs.Past.{read_frame}
+use Rattle.fdr_recon.specs.Past.{RepresentsRebuild, read_frame}
 use Rattle.fdr_readout.specs.Listing.{frame_words}
 use Rattle.fdr_readout.specs.Reading.{MayGoOn, ReadsEvents}
-use Rattle.fdr_readout.proofs.Readings.{read_one, read_gap, ends_with_one}
+use Rattle.fdr_readout.proofs.Readings.{read_one, read_gap, ends_with_one, apart_push, first_after_no_frame}
 use Rattle.fdr_readout.proofs.events.EventReader.next.Goals.{In-Some}
 use Rattle.fdr_readout.proofs.events.EventReader.next.Goals as goal
 
@@ -37,7 +37,9 @@ returns-in-Frame-clause-stands c = λ t past reads.
     subst (λ a. RepresentsScanner c.take.new.self (scanner_with_events past (answered_events a))) is (c.take.ensures.stands past reads.scanner) in
     let at_frame : c.take.new.self.frame ≡ Some at = c.take.ensures.frame ∙ ap answered_frame is in
     let count = subst IsWordCount (sym reads.words) reads.count in
-    let read = c.read_frame.ensures.rebuild t (scanner_with_events past (Frame at ∷ [])) at reads.frames.0 scanner at_frame reads.words reads.frames.1 in
+    let all = reads.earlier ++ reads.read in
+    let frame = read_frame c.args.self.now.after_frame (frame_words past.bytes w at) in
+    let read = c.read_frame.ensures.rebuild t (scanner_with_events past (Frame at ∷ [])) at all scanner at_frame reads.words reads.frames in
     let joined : (more : List ℕ) → MayGoOn past more
     → list_any (λ x. x + 48 * w == at) (accepted_frames (past.bytes ++ more) w) ≡ c.args.self.now.after_frame =
     λ more may.
@@ -51,11 +53,11 @@ returns-in-Frame-clause-stands c = λ t past reads.
       scanner = scanner;
       room = search rules;
       adjacent = sym (ends_with_one past.taken (Frame at));
-      frames = (
-        reads.frames.0 ++ read_frame c.args.self.now.after_frame (frame_words past.bytes w at) ∷ [],
-        read.1,
-        read_one t past at c.args.self.now.after_frame reads.frames.0 read.0 joined reads.frames.2,
-      );
+      earlier = reads.earlier;
+      read = reads.read ++ frame ∷ [];
+      frames = subst (RepresentsRebuild c.read_frame.new.rebuild t) (append_assoc reads.earlier reads.read (frame ∷ [])) read.1;
+      apart = apart_push reads.read frame reads.apart (λ none. reads.adjacent ∙ first_after_no_frame t past reads.read reads.as_read none);
+      as_read = read_one t past at c.args.self.now.after_frame reads.read read.0 joined reads.as_read;
     })
 
 pub returns-in-Gap-clause-ahead : goal.returns-in-Gap-clause-ahead
@@ -81,7 +83,11 @@ returns-in-Gap-clause-stands c = λ t past reads.
       scanner = scanner;
       room = reads.room;
       adjacent = sym (ends_with_one past.taken (Gap at bits));
-      frames = (reads.frames.0, reads.frames.1, read_gap t past at bits reads.frames.0 reads.frames.2);
+      earlier = reads.earlier;
+      read = reads.read;
+      frames = reads.frames;
+      apart = reads.apart;
+      as_read = read_gap t past at bits reads.read reads.as_read;
     })
 
 pub returns-in_default-clause-stands : goal.returns-in_default-clause-stands
@@ -95,5 +101,9 @@ returns-in_default-clause-stands c = λ t past reads.
       scanner = scanner;
       room = reads.room;
       adjacent = reads.adjacent;
+      earlier = reads.earlier;
+      read = reads.read;
       frames = reads.frames;
+      apart = reads.apart;
+      as_read = reads.as_read;
     })

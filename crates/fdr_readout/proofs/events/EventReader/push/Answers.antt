@@ -9,11 +9,11 @@ returns-clause-stands c = λ t past reads. record {
   scanner = c.push.ensures.stands past reads.scanner;
   room = reads.room;
   adjacent = reads.adjacent;
-  frames = (
-    reads.frames.0,
-    reads.frames.1,
-    read_on t past (take c.push.result c.args.piece.now) reads.frames.0 (sym reads.scanner.ended ∙ c.requires.open) reads.frames.2,
-  );
+  earlier = reads.earlier;
+  read = reads.read;
+  frames = reads.frames;
+  apart = reads.apart;
+  as_read = read_on t past (take c.push.result c.args.piece.now) reads.read (sym reads.scanner.ended ∙ c.requires.open) reads.as_read;
 }
 
 pub returns-clause-room : goal.returns-clause-room

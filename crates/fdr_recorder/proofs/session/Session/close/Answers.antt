@@ -42,10 +42,11 @@ add-requires-clause-fits g c =
 
 -- one block was left
 one_left : (g : Over) (c : After-add g) (past : RecordingPast) (stands : RepresentsRecording c.args.self past)
-    → rest_of past ≡ record { number = c.args.self.ring.next; payload = take c.finish-count.result c.deref.result.now } ∷ []
+    → rest_of past ≡ record { number = c.args.self.ring.next; session = c.args.self.session; payload = take c.finish-count.result c.deref.result.now } ∷ []
 one_left g c past stands =
-    rest-one past c.finish-count.result c.args.self.ring.next (take c.finish-count.result c.deref.result.now)
+    rest-one past c.finish-count.result c.args.self.ring.next c.args.self.session (take c.finish-count.result c.deref.result.now)
     (c.finish-count.ensures.blocks (stream_past past) (in_box c.deref_mut.ensures.value stands.stream) refl) (omega (arith, c.if-count-eq0.false)) stands.next
+    stands.session
     (ap (λ (l : List ℕ). take c.finish-count.result l) c.deref.ensures
     ∙ c.finish-count.ensures.last (stream_past past) (in_box c.deref_mut.ensures.value stands.stream) refl)
 
@@ -70,7 +71,7 @@ returns-in_err-ring-clause-seq_end g c past stands ends =
     let d = g.D.Deck.state c.args.deck.now in
     let a = c.in_err-ring.ensures in
     let why = ring_seq_end c.from_residual.result c.in_err-ring.field-0.0 p.0 p.1 p.2 ends in
-    let b : Block = record { number = next; payload = take c.finish-count.result c.deref.result.now } in
+    let b : Block = record { number = next; session = c.args.self.session; payload = take c.finish-count.result c.deref.result.now } in
     subst (λ (l : List Block). HasEnded t h next l d (g.D.Deck.state c.add.new.deck)) (sym one)
     (subst (λ deck. HasEnded t h next (b ∷ []) d (g.D.Deck.state deck)) (sym (a.untouched why))
     (HasEnded-rest t h next b d (a.seq_end.0 why)))

@@ -40,6 +40,7 @@ returns-in-Taken-clause-stands g c past stands may =
     let taken = c.in-Taken.ensures.taken _ (in_box c.deref_mut.ensures.value at.2.stands) (MayStream-giving past c.args.r.now at.0 at.1 may at.2.same) refl in
     record {
       header = c.loop-ring.invariant.header ∙ stands.header;
+      session = stands.session;
       stream = stream-taken _ _ _ past c.args.r.now _ _ _ _ at.0 at.1 at.2 _ taken;
       room = omega (arith, stands.room, c.loop-ring.invariant.room, c.feed.auto.out, ap (λ (l : List ℕ). length l) c.deref_mut-in-loop-ring.ensures.value);
       next = number-taken _ _ _ past c.args.r.now _ _ _ _ at.0 at.1 at.2 _ taken stands.next;
@@ -73,7 +74,8 @@ returns-in-Taken-clause-room g c past stands may =
 -- the block that is given is the next of those that are due, and it was recorded as far as a call records it
 block_given : (g : Over) (c : After-add g) (past : RecordingPast) (stands : RepresentsRecording c.args.self past) (may : MayFeedRecording past c.args.r.now)
     → let at = c.loop-ring.invariant.feeding past stands may in
-    let b : Block = record { number = c.loop-ring.ring.next; payload = take c.header-payload.result.payload c.deref.result.now } in
+    let b : Block =
+    record { number = c.loop-ring.ring.next; session = c.args.self.session; payload = take c.header-payload.result.payload c.deref.result.now } in
     (at.1 < due_count (recording_with_record past c.args.r.now)) × (b ≡ numbered_block (recording_with_record past c.args.r.now) at.1)
     × RecordsFirstOf g.D.Deck.tells c.args.self.ring.header c.loop-ring.ring.next (b ∷ []) (g.D.Deck.state c.loop-ring.deck) (g.D.Deck.state c.add.new.deck)
 block_given g c past stands may =
@@ -86,9 +88,10 @@ block_given g c past stands may =
     let bytes : take c.header-payload.result.payload c.deref.result.now ≡ cut_block past.header.payload (recorded_bytes (recording_with_record past r)) at.1 =
     ap (λ (l : List ℕ). take c.header-payload.result.payload l) c.deref.ensures ∙ ap (λ n. take n c.feed.new.out) payload
     ∙ c.in-Block.ensures.block _ (in_box c.deref_mut.ensures.value at.2.stands) stream refl in
-    let b : Block = record { number = c.loop-ring.ring.next; payload = take c.header-payload.result.payload c.deref.result.now } in (
+    let b : Block =
+    record { number = c.loop-ring.ring.next; session = c.args.self.session; payload = take c.header-payload.result.payload c.deref.result.now } in (
       (c.in-Block.ensures.exactly _ (in_box c.deref_mut.ensures.value at.2.stands) stream).0 refl,
-      block_is past r c.args.self.ring.next c.loop-ring.ring.next at.1 _ stands.next at.2.number at.2.since bytes,
+      block_is past r c.args.self.ring.next c.loop-ring.ring.next c.args.self.session at.1 _ stands.next stands.session at.2.number at.2.since bytes,
       subst (λ (h : Header). RecordsFirstOf g.D.Deck.tells h c.loop-ring.ring.next (b ∷ []) (s c.loop-ring.deck)
           (s c.add.new.deck)) c.loop-ring.invariant.header
           c.add.ensures.records,
@@ -145,7 +148,8 @@ loop-ring-preserved g c = record {
       let at = c.loop-ring.invariant.feeding past stands may in
       let stream = MayStream-giving past r at.0 at.1 may at.2.same in
       let given = block_given g (goal.at.loop-ring-preserved g c).After-add past stands may in
-      let b : Block = record { number = c.loop-ring.ring.next; payload = take c.header-payload.result.payload c.deref.result.now } in
+      let b : Block =
+      record { number = c.loop-ring.ring.next; session = c.args.self.session; payload = take c.header-payload.result.payload c.deref.result.now } in
       let ok = c.in_ok-ring-in-Block.ensures in
       let recorded : RecordsAllOf g.D.Deck.tells c.args.self.ring.header c.loop-ring.ring.next (b ∷ []) (s c.loop-ring.deck) (s c.add.new.deck) =
       subst (λ (h : Header). RecordsAllOf g.D.Deck.tells h c.loop-ring.ring.next (b ∷ []) (s c.loop-ring.deck)

@@ -1,9 +1,10 @@
-use Rattle.std.proofs.Common.{◌≡◌, ◌∙◌, ◌+◌, ◌-◌, ℕ, List, Result, Ok, Err, length, ap, arith, refl, sym, subst}
+use Rattle.std.proofs.Common.{◌≡◌, ◌∙◌, ◌+◌, ◌-◌, ◌%◌, ◌^◌, ℕ, List, Result, Ok, Err, length, ap, arith, refl, sym, subst}
 use Rattle.std.specs.Prelude.{IsTrue, OnErr}
 use Rattle.fdr_deck.specs.Calls.{HasOneAnnounced, IsDiskWork, KeepsAnnounced, Announces}
 use Rattle.fdr_deck.proofs.Moments.{KeepsAnnounced-then}
 use Rattle.fdr_slot.specs.declared.image.Header.{Header}
 use Rattle.fdr_slot.specs.Places.{gate_at}
+use Rattle.fdr_recover.specs.Stretches.{last_session}
 use Rattle.fdr_recover.specs.Images.{recovered_run, next_of}
 use Rattle.fdr_recover.specs.ImageHeader.{IsFor, header_in}
 use Rattle.fdr_ring.specs.Closing.{image_with_closed_gate}
@@ -11,11 +12,11 @@ use Rattle.fdr_ring.specs.Runs.{last_blocks}
 use Rattle.fdr_ring.specs.Rings.{IsAttaching, OfSettled}
 use Rattle.fdr_table.specs.Rows.{FrameRow, TableRows}
 use Rattle.fdr_stream.specs.Past.{RepresentsStream}
-use Rattle.fdr_recorder.specs.Past.{due_count, past_at_start, stream_past}
+use Rattle.fdr_recorder.specs.Past.{due_count, past_at_start, session_of, stream_past}
 use Rattle.fdr_recorder.proofs.Adding.{IsSureRing-told}
 use Rattle.fdr_recorder.proofs.Feeding.{in_box}
 use Rattle.fdr_recorder.proofs.Starting.{Starts-looked, Starts-attached, Starts-announced}
-use Rattle.fdr_recorder.proofs.Starting.{greatest-started, least-started, stream-started, next-started}
+use Rattle.fdr_recorder.proofs.Starting.{greatest-started, least-started, stream-started, next-started, session_of-is}
 use Rattle.fdr_recorder.proofs.session.Session.start.Given.{Over}
 use Rattle.fdr_recorder.proofs.session.Session.start.Goals.{After-attach}
 use Rattle.fdr_recorder.proofs.session.Session.start.Goals as goal
@@ -116,17 +117,28 @@ returns-clause-started g c =
     let held23 : (s d3).held ≡ (s d2).held = c.announce.ensures.disk.disk.held in
     let fresh = header_read g (goal.at.returns-clause-started g c).After-attach in
     let announces : Announces r.next (s d2) (s d3) = subst (λ (n : ℕ). Announces n (s d2) (s d3)) c.next.ensures.number c.announce.ensures.announces in
+    let n : ℕ = (c.session-session.result + 1) % 2 ^ 32 in
     let next : IsTrue t.bytes → r.next ≡ next_of r.header (s d0).held =
     (λ told. ok.attached.next told ∙ ap (λ (l : List ℕ). next_of h l) held01 ∙ ap (λ (hh : Header). next_of hh (s d0).held) (sym same)) in
     record {
       stands = record {
         header = refl;
-        stream = in_box boxed.ensures (subst (λ (hh : Header). RepresentsStream k (stream_past (past_at_start table hh r.next))) (sym same)
+        stream = in_box boxed.ensures (subst (λ (hh : Header). RepresentsStream k (stream_past (past_at_start table hh r.next n))) (sym same)
             (stream-started k table h.payload c.in_ok-stream.ensures));
-        next = subst (λ (hh : Header). r.next ≡ r.next + due_count (past_at_start table hh r.next)) (sym same)
+        session = refl;
+        next = subst (λ (hh : Header). r.next ≡ r.next + due_count (past_at_start table hh r.next n)) (sym same)
             (next-started k table h.payload r.next c.in_ok-stream.ensures);
         room = omega (arith, ap (λ (hh : Header). hh.payload) same, c.in_ok-header.ensures.limits.most_payload, long);
       };
+      session = λ told. ap (λ (m : ℕ). (m + 1) % 2 ^ 32) (c.session-session.ensures.number ∙ ok.session told
+          ∙ ap (λ (l : List ℕ). last_session (recovered_run h l)) held01)
+          ∙ sym (session_of-is (recovered_run h (s d0).held)) ∙ ap (λ (hh : Header). session_of (recovered_run hh (s d0).held)) (sym same);
+      version = ap (λ (hh : Header). hh.version) same ∙ omega (
+        arith,
+        c.in_ok-header.ensures.limits.least_version,
+        c.in_ok-header.ensures.limits.most_version,
+        c.if-header-eq1.false,
+      );
       words = ap (λ (hh : Header). hh.words) same ∙ words;
       header = λ told. same ∙ c.in_ok-header.ensures.read told;
       next = next;

@@ -1,5 +1,4 @@
 use Rattle.std.proofs.Common.{◌∙◌, [], ◌∷◌, ℕ, ap, arith}
-use Rattle.std.specs.Prelude.{IsTrue}
 use Rattle.fdr_deck.specs.Disk.{patched}
 use Rattle.fdr_slot.proofs.HeaderLemmas.{in_limits-is}
 use Rattle.fdr_ring.specs.Rings.{IsCommitting, ChangesImage}

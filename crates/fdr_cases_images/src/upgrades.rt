@@ -1,0 +1,174 @@
+//! Images of version 1: what is refused and listed of them, and what an upgrade does.
+
+use crate::formats::fresh_image;
+use crate::listings::list;
+use crate::recoveries::recover;
+use fdr_cases::{
+    ALTITUDE, END_AT_4000000, Ran, WORD_AT_0, deck_of, frame_with, ring_with, run_words,
+};
+use fdr_deck::{MemDeck, Tear};
+use fdr_slot::ImageFault;
+use fdr_top::Outcome;
+use std::alloc::{AllocError, Global};
+use std::test::Fail;
+
+/// Which call of an upgrade writes the version: the others are the size, the header and a sync.
+const WRITE: u64 = 2;
+
+/// A ring of version 1 with the six blocks of a frame with the altitude 5.
+fn old_ring(alloc: Global) -> Result<Vec<u8>, AllocError> {
+    ring_with(alloc, 0, &[0; 6], &frame_with(alloc, &[(13, 0x50)])?)
+}
+
+/// An image with this version byte.
+fn with_version(alloc: Global, image: &[u8], version: u8) -> Result<Vec<u8>, Fail> {
+    let mut other = image.to_vec(alloc)?;
+    *other.get_mut(1).ok_or("a version")? = version;
+    Ok(other)
+}
+
+/// Upgrades an image. The table isn't read.
+fn upgrade(alloc: Global, deck: &mut MemDeck) -> Result<Ran, AllocError> {
+    run_words(alloc, &["upgrade", "flight.img"], "", deck, &[])
+}
+
+/// What a command answers that records a trace of a frame with the altitude 5, and the image that it leaves.
+fn recorded(alloc: Global, words: &[&str], image: &[u8]) -> Result<(Outcome, Vec<u8>), Fail> {
+    let mut trace = WORD_AT_0.to_vec(alloc)?;
+    trace.extend_from_slice(&END_AT_4000000)?;
+    let mut deck = deck_of(alloc, image, &trace, &[])?;
+    let ran = run_words(alloc, words, ALTITUDE, &mut deck, &[])?;
+    if !ran.written.is_empty() {
+        return Err("it writes no text")?;
+    }
+    Ok((ran.outcome, deck.image().to_vec(alloc)?))
+}
+
+const RECORD: &[&str] = &["record", "t1.csv", "flight.img"];
+
+const DRILL: &[&str] = &["drill", "t1.csv", "flight.img", "--seed=1", "--frames=1"];
+
+/// What is listed of an image.
+fn listed(alloc: Global, image: &[u8]) -> Result<Vec<u8>, Fail> {
+    let mut deck = deck_of(alloc, image, &[], &[])?;
+    let ran = list(alloc, ALTITUDE, &mut deck)?;
+    if ran.outcome != Outcome::Done {
+        return Err("the image")?;
+    }
+    Ok(ran.written)
+}
+
+#[test]
+fn records_in_an_old_image_once_it_is_upgraded(rt: HostRuntime) -> Result<(), Fail> {
+    let alloc = rt.alloc();
+    let old = old_ring(alloc)?;
+    for words in [RECORD, DRILL] {
+        let (answer, left) = recorded(alloc, words, &old)?;
+        assert_eq!(rt; answer, Outcome::OldVersion, "{words:?}");
+        assert_eq!(rt; left, old, "{words:?}");
+    }
+    let row = b"row,0,1,10,ALT,5\n";
+    assert_eq!(rt; listed(alloc, &old)?.as_slice(), row.as_slice());
+
+    let new = with_version(alloc, &old, 0xa5)?;
+    let mut deck = deck_of(alloc, &old, &[], &[])?;
+    for _ in 0..2 {
+        let ran = upgrade(alloc, &mut deck)?;
+        assert_eq!(rt; ran.outcome, Outcome::Done);
+        assert_eq!(rt; ran.written.len(), 0);
+        assert_eq!(rt; deck.image(), new.as_slice());
+    }
+    let lines = b"session,0,0\nrow,0,1,10,ALT,5\n";
+    assert_eq!(rt; listed(alloc, &new)?.as_slice(), lines.as_slice());
+
+    let (answer, longer) = recorded(alloc, RECORD, &new)?;
+    assert_eq!(rt; answer, Outcome::Done);
+    let lines = b"session,0,0\nrow,0,1,10,ALT,5\nsession,1,6\nrow,0,1,10,ALT,5\n";
+    assert_eq!(rt; listed(alloc, &longer)?.as_slice(), lines.as_slice());
+    Ok(())
+}
+
+// What stood where a session has its place in version 2 is a session from then on.
+#[test]
+fn an_upgrade_keeps_numbers_and_bytes(rt: HostRuntime) -> Result<(), Fail> {
+    let alloc = rt.alloc();
+    let frame = frame_with(alloc, &[(13, 0x50)])?;
+    let old = ring_with(alloc, 0x17, &[3, 3, 3, 3, 3, 4], &frame)?;
+    let mut deck = deck_of(alloc, &old, &[], &[])?;
+    let before = recover(alloc, &mut deck)?;
+    assert_eq!(rt; before.written, frame);
+    assert_eq!(rt; upgrade(alloc, &mut deck)?.outcome, Outcome::Done);
+    let after = recover(alloc, &mut deck)?;
+    assert_eq!(rt; after.written, frame);
+    let lines = b"session,3,0\ngap,0,2560\nsession,4,5\ngap,0,512\n";
+    assert_eq!(rt; listed(alloc, deck.image())?.as_slice(), lines.as_slice());
+    Ok(())
+}
+
+#[test]
+fn a_stop_leaves_one_version_or_the_other(rt: HostRuntime) -> Result<(), Fail> {
+    let alloc = rt.alloc();
+    let old = old_ring(alloc)?;
+    let mut whole = deck_of(alloc, &old, &[], &[])?;
+    upgrade(alloc, &mut whole)?;
+    assert_eq!(rt; whole.calls(), WRITE + 2);
+    let tears = [
+        (Tear::Old, 0x00, "row,0,1,10,ALT,5\n"),
+        (Tear::New, 0xa5, "session,0,0\nrow,0,1,10,ALT,5\n"),
+        (Tear::Fill(0x17), 0x17, "row,0,1,10,ALT,5\n"),
+        (Tear::Fill(0xa5), 0xa5, "session,0,0\nrow,0,1,10,ALT,5\n"),
+    ];
+    for call in 0..WRITE + 2 {
+        // Nothing is pending before the write.
+        let mut failing = deck_of(alloc, &old, &[], &[call])?;
+        let failed = upgrade(alloc, &mut failing)?;
+        assert_eq!(rt; failed.outcome, Outcome::DiskFault, "call {call}");
+        assert_eq!(rt; failing.calls(), call + 1, "call {call}");
+        for (tear, version, lines) in tears {
+            let version = if call < WRITE { 0x00 } else { version };
+            for deck in [&whole, &failing] {
+                if call < deck.calls() {
+                    let left = deck.stop(alloc, call, tear)?;
+                    let expected = with_version(alloc, &old, version)?;
+                    assert_eq!(rt; left, expected, "call {call}, {tear:?}");
+                }
+            }
+            if call >= WRITE {
+                let left = with_version(alloc, &old, version)?;
+                let written = listed(alloc, &left)?;
+                assert_eq!(rt; written.as_slice(), lines.as_bytes(), "{tear:?}");
+            }
+        }
+    }
+    Ok(())
+}
+
+/// What is answered where a byte of an image is another, or bytes are missing at its end: the image stays as it is.
+fn upgraded(alloc: Global, at: usize, byte: u8, length: usize) -> Result<Outcome, Fail> {
+    let mut image = fresh_image(alloc)?;
+    *image.get_mut(at).ok_or("a byte")? = byte;
+    image.resize(length, 0)?;
+    let mut deck = deck_of(alloc, &image, &[], &[])?;
+    let ran = upgrade(alloc, &mut deck)?;
+    if !ran.written.is_empty() || deck.image() != image.as_slice() {
+        return Err("changed")?;
+    }
+    Ok(ran.outcome)
+}
+
+#[test]
+fn upgrades_no_other_file(rt: HostRuntime) -> Result<(), Fail> {
+    let cases = [
+        (0, 0x5a, 63, Outcome::ImageRefused(ImageFault::Small)),
+        (0, 0x00, 384, Outcome::ImageRefused(ImageFault::Closed)),
+        (2, 0x00, 384, Outcome::ImageRefused(ImageFault::Magic)),
+        (11, 3, 384, Outcome::ImageRefused(ImageFault::Geometry)),
+        (0, 0x5a, 383, Outcome::ImageRefused(ImageFault::Short)),
+        (1, 0xa5, 384, Outcome::Done),
+    ];
+    for (at, byte, length, outcome) in cases {
+        let answer = upgraded(rt.alloc(), at, byte, length)?;
+        assert_eq!(rt; answer, outcome, "byte {at}, {length} bytes");
+    }
+    Ok(())
+}

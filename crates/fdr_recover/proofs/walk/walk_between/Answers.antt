@@ -1,0 +1,133 @@
+use Rattle.std.proofs.Common.{◌≡◌, ◌++◌, ◌+◌, ◌-◌, [], Result, Err, refl, sym, ap, ◌∙◌, arith}
+use Rattle.std.specs.Prelude.{IsTrue}
+use Rattle.std.specs.List.{cons_option}
+use Rattle.std.proofs.lemmas.Result.{err_from_is_err_and}
+use Rattle.fdr_recover.specs.Images.{block_numbered, blocks_between}
+use Rattle.fdr_recover.proofs.Looking.{Looks-here, Looks-then}
+use Rattle.fdr_recover.specs.declared.walk.BlocksFault.{BlocksFault}
+use Rattle.fdr_recover.proofs.Between.{between_none, between_count, between_more, between_split, length-payloads-append}
+use Rattle.fdr_recover.proofs.walk.walk_between.Goals as goal
+
+-- the fault that is handed on
+same_fault : (r : Result (Unit {0}) BlocksFault) (fault handed wanted : BlocksFault) → r ≡ Err handed → handed ≡ fault → r ≡ Err wanted
+    → ◌≡◌ {A = Result (Unit {0}) BlocksFault} (Err fault) (Err wanted)
+same_fault r fault handed wanted is same wants = ap Err (sym same) ∙ sym is ∙ wants
+
+pub loop-number-init : goal.loop-number-init
+loop-number-init g c = record {
+  looks = Looks-here _ _ (g.met.D.Deck.sound c.args.deck.now);
+  rest = g.met.D.Deck.rest_here c.args.deck.now;
+  disk_work = refl;
+  no_disk_fault = refl;
+  end = omega arith;
+  taken = (
+    [],
+    c.requires.ready,
+    omega arith,
+    λ told. sym (between_none c.args.h.now (g.D.Deck.state c.args.deck.now).held c.args.first c.args.first (omega arith)),
+  );
+}
+
+pub walk_block-requires-clause-whole : goal.walk_block-requires-clause-whole
+walk_block-requires-clause-whole g c = omega (arith, c.requires.whole, c.loop-number.invariant.looks.extent)
+
+pub walk_block-requires-clause-stands : goal.walk_block-requires-clause-stands
+walk_block-requires-clause-stands g c =
+    let inv = c.loop-number.invariant.taken in
+    let limits = c.requires.limits in (
+      c.args.taker.now,
+      c.args.out.now,
+      inv.0,
+      inv.1,
+      omega (
+        arith,
+        inv.2,
+        c.loop-number-test.true,
+        c.loop-number.auto.number,
+        c.requires.room,
+        limits.most_slots,
+        limits.most_payload,
+      ),
+    )
+
+pub returns-in_err-walk_block-clause-looks : goal.returns-in_err-walk_block-clause-looks
+returns-in_err-walk_block-clause-looks g c =
+    Looks-then _ _ _ _ (g.met.D.Deck.sound c.args.deck.now) c.loop-number.invariant.looks c.walk_block.ensures.looks
+
+pub returns-in_err-walk_block-clause-rest : goal.returns-in_err-walk_block-clause-rest
+returns-in_err-walk_block-clause-rest g c =
+    g.met.D.Deck.rest_then c.args.deck.now _ _ c.loop-number.invariant.rest c.walk_block.ensures.rest
+
+pub returns-in_err-walk_block-clause-part : goal.returns-in_err-walk_block-clause-part
+returns-in_err-walk_block-clause-part g c = λ fails told.
+    let h = c.args.h.now in
+    let held = (g.D.Deck.state c.args.deck.now).held in
+    let first = c.args.first in
+    let number = c.loop-number.number in
+    let inv = c.loop-number.invariant.taken in
+    let p = err_from_is_err_and c.from_residual.result c.from_residual.ensures.1 in
+    let failed = c.in_err-walk_block.ensures.part c.args.taker.now c.args.out.now inv.0 inv.1 (same_fault _ _ _ _ p.1 p.2 fails) in
+    let more : failed.0 ≡ cons_option (block_numbered h held number) [] = rw c.loop-number.invariant.looks.disk.held at failed.2 told in
+    let low = c.loop-number.auto.number in
+    let read = ap (λ xs. xs ++ failed.0) (inv.3 told) ∙ ap (λ xs. blocks_between h held first number ++ xs) more
+    ∙ sym (between_more h held first number (omega (arith, low))) in
+    let whole = between_split h held first (number + 1) c.args.next (omega (arith, low)) (omega (arith, c.loop-number-test.true)) in
+    let all = ap (λ xs. xs ++ blocks_between h held (number + 1) c.args.next) read ∙ sym whole in
+    rw all at (failed.1 (blocks_between h held (number + 1) c.args.next))
+
+pub returns-in_err-walk_block-clause-front : goal.returns-in_err-walk_block-clause-front
+returns-in_err-walk_block-clause-front g c = λ fails.
+    let h = c.args.h.now in
+    let held = (g.D.Deck.state c.args.deck.now).held in
+    let first = c.args.first in
+    let number = c.loop-number.number in
+    let inv = c.loop-number.invariant.taken in
+    let p = err_from_is_err_and c.from_residual.result c.from_residual.ensures.1 in
+    let is = same_fault _ _ _ _ p.1 p.2 fails in
+    let low = c.loop-number.auto.number in (
+      inv.0,
+      rw (c.in_err-walk_block.ensures.same is, c.in_err-walk_block.ensures.unwritten is) inv.1,
+      λ told. (
+        blocks_between h held number c.args.next,
+        between_split h held first number c.args.next (omega (arith, low)) (omega (arith, c.loop-number-test.true))
+            ∙ ap (λ xs. xs ++ blocks_between h held number c.args.next) (sym (inv.3 told)),
+      ),
+    )
+
+pub loop-number-preserved : goal.loop-number-preserved
+loop-number-preserved g c =
+    let h = c.args.h.now in
+    let held = (g.D.Deck.state c.args.deck.now).held in
+    let first = c.args.first in
+    let number = c.loop-number.number in
+    let inv = c.loop-number.invariant.taken in
+    let all = c.in_ok-walk_block.ensures.all c.args.taker.now c.args.out.now inv.0 inv.1 in
+    record {
+      looks = Looks-then _ _ _ _ (g.met.D.Deck.sound c.args.deck.now) c.loop-number.invariant.looks c.walk_block.ensures.looks;
+      rest = g.met.D.Deck.rest_then c.args.deck.now _ _ c.loop-number.invariant.rest c.walk_block.ensures.rest;
+      disk_work = c.in_ok-walk_block.ensures.disk_work ∙ c.loop-number.invariant.disk_work;
+      no_disk_fault = c.in_ok-walk_block.ensures.no_disk_fault ∙ c.loop-number.invariant.no_disk_fault;
+      end = omega (arith, c.loop-number-test.true);
+      taken = (
+        inv.0 ++ all.0,
+        all.1,
+        omega (arith, length-payloads-append inv.0 all.0, inv.2, all.2, c.requires.limits.most_payload, c.loop-number.auto.number),
+        λ told.
+            ap (λ xs. xs ++ all.0) (inv.3 told)
+            ∙ ap (λ xs. blocks_between h held first number ++ xs) (rw c.loop-number.invariant.looks.disk.held at all.3 told)
+            ∙ sym (between_more h held first number (omega (arith, c.loop-number.auto.number))),
+      );
+    }
+
+pub returns-clause-all : goal.returns-clause-all
+returns-clause-all g c =
+    let h = c.args.h.now in
+    let held = (g.D.Deck.state c.args.deck.now).held in
+    let first = c.args.first in
+    let end = c.loop-number.invariant.end in
+    let inv = c.loop-number.invariant.taken in (
+      inv.0,
+      inv.1,
+      omega (arith, inv.2, c.requires.room, end, c.requires.limits.most_slots),
+      λ told. inv.3 told ∙ between_count h held first c.loop-number.number c.args.next (omega (arith, end, c.loop-number-test.false)),
+    )

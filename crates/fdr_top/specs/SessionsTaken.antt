@@ -1,0 +1,47 @@
+-- What a taker took of blocks that come one after another, session by session.
+use Rattle.std.specs.Prelude.{ℕ, ◌≡◌, ◌<◌, List, [], ◌∷◌, ◌++◌, length, Option, Some, None}
+use Rattle.std.specs.List.{flat_map}
+use Rattle.fdr_recover.specs.Blocks.{Block}
+use Rattle.fdr_recover.specs.Payloads.{payloads_of}
+use Rattle.fdr_recover.specs.Stretches.{last_session}
+use Rattle.fdr_table.specs.Rows.{TableRows}
+use Rattle.fdr_readout.specs.declared.events.EventReader.{EventReader}
+use Rattle.fdr_readout.specs.Entries.{Entry, LineEntry}
+use Rattle.fdr_readout.specs.Taken.{HasTaken}
+use Rattle.fdr_top.specs.Sessions.{session_entries, session_line, sessions_of}
+
+-- The blocks whose bits are read after these blocks, and the sessions before them. No session is open in version 1, where all
+-- blocks are read together, and before the first block; else the last session is, by its number.
+abbrev pub IsOpenSession : ℕ → List Block → Option ℕ → List (List Block) → List Block → Type 0
+IsOpenSession version blocks None closed current = (version ≡ 2 → blocks ≡ []) × (current ≡ blocks)
+IsOpenSession version blocks (Some number) closed current =
+    (version ≡ 2) × (0 < length current) × (last_session current ≡ number) × (sessions_of blocks ≡ closed ++ current ∷ [])
+
+-- what comes before the bits of the open session: the sessions before it, and its line
+abbrev pub entries_before : TableRows → Option ℕ → List (List Block) → List Block → List Entry
+entries_before t None closed current = []
+entries_before t (Some number) closed current = flat_map (session_entries t) closed ++ LineEntry (session_line current) ∷ []
+
+-- These blocks came, of which a session is open, and since the taker and the sink were as they were at first the taker took all
+-- that the blocks decide, as far as nothing that follows changes it.
+pub record HasTakenBlocks {S O : Type 0} (took : TableRows → S → O → S → O → List Entry → Type 0) (t : TableRows) (version : ℕ)
+    (open_session : Option ℕ) (r : EventReader) (blocks : List Block) (first : S) (out_first : O) (now : S) (out_now : O) : Type 0 where
+  pub closed : List (List Block)
+  pub current : List Block
+  pub mid : S
+  pub out_mid : O
+  pub session : IsOpenSession version blocks open_session closed current
+  pub before : took t first out_first mid out_mid (entries_before t open_session closed current)
+  pub bits : HasTaken took t r (payloads_of current) mid out_mid now out_now
+
+-- The same, and one more block comes, whose session is open: its bits are still to be read.
+pub record HasBegunBlock {S O : Type 0} (took : TableRows → S → O → S → O → List Entry → Type 0) (t : TableRows) (version : ℕ)
+    (open_session : Option ℕ) (r : EventReader) (blocks : List Block) (b : Block) (first : S) (out_first : O) (now : S) (out_now : O)
+    : Type 0 where
+  pub closed : List (List Block)
+  pub current : List Block
+  pub mid : S
+  pub out_mid : O
+  pub session : IsOpenSession version (blocks ++ b ∷ []) open_session closed (current ++ b ∷ [])
+  pub before : took t first out_first mid out_mid (entries_before t open_session closed (current ++ b ∷ []))
+  pub bits : HasTaken took t r (payloads_of current) mid out_mid now out_now
