@@ -1,0 +1,6 @@
+pub mod SlotNumbers
+pub mod Times
+pub mod Numbers
+pub mod Joins
+pub mod InOne
+pub mod LastRun
