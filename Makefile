@@ -20,6 +20,7 @@ demo:
 		--data ordinary.csv=../../examples/ordinary.csv --data fresh.csv=../../examples/fresh.csv \
 		--data ring.img=../../examples/ring.img --data recorded.img=../../examples/recorded.img \
 		--data cut.img=../../examples/cut.img --data again.img=../../examples/again.img \
+		--data damaged.img=../../examples/damaged.img --data headless.img=../../examples/headless.img \
 		--data old.img=../../examples/old.img
 
 # Checks the documents and the images of examples/ against what they are made from: two seconds.
@@ -27,7 +28,7 @@ check:
 	tools/documents.py check
 	examples/make_images.py --check
 
-# Goes the walk of examples/ with the built program, and compares what it prints with what the two pages show.
+# Goes the walk of examples/ with the built program, and compares what it prints with what the three pages show.
 walk: build
 	tests/walk.py bin/fdr
 

@@ -200,6 +200,15 @@ def write_trace(path, table, seconds, chance):
         file.write(end_at(seconds * SECOND))
 
 
+# --- rules
+
+
+def change_rules(count, window):
+    """Rules for changes of the ordinary table's parameters within so many rows, which no value makes: they are only looked for."""
+    names = [row.split(",")[1] for row in ORDINARY.decode().splitlines() if row.startswith("P")]
+    return "".join(f"RULE{number},{names[number % len(names)]},change,{10**15},{window}\n" for number in range(count)).encode()
+
+
 # --- the works
 
 
@@ -237,6 +246,11 @@ def make_works(room, memory, size, hours):
     add("decode, levels of these", ["decode"], at("levels"))
     add("list, a full image", ["list", at("ordinary.csv"), at("full.img")], measured=at("full.img"))
     add("recover, a full image", ["recover", at("full.img")], measured=at("full.img"))
+    for count, window in ((1, 2), (256, 2), (256, 1024)):
+        rules = at(f"rules.{count}.{window}")
+        rules.write_bytes(change_rules(count, window))
+        name = f"exceed, a full image, {count} rule{'s' * (count > 1)} of {window:,} rows"
+        add(name, ["exceed", at("ordinary.csv"), at("full.img")], rules, at("full.img"))
     for name, seconds in (("ordinary", 25 * 3600), ("dense", 3600), ("full", 3600)):
         write_trace(at(f"{name}.trace"), table_of[name], int(seconds * hours), chance)
         what = {"full": "four parts in each slot"}.get(name, f"the {name} table")

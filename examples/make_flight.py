@@ -4,6 +4,7 @@
     examples/make_flight.py > flight.csv
     examples/make_flight.py --from 1931 > after.csv      the words from a time on, with times counted from there
     examples/make_flight.py --to 1873.4 > before.csv     the words before a time
+    examples/make_flight.py --trace > flight.trace       the same as a trace, which `fdr record` reads
 
 The flight is made up, by a generator with a fixed seed, so it is the same each time. What `tools/flight trace` reads of it
 is said in docs/FLIGHT_TOOLS.md.
@@ -147,17 +148,34 @@ def words() -> Iterator[tuple[float, str]]:
     return iter(sorted(rows))
 
 
+def record(kind: int, bus: int, word: int, time: float) -> bytes:
+    """A record of a trace."""
+    return bytes([kind, bus, 0, 0]) + word.to_bytes(4, "big") + round(time * 1_000_000).to_bytes(8, "big")
+
+
+def word_record(time: float, row: str) -> bytes:
+    """The record of a row's word. Its label is turned round, and bit 32 makes its parity odd."""
+    bus, label, sdi, data, ssm = row.split(",")
+    word = int(f"{int(label, 8):08b}"[::-1], 2) | int(sdi) << 8 | int(data) << 10 | int(ssm) << 29
+    return record(1, int(bus), word | (word.bit_count() + 1) % 2 << 31, time)
+
+
 def main() -> None:
     parser = argparse.ArgumentParser(description="Makes the capture of a flight of an hour.")
     parser.add_argument("--from", dest="begin", type=float, default=0.0, metavar="SECONDS", help="words from here on")
     parser.add_argument(
         "--to", dest="end", type=float, default=float(LENGTH), metavar="SECONDS", help="words before here"
     )
+    parser.add_argument("--trace", action="store_true", help="write a trace")
     given = parser.parse_args()
+    within = [(time - given.begin, row) for time, row in words() if given.begin <= time < given.end]
+    if given.trace:
+        end = record(2, 0, 0, given.end - given.begin)
+        sys.stdout.buffer.write(b"".join(word_record(time, row) for time, row in within) + end)
+        return
     print("time,bus,label,sdi,data,ssm")
-    for time, row in words():
-        if given.begin <= time < given.end:
-            print(f"{time - given.begin:.6f},{row}")
+    for time, row in within:
+        print(f"{time:.6f},{row}")
     print(f"{given.end - given.begin:.6f},,end,,,")
 
 

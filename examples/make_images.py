@@ -48,12 +48,32 @@ def again_image():
     return recorded(recorded_image(), FIRST)
 
 
+def damaged_image():
+    """The trace was recorded, and the gate of block 8 is closed."""
+    image = bytearray(recorded_image())
+    image[slot_at(shape_of(image), 8)] = CLOSED
+    return bytes(image)
+
+
+def headless_image():
+    """The same, and the header is zeros."""
+    return bytes(64) + damaged_image()[64:]
+
+
 def old_image():
     """The trace was recorded in an image of version 1."""
     return recorded(empty_image(SLOTS, PAYLOAD, version=VERSION_1), FIRST + SECOND)
 
 
-IMAGES = {"recorded.img": recorded_image, "cut.img": cut_image, "ring.img": ring_image, "again.img": again_image, "old.img": old_image}
+IMAGES = {
+    "recorded.img": recorded_image,
+    "cut.img": cut_image,
+    "ring.img": ring_image,
+    "again.img": again_image,
+    "damaged.img": damaged_image,
+    "headless.img": headless_image,
+    "old.img": old_image,
+}
 
 
 def differences():

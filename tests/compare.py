@@ -206,7 +206,8 @@ def compare(program: pathlib.Path, seed: int, count: int, only: str | None) -> i
     for name, case in all_cases(seed, count, only):
         found = by_program(program, case)
         counts[name][found.status] += 1
-        if found != by_reader(case) or name == "examples" and found.output != next(stored):
+        wanted = next(stored) if name == "examples" else found.output
+        if found != by_reader(case) or found.output != wanted:
             different[name].append(case)
     tell(counts, collections.Counter({name: len(cases) for name, cases in different.items()}))
     for name, cases in different.items():

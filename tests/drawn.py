@@ -505,12 +505,14 @@ def damaged_image(chance: random.Random, image: bytes) -> bytes:
 
 # --- words
 
-WORDS = ["check", "stream", "listbits", "encode", "decode", "format", "record", "recover", "list", "drill", "upgrade", "Check", "help"]
+WORDS = ["check", "stream", "listbits", "encode", "decode", "format", "record", "recover", "list", "salvage", "drill", "upgrade", "Check"]
+WORDS += ["help"]
 WORDS += ["t.csv", "i.img", "none.csv", "", "-", "--", "--help", "--version", "-h", "--slots", "--payload", "--seed", "--frames"]
 WORDS += ["--slots=4", "--payload=64", "--seed=1", "--frames=1", "--slots=", "--slots=+4", "--slot=4", "--slots=4=4", "--=4"]
 WORDS += ["4", "64", "0"]
 LINES = ["check t.csv", "stream t.csv", "listbits t.csv", "encode", "decode", "format t.csv new.img --slots 4 --payload 64"]
 LINES += ["record t.csv i.img", "recover i.img", "list t.csv i.img", "drill --seed=1 t.csv i.img --frames 1", "upgrade i.img"]
+LINES += ["salvage t.csv i.img", "salvage t.csv i.img --slots 4 --payload 64"]
 VALUES = ["4", "64", "0", "1", "3", "5", "63", "65", "0000000004", "00000000064", "100001", "4294967295", "4294967296"]
 VALUES += ["-1", "+4", " 4", "4 ", "", "0x4", "4.0", "9999999999", "\u0664"]
 
@@ -600,6 +602,49 @@ def case_of_list(chance: random.Random) -> Case:
     return Case([b"list", b"t.csv", b"i.img"], files_for(chance, text, image))
 
 
+def case_of_salvage(chance: random.Random) -> Case:
+    rows, text = table_for(chance)
+    image = draw_image(chance, rows)
+    slots, payload = (int.from_bytes(image[at : at + 4], "big") for at in (8, 12))
+    image = damaged_image(chance, image)
+    values = {}
+    if chance.random() < 0.5:
+        values = {"--slots": str(chance.choice([slots, slots, slots + 1, max(4, slots - 1)])), "--payload": str(chance.choice([payload, payload, 64]))}
+        image = bytes(64) + image[64:] if chance.random() < 0.3 else image
+    return Case(with_options(chance, ["salvage", "t.csv", "i.img"], values), files_for(chance, text, image))
+
+
+LIMITS = ["0", "1", "5", "-1", "100", "2047", "-2048", "1000000", "-1000000", "9" + "0" * 18, "-9" + "0" * 18]
+RULE_FAULTS = ["9" + "0" * 17 + "1", "-", "", "+1", "1.5", "1025", "0001", "ABOVE", "change", "A" * 17, "a b", "ALT", "RULE0", "\u00e9"]
+
+
+def draw_rule(chance: random.Random, names: list[str], number: int) -> list[str]:
+    """The fields of a rule, most often one for a parameter of the table."""
+    limit = chance.choice(LIMITS) if chance.random() < 0.5 else str(chance.randint(-3000, 3000))
+    count = chance.choice(["1", "1", "1", "2", "2", "3", "5", "17", "1024"])
+    return [f"RULE{number}", chance.choice(names), chance.choice(["above", "below", "change"]), limit, count]
+
+
+def draw_rules(chance: random.Random, rows: Rows) -> bytes:
+    """The text of rules for the parameters of a table, a few times with a fault."""
+    names = [row[1] for row in rows if row[0] == "P"] or ["ALT"]
+    rules = [draw_rule(chance, names, number) for number in range(chance.choice([0, 1, 2, 3, 8, 8, 256, 257]))]
+    if rules and chance.random() < 0.3:
+        rule = chance.choice(rules)
+        rule[chance.randrange(5)] = chance.choice(RULE_FAULTS)
+        if chance.random() < 0.2:
+            rule.append("")
+    text = written(chance, rules, 0.1) if chance.random() < 0.2 else text_of(rules)
+    return text + b"\n" * 65_537 if chance.random() < 0.02 else text
+
+
+def case_of_exceed(chance: random.Random) -> Case:
+    rows, text = table_for(chance)
+    image = draw_image(chance, rows)
+    image = damaged_image(chance, image) if chance.random() < 0.3 else image
+    return Case([b"exceed", b"t.csv", b"i.img"], files_for(chance, text, image), draw_rules(chance, rows))
+
+
 def case_of_drill(chance: random.Random) -> Case:
     rows, text = table_for(chance)
     image = draw_image(chance, rows)
@@ -630,6 +675,8 @@ DRAWS: dict[str, Callable[[random.Random], Case]] = {
     "record": case_of_record,
     "recover": case_of_recover,
     "list": case_of_list,
+    "salvage": case_of_salvage,
+    "exceed": case_of_exceed,
     "drill": case_of_drill,
     "upgrade": case_of_upgrade,
     "words": case_of_words,

@@ -49,6 +49,7 @@ BITS = t1_frame(0, 5) + t1_frame(1, 7)
 TRACE = word_at(0, 5) + word_at(4_000_000, 7) + end_at(8_000_000)
 LISTING = b"row,0,1,10,ALT,5\nrow,1,1,10,ALT,7\n"
 SESSION = b"session,1,0\n"
+RUN = b"run,0,12\n"
 LEVELS = bytes_of_bits(levels_of(bits_of(BITS)))
 REPORT = b"frame,64,1,16\nparam,ALT,16,even\n"
 EMPTY = empty_image(16, 64)
@@ -81,6 +82,7 @@ DECODE = ["decode"]
 RECORD = ["record", "t1.csv", "a.img"]
 RECOVER = ["recover", "a.img"]
 LIST = ["list", "t1.csv", "a.img"]
+SALVAGE = ["salvage", "t1.csv", "a.img"]
 UPGRADE = ["upgrade", "a.img"]
 LIST_EVERY = ["list", "every.csv", "a.img"]
 SEED = ["--seed", "1", "--frames", "1"]
@@ -107,6 +109,7 @@ TRUNCATED = (3, "fdr: trace record 0: truncated")
 BAD_KIND = (3, "fdr: trace record 0: kind")
 TOO_SMALL = (4, "fdr: image: too small")
 CLOSED_HEADER = (4, "fdr: image: header closed")
+SHORT = (4, "fdr: image: shorter than its ring")
 KILLED = (-signal.SIGKILL, "")
 PAST_SIZE = (-signal.SIGXFSZ, "")
 
@@ -511,7 +514,7 @@ def shrinks_while_recorded_in(place, run):
 def others_come(place, run):
     """While an image is recorded in, every other command on it is refused."""
     run.says(text_of((12, 12)))
-    for words in (RECORD, DRILL, RECOVER, LIST, UPGRADE, ["format", "t1.csv", "a.img", *SIZES]):
+    for words in (RECORD, DRILL, RECOVER, LIST, SALVAGE, UPGRADE, ["format", "t1.csv", "a.img", *SIZES]):
         place.expect(words, DISK_FAULT, given=TRACE)
     run.feed(TRACE)
 
@@ -669,6 +672,7 @@ def writers(stream, how):
     yield Case(f"decode, {how}", DECODE, NO_OUTPUT, given=LEVELS, out=stream)
     yield Case(f"recover, {how}", RECOVER, NO_OUTPUT, out=stream)
     yield Case(f"list, {how}", LIST, NO_OUTPUT, out=stream)
+    yield Case(f"salvage, {how}", SALVAGE, NO_OUTPUT, out=stream)
     yield Case(f"drill, {how}", DRILL, NO_OUTPUT, acks=(12, 18), changes={"a.img": DRILLED}, out=stream)
 
 
@@ -696,6 +700,7 @@ def tables(name, answer, what, **how):
     yield Case(f"format, {what}", ["format", name, "new.img", *SIZES], answer, **how)
     yield Case(f"record, {what}", ["record", name, "a.img"], answer, given=TRACE, **how)
     yield Case(f"list, {what}", ["list", name, "a.img"], answer, **how)
+    yield Case(f"salvage, {what}", ["salvage", name, "a.img"], answer, **how)
     yield Case(f"drill, {what}", ["drill", name, "a.img", *SEED], answer, **how)
 
 
@@ -704,6 +709,9 @@ def images(name, answer, what, formatted=None, **how):
     yield Case(f"record, {what}", ["record", "t1.csv", name], answer, given=TRACE, **how)
     yield Case(f"recover, {what}", ["recover", name], answer, **how)
     yield Case(f"list, {what}", ["list", "t1.csv", name], answer, **how)
+    yield Case(f"salvage, {what}", ["salvage", "t1.csv", name], answer, **how)
+    by_length = SHORT if answer == CLOSED_HEADER else answer
+    yield Case(f"salvage, {what}, slots and payload given", ["salvage", "t1.csv", name, *SIZES], by_length, **how)
     yield Case(f"drill, {what}", ["drill", "t1.csv", name, *SEED], answer, **how)
     yield Case(f"upgrade, {what}", ["upgrade", name], answer, **how)
     if formatted:
@@ -803,6 +811,7 @@ def image_cases():
     yield Case("drill, the image may not be written", DRILL, DISK_FAULT, **unwritable)
     yield Case("recover, the image may not be written", RECOVER, DONE, BITS, **unwritable)
     yield Case("list, the image may not be written", LIST, DONE, SESSION + LISTING, **unwritable)
+    yield Case("salvage, the image may not be written", SALVAGE, DONE, RUN + SESSION + LISTING, **unwritable)
     yield Case("upgrade, the image may not be written", UPGRADE, DISK_FAULT, **unwritable)
     yield Case("format, the folder may not be written", FORMAT, DISK_FAULT, makes=mode(".", 0o555), user=NOBODY)
     yield Case("format, a name that ends with /", [*FORMAT[:2], "new.img/", *SIZES], DISK_FAULT)
@@ -824,6 +833,10 @@ def image_cases():
     yield Case("drill, the image is of version 1", DRILL, OLD_VERSION, **old)
     yield Case("recover, the image is of version 1", RECOVER, DONE, BITS, **old)
     yield Case("list, the image is of version 1", LIST, DONE, LISTING, **old)
+    yield Case("salvage, the image is of version 1", SALVAGE, DONE, RUN + LISTING, **old)
+    headless = {"makes": file("a.img", bytes(64) + IMAGE[64:])}
+    yield Case("salvage, the header is gone", SALVAGE, CLOSED_HEADER, **headless)
+    yield Case("salvage, the header is gone, slots and payload given", [*SALVAGE, *SIZES], DONE, RUN + LISTING, **headless)
     new = {"makes": file("a.img", NEW)}
     yield Case("list, the image was upgraded", LIST, DONE, b"session,0,0\n" + LISTING, **new)
     twice = {"changes": {"a.img": NEW_AGAIN}, "acks": (12, 24), "given": TRACE}

@@ -1,5 +1,5 @@
 #!/usr/bin/env python3
-"""Does what `fdr` does, as docs/FORMATS.md, TABLE.md and COMMANDS.md say it: a second reader of these pages, beside the program.
+"""Does what `fdr` does, as docs/FORMATS.md, TABLE.md, RULES.md and COMMANDS.md say it: a second reader, beside the program.
 
     tests/reader.py WORDS
 
@@ -475,12 +475,29 @@ def accepted_frames(bits: str, words: int) -> Iterator[int]:
         at += 48 * words if is_frame else 1
 
 
+class Row(NamedTuple):
+    """A listed value, in units of its last decimal."""
+
+    counter: int
+    subframe: int
+    word: int
+    param: Param
+    value: int
+
+    def line(self) -> str:
+        return f"row,{self.counter},{self.subframe},{self.word},{self.param.name.decode()},{shown(self.value, self.param.decimals)}"
+
+
 class Listing(NamedTuple):
-    """The lines, where the accepted frames begin, and the rows' values in units of their last decimals."""
+    """The lines, where the accepted frames begin, and the rows, those of frames that go on from each other together."""
 
     lines: list[str]
     frames: list[int]
-    values: list[int]
+    stretches: list[list[Row]]
+
+    @property
+    def values(self) -> list[int]:
+        return [row.value for rows in self.stretches for row in rows]
 
     def written(self) -> bytes:
         return "".join(f"{it}\n" for it in self.lines).encode()
@@ -498,12 +515,11 @@ def value_of(param: Param, raw: int) -> int:
     return param.offset + raw * param.num // param.den
 
 
-def row_of(table: Table, bits: str, param: Param, sample: Sample, begin: int, counter: int) -> tuple[str, int]:
-    """The line and the value of a sample whose superframe begins at this bit. Its first frame has this counter."""
+def row_of(table: Table, bits: str, param: Param, sample: Sample, begin: int, counter: int) -> Row:
+    """The row of a sample whose superframe begins at this bit. Its first frame has this counter."""
     raw = sum(number_at(bits, begin + 12 * it.slot + it.lsb - 1, it.width) * it.weight for it in sample.pieces)
-    value = value_of(param, raw)
     subframe, word = sample.first.slot // table.words % 4 + 1, sample.first.slot % table.words + 1
-    return f"row,{counter},{subframe},{word},{param.name.decode()},{shown(value, param.decimals)}", value
+    return Row(counter, subframe, word, param, value_of(param, raw))
 
 
 def listing_of(table: Table, data: bytes) -> Listing:
@@ -515,15 +531,17 @@ def listing_of(table: Table, data: bytes) -> Listing:
     for at in accepted_frames(bits, table.words):
         counter = number_at(bits, at + 12 * table.counter_slot, 12)
         joined = joined + 1 if at == end and counter == wanted else 0  # the frames right before that it goes on from
+        if not joined:
+            listing.stretches.append([])
         if at > end:
             listing.lines.append(f"gap,{end},{at - end}")
         for last, sample, param in by_cycle[counter % 16]:
             back = last.slot // frame - sample.first.slot // frame
             if back <= joined:
                 begin = at - last.slot // frame * 12 * frame
-                row, value = row_of(table, bits, param, sample, begin, counter - back)
-                listing.lines.append(row)
-                listing.values.append(value)
+                row = row_of(table, bits, param, sample, begin, counter - back)
+                listing.lines.append(row.line())
+                listing.stretches[-1].append(row)
         listing.frames.append(at)
         end, wanted = at + 12 * frame, (counter + 1) % 4096
     if len(bits) > end:
@@ -611,6 +629,16 @@ def ring_for(table: Table, image: bytes) -> Ring:
     return ring
 
 
+def ring_by(table: Table, image: bytes, slots: int, payload: int) -> Ring:
+    """The ring of an image whose slots and payload are given: only its version is the image's own."""
+    ring = Ring(slots, payload, table.words, image[1:2] == bytes([SECOND_VERSION]))
+    if len(image) < 64:
+        raise Refused(4, "image: too small")
+    if len(image) < 64 + ring.slots * (16 + ring.payload):
+        raise Refused(4, "image: shorter than its ring")
+    return ring
+
+
 def ring_to_record_in(table: Table, image: bytes) -> Ring:
     ring = ring_for(table, image)
     if not ring.has_sessions:
@@ -658,7 +686,7 @@ def listing_of_blocks(table: Table, ring: Ring, blocks: list[Block]) -> Listing:
         listing = listing_of(table, bits_in(of_session))
         whole.lines.extend([f"session,{session},{of_session[0].number}", *listing.lines])
         whole.frames.extend(listing.frames)
-        whole.values.extend(listing.values)
+        whole.stretches.extend(listing.stretches)
     return whole
 
 
@@ -684,6 +712,107 @@ def list_image(text: bytes, image: bytes) -> Answer:
     table = table_of(text)
     ring = ring_for(table, image)
     return Answer(0, listing_of_blocks(table, ring, recovered_run(image, ring)).written(), image=image)
+
+
+def salvage(text: bytes, image: bytes, slots: int | None = None, payload: int | None = None) -> Answer:
+    table = table_of(text)
+    ring = ring_for(table, image) if slots is None or payload is None else ring_by(table, image, slots, payload)
+    found = valid_blocks(image, ring)
+    output = b""
+    for _, together in itertools.groupby(enumerate(sorted(found)), key=lambda each: each[1] - each[0]):
+        run = [found[number] for _, number in together]
+        output += f"run,{run[0].number},{len(run)}\n".encode() + listing_of_blocks(table, ring, run).written()
+    return Answer(0, output, image=image)
+
+
+# --- exceed
+
+
+class Rule(NamedTuple):
+    name: bytes
+    param: Param
+    kind: bytes
+    limit: int
+    count: int
+
+
+KINDS = (b"above", b"below", b"change")
+
+
+def kind(field: bytes, before: list[Any]) -> bytes:
+    if field not in KINDS:
+        raise ValueError
+    return field
+
+
+RULE = (as_is, as_is, kind, signed(9 * 10**18), number(1, 1_024))
+MAX_RULES, MAX_RULE_BYTES = 256, 65_536
+
+
+def rule_fault(row: int, text: str) -> Refused:
+    return Refused(17, f"rule row {row}: {text}")
+
+
+def rules_of(table: Table, text: bytes) -> list[Rule]:
+    if len(text) > MAX_RULE_BYTES:
+        raise rule_fault(0, "too large")
+    rules: dict[bytes, Rule] = {}
+    for row, fields in enumerate(rows_of(text)):
+        if len(fields) != len(RULE):
+            raise rule_fault(row, "shape")
+        values: list[Any] = []
+        for read, field in zip(RULE, fields):
+            try:
+                values.append(read(field, values))
+            except ValueError:
+                raise rule_fault(row, f"number in field {len(values)}") from None
+        name, param = values[:2]
+        if not re.fullmatch(rb"[A-Za-z0-9_.-]{1,16}", name):
+            raise rule_fault(row, "name")
+        if param not in table.params:
+            raise rule_fault(row, "unknown name")
+        if name in rules:
+            raise rule_fault(row, "name used twice")
+        if len(rules) == MAX_RULES:
+            raise rule_fault(row, "too large")
+        rules[name] = Rule(name, table.params[param], *values[2:])
+    return list(rules.values())
+
+
+def compared(rule: Rule, values: list[int], place: int) -> int | None:
+    """What a rule compares with its limit at this one of the values, or None where too few are before it."""
+    window = values[max(0, place + 1 - rule.count) : place + 1]
+    if rule.kind != b"change":
+        return values[place]
+    return max(window) - min(window) if len(window) == rule.count else None
+
+
+def exceedances_of(rule: Rule, stretch: list[Row]) -> Iterator[tuple[int, str]]:
+    """The lines of a rule in a stretch, each with the place of the row that ends its hits, or of the end."""
+    places = [place for place, row in enumerate(stretch) if row.param == rule.param]
+    values = [stretch[place].value for place in places]
+    found = [compared(rule, values, at) for at in range(len(values))]
+    is_hit = [it is not None and (it < rule.limit if rule.kind == b"below" else it > rule.limit) for it in found]
+    for hit, together in itertools.groupby(range(len(values)), key=lambda at: is_hit[at]):
+        hits = list(together)
+        if hit and (rule.kind == b"change" or len(hits) >= rule.count):
+            numbers = [it for it in found[hits[0] : hits[-1] + 1] if it is not None]
+            peak = min(numbers) if rule.kind == b"below" else max(numbers)
+            first = stretch[places[hits[0]]]
+            where = f"{first.counter},{first.subframe},{first.word},{len(hits)},{shown(peak, rule.param.decimals)}"
+            end = places[hits[-1] + 1] if hits[-1] + 1 < len(places) else len(stretch)
+            yield end, f"exceed,{rule.name.decode()},{where}\n"
+
+
+def exceed(text: bytes, image: bytes, given: bytes) -> Answer:
+    table = table_of(text)
+    ring = ring_for(table, image)
+    rules = rules_of(table, given)
+    output = ""
+    for stretch in listing_of_blocks(table, ring, recovered_run(image, ring)).stretches:
+        lines = [(end, place, it) for place, rule in enumerate(rules) for end, it in exceedances_of(rule, stretch)]
+        output += "".join(it for _, _, it in sorted(lines))
+    return Answer(0, output.encode(), image=image)
 
 
 # --- record and drill
@@ -757,6 +886,7 @@ class Command(NamedTuple):
     paths: str = ""  # T for a table's, I for an image's
     reads_input: bool = False
     options: tuple[str, ...] = ()
+    needs_options: bool = True
 
 
 COMMANDS = {
@@ -770,6 +900,8 @@ COMMANDS = {
     "recover": Command(recover, "I"),
     "upgrade": Command(upgrade, "I"),
     "list": Command(list_image, "TI"),
+    "salvage": Command(salvage, "TI", False, ("--slots", "--payload"), False),
+    "exceed": Command(exceed, "TI", True),
     "drill": Command(drill, "TI", False, ("--seed", "--frames")),
 }
 LIMITS = {"--slots": (4, 65_536), "--payload": (64, 4_096), "--seed": (0, 4_294_967_295), "--frames": (1, 100_000)}
@@ -805,9 +937,11 @@ def words_of(given: Sequence[bytes]) -> Words:
             raise Refused(1, "usage")
         options[name] = option_value(name, value if has_value else left.pop(0) if left else "")
     command = COMMANDS.get(plain[0]) if plain else None
-    if not command or "" in plain or len(plain) != 1 + len(command.paths) or set(options) != set(command.options):
+    if not command or "" in plain or len(plain) != 1 + len(command.paths):
         raise Refused(1, "usage")
-    return Words(command, plain[1:], [options[name] for name in command.options])
+    if set(options) != set(command.options) and (options or command.needs_options):
+        raise Refused(1, "usage")
+    return Words(command, plain[1:], [options[name] for name in command.options if name in options])
 
 
 def answer_to(given_words: Sequence[bytes], files: Mapping[str, bytes], given: bytes) -> Answer:

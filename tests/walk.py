@@ -1,10 +1,10 @@
 #!/usr/bin/env python3
-"""Goes the walk of examples/ with a built program, and compares what it prints with what its two pages show.
+"""Goes the walk of examples/ with a built program, and compares what it prints with what its three pages show.
 
 tests/walk.py PROGRAM
 
-All blocks of commands, of the first page and then of the second, run one after another in one shell, in a folder with the
-tables and the image of version 1 alone, as a reader types them. The block after one of commands is what they print. Where
+All blocks of commands, page by page, run one after another in one shell, in a folder with the
+tables, the rules, the image of version 1 and the script of the flight alone, as a reader types them. The block after one of commands is what they print. Where
 it has no line of an announcement, those lines are left out of the comparison; commands without such a block print
 announcements or nothing.
 """
@@ -16,7 +16,7 @@ import sys
 import tempfile
 
 EXAMPLES = pathlib.Path(__file__).resolve().parent.parent / "examples"
-PAGES = ("README.md", "IMAGES.md")
+PAGES = ("README.md", "IMAGES.md", "EXCEEDANCES.md")
 COMMAND = re.compile(r"(fdr|put|cp|head|cat|printf) |\(")
 ANNOUNCEMENT = re.compile(r"ack \d+")
 MARK = "--- end of a block ---"
@@ -55,7 +55,7 @@ def printed(program, walk):
         tools = pathlib.Path(room, "tools")
         folder.mkdir()
         tools.mkdir()
-        for given in [*EXAMPLES.glob("*.csv"), EXAMPLES / "old.img"]:
+        for given in [*EXAMPLES.glob("*.csv"), EXAMPLES / "old.img", EXAMPLES / "make_flight.py"]:
             shutil.copy(given, folder)
         (tools / "fdr").symlink_to(pathlib.Path(program).resolve())
         script = f"PATH={tools}:$PATH\n" + "".join("\n".join(lines) + f"\necho '{MARK}'\n" for _, lines, _ in walk)

@@ -1,20 +1,33 @@
 #!/usr/bin/env python3
 """Keeps the documents true to the source.
 
-    tools/documents.py write    writes docs/clauses/CRATE.md anew from the source
+    tools/documents.py write    writes docs/clauses/CRATE.md and the marked parts of docs/MODEL.md and docs/model/ anew
     tools/documents.py check    prints what differs, and ends with 1 where something does
 
-The check wants: the pages of docs/clauses as the source says; each name in `these marks` of docs/COMMANDS.md,
-docs/GUARANTEES.md and docs/LAYERS.md to be one of the source; each clause in a row of docs/LAYERS.md to be one of the
-calls that the row names; README.md to say of how many definitions the contract of `run` speaks, and to show of a case of
-examples/cases what the case has; docs/MODEL.md to list exactly the public definitions of specs/, crate by crate; the
-crates' edges in docs/ARCHITECTURE.md to be those of crates.txt, and the files in its last table to be there; the forms,
-statuses and texts of docs/fdr.1 and docs/COMMANDS.md to be those of the source, with a section there and a row in
-README.md for each command; README.md, CHANGELOG.md, CITATION.cff and docs/fdr.1 to name the version of VERSION, the last
-three with one date; README.md and docs/GUARANTEES.md to name the logic of the kit that is here; each link to lead to a
-file and heading; each path from the top that a page or a script names to be there; each paragraph of a page to be one
-line, and each page but docs/MODEL.md and those of docs/clauses to have fewer than 300; no two public definitions of
-specs/ to share a name; and no line of specs/ and proofs/ to be over 160 columns.
+A marked part of a page stands between its mark and `<!-- end -->`. `<!-- definitions of CRATE -->` has a table of the public
+definitions of the crate's specs/, each with the comment above it. `<!-- pages of docs/model -->` has a table of these pages.
+`<!-- how much there is to read -->` is a table whose last two columns say how many definitions and lines one reads who begins
+at the names in the column before; its other columns are written by hand, as all else of these pages.
+
+The check wants:
+
+- the pages of docs/clauses, and the marked parts, to be as the source says;
+- each public definition of specs/ to have a comment that stands by itself, and its crate to be in one page of docs/model;
+- docs/MODEL.md to name the recursive definitions, and to begin at none of which the contract of `run` doesn't speak;
+- each name in `these marks` of docs/COMMANDS.md, docs/GUARANTEES.md, docs/LAYERS.md, docs/MODEL.md and docs/model to be one of
+  the source, and each clause in a row of docs/LAYERS.md to be one of the calls that the row names;
+- README.md to say of how many definitions the contract of `run` speaks, and to show of a case of examples/cases what the case
+  has;
+- the crates' edges in docs/ARCHITECTURE.md to be those of crates.txt, and the files in its last table to be there;
+- the forms, statuses and texts of docs/fdr.1 and docs/COMMANDS.md to be those of the source, with a section there and a row in
+  README.md for each command;
+- README.md, CHANGELOG.md, CITATION.cff and docs/fdr.1 to name the version of VERSION, the last three with one date; README.md
+  and docs/GUARANTEES.md to name the logic of the kit that is here;
+- each link to lead to a file and heading, and each path from the top that a page or a script names to be there;
+- each paragraph of a page to be one line, and each page to have fewer than 300 that are written by hand, and fewer than 1,000
+  in all but for those of docs/clauses;
+- no two public definitions of specs/ to share a name, no line of specs/ and proofs/ to be over 160 columns, and no comment of
+  specs/ to be over 130.
 
 It notes, and that is no difference: another kit of the same logic than the documents name, and an edge of crates.txt
 that no file of its crate uses.
@@ -26,12 +39,19 @@ import re
 import shutil
 import subprocess
 import sys
+from typing import NamedTuple
 
 TOP = pathlib.Path(__file__).resolve().parent.parent
 CRATES = TOP / "crates"
 CLAUSES = TOP / "docs" / "clauses"
+MODEL = TOP / "docs" / "model"
+DEFINITIONS_OF = r"^<!-- definitions of (\w+) -->$"
+HOW_MUCH = "<!-- how much there is to read -->"
+PAGES = "<!-- pages of docs/model -->"
 MOST_COLUMNS = 160
+MOST_COMMENT_COLUMNS = 130
 MOST_LINES = 299
+MOST_LINES_IN_ALL = 999
 OUTSIDE = {"TABLE", "IMAGE", "flock"}
 
 
@@ -127,20 +147,71 @@ def pages():
     return {name: page for name, _ in crate_lines() if (page := clause_page(name))}
 
 
+class Definition(NamedTuple):
+    """A public definition of specs/: where it is, the comment above it, and its lines without comments."""
+
+    crate: str
+    module: str
+    name: str
+    comment: str
+    lines: list
+    near: dict
+    brought: dict
+
+    @property
+    def key(self):
+        return self.crate, self.module, self.name
+
+
+def begun(line):
+    """The name of the public definition that a line begins, if it begins one."""
+    begins = re.match(r"(?:(?:abbrev|unfoldable) )?pub (?:record |data )?([^\s:{(]+)", line)
+    return begins.group(1) if begins and not line.startswith(("pub mod", "pub use")) else None
+
+
+def goes_on(line, name):
+    """Whether a line goes on with the definition of this name: it is indented, one of its equations, or what closes it."""
+    return not line or line[0] in " )]}" or re.match(rf"{re.escape(name)}(?![\w'-])|unfolding ", line)
+
+
+@functools.cache
+def module_definitions(crate, module):
+    """The public definitions of a module, in its order."""
+    text = (CRATES / crate / "specs" / f"{module}.antt").read_text()
+    found, comment, now = [], [], None
+    near, brought = {}, imports(text, "use")
+    for line in text.splitlines():
+        name = begun(line)
+        if name:
+            now = Definition(crate, module, name, " ".join(comment), [], near, brought)
+            near[name] = now.key
+            found.append(now)
+        elif now and not goes_on(line, now.name):
+            now = None
+        comment = [*comment, line.removeprefix("--").strip()] if line.startswith("--") else []
+        if now and line.strip() and not line.lstrip().startswith("--"):
+            now.lines.append(line)
+    return found
+
+
+@functools.cache
 def all_definitions(crate):
-    """The public definitions of a crate's specs/: each name with its module."""
+    """The public definitions of a crate's specs/, module by module as its root module has them."""
     folder = CRATES / crate / "specs"
-    for path in sorted(folder.rglob("*.antt")):
-        module = ".".join(path.relative_to(folder).with_suffix("").parts)
-        for line in path.read_text().splitlines():
-            name = re.match(r"(?:(?:abbrev|unfoldable) )?pub (?:record |data )?([^\s:{(]+)", line)
-            if name and not line.startswith(("pub mod", "pub use")):
-                yield name.group(1), module
+    order = re.findall(r"^pub mod (\w+)", (folder / "Lib.antt").read_text(), re.M) if (folder / "Lib.antt").is_file() else []
+    modules = sorted((path.stem for path in folder.glob("*.antt")), key=lambda name: (order.index(name) if name in order else -1, name))
+    return [definition for module in modules for definition in module_definitions(crate, module)]
 
 
 def definitions(crate):
     """The public definitions of a crate's specs/, by name, each with its module."""
-    return dict(all_definitions(crate))
+    return {definition.name: definition.module for definition in all_definitions(crate)}
+
+
+@functools.cache
+def by_key():
+    """All public definitions of specs/, by where they are."""
+    return {definition.key: definition for crate, _ in crate_lines() for definition in all_definitions(crate)}
 
 
 def imports(text, line):
@@ -154,41 +225,36 @@ def imports(text, line):
 
 
 def names_in(text, near, brought):
-    """The definitions that a text names: those of its own file, and those that are brought in."""
-    for word in set(re.findall(r"[A-Za-z_][\w'-]*", text)):
+    """The definitions that a text names: those of its own file, and those that are brought in. What follows a point is a field."""
+    for word in set(re.findall(r"(?<![\w'.-])[A-Za-z_][\w'-]*", text)):
         if word in near:
             yield near[word]
         elif word in brought:
             yield brought[word]
 
 
+def reached_from(keys):
+    """These definitions and all that they name, and what those name, and so on."""
+    known, waiting, seen = by_key(), list(keys), set()
+    while waiting:
+        key = waiting.pop()
+        if key in known and key not in seen:
+            seen.add(key)
+            definition = known[key]
+            waiting.extend(names_in("\n".join(definition.lines), definition.near, definition.brought))
+    return seen
+
+
+@functools.cache
 def reached():
-    """How many definitions the contract of `run` speaks of, and how many there are."""
-    bodies = {}
-    for crate, _ in crate_lines():
-        for path in (CRATES / crate / "specs").glob("*.antt"):
-            text, name, own = path.read_text(), None, {}
-            for line in text.splitlines():
-                begins = re.match(r"(?:(?:abbrev|unfoldable) )?pub (?:record |data )?([^\s:{(]+)", line)
-                if begins and not line.startswith(("pub mod", "pub use")):
-                    name = crate, path.stem, begins.group(1)
-                    own[begins.group(1)] = name
-                if name:
-                    bodies.setdefault(name, ([], own, imports(text, "use")))[0].append(line)
+    """The definitions of which the contract of `run` speaks."""
     top = (CRATES / "fdr_top" / "src" / "top.rt").read_text()
     contract = re.search(r"^pub fn run.*?^\{", top, re.M | re.S).group()
-    waiting, seen = list(names_in(contract, {}, imports(top, "ghost use"))), set()
-    while waiting:
-        name = waiting.pop()
-        if name in bodies and name not in seen:
-            seen.add(name)
-            lines, own, brought = bodies[name]
-            waiting.extend(names_in("\n".join(lines), own, brought))
-    return len(seen), len(bodies)
+    return reached_from(names_in(contract, {}, imports(top, "ghost use")))
 
 
 def check_readme():
-    spoken_of, all_of_them = reached()
+    spoken_of, all_of_them = len(reached()), len(by_key())
     if f"{spoken_of} of the {all_of_them} definitions" not in (TOP / "README.md").read_text():
         yield f"README.md: `run` speaks of {spoken_of} of the {all_of_them} definitions"
 
@@ -204,28 +270,138 @@ def check_clauses():
             yield f"docs/clauses/{path.name} is of no crate with clauses"
 
 
+def crates_on(path):
+    """The crates whose definitions are on a page."""
+    return re.findall(DEFINITIONS_OF, path.read_text(), re.M)
+
+
+def layer_of(path):
+    """Where the highest crate of a page stands in crates.txt."""
+    layers = [crate for crate, _ in crate_lines()]
+    return max((layers.index(crate) for crate in crates_on(path) if crate in layers), default=-1)
+
+
+def model_pages():
+    """The pages that say in plain words what the definitions are, from the lowest layer up."""
+    return [TOP / "docs" / "MODEL.md", *sorted(MODEL.glob("*.md"), key=lambda path: (layer_of(path), path.name))]
+
+
+def in_reading_order():
+    """The names that docs/MODEL.md has under 'In which order to read'."""
+    page = (TOP / "docs" / "MODEL.md").read_text()
+    return set(re.findall(r"`([^`]+)`", page.partition("## In which order to read")[2].partition("\n## ")[0]))
+
+
+def definition_rows(crate):
+    """The marked part of a page that has the definitions of a crate."""
+    own, first = all_definitions(crate), in_reading_order()
+    spoken_of = sum(definition.key in reached() for definition in own)
+    yield f"Definitions: {len(own)}. The contract of `run` speaks of {spoken_of or 'none'} of them."
+    yield ""
+    yield "| definition | module | in plain words |"
+    yield "|---|---|---|"
+    for definition in own:
+        name = f"**`{definition.name}`**" if definition.name in first else f"`{definition.name}`"
+        words = definition.comment.replace("|", "\\|").replace("*", "\\*")
+        yield f"| {name} | {definition.module} | {words} |"
+
+
+def beginnings(cell):
+    """The definitions that a cell names, or those that the contract of `run` names."""
+    names = re.findall(r"`([^`]+)`", cell)
+    return reached() if names == ["run"] else [key for key in by_key() if key[2] in names]
+
+
+def counted_rows(rows):
+    """The marked part of a page that says how much there is to read, from the rows that are there."""
+    for row in rows:
+        cells = [cell.strip() for cell in row.strip("|").split("|")]
+        if row.startswith("| ") and cells[-1] != "lines":
+            found = reached_from(beginnings(cells[-3]))
+            cells[-2:] = [str(len(found)), f"{sum(len(by_key()[key].lines) for key in found):,}"]
+            row = f"| {' | '.join(cells)} |"
+        yield row
+
+
+def page_rows():
+    """The marked part of docs/MODEL.md that names the pages of docs/model, each with its first paragraph and its crates."""
+    yield "| page | has | crates |"
+    yield "|---|---|---|"
+    for path in model_pages()[1:]:
+        title, about = path.read_text().split("\n\n")[:2]
+        crates = ", ".join(f"`{crate}`" for crate in crates_on(path))
+        yield f"| [{title.removeprefix('# ')}](model/{path.name}) | {about} | {crates} |"
+
+
+def marked_part(mark, there):
+    """What stands in the part of a page with this mark, where these lines are there."""
+    crate = re.match(DEFINITIONS_OF, mark)
+    if crate:
+        return definition_rows(crate[1])
+    return counted_rows([row for row in there if row]) if mark == HOW_MUCH else page_rows()
+
+
+def model_page(path):
+    """A page with its marked parts as the source says."""
+    lines, mark, there = [], None, []
+    for line in path.read_text().splitlines():
+        if mark and line == "<!-- end -->":
+            lines += ["", *marked_part(mark, there), ""]
+            mark = None
+        if mark:
+            there.append(line)
+        else:
+            lines.append(line)
+        if re.match(DEFINITIONS_OF, line) or line in (HOW_MUCH, PAGES):
+            mark, there = line, []
+    return "\n".join(lines) + "\n"
+
+
+def stands_by_itself(comment):
+    """Whether a comment doesn't point to the one before it."""
+    return not re.match(r"(?:its|the same|and|so it is|such)\b|one of these two|that number", comment, re.I)
+
+
 def check_model():
-    """Each crate's section of MODEL.md has tables whose first cells list exactly its definitions, with their modules."""
-    listed, crate = {}, None
-    for number, line in enumerate((TOP / "docs" / "MODEL.md").read_text().splitlines(), 1):
-        heading = re.match(r"## .*`(fdr_\w+)`", line)
-        if line.startswith("## "):
-            crate = heading.group(1) if heading else None
-        cells = line.split("|")
-        if crate and line.startswith("| `") and len(cells) > 3:
-            for name in re.findall(r"`([^`]+)`", cells[1]):
-                listed.setdefault(crate, {})[name] = cells[2].strip(), number
+    """The pages of the model are as the source says, each crate is in one of them, and each definition has a comment."""
+    marked = [crate for path in model_pages() for crate in crates_on(path)]
+    for path in model_pages():
+        if path.read_text() != model_page(path):
+            yield f"{path.relative_to(TOP)} isn't what the source says: run tools/documents.py write"
     for crate, _ in crate_lines():
-        real = definitions(crate)
-        for name, module in real.items():
-            if name not in listed.get(crate, {}):
-                yield f"docs/MODEL.md: `{name}` of {crate} ({module}) isn't listed"
-            elif listed[crate][name][0] != module:
-                where, number = listed[crate][name]
-                yield f"docs/MODEL.md:{number}: `{name}` stands in {module} and not in {where}"
-        for name, (_, number) in listed.get(crate, {}).items():
-            if name not in real:
-                yield f"docs/MODEL.md:{number}: {crate} has no public definition `{name}`"
+        if marked.count(crate) != (1 if all_definitions(crate) else 0):
+            yield f"docs/model: {marked.count(crate)} pages have the definitions of {crate}: put its marks into one, as the others are"
+    for crate in set(marked) - {crate for crate, _ in crate_lines()}:
+        yield f"docs/model: there is no crate {crate}"
+    for definition in by_key().values():
+        where = f"crates/{definition.crate}/specs/{definition.module}.antt: `{definition.name}`"
+        if not definition.comment:
+            yield f"{where} has no comment"
+        elif not stands_by_itself(definition.comment):
+            yield f"{where}: its comment doesn't stand by itself: {definition.comment}"
+    for row in re.findall(r"^\| .* \| \d+ \| [\d,]+ \|$", (TOP / "docs" / "MODEL.md").read_text(), re.M):
+        cell = row.split("|")[-4]
+        for name in re.findall(r"`([^`]+)`", cell):
+            if name != "run" and name not in {key[2] for key in reached()}:
+                yield f"docs/MODEL.md: the contract of `run` doesn't speak of `{name}`"
+
+
+def is_recursive(definition):
+    """Whether a definition names itself where it says what it is. Laws that are proved by induction don't count."""
+    own = rf"(?<![\w'.-]){re.escape(definition.name)}(?![\w'-])"
+    if not definition.lines[0].startswith(("abbrev", "unfoldable")):
+        return False
+    equations = re.split(rf"^{re.escape(definition.name)}(?![\w'-])", "\n".join(definition.lines[1:]), flags=re.M)
+    return any(re.search(own, equation) for equation in equations)
+
+
+def check_recursive():
+    """docs/MODEL.md says of each recursive definition what is said over it, or that no loop of the code goes so."""
+    page = (TOP / "docs" / "MODEL.md").read_text()
+    named = set(re.findall(r"`([^`]+)`", page.partition("## Recursive definitions")[2].partition("\n## ")[0]))
+    for definition in by_key().values():
+        if is_recursive(definition) and definition.name not in named:
+            yield f"docs/MODEL.md: `{definition.name}` of {definition.crate} ({definition.module}) is recursive, and isn't named as such"
 
 
 def check_guarantees():
@@ -240,18 +416,19 @@ def check_guarantees():
             known.update(re.findall(r"[A-Za-z_]\w*", path.read_text()))
             fields.update(re.findall(r"^ +pub (\w+) :", path.read_text(), flags=re.M))
         known.update(path.stem for path in (CRATES / crate / "must-fail").glob("*.edit"))
-    for page in ["COMMANDS.md", "GUARANTEES.md", "LAYERS.md"]:
-        text = re.sub(r"```.*?```", lambda m: "\n" * m.group().count("\n"), (TOP / "docs" / page).read_text(), flags=re.S)
+    for path in [TOP / "docs" / "COMMANDS.md", TOP / "docs" / "GUARANTEES.md", TOP / "docs" / "LAYERS.md", *model_pages()]:
+        page = path.relative_to(TOP)
+        text = re.sub(r"```.*?```", lambda m: "\n" * m.group().count("\n"), path.read_text(), flags=re.S)
         for number, line in enumerate(text.splitlines(), 1):
             for mark in re.findall(r"`([^`]+)`", line):
                 if re.search(r"[^\w:.]|\.\w+\(|^_|^[0-9A-F]{2,}$|^[0-9a-f]{16}$", mark) or mark in OUTSIDE:
                     continue
                 promise = re.fullmatch(r"([a-z]\w*)\.([a-z]\w*)", mark)
                 if promise and promise[2] not in fields:
-                    yield f"docs/{page}:{number}: no record has a promise `{promise[2]}`"
+                    yield f"{page}:{number}: no record has a promise `{promise[2]}`"
                 for name in re.findall(r"\w+", mark):
                     if name not in known:
-                        yield f"docs/{page}:{number}: nothing is named `{name}`"
+                        yield f"{page}:{number}: nothing is named `{name}`"
 
 
 def clauses_of_calls():
@@ -410,8 +587,8 @@ def check_names():
     """No two public definitions of the repository share a name."""
     found = {}
     for crate, _ in crate_lines():
-        for name, module in all_definitions(crate):
-            found.setdefault(name, []).append(f"{crate} ({module})")
+        for definition in all_definitions(crate):
+            found.setdefault(definition.name, []).append(f"{crate} ({definition.module})")
     for name, places in sorted(found.items()):
         if len(places) > 1:
             yield f"specs: `{name}` is defined in {' and in '.join(places)}"
@@ -422,8 +599,9 @@ def check_columns():
     for folder in ("specs", "proofs"):
         for path in sorted(CRATES.glob(f"*/{folder}/**/*.antt")):
             for number, line in enumerate(path.read_text().splitlines(), 1):
-                if len(line) > MOST_COLUMNS:
-                    yield f"{path.relative_to(TOP)}:{number}: {len(line)} columns, over {MOST_COLUMNS}"
+                most = MOST_COMMENT_COLUMNS if folder == "specs" and line.lstrip().startswith("--") else MOST_COLUMNS
+                if len(line) > most:
+                    yield f"{path.relative_to(TOP)}:{number}: {len(line)} columns, over {most}"
 
 
 def check_version():
@@ -509,11 +687,15 @@ def check_paragraphs():
 
 
 def check_lengths():
-    """Pages that are written by hand are short, but for the list of definitions."""
-    for path in written_pages():
-        lines = len(path.read_text().splitlines())
-        if lines > MOST_LINES and path.parent != CLAUSES and path.name != "MODEL.md":
-            yield f"{path.relative_to(TOP)} has {lines} lines, over {MOST_LINES}"
+    """What is written by hand of a page is short, and no page is very long, but for those of clauses."""
+    for path in (path for path in written_pages() if path.parent != CLAUSES):
+        text = path.read_text()
+        lines = len(text.splitlines())
+        by_hand = len(re.sub(r"^<!-- definitions of .*?^<!-- end -->$", "", text, flags=re.M | re.S).splitlines())
+        if by_hand > MOST_LINES:
+            yield f"{path.relative_to(TOP)} has {by_hand} lines that are written by hand, over {MOST_LINES}"
+        elif lines > MOST_LINES_IN_ALL:
+            yield f"{path.relative_to(TOP)} has {lines} lines, over {MOST_LINES_IN_ALL}"
 
 
 def check_links():
@@ -552,12 +734,14 @@ def main(command):
             path.unlink()
         for name, page in pages().items():
             (CLAUSES / f"{name}.md").write_text(page)
+        for path in model_pages():
+            path.write_text(model_page(path))
         return 0
     if command != "check":
         print(__doc__)
         return 2
     checks = (
-        *(check_readme, check_session, check_clauses, check_model, check_guarantees, check_layers, check_edges, check_places),
+        *(check_readme, check_session, check_clauses, check_model, check_recursive, check_guarantees, check_layers, check_edges, check_places),
         *(check_commands, check_manual, check_version, check_kit, check_links, check_paths, check_paragraphs, check_lengths),
         *(check_names, check_columns),
     )

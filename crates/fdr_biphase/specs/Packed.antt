@@ -10,11 +10,11 @@ abbrev pub packed_bits : List Bool → ℕ
 packed_bits [] = 0
 packed_bits (bit ∷ bits) = (if bit then 1 else 0) + 2 * packed_bits bits
 
--- the four lowest bits of a byte
+-- the four lowest bits of a byte, the least significant first
 abbrev pub low_bits : ℕ → List Bool
 low_bits b = map (λ j. b / 2 ^ j % 2 == 1) (range_with_len 0 4)
 
--- the bits of a byte
+-- the eight bits of a byte, the least significant first
 abbrev pub byte_bits : ℕ → List Bool
 byte_bits b = map (λ j. b / 2 ^ j % 2 == 1) (range_with_len 0 8)
 
@@ -22,15 +22,15 @@ byte_bits b = map (λ j. b / 2 ^ j % 2 == 1) (range_with_len 0 8)
 unfoldable pub bytes_of_bits : List Bool → List ℕ
 bytes_of_bits bits = map (λ i. packed_bits (take 8 (drop (8 * i) bits))) (range_with_len 0 ((length bits + 7) / 8))
 
--- the bytes that pack the cells of the bits of bytes, after this level
+-- the bytes that pack the cells of the bits of these bytes, where `first` is the level before the first cell
 abbrev pub encoded_bytes : Bool → List ℕ → List ℕ
 encoded_bytes first bytes = bytes_of_bits (cells_of first (bits_of_bytes bytes))
 
--- the bytes that pack the bits of the levels that bytes pack
+-- the bytes that pack the bits of the levels that these bytes pack
 abbrev pub decoded_bytes : List ℕ → List ℕ
 decoded_bytes levels = bytes_of_bits (cell_bits (bits_of_bytes levels))
 
--- the byte that an answer gives, if it gives one
+-- the byte that an answer of a packer gives, as a list: of one byte, or empty where it gives none
 abbrev pub answered_byte : Option ℕ → List ℕ
 answered_byte None = []
 answered_byte (Some byte) = byte ∷ []

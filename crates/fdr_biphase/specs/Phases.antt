@@ -4,16 +4,16 @@ use Rattle.std.specs.List.{range_with_len, find}
 use Rattle.std.specs.Bool.{beq}
 use Rattle.fdr_biphase.specs.Cells.{level_at}
 
--- whether the level at a place differs from the one before it
+-- whether the level at place p differs from the one before it
 abbrev pub turns_at : List Bool → ℕ → Bool
 turns_at levels p = not (beq (level_at levels p) (level_at levels (p - 1)))
 
--- Where a phase fails first: the least place of the phase, after place 0, at which the level doesn't turn. The phase fits
--- where there is none.
+-- the place at which a phase fails first: the least place of the phase, after place 0, at which the level doesn't turn. Phase 0
+-- has the even places and phase 1 the odd ones. The phase fits where there is no such place
 unfoldable pub fails_at : List Bool → ℕ → Option ℕ
 fails_at levels phase = find (λ p. (p % 2 == phase) && not (turns_at levels p)) (range_with_len 1 (length levels - 1))
 
--- The bits of a phase: of each whole cell, whether the level turns in its middle.
+-- the bits of a phase: for each whole cell, whether the level turns in its middle
 unfoldable pub phase_bits : List Bool → ℕ → List Bool
 phase_bits levels phase = map (λ i. turns_at levels (2 * i + phase + 1)) (range_with_len 0 ((length levels - phase) / 2))
 
@@ -23,17 +23,17 @@ later_of (Some a) (Some b) = Some (max a b)
 later_of None b = None
 later_of (Some a) None = None
 
--- where neither phase fits: the later of the places at which they fail first
+-- the missing place of levels, where neither phase fits: the later of the places at which they fail first
 unfoldable pub missing_place : List Bool → Option ℕ
 missing_place levels = later_of (fails_at levels 0) (fails_at levels 1)
 
--- the bits of the phase that is chosen, where the phases fail first at these places
+-- the bits of the levels by the phase that is chosen, where the phases 0 and 1 fail first at these places, or nowhere
 abbrev pub chosen_bits : List Bool → Option ℕ → Option ℕ → List Bool
 chosen_bits levels None odd = phase_bits levels 0
 chosen_bits levels (Some a) None = phase_bits levels 1
 chosen_bits levels (Some a) (Some b) = phase_bits (take (max a b) levels) (max a b % 2)
 
--- The bits of the levels. Phase 0 is chosen where it fits, and else phase 1 where that fits. Where neither does, the bits
--- are those of the phase that fails last, of the levels before the missing place.
+-- the bits of the levels: those of phase 0 where it fits, else those of phase 1 where that fits, and else those of the phase that
+-- fails last, of the levels before the missing place
 unfoldable pub cell_bits : List Bool → List Bool
 cell_bits levels = chosen_bits levels (fails_at levels 0) (fails_at levels 1)

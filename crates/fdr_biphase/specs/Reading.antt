@@ -25,7 +25,7 @@ pub record ReadsLevels (r : LevelReader) (levels : List Bool) (bytes : List ℕ)
   pub unended : r.decoder.ended ≡ false
   pub packs : RepresentsPacker r.packer bits bytes
 
--- This place is missing in the levels that came to the reader, however they go on, and these bytes of the bits before it were
+-- The place `at` is missing in the levels that came to the reader, however they go on, and these bytes of the bits before it were
 -- answered.
 pub record MissesLevel (r : LevelReader) (levels : List Bool) (bytes : List ℕ) (at : ℕ) : Type 0 where
   pub bits : List Bool

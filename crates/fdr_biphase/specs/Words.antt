@@ -3,6 +3,6 @@ use Rattle.std.specs.Prelude.{ℕ, ◌==◌, Bool, List, map}
 use Rattle.std.specs.List.{range_with_len}
 use Rattle.std.specs.Int.{bit_at}
 
--- the lowest bits of a word, as many as are asked for, the least significant first
+-- the `count` lowest bits of a word, the least significant first
 unfoldable pub word_bits : ℕ → ℕ → List Bool
 word_bits count word = map (λ j. bit_at word j == 1) (range_with_len 0 count)

@@ -9,8 +9,6 @@ mod encoder;
 mod law;
 mod packer;
 mod reader;
-#[cfg(test)]
-mod tests;
 mod words;
 
 pub use decoder::Decoder;

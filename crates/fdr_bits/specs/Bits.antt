@@ -2,11 +2,11 @@
 use Rattle.std.specs.Prelude.{ℕ, ◌+◌, ◌*◌, ◌/◌, ◌%◌, ◌^◌, List, length, slice_index, sum_by}
 use Rattle.std.specs.List.{range_with_len}
 
--- how many bits the bytes have
+-- how many bits the bytes have: 8 times their number
 abbrev pub bits_in : List ℕ → ℕ
 bits_in b = 8 * length b
 
--- bit p, 0 or 1: bit 0 is the least significant of the first byte
+-- bit p, 0 or 1: bit p mod 8 of byte p / 8, where bit 0 of a byte is its least significant
 unfoldable pub bit_at : List ℕ → ℕ → ℕ
 bit_at b p = slice_index b (p / 8) / 2 ^ (p % 8) % 2
 

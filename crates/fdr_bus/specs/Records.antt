@@ -9,15 +9,16 @@ use Rattle.fdr_bus.specs.declared.RecordKind.TheVariants.{Word, End}
 use Rattle.fdr_bus.specs.declared.TraceFault.{TraceFault}
 use Rattle.fdr_bus.specs.declared.TraceFault.TheVariants as fault
 
--- record i of the bytes, of 16 bytes
+-- the 16 bytes of record i of the bytes of a trace, counted from 0
 abbrev pub record_bytes : List ℕ → ℕ → List ℕ
 record_bytes bytes i = take 16 (drop (16 * i) bytes)
 
--- the whole records
+-- all whole records of the bytes of a trace, 16 bytes each
 unfoldable pub whole_records : List ℕ → List (List ℕ)
 whole_records bytes = map (record_bytes bytes) (range_with_len 0 (length bytes / 16))
 
--- what the 16 bytes of a record say: kind, bus, two bytes that aren't read, word and time
+-- what the 16 bytes of a record say: its kind and bus, a byte each; two bytes that aren't read; its word of 4 bytes and its time
+-- of 8, the highest byte first
 unfoldable pub record_of : List ℕ → BusRecord
 record_of bytes = record {
   kind = if slice_index bytes 0 == 2 then End else Word;
@@ -26,23 +27,23 @@ record_of bytes = record {
   time = big_number 8 (drop 8 bytes);
 }
 
--- 16 days, 16 hours: no record may be later, in microseconds
+-- the latest time that a record may have, in microseconds: 1,440,000,000,000, which is 16 days and 16 hours
 abbrev pub last_time : ℕ
 last_time = 1440000000000
 
--- how many good records a trace has at most
+-- how many good records a trace has at most, 2^32
 unfoldable pub most_records : ℕ
 most_records = 2 ^ 32
 
--- the first byte is a kind of record
+-- whether the first byte of a record names a kind: 1 a word, 2 the end
 abbrev pub has_kind : List ℕ → Bool
 has_kind bytes = (slice_index bytes 0 == 1) || (slice_index bytes 0 == 2)
 
--- a record that may follow one of time `before`
+-- whether a record may follow one of time `before`: it has a kind, and its time isn't before that and isn't over `last_time`
 unfoldable pub is_good : ℕ → List ℕ → Bool
 is_good before bytes = has_kind bytes && nat_le before (record_of bytes).time && nat_le (record_of bytes).time last_time
 
--- why a record can't follow one of time `before`
+-- why a record can't follow one of time `before`: it has no kind, its time goes back, or its time is too late; none where it can
 unfoldable pub record_fault : ℕ → List ℕ → Option TraceFault
 record_fault before bytes =
     if not (has_kind bytes) then Some fault.Kind
@@ -50,6 +51,7 @@ record_fault before bytes =
     else if nat_lt last_time (record_of bytes).time then Some fault.Late
     else None
 
+-- whether a record ends the trace
 abbrev pub is_end : BusRecord → Bool
 is_end r = elim r.kind [ Word ↦ false | End ↦ true ]
 
@@ -59,12 +61,12 @@ good_from before [] = []
 good_from before (bytes ∷ rest) =
     if is_good before bytes then (record_of bytes ∷ (if is_end (record_of bytes) then [] else good_from (record_of bytes).time rest)) else []
 
--- the good prefix of a trace
+-- the good prefix of a trace: the good records from the first on, up to and with the first end record, and at most 2^32
 unfoldable pub good_prefix : List ℕ → List BusRecord
 good_prefix bytes = good_from 0 (take most_records (whole_records bytes))
 
--- These are the first of the whole records, and all of them are good: a kind of record each, none before the one before it,
--- none too late, none after an end record, and no more than a trace may have.
+-- These are the first of the whole records, and all of them are good: a kind of record each, none before the one before it, none
+-- too late, none after an end record, and no more than 2^32.
 pub record AreGoodRecords (bytes : List ℕ) (records : List BusRecord) : Type 0 where
   pub first : records ≡ map record_of (take (length records) (whole_records bytes))
   pub kinds : All (λ r. IsTrue (has_kind r)) (take (length records) (whole_records bytes))
@@ -73,38 +75,43 @@ pub record AreGoodRecords (bytes : List ℕ) (records : List BusRecord) : Type 0
   pub end_is_last : AllPairs (λ earlier later. is_end earlier ≡ false) records
   pub few : length records ≤ most_records
 
--- the longest of such lists
+-- These are the longest list of good records that the bytes begin with. Only the good prefix is that, by the law
+-- `good_prefix_is_longest`.
 pub record IsGoodPrefix (bytes : List ℕ) (records : List BusRecord) : Type 0 where
   pub are_good : AreGoodRecords bytes records
   pub longest : (other : List BusRecord) → AreGoodRecords bytes other → length other ≤ length records
 
--- the time of the last record, or `before`
+-- the time of the last of some records in microseconds, or `before` where there is none
 abbrev pub time_after : ℕ → List BusRecord → ℕ
 time_after before records = fold (λ time (r : BusRecord). r.time) before records
 
--- the time of the last record, or 0
+-- the time of the last of some records in microseconds, or 0 where there is none
 abbrev pub time_of : List BusRecord → ℕ
 time_of records = time_after 0 records
 
+-- whether one of some records ends the trace
 abbrev pub has_end : List BusRecord → Bool
 has_end records = list_any is_end records
 
--- these bytes settle the trace, whatever follows them: an end, the most good records, or a record that isn't good
+-- These bytes settle the trace, whatever follows them: their good prefix has an end record, or 2^32 records, or a record comes
+-- after it that isn't good.
 abbrev pub IsDecided : List ℕ → Type 0
 IsDecided bytes = (has_end (good_prefix bytes) ≡ true) ⊎ ((length (good_prefix bytes) ≡ most_records) ⊎ (16 * length (good_prefix bytes) + 16 ≤ length bytes))
 
--- whole good records, with no end among them, so the trace may go on
+-- The bytes are whole good records with no end record among them, so the trace may go on.
 pub record IsOpen (bytes : List ℕ) : Type 0 where
   pub whole : length bytes ≡ 16 * length (good_prefix bytes)
   pub unended : has_end (good_prefix bytes) ≡ false
 
--- whole good records, the last of them at this time, or none and the time is 0; and one more may follow
+-- The bytes are whole good records without an end record, fewer than 2^32, the last of them of time `before`, or none and that is
+-- 0: one more may follow.
 pub record AwaitsRecord (bytes : List ℕ) (before : ℕ) : Type 0 where
   pub goes_on : IsOpen bytes
   pub few : length (good_prefix bytes) < most_records
   pub last : time_of (good_prefix bytes) ≡ before
 
--- why no good record follows these, with its number
+-- why no good record comes in these bytes after their good prefix, with the number of the record, counted from 0: too many, cut
+-- short, or its own fault; none where the good prefix has an end record
 unfoldable pub fault_after : List BusRecord → List ℕ → Option (ℕ × TraceFault)
 fault_after good bytes =
     if has_end good then None
@@ -112,6 +119,7 @@ fault_after good bytes =
     else if nat_lt (length bytes) (16 * length good + 16) then Some (length good, fault.Truncated)
     else option_map (λ why. (length good, why)) (record_fault (time_of good) (record_bytes bytes (length good)))
 
--- the number of the first bad record of a whole line, and its fault
+-- the fault of a trace whose whole input these bytes are: the number of the first record that isn't good, counted from 0, and its
+-- fault; none where an end record comes before it
 unfoldable pub trace_fault : List ℕ → Option (ℕ × TraceFault)
 trace_fault bytes = fault_after (good_prefix bytes) bytes

@@ -1,6 +1,7 @@
 use fdr_bus::TraceFault;
 use fdr_cases::{ALTITUDE, answer, frame_with, words_of};
 use fdr_deck::MemDeck;
+use fdr_exceed::RuleFault;
 use fdr_io::{Input, MemSink, MemSource};
 use fdr_slot::ImageFault;
 use fdr_table::TableFault;
@@ -10,7 +11,7 @@ use std::test::Fail;
 #[test]
 fn refuses_other_words(rt: HostRuntime) -> Result<(), Fail> {
     let alloc = rt.alloc();
-    let cases: [&[&str]; 12] = [
+    let cases: [&[&str]; 13] = [
         &[],
         &["list"],
         &["listbits"],
@@ -33,6 +34,7 @@ fn refuses_other_words(rt: HostRuntime) -> Result<(), Fail> {
         &["check", "t1.csv", "t2.csv"],
         &["listbits", ""],
         &["upgrade", "t1.csv", "flight.img"],
+        &["salvage", "t1.csv", "flight.img", "--slots", "16"],
     ];
     for case in cases {
         let words = words_of(alloc, case)?;
@@ -113,7 +115,7 @@ fn says_each_answer(rt: HostRuntime) -> Result<(), Fail> {
     for (fault, text) in faults {
         assert_eq!(rt; Outcome::TableRefused { row, fault }.text().bytes(), text);
     }
-    let answers: [(Outcome, u8, &[u8]); 25] = [
+    let answers: [(Outcome, u8, &[u8]); 27] = [
         (Outcome::Done, 0, b""),
         (Outcome::Usage, 1, b"fdr: usage"),
         (
@@ -225,6 +227,22 @@ fn says_each_answer(rt: HostRuntime) -> Result<(), Fail> {
             },
             14,
             b"fdr: no transition at level 18446744073709551615",
+        ),
+        (
+            Outcome::RuleRefused {
+                row: 0,
+                fault: RuleFault::Unknown,
+            },
+            17,
+            b"fdr: rule row 0: unknown name",
+        ),
+        (
+            Outcome::RuleRefused {
+                row: 4_294_967_295,
+                fault: RuleFault::Number { field: 4 },
+            },
+            17,
+            b"fdr: rule row 4294967295: number in field 4",
         ),
     ];
     for (answer, status, text) in answers {

@@ -1,5 +1,5 @@
-//! Worked cases of bits: words and fields in them, the slots of frames, divisions, and the searches for frames in lists of
-//! bits, whole and in pieces.
+//! Worked cases of bits: words and fields in them, the levels of bits on a line, the slots of frames, divisions, and the
+//! searches for frames in lists of bits, whole and in pieces.
 #![tactic(auto)]
 
 #[cfg(test)]
@@ -10,6 +10,8 @@ mod divisions;
 mod frames;
 #[cfg(test)]
 mod lanes;
+#[cfg(test)]
+mod levels;
 #[cfg(test)]
 mod pieces;
 #[cfg(test)]

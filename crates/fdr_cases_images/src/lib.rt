@@ -10,6 +10,8 @@ mod listings;
 #[cfg(test)]
 mod recoveries;
 #[cfg(test)]
+mod salvages;
+#[cfg(test)]
 mod sessions;
 #[cfg(test)]
 mod upgrades;

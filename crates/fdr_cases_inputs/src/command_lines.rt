@@ -26,6 +26,8 @@ fn command_of(request: &Request) -> &'static str {
         Request::ListImage { .. } => "list",
         Request::Drill { .. } => "drill",
         Request::Upgrade { .. } => "upgrade",
+        Request::Salvage { .. } => "salvage",
+        Request::Exceed { .. } => "exceed",
     }
 }
 
@@ -34,6 +36,10 @@ fn numbers_of(request: &Request) -> (u64, u32) {
     match request {
         Request::FormatImage { slots, payload, .. } => (u64::from(*slots), *payload),
         Request::Drill { seed, frames, .. } => (*seed, *frames),
+        Request::Salvage {
+            ring: Some((slots, payload)),
+            ..
+        } => (u64::from(*slots), *payload),
         _ => (0, 0),
     }
 }
@@ -50,11 +56,14 @@ fn reads_each_command(rt: HostRuntime) -> Result<(), Fail> {
         ("recover a.img", None, Some("a.img"), false),
         ("list t1.csv a.img", Some("t1.csv"), Some("a.img"), false),
         ("upgrade a.img", None, Some("a.img"), true),
+        ("salvage t1.csv a.img", Some("t1.csv"), Some("a.img"), false),
+        ("exceed t1.csv a.img", Some("t1.csv"), Some("a.img"), false),
     ];
     for (line, table, image, writes) in cases {
         let request = read(rt.alloc(), line)?.ok().ok_or(line)?;
         let (command, _) = line.split_once(' ').unwrap_or((line, ""));
         assert_eq!(rt; command_of(&request), command, "{line}");
+        assert_eq!(rt; numbers_of(&request), (0, 0), "{line}");
         assert_eq!(rt;
             (request.table(), request.image()),
             (table, image),
@@ -89,6 +98,12 @@ fn reads_options_anywhere(rt: HostRuntime) -> Result<(), Fail> {
             "drill",
             (4_294_967_295, 100_000),
         ),
+        ("salvage t i --slots 16 --payload 64", "salvage", (16, 64)),
+        (
+            "--payload=4096 salvage t --slots=65536 i",
+            "salvage",
+            (65_536, 4096),
+        ),
     ];
     for (line, command, numbers) in cases {
         let request = read(rt.alloc(), line)?.ok().ok_or(line)?;
@@ -99,7 +114,7 @@ fn reads_options_anywhere(rt: HostRuntime) -> Result<(), Fail> {
             "{line}"
         );
         assert_eq!(rt; numbers_of(&request), numbers, "{line}");
-        assert!(rt; request.writes(), "{line}");
+        assert_eq!(rt; request.writes(), command != "salvage", "{line}");
     }
     Ok(())
 }
@@ -154,6 +169,17 @@ fn refuses_other_words(rt: HostRuntime) -> Result<(), Fail> {
         "upgrade",
         "upgrade t i",
         "upgrade i --slots 16",
+        "salvage",
+        "salvage t",
+        "salvage t i more",
+        "salvage t i --slots 16",
+        "salvage t i --payload 64",
+        "salvage t i --slots 3 --payload 64",
+        "salvage t i --slots 16 --payload 4097",
+        "salvage t i --seed=1 --frames=1",
+        "exceed t",
+        "exceed t i more",
+        "exceed t i --slots 16 --payload 64",
     ];
     for line in lines {
         let answer = read(rt.alloc(), line)?;

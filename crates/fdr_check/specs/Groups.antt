@@ -3,7 +3,7 @@ use Rattle.std.specs.Prelude.{ℕ, ◌==◌, List, map, filter}
 use Rattle.std.specs.List.{range_with_len}
 use Rattle.fdr_table.specs.Rows.{PlaceRow}
 
--- the places of the parameter with this index
+-- the places of the parameter with index n
 abbrev pub places_of : List PlaceRow → ℕ → List PlaceRow
 places_of places n = filter (λ (p : PlaceRow). p.param == n) places
 

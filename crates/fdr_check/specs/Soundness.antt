@@ -6,24 +6,24 @@ use Rattle.fdr_frame.specs.Slots.{is_counter}
 use Rattle.fdr_table.specs.Rows.{FrameRow, ParamRow, PlaceRow, TableRows}
 use Rattle.fdr_check.specs.Occurrences.{frame_bits, occurs, occurrences, is_part, part_occurrences, part_width}
 
--- bit b of the superframe is one of an occurrence of the place
+-- whether bit b of the superframe is one of an occurrence of the place
 abbrev pub covers : ℕ → PlaceRow → ℕ → Bool
 covers w p b = occurs w p (b / 12) && nat_le p.lsb (b % 12 + 1) && nat_lt (b % 12 + 1) (p.lsb + p.width)
 
--- two places have no occurrences that share a bit
+-- The two places have no occurrences that share a bit.
 abbrev pub ShareNoBit : ℕ → PlaceRow → PlaceRow → Type 0
 ShareNoBit w p q = (b : ℕ) → b < 16 * frame_bits w → IsTrue (covers w p b) → IsTrue (covers w q b) → ⊥
 
--- no occurrence of the place is in the counter's word
+-- No occurrence of the place is in the counter's word.
 abbrev pub IsOffCounter : FrameRow → PlaceRow → Type 0
 IsOffCounter f p = (k : ℕ) → k < 64 * f.words → IsTrue (occurs f.words p k) → IsTrue (is_counter f.words f.cword f.csub k) → ⊥
 
--- some place carries this part of the parameter with this index
+-- whether some place carries this part of the parameter with this index
 abbrev pub has_part : List PlaceRow → ℕ → ℕ → Bool
 has_part places param part = list_any (is_part param part) places
 
--- The parts of the parameter with this index are numbered from 1 on with none missing, the places of each have one width,
--- and the widths of all parts add to the parameter's.
+-- The parts of the parameter with this index are numbered from 1 on with none missing, the places of each have one width, and the
+-- widths of all parts add to the parameter's.
 pub record HasParts (places : List PlaceRow) (param : ℕ) (p : ParamRow) : Type 0 where
   pub count : ℕ
   pub not_empty : 1 ≤ count
@@ -32,14 +32,16 @@ pub record HasParts (places : List PlaceRow) (param : ℕ) (p : ParamRow) : Type
   pub widths : All (λ (l : PlaceRow). l.param ≡ param → l.width ≡ part_width places param l.part) places
   pub whole : p.width ≡ sum_by (part_width places param) (range_with_len 1 count)
 
--- each part of the parameter with this index occurs in a superframe as often as the parameter's rate says
+-- Each part of the parameter with this index occurs in a superframe as often as the parameter's rate says.
 abbrev pub HasRate : ℕ → List PlaceRow → ℕ → ParamRow → Type 0
 HasRate w places param p = (part : ℕ) → IsTrue (has_part places param part) → length (part_occurrences w places param part) ≡ p.rate
 
--- how many parts a superframe may have
+-- how often all parts together may occur in a superframe: 262,144 times
 unfoldable pub most_superframe_parts : ℕ
 most_superframe_parts = 262144
 
+-- The table is sound: no word is above the number of words, no place is on word 1 or on the counter, no two places share a bit,
+-- each parameter has its parts and its rate, and there aren't too many parts.
 pub record IsSound (t : TableRows) : Type 0 where
   pub cword : t.frame.cword ≤ t.frame.words
   pub words : All (λ (p : PlaceRow). p.word ≤ t.frame.words) t.places

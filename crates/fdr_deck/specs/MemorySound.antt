@@ -20,7 +20,7 @@ holds_by Sync held leaves has = refl
 holds_by (Provide size) held leaves has = refl
 holds_by (FailedProvide size) held leaves has = inl has
 
--- a stop may leave what is held
+-- After all these calls a stop may leave what is held, if it could before them.
 pub holds_after : (es : List Entry) (held : List ℕ) (leaves : List ℕ → Type 0) → leaves held → left_after es held leaves (held_after es held)
 unfolding held_after left_after
 holds_after [] held leaves has = has
@@ -52,6 +52,7 @@ falls (e ∷ es) now held leaves earlier t m le (inr since) =
     inr (falls es now (held_by e.call held) (left_by e.call held leaves) (earlier - 1) (t - 1) m
     (subst (λ (k : ℕ). k ≤ t - 1) (sym (one_less earlier)) (subst (λ (k : ℕ). pred earlier ≤ k) (sym (one_less t)) (pred-le-pred le))) since)
 
+-- The deck in memory is sound, whatever calls it has seen.
 pub memory_is_sound : (d : Memory) → IsSoundDeck memory_tells (memory_state d)
 memory_is_sound d = record {
   stops_need_bytes = λ told. refl;

@@ -4,7 +4,8 @@ use Rattle.fdr_io.specs.Limits.{piece_bytes}
 use Rattle.fdr_io.specs.Told.{Gives}
 use Rattle.fdr_deck.specs.State.{State, Tells}
 
--- a pull that gave n bytes, which are at the front of the buffer
+-- A pull gave n bytes, which are at the front of the buffer and, where the input is told, are its next ones. The number of bytes
+-- pulled rose by n. Where n isn't 0, `pulled_before` is that number as it was before the pull.
 pub record GivesPiece (tells : Tells) (old new : State) (buffer : List ℕ) (n : ℕ) : Type 0 where
   pub taken : new.taken ≡ old.taken + n
   pub began : 0 < n → new.pulled_before ≡ old.taken
@@ -20,13 +21,13 @@ pub record IsLastPull (start before taken : ℕ) : Type 0 where
   pub gave_bytes : before < taken
   pub within_piece : taken ≤ before + piece_bytes
 
--- a call that leaves the input where it is
+-- The rest of the input and the numbers of bytes pulled are as they were.
 pub record KeepsInput (old new : State) : Type 0 where
   pub input : new.input ≡ old.input
   pub taken : new.taken ≡ old.taken
   pub pulled_before : new.pulled_before ≡ old.pulled_before
 
--- calls that took these bytes of the input, one after another
+-- Calls took these bytes of the input, one after another.
 pub record TakesInput (tells : Tells) (old new : State) (bytes : List ℕ) : Type 0 where
   pub taken : new.taken ≡ old.taken + length bytes
   pub input : IsTrue tells.input → old.input ≡ bytes ++ new.input

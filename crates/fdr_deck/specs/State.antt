@@ -7,19 +7,18 @@ pub record Tells : Type 0 where
   pub bytes : Bool
   pub stops : Bool
 
--- what is at one moment: the image on the disk, the announced number, the number of bytes pulled so far, and that
--- number as the last pull that gave bytes began
+-- what is so at one moment: the image on the disk, the announced number, the number of bytes pulled so far, and that number as it
+-- was when the last pull that gave bytes began
 pub record Moment : Type 0 where
   pub image : List ℕ
   pub announced : ℕ
   pub taken : ℕ
   pub pulled_before : ℕ
 
--- The disk: its length, the bytes that a read gives, and the images that a stop now may leave.
--- The past: the clock, and the moments since a time.
--- The announced number, and the least and the greatest number announced since the last call that wasn't an announcement.
--- The rest of the input; the number of bytes pulled so far; that number as it stood when the last pull that gave bytes began, or 0 where there was none.
--- The faults of the disk and those of the input.
+-- what a deck means. The disk: its length, the bytes that it holds, the images that a stop now may leave. The past: the clock,
+-- and the moments since a time. The announced number, and the least and the greatest one since the last call that wasn't an
+-- announcement. The rest of the input, the number of bytes pulled, and that number as it was when the last pull that gave bytes
+-- began, or 0 where there was none. The counts of faults of the disk and of the input
 pub record State : Type 1 where
   pub extent : ℕ
   pub held : List ℕ

@@ -8,6 +8,8 @@ use Rattle.fdr_deck.specs.Moments.{IsSoundDeck}
 use Rattle.fdr_deck.specs.Announced.{least_announced, greatest_announced}
 use Rattle.fdr_deck.specs.declared.announced.Announced.{Announced}
 
+-- what is seen of the deck that never fails: the image on its disk, the rest of its input, the numbers of bytes pulled, and what
+-- was announced
 pub record Sure : Type 0 where
   pub image : List ℕ
   pub input : List ℕ
@@ -15,10 +17,11 @@ pub record Sure : Type 0 where
   pub pulled_before : ℕ
   pub announced : Announced
 
--- it tells its input and its bytes, and not its stops
+-- the deck that never fails tells its input and its bytes, and not its stops
 abbrev pub sure_tells : Tells
 sure_tells = record { input = true; bytes = true; stops = false }
 
+-- what the deck that never fails means, as the state of a deck
 abbrev pub sure_state : Sure → State
 sure_state s = record {
   extent = length s.image;
@@ -36,6 +39,7 @@ sure_state s = record {
   input_faults = 0;
 }
 
+-- The deck that never fails is sound.
 pub sure_is_sound : (s : Sure) → IsSoundDeck sure_tells (sure_state s)
 sure_is_sound s = record {
   stops_need_bytes = λ told. refl;

@@ -6,13 +6,13 @@ use Rattle.fdr_exceed.specs.declared.rule.Rule.{Rule}
 use Rattle.fdr_exceed.specs.declared.fault.RuleFault.{RuleFault}
 use Rattle.fdr_exceed.specs.declared.fault.RuleFault.TheVariants as fault
 
--- `exceed,NAME,COUNTER,SUBFRAME,WORD,LENGTH,PEAK` and a line feed; the place is that of the first hit
+-- the line `exceed,NAME,COUNTER,SUBFRAME,WORD,LENGTH,PEAK` of an exceedance of a rule; the place is that of the first hit
 unfoldable pub exceed_text : Rule → HitList → List ℕ
 exceed_text rule list =
     codes "exceed," ++ rule.name ++ codes "," ++ decimal list.first.counter ++ codes "," ++ decimal list.first.subframe ++ codes ","
     ++ decimal list.first.word ++ codes "," ++ decimal list.length ++ codes "," ++ value_text list.peak rule.decimals ++ codes "\n"
 
--- what is wrong with rules
+-- what is wrong with rules, in words
 unfoldable pub fault_of_rules_text : RuleFault → List ℕ
 fault_of_rules_text fault.Shape = codes "shape"
 fault_of_rules_text (fault.Number field) = codes "number in field " ++ decimal field

@@ -4,6 +4,6 @@ use Rattle.fdr_exceed.specs.declared.fault.RuleFault.{RuleFault}
 use Rattle.fdr_exceed.specs.declared.fault.RulesError.{RulesError}
 use Rattle.fdr_exceed.specs.declared.fault.RulesError.TheVariants as error
 
--- a refusal that names this record
+-- the refusal of rules that names this record and its fault
 abbrev pub rule_refused : ℕ → RuleFault → RulesError
 rule_refused row f = error.Refused row f

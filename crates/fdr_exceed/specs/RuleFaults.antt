@@ -1,4 +1,5 @@
--- What the records of rules say, and their faults. Records and fields are numbered from 0; the fields are NAME, PARAM, KIND, LIMIT and COUNT.
+-- What the records of rules say, and their faults. Records and fields are numbered from 0; the fields are NAME, PARAM, KIND,
+-- LIMIT and COUNT.
 use Rattle.std.specs.Prelude.{ℕ, ℤ, pos, Bool, not, ◌==◌, nat_le, nat_lt, if◌then◌else◌, List, [], ◌∷◌, length, map, take, codes, bytes_eq}
 use Rattle.std.specs.Prelude.{slice_index_or, Option}
 use Rattle.std.specs.Prelude.{Some, None, is_none, unwrap_or, option_map}
@@ -15,7 +16,7 @@ use Rattle.fdr_exceed.specs.declared.rule.RuleKind.TheVariants as kind
 use Rattle.fdr_exceed.specs.declared.fault.RuleFault.{RuleFault}
 use Rattle.fdr_exceed.specs.declared.fault.RuleFault.TheVariants as fault
 
--- a kind by its word
+-- the kind of a rule by its word: `above`, `below` or `change`
 unfoldable pub rule_kind_of : List ℕ → Option RuleKind
 rule_kind_of word =
     if bytes_eq word (codes "above") then Some kind.Above
@@ -23,39 +24,43 @@ rule_kind_of word =
     else if bytes_eq word (codes "change") then Some kind.Change
     else None
 
+-- field 0 of a rule's record: its name
 abbrev pub rule_name_in : Row → List ℕ
 rule_name_in fields = field fields 0
 
--- the index of the parameter that a record names
+-- field 1 of a rule's record: the index of the parameter that it names
 abbrev pub rule_param_in : TableRows → Row → Option ℕ
 rule_param_in t fields = index_named t.params (field fields 1)
 
+-- field 2 of a rule's record: its kind
 abbrev pub kind_in : Row → Option RuleKind
 kind_in fields = rule_kind_of (field fields 2)
 
+-- field 3 of a rule's record: its limit, in units of the last digit of its parameter
 abbrev pub limit_in : Row → Option ℤ
 limit_in fields = signed_within most_limit (field fields 3)
 
+-- field 4 of a rule's record: its count, 1 to 1,024
 abbrev pub count_in : Row → Option ℕ
 count_in fields = number_in 1 most_rule_count (field fields 4)
 
--- the fault of a field that doesn't read
+-- the fault that field i of a rule's record is wrong, where what it should say isn't there
 abbrev pub rule_field_fault : {A : Type 0} → ℕ → Option A → Option RuleFault
 rule_field_fault i None = Some (fault.Number i)
 rule_field_fault i (Some a) = None
 
--- the first field that isn't right, the names aside
+-- the first field of a rule's record that isn't right, the names aside
 unfoldable pub rule_misread : Row → Option RuleFault
 rule_misread fields = first_some (
     rule_field_fault 2 (kind_in fields)
     ∷ rule_field_fault 3 (limit_in fields)
     ∷ rule_field_fault 4 (count_in fields) ∷ [])
 
--- the fault, where the fact holds
+-- the fault of a rule, where the fact holds
 abbrev pub rule_fault_where : Bool → RuleFault → Option RuleFault
 rule_fault_where b f = if b then Some f else None
 
--- the first fault of a record's fields, below records with the names `above`
+-- the first fault of a rule's record, below records with the names `above`
 unfoldable pub rule_fault : TableRows → List (List ℕ) → Row → Option RuleFault
 rule_fault t above fields = if not (length fields == 5) then Some fault.Shape else first_some (
     rule_misread fields
@@ -64,15 +69,15 @@ rule_fault t above fields = if not (length fields == 5) then Some fault.Shape el
     ∷ rule_fault_where (list_any (λ other. bytes_eq other (rule_name_in fields)) above) fault.Twice
     ∷ rule_fault_where (nat_le most_rules (length above)) fault.Size ∷ [])
 
--- the fault of record i
+-- the first fault of record i of rules, counted from 0
 abbrev pub fault_of_rule : TableRows → List Row → ℕ → Option RuleFault
 fault_of_rule t rows i = rule_fault t (map rule_name_in (take i rows)) (slice_index_or rows i [])
 
--- the first record with a fault, and its fault
+-- the first record of rules with a fault, counted from 0, and its fault
 abbrev pub first_rule_fault : TableRows → List Row → Option (ℕ × RuleFault)
 first_rule_fault t rows = first_some (map (λ i. option_map (λ f. (i, f)) (fault_of_rule t rows i)) (range_with_len 0 (length rows)))
 
--- the first fault of the rules' bytes, and its record: their number comes before the records
+-- the first fault of the rules' bytes, and its record: too many bytes come before the records
 unfoldable pub rules_fault : TableRows → List ℕ → Option (ℕ × RuleFault)
 rules_fault t bytes = if nat_lt most_rule_bytes (length bytes) then Some (0, fault.Size) else first_rule_fault t (records_of bytes)
 

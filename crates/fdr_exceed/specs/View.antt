@@ -2,5 +2,6 @@
 use Rattle.fdr_exceed.specs.declared.watch.Watch.TheInside.{Inside}
 use Rattle.fdr_exceed.specs.Watching.{WatchKept}
 
+-- what the program's watch keeps
 abbrev pub watch_kept : Inside → WatchKept
 watch_kept w = record { rules = w.rules.items; hits = w.hits.items; due = w.due.items; rows = w.rows }

@@ -15,30 +15,35 @@ use Rattle.fdr_exceed.specs.Rules.{AreRulesInRange}
 use Rattle.fdr_exceed.specs.Exceedances.{WatchStep, values_of, hit_list, rows_since, ended_by, exceedances}
 use Rattle.fdr_exceed.specs.Lines.{exceed_text}
 
+-- what stands for no rule
 abbrev pub no_rule : Rule
 no_rule = record { name = []; param = 0; decimals = 0; kind = kind.Above; limit = pos 0; count = 0 }
 
+-- what is kept for a rule of which no row came
 abbrev pub no_hits : Hits
 no_hits = record { list = None; window = None }
 
+-- rule k of a list, counted from 0
 abbrev pub rule_at : List Rule → ℕ → Rule
 rule_at rules k = slice_index_or rules k no_rule
 
+-- what is kept for rule k, counted from 0
 abbrev pub hits_of_rule : List Hits → ℕ → Hits
 hits_of_rule hits k = slice_index_or hits k no_hits
 
--- the one of two that is further from the limit
+-- the one of two numbers that is further from the limit of a rule of this kind
 abbrev pub further : RuleKind → ℤ → ℤ → ℤ
 further kind.Above x y = int_max x y
 further kind.Below x y = int_min x y
 further kind.Change x y = int_max x y
 
--- the list of hits with one more, row r, at which the rule compares x
+-- a list of neighbouring hits with one more, row r, at which the rule compares x
 abbrev pub one_longer : RuleKind → Option HitList → Row → ℤ → HitList
 one_longer k None r x = record { first = r; length = 1; peak = x }
 one_longer k (Some list) r x = record { first = list.first; length = list.length + 1; peak = further k x list.peak }
 
--- a rule for changes has a window with the last values, and no other rule has one
+-- What is kept of these values for a rule of this kind: a rule for changes has a window with the last of them, and no other rule
+-- has one.
 abbrev pub HasWindow : RuleKind → ℕ → Option (Buffer ℤ) → List ℤ → Type 0
 HasWindow kind.Above count None values = Unit {0}
 HasWindow kind.Above count (Some w) values = ⊥
@@ -47,56 +52,56 @@ HasWindow kind.Below count (Some w) values = ⊥
 HasWindow kind.Change count None values = ⊥
 HasWindow kind.Change count (Some w) values = (w.capacity ≡ count) × (w.items ≡ keep_last count values)
 
--- what is kept of these rows of the rule's parameter
+-- What is kept for the rule is that of these rows of its parameter.
 pub record IsHits (rule : Rule) (rows : List Row) (h : Hits) : Type 0 where
   pub list : h.list ≡ hit_list rule rows
   pub window : HasWindow rule.kind rule.count h.window (values_of rows)
 
--- the list has no more hits than this
+-- The list that is kept for a rule has no more hits than this.
 abbrev pub IsWithinHits : ℕ → Hits → Type 0
 IsWithinHits n h = IfSome h.list (λ (list : HitList). list.length ≤ n)
 
--- what is kept for each rule
+-- What is kept for each rule is that of the steps.
 abbrev pub AreHits : List Rule → List WatchStep → List Hits → Type 0
 AreHits rules steps hits = (k : ℕ) → k < length rules → IsHits (rule_at rules k) (rows_since (rule_at rules k) steps) (hits_of_rule hits k)
 
--- the first rule from `start` on for this parameter, or how many rules there are
+-- Rule i is the first one from `start` on for this parameter, or i is how many rules there are.
 pub record IsNextOf (rules : List Rule) (start param i : ℕ) : Type 0 where
   pub from : start ≤ i
   pub within : i ≤ length rules
   pub none : (k : ℕ) → start ≤ k → k < i → (rule_at rules k).param ≢ param
   pub here : i < length rules → (rule_at rules i).param ≡ param
 
--- where the next rule of each rule's parameter is
+-- The numbers say for each rule where the next one of its parameter is.
 pub record AreNexts (rules : List Rule) (next : List ℕ) : Type 0 where
   pub count : length next ≡ length rules
   pub each : (i : ℕ) → i < length rules → IsNextOf rules (i + 1) (rule_at rules i).param (slice_index next i)
 
--- the exceedance of rule k that a step after these ends
+-- the exceedance of rule k that step s ends after these steps, if it ends one
 unfoldable pub due_of_rule : List Rule → List WatchStep → WatchStep → ℕ → Option Exceedance
 due_of_rule rules steps s k =
     option_map (λ (list : HitList). record { rule = k; list = list }) (ended_by (rule_at rules k) (rows_since (rule_at rules k) steps) s)
 
--- those of the first n rules
+-- the exceedances of the first n rules that step s ends after these steps
 abbrev pub due_to : List Rule → List WatchStep → WatchStep → ℕ → List Exceedance
 due_to rules steps s n = filter_map (due_of_rule rules steps s) (range_with_len 0 n)
 
--- what is due where rule k ends this exceedance
+-- what waits to be taken, with the exceedance of rule k that ended, if one did
 abbrev pub with_ended : List Exceedance → ℕ → Option HitList → List Exceedance
 with_ended due k ended = due ++ cons_option (option_map (λ (list : HitList). record { rule = k; list = list }) ended) []
 
--- the line of an exceedance
+-- the line of an exceedance that waits to be taken
 abbrev pub line_due : List Rule → Exceedance → List ℕ
 line_due rules e = exceed_text (rule_at rules e.rule) e.list
 
--- the rules, what is kept for each, the exceedances whose lines weren't taken, and how many rows were given
+-- what a watch keeps: the rules, what is kept for each, the exceedances whose lines weren't taken, and how many rows were given
 pub record WatchKept : Type 0 where
   pub rules : List Rule
   pub hits : List Hits
   pub due : List Exceedance
   pub rows : ℕ
 
--- what holds of every watch, where `first_of` has the first rule of each parameter and `next_of` the next of each rule
+-- What holds of every watch, where `first_of` has the first rule of each parameter and `next_of` the next of each rule.
 pub record IsWatchKept (w : WatchKept) (capacity : ℕ) (first_of next_of : List ℕ) : Type 0 where
   pub rules : AreRulesInRange (length first_of) w.rules
   pub hits : length w.hits ≡ length w.rules
@@ -106,7 +111,8 @@ pub record IsWatchKept (w : WatchKept) (capacity : ℕ) (first_of next_of : List
   pub due : All (λ (e : Exceedance). e.rule < length w.rules) w.due
   pub short : All (IsWithinHits w.rows) w.hits
 
--- The watch represents these steps, which were given to it, with so many lines taken.
+-- The watch represents these steps, which were given to it, with so many lines taken: what it keeps of each rule is that of the
+-- steps, and what waits are the exceedances beyond those taken.
 pub record RepresentsWatch (w : WatchKept) (steps : List WatchStep) (taken : ℕ) : Type 0 where
   pub hits : AreHits w.rules steps w.hits
   pub due : map (line_due w.rules) w.due ≡ drop taken (exceedances w.rules steps)

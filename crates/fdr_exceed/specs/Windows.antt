@@ -3,24 +3,25 @@ use Rattle.std.specs.Prelude.{ℕ, ◌≡◌, ◌≤◌, ◌≤ℤ◌, ℤ, pos,
 use Rattle.std.specs.List.{list_all}
 use Rattle.circular_buffer.specs.Buffer.{Buffer}
 
--- the largest value in size that a watch is given
+-- the greatest value in size that a watch is given: 4,300,000,000,000,000,000, as every value of a parameter is within
 abbrev pub most_watched : ℕ
 most_watched = 4300000000000000000
 
+-- The value is one that a watch may be given: at most 4,300,000,000,000,000,000 in size.
 pub record IsWatched (v : ℤ) : Type 0 where
   pub low : neg_ℤ (pos most_watched) ≤ℤ v
   pub high : v ≤ℤ pos most_watched
 
--- x isn't over y
+-- whether x isn't over y
 abbrev pub is_at_most : ℤ → ℤ → Bool
 is_at_most y x = not (int_lt y x)
 
--- the values that no later one is over
+-- those of some values that no later one is over
 abbrev pub unsurpassed : List ℤ → List ℤ
 unsurpassed [] = []
 unsurpassed (x ∷ xs) = cond (list_all (is_at_most x) xs) (x ∷ unsurpassed xs) (unsurpassed xs)
 
--- values, and beside them those that no later one is over
+-- Beside the last values those are kept that no later one is over, so that their greatest is at hand.
 pub record IsGreatest (values falling : Buffer ℤ) : Type 0 where
   pub some_room : 1 ≤ values.capacity
   pub within : length values.items ≤ values.capacity
@@ -28,7 +29,7 @@ pub record IsGreatest (values falling : Buffer ℤ) : Type 0 where
   pub falls : falling.items ≡ unsurpassed values.items
   pub watched : All IsWatched values.items
 
--- values, and beside them the same with the other sign
+-- Beside the last values the same are kept with the other sign, so that their spread is at hand.
 pub record IsWindow (high low : Buffer ℤ) : Type 0 where
   pub some_room : 1 ≤ high.capacity
   pub room : low.capacity ≡ high.capacity

@@ -1,6 +1,6 @@
 //! The texts of exceedances and of faults.
 
-ghost use Rattle.std.specs.Prelude.{◌≡◌, ◌≤◌};
+ghost use Rattle.std.specs.Prelude.{◌≡◌, ◌≤◌, length};
 ghost use Rattle.fdr_exceed.specs.Lines.{exceed_text, fault_of_rules_text};
 
 use crate::fault::RuleFault;
@@ -34,7 +34,8 @@ pub(crate) fn exceed_line(rule: &Rule, list: &HitList) -> Line
 /// What is wrong with rules, in words. It has no line feed.
 #[tactic(auto, using(crate::proofs::LineLengths::line_parts), unfolding(crate::specs::Lines::fault_of_rules_text))]
 pub fn rule_fault_text(fault: RuleFault) -> Line
-    ensures { result ≡ fault_of_rules_text fault }
+    ensures text { result ≡ fault_of_rules_text fault }
+    ensures short { length result ≤ 19 }
 {
     let mut line = Line::new();
     match fault {

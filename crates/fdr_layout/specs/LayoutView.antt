@@ -13,11 +13,11 @@ use Rattle.fdr_layout.specs.Listed.{IsListedSample}
 abbrev pub parts_numbered : List ℕ → List SlotPart → ℕ → List Part
 parts_numbered starts parts n = map (λ (a : SlotPart). a.part) (segment starts parts n)
 
--- a listed sample with its parts
+-- a listed sample with its parts, of all parts by sample
 abbrev pub listed_sample : List ℕ → List SlotPart → ListedSample → Sample
 listed_sample starts parts e = record { param = e.param; index = e.index; parts = parts_numbered starts parts e.number }
 
--- the sample with this number: each is listed in the cycle in which it ends
+-- the sample with this number, out of the flat lists of a layout: each is listed in the cycle in which it ends
 abbrev pub sample_numbered : List ℕ → List SlotPart → List ListedSample → ℕ → Sample
 sample_numbered starts parts ending n = record {
   param = option_map_or (λ (e : ListedSample). e.param) (find (λ (e : ListedSample). e.number == n) ending) 0;
@@ -25,7 +25,7 @@ sample_numbered starts parts ending n = record {
   parts = parts_numbered starts parts n;
 }
 
--- how the samples are in these flat lists
+-- how samples are placed in a superframe, by the flat lists of the program's layout
 abbrev pub laid : FlatLists → Laid
 laid l = record {
   cycles = map (λ (es : List ListedSample). map (listed_sample l.sample_starts.items l.by_sample.items) es) (segments l.cycle_starts.items l.ending.items);
@@ -33,7 +33,8 @@ laid l = record {
   slots = segments l.slot_starts.items l.by_slot.items;
 }
 
--- what holds of those of each layout
+-- What holds of the flat lists of each layout: their lists are one after another, there are 16 cycles, each listed sample is
+-- among the samples, and a sample has at most four parts.
 pub record IsKept (l : FlatLists) : Type 0 where
   pub stands : IsLaid (laid l)
   pub cycles : AreStarts l.cycle_starts.items (length l.ending.items)

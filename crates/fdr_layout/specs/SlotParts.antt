@@ -5,12 +5,12 @@ use Rattle.fdr_table.specs.Rows.{TableRows}
 use Rattle.fdr_layout.specs.Samples.{Part, Sample, samples, ending_in}
 use Rattle.fdr_layout.specs.Cycles.{AreCycles}
 
--- A part, and the number of its sample among all samples of a superframe.
+-- a part, and the number of its sample among all samples of a superframe
 pub record SlotPart : Type 0 where
   pub sample : ℕ
   pub part : Part
 
--- parts of the sample with this number
+-- these parts, with the number n of their sample
 abbrev pub parts_of_sample : ℕ → List Part → List SlotPart
 parts_of_sample n parts = map (λ (p : Part). record { sample = n; part = p }) parts
 
@@ -26,11 +26,11 @@ parts_among samples = flat_map (λ (e : ℕ × Sample). parts_of_sample e.0 e.1.
 abbrev pub all_parts : TableRows → List SlotPart
 all_parts t = parts_among (samples t)
 
--- those whose lowest bit is bit x of the superframe
+-- those of the parts whose lowest bit is bit x of the superframe
 abbrev pub parts_at : List SlotPart → ℕ → List SlotPart
 parts_at parts x = filter (λ (a : SlotPart). a.part.at == x) parts
 
--- those that are in word slot k, by lowest bit
+-- those of the parts that are in word slot k of the superframe, by lowest bit
 unfoldable pub parts_of_slot : List SlotPart → ℕ → List SlotPart
 parts_of_slot parts k = flat_map (parts_at parts) (range_with_len (12 * k) 12)
 
@@ -38,13 +38,14 @@ parts_of_slot parts k = flat_map (parts_at parts) (range_with_len (12 * k) 12)
 abbrev pub parts_in : TableRows → ℕ → List SlotPart
 parts_in t k = parts_of_slot (all_parts t) k
 
--- Where the samples of a table stand: by the cycle that they end in, all of them by number, and the parts by word slot.
+-- how the samples of a table are placed in a superframe: by the cycle that they end in, all of them by number, and their parts by
+-- word slot
 pub record Laid : Type 0 where
   pub cycles : List (List Sample)
   pub samples : List Sample
   pub slots : List (List SlotPart)
 
--- how a table's samples are in its superframe of 16 cycles and 64 w word slots
+-- how a table's samples are placed in its superframe of 16 cycles and 64 W word slots
 abbrev pub laid_of : TableRows → Laid
 laid_of t = record {
   cycles = map (ending_in t) (range_with_len 0 16);
@@ -52,7 +53,7 @@ laid_of t = record {
   slots = map (parts_in t) (range_with_len 0 (64 * t.frame.words));
 }
 
--- There are 16 cycles, fewer than 2 ^ 32 samples, and each part's sample is among them.
+-- What holds of samples as they are placed: there are 16 cycles, fewer than 2^32 samples, and each part's sample is among them.
 pub record IsLaid (l : Laid) : Type 0 where
   pub cycles : AreCycles l.cycles
   pub sample_count : length l.samples < 2 ^ 32

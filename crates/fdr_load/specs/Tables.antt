@@ -10,19 +10,20 @@ use Rattle.fdr_load.specs.declared.load.LoadFault.TheVariants as load
 use Rattle.fdr_table.specs.declared.fault.TableError.{TableError}
 use Rattle.fdr_table.specs.declared.fault.TableError.TheVariants as error
 
--- the table of bytes that are accepted
+-- the table that the bytes say
 abbrev pub table_in : List ℕ → TableRows
 table_in bytes = table_of (records_of bytes)
 
--- the first fault of a table's bytes, and its row: those of the bytes and of single rows come before those of the whole table
+-- the first fault of a table's bytes, of all fifteen, and its row: those of the bytes and of single rows come before those of the
+-- whole table
 unfoldable pub fault_in : List ℕ → RowFault
 fault_in bytes = first_some (table_bytes_fault bytes ∷ table_fault (table_in bytes) ∷ [])
 
--- a table that is accepted
+-- The bytes are a table that is accepted: they have no fault.
 abbrev pub IsAccepted : List ℕ → Type 0
 IsAccepted bytes = fault_in bytes ≡ None
 
--- a table that is refused for this fault in this row
+-- The bytes are a table that is refused for this fault in this row, which is its first.
 abbrev pub IsTableRefused : List ℕ → ℕ → TableFault → Type 0
 IsTableRefused bytes row f = fault_in bytes ≡ Some (row, f)
 

@@ -34,7 +34,7 @@ pub fn words_message(program: &[u8], image: u32, table: u32) -> Line
 }
 
 /// What is wrong with the image, in words.
-fn image_fault_words(fault: &ImageFault) -> &'static [u8]
+pub fn image_fault_words(fault: &ImageFault) -> &'static [u8]
     ensures words { result.now ≡ image_fault_words fault.now }
     ensures short { length result.now ≤ 30 }
 {

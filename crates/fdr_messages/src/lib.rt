@@ -6,6 +6,6 @@ mod image;
 mod table;
 mod trace;
 
-pub use image::{image_message, words_message};
+pub use image::{image_fault_words, image_message, words_message};
 pub use table::table_message;
 pub use trace::trace_message;

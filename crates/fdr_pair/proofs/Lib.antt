@@ -5,3 +5,15 @@ pub mod Told
 pub mod Going
 pub mod Both
 pub mod Onward
+mod FourWords
+pub mod PairWorks
+pub mod BroughtRuns
+pub mod Bringing
+pub mod Comparing
+pub mod Counting
+pub mod BothSides
+pub mod PairFeeding
+pub mod Pulling
+pub mod Tracing
+pub mod TraceEnds
+pub mod Keeps

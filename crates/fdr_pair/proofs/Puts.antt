@@ -1,5 +1,5 @@
 -- A block that is prepared and committed.
-use Rattle.std.proofs.Common.{◌≡◌, inl, inr, ⊎_elim, ℕ, ◌-◌, List, [], ◌∷◌, sym, ◌∙◌, subst, arith}
+use Rattle.std.proofs.Common.{◌≡◌, ◌≤◌, ◌++◌, ap, inl, inr, ⊎_elim, ℕ, ◌-◌, List, [], ◌∷◌, sym, ◌∙◌, subst, arith}
 use Rattle.std.proofs.Common.{Some}
 use Rattle.std.specs.Prelude.{IsTrue}
 use Rattle.fdr_deck.specs.State.{State, Tells}
@@ -11,11 +11,11 @@ use Rattle.fdr_slot.specs.declared.image.Header.{Header}
 use Rattle.fdr_recover.specs.Blocks.{Block}
 use Rattle.fdr_recover.specs.Images.{recovered_run}
 use Rattle.fdr_ring.specs.Gates.{waiting_block}
-use Rattle.fdr_ring.specs.Runs.{IsTail, KeepsRun, HasSame, HasAdded}
+use Rattle.fdr_ring.specs.Runs.{IsTail, KeepsRun, HasSame, HasAdded, last_blocks}
 use Rattle.fdr_ring.specs.Rings.{IsPreparing, IsCommitting, OfSettled}
 use Rattle.fdr_ring.proofs.Turning.{KeepsHeader-then}
-use Rattle.fdr_recorder.proofs.Steps.{tail_on, tail_same}
-use Rattle.fdr_pair.specs.Putting.{HasPut, MayPut}
+use Rattle.fdr_recorder.proofs.Steps.{last_one_more, tail_on, tail_same}
+use Rattle.fdr_pair.specs.Putting.{AddsExactly, HasPut, MayPut}
 
 -- the block is added to the run that a prepared block left
 pub has_put : (h : Header) (b : Block) (entry middle image : List ℕ) → KeepsRun h (h.slots - 2) entry middle → HasAdded h b middle image
@@ -73,3 +73,14 @@ put_by h k next number b entry middle image keeps waits header is added =
     let waits_by : waiting_block k middle number ≡ Some b = subst (λ (n : ℕ). waiting_block k middle n ≡ Some b) (sym is)
     (subst (λ (x : Header). waiting_block x middle next ≡ Some b) (sym header) waits) in
     has_put h b entry middle image keeps (subst (λ (x : Header). HasAdded x b middle image) header (added b waits_by))
+
+-- the run is the last N - 1 blocks again
+pub exact_by : (h k : Header) (next number : ℕ) (b : Block) (entry middle image : List ℕ)
+    → recovered_run h middle ≡ last_blocks (h.slots - 2) (recovered_run h entry)
+    → waiting_block h middle next ≡ Some b → k ≡ h → number ≡ next
+    → ((a : Block) → waiting_block k middle number ≡ Some a → HasAdded k a middle image) → 4 ≤ h.slots → AddsExactly h (b ∷ []) entry image
+exact_by h k next number b entry middle image run waits header is added four whole begins =
+    let waits_by : waiting_block k middle number ≡ Some b = subst (λ (n : ℕ). waiting_block k middle n ≡ Some b) (sym is)
+    (subst (λ (x : Header). waiting_block x middle next ≡ Some b) (sym header) waits) in
+    let has : HasAdded h b middle image = subst (λ (x : Header). HasAdded x b middle image) header (added b waits_by) in
+    has.run ∙ ap (λ (l : List Block). l ++ b ∷ []) run ∙ last_one_more h.slots whole (recovered_run h entry) b (omega (arith, four)) begins

@@ -1,6 +1,7 @@
 -- An announcement of a twin.
-use Rattle.std.proofs.Common.{ℕ, refl, sym, ◌∙◌, subst, arith}
+use Rattle.std.proofs.Common.{◌≡◌, ℕ, refl, sym, ◌∙◌, subst, arith}
 use Rattle.fdr_deck.specs.State.{State, Tells, Moment}
+use Rattle.fdr_deck.specs.Pull.{KeepsInput}
 use Rattle.fdr_deck.specs.Moments.{EachMoment, IsNow}
 use Rattle.fdr_deck.specs.Calls.{Announces, LeavesDisk}
 use Rattle.fdr_twin.specs.declared.side.Side.{Side}
@@ -11,6 +12,7 @@ use Rattle.fdr_twin.specs.Sound.{IsSoundPair}
 use Rattle.fdr_twin.specs.Serving.{EachPairMoment}
 use Rattle.fdr_twin.specs.RestSound.{PairElapses-here, PairElapses-then, LeavesSide-here, LeavesSide-then, IsSameDisk-then}
 use Rattle.fdr_twin.proofs.Turns.{Turns-disk, Turns-time, Turns-leaves}
+use Rattle.fdr_pair.proofs.Servings.{line_here}
 use Rattle.fdr_pair.proofs.Sides.{facing_side}
 use Rattle.fdr_pair.specs.Announcing.{PairAnnounces, PairStays}
 
@@ -25,17 +27,30 @@ shows tells P side s t old new same_old same_new each stops m since =
 
 pub announced : (tells : Tells) (side : Side) (count : ℕ) (s t : State) (old mid new : Pair) → IsSoundPair tells old → IsSoundPair tells mid
     → Turns side old mid → IsSameState s (seen mid.turned mid) → IsSameState t (seen new.turned new) → HasSameRest mid new
-    → Announces count s t → LeavesDisk s t → EachMoment tells s t (IsNow t) → PairAnnounces tells side count old new
-announced tells side count s t old mid new sound sound_mid turns same_mid same_new rest tell leaves moments = record {
+    → Announces count s t → LeavesDisk s t → KeepsInput s t → t.input_faults ≡ s.input_faults → EachMoment tells s t (IsNow t)
+    → PairAnnounces tells side count old new
+announced tells side count s t old mid new sound sound_mid turns same_mid same_new rest tell leaves kept faults moments = record {
   time = PairElapses-then old mid new (Turns-time side old mid tells sound turns) rest.time;
   away = LeavesSide-then (other_side side) old mid new sound_mid.falls (Turns-time side old mid tells sound turns) rest.time
       (Turns-leaves (other_side side) side old mid turns) (subst (λ (x : Side). LeavesSide (other_side x) mid new) turns.turned rest.other);
   own = own;
+  line = record {
+    input = here_new.input ∙ kept.input ∙ sym here.input ∙ turns.input;
+    taken = here_new.taken ∙ kept.taken ∙ sym here.taken ∙ turns.taken;
+    pulled_before = here_new.pulled_before ∙ kept.pulled_before ∙ sym here.pulled_before ∙ turns.pulled_before;
+    input_faults = here_new.input_faults ∙ faults ∙ sym here.input_faults ∙ turns.input_faults;
+  };
   announced = here_new.announced ∙ tell.announced;
+  least = omega (arith, here_new.least, tell.least, here.least, turns.least);
   greatest = omega (arith, here_new.greatest, tell.greatest, here.greatest, turns.greatest);
   moments = λ stops m since.
       let is = shows tells (IsNow t) side s t mid new here here_new moments stops m (subst (λ (k : ℕ). new.since k m) (sym turns.clock) since) in
       record {
+        least = omega (arith, is.least, tell.least, here.least, turns.least);
+        pulled = record {
+          taken = is.pulled.taken ∙ kept.taken ∙ sym here.taken ∙ turns.taken;
+          pulled_before = is.pulled.pulled_before ∙ kept.pulled_before ∙ sym here.pulled_before ∙ turns.pulled_before;
+        };
         announced = omega (arith, is.greatest, tell.greatest, here.greatest, turns.greatest);
         image = own.no_more (image_on side m) (here_new.leaves (image_on side m) is.image);
       };
@@ -61,6 +76,8 @@ stays tells p sound = record {
   time = PairElapses-here p sound.falls;
   first = LeavesSide-here _ p;
   second = LeavesSide-here _ p;
+  line = line_here p;
+  least = refl;
   greatest = refl;
   moments = λ m since. since;
 }

@@ -1,4 +1,16 @@
 pub mod Putting
+pub mod Numbers
 pub mod SidePuts
 pub mod Announcing
 pub mod Living
+pub mod PairWords
+pub mod PairOutcome
+pub mod Brought
+pub mod Differ
+pub mod PairWork
+pub mod Bringing
+pub mod PairRecording
+pub mod Room
+pub mod PairPast
+pub mod Traces
+pub mod SideKeeping

@@ -4,20 +4,26 @@ use Rattle.fdr_slot.specs.declared.image.Header.{Header}
 use Rattle.fdr_recover.specs.Blocks.{Block}
 use Rattle.fdr_recover.specs.Images.{recovered_run, next_of}
 use Rattle.fdr_ring.specs.Gates.{KeepsHeader}
-use Rattle.fdr_ring.specs.Runs.{IsTail, KeepsRun}
+use Rattle.fdr_ring.specs.Runs.{IsTail, KeepsRun, last_blocks}
 use Rattle.fdr_twin.specs.Pair.{Pair, PairMoment}
 
--- the block is after the run, of which at least the last N - 2 blocks are kept
+-- The block b is after the run, of which at least the last N - 2 blocks are kept, b among them.
 pub record HasPut (h : Header) (b : Block) (old new : List ℕ) : Type 0 where
   pub kept : KeepsHeader old new
   pub run : IsTail (h.slots - 2) (recovered_run h old ++ b ∷ []) (recovered_run h new)
   pub next : next_of h new ≡ next_of h old + 1
 
--- so it is, or there is no such block, and at least the last N - 2 blocks of the run are kept
+-- Of a list that the run was the last N - 1 blocks of, it is now the last N - 1 with these blocks after it.
+abbrev pub AddsExactly : Header → List Block → List ℕ → List ℕ → Type 0
+AddsExactly h new old now =
+    (whole : List Block) → recovered_run h old ≡ last_blocks (h.slots - 1) whole → recovered_run h now ≡ last_blocks (h.slots - 1) (whole ++ new)
+
+-- The block b is after the run, or there is no such block; at least the last N - 2 blocks are kept.
 abbrev pub MayPut : Header → Block → List ℕ → List ℕ → Type 0
 MayPut h b old new = KeepsRun h (h.slots - 2) old new ⊎ HasPut h b old new
 
--- a moment while the block b is put on the first side, whose header is h, and then c on the second, whose header is k
+-- A moment while the block b is put on the first side, whose header is h, and then c on the second, whose header is k: each side
+-- has its block or hasn't.
 pub record IsPutting (h k : Header) (b c : Block) (old : Pair) (m : PairMoment) : Type 0 where
   pub first : MayPut h b old.first.held m.first
   pub second : MayPut k c old.second.held m.second

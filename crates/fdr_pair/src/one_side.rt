@@ -1,13 +1,13 @@
 //! A block on one side of a twin.
 
-ghost use Rattle.std.specs.Prelude.{◌≡◌, ◌⊎◌, ◌+◌, ◌<◌, ◌≤◌, Err, length, IfOk, OnOk, OnErr, IsTrue};
+ghost use Rattle.std.specs.Prelude.{◌≡◌, ◌⊎◌, ◌+◌, ◌<◌, ◌≤◌, [], ◌∷◌, Err, length, IfOk, OnOk, OnErr, IsTrue};
 ghost use Rattle.fdr_io.specs.Faults.{Rose};
 ghost use Rattle.fdr_deck.specs.Disk.{IsSettled};
 ghost use Rattle.fdr_slot.specs.Limits.{sequence_end};
 ghost use Rattle.fdr_ring.specs.Rings.{IsRing, IsSureRing, OfSettled};
 ghost use Rattle.fdr_twin.specs.Pair.{seen, disk_on};
 ghost use Rattle.fdr_twin.specs.Serving.{Serves};
-ghost use Rattle.fdr_pair.specs.Putting.{HasPut, MayPut};
+ghost use Rattle.fdr_pair.specs.Putting.{AddsExactly, HasPut, MayPut};
 ghost use Rattle.fdr_pair.specs.SidePuts.{IsPutReady, PutsUnlessFailed};
 
 use crate::put::put_block;
@@ -35,10 +35,14 @@ pub fn put_on<T: Twin>(
     ensures put { OnOk result (IsTrue T.tells.bytes → HasPut ring.header
         (record { number = ring.next; session = session; payload = bytes.now })
         (disk_on side (T.pair twin.old)).held (disk_on side (T.pair twin.new)).held) }
+    ensures exact { OnOk result (IsTrue T.tells.bytes → AddsExactly ring.header
+        (record { number = ring.next; session = session; payload = bytes.now } ∷ [])
+        (disk_on side (T.pair twin.old)).held (disk_on side (T.pair twin.new)).held) }
     ensures settled { OnOk result (IsTrue T.tells.stops → IsSettled (seen side (T.pair twin.new))) }
     ensures serves { Serves T.tells side
         (OfSettled (seen side (T.pair twin.old)) (MayPut ring.header (record { number = ring.next; session = session; payload = bytes.now })))
         (T.pair twin.old) (T.pair twin.new) }
+    ensures no_fault { OnOk result ((disk_on side (T.pair twin.new)).faults ≡ (disk_on side (T.pair twin.old)).faults) }
     ensures cause { result ≡ Err RingFault.DiskFault
         → Rose (disk_on side (T.pair twin.old)).faults (disk_on side (T.pair twin.new)).faults }
 {

@@ -1,12 +1,12 @@
 //! A block on a deck.
 
-ghost use Rattle.std.specs.Prelude.{◌≡◌, ◌⊎◌, ◌+◌, ◌<◌, ◌≤◌, Err, length, IfOk, OnOk, OnErr, IsTrue};
+ghost use Rattle.std.specs.Prelude.{◌≡◌, ◌⊎◌, ◌+◌, ◌<◌, ◌≤◌, [], ◌∷◌, Err, length, IfOk, OnOk, OnErr, IsTrue};
 ghost use Rattle.fdr_io.specs.Faults.{Rose};
 ghost use Rattle.fdr_deck.specs.Disk.{IsSettled};
 ghost use Rattle.fdr_deck.specs.Calls.{IsDiskWork, Succeeds};
 ghost use Rattle.fdr_slot.specs.Limits.{sequence_end};
 ghost use Rattle.fdr_ring.specs.Rings.{IsRing, IsSureRing, OfSettled};
-ghost use Rattle.fdr_pair.specs.Putting.{HasPut, MayPut};
+ghost use Rattle.fdr_pair.specs.Putting.{AddsExactly, HasPut, MayPut};
 
 use fdr_deck::Deck;
 use fdr_recover::RingFault;
@@ -29,6 +29,8 @@ pub fn put_block<D: Deck>(
     ensures fact { IfOk result (λ r. IsSureRing D.tells r.header r.next (D.state deck.new)) }
     ensures put { OnOk result (IsTrue D.tells.bytes → HasPut ring.header
         (record { number = ring.next; session = session; payload = bytes.now }) (D.state deck.old).held (D.state deck.new).held) }
+    ensures exact { OnOk result (IsTrue D.tells.bytes → AddsExactly ring.header
+        (record { number = ring.next; session = session; payload = bytes.now } ∷ []) (D.state deck.old).held (D.state deck.new).held) }
     ensures settled { OnOk result (IsTrue D.tells.stops → IsSettled (D.state deck.new)) }
     ensures extent { (D.state deck.new).extent ≡ (D.state deck.old).extent }
     ensures disk_work { IsDiskWork D.tells

@@ -2,10 +2,10 @@
 
 ghost use Rattle.std.specs.Prelude.{◌≡◌, ◌+◌, ◌<◌, ◌≤◌, [], ◌∷◌, length};
 ghost use Rattle.fdr_slot.specs.Limits.{sequence_end};
-ghost use Rattle.fdr_twin.specs.Rest.{PairElapses};
 ghost use Rattle.fdr_twin.specs.Serving.{EachPairMoment};
 ghost use Rattle.fdr_twin.specs.declared.side.Side.TheVariants as side;
-ghost use Rattle.fdr_pair.specs.Living.{IsReadyFor, SideMoment, SideNow, GoesOn, copied_blocks};
+ghost use Rattle.fdr_pair.specs.Numbers.{CountsOn};
+ghost use Rattle.fdr_pair.specs.Living.{IsReadyFor, HasLiving, SideMoment, SideNow};
 
 use crate::announce::announce_living;
 use crate::one_side::put_unless_failed;
@@ -14,7 +14,8 @@ use fdr_twin::{Side, Twin};
 
 /// Puts a block of a session on each side that hasn't failed, and then announces that it is there. Either side may fail meanwhile, and the
 /// other goes on: at each moment each side has failed by then, or its image keeps its run and the block, and every block that
-/// is announced at that moment. The rings of the sides that haven't failed are handed back.
+/// is announced at that moment, where no number above the block's could be announced before. The rings of the sides that
+/// haven't failed are handed back.
 pub fn record_block<T: Twin>(
     twin: &mut T,
     first: Option<Ring>,
@@ -27,46 +28,19 @@ pub fn record_block<T: Twin>(
     requires some_bytes { 0 < length bytes.now }
     requires first_ready { IsReadyFor T.tells side.First first next session bytes.now (T.pair twin.old) }
     requires second_ready { IsReadyFor T.tells side.Second second next session bytes.now (T.pair twin.old) }
-    requires greatest { (T.pair twin.old).greatest ≤ next }
-    ensures first_moments { EachPairMoment T.tells (T.pair twin.old) (T.pair twin.new)
+    ensures first_moments { (T.pair twin.old).greatest ≤ next → EachPairMoment T.tells (T.pair twin.old) (T.pair twin.new)
         (SideMoment side.First first (record { number = next; session = session; payload = bytes.now } ∷ []) (T.pair twin.old)) }
-    ensures second_moments { EachPairMoment T.tells (T.pair twin.old) (T.pair twin.new)
+    ensures second_moments { (T.pair twin.old).greatest ≤ next → EachPairMoment T.tells (T.pair twin.old) (T.pair twin.new)
         (SideMoment side.Second second (record { number = next; session = session; payload = bytes.now } ∷ []) (T.pair twin.old)) }
     ensures first_now { SideNow T.tells side.First first result.0 (record { number = next; session = session; payload = bytes.now } ∷ [])
         (T.pair twin.old) (T.pair twin.new) }
     ensures second_now { SideNow T.tells side.Second second result.1 (record { number = next; session = session; payload = bytes.now } ∷ [])
         (T.pair twin.old) (T.pair twin.new) }
-    ensures greatest { (T.pair twin.new).greatest ≤ next + 1 }
-    ensures time { PairElapses (T.pair twin.old) (T.pair twin.new) }
+    ensures numbers { CountsOn T.tells next 1 (T.pair twin.old) (T.pair twin.new) }
+    ensures announced { HasLiving result.0 result.1 → (T.pair twin.new).announced ≡ next + 1 }
 {
     let first = put_unless_failed(twin, Side::First, first, session, bytes);
     let second = put_unless_failed(twin, Side::Second, second, session, bytes);
     announce_living(twin, &first, &second, next + 1);
     (first, second)
-}
-
-/// Puts so many blocks of a session and of the same bytes on each side that hasn't failed, one after another, and announces each. What is said
-/// of one block is said of all of them, from the start on.
-pub fn record_copies<T: Twin>(
-    twin: &mut T,
-    first: Option<Ring>,
-    second: Option<Ring>,
-    next: u64,
-    count: u64,
-    session: u32,
-    bytes: &[u8],
-) -> (Option<Ring>, Option<Ring>)
-    requires bound { next + count ≤ sequence_end }
-    requires some_bytes { 0 < length bytes.now }
-    requires first_ready { IsReadyFor T.tells side.First first next session bytes.now (T.pair twin.old) }
-    requires second_ready { IsReadyFor T.tells side.Second second next session bytes.now (T.pair twin.old) }
-    requires greatest { (T.pair twin.old).greatest ≤ next }
-    ensures first { GoesOn T.tells side.First first (copied_blocks next session bytes.now count) (copied_blocks next session bytes.now count) (T.pair twin.old) result.0 (T.pair twin.new) }
-    ensures second { GoesOn T.tells side.Second second (copied_blocks next session bytes.now count) (copied_blocks next session bytes.now count) (T.pair twin.old) result.1 (T.pair twin.new) }
-{
-    let mut rings = (first, second);
-    for i in 0..count {
-        rings = record_block(twin, rings.0, rings.1, next + i, session, bytes);
-    }
-    rings
 }

@@ -14,17 +14,18 @@ pub record PullsPieces (limit : ℕ) (tells : Tells) (old new : State) (pulled :
   pub begun_within_limit : 0 < length pulled → new.pulled_before ≤ old.taken + limit
   pub bounded : length pulled ≤ limit + piece_bytes
 
--- what an end says of the bytes that were pulled
+-- What an end says of the bytes that were pulled of an input: at most the limit of them came and the input is at its end, or a
+-- pull failed; or more than the limit came.
 pub record EndsInput (limit : ℕ) (tells : Tells) (new : State) (pulled : List ℕ) (end : InputEnd) : Type 0 where
   pub end_within_limit : end ≡ input_end.End → length pulled ≤ limit
   pub fault_within_limit : end ≡ input_end.Fault → length pulled ≤ limit
   pub many : end ≡ input_end.TooLong → limit < length pulled
   pub empty : end ≡ input_end.End → IsTrue tells.input → new.input ≡ []
 
--- of these bytes, those that were pulled before the last pull that gave some, within the limit
+-- of the bytes that were pulled, within the limit, those before the last pull that gave some
 abbrev pub before_last : ℕ → State → State → List ℕ → List ℕ
 before_last limit old new pulled = take (new.pulled_before - old.taken) (take limit pulled)
 
--- and those of the last pull that gave some, within the limit
+-- of the bytes that were pulled, within the limit, those of the last pull that gave some
 abbrev pub last_piece : ℕ → State → State → List ℕ → List ℕ
 last_piece limit old new pulled = drop (new.pulled_before - old.taken) (take limit pulled)

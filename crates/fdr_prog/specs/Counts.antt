@@ -7,7 +7,8 @@ use Rattle.fdr_deck.specs.Moments.{IsSoundDeck}
 use Rattle.fdr_deck.specs.Announced.{least_announced, greatest_announced}
 use Rattle.fdr_deck.specs.declared.announced.Announced.{Announced}
 
--- the length of the disk, the announced numbers, how many bytes were pulled, how many as the last pull that gave bytes began, and the faults
+-- what is seen of the program's deck: the length of the disk, the announced numbers, how many bytes were pulled, that number as
+-- it was when the last pull that gave bytes began, and the counts of faults
 pub record Counts : Type 0 where
   pub extent : ℕ
   pub announced : Announced
@@ -16,10 +17,11 @@ pub record Counts : Type 0 where
   pub disk_faults : ℕ
   pub input_faults : ℕ
 
--- neither the input nor the disk is told
+-- the program's deck tells neither its input nor its bytes nor its stops
 abbrev pub telling_nothing : Tells
 telling_nothing = record { input = false; bytes = false; stops = false }
 
+-- what the program's deck means, as the state of a deck
 abbrev pub counts_state : Counts → State
 counts_state c = record {
   extent = c.extent;
@@ -37,6 +39,7 @@ counts_state c = record {
   input_faults = c.input_faults;
 }
 
+-- The program's deck is sound.
 pub counts_are_sound : (c : Counts) → IsSoundDeck telling_nothing (counts_state c)
 counts_are_sound c = record {
   stops_need_bytes = λ told. told;

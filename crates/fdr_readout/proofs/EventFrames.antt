@@ -17,14 +17,15 @@ use Rattle.fdr_sync.proofs.AcceptedLemmas.{accepted_apart}
 use Rattle.fdr_sync.proofs.EventLemmas.{frames_of_events}
 use Rattle.fdr_table.specs.Rows.{TableRows}
 use Rattle.fdr_recon.specs.declared.Row.{Row}
-use Rattle.fdr_recon.specs.Past.{BeginsApart}
+use Rattle.fdr_recon.specs.Past.{BeginsApart, is_linked_at}
 use Rattle.fdr_recon.specs.Rows.{ReadFrame, rows_looked_at, rows_of_frame}
 use Rattle.fdr_recon.proofs.ApartFrames.{last_rows-apart}
-use Rattle.fdr_readout.specs.Listing.{accepted_to, frame_read, rows_at}
+use Rattle.fdr_readout.specs.Listing.{accepted_to, frame_read, rows_at, is_frame_linked}
 use Rattle.fdr_readout.specs.Entries.{Entry, FrameEntry, RowEntry, event_entries, row_entries, last_frame_entries, entries_at, entries_of}
 use Rattle.fdr_readout.specs.Reading.{entries_in}
 use Rattle.fdr_readout.proofs.SoFarLemmas.{filter_all}
 use Rattle.fdr_readout.proofs.EntryLemmas.{flat_map_row_entries}
+use Rattle.fdr_readout.proofs.LinkedFrames.{last_linked-apart}
 
 All_behind : {X : Type 0} (P : X → Type 0) (xs ys : List X) → All P (xs ++ ys) → All P ys
 All_behind P [] ys all = all
@@ -78,11 +79,15 @@ some_read b w taken (Frame a) read frame is =
       length-append (filter_map frame_of_event taken) (a ∷ []),
     )
 
+-- the entries of frame i of these
+abbrev frame_entries_of : TableRows → List ReadFrame → ℕ → List Entry
+frame_entries_of t frames i = FrameEntry (is_linked_at t.frame frames i) ∷ map RowEntry (filter_map (λ r. r) (rows_looked_at t frames i))
+
 -- the entries of an event, by the frames that were read up to it
 pub entries_as_read : (t : TableRows) (b : List ℕ) (taken : List Event) (e : Event) (after : List Event) (read : List ReadFrame)
     → IsWordCount t.frame.words → events_of b t.frame.words ≡ taken ++ e ∷ after
     → read ≡ map (frame_read b t.frame.words) (filter_map frame_of_event (taken ++ e ∷ [])) → event_entries t read e ≡ entries_at t b e
-unfolding entries_at rows_at last_frame_entries rows_of_frame
+unfolding entries_at rows_at is_frame_linked last_frame_entries rows_of_frame
 entries_as_read t b taken (Gap a n) after read count is as_read = refl
 entries_as_read t b taken (Frame a) after read count is as_read =
     let w = t.frame.words in
@@ -91,12 +96,10 @@ entries_as_read t b taken (Frame a) after read count is as_read =
     let f = frame_read b w in
     let to_here : accepted_to b w a ≡ xs = accepted_to_event b w a taken after some is in
     let frames : read ≡ map f xs = as_read ∙ ap (map f) (filter_map-append frame_of_event taken (Frame a ∷ [])) in
-    ap (λ (es : List Entry). FrameEntry ∷ es) (
-    flat_map_row_entries (rows_looked_at t read (length read - 1))
-    ∙ ap (λ (rs : List ReadFrame). map RowEntry (filter_map (λ r. r) (rows_looked_at t rs (length rs - 1)))) frames
-    ∙ ap (λ n. map RowEntry (filter_map (λ r. r) (rows_looked_at t (map f xs) (n - 1)))) (length-map xs f)
-    ∙ ap (λ (ys : List ℕ). map RowEntry (filter_map (λ r. r) (rows_looked_at t (map f ys) (length ys - 1)))) (sym to_here)
-    )
+    ap (λ (es : List Entry). FrameEntry (is_linked_at t.frame read (length read - 1)) ∷ es) (flat_map_row_entries (rows_looked_at t read (length read - 1)))
+    ∙ ap (λ (rs : List ReadFrame). frame_entries_of t rs (length rs - 1)) frames
+    ∙ ap (λ n. frame_entries_of t (map f xs) (n - 1)) (length-map xs f)
+    ∙ ap (λ (ys : List ℕ). frame_entries_of t (map f ys) (length ys - 1)) (sym to_here)
 
 -- the entries of an event are the same without the frames of other bytes that were read before
 pub entries_apart : (t : TableRows) (earlier read : List ReadFrame) (e : Event) → IsWordCount t.frame.words → BeginsApart read
@@ -104,7 +107,9 @@ pub entries_apart : (t : TableRows) (earlier read : List ReadFrame) (e : Event) 
 unfolding last_frame_entries
 entries_apart t earlier read (Gap a n) count apart some = refl
 entries_apart t earlier read (Frame a) count apart some =
-    ap (λ (rows : List (Option Row)). FrameEntry ∷ flat_map row_entries rows)
+    ap (λ linked. FrameEntry linked ∷ flat_map row_entries (rows_looked_at t (earlier ++ read) (length (earlier ++ read) - 1)))
+    (last_linked-apart t.frame earlier read apart (some refl))
+    ∙ ap (λ (rows : List (Option Row)). FrameEntry (is_linked_at t.frame read (length read - 1)) ∷ flat_map row_entries rows)
     (last_rows-apart t earlier read (omega (arith, word_count_bounds t.frame.words count)) apart (some refl))
 
 module _ (t : TableRows) (b : List ℕ) (taken es : List Event) (e : Event) (after : List Event) (entries : List Entry) (read : List ReadFrame)

@@ -2,6 +2,7 @@ pub mod Recordable
 pub mod SoFarLemmas
 pub mod Lines
 pub mod EntryLemmas
+pub mod LinkedFrames
 pub mod EventFrames
 pub mod Readings
 pub mod Taking

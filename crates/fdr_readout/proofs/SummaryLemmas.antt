@@ -21,7 +21,7 @@ use Rattle.fdr_layout.proofs.Few.{ending_few, samples_few}
 use Rattle.fdr_recon.specs.declared.Row.{Row}
 use Rattle.fdr_recon.specs.Rows.{ReadFrame, rows_of_frame, rows_looked_at, row_of, frame_at, cycle_of_frame}
 use Rattle.fdr_readout.specs.declared.tally.Summary.{Summary}
-use Rattle.fdr_readout.specs.Listing.{rows_at, accepted_to, frame_read}
+use Rattle.fdr_readout.specs.Listing.{rows_at, is_frame_linked, accepted_to, frame_read}
 use Rattle.fdr_readout.specs.Entries.{Entry, FrameEntry, RowEntry, entries_at, entries_of, row_of_entry, is_frame_entry}
 use Rattle.fdr_readout.specs.Summary.{Tallies, no_summary, rows_among, value_bits, listed_rows, summary_of}
 
@@ -50,7 +50,7 @@ frames_of_entries : (t : TableRows) (b : List ℕ) (es : List Event)
 unfolding entries_at
 frames_of_entries t b [] = refl
 frames_of_entries t b (Frame a ∷ es) =
-    ap (λ (entries : List Entry). length (FrameEntry ∷ entries)) (
+    ap (λ (entries : List Entry). length (FrameEntry (is_frame_linked t b a) ∷ entries)) (
     filter-append is_frame_entry (map RowEntry (rows_at t b a)) (flat_map (entries_at t b) es)
     ∙ ap (λ (front : List Entry). front ++ filter is_frame_entry (flat_map (entries_at t b) es)) (no_frame_among_rows (rows_at t b a))
     )

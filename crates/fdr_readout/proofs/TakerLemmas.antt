@@ -1,5 +1,5 @@
 -- The lines of one entry.
-use Rattle.std.proofs.Common.{◌≡◌, ℕ, List, [], ◌∷◌, refl}
+use Rattle.std.proofs.Common.{◌≡◌, ℕ, Bool, List, [], ◌∷◌, refl}
 use Rattle.std.specs.List.{flat_map}
 use Rattle.std.proofs.lemmas.List.{append-nil}
 use Rattle.fdr_listing.specs.Text.{gap_text}
@@ -12,9 +12,9 @@ pub gap_entry_lines : (t : TableRows) (from bits : ℕ) → flat_map (entry_line
 unfolding entry_lines
 gap_entry_lines t from bits = append-nil (gap_text from bits)
 
-pub frame_entry_lines : (t : TableRows) → flat_map (entry_lines t) (FrameEntry ∷ []) ≡ []
+pub frame_entry_lines : (t : TableRows) (linked : Bool) → flat_map (entry_lines t) (FrameEntry linked ∷ []) ≡ []
 unfolding entry_lines
-frame_entry_lines t = refl
+frame_entry_lines t linked = refl
 
 pub row_entry_line : (t : TableRows) (r : Row) → flat_map (entry_lines t) (RowEntry r ∷ []) ≡ row_line_of t r
 unfolding entry_lines

@@ -12,7 +12,7 @@ use Rattle.fdr_readout.specs.declared.events.EventReader.{EventReader}
 use Rattle.fdr_readout.specs.Listing.{frame_read}
 use Rattle.fdr_readout.specs.Entries.{Entry, entries_at}
 
--- These bytes may follow the ones of a past.
+-- These bytes may follow the ones of a past: none may, once no byte comes.
 abbrev pub MayGoOn : ScannerPast → List ℕ → Type 0
 MayGoOn past more = past.finished ≡ true → more ≡ []
 
@@ -21,8 +21,8 @@ abbrev pub AreRead : TableRows → ScannerPast → List ReadFrame → Type 0
 AreRead t past read = (more : List ℕ) → MayGoOn past more
     → read ≡ map (frame_read (past.bytes ++ more) t.frame.words) (filter_map frame_of_event past.taken)
 
--- A reader stands where these bytes came and these of their events were taken. It may have read frames of other bytes before:
--- the first frame of these bytes isn't adjacent to them.
+-- The reader of events stands where these bytes came and these of their events were taken. It may have read frames of other bytes
+-- before: the first frame of these bytes isn't adjacent to them.
 pub record ReadsEvents (t : TableRows) (r : EventReader) (past : ScannerPast) : Type 0 where
   pub count : IsWordCount t.frame.words
   pub words : past.words ≡ t.frame.words
@@ -35,10 +35,10 @@ pub record ReadsEvents (t : TableRows) (r : EventReader) (past : ScannerPast) : 
   pub apart : BeginsApart read
   pub as_read : AreRead t past read
 
--- the past where these bytes came and the events that they decide were taken
+-- the past of a scanner where these bytes came and the events that they decide were taken
 abbrev pub decided_past : ℕ → List ℕ → ScannerPast
 decided_past w b = record { words = w; bytes = b; taken = decided_events b w; finished = false }
 
--- the entries of some events of bytes
+-- the entries of these events of bytes
 abbrev pub entries_in : TableRows → List ℕ → List Event → List Entry
 entries_in t b es = flat_map (entries_at t b) es

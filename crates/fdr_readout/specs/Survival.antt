@@ -18,17 +18,17 @@ use Rattle.fdr_readout.specs.SampledRows.{sampled_row, sampled_rows, whole_frame
 
 -- ---- the premise
 
--- The n bits of a from bit p on are in b from bit q on.
+-- The n bits of the bytes a from bit p on are in the bytes b from bit q on.
 pub record StandIn (a : List ℕ) (p n : ℕ) (b : List ℕ) (q : ℕ) : Type 0 where
   pub within : q + n ≤ bits_in b
   pub same : (x : ℕ) → x < n → bit_at b (q + x) ≡ bit_at a (p + x)
 
--- no frame position of b reaches over bit q: none begins in the 48 w - 1 bits before it
+-- No frame position of b reaches over bit q: none begins in the 48 w - 1 bits before it.
 abbrev pub IsClearBefore : List ℕ → ℕ → ℕ → Type 0
 IsClearBefore b w q = (p : ℕ) → p < q → q < p + 48 * w → ¬ IsFramePosition b w p
 
--- Frames j to j + m - 1 of the recording, all of them whole, survive in b from bit q on: their exact bits are there, and
--- no frame position of b reaches into them from before.
+-- A surviving run: frames j to j + m - 1 of the recording, one at least and all of them whole, survive in the bytes b from bit q
+-- on. Their exact bits are there, and no frame position of b reaches into them from before.
 pub record Survives (t : TableRows) (records : List BusRecord) (b : List ℕ) (q j m : ℕ) : Type 0 where
   pub not_empty : 1 ≤ m
   pub whole : j + m ≤ whole_frames t records
@@ -41,20 +41,20 @@ pub record Survives (t : TableRows) (records : List BusRecord) (b : List ℕ) (q
 abbrev pub frames_from : ℕ → ℕ → ℕ → List ℕ
 frames_from w q m = map (λ i. q + 48 * w * i) (range_with_len 0 m)
 
--- The m frames from bit q on are accepted frames of b, one next to the other among all that are, and they are joined.
+-- The m frames from bit q on are accepted frames of the bytes b, one next to the other among all that are, and they are joined.
 pub record AreAcceptedInARow (t : TableRows) (b : List ℕ) (q m : ℕ) : Type 0 where
   pub before : List ℕ
   pub behind : List ℕ
   pub accepted : accepted_frames b t.frame.words ≡ before ++ frames_from t.frame.words q m ++ behind
   pub joined : IsTrue (are_joined t.frame (map (frame_read b t.frame.words) (accepted_frames b t.frame.words)) (length before + (m - 1)) (m - 1))
 
--- xs is what is left of ys where some elements are taken out
+-- The list xs is what is left of ys where some elements are taken out.
 abbrev pub AreAmong : {X : Type 0} → List X → List X → Type 0
 AreAmong [] ys = Unit {0}
 AreAmong (x ∷ xs) [] = ⊥
 AreAmong (x ∷ xs) (y ∷ ys) = ((x ≡ y) × AreAmong xs ys) ⊎ AreAmong (x ∷ xs) ys
 
--- the sampled rows of frame k whose earliest part lies in frame j or a later one, in the order of last parts
+-- the sampled rows of frame k of a recording whose earliest part lies in frame j or a later one, in the order of last parts
 unfoldable pub sampled_since : TableRows → List BusRecord → ℕ → ℕ → List Row
 sampled_since t records j k = map (sampled_row t records k) (filter (λ (s : Sample). nat_le (j + reach t.frame.words s.parts) k) (ending_in t (k % 16)))
 
@@ -62,16 +62,17 @@ sampled_since t records j k = map (sampled_row t records k) (filter (λ (s : Sam
 unfoldable pub lines_at : TableRows → List ℕ → ℕ → List ℕ
 lines_at t b a = flat_map (row_line_of t) (rows_at t b a)
 
--- Frames j to j + m - 1 of the recording are listed from bit q of b on: they are accepted and joined; the listing has the
--- lines of their rows, one frame's after the other's and nothing between them; among the rows of each are those that were
--- sampled from frame j on; and a frame whose superframe begins at frame j or later has its sampled rows and no others.
+-- A surviving run is listed: frames j to j + m - 1 of the recording, from bit q of the bytes b on, are accepted and joined; the
+-- listing has the lines of their rows, one frame's after the other's and nothing between them; among the rows of each are those
+-- that were sampled from frame j on; and a frame whose superframe begins at frame j or later has its sampled rows and no others.
 pub record AreListed (t : TableRows) (records : List BusRecord) (b : List ℕ) (q j m : ℕ) : Type 0 where
   pub accepted : AreAcceptedInARow t b q m
   pub lines : (front : List ℕ) × (back : List ℕ) × (listing_of t b ≡ front ++ flat_map (lines_at t b) (frames_from t.frame.words q m) ++ back)
   pub rows : (i : ℕ) → i < m → AreAmong (sampled_since t records j (j + i)) (rows_at t b (q + 48 * t.frame.words * i))
   pub all_rows : (i : ℕ) → i < m → (j + i) % 16 ≤ i → rows_at t b (q + 48 * t.frame.words * i) ≡ sampled_rows t records (j + i)
 
--- The rows are listed in both: of the accepted frame at bit q of b, and with the same text of the one at bit r of c.
+-- The rows are listed in both: of the accepted frame at bit q of the bytes b, and with the same text of the one at bit r of the
+-- bytes c.
 pub record AreInBoth (t : TableRows) (rows : List Row) (b : List ℕ) (q : ℕ) (c : List ℕ) (r : ℕ) : Type 0 where
   pub one : AreAmong (map (row_line_of t) rows) (map (row_line_of t) (rows_at t b q))
   pub other : AreAmong (map (row_line_of t) rows) (map (row_line_of t) (rows_at t c r))

@@ -17,7 +17,7 @@ pub record HasTaken {S O : Type 0} (took : TableRows → S → O → S → O →
   pub taken : took t first out_first now out_now entries
   pub decided : (more : List ℕ) → entries_in t (bytes ++ more) (decided_events bytes t.frame.words) ≡ entries
 
--- the taker that writes lines took these entries: what waits in its buffer and what a sink holds, before and after
+-- The taker that writes lines took these entries: their lines went out to the sink, or wait in its buffer.
 abbrev pub WritesLines : {O : Type 0} → (O → Option (List ℕ)) → TableRows → List ℕ → O → List ℕ → O → List Entry → Type 0
 WritesLines written t before out_before now out_now entries =
     Emits (written out_before) (written out_now) before now (flat_map (entry_lines t) entries)

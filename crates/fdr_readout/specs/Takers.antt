@@ -3,8 +3,9 @@ use Rattle.std.specs.Prelude.{List, [], ◌++◌}
 use Rattle.fdr_table.specs.Rows.{TableRows}
 use Rattle.fdr_readout.specs.Entries.{Entry}
 
--- A taker may take nothing, and entries one after another. It fails in some entries also where it took others before them,
--- and where more would have followed.
+-- What holds of each taker of entries, whose state is of type S and beside which a sink of type O stands: it may take nothing,
+-- and entries one after another. It fails in some entries also where it took others before them, and where more would have
+-- followed.
 pub record TakerLaws {S O : Type 0} (took : TableRows → S → O → S → O → List Entry → Type 0)
     (failed_in : TableRows → S → O → O → List Entry → Type 0) : Type 0 where
   pub nothing : (t : TableRows) (s : S) (o : O) → took t s o s o []

@@ -15,6 +15,7 @@ use Rattle.fdr_readout.specs.Entries.{Entry, entry_lines, row_of_entry, is_frame
 use Rattle.fdr_readout.specs.Summary.{Tallies, rows_among, value_bits}
 use Rattle.fdr_readout.specs.Takers.{TakerLaws}
 
+-- The taker that writes lines keeps the laws of takers.
 pub text_laws : {O : Type 0} (written : O → Option (List ℕ)) → TakerLaws
     (λ (t : TableRows) (a : List ℕ) (o : O) (b : List ℕ) (p : O) (xs : List Entry). Emits (written o) (written p) a b (flat_map (entry_lines t) xs))
     (λ (t : TableRows) (a : List ℕ) (o p : O) (xs : List Entry). EmitsPart (written o) (written p) a (flat_map (entry_lines t) xs))
@@ -56,6 +57,7 @@ same n = ap (λ k. k % 2 ^ 64) (sym (add-zero n))
 tallies_nothing : (a : Summary) → Tallies a a []
 tallies_nothing a = record { frames = same a.frames; rows = same a.rows; sum = same a.sum; fits = λ fits. fits }
 
+-- The taker that counts keeps the laws of takers.
 pub tally_laws : {O : Type 0} → TakerLaws (λ (t : TableRows) (a : Summary) (o : O) (b : Summary) (p : O) (xs : List Entry). Tallies a b xs)
     (λ (t : TableRows) (a : Summary) (o p : O) (xs : List Entry). ⊥)
 tally_laws = record {

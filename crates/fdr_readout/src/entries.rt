@@ -43,7 +43,7 @@ fn take_row<O: Sink, T: Taker<O>>(
     }
 }
 
-/// Hands on the last frame that was read, and its rows.
+/// Hands on the last frame that was read, with whether it is linked to the one before, and its rows.
 fn take_frame<O: Sink, T: Taker<O>>(
     rebuild: &Rebuild,
     table: &Table,
@@ -59,7 +59,7 @@ fn take_frame<O: Sink, T: Taker<O>>(
     ensures no_fault { OnOk result (O.faults out.new ≡ O.faults out.old) }
     ensures monotone { O.faults out.old ≤ O.faults out.new }
 {
-    taker.frame();
+    taker.frame(rebuild.linked(), out)?;
     for i in 0..rebuild.rows() {
         take_row(table, rebuild.row(i), taker, out)?;
     }

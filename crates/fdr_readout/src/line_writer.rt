@@ -156,7 +156,9 @@ impl<O: Sink> Taker<O> for LineWriter {
         self.buffer.add(out, gap_line(from, bits).bytes())
     }
 
-    fn frame(&mut self) {}
+    fn frame(&mut self, linked: bool, out: &mut O) -> Result<(), Failed> {
+        Ok(())
+    }
 
     fn row(&mut self, table: &Table, row: &Row, out: &mut O) -> Result<(), Failed> {
         self.buffer.make_room(out, ROW_ROOM)?;

@@ -29,9 +29,13 @@ pub trait Taker<O: Sink> {
         ensures no_fault { OnOk result (O.faults out.new ≡ O.faults out.old) }
         ensures monotone { O.faults out.old ≤ O.faults out.new };
 
-    /// Takes a frame.
-    fn frame(&mut self)
-        ensures { (t : TableRows) (out : O) → took t self.old out self.new out (FrameEntry ∷ []) };
+    /// Takes a frame, with whether it is linked to the frame before it of the same bits.
+    fn frame(&mut self, linked: bool, out: &mut O) -> Result<(), Failed>
+        ensures all { (t : TableRows) → OnOk result (took t self.old out.old self.new out.new (FrameEntry linked ∷ [])) }
+        ensures part { (t : TableRows) → OnErr result (failed_in t self.old out.old out.new (FrameEntry linked ∷ [])) }
+        ensures cause { OnErr result (Rose (O.faults out.old) (O.faults out.new)) }
+        ensures no_fault { OnOk result (O.faults out.new ≡ O.faults out.old) }
+        ensures monotone { O.faults out.old ≤ O.faults out.new };
 
     /// Takes a row of the last frame, of one of the table's parameters.
     fn row(&mut self, table: &Table, row: &Row, out: &mut O) -> Result<(), Failed>

@@ -44,8 +44,9 @@ impl<O: Sink> Taker<O> for Summary {
         Ok(())
     }
 
-    fn frame(&mut self) {
+    fn frame(&mut self, linked: bool, out: &mut O) -> Result<(), Failed> {
         self.frames = self.frames.wrapping_add(1);
+        Ok(())
     }
 
     fn row(&mut self, table: &Table, row: &Row, out: &mut O) -> Result<(), Failed> {

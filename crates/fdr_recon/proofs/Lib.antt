@@ -1,5 +1,6 @@
 pub mod KeptWords
 pub mod SmallValues
+pub mod ValueBounds
 pub mod JoinedFrames
 pub mod FrameWords
 pub mod Standing

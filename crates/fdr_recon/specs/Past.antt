@@ -7,6 +7,7 @@ use Rattle.fdr_layout.specs.SlotParts.{laid_of}
 use Rattle.fdr_recon.specs.Rows.{ReadFrame, frame_at, are_linked}
 use Rattle.fdr_recon.specs.Kept.{RebuildKept}
 
+-- a frame as it is read: whether it begins where the frame before it ends, and its words
 abbrev pub read_frame : Bool → List ℕ → ReadFrame
 read_frame adjacent words = record { adjacent = adjacent; words = words }
 
@@ -20,17 +21,17 @@ abbrev pub is_linked_at : FrameRow → List ReadFrame → ℕ → Bool
 is_linked_at f frames zero = false
 is_linked_at f frames (suc i) = are_linked f (frame_at frames i) (frame_at frames (suc i))
 
--- the first of these frames, if there is one, isn't adjacent to a frame before it
+-- The first of these frames, if there is one, isn't adjacent to a frame before it.
 abbrev pub BeginsApart : List ReadFrame → Type 0
 BeginsApart [] = Unit {0}
 BeginsApart (r ∷ frames) = r.adjacent ≡ false
 
--- a frame has four subframes of w words of 12 bits
+-- The frame has four subframes of w words of 12 bits.
 pub record IsWholeFrame (w : ℕ) (r : ReadFrame) : Type 0 where
   pub whole : length r.words ≡ 4 * w
   pub small : All (λ word. word < 4096) r.words
 
--- The value stands where the frames of this past were read for this table.
+-- What the rebuild keeps stands for the whole list of frames that were read, by this table.
 pub record RepresentsRebuild (k : RebuildKept) (t : TableRows) (past : List ReadFrame) : Type 0 where
   pub frame : k.frame ≡ t.frame
   pub params : k.params ≡ t.params

@@ -8,14 +8,14 @@ use Rattle.fdr_recon.specs.declared.plans.Field.{Field}
 use Rattle.fdr_recon.specs.Kept.{RebuildKept, word_back}
 use Rattle.fdr_recon.specs.Rows.{reach}
 
--- the field lies in a word of 12 bits, and its bits within 48
+-- The field lies in a word of 12 bits, and its bits within the 48 of a raw value.
 pub record FitsWord (f : Field) : Type 0 where
   pub low : f.low < 12
   pub ones : f.ones < 4096
   pub shift : f.shift ≤ 36
 
--- Of a sample: its parameter, how many frames it reaches back, the subframe and the word of its earliest part, and the bits
--- of its parts.
+-- what the row of a sample needs: its parameter, how many frames it reaches back, the subframe and the word of its earliest part,
+-- and where the bits of its parts are
 pub record RowPlan : Type 0 where
   pub param : ℕ
   pub reach : ℕ
@@ -23,10 +23,11 @@ pub record RowPlan : Type 0 where
   pub word : ℕ
   pub fields : List Field
 
--- the field of a part whose sample ends in this cycle
+-- where the bits of a part are whose sample ends in this cycle, counted from the end of that frame
 abbrev pub field_plan : ℕ → ℕ → Part → Field
 field_plan w cycle p = record { back = 4 * w * (cycle + 1) - 1 - p.at / 12; low = p.at % 12; ones = 2 ^ p.width - 1; shift = p.shift }
 
+-- what the row of a sample needs that ends in this cycle
 abbrev pub row_plan : ℕ → ℕ → Sample → RowPlan
 row_plan w cycle s = record {
   param = s.param;
@@ -36,11 +37,12 @@ row_plan w cycle s = record {
   fields = map (field_plan w cycle) s.parts;
 }
 
--- those of the samples that end in a cycle
+-- what the rows of all samples need that end in this cycle
 abbrev pub cycle_plans : Laid → ℕ → ℕ → List RowPlan
 cycle_plans l w cycle = map (row_plan w cycle) (slice_index_or l.cycles cycle [])
 
--- the plans of all cycles, one cycle after another, and where those of each begin and those of the last end
+-- The plans are what the rows of all cycles need, one cycle after another; the numbers say where those of each begin and those of
+-- the last end.
 pub record ArePlans (l : Laid) (w : ℕ) (starts : List ℕ) (plans : List RowPlan) : Type 0 where
   pub rows : plans ≡ flat_map (cycle_plans l w) (range_with_len 0 16)
   pub begins : starts ≡ map (λ c. length (flat_map (cycle_plans l w) (range_with_len 0 c))) (range_with_len 0 17)
@@ -51,10 +53,10 @@ pub record Planned : Type 0 where
   pub laid : Laid
   pub words : ℕ
 
--- the bits of a field at their place in the raw value
+-- the bits of a field, read from the words that are kept, at their place in the raw value
 abbrev pub planned_bits : RebuildKept → Field → ℕ
 planned_bits k f = bit_and (word_back k f.back / 2 ^ f.low) f.ones * 2 ^ f.shift
 
--- the raw value of these fields
+-- the raw value of these fields, read from the words that are kept
 abbrev pub planned_raw : RebuildKept → List Field → ℕ
 planned_raw k fields = sum_by (planned_bits k) fields

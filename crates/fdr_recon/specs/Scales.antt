@@ -4,12 +4,13 @@ use Rattle.fdr_divisor.specs.Reach.{IsInReach}
 use Rattle.fdr_table.specs.Rows.{ParamRow}
 use Rattle.fdr_recon.specs.declared.scale.SmallScale.{SmallScale}
 
--- half of how many raw numbers there are, where half of them stand for what is below 0
+-- half of how many raw numbers of a parameter there are, where half of them stand for what is below 0; and else 0
 abbrev pub half_range : ParamRow → ℕ
 half_range p = if p.signed then 2 ^ (p.width - 1) else 0
 
--- With `half` added, and cut to the parameter's width, the raw numbers come in the order of what they stand for, from 0 on.
--- With `rise` added, that times `num` counts from a multiple of `den` on, which `offset` makes up for.
+-- The numbers make the values of the parameter without any number below 0 on the way. With `half` added, and cut to the
+-- parameter's width, the raw numbers come in the order of what they stand for, from 0 on. With `rise` added, that times `num`
+-- counts from a multiple of `den` on, which `offset` makes up for.
 pub record IsSmallScale (p : ParamRow) (s : SmallScale) : Type 0 where
   pub some_bits : 1 ≤ p.width
   pub half : s.half ≡ half_range p

@@ -8,7 +8,7 @@ ghost use Rattle.fdr_layout.specs.SlotParts.{laid_of};
 ghost use Rattle.fdr_layout.specs.Samples.{Sample};
 ghost use Rattle.fdr_recon.specs.Plans.{row_plan, planned_bits, planned_raw, FitsWord};
 ghost use Rattle.fdr_recon.specs.Rows.{ReadFrame, counter_in, counter_place, rows_looked_at};
-ghost use Rattle.fdr_recon.specs.Kept.{kept_word, kept_counter, kept_cycle, kept_value, kept_row, kept_samples, is_next, word_back, EndsInCycle, IsRow, IsSampleOf};
+ghost use Rattle.fdr_recon.specs.Kept.{kept_word, kept_counter, kept_cycle, kept_value, kept_row, kept_samples, is_next, word_back, EndsInCycle, IsRow, IsSampleOf, IsSmallValue};
 ghost use Rattle.fdr_recon.specs.Past.{RepresentsRebuild, is_linked_at, read_frame};
 
 use crate::Row;
@@ -162,8 +162,9 @@ impl Rebuild {
     fn value(&self, plan: &RowPlan) -> i64
         requires { (s : Sample) × (plan.now ≡ row_plan self.now.frame.words (kept_cycle self.now) s) × IsSampleOf self.now.params s
             × EndsInCycle self.now.frame.words (kept_cycle self.now) s }
-        ensures { (s : Sample) → plan.now ≡ row_plan self.now.frame.words (kept_cycle self.now) s → IsSampleOf self.now.params s
+        ensures value { (s : Sample) → plan.now ≡ row_plan self.now.frame.words (kept_cycle self.now) s → IsSampleOf self.now.params s
             → EndsInCycle self.now.frame.words (kept_cycle self.now) s → result ≡ kept_value self.now s }
+        ensures small { IsSmallValue result }
     {
         let scale = &self.scales[plan.param as usize];
         let raw = self.raw(plan.fields()) as u32;

@@ -4,6 +4,7 @@ ghost use Rattle.std.specs.Prelude.{◌≡◌, ◌+◌, ◌-◌, ◌*◌, ◌/�
 ghost use Rattle.fdr_divisor.specs.Reach.{IsInReach};
 ghost use Rattle.fdr_table.specs.Rows.{ParamRow};
 ghost use Rattle.fdr_table.specs.Value.{value_of};
+ghost use Rattle.fdr_recon.specs.Kept.{IsSmallValue};
 ghost use Rattle.fdr_recon.specs.Scales.{IsSmallScale, half_range};
 
 use fdr_divisor::Divisor;
@@ -144,6 +145,7 @@ pub(crate) struct Scale {
 
 impl Model for Scale {
     ghost use Rattle.std.specs.Prelude.{IfSome};
+    ghost use Rattle.fdr_table.specs.Ranges.{IsParamInRange};
     ghost use Rattle.fdr_table.specs.Rows.{ParamRow};
     ghost use Rattle.fdr_recon.specs.Scales.{IsSmallScale};
 
@@ -151,7 +153,7 @@ impl Model for Scale {
 
     ghost view = { λ s. s.param };
 
-    ghost invariant = { λ s. IfSome s.small (IsSmallScale s.param) };
+    ghost invariant = { λ s. IfSome s.small (IsSmallScale s.param) × IsParamInRange s.param };
 }
 
 impl Scale {
@@ -166,7 +168,8 @@ impl Scale {
     /// The value of a raw number of the parameter's field.
     pub(crate) fn value(&self, raw: u32) -> i64
         requires { raw < 2 ^ self.now.width }
-        ensures { result ≡ value_of self.now raw }
+        ensures value { result ≡ value_of self.now raw }
+        ensures small { IsSmallValue result }
     {
         match &self.small {
             Some(scale) => scale.value(raw),

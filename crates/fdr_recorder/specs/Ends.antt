@@ -4,16 +4,16 @@ use Rattle.fdr_recorder.specs.declared.error.SessionFault.{SessionFault}
 use Rattle.fdr_recorder.specs.declared.error.SessionFault.TheVariants as fault
 use Rattle.fdr_recorder.specs.declared.source.SourceEnd.{SourceEnd}
 
--- how its source ended, all of which is recorded, or why it was refused or cut short
+-- how a recording ended: as its source did, all of which is recorded then, or with the fault by which it was refused or cut short
 abbrev pub RecordingEnd : Type 0
 RecordingEnd = Result SourceEnd SessionFault
 
--- all that the source gave is recorded
+-- All that the source gave is recorded.
 abbrev pub HasRecordedSource : RecordingEnd → Type 0
 HasRecordedSource (Ok end) = Unit {0}
 HasRecordedSource (Err why) = ⊥
 
--- the faults at which a recording ends before the disk is written
+-- The fault is one at which a recording ends before the disk is written.
 abbrev pub IsRefusedAtStart : SessionFault → Type 0
 IsRefusedAtStart (fault.Image why) = Unit {0}
 IsRefusedAtStart (fault.WordsDiffer image table) = Unit {0}
@@ -22,7 +22,7 @@ IsRefusedAtStart fault.DiskFault = ⊥
 IsRefusedAtStart fault.SeqEnd = ⊥
 IsRefusedAtStart fault.NoMemory = Unit {0}
 
--- the faults that cut a recording short
+-- The fault is one that cuts a recording short: the disk failed, or the numbers ended.
 abbrev pub CutsSession : SessionFault → Type 0
 CutsSession (fault.Image why) = ⊥
 CutsSession (fault.WordsDiffer image table) = ⊥

@@ -14,11 +14,13 @@ pub record IsInTime (owed : List BusRecord → ℕ) (start : ℕ) (bytes : List 
   pub within : taken ≤ start + length bytes
   pub announced : owed (good_prefix (take (before - start) bytes)) ≤ number
 
--- a moment at which nothing was pulled yet, or at which what is owed is announced
+-- A moment at which a recording keeps up: nothing was pulled yet, or what is owed for the good records of the bytes before the
+-- last pull that gave some is announced.
 pub record IsLagMoment (owed : List BusRecord → ℕ) (first : State) (bytes : List ℕ) (m : Moment) : Type 0 where
   pub pulled : HasSamePulls first m ⊎ IsInTime owed first.taken bytes m.announced m.pulled_before m.taken
 
--- between two records: also the least number may be what is at a moment, and what is owed for these records is announced
+-- Between two records a recording keeps up with what was pulled, also by the least number that may be announced at a moment, and
+-- what is owed for all records so far is announced.
 pub record KeepsUp (owed : List BusRecord → ℕ) (tells : Tells) (first now : State) (bytes : List ℕ)
     (records : List BusRecord) : Type 0 where
   pub pulls : PullsUntilDecided tells first now [] bytes

@@ -21,25 +21,26 @@ use Rattle.fdr_recorder.specs.Recording.{IsClose, IsReady}
 abbrev pub next_in : List ℕ → ℕ
 next_in image = next_of (header_in image) image
 
--- a session of these records in an image
+-- a session of these records in an image, by the image's own header, next number and last session
 abbrev pub past_in : TableRows → List ℕ → List BusRecord → RecordingPast
 past_in t image records =
     record { table = t; header = header_in image; first = next_in image; session = session_of (run_in image); records = records }
 
--- The blocks that a recording of these records adds to an image: those of their stream, with numbers that go on from the
--- image's next, and with the session after that of the image's last block.
+-- the blocks that a recording of these records adds to an image: those of their stream, with numbers that go on from the image's
+-- next, and with the session after that of the image's last block
 abbrev pub new_blocks : TableRows → List ℕ → List BusRecord → List Block
 new_blocks t image records = all_blocks (past_in t image records)
 
--- the number that is announced once all blocks stand that are due at these records
+-- the number that is announced once all blocks stand that are due at these records: `first` and as many as there are
 abbrev pub owed_number : TableRows → Header → ℕ → List BusRecord → ℕ
 owed_number t h first records = first + due_blocks t h.payload records
 
--- The disk is settled, and no number above the image's next was announced: what the promises on stops ask of the disk.
+-- What the promises on stops ask of the disk: it is settled, and no number above the image's next was announced.
 abbrev pub MayRecord : State → Type 0
 MayRecord d = IsReady (next_in d.held) d
 
--- a moment of a recording of these records
+-- A moment of a recording of these records: the image keeps the blocks at entry and the first of the new ones, except for the
+-- oldest; all announced ones are among them, or older than those that are promised; and at most one of them isn't announced.
 pub record IsBlockMoment (t : TableRows) (entry : State) (records : List BusRecord) (m : Moment) : Type 0 where
   -- A stop leaves the blocks at entry and the first of the new ones, except the oldest; all that were announced are among
   -- them, or older than those that are promised.
@@ -47,7 +48,8 @@ pub record IsBlockMoment (t : TableRows) (entry : State) (records : List BusReco
   -- At most one recorded block isn't announced.
   pub close : IsClose (header_in entry.held) (next_in entry.held) m
 
--- These blocks are after the run at entry, and are announced.
+-- These blocks stand after the run at entry, of which the last N - 1 are left, and are announced. The header says what it said,
+-- and where stops are told, the disk is settled.
 pub record AddsToRun (tells : Tells) (blocks : List Block) (old new : State) : Type 0 where
   pub header : header_in new.held ≡ header_in old.held
   pub run : recovered_run (header_in old.held) new.held
@@ -56,8 +58,9 @@ pub record AddsToRun (tells : Tells) (blocks : List Block) (old new : State) : T
   pub announced : new.announced ≡ next_in old.held + length blocks
   pub settled : IsTrue tells.stops → IsSettled new
 
--- Blocks of these records were recorded: what a stop leaves at each moment, and what stands in the end, where `all` is recorded
--- or the numbers are `used_up`.
+-- What a recording of these records does: what a stop leaves at each moment, that many recordings wear nothing away, what stands
+-- in the end where `all` is recorded or the numbers are `used_up`, that a further recording may follow, and that the image is of
+-- version 2.
 pub record RecordsBlocks (t : TableRows) (tells : Tells) (records : List BusRecord) (old new : State) (all used_up : Type 0)
     : Type 0 where
   pub time : Elapses tells old new

@@ -12,28 +12,29 @@ use Rattle.fdr_ring.specs.Runs.{last_blocks}
 use Rattle.fdr_ring.specs.Rings.{IsRing, IsSureRing}
 use Rattle.fdr_recorder.specs.Keeping.{RecoversPrefix, RecoversAll}
 
--- a recording may go on with this number: the disk is settled, and no number above it may have been announced
+-- A recording may go on with this number: the disk is settled, and no number above it may have been announced.
 pub record IsReady (next : ℕ) (d : State) : Type 0 where
   pub settled : IsSettled d
   pub greatest : d.greatest ≤ next
 
--- this number is announced, and it is at most one more than the greater of a mark and the least announced number
+-- This number is announced, and it is at most one more than the greater of a mark and the least announced number.
 pub record IsNear (next mark : ℕ) (d : State) : Type 0 where
   pub announced : d.announced ≡ next
   pub least : next ≤ max mark d.least + 1
 
--- a moment while these blocks are recorded
+-- A moment while these blocks are recorded: the image keeps the run at entry and the first of them (`RecoversPrefix`), and
+-- nothing is pulled.
 pub record IsRecordingMoment (h : Header) (entry : State) (new : List Block) (m : Moment) : Type 0 where
   pub image : RecoversPrefix h entry.held (recovered_run h entry.held) new m.announced m.image
   pub least : entry.least ≤ m.announced
   pub pulled : HasSamePulls entry m
 
--- at most one recorded block after the mark isn't announced
+-- At this moment at most one recorded block after the mark isn't announced.
 abbrev pub IsClose : Header → ℕ → Moment → Type 0
 IsClose h mark m = next_of h m.image ≤ max mark m.announced + 1
 
--- What calls that record these blocks, from this number on, leave whatever they answer: the blocks that come to stand are
--- the first of these.
+-- What calls that record these blocks, from this number on, leave whatever they answer: at each moment, the blocks that come to
+-- stand are the first of these, and nothing is pulled.
 pub record RecordsFirstOf (tells : Tells) (h : Header) (next : ℕ) (new : List Block) (old now : State) : Type 0 where
   pub time : Elapses tells old now
   pub moments : IsReady next old → EachMoment tells old now (IsRecordingMoment h old new)

@@ -8,8 +8,8 @@ use Rattle.fdr_table.specs.Rows.{TableRows}
 use Rattle.fdr_recorder.specs.Ends.{RecordingEnd}
 use Rattle.fdr_recorder.specs.declared.error.SessionFault.TheVariants as fault
 
--- An image is refused for its first fault, as too small by its length on every deck, and where it is for frames of other words
--- than the table's; and one that is to be refused is, unless the disk failed or memory ended.
+-- Which refusal of an image a recording ends with: its first fault, too small by its length on every deck, or other words than
+-- the table's. An image that is to be refused is, unless the disk failed or memory ended.
 pub record RefusesSession (t : TableRows) (tells : Tells) (old new : State) (end : RecordingEnd) : Type 0 where
   pub refused : (why : ImageFault) → end ≡ Err (fault.Image why) → IsTrue tells.bytes → image_fault_of old.held ≡ Some why
   pub small : (why : ImageFault) → end ≡ Err (fault.Image why) → (why ≡ image_fault.Small) ↔ (new.extent < 64)
@@ -22,8 +22,8 @@ pub record RefusesSession (t : TableRows) (tells : Tells) (old new : State) (end
   pub words_always : (image : ℕ) → end ≢ Err fault.NoMemory → IsTrue tells.bytes → IsFor image old.held → image ≢ t.frame.words
       → (end ≡ Err (fault.WordsDiffer image t.frame.words)) ⊎ (end ≡ Err fault.DiskFault)
 
--- An image of version 1 for frames of the table's words is refused as such, unless the disk failed or memory ended, and no
--- other image is.
+-- A recording ends with OldVersion where the image is for frames of the table's words and of version 1, unless the disk failed or
+-- memory ended, and nowhere else.
 pub record RefusesOldVersion (t : TableRows) (tells : Tells) (old : State) (end : RecordingEnd) : Type 0 where
   pub refused : end ≡ Err fault.OldVersion → IsTrue tells.bytes
       → IsFor t.frame.words old.held × ((header_in old.held).version ≡ 1)

@@ -16,12 +16,14 @@ use Rattle.fdr_recorder.specs.Recording.{IsReady, IsRecordingMoment}
 use Rattle.fdr_recorder.specs.Past.{RepresentsRecording, past_at_start, session_of}
 use Rattle.fdr_recorder.specs.declared.session.Session.{Session}
 
--- a moment while a session starts: no block is recorded, and only the gate of the next number may be another, where it was open
+-- A moment while a session starts: no block is recorded, and only the gate of the next number may be another byte, where it was
+-- open.
 pub record IsStarting (h : Header) (entry : State) (m : Moment) : Type 0 where
   pub recording : IsRecordingMoment h entry [] m
   pub image : IsAttaching h entry.held m.image
 
--- what a start leaves, whatever it answers
+-- What the start of a session leaves, whatever it answers: at each moment the run but for its oldest block, and nothing is
+-- pulled.
 pub record Starts (tells : Tells) (h : Header) (old now : State) : Type 0 where
   pub time : Elapses tells old now
   pub moments : IsReady (next_of h old.held) old → EachMoment tells old now (IsStarting h old)

@@ -24,15 +24,15 @@ use Rattle.fdr_recorder.specs.Supply.{RecordSupply, EndsSupply, supplied_records
 use Rattle.fdr_recorder.specs.declared.error.SessionFault.TheVariants as fault
 use Rattle.fdr_recorder.specs.declared.source.SourceEnd.{SourceEnd}
 
--- the session's past with these records
+-- the past of a session, where it was fed these records
 abbrev pub past_fed : RecordingPast → List BusRecord → RecordingPast
 past_fed past records = record past { records = records }
 
--- what is owed for records that the session is fed
+-- the number that is announced once all blocks stand that are due at these records, by what a session was started on
 abbrev pub owed_number_by : RecordingPast → List BusRecord → ℕ
 owed_number_by past records = owed_number past.table past.header past.first records
 
--- A session that was just started. The image's next number is announced.
+-- The session was just started, and the image's next number is announced.
 pub record IsBegun (tells : Tells) (s : Session) (past : RecordingPast) (d : State) : Type 0 where
   pub none : past.records ≡ []
   pub stands : RepresentsRecording s past
@@ -41,7 +41,8 @@ pub record IsBegun (tells : Tells) (s : Session) (past : RecordingPast) (d : Sta
   pub settled : IsTrue tells.stops → IsSettled d
   pub announced : d.announced ≡ past.first
 
--- a moment since a session was started, while these blocks are recorded and these bytes were pulled or some of them
+-- A moment since a session was started, while these blocks are recorded and these bytes or some of them were pulled: the image
+-- keeps the blocks, at most one isn't announced, and the recording keeps up.
 pub record IsSupplyMoment (t : TableRows) (h : Header) (first : ℕ) (entry : State) (blocks : List Block) (bytes : List ℕ)
     (m : Moment) : Type 0 where
   pub keeps : RecoversPrefix h entry.held (recovered_run h entry.held) blocks m.announced m.image
@@ -49,10 +50,12 @@ pub record IsSupplyMoment (t : TableRows) (h : Header) (first : ℕ) (entry : St
   pub least : entry.least ≤ m.announced
   pub in_time : IsLagMoment (owed_number t h first) entry bytes m
 
+-- A moment since a session with this past was started, while these blocks are recorded and these bytes or some of them were
+-- pulled.
 abbrev pub SupplyMoment : RecordingPast → State → List Block → List ℕ → Moment → Type 0
 SupplyMoment past entry blocks bytes m = IsSupplyMoment past.table past.header past.first entry blocks bytes m
 
--- The session was fed these records, all that were read of these bytes.
+-- The session was fed these records, all that were read of these bytes, and their due blocks are recorded.
 pub record HasFed (tells : Tells) (past : RecordingPast) (bytes : List ℕ) (old now : State) : Type 0 where
   pub pulls : PullsUntilDecided tells old now [] bytes
   pub time : Elapses tells old now
@@ -60,7 +63,7 @@ pub record HasFed (tells : Tells) (past : RecordingPast) (bytes : List ℕ) (old
   pub moments : old.greatest ≤ past.first → EachMoment tells old now (SupplyMoment past old (recorded_of past) bytes)
   pub up : old.greatest ≤ past.first → KeepsUp (owed_number_by past) tells old now bytes past.records
 
--- All records of the supply were fed, and so it ended.
+-- All records of the supply were fed to the session, and so it ended.
 pub record HasFedAll (from : RecordSupply) (tells : Tells) (past : RecordingPast) (s : Session) (old now : State) (end : SourceEnd) : Type 0 where
   pub pulled : List ℕ
   pub stands : RepresentsRecording s (past_fed past (supplied_records from pulled))
@@ -68,7 +71,7 @@ pub record HasFedAll (from : RecordSupply) (tells : Tells) (past : RecordingPast
   pub has : HasFed tells (past_fed past (supplied_records from pulled)) pulled old now
   pub ends : EndsSupply from tells old now pulled (Ok end)
 
--- What a recording leaves since its session was started.
+-- What a recording of a supply leaves since its session was started.
 pub record Continues (from : RecordSupply) (tells : Tells) (past : RecordingPast) (old now : State) (end : RecordingEnd) : Type 0 where
   pub pulled : List ℕ
   pub pulls : PullsUntilDecided tells old now [] pulled
@@ -83,7 +86,7 @@ pub record Continues (from : RecordSupply) (tells : Tells) (past : RecordingPast
   pub beyond : end ≡ Err fault.SeqEnd → sequence_end < past.first + length (all_blocks (past_fed past (supplied_records from pulled)))
   pub ends : EndsSupply from tells old now pulled end
 
--- The records of a supply were recorded, or the recording was refused.
+-- The records of a supply were recorded, or the recording was refused: what it leaves from before its session was started.
 pub record RecordsSupply (from : RecordSupply) (t : TableRows) (tells : Tells) (old new : State) (end : RecordingEnd) : Type 0 where
   pub pulled : List ℕ
   pub pulls : PullsUntilDecided tells old new [] pulled

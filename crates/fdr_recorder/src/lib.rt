@@ -15,6 +15,3 @@ pub use laws::{blocks_join, keeps_chain};
 pub use recording::{Recorded, record_source};
 pub use session::Session;
 pub use source::{RecordSource, SourceEnd};
-
-#[cfg(test)]
-mod tests;

@@ -4,7 +4,7 @@ use Rattle.fdr_recover.specs.declared.error.RingFault.TheVariants as ring
 use Rattle.fdr_recover.specs.declared.error.HeaderFault.{HeaderFault}
 use Rattle.fdr_recover.specs.declared.error.HeaderFault.TheVariants as fault
 
--- the same fault; reading a header gives no other than one of the image or of the disk
+-- why no header is answered, where reading it is refused: a fault of the image, or one of the disk, and there is no other
 abbrev pub header_fault : RingFault → HeaderFault
 header_fault ring.NotEmpty = fault.DiskFault
 header_fault (ring.Image why) = fault.Image why

@@ -6,11 +6,11 @@ use Rattle.fdr_recover.specs.Blocks.{Block}
 use Rattle.fdr_recover.specs.ImageHeader.{header_in}
 use Rattle.fdr_recover.specs.Images.{recovered_run}
 
--- the payloads of blocks, one after another
+-- the bytes of blocks, one after another
 abbrev pub payloads_of : List Block → List ℕ
 payloads_of blocks = flat_map (λ (b : Block). b.payload) blocks
 
--- a block without its session
+-- a block without its session: its number and its bytes
 abbrev pub contents_of : Block → ℕ × List ℕ
 contents_of b = (b.number, b.payload)
 
@@ -18,12 +18,12 @@ contents_of b = (b.number, b.payload)
 abbrev pub run_in : List ℕ → List Block
 run_in image = recovered_run (header_in image) image
 
--- All blocks of this list were taken. It has at most 65,536 of them, with 4,096 bytes.
+-- What took the blocks of a list took all of them. There are at most 65,536 of them with 4,096 bytes each, so at most 2^28 bytes.
 abbrev pub TakesAll : Tells → List Block → (List Block → Type 0) → Type 0
 TakesAll tells whole HasTaken =
     (blocks : List Block) × HasTaken blocks × (length (payloads_of blocks) ≤ 2 ^ 28) × (IsTrue tells.bytes → blocks ≡ whole)
 
--- the first blocks of this list were taken
+-- What took the blocks of a list took the first of them.
 abbrev pub TakesFront : Tells → List Block → (List Block → Type 0) → Type 0
 TakesFront tells whole HasTaken =
     (blocks : List Block) × HasTaken blocks × (IsTrue tells.bytes → (rest : List Block) × (whole ≡ blocks ++ rest))

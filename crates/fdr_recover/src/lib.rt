@@ -20,6 +20,3 @@ pub use payload::{BlockInfo, block};
 pub use run::{Found, scan};
 pub use slots::number_after;
 pub use walk::{BlockTaker, BlocksFault, walk_between, walk_blocks};
-
-#[cfg(test)]
-mod tests;

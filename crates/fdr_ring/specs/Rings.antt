@@ -12,50 +12,55 @@ use Rattle.fdr_ring.specs.Closing.{IsTurned, image_with_closed_gate}
 use Rattle.fdr_ring.specs.Bodies.{IsPlacing, image_to_commit}
 use Rattle.fdr_ring.specs.Runs.{KeepsRun, MayAdd, last_blocks}
 
--- The disk is long enough; where bytes are told, the next number is that of the held run, and the gate of its slot is closed.
+-- What a ring knows of its deck: the disk is long enough; where bytes are told, the number is the next one of the image, and the
+-- gate of its slot is closed.
 pub record IsRing (tells : Tells) (h : Header) (number : ℕ) (d : State) : Type 0 where
   pub extent : image_size h ≤ d.extent
   pub next : IsTrue tells.bytes → number ≡ next_of h d.held
   pub closed : IsTrue tells.bytes → IsClosed h d.held number
 
--- the same, and no stop leaves that gate open
+-- What a ring knows of its deck, and besides that no stop leaves the gate of the next number open.
 pub record IsSureRing (tells : Tells) (h : Header) (number : ℕ) (d : State) : Type 0 where
   pub ring : IsRing tells h number d
   pub stops : IsTrue tells.stops → (image : List ℕ) → d.may_leave image → IsClosed h image number
 
--- a ring after whose closed gate a block waits, and the gate of the following slot is closed too
+-- What a prepared block knows: a block waits after the closed gate of the slot of the next number, and the gate of the following
+-- slot is closed too.
 pub record IsPrepared (tells : Tells) (h : Header) (number : ℕ) (d : State) : Type 0 where
   pub ring : IsRing tells h number d
   pub waits : IsTrue tells.bytes → IsSome (waiting_block h d.held number)
   pub following : IsTrue tells.bytes → IsClosed h d.held (number + 1)
 
--- What `attach` may leave of an image: the run except its oldest block.
--- Only the gate of the next number may be another, where it was open.
+-- What `attach` may leave of an image: the run except for its oldest block. Only the gate of the next number may be another byte,
+-- where it was open.
 pub record IsAttaching (h : Header) (old new : List ℕ) : Type 0 where
   pub run : KeepsRun h (h.slots - 1) old new
   pub bytes : IsTurned (gate_at h (next_of h old)) old new
 
--- What `prepare` may leave of one: the run except its two oldest blocks. Only what it writes may be other bytes.
+-- What `prepare` may leave of an image: the run except for its two oldest blocks. Only what it writes may be other bytes.
 pub record IsPreparing (h : Header) (number size : ℕ) (old new : List ℕ) : Type 0 where
   pub run : KeepsRun h (h.slots - 2) old new
   pub bytes : IsPlacing h number size old new
 
--- What `commit` may leave of one: the run, or the run with the block that waited. Only its gate may be another.
+-- What `commit` may leave of an image: the run as it was, or with the block that waited after it. Only the gate of its slot may
+-- be another byte.
 pub record IsCommitting (h : Header) (number : ℕ) (old new : List ℕ) : Type 0 where
   pub run : (b : Block) → waiting_block h old number ≡ Some b → MayAdd h b old new
   pub bytes : Torn (gate_at h number) 1 old new
 
--- where the disk was settled at entry, this is left of what it held
+-- Where the disk was settled at entry, the image is what these changes may leave of what the disk held then.
 abbrev pub OfSettled : State → (List ℕ → List ℕ → Type 0) → List ℕ → Type 0
 OfSettled entry Leaves image = IsSettled entry → Leaves entry.held image
 
--- What a call may leave of the disk's image, whatever it answers: at its end, and at each moment where the disk was settled at entry.
+-- What a call leaves of the disk's image, whatever it answers, is one of these changes: at its end, and at each moment where the
+-- disk was settled at entry.
 pub record ChangesImage (tells : Tells) (Leaves : List ℕ → List ℕ → Type 0) (old new : State) : Type 0 where
   pub keeps : IsTrue tells.bytes → Leaves old.held new.held
   pub extent : new.extent ≡ old.extent
   pub disk_work : IsDiskWork tells (OfSettled old Leaves) old new
 
--- What `attach` has done where it answers a ring with this next number: the run is there except its oldest block where that was in the next number's slot.
+-- What `attach` has done where it answers a ring with this next number: the number is that of the image, its gate is closed, the
+-- last N - 1 blocks are there, and a stop leaves what the disk holds.
 pub record HasAttached (tells : Tells) (h : Header) (number : ℕ) (old new : State) : Type 0 where
   pub next : IsTrue tells.bytes → number ≡ next_of h old.held
   pub held : IsTrue tells.bytes → new.held ≡ image_with_closed_gate (gate_at h (next_of h old.held)) old.held
@@ -63,7 +68,8 @@ pub record HasAttached (tells : Tells) (h : Header) (number : ℕ) (old new : St
   pub settled : IsTrue tells.stops → IsSettled new
   pub succeeds : Succeeds old new
 
--- What `prepare` has done where it answers: the block waits after the closed gate of its slot.
+-- What `prepare` has done where it answers: the block waits after the closed gate of its slot, the last N - 2 blocks are there,
+-- and a stop leaves what the disk holds.
 pub record HasPlaced (tells : Tells) (h : Header) (number session : ℕ) (payload : List ℕ) (old new : State) : Type 0 where
   pub held : IsTrue tells.bytes → new.held ≡ image_to_commit h number session payload old.held
   pub block : IsTrue tells.bytes

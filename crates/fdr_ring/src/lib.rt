@@ -19,6 +19,3 @@ mod write;
 pub use fdr_recover::{RingFault, read_image_header};
 pub use make::format;
 pub use ring::{Prepared, Ring};
-
-#[cfg(test)]
-mod tests;

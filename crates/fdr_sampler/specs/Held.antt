@@ -9,9 +9,9 @@ use Rattle.fdr_table.specs.Rows.{ParamRow, TableRows}
 use Rattle.fdr_layout.specs.Samples.{Sample, first_at}
 use Rattle.fdr_sampler.specs.SlotTimes.{slot_time, time_of_slot}
 
--- Where a parameter comes from: the words of a bus with a label, and with an SDI where one is given, and the field of
--- such a word that has its raw number; for how many microseconds a word is fresh, where that ends; and whether the raw
--- number tells freshness in place of the field.
+-- where a parameter comes from: the words of a bus with a label, and with an SDI where one is given, and the field of such a word
+-- that has its raw number; for how many microseconds a word is fresh, where that ends; and whether the raw number tells freshness
+-- in place of the field
 pub record Source : Type 0 where
   pub bus : ℕ
   pub label : ℕ
@@ -21,35 +21,38 @@ pub record Source : Type 0 where
   pub age : Option ℕ
   pub tells : Bool
 
+-- where the parameter of this row comes from
 abbrev pub source_of : ParamRow → Source
 source_of p = record { bus = p.bus; label = p.label; sdi = p.sdi; lsb = p.lsb; width = p.width; age = p.age; tells = p.tells }
 
--- a bus word of odd parity with the source's bus and label, and with its SDI where one is given
+-- whether a record is a bus word of odd parity with the source's bus and label, and with its SDI where one is given
 abbrev pub is_from : Source → BusRecord → Bool
 is_from s r =
     not (is_end r) && is_odd r.word && (r.bus == s.bus) && (label_of r.word == s.label) && option_map_or (λ sdi. sdi_of r.word == sdi) s.sdi true
 
--- the record counts for word slot k, which is sampled k / w seconds after the start; times are in microseconds
+-- whether the record counts for word slot k, which is sampled k / w seconds after the start: its time in microseconds isn't later
 abbrev pub counts_for : ℕ → ℕ → BusRecord → Bool
 counts_for w k r = nat_le (slot_time w r.time) (time_of_slot k)
 
--- the record that is held at slot k: the last one of the source that counts for it
+-- the record that is held for a source at word slot k: the last one of the source that counts for it
 unfoldable pub held_record : ℕ → Source → List BusRecord → ℕ → Option BusRecord
 held_record w s records k = find (λ r. is_from s r && counts_for w k r) (reverse records)
 
--- a bus word that is held, with the time that it came at
+-- a bus word that is held, with the time that it came at in microseconds
 pub record HeldWord : Type 0 where
   pub word : ℕ
   pub time : ℕ
 
+-- the word of a record, with its time
 abbrev pub word_and_time : BusRecord → HeldWord
 word_and_time r = record { word = r.word; time = r.time }
 
--- the word that is held at slot k, with its time
+-- the word that is held for a source at word slot k, with its time
 abbrev pub held_word : ℕ → Source → List BusRecord → ℕ → Option HeldWord
 held_word w s records k = option_map word_and_time (held_record w s records k)
 
--- what is held is fresh at slot k: there is a word, and words of the source have no age, or it isn't older than that
+-- whether what is held for a source is fresh at word slot k: there is a word, and words of the source have no age, or it isn't
+-- older than that
 abbrev pub is_fresh : ℕ → Source → ℕ → Option HeldWord → Bool
 is_fresh w s k held = option_map_or (λ (h : HeldWord). option_map_or (λ age. nat_le (time_of_slot k) (slot_time w (h.time + age))) s.age true) held false
 
@@ -57,8 +60,9 @@ is_fresh w s k held = option_map_or (λ (h : HeldWord). option_map_or (λ age. n
 abbrev pub field_held : Source → Option HeldWord → ℕ
 field_held s held = option_map_or (λ (h : HeldWord). bits_at h.word s.lsb s.width) held 0
 
--- The raw number of a source at slot k, where this is held: whether it is fresh, where the source tells that; where its words
--- have an age, the field of a fresh word, and all ones without one; where it has neither, the field, or 0 where nothing is held.
+-- the raw number of a source at word slot k, where this is held: whether it is fresh, 1 or 0, where the source tells that; where
+-- its words have an age, the field of a fresh word, and all ones without one; where it has neither, the field, or 0 where nothing
+-- is held
 unfoldable pub raw_of_held : ℕ → Source → ℕ → Option HeldWord → ℕ
 raw_of_held w s k held =
     if s.tells then (if is_fresh w s k held then 1 else 0)
@@ -69,8 +73,8 @@ raw_of_held w s k held =
 abbrev pub first_part_slot : Sample → ℕ
 first_part_slot s = first_at s.parts / 12
 
--- the raw value of a sample in the superframe that begins at slot `start`: that of its parameter at the slot of its
--- earliest part
+-- the sampled value: the raw value of a sample in the superframe that begins at word slot `start`, which is the raw number of
+-- what is held for its parameter at the slot of its earliest part
 unfoldable pub raw_value : TableRows → List BusRecord → ℕ → Sample → ℕ
 raw_value t records start s =
     let w = t.frame.words in

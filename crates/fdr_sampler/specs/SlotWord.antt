@@ -10,7 +10,7 @@ use Rattle.fdr_layout.specs.SlotParts.{SlotPart, parts_in}
 use Rattle.fdr_layout.specs.Samples.{Part, samples}
 use Rattle.fdr_sampler.specs.Held.{raw_value}
 
--- the raw value of the sample with this number, in the superframe that begins at slot `start`
+-- the raw value of the sample with number n, in the superframe that begins at word slot `start`
 unfoldable pub numbered_value : TableRows → List BusRecord → ℕ → ℕ → ℕ
 numbered_value t records start n = option_map_or (raw_value t records start) (slice_get (samples t) n) 0
 
@@ -18,28 +18,28 @@ numbered_value t records start n = option_map_or (raw_value t records start) (sl
 abbrev pub piece_of : ℕ → Part → ℕ
 piece_of raw p = raw / 2 ^ p.shift % 2 ^ p.width
 
--- the part has bit b of the word that it is in
+-- whether the part has bit b of the word that it is in
 abbrev pub has_bit : ℕ → SlotPart → Bool
 has_bit b a = nat_le (a.part.at % 12) b && nat_lt b (a.part.at % 12 + a.part.width)
 
--- that bit of the part's piece of its sample's raw value
+-- bit b of a word as a part of it has it: that bit of the part's piece of its sample's raw value
 abbrev pub bit_of_part : (ℕ → ℕ) → ℕ → SlotPart → ℕ
 bit_of_part value b a = piece_of (value a.sample) a.part / 2 ^ (b - a.part.at % 12) % 2
 
--- Bit b of a word with the pieces of these parts, where this is the raw value of each sample: the bit of the part that has
--- it, and 0 where no part has it. No two parts of a sound table have one bit; of several, the last would count.
+-- bit b of a word with the pieces of these parts, where `value` gives the raw value of each sample: the bit of the part that has
+-- it, and 0 where no part has it. No two parts of a sound table have one bit; of several, the last would count
 unfoldable pub data_bit : (ℕ → ℕ) → List SlotPart → ℕ → ℕ
 data_bit value parts b = option_map_or (bit_of_part value b) (find (has_bit b) (reverse parts)) 0
 
--- the word of 12 bits with these pieces
+-- the word of 12 bits with the pieces of these parts, where `value` gives the raw value of each sample
 unfoldable pub data_of : (ℕ → ℕ) → List SlotPart → ℕ
 data_of value parts = number_of (data_bit value parts) 12
 
--- the pieces of slot k of the superframe that begins at slot `start`
+-- the word with the pieces of word slot k of the superframe that begins at slot `start`
 abbrev pub data_word : TableRows → List BusRecord → ℕ → ℕ → ℕ
 data_word t records start k = data_of (numbered_value t records start) (parts_in t k)
 
--- the word of slot k, where this would be its word of data: a sync word and the frame counter come before it
+-- the word of word slot k, where `word` would be its word of data: a sync word and the frame counter modulo 4096 come before it
 abbrev pub word_with : FrameRow → ℕ → ℕ → ℕ
 word_with f k word = elim (kind_of f.words f.cword f.csub k) [
   | Sync ↦ sync_word (subframe_of f.words k)
@@ -47,13 +47,14 @@ word_with f k word = elim (kind_of f.words f.cword f.csub k) [
   | Plain ↦ word
 ]
 
--- which slot of its superframe slot k is, and the slot that the superframe begins at
+-- which word slot of its superframe word slot k of a recording is
 abbrev pub slot_within : ℕ → ℕ → ℕ
 slot_within w k = k % (64 * w)
 
+-- the word slot that the superframe of word slot k of a recording begins at
 abbrev pub start_of : ℕ → ℕ → ℕ
 start_of w k = k - slot_within w k
 
--- the word of slot k of the recording of these records
+-- the word of word slot k of the recording of these records: its sync word, the counter modulo 4096, or its word of data
 abbrev pub slot_word : TableRows → List BusRecord → ℕ → ℕ
 slot_word t records k = word_with t.frame k (data_word t records (start_of t.frame.words k) (slot_within t.frame.words k))

@@ -8,11 +8,11 @@ use Rattle.fdr_table.specs.Rows.{TableRows}
 use Rattle.fdr_sampler.specs.SlotTimes.{slot_time, slots_before}
 use Rattle.fdr_sampler.specs.SlotWord.{slot_word}
 
--- how many slots are sampled before a time in microseconds
+-- how many word slots are sampled before a time in microseconds, where w are sampled a second
 abbrev pub slot_count : ℕ → ℕ → ℕ
 slot_count w time = slots_before (slot_time w time)
 
--- the words of the slots before the time of the records
+-- the words of a recording: those of the word slots before the time of its records
 abbrev pub stream_words : TableRows → List BusRecord → List ℕ
 stream_words t records = map (slot_word t records) (range_with_len 0 (slot_count t.frame.words (time_of records)))
 
@@ -20,10 +20,10 @@ stream_words t records = map (slot_word t records) (range_with_len 0 (slot_count
 abbrev pub word_bit : List ℕ → ℕ → ℕ
 word_bit words p = slice_index words (p / 12) / 2 ^ (p % 12) % 2
 
--- these bits as bytes, 8 in each from its least significant bit on; zeros fill the last byte
+-- the bits of words as bytes, 8 in each from its least significant bit on; zeros fill the last byte
 unfoldable pub packed : List ℕ → List ℕ
 packed words = map (λ i. number_of (λ j. word_bit words (8 * i + j)) 8) (range_with_len 0 ((12 * length words + 7) / 8))
 
--- the recording of these records
+-- the recording of these records by a table: the bytes of its words
 abbrev pub stream_of : TableRows → List BusRecord → List ℕ
 stream_of t records = packed (stream_words t records)

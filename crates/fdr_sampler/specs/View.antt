@@ -2,6 +2,7 @@
 use Rattle.fdr_sampler.specs.declared.sampler.Sampler.TheInside.{Inside}
 use Rattle.fdr_sampler.specs.Kept.{SamplerKept}
 
+-- what the program's sampler keeps
 abbrev pub sampler_kept : Inside → SamplerKept
 sampler_kept s = record {
   frame = s.frame;

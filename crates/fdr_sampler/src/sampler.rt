@@ -210,6 +210,3 @@ fn word_with(frame: Frame, k: u64, plain: u16) -> u16
         SlotKind::Plain => plain,
     }
 }
-
-#[cfg(test)]
-mod tests;

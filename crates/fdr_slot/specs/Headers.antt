@@ -8,15 +8,16 @@ use Rattle.fdr_slot.specs.declared.image.Header.{Header}
 use Rattle.fdr_slot.specs.declared.image.ImageFault.{ImageFault}
 use Rattle.fdr_slot.specs.declared.image.ImageFault.TheVariants as fault
 
--- the first byte is an open gate
+-- whether the gate is open: byte 0 is 5A
 abbrev pub has_open_gate : List ℕ → Bool
 has_open_gate bytes = slice_index bytes 0 == 0x5a
 
--- the bytes say that they are an image
+-- whether the bytes say that they are an image: bytes 2 to 7 are `FDR717`
 unfoldable pub has_magic : List ℕ → Bool
 has_magic bytes = starts_with nat_eq (drop 2 bytes) (codes "FDR717")
 
--- what the bytes of a header say
+-- what the bytes of a header say: the number of slots N, the payload P and the words of a subframe W, each of four bytes with the
+-- highest first, and version 2 where byte 1 is A5 and 1 otherwise
 unfoldable pub header_of : List ℕ → Header
 header_of bytes = record {
   slots = big_number 4 (drop 8 bytes);
@@ -25,15 +26,16 @@ header_of bytes = record {
   version = if slice_index bytes 1 == 0xa5 then 2 else 1;
 }
 
--- the byte that is written for a version
+-- byte 1 of a header, which is written for a version: A5 for version 2, 00 for version 1
 abbrev pub version_byte : ℕ → ℕ
 version_byte version = if version == 2 then 0xa5 else 0
 
--- the bytes that are written for a header
+-- the 64 bytes that are written for a header, with an open gate
 unfoldable pub header_bytes : Header → List ℕ
 header_bytes h = ((0x5a ∷ version_byte h.version ∷ codes "FDR717") ++ big_bytes 4 h.slots ++ big_bytes 4 h.payload ++ big_bytes 4 h.words) ++ replicate 44 0
 
--- the first fault of an image of this length that begins with these bytes
+-- the first fault of an image of `size` bytes that begins with these bytes, or none: too small for a header, the gate closed, no
+-- magic, a number out of its limits, shorter than its slots
 unfoldable pub image_fault : List ℕ → ℕ → Option ImageFault
 image_fault bytes size =
     if nat_lt size 64 then Some fault.Small

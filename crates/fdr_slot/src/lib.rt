@@ -35,6 +35,3 @@ pub const SEQUENCE_END: u64 = 1 << 48;
 const _: () = prove!(MIN_SLOTS == 4 && MAX_SLOTS == 65_536 && MIN_PAYLOAD == 64);
 
 const _: () = prove!(MAX_PAYLOAD == 4_096 && SEQUENCE_END == 0x1_0000_0000_0000);
-
-#[cfg(test)]
-mod tests;

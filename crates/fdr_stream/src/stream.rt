@@ -179,6 +179,3 @@ fn draw_late_slots(drawing: &mut Drawing, time: SlotTime)
     let late_slots = time.slots_before().saturating_sub(drawing.slots_drawn());
     drawing.draw_empty_slots(late_slots as u32);
 }
-
-#[cfg(test)]
-mod tests;

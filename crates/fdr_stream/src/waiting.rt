@@ -94,6 +94,3 @@ impl Waiting {
         self.halves -= 2 * count;
     }
 }
-
-#[cfg(test)]
-mod tests;

@@ -15,7 +15,7 @@ use Rattle.fdr_recover.specs.Payloads.{run_in}
 use Rattle.fdr_top.specs.declared.outcome.Outcome.{Outcome}
 
 -- The trace on this input was recorded in this image by a table, in a deck in memory that then has these calls: a stop at each
--- moment since the deck was made leaves what `record` promises, and in the end all is recorded.
+-- moment since the deck was made leaves what `record` promises, and in the end all is recorded. No premise is left.
 pub record IsRecordedInMemory (t : TableRows) (image input : List ℕ) (answer : Outcome) (deck : Memory) : Type 0 where
   pub pulled : List ℕ
   pub left : List ℕ

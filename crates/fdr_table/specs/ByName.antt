@@ -6,7 +6,7 @@ use Rattle.fdr_table.specs.Draft.{index_named}
 use Rattle.fdr_table.specs.Ranges.{IsParamInRange}
 use Rattle.fdr_table.specs.declared.params.Params.TheInside.{Inside}
 
--- a look-up of any name gives the parameter's index
+-- Each parameter is found by its name: a look-up of any name gives the index of the parameter that has it, or none.
 pub record AreByName (p : Inside) : Type 0 where
   pub count : length p.list.items ≤ most_params
   pub ranges : All IsParamInRange p.list.items

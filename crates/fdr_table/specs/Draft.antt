@@ -11,17 +11,17 @@ use Rattle.fdr_table.specs.declared.draft.Entry.TheVariants as entry
 use Rattle.fdr_table.specs.declared.fault.TableFault.{TableFault}
 use Rattle.fdr_table.specs.DraftRows.{DraftRows}
 
--- the index of the parameter with this name
+-- the index of the parameter with this name, if there is one
 abbrev pub index_named : List ParamRow → List ℕ → Option ℕ
 index_named params name = position (λ (p : ParamRow). bytes_eq p.name name) params
 
--- what was read so far, and what one more row says
+-- what the rows so far say, and what one more row says
 abbrev pub with_entry : DraftRows → Entry → DraftRows
 with_entry d (entry.Frame f) = record d { frame = Some f; rows = d.rows + 1 }
 with_entry d (entry.Param p) = record d { params = d.params ++ p ∷ []; rows = d.rows + 1 }
 with_entry d (entry.Place l) = record d { places = d.places ++ l ∷ []; rows = d.rows + 1 }
 
--- rows without faults, and what they say
+-- The rows above have no faults, and the draft is what they say.
 pub record IsDraft (above : List Row) (d : DraftRows) : Type 0 where
   pub no_fault : (i : ℕ) → i < length above → row_fault (take i above) (slice_index_or above i []) ≡ None
   pub frame : first_some (map frame_row above) ≡ d.frame
@@ -36,21 +36,22 @@ pub record IsDraft (above : List Row) (d : DraftRows) : Type 0 where
   pub few_params : length d.params ≤ most_params
   pub few_places : length d.places ≤ most_places
 
--- the fault of a row below the rows of the draft
+-- This is the fault of the row below rows of which the draft is what they say.
 abbrev pub IsNextFault : DraftRows → Row → TableFault → Type 0
 IsNextFault d row f = (above : List Row) → IsDraft above d → row_fault above row ≡ Some f
 
--- a draft with one more row
+-- The second draft is what rows say with this row, where the first is what they say without it.
 abbrev pub IsNextDraft : DraftRows → Row → DraftRows → Type 0
 IsNextDraft d row next = (above : List Row) → IsDraft above d → IsDraft (above ++ row ∷ []) next
 
--- a new name, of fewer than 2,049 parameters, or a place of one of the parameters
+-- What a further row says may be added: a parameter with a new name where there are fewer than `most_params`, or a place of one
+-- of the parameters.
 abbrev pub Fits : DraftRows → Entry → Type 0
 Fits d (entry.Frame f) = Unit {0}
 Fits d (entry.Param p) = (index_named d.params p.name ≡ None) × (length d.params < most_params)
 Fits d (entry.Place l) = l.param < length d.params
 
--- what the fields of a draft keep beside the ranges of its parameters
+-- The frame row and the places that were read so far keep their ranges, and each place is one of a parameter that was read.
 pub record IsDraftInRange (d : DraftRows) : Type 0 where
   pub frame : IfSome d.frame IsFrameInRange
   pub places : All IsPlaceInRange d.places

@@ -2,7 +2,7 @@
 use Rattle.std.specs.Prelude.{ℕ, List, Option}
 use Rattle.fdr_table.specs.Rows.{FrameRow, ParamRow, PlaceRow}
 
--- the frame row, if there is one, the parameters and the places, and the number of rows
+-- what the rows above a row say: the frame row, if there is one, the parameters and the places, and the number of rows
 pub record DraftRows : Type 0 where
   pub frame : Option FrameRow
   pub params : List ParamRow

@@ -7,6 +7,8 @@ use Rattle.fdr_table.specs.Bounds.{bus_word_bits, most_bus, most_label, most_sdi
 use Rattle.fdr_table.specs.Fields.{is_among, is_name}
 use Rattle.fdr_table.specs.Rows.{FrameRow, ParamRow, PlaceRow, TableRows}
 
+-- The fields of a frame row keep their ranges: a subframe has one of the five numbers of words, the counter is in one of the
+-- words 2 to 1,024, of one of the subframes 1 to 4.
 pub record IsFrameInRange (f : FrameRow) : Type 0 where
   pub words : IsWordCount f.words
   pub cword_low : least_counter_word ≤ f.cword
@@ -14,7 +16,8 @@ pub record IsFrameInRange (f : FrameRow) : Type 0 where
   pub csub_low : 1 ≤ f.csub
   pub csub_high : f.csub ≤ subframe_count
 
--- a parameter that tells whether its word is fresh has one bit, which has no sign
+-- The fields of a parameter keep their ranges: its bits are within a bus word, and scale, offset, decimals, rate and age within
+-- their bounds. One that tells whether its word is fresh has one bit and no sign.
 pub record IsParamInRange (p : ParamRow) : Type 0 where
   pub bus : p.bus ≤ most_bus
   pub label : p.label ≤ most_label
@@ -35,7 +38,8 @@ pub record IsParamInRange (p : ParamRow) : Type 0 where
   pub tells_width : IsTrue p.tells → p.width ≡ 1
   pub tells_sign : IsTrue p.tells → p.signed ≡ false
 
--- a set of subframes has some of the bits of subframes 1 to 4, so it is 1 to 15
+-- The fields of a place keep their ranges: its bits are within a word of a frame, and its cycle below its period. A set of
+-- subframes has some of the bits of subframes 1 to 4, so it is 1 to 15.
 pub record IsPlaceInRange (p : PlaceRow) : Type 0 where
   pub part_low : 1 ≤ p.part
   pub part_high : p.part ≤ most_parts
@@ -50,19 +54,19 @@ pub record IsPlaceInRange (p : PlaceRow) : Type 0 where
   pub cycle : p.cycle < p.period
   pub period : IsTrue (is_among periods p.period)
 
--- all fields of a table keep their ranges, and each place is one of a parameter of the table
+-- All fields of a table keep their ranges, and each place is one of a parameter of the table.
 pub record IsInRange (t : TableRows) : Type 0 where
   pub frame : IsFrameInRange t.frame
   pub params : All IsParamInRange t.params
   pub places : All IsPlaceInRange t.places
   pub owners : All (λ (p : PlaceRow). p.param < length t.params) t.places
 
--- each parameter has a name of its own
+-- The name of each parameter is one that is allowed, and no two have the same.
 pub record HaveOwnNames (params : List ParamRow) : Type 0 where
   pub allowed : All (λ (p : ParamRow). IsTrue (is_name p.name)) params
   pub different : AllPairs (λ (p q : ParamRow). p.name ≢ q.name) params
 
--- a table has no more parameters and places than it may have
+-- The table has no more than 2,048 parameters and 8,192 places.
 pub record IsWithinLimits (t : TableRows) : Type 0 where
   pub params : length t.params ≤ most_params
   pub places : length t.places ≤ most_places

@@ -15,19 +15,21 @@ use Rattle.fdr_table.specs.declared.row.RowKind.TheVariants as kind
 use Rattle.fdr_table.specs.declared.fault.TableFault.{TableFault}
 use Rattle.fdr_table.specs.declared.fault.TableFault.TheVariants as fault
 
--- a row, as its fields
+-- a row of a table, as its fields
 abbrev pub Row : Type 0
 Row = List (List ℕ)
 
--- the rows of a table's bytes: the records of CSV, with no header
+-- the rows of a table's bytes: the CSV records of the text, as the crate `csv` defines them, without a header, after a byte order
+-- mark if there is one
 unfoldable pub records_of : List ℕ → List Row
 records_of bytes = records default_config (strip_bom bytes)
 
--- a field, empty where the row has no such field
+-- field i of a row, counted from 0, and empty where the row has no such field
 unfoldable pub field : Row → ℕ → List ℕ
 field fields i = slice_index_or fields i []
 
--- a row of each kind has its letter and its count of fields; a parameter's may end before its last field
+-- the kind of a row, by its letter and its number of fields: `F` rows have 4 fields, `P` rows have 13 or 14, `L` rows have 10;
+-- any other row is of no kind
 unfoldable pub row_kind : Row → Option RowKind
 row_kind fields =
     if bytes_eq (field fields 0) (codes "F") && (length fields == 4) then Some kind.Frame
@@ -35,18 +37,21 @@ row_kind fields =
     else if bytes_eq (field fields 0) (codes "L") && (length fields == 10) then Some kind.Place
     else None
 
+-- whether a row of this kind is a frame row
 abbrev pub is_frame : Option RowKind → Bool
 is_frame None = false
 is_frame (Some kind.Frame) = true
 is_frame (Some kind.Param) = false
 is_frame (Some kind.Place) = false
 
+-- whether a row of this kind is a parameter's
 abbrev pub is_param : Option RowKind → Bool
 is_param None = false
 is_param (Some kind.Frame) = false
 is_param (Some kind.Param) = true
 is_param (Some kind.Place) = false
 
+-- whether a row of this kind is a place's
 abbrev pub is_place : Option RowKind → Bool
 is_place None = false
 is_place (Some kind.Frame) = false
@@ -59,28 +64,30 @@ first_some [] = None
 first_some (None ∷ rest) = first_some rest
 first_some (Some a ∷ rest) = Some a
 
--- the fault of a field that doesn't read
+-- the fault that field i is wrong, where what it should say isn't there
 abbrev pub misread : {A : Type 0} → ℕ → Option A → Option TableFault
 misread i None = Some (fault.Number i)
 misread i (Some a) = None
 
--- the highest cycle: below the period, or 15 where the period doesn't read
+-- the highest cycle of a period: one below it, or 15 where the period doesn't read
 abbrev pub last_cycle : Option ℕ → ℕ
 last_cycle None = 15
 last_cycle (Some period) = period - 1
 
--- the bits of a word of `size` bits from the lowest bit on, or all of them where that doesn't read
+-- how many bits of a word of `size` bits there are from the lowest bit on, or all of them where that doesn't read
 abbrev pub bits_from : ℕ → Option ℕ → ℕ
 bits_from size None = size
 bits_from size (Some lsb) = size + 1 - lsb
 
--- the numbers in the fields of a frame row
+-- field 1 of a frame row: the words in a subframe
 abbrev pub words_in : Row → Option ℕ
 words_in fields = word_count_of (field fields 1)
 
+-- field 2 of a frame row: the word that carries the frame counter
 abbrev pub cword_in : Row → Option ℕ
 cword_in fields = number_in least_counter_word most_words (field fields 2)
 
+-- field 3 of a frame row: the subframe that carries the frame counter
 abbrev pub csub_in : Row → Option ℕ
 csub_in fields = number_in 1 subframe_count (field fields 3)
 
@@ -91,7 +98,7 @@ frame_misread fields = first_some (
     ∷ misread 2 (cword_in fields)
     ∷ misread 3 (csub_in fields) ∷ [])
 
--- what a frame row says
+-- what a frame row says, where none of its fields is wrong
 unfoldable pub frame_row : Row → Option FrameRow
 frame_row fields =
     if is_frame (row_kind fields) && is_none (frame_misread fields) then Some (record {
@@ -100,40 +107,51 @@ frame_row fields =
       csub = unwrap_or (csub_in fields) 0;
     }) else None
 
--- the numbers in the fields of a parameter's row
+-- field 2 of a parameter's row: the bus
 abbrev pub bus_in : Row → Option ℕ
 bus_in fields = number_in 0 most_bus (field fields 2)
 
+-- field 3 of a parameter's row: the label
 abbrev pub label_in : Row → Option ℕ
 label_in fields = label_field (field fields 3)
 
+-- field 4 of a parameter's row: the SDI, or any
 abbrev pub sdi_in : Row → Option (Option ℕ)
 sdi_in fields = sdi_field (field fields 4)
 
+-- field 5 of a parameter's row: its lowest bit in a bus word, 1 to 32
 abbrev pub bus_lsb_in : Row → Option ℕ
 bus_lsb_in fields = number_in 1 bus_word_bits (field fields 5)
 
+-- field 6 of a parameter's row: how many bits it has in a bus word
 abbrev pub bus_width_in : Row → Option ℕ
 bus_width_in fields = number_in 1 (bits_from bus_word_bits (bus_lsb_in fields)) (field fields 6)
 
+-- field 7 of a parameter's row: its sign
 abbrev pub sign_in : Row → Option Sign
 sign_in fields = sign_of (unwrap_or (bus_width_in fields) 0) (field fields 7)
 
+-- field 8 of a parameter's row: the numerator of its scale
 abbrev pub num_in : Row → Option ℤ
 num_in fields = signed_within most_scale (field fields 8)
 
+-- field 9 of a parameter's row: the denominator of its scale
 abbrev pub den_in : Row → Option ℕ
 den_in fields = number_in 1 most_scale (field fields 9)
 
+-- field 10 of a parameter's row: its offset
 abbrev pub offset_in : Row → Option ℤ
 offset_in fields = signed_within most_offset (field fields 10)
 
+-- field 11 of a parameter's row: how many digits after the point its values have
 abbrev pub decimals_in : Row → Option ℕ
 decimals_in fields = number_in 0 most_decimals (field fields 11)
 
+-- field 12 of a parameter's row: how many samples of it a superframe has
 abbrev pub rate_in : Row → Option ℕ
 rate_in fields = number_in 1 most_rate (field fields 12)
 
+-- field 13 of a parameter's row: for how many microseconds its word counts as fresh, or for ever
 abbrev pub age_in : Row → Option (Option ℕ)
 age_in fields = age_field (field fields 13)
 
@@ -153,10 +171,11 @@ param_misread fields = first_some (
     ∷ misread 12 (rate_in fields)
     ∷ misread 13 (age_in fields) ∷ [])
 
+-- the fault of a parameter's row whose name isn't one that is allowed
 unfoldable pub misnamed : Row → Option TableFault
 misnamed fields = if is_name (field fields 1) then None else Some fault.Name
 
--- what a parameter's row says, as row `number` of its table
+-- what a parameter's row says, as row `number` of its table, where none of its fields is wrong
 unfoldable pub param_row : ℕ → Row → Option ParamRow
 param_row number fields =
     if is_param (row_kind fields) && is_none (first_some (param_misread fields ∷ misnamed fields ∷ [])) then Some (record {
@@ -177,28 +196,35 @@ param_row number fields =
       row = number;
     }) else None
 
--- the numbers in the fields of a place's row
+-- field 2 of a place's row: the number of the part
 abbrev pub part_in : Row → Option ℕ
 part_in fields = number_in 1 most_parts (field fields 2)
 
+-- field 3 of a place's row: the set of subframes
 abbrev pub subframes_in : Row → Option ℕ
 subframes_in fields = subframes_of (field fields 3)
 
+-- field 4 of a place's row: the first word
 abbrev pub word_in : Row → Option ℕ
 word_in fields = number_in 1 most_words (field fields 4)
 
+-- field 5 of a place's row: how many words on the next one is, or 0
 abbrev pub step_in : Row → Option ℕ
 step_in fields = number_in 0 most_words (field fields 5)
 
+-- field 6 of a place's row: its lowest bit in a word of a frame, 1 to 12
 abbrev pub frame_lsb_in : Row → Option ℕ
 frame_lsb_in fields = number_in 1 frame_word_bits (field fields 6)
 
+-- field 7 of a place's row: how many bits it has in a word of a frame
 abbrev pub frame_width_in : Row → Option ℕ
 frame_width_in fields = number_in 1 (bits_from frame_word_bits (frame_lsb_in fields)) (field fields 7)
 
+-- field 9 of a place's row: in how many frames it comes once
 abbrev pub period_in : Row → Option ℕ
 period_in fields = number_among periods (field fields 9)
 
+-- field 8 of a place's row: in which of the frames of its period it comes, counted from 0
 abbrev pub cycle_in : Row → Option ℕ
 cycle_in fields = number_in 0 (last_cycle (period_in fields)) (field fields 8)
 
@@ -214,7 +240,7 @@ place_misread fields = first_some (
     ∷ misread 8 (cycle_in fields)
     ∷ misread 9 (period_in fields) ∷ [])
 
--- what a place's row says, as row `number` of its table, of the parameter with index `param`
+-- what a place's row says, as row `number` of its table, of the parameter with index `param`, where none of its fields is wrong
 unfoldable pub place_row : ℕ → ℕ → Row → Option PlaceRow
 place_row param number fields =
     if is_place (row_kind fields) && is_none (place_misread fields) then Some (record {
@@ -230,15 +256,15 @@ place_row param number fields =
       row = number;
     }) else None
 
--- the names of the parameters' rows, in order
+-- the names in the parameters' rows, in order
 abbrev pub names_of : List Row → List (List ℕ)
 names_of rows = map (λ (fields : Row). field fields 1) (filter (λ (fields : Row). is_param (row_kind fields)) rows)
 
--- the index of the parameter with this name
+-- the index of the parameter with this name in the rows, or 0 where there is none
 abbrev pub param_named : List Row → List ℕ → ℕ
 param_named rows name = unwrap_or (position (λ other. bytes_eq other name) (names_of rows)) 0
 
--- the table that rows say: the first frame row, the parameters and the places in order
+-- the table that rows say: the first frame row, the parameters and the places in order, and the number of rows
 abbrev pub table_of : List Row → TableRows
 table_of rows = record {
   frame = unwrap_or (first_some (map frame_row rows)) (record { words = 0; cword = 0; csub = 0 });

@@ -4,9 +4,11 @@ use Rattle.fdr_table.specs.declared.frame.Frame.TheInside.{Inside as FrameInside
 use Rattle.fdr_table.specs.declared.param.Param.TheInside.{Inside as ParamInside}
 use Rattle.fdr_table.specs.declared.place.Place.TheInside.{Inside as PlaceInside}
 
+-- what the program's frame row stands for
 abbrev pub frame_view : FrameInside → FrameRow
 frame_view f = record { words = f.words; cword = f.cword; csub = f.csub }
 
+-- what the program's parameter stands for
 abbrev pub param_view : ParamInside → ParamRow
 param_view p = record {
   name = p.name;
@@ -26,6 +28,7 @@ param_view p = record {
   row = p.row;
 }
 
+-- what the program's place stands for
 abbrev pub place_view : PlaceInside → PlaceRow
 place_view p = record {
   param = p.param;

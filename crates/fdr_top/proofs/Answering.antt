@@ -1,8 +1,7 @@
 -- From what a command's work gives to what the command promises.
-use Rattle.std.proofs.Common.{◌≡◌, ◌⊎◌, inl, inr, ⊎_elim, ℕ, ◌+◌, ◌<◌, ◌≤◌, List, ◌++◌, length, take, append-nil, Option, Some, None, sym, refl}
+use Rattle.std.proofs.Common.{◌≡◌, ◌⊎◌, inl, inr, ⊎_elim, ℕ, ◌+◌, ◌≤◌, List, length, Option, Some, None, sym, refl}
 use Rattle.std.proofs.Common.{◌∙◌, arith, length-append, ap, subst}
 use Rattle.std.specs.Prelude.{IsTrue}
-use Rattle.std.proofs.lemmas.List.{take-append-le}
 use Rattle.fdr_io.specs.Faults.{Rose}
 use Rattle.fdr_io.specs.declared.Input.TheVariants as input
 use Rattle.fdr_deck.specs.State.{State, Tells}
@@ -15,14 +14,15 @@ use Rattle.fdr_slot.specs.declared.image.Header.{Header}
 use Rattle.fdr_slot.specs.declared.image.ImageFault.{ImageFault}
 use Rattle.fdr_table.specs.Ranges.{IsInRange}
 use Rattle.fdr_table.specs.Rows.{TableRows}
-use Rattle.fdr_words.specs.Forms.{Form, check_table, stream_line, list_bits, format_image, recover_image}
+use Rattle.fdr_words.specs.Forms.{Form, check_table, stream_line, format_image, recover_image}
 use Rattle.fdr_sampler.proofs.Exchange.{stream_of-exchanged}
 use Rattle.fdr_readout.proofs.ReadsBack.{stream_lists_back}
 use Rattle.fdr_top.specs.declared.outcome.Outcome.{Outcome}
 use Rattle.fdr_top.specs.declared.outcome.Outcome.TheVariants as outcome
-use Rattle.fdr_top.specs.Stages.{Stage, at_words, at_table, at_image, at_work, out_of_memory, WritesNothing, IsStageWithoutWork, IsWorkEnded, stage_of}
+use Rattle.fdr_top.specs.Stages.{Stage, at_words, at_table, at_image, at_rules, at_work, out_of_memory}
+use Rattle.fdr_top.specs.Stages.{WritesNothing, IsStageWithoutWork, IsWorkEnded, stage_of}
 use Rattle.fdr_top.specs.Answers.{HasImage, IsOwn, KeepsInputAndFaults, MakesImage, PullsBits}
-use Rattle.fdr_top.specs.Answers.{PullsInput, PullsTrace, ReadsBoth, ReadsImage, RecordsImage, WritesText}
+use Rattle.fdr_top.specs.Answers.{PullsInput, PullsRules, PullsTrace, ReadsBoth, ReadsImage, RecordsImage, WritesText}
 use Rattle.fdr_top.specs.Format.{Makes}
 use Rattle.fdr_top.specs.Leaves.{HasCause, LeavesAll, LeavesUnused}
 use Rattle.fdr_top.specs.Runs.{WorkRun}
@@ -31,7 +31,7 @@ use Rattle.fdr_pieces.specs.Limits.{most_input_bytes}
 use Rattle.fdr_top.specs.InputTexts.{WritesOfInput}
 use Rattle.fdr_top.specs.Recover.{Recovers, RecoversImage}
 use Rattle.fdr_top.specs.Stream.{Streams, StreamsTrace, WritesStreamPart}
-use Rattle.fdr_top.proofs.Commands.{own_begun}
+use Rattle.fdr_top.proofs.Commands.{last_pulled, own_begun, rules_pulled, rules_read, rules_unrecorded}
 use Rattle.fdr_top.proofs.Images.{refusal_answered, small_answered}
 use Rattle.fdr_top.proofs.TableAnswers.{past_not_memory}
 use Rattle.fdr_top.proofs.TraceAnswers.{fault_answered, told_fault, told_stream}
@@ -83,6 +83,8 @@ line_done form text tells old new before now outcome.SeqEnd own image reads make
     absurd (records own)
 line_done form text tells old new before now outcome.OldVersion own image reads makes both trace records lists told few line sink cell =
     absurd (records own)
+line_done form text tells old new before now (outcome.RuleRefused row f) own image reads makes both trace records lists told few line sink cell =
+    absurd (reads (rules_read form own))
 line_done form text tells old new before now answer own image reads makes both trace records lists told few line sink cell = absurd own
 
 pub streams_line : (path : List ℕ) (t : TableRows) (tells : Tells) (old new : State) (before now : Option (List ℕ)) (answer : Outcome)
@@ -138,13 +140,14 @@ begun_leaves form r reads makes both of leaves told written faults nothing = ⊎
 -- a command that pulls the input leaves the disk
 pub line_unused : (form : Form) (r : WorkRun) → PullsInput form → LeavesDisk r.old r.new → r.new.announced ≡ r.old.announced
     → (r.answer ≡ outcome.NoMemory → KeepsInputAndFaults r.old r.new)
-    → (PullsBits form → r.new.taken ≤ r.old.taken + most_input_bytes + piece_bytes) → LeavesUnused form r
-line_unused form r pulls leaves told memory bounded = record {
+    → (PullsBits form → r.new.taken ≤ r.old.taken + most_input_bytes + piece_bytes) → (PullsRules form → ⊥) → LeavesUnused form r
+line_unused form r pulls leaves told memory bounded no_rules = record {
   input = λ unused. absurd (unused pulls);
   disk = λ unused. leaves;
   announced = λ unused. told;
   memory = λ pulls none. memory none;
   bits = bounded;
+  rules = λ rules. absurd (no_rules rules);
 }
 
 -- the input is as it was where the calls pass it by
@@ -159,8 +162,9 @@ image_unused form r image no_line no_bits passes = record {
   input = λ unused. passes_keeps r.tells r.old r.new passes;
   disk = λ unused. absurd (unused image);
   announced = λ unused. passes.announced.announced;
-  memory = λ pulls none. absurd (no_line pulls);
+  memory = λ last none. absurd (no_line (last_pulled form last));
   bits = λ pulls. absurd (no_bits pulls);
+  rules = λ rules. absurd (no_line (rules_pulled form rules));
 }
 
 pub memory_writes : (answer : Outcome) → answer ≡ outcome.NoMemory → WritesNothing answer
@@ -186,8 +190,9 @@ image_recorded form r image records no_bits unpulled memory = record {
   input = unpulled;
   disk = λ unused. absurd (unused image);
   announced = λ unused. absurd (unused records);
-  memory = memory;
+  memory = λ last. memory (last_pulled form last);
   bits = λ pulls. absurd (no_bits pulls);
+  rules = λ rules. absurd (rules_unrecorded form records rules);
 }
 
 -- making an image answers one of three
@@ -266,6 +271,7 @@ both : (stage : Stage) → IsStageWithoutWork stage → IsWorkEnded (λ ending. 
 both at_words without worked = worked
 both at_table without worked = worked
 both at_image without worked = worked
+both at_rules without worked = worked
 both (at_work ending) without worked = without
 both out_of_memory without worked = worked
 

@@ -1,5 +1,5 @@
 -- From the work of a command to the command.
-use Rattle.std.proofs.Common.{◌≡◌, ◌≢◌, ◌⊎◌, ⊎_elim, inr, refl, ℕ, ◌+◌, List, [], Option, Some, None, ap, sym, ◌∙◌, subst, arith}
+use Rattle.std.proofs.Common.{◌≡◌, ◌≢◌, ◌⊎◌, ⊎_elim, inl, inr, refl, ℕ, ◌+◌, List, [], Option, Some, None, ap, sym, ◌∙◌, subst, arith}
 use Rattle.std.specs.Prelude.{IfSome, IsSome, false, true}
 use Rattle.fdr_io.specs.Faults.{Rose}
 use Rattle.fdr_io.specs.Told.{preceded_by}
@@ -10,11 +10,11 @@ use Rattle.fdr_check.specs.Soundness.{IsSound}
 use Rattle.fdr_table.specs.Bounds.{most_table_bytes}
 use Rattle.fdr_table.specs.Rows.{TableRows}
 use Rattle.fdr_words.specs.Forms.{Form, check_table, stream_line, list_bits, encode_bytes}
-use Rattle.fdr_words.specs.Forms.{decode_levels, format_image, record_line, recover_image, list_image, upgrade_image, drill_image}
+use Rattle.fdr_words.specs.Forms.{decode_levels, format_image, record_line, recover_image, list_image, upgrade_image, salvage_image, exceed_image, drill_image}
 use Rattle.fdr_words.specs.Forms.{table_path}
 use Rattle.fdr_top.specs.Stages.{IsOfTable}
 use Rattle.fdr_top.specs.Answers.{IsOwn, KeepsInputAndFaults, ReadsTable}
-use Rattle.fdr_top.specs.Commands.{ByItsTable, CarriesOut, RunsCommand, Works}
+use Rattle.fdr_top.specs.Commands.{ByItsTable, CarriesOut, DoesWork, RunsCommand, Works}
 use Rattle.fdr_top.specs.Complete.{ByAccepted, TellsAccepted}
 use Rattle.fdr_top.specs.Leaves.{HasCause, LeavesAll, LeavesUnused, PassesOverNoFault}
 use Rattle.fdr_load.specs.Limits.{TakesAtMost}
@@ -35,6 +35,8 @@ use Rattle.fdr_top.proofs.Making.{makes_nothing, table_or, table_told}
 use Rattle.fdr_load.proofs.Pieces.{TakesAtMost-none}
 use Rattle.fdr_top.proofs.Readable.{records_nothing}
 use Rattle.fdr_top.proofs.TableAnswers.{table_not_past, taken_is_all}
+use Rattle.fdr_top.proofs.Salvages.{salvages_nothing}
+use Rattle.fdr_top.proofs.ExceededImages.{exceeds_nothing}
 use Rattle.fdr_top.proofs.Upgrades.{upgrades_nothing}
 
 -- a run that changed nothing
@@ -76,6 +78,7 @@ still_unused form tells d before now s t answer = record {
   announced = λ unused. refl;
   memory = λ pulls none. keeps_line d;
   bits = λ pulls. omega arith;
+  rules = λ rules. omega arith;
 }
 
 -- no fault of the deck or the sink is an answer that reading the table gives
@@ -90,6 +93,19 @@ table_has_cause tells d written s answer of = record {
 idle_passes : (form : Form) (tells : Tells) (d : State) (written : Option (List ℕ)) (s : ℕ) (answer : Outcome)
     → PassesOverNoFault form (idle tells d written s answer)
 idle_passes form tells d written s answer = record { input = λ read covers. refl; write = λ other covers. refl; disk = λ other. refl }
+
+-- where memory ends before the work is begun, it is as promised
+pub idle_works : (form : Form) (t : TableRows) (tells : Tells) (d : State) (written : Option (List ℕ)) (s : ℕ)
+    → DoesWork form t (idle tells d written s outcome.NoMemory) → Works form t (idle tells d written s outcome.NoMemory)
+idle_works form t tells d written s does = record {
+  answer = inl refl;
+  refusal = λ nothing. idle_leaves_all tells d written s outcome.NoMemory;
+  unused = still_unused form tells d written written s s outcome.NoMemory;
+  causes = table_has_cause tells d written s outcome.NoMemory tt;
+  no_fault_passed_over = idle_passes form tells d written s outcome.NoMemory;
+  does = does;
+  complete = λ whole faultless. inr refl;
+}
 
 -- a report of a table is the work of `check`
 pub check_works : (path : List ℕ) (t : TableRows) (tells : Tells) (d : State) (before now : Option (List ℕ)) (s u : ℕ) (answer : Outcome)
@@ -203,6 +219,10 @@ does_nothing (recover_image image) r tells d written s answer same sound reads o
 does_nothing (list_image path image) r tells d written s answer same sound reads of =
     rw same (lists_nothing tells r.rest_before d written answer sound (inr of))
 does_nothing (upgrade_image image) r tells d written s answer same sound reads of = absurd (let e : false ≡ true = reads in cc)
+does_nothing (salvage_image path image ring) r tells d written s answer same sound reads of =
+    rw same (salvages_nothing ring tells r.rest_before d written answer sound (inr of))
+does_nothing (exceed_image path image) r tells d written s answer same sound reads of =
+    rw same (table_or r.rest_before, table_told r.rest_before, exceeds_nothing (table_or r.rest_before) tells d written answer (table_not_past answer of))
 does_nothing (drill_image path image seed frames) r tells d written s answer same sound reads of =
     rw same (drills_nothing seed frames tells r.rest_before d written answer sound (table_not_past answer of))
 

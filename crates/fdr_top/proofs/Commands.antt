@@ -1,8 +1,8 @@
 -- Which answers commands give.
-use Rattle.std.proofs.Common.{refl, ◌≢◌, ◌≡◌, ◌⊎◌, inl, inr, ⊎_elim, ℕ, List, Option, Some, None, ap, sym, ◌∙◌, subst}
-use Rattle.std.specs.Prelude.{◌↔◌}
+use Rattle.std.proofs.Common.{refl, ◌≢◌, ◌≡◌, ◌⊎◌, inl, inr, ⊎_elim, ℕ, List, Option, Some, None, sym, ◌∙◌, subst}
 use Rattle.fdr_io.specs.declared.Input.TheVariants as input
 use Rattle.fdr_words.specs.Forms.{Form, ImageUse, has_no_image, makes_image, records_in_image, reads_image, upgrades_image, command_uses}
+use Rattle.fdr_words.specs.Forms.{InputUse, takes_nothing, takes_trace, takes_bits, takes_levels, takes_rules, exceed_image}
 use Rattle.fdr_words.specs.Request.{form_of_request}
 use Rattle.fdr_table.specs.declared.path.PathText.{PathText}
 use Rattle.fdr_words.specs.declared.Request.{Request}
@@ -12,7 +12,8 @@ use Rattle.fdr_top.specs.declared.outcome.Outcome.{Outcome}
 use Rattle.fdr_top.specs.declared.outcome.Outcome.TheVariants as outcome
 use Rattle.fdr_top.specs.Stages.{EndsBeforeDeck, IsOfTable, IsPastTable, WritesNothing}
 use Rattle.fdr_top.specs.Answers.{HasImage, IsImageRecorded, IsImageThere, IsOwn, MayAnswer, PullsInput, ReadsTable, WritesText}
-use Rattle.fdr_top.specs.Answers.{KeepsInputAndFaults, MakesImage, ReadsBoth, ReadsImage}
+use Rattle.fdr_top.specs.Answers.{KeepsInputAndFaults, MakesImage, ReadsBoth, ReadsImage, RecordsImage}
+use Rattle.fdr_top.specs.Answers.{AreRulesTaken, IsInputTaken, IsInputTakenLast, PullsLast, PullsRules}
 use Rattle.fdr_deck.specs.State.{State}
 use Rattle.fdr_top.specs.Leaves.{CoversInputFault}
 use Rattle.fdr_top.specs.Check.{Reports}
@@ -91,6 +92,36 @@ recorded_there records_in_image recorded = tt
 recorded_there reads_image recorded = tt
 recorded_there upgrades_image recorded = tt
 
+-- rules come with an image that is read, and the input is pulled for them
+pub rules_read : (form : Form) → PullsRules form → ReadsImage form
+rules_read (exceed_image path image) rules = tt
+rules_read form rules = absurd rules
+
+rules_taken : (taken : InputUse) → AreRulesTaken taken → IsInputTaken taken
+rules_taken takes_nothing rules = rules
+rules_taken takes_trace rules = tt
+rules_taken takes_bits rules = tt
+rules_taken takes_levels rules = tt
+rules_taken takes_rules rules = tt
+
+pub rules_pulled : (form : Form) → PullsRules form → PullsInput form
+rules_pulled form rules = rules_taken (command_uses form).input rules
+
+last_taken : (taken : InputUse) → IsInputTakenLast taken → IsInputTaken taken
+last_taken takes_nothing last = last
+last_taken takes_trace last = tt
+last_taken takes_bits last = tt
+last_taken takes_levels last = tt
+last_taken takes_rules last = tt
+
+pub last_pulled : (form : Form) → PullsLast form → PullsInput form
+last_pulled form last = last_taken (command_uses form).input last
+
+-- no recording is by rules
+pub rules_unrecorded : (form : Form) → RecordsImage form → PullsRules form → ⊥
+rules_unrecorded (exceed_image path image) records rules = records
+rules_unrecorded form records rules = rules
+
 -- a command that reads no image and makes none has begun to write
 pub own_begun : (form : Form) (answer : Outcome) → (ReadsImage form → ⊥) → (MakesImage form → ⊥) → (ReadsBoth form → ⊥) → IsOwn form answer
     → WritesNothing answer → ⊥
@@ -101,6 +132,7 @@ own_begun form outcome.OldVersion reads makes both own nothing = reads (recorded
 own_begun form outcome.Usage reads makes both own nothing = own
 own_begun form (outcome.TableRefused row f) reads makes both own nothing = own
 own_begun form (outcome.ReadFault input.Table) reads makes both own nothing = own
+own_begun form (outcome.RuleRefused row f) reads makes both own nothing = reads (rules_read form own)
 own_begun form outcome.NoMemory reads makes both own nothing = own
 own_begun form answer reads makes both own nothing = nothing
 
@@ -127,6 +159,8 @@ request_reads (request.RecordLine table image) encode decode recover upgrade = r
 request_reads (request.RecoverImage image) encode decode recover upgrade = absurd (recover image refl)
 request_reads (request.ListImage table image) encode decode recover upgrade = refl
 request_reads (request.Upgrade image) encode decode recover upgrade = absurd (upgrade image refl)
+request_reads (request.Salvage table image ring) encode decode recover upgrade = refl
+request_reads (request.Exceed table image) encode decode recover upgrade = refl
 request_reads (request.Drill table image seed frames) encode decode recover upgrade = refl
 
 -- what holds of each form holds of the one that words are of

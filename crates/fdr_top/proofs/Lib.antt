@@ -21,6 +21,12 @@ pub mod ListedLines
 pub mod Coding
 pub mod Coded
 pub mod ListedImages
+pub mod Salvages
 pub mod Drills
 pub mod Drilled
+pub mod RunSizes
+pub mod ExceedSteps
+pub mod WatchLines
+pub mod Exceeds
+pub mod ExceededImages
 pub mod Carrying

@@ -16,7 +16,7 @@ use Rattle.fdr_recover.specs.ImageHeader.{image_fault_of, header_in, IsFor}
 use Rattle.fdr_recover.specs.declared.error.HeaderFault.{HeaderFault}
 use Rattle.fdr_recover.specs.declared.error.HeaderFault.TheVariants as header
 use Rattle.fdr_table.specs.Rows.{TableRows}
-use Rattle.fdr_words.specs.Forms.{drill_image, list_image}
+use Rattle.fdr_words.specs.Forms.{drill_image, list_image, salvage_image}
 use Rattle.fdr_top.specs.Stages.{IsOfTable, IsPastTable, WritesNothing}
 use Rattle.fdr_top.specs.Answers.{IsOwn}
 use Rattle.fdr_top.specs.List.{RefusesOpening, ListsImage, listing_in, opening_refusal}
@@ -79,10 +79,10 @@ opening_not_memory (header.Image why) e = cc
 opening_not_memory (header.WordsDiffer image table) e = cc
 opening_not_memory header.DiskFault e = cc
 
-shut_not_done : (answer : Outcome) → RefusesOpening answer → answer ≡ outcome.Done → ⊥
+pub shut_not_done : (answer : Outcome) → RefusesOpening answer → answer ≡ outcome.Done → ⊥
 shut_not_done answer shut e = rw e at shut
 
-shut_not_write : (answer : Outcome) → RefusesOpening answer → answer ≡ outcome.WriteFault → ⊥
+pub shut_not_write : (answer : Outcome) → RefusesOpening answer → answer ≡ outcome.WriteFault → ⊥
 shut_not_write answer shut e = rw e at shut
 
 -- where the image isn't opened
@@ -101,7 +101,7 @@ abbrev pub IsOfBlocks : Outcome → Type 0
 IsOfBlocks answer = (answer ≡ outcome.Done) ⊎ ((answer ≡ outcome.WriteFault) ⊎ (answer ≡ outcome.DiskFault))
 
 -- what holds of each of these answers
-of_blocks : (P : Outcome → Type 0) (answer : Outcome) → P outcome.Done → P outcome.WriteFault → P outcome.DiskFault → IsOfBlocks answer → P answer
+pub of_blocks : (P : Outcome → Type 0) (answer : Outcome) → P outcome.Done → P outcome.WriteFault → P outcome.DiskFault → IsOfBlocks answer → P answer
 of_blocks P answer done write disk of = ⊎_elim
     (λ (x : answer ≡ outcome.Done). subst P (sym x) done)
     (λ (rest : (answer ≡ outcome.WriteFault) ⊎ (answer ≡ outcome.DiskFault)). ⊎_elim
@@ -116,6 +116,9 @@ of_blocks_begun answer = of_blocks (λ (a : Outcome). WritesNothing a → ⊥) a
 -- they are answers of the commands that read the blocks
 pub of_blocks_list : (path image : List ℕ) (answer : Outcome) → IsOfBlocks answer → IsOwn (list_image path image) answer
 of_blocks_list path image answer = of_blocks (λ (a : Outcome). IsOwn (list_image path image) a) answer tt tt tt
+
+pub of_blocks_salvage : (path image : List ℕ) (ring : Option (ℕ × ℕ)) (answer : Outcome) → IsOfBlocks answer → IsOwn (salvage_image path image ring) answer
+of_blocks_salvage path image ring answer = of_blocks (λ (a : Outcome). IsOwn (salvage_image path image ring) a) answer tt tt tt
 
 pub of_blocks_drill : (path image : List ℕ) (seed frames : ℕ) (answer : Outcome) → IsOfBlocks answer → IsOwn (drill_image path image seed frames) answer
 of_blocks_drill path image seed frames answer = of_blocks (λ (a : Outcome). IsOwn (drill_image path image seed frames) a) answer tt tt tt

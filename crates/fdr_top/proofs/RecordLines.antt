@@ -12,7 +12,7 @@ use Rattle.fdr_bus.proofs.TraceLemmas.{good_prefix-append, good_prefix-decided}
 use Rattle.fdr_deck.specs.State.{State, Tells}
 use Rattle.fdr_slot.specs.Headers.{has_magic, has_open_gate, image_fault}
 use Rattle.fdr_slot.specs.Limits.{IsInLimits, in_limits}
-use Rattle.fdr_slot.specs.Places.{image_size, gate_at}
+use Rattle.fdr_slot.specs.Places.{image_size}
 use Rattle.fdr_slot.proofs.HeaderLemmas.{in_limits-is}
 use Rattle.fdr_slot.specs.declared.image.ImageFault.{ImageFault}
 use Rattle.fdr_slot.specs.declared.image.ImageFault.TheVariants as fault

@@ -187,6 +187,7 @@ streamed_decided pulled d d' outcome.TooLong undecided quiet known = quiet (λ e
 streamed_decided pulled d d' outcome.NoMemory undecided quiet known = quiet (λ e. absurd (cc))
 streamed_decided pulled d d' outcome.OldVersion undecided quiet known = quiet (λ e. absurd (cc))
 streamed_decided pulled d d' (outcome.CellFault at) undecided quiet known = quiet (λ e. absurd (cc))
+streamed_decided pulled d d' (outcome.RuleRefused row f) undecided quiet known = quiet (λ e. absurd (cc))
 
 pub Streams-failed : (t : TableRows) (tells : Tells) (a c : State) (k : StreamKept) (before middle now : Option (List ℕ)) (answer : Outcome)
     (streamed : IsStreamedTo t tells a c k before middle answer) → (m : ℕ) × (now ≡ followed_by before (take m (stream_of t (good_prefix streamed.pulled)))) →

@@ -148,6 +148,17 @@ module _ (t : TableRows) where
         | false ↦ append-nil blocks
       ]
 
+  few_in_parts : (version : ℕ) (blocks : List Block) → length (payloads_of blocks) ≤ 2 ^ 28 → all_frames (listed_apart version blocks) ≤ 2 ^ 31
+  few_in_parts version blocks short =
+      omega (arith, few_of_parts (listed_apart version blocks), short, ap (λ (l : List Block). length (payloads_of l)) (all_blocks_apart version blocks))
+
+  -- the rows of blocks are few enough to be counted
+  pub few_rows_of_blocks : (version : ℕ) (blocks : List Block) → IsSound t → length (payloads_of blocks) ≤ 2 ^ 28
+      → length (rows_among (entries_of_blocks t version blocks)) ≤ 2 ^ 63
+  few_rows_of_blocks version blocks sound short =
+      let parts : List (List Block) = listed_apart version blocks in
+      omega (arith, ap length (rows_of_blocks version blocks), few_rows_of_parts parts sound, few_in_parts version blocks short)
+
   -- what is counted of blocks, from nothing on, is their summary
   pub summary_of_blocks_is : (version : ℕ) (blocks : List Block) (now : Summary) → IsSound t → length (payloads_of blocks) ≤ 2 ^ 28
       → Tallies no_summary now (entries_of_blocks t version blocks) → now ≡ summary_of_blocks t version blocks
@@ -155,8 +166,7 @@ module _ (t : TableRows) where
   summary_of_blocks_is version blocks now sound short tallied =
       let parts : List (List Block) = listed_apart version blocks in
       let rows = flat_map (λ (p : List Block). listed_rows t (payloads_of p)) parts in
-      let few : all_frames parts ≤ 2 ^ 31 =
-      omega (arith, few_of_parts parts, short, ap (λ (l : List Block). length (payloads_of l)) (all_blocks_apart version blocks)) in
+      let few = few_in_parts version blocks short in
       let few_rows : length rows < 2 ^ 64 = omega (arith, few_rows_of_parts parts sound, few) in
       counted_is (entries_of_blocks t version blocks) (all_frames parts) rows now (frames_of_blocks version blocks) (rows_of_blocks version blocks)
       (omega (arith, few)) few_rows tallied

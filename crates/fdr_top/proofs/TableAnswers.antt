@@ -1,24 +1,20 @@
 -- The table of a source that tells its bytes, and what is answered to it.
 use Rattle.std.proofs.Common.{◌≡◌, ℕ, ◌<◌, ◌≤◌, true, List, [], ◌++◌, length, Option, Some, None, ap, sym, refl, ◌∙◌, subst, inr, ◌⊎◌, ⊎_elim, arith}
 use Rattle.std.proofs.Common.{length-append}
-use Rattle.std.specs.Prelude.{IfSome, IsTrue, nat_lt}
+use Rattle.std.specs.Prelude.{IfSome, nat_lt}
 use Rattle.std.proofs.lemmas.Bool.{cases_lt}
 use Rattle.std.proofs.lemmas.Bool.Decides.{nat_tests}
-use Rattle.std.proofs.lemmas.List.{append-nil, take_all}
-use Rattle.fdr_io.specs.Told.{preceded_by, followed_by}
+use Rattle.std.proofs.lemmas.List.{append-nil}
+use Rattle.fdr_io.specs.Told.{preceded_by}
 use Rattle.fdr_io.specs.declared.Input.TheVariants as input
 use Rattle.fdr_io.proofs.Telling.{preceded_by-end}
-use Rattle.fdr_deck.specs.State.{State, Tells}
-use Rattle.fdr_table.specs.Rows.{TableRows}
 use Rattle.fdr_table.specs.Bounds.{most_table_bytes}
 use Rattle.fdr_table.specs.Faults.{table_bytes_fault}
 use Rattle.fdr_table.specs.declared.fault.TableFault.{TableFault}
 use Rattle.fdr_table.specs.declared.fault.TableFault.TheVariants as fault
 use Rattle.fdr_top.specs.declared.outcome.Outcome.{Outcome}
 use Rattle.fdr_top.specs.declared.outcome.Outcome.TheVariants as outcome
-use Rattle.fdr_pieces.specs.Limits.{most_input_bytes}
 use Rattle.fdr_top.specs.Stages.{IsOfTable, IsPastTable}
-use Rattle.fdr_readout.specs.Listing.{listing_of}
 use Rattle.fdr_load.specs.Tables.{IsAccepted, IsTableRefused, fault_in}
 
 -- what was taken to the end is all that was told

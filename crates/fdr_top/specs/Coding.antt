@@ -23,32 +23,33 @@ pub record SinkState : Type 0 where
   pub written : Option (List ℕ)
   pub faults : ℕ
 
--- The sink failed. However the bytes go on, what it holds since then is a front part of their text.
+-- The sink failed, and what it holds since then is a front part of the text of all bytes, however they go on.
 pub record StopsWriting (text : List ℕ → List ℕ) (bytes : List ℕ) (before now : SinkState) : Type 0 where
   pub part : (more : List ℕ) → WritesFront (text (bytes ++ more)) before.written now.written
   pub cause : Rose before.faults now.faults
 
--- The levels of these bytes went out, or wait to.
+-- The levels of these bytes went out, or wait to, and no fault of the sink was counted.
 pub record HasEncoded (e : Encoding) (bytes : List ℕ) (before now : SinkState) : Type 0 where
   pub encoder : RepresentsEncoder e.encoder false bytes
   pub emits : Emits before.written now.written [] e.text (levels_text bytes)
   pub no_fault : now.faults ≡ before.faults
 
--- The bits of these levels went out, or wait to, as far as they fill bytes.
+-- The bits of these levels went out, or wait to, as far as they fill bytes, and no fault of the sink was counted.
 pub record HasDecoded (d : Decoding) (bytes : List ℕ) (before now : SinkState) : Type 0 where
   pub decoded : List ℕ
   pub reader : ReadsLevels d.reader (bits_of_bytes bytes) decoded
   pub emits : Emits before.written now.written [] d.text decoded
   pub no_fault : now.faults ≡ before.faults
 
--- Of these levels, and however they go on, this place is missing, and the bits before it went out, or wait to.
+-- Of these levels, and however they go on, this place is missing; the bits before it went out, or wait to, and no fault of the
+-- sink was counted.
 pub record HasMissed (d : Decoding) (bytes : List ℕ) (at : ℕ) (before now : SinkState) : Type 0 where
   pub decoded : List ℕ
   pub reader : MissesLevel d.reader (bits_of_bytes bytes) decoded at
   pub emits : Emits before.written now.written [] d.text decoded
   pub no_fault : now.faults ≡ before.faults
 
--- why no more levels are decoded
+-- No more levels are decoded, for this reason: a place is missing, or the sink failed.
 abbrev pub StopsDecoding : Decoding → Cut → List ℕ → SinkState → SinkState → Type 0
 StopsDecoding d (cut.Missing at) bytes before now = HasMissed d bytes at before now
 StopsDecoding d cut.Output bytes before now = StopsWriting decoded_bytes bytes before now
@@ -60,7 +61,8 @@ pub record HasListed {O : Type 0} (written : O → Option (List ℕ)) (first now
   pub empty : now.lines ≡ []
   pub in_time : HasWrittenDecided now.table.now before (written out_first) (written out_now)
 
--- The sink failed while lines were written.
+-- The sink failed while lines were written; what it holds are the first of them, at least those of all that the bytes before the
+-- last piece decide.
 pub record StopsListing (t : TableRows) (before last : List ℕ) (first now : SinkState) : Type 0 where
   pub stops : StopsWriting (listing_of t) (before ++ last) first now
   pub in_time : HasWrittenDecided t before first.written now.written

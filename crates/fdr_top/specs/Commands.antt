@@ -5,7 +5,7 @@ use Rattle.fdr_io.specs.declared.Input.TheVariants as input
 use Rattle.fdr_table.specs.Bounds.{most_table_bytes}
 use Rattle.fdr_table.specs.Rows.{TableRows}
 use Rattle.fdr_words.specs.Forms.{Form, check_table, stream_line, list_bits, encode_bytes, decode_levels}
-use Rattle.fdr_words.specs.Forms.{format_image, record_line, recover_image, list_image, upgrade_image, drill_image}
+use Rattle.fdr_words.specs.Forms.{format_image, record_line, recover_image, list_image, upgrade_image, salvage_image, exceed_image, drill_image}
 use Rattle.fdr_words.specs.Forms.{table_path}
 use Rattle.fdr_top.specs.Stages.{IsPastTable, WritesNothing}
 use Rattle.fdr_top.specs.Answers.{IsOwn, MayAnswer, ReadsTable}
@@ -14,6 +14,7 @@ use Rattle.fdr_top.specs.Complete.{IsFaultless, IsFaultlessWork, IsWholeInput, I
 use Rattle.fdr_top.specs.Decode.{DecodesLevels}
 use Rattle.fdr_top.specs.Drill.{DrillsImage}
 use Rattle.fdr_top.specs.Encode.{EncodesInput}
+use Rattle.fdr_top.specs.Exceed.{ExceedsImage}
 use Rattle.fdr_top.specs.Format.{Makes, new_header}
 use Rattle.fdr_top.specs.Leaves.{HasCause, LeavesAll, LeavesUnused, PassesOverNoFault}
 use Rattle.fdr_load.specs.Limits.{TakesAtMost}
@@ -23,12 +24,14 @@ use Rattle.fdr_top.specs.Listbits.{ListsInput}
 use Rattle.fdr_top.specs.Record.{RecordsTrace}
 use Rattle.fdr_top.specs.Recover.{RecoversImage}
 use Rattle.fdr_top.specs.Runs.{CommandRun, WorkRun}
+use Rattle.fdr_top.specs.Salvage.{SalvagesImage}
 use Rattle.fdr_top.specs.Stream.{StreamsTrace}
 use Rattle.fdr_top.specs.Tables.{ByTable, ReadsItsTable}
 use Rattle.fdr_top.specs.Upgrade.{UpgradesImage}
 use Rattle.fdr_top.specs.declared.outcome.Outcome.TheVariants as outcome
 
--- what the work of the command of a form does by a table
+-- What each command promises, a line a command: the work of a form's command by this table does what the record of the command
+-- says.
 abbrev pub DoesWork : Form → TableRows → WorkRun → Type 0
 DoesWork (check_table path) t r = IsPastTable r.answer → Reports t r.written_before r.written_now r.answer
 DoesWork (stream_line path) t r = IsPastTable r.answer → StreamsTrace t r.tells r.old r.new r.written_before r.written_now r.answer
@@ -40,19 +43,22 @@ DoesWork (record_line path image) t r = RecordsTrace t r.tells r.old r.new r.ans
 DoesWork (recover_image image) t r = RecoversImage r.tells r.old r.new r.written_before r.written_now r.answer
 DoesWork (list_image path image) t r = ListsImage t r.tells r.old r.new r.written_before r.written_now r.answer
 DoesWork (upgrade_image image) t r = UpgradesImage r.tells r.old r.new r.answer
+DoesWork (salvage_image path image ring) t r = SalvagesImage t ring r.tells r.old r.new r.written_before r.written_now r.answer
+DoesWork (exceed_image path image) t r = ExceedsImage t r.tells r.old r.new r.written_before r.written_now r.answer
 DoesWork (drill_image path image seed frames) t r =
     DrillsImage t seed frames r.tells r.old r.new r.written_before r.written_now r.answer
 
--- this holds by the table that a form's command read, or by any where the command reads none
+-- The statement holds by the table that a command read, or by any where it reads none.
 abbrev pub ByItsTable : Option (List ℕ) → Option (List ℕ) → (TableRows → Type 0) → Type 0
 ByItsTable (Some path) rest P = ByTable rest P
 ByItsTable None rest P = (t : TableRows) → P t
 
--- what the command of a form does
+-- The command of this form does what its record says, by the table that it read, or by any where it reads none.
 abbrev pub CarriesOut : Form → CommandRun → Type 0
 CarriesOut form r = ByItsTable (table_path form) r.rest_before (λ (t : TableRows). DoesWork form t r.work)
 
--- What is promised of the work of a form's command by a sound table.
+-- What is promised of the work of a form's command by a sound table: which answers it gives, what they leave, what caused them,
+-- that no fault is passed over, what it does, and when all is done.
 pub record Works (form : Form) (t : TableRows) (r : WorkRun) : Type 0 where
   pub answer : (r.answer ≡ outcome.NoMemory) ⊎ IsOwn form r.answer
   pub refusal : WritesNothing r.answer → LeavesAll r
@@ -63,7 +69,8 @@ pub record Works (form : Form) (t : TableRows) (r : WorkRun) : Type 0 where
   -- Where what it needs is whole and nothing fails, all is done, or memory ended.
   pub complete : IsWholeWork form t r.tells r.old → IsFaultlessWork form r → (r.answer ≡ outcome.Done) ⊎ (r.answer ≡ outcome.NoMemory)
 
--- What is promised of the command of a form.
+-- What is promised of the command of a form: which answers it gives, how the answer goes with the table that it reads, what a
+-- refusal leaves, what caused the answer, that no fault is passed over, what the command does, and when all is done.
 pub record RunsCommand (form : Form) (r : CommandRun) : Type 0 where
   -- It gives only answers that are its own.
   pub answers : MayAnswer form r.work.answer

@@ -10,11 +10,12 @@ use Rattle.fdr_top.specs.InputTexts.{WritesOfInput}
 use Rattle.fdr_top.specs.declared.outcome.Outcome.{Outcome}
 use Rattle.fdr_top.specs.declared.outcome.Outcome.TheVariants as outcome
 
--- this place is missing in the levels of these bytes, as far as they are taken
+-- This place is missing in the levels of these bytes, as far as they are taken.
 abbrev pub IsMissing : List ℕ → ℕ → Type 0
 IsMissing bytes at = missing_place (bits_of_bytes (take most_input_bytes bytes)) ≡ Some at
 
--- The bits of the input were written: what was pulled, what of it was written, and which place is missing.
+-- What `decode` promises: what was pulled, that the bits of its levels were written, or a front part of them, which place is
+-- missing, and that cells read back.
 pub record DecodesLevels (tells : Tells) (old new : State) (written_before written_now : Option (List ℕ)) (answer : Outcome) : Type 0 where
   pub decodes : WritesOfInput decoded_bytes tells old new written_before written_now answer
   pub missing : (at : ℕ) → answer ≡ outcome.CellFault at → IsMissing decodes.pulled at

@@ -15,12 +15,12 @@ use Rattle.fdr_top.specs.Sessions.{summary_of_blocks}
 use Rattle.fdr_top.specs.declared.outcome.Outcome.{Outcome}
 use Rattle.fdr_top.specs.declared.outcome.Outcome.TheVariants as outcome
 
--- a comma and a number
+-- a comma and a number, in the line of a drill
 abbrev pub field_text : ℕ → List ℕ
 field_text number = codes "," ++ decimal number
 
--- `drill,BLOCKS,FRAMES,ROWS,SUM` and a line feed: how many blocks were recorded, how many frames and rows are listed, and what
--- the rows' values add up to
+-- the line `drill,BLOCKS,FRAMES,ROWS,SUM`: how many blocks were recorded, how many frames and rows are listed, and what the rows'
+-- values add up to
 unfoldable pub drill_text : ℕ → Summary → List ℕ
 drill_text blocks s =
     codes "drill" ++ field_text blocks ++ field_text s.frames ++ field_text s.rows ++ field_text s.sum ++ 10 ∷ []
@@ -29,7 +29,8 @@ drill_text blocks s =
 abbrev pub drill_line : TableRows → ℕ → List ℕ → List ℕ
 drill_line t blocks image = drill_text blocks (summary_of_blocks t (header_in image).version (run_in image))
 
--- The trace of a seed was recorded, and the line written.
+-- What `drill` promises: the recording of the generated trace, which refusal is answered, the line that is written, and that what
+-- was recorded can be read back.
 pub record DrillsImage (t : TableRows) (seed frames : ℕ) (tells : Tells) (old new : State) (written_before written_now : Option (List ℕ))
     (answer : Outcome) : Type 0 where
   pub blocks : RecordsStream t tells (generated_trace t seed frames) old new answer

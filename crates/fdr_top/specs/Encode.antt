@@ -8,11 +8,12 @@ use Rattle.fdr_top.specs.InputTexts.{WritesOfInput}
 use Rattle.fdr_top.specs.declared.outcome.Outcome.{Outcome}
 use Rattle.fdr_top.specs.declared.outcome.Outcome.TheVariants as outcome
 
--- the levels of the bits of bytes, packed
+-- the levels of the bits of bytes, packed, after a low level
 abbrev pub levels_text : List ℕ → List ℕ
 levels_text = encoded_bytes false
 
--- The levels of the input were written: what was pulled, and what of it was written.
+-- What `encode` promises: what was pulled, and that the levels of its bits were written, or a front part of them. They are the
+-- cells of the bits, and no other levels are.
 pub record EncodesInput (tells : Tells) (old new : State) (written_before written_now : Option (List ℕ)) (answer : Outcome) : Type 0 where
   pub encodes : WritesOfInput levels_text tells old new written_before written_now answer
   pub too_long_always : old.taken + most_input_bytes < new.taken → (answer ≡ outcome.TooLong) ⊎ (answer ≡ outcome.WriteFault)

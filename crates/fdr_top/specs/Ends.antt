@@ -11,17 +11,17 @@ use Rattle.fdr_recorder.specs.declared.source.SourceEnd.TheVariants as source
 use Rattle.fdr_top.specs.declared.outcome.Outcome.{Outcome}
 use Rattle.fdr_top.specs.declared.outcome.Outcome.TheVariants as outcome
 
--- the answer where no further record of a trace comes and all was written or recorded
+-- the answer where no further record of a trace comes, for this reason, and all was written or recorded
 abbrev pub answer_of_stop : TraceStop → Outcome
 answer_of_stop (stop.Refused index why) = outcome.TraceRefused index why
 answer_of_stop stop.Failed = outcome.ReadFault input.Line
 
--- the answer where all that a source gave is recorded
+-- the answer where all that a source of records gave is recorded
 abbrev pub source_answer : SourceEnd → Outcome
 source_answer source.Ended = outcome.Done
 source_answer (source.Stopped why) = answer_of_stop why
 
--- the answer where a session is refused or cut short
+-- the answer where a session is refused or cut short by this fault
 abbrev pub session_refusal : SessionFault → Outcome
 session_refusal (session.Image why) = outcome.ImageRefused why
 session_refusal (session.WordsDiffer image table) = outcome.WordsDiffer image table

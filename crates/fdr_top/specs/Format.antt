@@ -11,11 +11,12 @@ use Rattle.fdr_top.specs.Stages.{IsPastTable}
 use Rattle.fdr_top.specs.declared.outcome.Outcome.{Outcome}
 use Rattle.fdr_top.specs.declared.outcome.Outcome.TheVariants as outcome
 
--- the header of a new image
+-- the header of a new image with this number of slots, this payload and these words of a subframe: of version 2
 abbrev pub new_header : ℕ → ℕ → ℕ → Header
 new_header slots payload words = record { slots = slots; payload = payload; words = words; version = 2 }
 
--- The image with this header was made, or the answer says why it wasn't.
+-- What `format` promises: the image with this header was made, or the answer says why it wasn't; and what a stop leaves at each
+-- moment.
 pub record Makes (h : Header) (tells : Tells) (old new : State) (answer : Outcome) : Type 0 where
   pub empty : answer ≡ outcome.Done → old.extent ≡ 0
   pub held : answer ≡ outcome.Done → IsTrue tells.bytes → new.held ≡ fresh_image h

@@ -1,5 +1,5 @@
--- What the commands promise that pull an input to its end and write a text of it. The text is a function of the bytes that are taken
--- of the input, of which there are at most 268,435,456.
+-- What the commands promise that pull an input to its end and write a text of it. The text is a function of the bytes that are
+-- taken of the input, of which there are at most 268,435,456.
 use Rattle.std.specs.Prelude.{◌≡◌, ◌≢◌, ℕ, ◌+◌, ◌<◌, ◌≤◌, List, [], length, take, Option, IsTrue}
 use Rattle.fdr_io.specs.Faults.{Rose}
 use Rattle.fdr_io.specs.Told.{followed_by}
@@ -12,25 +12,27 @@ use Rattle.fdr_pieces.specs.Limits.{most_input_bytes}
 use Rattle.fdr_top.specs.declared.outcome.Outcome.{Outcome}
 use Rattle.fdr_top.specs.declared.outcome.Outcome.TheVariants as outcome
 
--- the answer where all was written
+-- the answer where an input was pulled to this end and all was written
 abbrev pub answer_of : InputEnd → Outcome
 answer_of input_end.End = outcome.Done
 answer_of input_end.Fault = outcome.ReadFault input.Line
 answer_of input_end.TooLong = outcome.TooLong
 
--- what an answer says of the bytes that were pulled
+-- What an answer says of the bytes that were pulled: at most 268,435,456 of them came and the input is at its end, or a pull
+-- failed; or more came.
 pub record AnswersEnd (tells : Tells) (new : State) (pulled : List ℕ) (answer : Outcome) : Type 0 where
   pub done_within_limit : answer ≡ outcome.Done → length pulled ≤ most_input_bytes
   pub fault_within_limit : answer ≡ outcome.ReadFault input.Line → length pulled ≤ most_input_bytes
   pub many : answer ≡ outcome.TooLong → most_input_bytes < length pulled
   pub end : answer ≡ outcome.Done → IsTrue tells.input → new.input ≡ []
 
--- a front part of the text was written
+-- A front part of the text was written.
 abbrev pub WritesFront : List ℕ → Option (List ℕ) → Option (List ℕ) → Type 0
 WritesFront text before now = (k : ℕ) × (now ≡ followed_by before (take k text))
 
--- Of the input these bytes were pulled, and of the text of as many as are taken a front part was written, all of it but where the
--- answer is a fault of writing. Where the input is told and no pull failed, this is said of the input itself.
+-- What a command promises of a text that it writes of an input. These bytes were pulled, and of the text of as many as are taken
+-- a front part was written, all of it but where the answer is a fault of writing. Where the input is told and no pull failed,
+-- this is said of the input itself.
 pub record WritesOfInput (text : List ℕ → List ℕ) (tells : Tells) (old new : State) (written_before written_now : Option (List ℕ)) (answer : Outcome)
     : Type 0 where
   pub pulled : List ℕ

@@ -7,14 +7,15 @@ use Rattle.fdr_deck.specs.Disk.{KeepsDisk, LearnsExtent}
 use Rattle.fdr_words.specs.Forms.{Form}
 use Rattle.fdr_top.specs.Stages.{IsBeforeInput, IsWorkEnded, stage_of}
 use Rattle.fdr_top.specs.Stages.{Ending, all_done, input_ended, input_too_long, input_without_cells, output_cut, recording_cut}
-use Rattle.fdr_top.specs.Answers.{HasImage, KeepsInputAndFaults, ListsBlocks, PullsBits, PullsInput, RecordsImage}
+use Rattle.fdr_exceed.specs.Rules.{most_rule_bytes}
+use Rattle.fdr_top.specs.Answers.{HasImage, KeepsInputAndFaults, ListsBlocks, PullsBits, PullsInput, PullsLast, PullsRules, RecordsImage}
 use Rattle.fdr_io.specs.Limits.{piece_bytes}
 use Rattle.fdr_pieces.specs.Limits.{most_input_bytes}
 use Rattle.fdr_top.specs.Runs.{WorkRun}
 use Rattle.fdr_top.specs.declared.outcome.Outcome.{Outcome}
 use Rattle.fdr_top.specs.declared.outcome.Outcome.TheVariants as outcome
 
--- Nothing was written and no device changed; before the input is pulled, the input is as it was too.
+-- Nothing was written and no device changed. Before the input is pulled, it is as it was too.
 pub record LeavesAll (r : WorkRun) : Type 0 where
   pub written : r.written_now ≡ r.written_before
   pub faults : r.sink_now ≡ r.sink_before
@@ -28,16 +29,17 @@ pub record LeavesUnused (form : Form) (r : WorkRun) : Type 0 where
   pub input : (PullsInput form → ⊥) → KeepsInputAndFaults r.old r.new
   pub disk : (HasImage form → ⊥) → LeavesDisk r.old r.new
   pub announced : (RecordsImage form → ⊥) → r.new.announced ≡ r.old.announced
-  pub memory : PullsInput form → r.answer ≡ outcome.NoMemory → KeepsInputAndFaults r.old r.new
+  pub memory : PullsLast form → r.answer ≡ outcome.NoMemory → KeepsInputAndFaults r.old r.new
   pub bits : PullsBits form → r.new.taken ≤ r.old.taken + most_input_bytes + piece_bytes
+  pub rules : PullsRules form → r.new.taken ≤ r.old.taken + most_rule_bytes + piece_bytes
 
--- A fault of the deck or the sink that is answered was counted by what failed.
+-- A fault of the input, the disk or the sink that is answered was counted by what failed.
 pub record HasCause (r : WorkRun) : Type 0 where
   pub input : r.answer ≡ outcome.ReadFault input.Line → Rose r.old.input_faults r.new.input_faults
   pub write : r.answer ≡ outcome.WriteFault → Rose r.sink_before r.sink_now
   pub disk : r.answer ≡ outcome.DiskFault → Rose r.old.disk_faults r.new.disk_faults
 
--- the input may have failed once what was read of it couldn't all be written or recorded
+-- The work ended in a way before which the input may have failed: what was read of it couldn't all be written or recorded.
 abbrev pub IsCutWork : Ending → Type 0
 IsCutWork all_done = ⊥
 IsCutWork input_ended = ⊥
@@ -46,12 +48,12 @@ IsCutWork input_without_cells = ⊥
 IsCutWork output_cut = Unit {0}
 IsCutWork recording_cut = Unit {0}
 
--- the answers that may come in place of a fault of the input
+-- The answer may come in place of a fault of the input that was met before.
 abbrev pub CoversInputFault : Outcome → Type 0
 CoversInputFault answer = IsWorkEnded IsCutWork (stage_of answer)
 
--- an answer that may come in place of a fault of the sink: where the disk fails, what a command listed of the blocks before is
--- still written
+-- The answer may come in place of a fault of the sink: where the disk fails, what a command listed of the blocks before is still
+-- written.
 abbrev pub CoversSinkFault : Form → Outcome → Type 0
 CoversSinkFault form answer = ListsBlocks form × (answer ≡ outcome.DiskFault)
 

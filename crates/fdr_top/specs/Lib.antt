@@ -21,6 +21,10 @@ pub mod SessionsTaken
 pub mod Record
 pub mod List
 pub mod Drill
+pub mod Salvage
+pub mod Exceed
+pub mod Exceeding
+pub mod ExceedSound
 pub mod Coding
 pub mod Leaves
 pub mod Complete

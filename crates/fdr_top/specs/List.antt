@@ -17,11 +17,12 @@ use Rattle.fdr_top.specs.declared.listing.ImageReader.{ImageReader}
 use Rattle.fdr_top.specs.declared.outcome.Outcome.{Outcome}
 use Rattle.fdr_top.specs.declared.outcome.Outcome.TheVariants as outcome
 
--- the listing of the blocks of an image's run
+-- the listing of an image by a table: that of the blocks of its recovered run, by its version
 abbrev pub listing_in : TableRows → List ℕ → List ℕ
 listing_in t image = listing_of_blocks t (header_in image).version (run_in image)
 
--- The image was listed: what was written, and which refusal is answered.
+-- What `list` promises: how much of the image's listing was written, that the disk was only looked at, that the image was one for
+-- the table's words, and which refusal is answered.
 pub record ListsImage (t : TableRows) (tells : Tells) (old new : State) (written_before written_now : Option (List ℕ)) (answer : Outcome) : Type 0 where
   pub looks : OnlyLooks tells old new
   pub text : answer ≡ outcome.Done → IsTrue tells.bytes → written_now ≡ followed_by written_before (listing_in t old.held)
@@ -37,13 +38,13 @@ pub record IsOpened (t : TableRows) (tells : Tells) (old new : State) (r : Image
   pub image : IsTrue tells.bytes → IsFor t.frame.words old.held
   pub fresh : ReadsEvents t r.events (decided_past t.frame.words [])
 
--- the answer where no header for the table's frames is answered
+-- the answer where reading an image's header for the table's frames ends with this fault
 abbrev pub opening_refusal : HeaderFault → Outcome
 opening_refusal (header.Image why) = outcome.ImageRefused why
 opening_refusal (header.WordsDiffer image table) = outcome.WordsDiffer image table
 opening_refusal header.DiskFault = outcome.DiskFault
 
--- the answers where no image is opened
+-- The answer is one where no image is opened.
 abbrev pub RefusesOpening : Outcome → Type 0
 RefusesOpening outcome.Done = ⊥
 RefusesOpening outcome.Usage = ⊥
@@ -60,3 +61,4 @@ RefusesOpening outcome.TooLong = ⊥
 RefusesOpening outcome.NoMemory = Unit {0}
 RefusesOpening outcome.OldVersion = ⊥
 RefusesOpening (outcome.CellFault at) = ⊥
+RefusesOpening (outcome.RuleRefused row f) = ⊥

@@ -1,5 +1,5 @@
 -- What `listbits` promises: the listing of all bits of the input.
-use Rattle.std.specs.Prelude.{◌≡◌, ℕ, ◌+◌, ◌-◌, ◌<◌, ◌≤◌, ◌⊎◌, List, length, take, Option}
+use Rattle.std.specs.Prelude.{◌≡◌, ℕ, ◌+◌, ◌<◌, ◌≤◌, ◌⊎◌, List, length, Option}
 use Rattle.fdr_io.specs.Told.{followed_by}
 use Rattle.fdr_deck.specs.State.{State, Tells}
 use Rattle.fdr_table.specs.Rows.{TableRows}
@@ -10,14 +10,15 @@ use Rattle.fdr_top.specs.InputTexts.{WritesOfInput}
 use Rattle.fdr_top.specs.declared.outcome.Outcome.{Outcome}
 use Rattle.fdr_top.specs.declared.outcome.Outcome.TheVariants as outcome
 
--- At least as many bytes were written as the lines have of the events that these bytes decide.
+-- Lines are written as they are decided: at least as many bytes were written as the lines have of the events that these bytes
+-- decide.
 pub record HasWrittenDecided (t : TableRows) (bytes : List ℕ) (written_before written_now : Option (List ℕ)) : Type 0 where
   pub gone : List ℕ
   pub written : written_now ≡ followed_by written_before gone
   pub enough : length (decided_listing t bytes) ≤ length gone
 
--- The input was listed: what was pulled, and what of it was written. It was written as it was decided: also where writing fails, all
--- that was decided before the last pull that gave bytes.
+-- What `listbits` promises: what was pulled, and that its listing was written, or a front part of it. It was written as it was
+-- decided: also where writing fails, all that was decided before the last pull that gave bytes.
 pub record ListsInput (t : TableRows) (tells : Tells) (old new : State) (written_before written_now : Option (List ℕ)) (answer : Outcome) : Type 0 where
   pub lists : WritesOfInput (listing_of t) tells old new written_before written_now answer
   pub in_time : answer ≡ outcome.WriteFault

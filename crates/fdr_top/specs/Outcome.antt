@@ -2,11 +2,12 @@
 use Rattle.std.specs.Prelude.{ℕ, List, [], ◌++◌, codes, decimal}
 use Rattle.fdr_io.specs.declared.Input.{Input}
 use Rattle.fdr_io.specs.declared.Input.TheVariants as input
+use Rattle.fdr_exceed.specs.Lines.{fault_of_rules_text}
 use Rattle.fdr_messages.specs.Messages.{image_message, table_message, trace_message, words_message}
 use Rattle.fdr_top.specs.declared.outcome.Outcome.{Outcome}
 use Rattle.fdr_top.specs.declared.outcome.Outcome.TheVariants as outcome
 
--- the exit status of the program
+-- the exit status of the program for an outcome
 abbrev pub status_of : Outcome → ℕ
 status_of outcome.Done = 0
 status_of outcome.Usage = 1
@@ -23,13 +24,14 @@ status_of outcome.TooLong = 11
 status_of outcome.NoMemory = 12
 status_of outcome.OldVersion = 13
 status_of (outcome.CellFault at) = 14
+status_of (outcome.RuleRefused row f) = 17
 
--- which input can't be read
+-- what the program says of an input that can't be read: the table, or standard input
 abbrev pub input_text : Input → List ℕ
 input_text input.Table = codes "fdr: table cannot be read"
 input_text input.Line = codes "fdr: input cannot be read"
 
--- the name of the program
+-- the name of the program: `fdr`
 abbrev pub program_name : List ℕ
 program_name = codes "fdr"
 
@@ -50,3 +52,4 @@ text_of outcome.TooLong = codes "fdr: input too long"
 text_of outcome.NoMemory = codes "fdr: no memory"
 text_of outcome.OldVersion = codes "fdr: image is version 1"
 text_of (outcome.CellFault at) = codes "fdr: no transition at level " ++ decimal at
+text_of (outcome.RuleRefused row f) = codes "fdr: rule row " ++ decimal row ++ codes ": " ++ fault_of_rules_text f

@@ -22,7 +22,8 @@ use Rattle.fdr_recover.specs.Payloads.{payloads_of, run_in}
 use Rattle.fdr_top.specs.declared.outcome.Outcome.{Outcome}
 use Rattle.fdr_top.specs.declared.outcome.Outcome.TheVariants as outcome
 
--- Blocks of these records were recorded, all of them or up to the last number by the answer.
+-- Blocks of these records were recorded, all of them or up to the last number, by the answer: `RecordsBlocks` says what that
+-- leaves.
 abbrev pub RecordsStream : TableRows → Tells → List BusRecord → State → State → Outcome → Type 0
 RecordsStream t tells records old new answer = RecordsBlocks t tells records old new (EndsRecording answer) (answer ≡ outcome.SeqEnd)
 
@@ -30,16 +31,16 @@ RecordsStream t tells records old new answer = RecordsBlocks t tells records old
 abbrev pub ListsSurvivors : TableRows → List BusRecord → Type 0
 ListsSurvivors t records = (b : List ℕ) (q j m : ℕ) → Survives t records b q j m → AreListed t records b q j m
 
--- A recording of these records in an image that has room for it is the last session of the held run, and lists as what was
--- sampled, whatever the image held before.
+-- A recording of these records in an image that has room for it is the last session of the run that the disk holds, and lists as
+-- what was sampled, whatever the image held before.
 abbrev pub ListsUndamaged : TableRows → Tells → List BusRecord → State → State → Type 0
 ListsUndamaged t tells records old new = IsTrue tells.bytes → 0 < length (new_blocks t old.held records)
     → length (new_blocks t old.held records) ≤ (header_in old.held).slots - 1
     → IsLastSession (new_blocks t old.held records) (run_in new.held)
     × (listing_of t (payloads_of (new_blocks t old.held records)) ≡ sampled_listing t records)
 
--- All that `record` promises of a table: the recording of the trace of which these bytes were pulled, which refusal of the image
--- is answered, how the trace ended, and that what was recorded can be read back.
+-- What `record` promises: the recording of the trace of which these bytes were pulled, which refusal of the image is answered,
+-- that what is owed is announced at each moment, how the trace ended, and that what was recorded can be read back.
 pub record RecordsTrace (t : TableRows) (tells : Tells) (old new : State) (answer : Outcome) : Type 0 where
   pub pulled : List ℕ
   pub pulls : PullsUntilDecided tells old new [] pulled

@@ -3,8 +3,8 @@ use Rattle.std.specs.Prelude.{ℕ, List, Option}
 use Rattle.fdr_deck.specs.State.{State, Tells}
 use Rattle.fdr_top.specs.declared.outcome.Outcome.{Outcome}
 
--- What the work of a command saw: what the deck tells, its states before and after, what was written to the sink and how many
--- faults it had counted before and after, and the answer.
+-- what the work of a command saw: what the deck tells, its states before and after, what was written to the sink and how many
+-- faults the sink had counted before and after, and the answer
 pub record WorkRun : Type 1 where
   pub tells : Tells
   pub old : State
@@ -15,8 +15,8 @@ pub record WorkRun : Type 1 where
   pub sink_now : ℕ
   pub answer : Outcome
 
--- What a command saw: the same, and of the table's source the bytes that were left, where it tells them, and the count of
--- faults, before and after.
+-- what a command saw: what its work saw, and of the table's source the bytes that were left, where it tells them, and the count
+-- of faults, before and after
 pub record CommandRun : Type 1 where
   pub rest_before : Option (List ℕ)
   pub rest_now : Option (List ℕ)

@@ -10,20 +10,20 @@ use Rattle.fdr_readout.specs.Entries.{Entry, LineEntry}
 use Rattle.fdr_readout.specs.Taken.{HasTaken}
 use Rattle.fdr_top.specs.Sessions.{session_entries, session_line, sessions_of}
 
--- The blocks whose bits are read after these blocks, and the sessions before them. No session is open in version 1, where all
--- blocks are read together, and before the first block; else the last session is, by its number.
+-- Of the blocks that came, these are the ones whose bits are read now, and those the sessions before them. No session is open in
+-- version 1, where all blocks are read together, and before the first block; else the last session is, by its number.
 abbrev pub IsOpenSession : ℕ → List Block → Option ℕ → List (List Block) → List Block → Type 0
 IsOpenSession version blocks None closed current = (version ≡ 2 → blocks ≡ []) × (current ≡ blocks)
 IsOpenSession version blocks (Some number) closed current =
     (version ≡ 2) × (0 < length current) × (last_session current ≡ number) × (sessions_of blocks ≡ closed ++ current ∷ [])
 
--- what comes before the bits of the open session: the sessions before it, and its line
+-- the entries that come before the bits of the open session: those of the sessions before it, and its line
 abbrev pub entries_before : TableRows → Option ℕ → List (List Block) → List Block → List Entry
 entries_before t None closed current = []
 entries_before t (Some number) closed current = flat_map (session_entries t) closed ++ LineEntry (session_line current) ∷ []
 
--- These blocks came, of which a session is open, and since the taker and the sink were as they were at first the taker took all
--- that the blocks decide, as far as nothing that follows changes it.
+-- These blocks came, and since the taker and the sink were as they were at first the taker took all that the blocks decide,
+-- session by session, as far as nothing that follows changes it.
 pub record HasTakenBlocks {S O : Type 0} (took : TableRows → S → O → S → O → List Entry → Type 0) (t : TableRows) (version : ℕ)
     (open_session : Option ℕ) (r : EventReader) (blocks : List Block) (first : S) (out_first : O) (now : S) (out_now : O) : Type 0 where
   pub closed : List (List Block)
@@ -34,7 +34,8 @@ pub record HasTakenBlocks {S O : Type 0} (took : TableRows → S → O → S →
   pub before : took t first out_first mid out_mid (entries_before t open_session closed current)
   pub bits : HasTaken took t r (payloads_of current) mid out_mid now out_now
 
--- The same, and one more block comes, whose session is open: its bits are still to be read.
+-- These blocks came, the taker took all that they decide, and one more block comes, whose session is open: its bits are still to
+-- be read.
 pub record HasBegunBlock {S O : Type 0} (took : TableRows → S → O → S → O → List Entry → Type 0) (t : TableRows) (version : ℕ)
     (open_session : Option ℕ) (r : EventReader) (blocks : List Block) (b : Block) (first : S) (out_first : O) (now : S) (out_now : O)
     : Type 0 where

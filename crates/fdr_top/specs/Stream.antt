@@ -17,12 +17,12 @@ use Rattle.fdr_top.specs.Traces.{EndsTrace}
 use Rattle.fdr_top.specs.declared.outcome.Outcome.{Outcome}
 use Rattle.fdr_top.specs.declared.outcome.Outcome.TheVariants as outcome
 
--- a front part of the recording of all good records that the input has was written
+-- A front part of the recording of all good records that the input has was written.
 abbrev pub WritesStreamPart : TableRows → State → Option (List ℕ) → Option (List ℕ) → Type 0
 WritesStreamPart t d before now = (k : ℕ) × (now ≡ followed_by before (take k (stream_of t (good_prefix d.input))))
 
--- Of the input these bytes were pulled as those of a trace, and of the stream of their good records a front part was
--- written, all of it but where the answer is a fault of writing.
+-- Of the input these bytes were pulled as those of a trace, and of the recording of their good records a front part was written,
+-- all of it but where the answer is a fault of writing.
 pub record Streams (t : TableRows) (tells : Tells) (old new : State) (written_before written_now : Option (List ℕ)) (answer : Outcome) : Type 0 where
   pub pulled : List ℕ
   pub pulls : PullsUntilDecided tells old new [] pulled
@@ -30,7 +30,8 @@ pub record Streams (t : TableRows) (tells : Tells) (old new : State) (written_be
   pub part : (k : ℕ) × (written_now ≡ followed_by written_before (take k (stream_of t (good_prefix pulled))))
   pub ends : EndsTrace tells old new pulled answer
 
--- The trace was recorded: what was pulled, what was written, that it lists back, and which refusal is answered.
+-- What `stream` promises: what was pulled of the trace, that the recording of its good records was written, or a front part of
+-- it, that this lists back as what was sampled, and which refusal is answered.
 pub record StreamsTrace (t : TableRows) (tells : Tells) (old new : State) (written_before written_now : Option (List ℕ)) (answer : Outcome) : Type 0 where
   pub streams : Streams t tells old new written_before written_now answer
   pub whole : answer ≡ outcome.Done → IsTrue tells.input

@@ -23,31 +23,31 @@ use Rattle.fdr_stream.specs.Blocks.{due_blocks}
 use Rattle.fdr_stream.specs.Kept.{StreamKept}
 use Rattle.fdr_stream.specs.Past.{StreamPast, stream_made, RepresentsStream}
 
--- these records were taken, and the blocks of 4,096 bytes that are due at them were given
+-- the past of a stream to which these records were fed, and which gave the blocks of 4,096 bytes that are due at them
 abbrev pub past_of : TableRows → List BusRecord → StreamPast
 past_of t records = record { table = t; payload = most_payload_bytes; records = records; begun = None; blocks = due_blocks t most_payload_bytes records }
 
--- the text of these blocks
+-- the bytes of the blocks of 4,096 bytes that are due at these records
 abbrev pub due_text : TableRows → List BusRecord → List ℕ
 due_text t records = take (most_payload_bytes * due_blocks t most_payload_bytes records) (stream_of t records)
 
--- The records were fed, and all blocks that are due were written.
+-- These records were fed to the stream, and all blocks that are due were written.
 pub record IsStreamed (k : StreamKept) (t : TableRows) (records : List BusRecord) (written_before written_now : Option (List ℕ)) : Type 0 where
   pub stands : RepresentsStream k (past_of t records)
   pub written : written_now ≡ followed_by written_before (due_text t records)
 
--- The record comes next in time, and no end was fed.
+-- The record comes next in time after these, it is in time, and no end was fed.
 pub record ComesNext (records : List BusRecord) (r : BusRecord) : Type 0 where
   pub order : time_of records ≤ r.time
   pub in_time : r.time ≤ last_time
   pub unended : has_end records ≡ false
 
--- Nothing was pulled of the trace and nothing drawn.
+-- Nothing was pulled of the trace, and nothing drawn.
 pub record IsUnbegun (r : Recording) (t : TableRows) : Type 0 where
   pub trace : RepresentsTrace r.trace [] []
   pub stream : RepresentsStream r.stream (stream_made t most_payload_bytes)
 
--- the good records of these bytes were fed, and the answer is why there are no more
+-- The good records of these bytes were fed to the stream and their due blocks written, and the answer is why there are no more.
 pub record IsStreamedTo (t : TableRows) (tells : Tells) (old new : State) (k : StreamKept) (written_before written_now : Option (List ℕ)) (answer : Outcome)
     : Type 0 where
   pub pulled : List ℕ
@@ -62,7 +62,7 @@ pub record IsStreamedTo (t : TableRows) (tells : Tells) (old new : State) (k : S
   pub cause : answer ≡ outcome.ReadFault input.Line → Rose old.input_faults new.input_faults
   pub no_fault : answer ≢ outcome.ReadFault input.Line → new.input_faults ≡ old.input_faults
 
--- a front part of the stream of these bytes' good records was written
+-- A front part of the recording of these bytes' good records was written.
 pub record IsStreamedPart (t : TableRows) (tells : Tells) (old new : State) (written_before written_now : Option (List ℕ)) : Type 0 where
   pub pulled : List ℕ
   pub pulls : PullsUntilDecided tells old new [] pulled

@@ -14,17 +14,18 @@ use Rattle.fdr_io.specs.Limits.{piece_bytes}
 use Rattle.fdr_top.specs.declared.outcome.Outcome.{Outcome}
 use Rattle.fdr_top.specs.declared.outcome.Outcome.TheVariants as outcome
 
--- the answer where a source gives no table
+-- the answer where a source gives no table, for this reason
 abbrev pub load_answer : LoadFault → Outcome
 load_answer (load.Refused row f) = outcome.TableRefused row f
 load_answer load.Failed = outcome.ReadFault input.Table
 load_answer load.NoMemory = outcome.NoMemory
 
--- this holds of the table that was read, which is that of the source's bytes where it tells them
+-- The statement holds of the table that was read, which is that of the source's bytes where it tells them.
 abbrev pub ByTable : Option (List ℕ) → (TableRows → Type 0) → Type 0
 ByTable rest P = (t : TableRows) × ((bytes : List ℕ) → rest ≡ Some bytes → t ≡ table_in bytes) × P t
 
--- How the answer of a command goes with the table that it reads.
+-- How the answer of a command goes with the table that it reads: which fault is named, how much was taken of the source, and that
+-- past it the table was accepted.
 pub record ReadsItsTable (old new : Option (List ℕ)) (answer : Outcome) : Type 0 where
   pub refused : (row : ℕ) (f : TableFault) (bytes : List ℕ) → answer ≡ outcome.TableRefused row f → old ≡ Some bytes
       → IsTableRefused bytes row f

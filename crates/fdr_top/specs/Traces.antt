@@ -9,7 +9,8 @@ use Rattle.fdr_top.specs.Stages.{EndsReading}
 use Rattle.fdr_top.specs.declared.outcome.Outcome.{Outcome}
 use Rattle.fdr_top.specs.declared.outcome.Outcome.TheVariants as outcome
 
--- how a trace ended, of which these bytes were pulled, by the answer
+-- How a trace ended, of which these bytes were pulled, by the answer: by its end record, its first fault, or a read that failed
+-- before it was decided. Once it is decided, no fault of the input is met.
 pub record EndsTrace (tells : Tells) (old new : State) (pulled : List ℕ) (answer : Outcome) : Type 0 where
   pub ended : answer ≡ outcome.Done → has_end (good_prefix pulled) ≡ true
   pub refused : (index : ℕ) (why : TraceFault) → answer ≡ outcome.TraceRefused index why

@@ -11,23 +11,26 @@ use Rattle.fdr_top.specs.Refusals.{RefusesHeader}
 use Rattle.fdr_top.specs.declared.outcome.Outcome.{Outcome}
 use Rattle.fdr_top.specs.declared.outcome.Outcome.TheVariants as outcome
 
--- what a stop leaves of an image by whose header this is the version: the same image, or in version 1 the image with any byte at place 1
+-- What a stop leaves of an image by whose header this is the version: the same image, or in version 1 the image with any byte at
+-- place 1.
 abbrev pub VersionStop : ℕ → List ℕ → List ℕ → Type 0
 VersionStop version old image = (image ≡ old) ⊎ ((version ≡ 1) × Torn 1 1 old image)
 
--- What a stop in `upgrade` leaves of an image: the same image, or, where its header reads as version 1, the image with any byte at place 1.
+-- What a stop in `upgrade` leaves of an image: the same image, or, where its header reads as version 1, the image with any byte
+-- at place 1.
 abbrev pub UpgradingStop : List ℕ → List ℕ → Type 0
 UpgradingStop old image = (image ≡ old) ⊎ ((image_fault_of old ≡ None) × ((header_in old).version ≡ 1) × Torn 1 1 old image)
 
--- the image with the byte of version 2, where it is of version 1
+-- the image of this version with the byte of version 2, where it is of version 1
 abbrev pub image_upgraded_from : ℕ → List ℕ → List ℕ
 image_upgraded_from version image = if version == 1 then patched 1 (version_byte 2 ∷ []) image else image
 
--- the image in version 2
+-- the image in version 2: with the byte of version 2, where its header says version 1
 abbrev pub upgraded : List ℕ → List ℕ
 upgraded image = image_upgraded_from (header_in image).version image
 
--- The image was upgraded, or the answer says why it wasn't.
+-- What `upgrade` promises: what a stop leaves at each moment, that the recovered run keeps its numbers and bytes, what the image
+-- is in the end, and which refusal is answered.
 pub record UpgradesImage (tells : Tells) (old new : State) (answer : Outcome) : Type 0 where
   -- Nothing is announced and nothing pulled; where the disk was settled, that is all that a stop leaves at any moment.
   pub disk_work : IsDiskWork tells (OfSettled old UpgradingStop) old new

@@ -29,7 +29,7 @@ use fdr_slot::Header;
 use std::alloc::Global;
 
 /// The words in a subframe by a table.
-fn words_of(sound: &Sound) -> u32
+pub(crate) fn words_of(sound: &Sound) -> u32
     ensures { result ≡ sound.now.frame.words }
 {
     sound.table().frame().words

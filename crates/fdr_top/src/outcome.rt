@@ -4,6 +4,7 @@ ghost use Rattle.std.specs.Prelude.{◌≡◌, ◌≤◌, length};
 ghost use Rattle.fdr_top.specs.Outcome.{status_of, text_of, input_text};
 
 use fdr_bus::TraceFault;
+use fdr_exceed::{RuleFault, rule_fault_text};
 use fdr_io::Input;
 use fdr_line::Line;
 use fdr_messages::{image_message, table_message, trace_message, words_message};
@@ -61,6 +62,11 @@ pub enum Outcome {
         /// The place, counted from 0 over all levels.
         at: u64,
     },
+    /// The rules are refused for this fault in this record, counted from 0.
+    RuleRefused {
+        row: u32,
+        fault: RuleFault,
+    },
 }
 
 impl Outcome {
@@ -84,6 +90,7 @@ impl Outcome {
             Outcome::NoMemory => 12,
             Outcome::OldVersion => 13,
             Outcome::CellFault { .. } => 14,
+            Outcome::RuleRefused { .. } => 17,
         }
     }
 
@@ -111,6 +118,12 @@ impl Outcome {
             Outcome::CellFault { at } => {
                 line.add(b"fdr: no transition at level ");
                 line.add_number(*at);
+            }
+            Outcome::RuleRefused { row, fault } => {
+                line.add(b"fdr: rule row ");
+                line.add_number(u64::from(*row));
+                line.add(b": ");
+                line.add(rule_fault_text(*fault).bytes());
             }
         }
         line

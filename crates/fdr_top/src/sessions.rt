@@ -8,6 +8,7 @@ ghost use Rattle.fdr_recover.specs.Blocks.{Block};
 ghost use Rattle.fdr_recover.specs.Images.{blocks_between, recovered_run};
 ghost use Rattle.fdr_recover.specs.Looks.{Looks};
 ghost use Rattle.fdr_recover.specs.Payloads.{payloads_of};
+ghost use Rattle.fdr_resync.specs.Past.{ScannerPast};
 ghost use Rattle.fdr_readout.specs.Entries.{Entry};
 ghost use Rattle.fdr_readout.specs.Reading.{ReadsEvents, decided_past};
 ghost use Rattle.fdr_top.specs.Sessions.{entries_of_blocks, session_text};
@@ -128,6 +129,9 @@ fn end_blocks<O: Sink, T: Taker<O>>(
     ensures cause { OnErr result (Rose (O.faults out.old) (O.faults out.new)) }
     ensures no_fault { OnOk result (O.faults out.new ≡ O.faults out.old) }
     ensures fault { IsErrOf result BlocksFault.Disk → ⊥ }
+    ensures reads { OnOk result ((past : ScannerPast) × ReadsEvents reader.old.table.now reader.new.events past) }
+    ensures table { reader.new.table ≡ reader.old.table }
+    ensures version { reader.new.version ≡ reader.old.version }
 {
     match take_rest(&mut reader.events, reader.table, &mut reader.taker, out) {
         Ok(()) => Ok(()),
@@ -168,6 +172,9 @@ pub fn take_between<D: Deck, O: Sink, T: Taker<O>>(
     ensures write_fault { IsErrOf result BlocksFault.Taker → Rose (O.faults out.old) (O.faults out.new) }
     ensures no_fault { OnOk result (O.faults out.new ≡ O.faults out.old) }
     ensures looks { Looks D.tells (D.state deck.old) (D.state deck.new) }
+    ensures reads { OnOk result ((past : ScannerPast) × ReadsEvents blocks.old.table.now blocks.new.events past) }
+    ensures table { OnOk result (blocks.new.table ≡ blocks.old.table) }
+    ensures version { OnOk result (blocks.new.version ≡ blocks.old.version) }
 {
     walk_between(deck, header, first, next, blocks, out)?;
     end_blocks(blocks, out)

@@ -4,7 +4,7 @@ ghost use Rattle.std.specs.Prelude.{ℕ, List, ◌≡◌, ◌↔◌, map, string
 ghost use Rattle.fdr_recover.specs.ImageHeader.{image_fault_of};
 ghost use Rattle.fdr_readout.specs.Listing.{ListsEvents};
 ghost use Rattle.fdr_top.specs.Recover.{HasOneRun};
-ghost use Rattle.fdr_words.specs.Forms.{form_of, IsInBounds};
+ghost use Rattle.fdr_words.specs.Forms.{command_uses, form_of, IsInBounds};
 ghost use Rattle.fdr_top.specs.Stages.{EndsBeforeDeck};
 ghost use Rattle.fdr_top.specs.Answers.{ReadsTable, UsesDeck, WritesText, ReadsImage};
 ghost use Rattle.fdr_top.specs.Commands.{Works, RunsCommand};
@@ -12,13 +12,14 @@ ghost use Rattle.fdr_table.specs.Ranges.{IsInRange};
 ghost use Rattle.fdr_check.specs.Soundness.{IsSound};
 ghost use Rattle.fdr_frame.specs.WordCount.{IsWordCount};
 ghost use Rattle.fdr_words.specs.Request.{form_of_request};
-ghost use Rattle.fdr_top.specs.Refusals.{HasHeader};
+ghost use Rattle.fdr_top.specs.Refusals.{IsReadable};
 ghost use Rattle.fdr_table.specs.Rows.{TableRows};
 
 use crate::checking::write_report;
 use crate::decoding::decode;
 use crate::drilling::drill;
 use crate::encoding::encode;
+use crate::exceeding::exceed;
 use crate::formatting::format;
 use crate::list_bits::listbits;
 use crate::listing::list;
@@ -26,6 +27,7 @@ use crate::load::load_table;
 use crate::outcome::Outcome;
 use crate::recording::record;
 use crate::recovering::recover;
+use crate::salvaging::salvage;
 use crate::streaming::stream;
 use crate::upgrading::upgrade;
 use fdr_check::Sound;
@@ -60,7 +62,7 @@ fn work<D: Deck, O: Sink>(
     ensures deck_unused { (UsesDeck (form_of_request request.now) → ⊥) → deck.new ≡ deck.old }
     ensures sink_unused { (WritesText (form_of_request request.now) → ⊥) → out.new ≡ out.old }
     ensures memory { ReadsImage (form_of_request request.now) → result ≡ Outcome.NoMemory
-        → (deck.new ≡ deck.old) ⊎ HasHeader D.tells (D.state deck.old) (D.state deck.new) }
+        → (deck.new ≡ deck.old) ⊎ IsReadable (command_uses (form_of_request request.now)).ring D.tells (D.state deck.old) (D.state deck.new) }
 {
     match request {
         Request::CheckTable { .. } => write_report(alloc, sound, out),
@@ -69,6 +71,8 @@ fn work<D: Deck, O: Sink>(
         Request::FormatImage { slots, payload, .. } => format(sound, *slots, *payload, deck),
         Request::RecordLine { .. } => record(alloc, sound, deck),
         Request::ListImage { .. } => list(alloc, sound, deck, out),
+        Request::Salvage { ring, .. } => salvage(alloc, sound, *ring, deck, out),
+        Request::Exceed { .. } => exceed(alloc, sound, deck, out),
         Request::Drill { seed, frames, .. } => drill(alloc, sound, *seed, *frames, deck, out),
         Request::Encode
         | Request::Decode
@@ -107,7 +111,7 @@ fn carry_out<T: Source, D: Deck, O: Sink>(
     ensures deck_unused { (UsesDeck (form_of_request request.now) → ⊥) → deck.new ≡ deck.old }
     ensures sink_unused { (WritesText (form_of_request request.now) → ⊥) → out.new ≡ out.old }
     ensures memory { ReadsImage (form_of_request request.now) → result ≡ Outcome.NoMemory
-        → (deck.new ≡ deck.old) ⊎ HasHeader D.tells (D.state deck.old) (D.state deck.new) }
+        → (deck.new ≡ deck.old) ⊎ IsReadable (command_uses (form_of_request request.now)).ring D.tells (D.state deck.old) (D.state deck.new) }
 {
     match request {
         Request::Encode => encode(alloc, deck, out),
@@ -133,6 +137,9 @@ fn carry_out<T: Source, D: Deck, O: Sink>(
 /// - `recover IMAGE` writes the payloads of the blocks that the image holds.
 /// - `upgrade IMAGE` makes an image of version 1 one of version 2, in which can be recorded.
 /// - `list TABLE IMAGE` writes the listing of the bits of these payloads.
+/// - `salvage TABLE IMAGE` writes the listing of every run of blocks that the image still holds, read by its header, or by slots
+///   and their payload where they are given.
+/// - `exceed TABLE IMAGE` pulls rules, and writes the lines of their exceedances in the image's blocks.
 /// - `drill TABLE IMAGE` records a generated trace in the image, and writes a line of what the image then lists as.
 ///
 /// `table` gives the bytes of the table. Each answer says what was done; its clauses say when it comes and what it leaves.
@@ -167,9 +174,9 @@ pub fn run<T: Source, D: Deck, O: Sink>(
       };
     })) }
 
-    // Memory ends before the disk is asked for anything, or once the header of its image is known to be good.
+    // Memory ends before the disk is asked for anything, or once it is known that its image can be read.
     ensures memory { result ≡ Outcome.NoMemory → IfSome (form_of (map string_bytes args.now)) (λ form. ReadsImage form
-        → (deck.new ≡ deck.old) ⊎ HasHeader D.tells (D.state deck.old) (D.state deck.new)) }
+        → (deck.new ≡ deck.old) ⊎ IsReadable (command_uses form).ring D.tells (D.state deck.old) (D.state deck.new)) }
 
     // What it doesn't use isn't asked for anything.
     ensures deck_untouched { EndsBeforeDeck result → deck.new ≡ deck.old }

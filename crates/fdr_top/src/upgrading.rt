@@ -24,7 +24,7 @@ use fdr_slot::Header;
 const VERSION_AT: u64 = 1;
 
 /// That byte in version 2.
-const VERSION_2: u8 = 0xa5;
+pub(crate) const VERSION_2: u8 = 0xa5;
 
 /// Writes the byte of version 2 in an image with a header of version 1, and makes the disk durable.
 fn write_version<D: Deck>(deck: &mut D, header: &Header) -> Result<(), Failed>

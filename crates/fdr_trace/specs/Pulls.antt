@@ -5,7 +5,7 @@ use Rattle.fdr_bus.specs.Records.{IsDecided}
 use Rattle.fdr_deck.specs.State.{State, Tells}
 use Rattle.fdr_deck.specs.Pull.{IsLastPull, TakesInput}
 
--- one pull that gave these bytes, at most 4,096 of them; none only at the input's end
+-- One pull gave these bytes, the next ones of the input, at most 4,096; there are none only at the input's end.
 pub record PullsPiece (tells : Tells) (old new : State) (piece : List ℕ) : Type 0 where
   pub takes : TakesInput tells old new piece
   pub within_piece : length piece ≤ piece_bytes
@@ -14,8 +14,7 @@ pub record PullsPiece (tells : Tells) (old new : State) (piece : List ℕ) : Typ
   pub end : length piece ≡ 0 → IsTrue tells.input → new.input ≡ []
   pub faults : new.input_faults ≡ old.input_faults
 
--- After these bytes of the trace, more were pulled, at most 4,096 at a time, and none once the bytes before it decided the
--- trace.
+-- After these bytes of the trace, more were pulled, at most 4,096 at a time, and none once the bytes before it decided the trace.
 pub record PullsUntilDecided (tells : Tells) (old new : State) (bytes more : List ℕ) : Type 0 where
   pub takes : TakesInput tells old new more
   pub none : length more ≡ 0 → new.pulled_before ≡ old.pulled_before

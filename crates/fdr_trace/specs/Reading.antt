@@ -10,7 +10,8 @@ use Rattle.fdr_trace.specs.declared.TraceStop.{TraceStop}
 use Rattle.fdr_trace.specs.declared.TraceStop.TheVariants as stop
 use Rattle.fdr_trace.specs.Kept.{TraceKept}
 
--- The value stands where these bytes were pulled, and these records of them were read: good ones, with no end among them.
+-- What the reader keeps stands where these bytes were pulled, and these records of them were read: good ones, with no end among
+-- them.
 pub record RepresentsTrace (k : TraceKept) (bytes : List ℕ) (records : List BusRecord) : Type 0 where
   pub read : List ℕ
   pub split : bytes ≡ read ++ k.waiting
@@ -19,26 +20,28 @@ pub record RepresentsTrace (k : TraceKept) (bytes : List ℕ) (records : List Bu
   pub time : k.time ≡ time_of records
   pub count : k.count ≡ length records
 
--- Of these bytes the record comes after those records. More can follow it where it isn't the end.
+-- The record comes in these bytes after those records. More can follow it where it isn't the end.
 pub record IsNextRecord (k : TraceKept) (bytes : List ℕ) (records : List BusRecord) (r : BusRecord) : Type 0 where
   pub order : time_of records ≤ r.time
   pub in_time : r.time ≤ last_time
   pub more : is_end r ≡ false → RepresentsTrace k bytes (records ++ r ∷ [])
   pub ends : is_end r ≡ true → good_prefix bytes ≡ records ++ r ∷ []
 
--- The trace is refused after these records, which are all the good ones of these bytes.
+-- The trace is refused for this fault of the record with this index, after these records, which are all the good ones of these
+-- bytes.
 pub record IsTraceRefused (tells : Tells) (new : State) (bytes : List ℕ) (records : List BusRecord) (index : ℕ) (why : TraceFault) : Type 0 where
   pub good : good_prefix bytes ≡ records
   pub first : trace_fault bytes ≡ Some (index, why)
   pub end : why ≡ fault.Truncated → IsTrue tells.input → new.input ≡ []
 
--- No more could be pulled after these records, which are all the good ones of these bytes and don't decide the trace.
+-- No more could be pulled after these records, since a pull failed. They are all the good ones of these bytes, which don't decide
+-- the trace.
 pub record IsCutOff (old new : State) (bytes : List ℕ) (records : List BusRecord) : Type 0 where
   pub good : good_prefix bytes ≡ records
   pub undecided : IsDecided bytes → ⊥
   pub cause : Rose old.input_faults new.input_faults
 
--- why no record comes after these
+-- No record comes after these, for this reason: the trace is refused, or a pull failed.
 abbrev pub IsTraceStopped : Tells → State → State → List ℕ → List BusRecord → TraceStop → Type 0
 IsTraceStopped tells old new bytes records (stop.Refused index why) = IsTraceRefused tells new bytes records index why
 IsTraceStopped tells old new bytes records stop.Failed = IsCutOff old new bytes records

@@ -9,6 +9,7 @@ use Rattle.fdr_twin.specs.Rest.{PairElapses, StaysOn, LeavesSide, IsCounted, Cou
 IsSameDisk-here : (d : Disk) → IsSameDisk d d
 IsSameDisk-here d = record { extent = refl; held = refl; no_more = λ image is. is; no_less = λ image is. is; faults = refl }
 
+-- A disk that is as it was, twice in a row, is as it was at first.
 pub IsSameDisk-then : (a b c : Disk) → IsSameDisk a b → IsSameDisk b c → IsSameDisk a c
 IsSameDisk-then a b c one two = record {
   extent = two.extent ∙ one.extent;
@@ -18,6 +19,7 @@ IsSameDisk-then a b c one two = record {
   faults = two.faults ∙ one.faults;
 }
 
+-- Time goes on where nothing is done: the moments since a time are those from before.
 pub PairElapses-here : (p : Pair) → ((earlier t : ℕ) (m : PairMoment) → earlier ≤ t → t ≤ p.clock → p.since t m → p.since earlier m) → PairElapses p p
 PairElapses-here p falls = record {
   later = omega arith;
@@ -26,6 +28,7 @@ PairElapses-here p falls = record {
   no_more = λ t m le since. inl since;
 }
 
+-- Where time goes on twice in a row, it goes on from the first to the last.
 pub PairElapses-then : (old mid new : Pair) → PairElapses old mid → PairElapses mid new → PairElapses old new
 PairElapses-then old mid new first second =
     let step : (t : ℕ) → t ≤ old.clock → t ≤ mid.clock = λ t le. omega (arith, le, first.later) in
@@ -43,6 +46,7 @@ PairElapses-then old mid new first second =
           (second.no_more t m (step t le) since);
     }
 
+-- A side is left where nothing is done.
 pub LeavesSide-here : (side : Side) (p : Pair) → LeavesSide side p p
 LeavesSide-here side p = record { disk = IsSameDisk-here (disk_on side p); moments = λ m since. inl since }
 
@@ -53,6 +57,7 @@ StaysOn-before side old mid m same stays = record {
   faults = stays.faults ∙ same.faults;
 }
 
+-- A side that is left twice in a row is left from the first to the last.
 pub LeavesSide-then : (side : Side) (old mid new : Pair)
     → ((earlier t : ℕ) (m : PairMoment) → earlier ≤ t → t ≤ mid.clock → mid.since t m → mid.since earlier m)
     → PairElapses old mid → PairElapses mid new → LeavesSide side old mid → LeavesSide side mid new → LeavesSide side old new
@@ -88,7 +93,7 @@ CountsSide-then side old mid new falls time more first second = record {
     early m was = ⊎_elim (λ known. inl known)
         (λ counted. inr (record { least = counted.least; greatest = omega (arith, counted.greatest, second.faults) })) was
 
--- a twin has its own rest
+-- Where nothing is done, a twin has the same rest.
 pub HasSameRest-here : (p : Pair) → ((earlier t : ℕ) (m : PairMoment) → earlier ≤ t → t ≤ p.clock → p.since t m → p.since earlier m) → HasSameRest p p
 HasSameRest-here p falls = record {
   turned = refl;
@@ -98,7 +103,7 @@ HasSameRest-here p falls = record {
   time = PairElapses-here p falls;
 }
 
--- what is the same from twin to twin is the same from the first to the last
+-- What leaves the same rest twice in a row leaves it from the first to the last.
 pub HasSameRest-then : (old mid new : Pair) → ((earlier t : ℕ) (m : PairMoment) → earlier ≤ t → t ≤ mid.clock → mid.since t m → mid.since earlier m)
     → HasSameRest old mid → HasSameRest mid new → HasSameRest old new
 HasSameRest-then old mid new falls first second = record {

@@ -4,7 +4,7 @@ use Rattle.fdr_deck.specs.State.{State, Moment}
 use Rattle.fdr_twin.specs.declared.side.Side.{Side}
 use Rattle.fdr_twin.specs.Pair.{Pair, PairMoment, Disk}
 
--- two states of a deck that mean the same
+-- Two states of a deck mean the same: all that is said of one holds of the other.
 pub record IsSameState (a b : State) : Type 0 where
   pub extent : b.extent ≡ a.extent
   pub held : b.held ≡ a.held
@@ -22,7 +22,7 @@ pub record IsSameState (a b : State) : Type 0 where
   pub disk_faults : b.disk_faults ≡ a.disk_faults
   pub input_faults : b.input_faults ≡ a.input_faults
 
--- a disk is as it was, and so is its count of faults
+-- A disk is as it was, and so is its count of faults.
 pub record IsSameDisk (old new : Disk) : Type 0 where
   pub extent : new.extent ≡ old.extent
   pub held : new.held ≡ old.held
@@ -30,7 +30,7 @@ pub record IsSameDisk (old new : Disk) : Type 0 where
   pub no_less : (image : List ℕ) → old.may_leave image → new.may_leave image
   pub faults : new.faults ≡ old.faults
 
--- turned to this side, and all else is as it was
+-- The twin is turned to this side, and all else is as it was.
 pub record Turns (side : Side) (old new : Pair) : Type 0 where
   pub turned : new.turned ≡ side
   pub first : IsSameDisk old.first new.first

@@ -6,11 +6,12 @@ use Rattle.fdr_twin.specs.declared.side.Side.{Side}
 use Rattle.fdr_twin.specs.Pair.{Pair, PairMoment, other_side, disk_on, image_on, seen}
 use Rattle.fdr_twin.specs.Rest.{PairElapses, LeavesSide}
 
--- each moment of the pair since the old one has this property
+-- Each moment of the twin since the old one has this property, where the stops are told.
 abbrev pub EachPairMoment : Tells → Pair → Pair → (PairMoment → Type 0) → Type 0
 EachPairMoment tells old new P = IsTrue tells.stops → (m : PairMoment) → new.since old.clock m → P m
 
--- a moment of calls that serve a side: its image has this property, and the other's is one that a stop could leave before
+-- A moment of calls that serve a side, and announce and pull nothing: its image has the property P, and the other side's image is
+-- one that a stop could leave before.
 pub record IsServed (side : Side) (P : List ℕ → Type 0) (old : Pair) (m : PairMoment) : Type 0 where
   pub image : P (image_on side m)
   pub other : (disk_on (other_side side) old).may_leave (image_on (other_side side) m)
@@ -19,7 +20,8 @@ pub record IsServed (side : Side) (P : List ℕ → Type 0) (old : Pair) (m : Pa
   pub taken : m.taken ≡ old.taken
   pub pulled_before : m.pulled_before ≡ old.pulled_before
 
--- calls that work on the disk of one side alone, announce nothing and pull nothing, and leave the other side
+-- Calls worked on the disk of one side alone, and announced and pulled nothing: at each moment the image of that side has the
+-- property P, and the other side is left.
 pub record Serves (tells : Tells) (side : Side) (P : List ℕ → Type 0) (old new : Pair) : Type 0 where
   pub turned : new.turned ≡ side
   pub disk_work : IsDiskWork tells P (seen side old) (seen side new)

@@ -5,6 +5,7 @@ use Rattle.fdr_deck.specs.State.{State, Tells}
 use Rattle.fdr_deck.specs.Moments.{IsSoundDeck}
 use Rattle.fdr_twin.specs.Same.{IsSameState}
 
+-- A deck that means the same as a sound one is sound.
 pub IsSoundDeck-same : (tells : Tells) (a b : State) → IsSameState a b → IsSoundDeck tells a → IsSoundDeck tells b
 IsSoundDeck-same tells a b same sound = record {
   stops_need_bytes = sound.stops_need_bytes;

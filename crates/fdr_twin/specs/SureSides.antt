@@ -14,6 +14,8 @@ use Rattle.fdr_twin.specs.Sound.{IsSoundPair}
 use Rattle.fdr_twin.specs.SoundSame.{IsSoundDeck-same}
 use Rattle.fdr_twin.specs.RestSound.{HasSameRest-here, HasSameRest-then}
 
+-- what is seen of the twin that never fails: the side that it is turned to, both images, the rest of the input, the numbers of
+-- bytes pulled, and what was announced
 pub record SureSides : Type 0 where
   pub turned : Side
   pub first : List ℕ
@@ -23,12 +25,12 @@ pub record SureSides : Type 0 where
   pub pulled_before : ℕ
   pub announced : Announced
 
--- the image of this side, of the two that are given
+-- the image of a side, of the two that are given
 abbrev pub sure_image : Side → List ℕ → List ℕ → List ℕ
 sure_image First first second = first
 sure_image Second first second = second
 
--- a side as a deck that never fails
+-- a side of the twin that never fails, as a deck that never fails
 abbrev pub sure_on : Side → SureSides → Sure
 sure_on side s = record {
   image = sure_image side s.first s.second;
@@ -38,12 +40,15 @@ sure_on side s = record {
   announced = s.announced;
 }
 
+-- what the twin that never fails means, as the state of a deck: of the side that it is turned to
 abbrev pub sure_twin_state : SureSides → State
 sure_twin_state s = sure_state (sure_on s.turned s)
 
+-- a disk that never fails, with this image
 abbrev pub sure_disk : List ℕ → Disk
 sure_disk image = record { extent = length image; held = image; may_leave = λ other. ⊥; faults = 0 }
 
+-- what the twin that never fails means, as a pair
 abbrev pub sure_pair : SureSides → Pair
 sure_pair s = record {
   turned = s.turned;
@@ -60,6 +65,7 @@ sure_pair s = record {
   input_faults = 0;
 }
 
+-- Each side of the twin that never fails means what the deck that never fails means.
 pub sure_faces : (side : Side) (s : SureSides) → IsSameState (sure_state (sure_on side s)) (seen side (sure_pair s))
 sure_faces First s = record {
   extent = refl;
@@ -96,15 +102,18 @@ sure_faces Second s = record {
   input_faults = refl;
 }
 
+-- The twin that never fails is sound.
 pub sure_twin_is_sound : (s : SureSides) → IsSoundPair sure_tells (sure_pair s)
 sure_twin_is_sound s = record {
   sides = λ side. IsSoundDeck-same sure_tells (sure_state (sure_on side s)) (seen side (sure_pair s)) (sure_faces side s) (sure_is_sound (sure_on side s));
   falls = λ earlier t m le now since. since;
 }
 
+-- Where nothing is done, the twin that never fails has the same rest.
 pub sure_rest_here : (s : SureSides) → HasSameRest (sure_pair s) (sure_pair s)
 sure_rest_here s = HasSameRest-here (sure_pair s) (sure_twin_is_sound s).falls
 
+-- What leaves the same rest of the twin that never fails twice in a row leaves it from the first to the last.
 pub sure_rest_then : (old mid new : SureSides) → HasSameRest (sure_pair old) (sure_pair mid) → HasSameRest (sure_pair mid) (sure_pair new)
     → HasSameRest (sure_pair old) (sure_pair new)
 sure_rest_then old mid new first second = HasSameRest-then (sure_pair old) (sure_pair mid) (sure_pair new) (sure_twin_is_sound mid).falls first second
@@ -130,7 +139,7 @@ no_faults : (side : Side) (old new : SureSides) → (disk_on side (sure_pair old
 no_faults First old new = omega arith
 no_faults Second old new = omega arith
 
--- a call that leaves the other side
+-- A call of the twin that never fails which leaves the image of the other side leaves the same rest.
 pub sure_rest : (old new : SureSides) → new.turned ≡ old.turned
     → sure_image (other_side old.turned) new.first new.second ≡ sure_image (other_side old.turned) old.first old.second
     → HasSameRest (sure_pair old) (sure_pair new)

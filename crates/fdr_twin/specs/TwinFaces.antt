@@ -15,11 +15,13 @@ use Rattle.fdr_twin.specs.declared.calls.TwinEntry.{TwinEntry}
 use Rattle.fdr_twin.specs.TwinMemory.{TwinMemory, numbers_of, call_on, entry_on, entries_on, memory_on, held_step, left_step, both_within}
 use Rattle.fdr_twin.specs.TwinMemory.{IsPairBetween, IsPairAmid, pair_moments, both_first, both_left_first, twin_pair}
 
+-- A side's disk sees as many calls as there are.
 pub entries_long : (side : Side) (es : List TwinEntry) → length (entries_on side es) ≡ length es
 unfolding entries_on
 entries_long side [] = refl
 entries_long side (e ∷ es) = ap (λ (n : ℕ). suc n) (entries_long side es)
 
+-- Where one more call is entered, a side's disk sees that one after all earlier ones.
 pub entries_push : (side : Side) (es : List TwinEntry) (e : TwinEntry) → entries_on side (es ++ e ∷ []) ≡ entries_on side es ++ (entry_on side e ∷ [])
 unfolding entries_on
 entries_push side [] e = refl
@@ -62,6 +64,7 @@ shown_amid side leaves span m pm seen is = record {
   pulled_before = seen.pulled_before ∙ is.pulled_before;
 }
 
+-- Each moment of the twin in memory, as a side shows it, is one of the deck in memory that has this side's calls.
 pub shows : (side : Side) (es : List TwinEntry) (now : Span) (held : Side → List ℕ) (leaves : Side → List ℕ → Type 0) (t : ℕ) (m : Moment) (pm : PairMoment)
     → IsSeen side pm m → pair_moments es now held leaves t pm → moments_after (entries_on side es) (numbers_of now) (held side) (leaves side) t m
 unfolding entries_on pair_moments moments_after
@@ -145,7 +148,7 @@ pair_amid Second held leaves span m has is = record {
   pulled_before = is.pulled_before;
 }
 
--- each moment of a side is one of the pair
+-- Each moment of the deck in memory that has a side's calls is one that the twin in memory shows on this side.
 pub is_shown : (side : Side) (es : List TwinEntry) (now : Span) (held : Side → List ℕ) (leaves : Side → List ℕ → Type 0) (t : ℕ) (m : Moment)
     → ((x : Side) → leaves x (held x)) → moments_after (entries_on side es) (numbers_of now) (held side) (leaves side) t m
     → (pm : PairMoment) × (pair_moments es now held leaves t pm × IsSeen side pm m)
@@ -177,6 +180,7 @@ is_shown side (e ∷ es) now held leaves t m has (inr since) =
     (λ x. holds_by (call_on x e) (held x) (leaves x) (has x)) since in
     (there.0, (inr there.1.0, there.1.1))
 
+-- Each side of the twin in memory means what the deck in memory means that has its calls.
 pub twin_faces : (side : Side) (d : TwinMemory) → IsSameState (memory_state (memory_on side d)) (seen side (twin_pair d))
 twin_faces First d = record {
   extent = refl;

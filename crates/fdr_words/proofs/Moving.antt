@@ -11,7 +11,7 @@ use Rattle.fdr_words.specs.Words.{Word, plain, named, given, wrong, is_plain, wo
 use Rattle.fdr_words.specs.Words.{uses_of, value_in}
 use Rattle.fdr_words.specs.Spelling.{option_word, Spelling, two_words, one_word, option_args, is_option_name, ends_in_option_name}
 use Rattle.fdr_slot.specs.Limits.{least_payload_bytes, least_slot_count, most_payload_bytes, most_slot_count}
-use Rattle.fdr_words.specs.Forms.{form_with, form_of_uses, form_of, format_form, drill_form}
+use Rattle.fdr_words.specs.Forms.{form_with, form_of_uses, form_of, form_of_both, form_of_ring, salvage_by, Form, format_image, drill_image}
 use Rattle.fdr_words.specs.Forms.{most_seed, least_drill_frames, most_drill_frames}
 use Rattle.fdr_words.proofs.UsesSteps.{given_step, then_some, where_some}
 
@@ -438,51 +438,42 @@ unfit_option how option value rest h = subst EachUnfit (sym (option_first how op
     go false v e = cc
 
 -- no form has such a value
-no_ring : (table image slots payload : List ℕ) (b : Bool) → (has_minus (Some slots) || has_minus (Some payload)) ≡ true
-    → (if b then format_form table image (value_in least_slot_count most_slot_count slots)
-    (value_in least_payload_bytes most_payload_bytes payload) else None) ≡ None
-no_ring table image slots payload false h = refl
-no_ring table image slots payload true h = go (starts_with_minus slots) (starts_with_minus payload) refl refl h
+no_form_of_both : (make : ℕ → ℕ → Form) (low high least most : ℕ) (first second : List ℕ) → (has_minus (Some first) || has_minus (Some second)) ≡ true
+    → form_of_both make (value_in low high first) (value_in least most second) ≡ None
+no_form_of_both make low high least most first second h = go (starts_with_minus first) (starts_with_minus second) refl refl h
   where
-    no_payload : (o : Option ℕ) → format_form table image o None ≡ None
-    no_payload None = refl
-    no_payload (Some n) = refl
+    no_second : (o : Option ℕ) → form_of_both make o None ≡ None
+    no_second None = refl
+    no_second (Some n) = refl
 
-    go : (p q : Bool) → starts_with_minus slots ≡ p → starts_with_minus payload ≡ q → (p || q) ≡ true
-        → format_form table image (value_in least_slot_count most_slot_count slots) (value_in least_payload_bytes most_payload_bytes payload) ≡ None
-    go true q e f h =
-        ap (λ (o : Option ℕ). format_form table image o (value_in least_payload_bytes most_payload_bytes payload))
-        (no_number least_slot_count most_slot_count slots e)
+    go : (p q : Bool) → starts_with_minus first ≡ p → starts_with_minus second ≡ q → (p || q) ≡ true
+        → form_of_both make (value_in low high first) (value_in least most second) ≡ None
+    go true q e f h = ap (λ (o : Option ℕ). form_of_both make o (value_in least most second)) (no_number low high first e)
     go false true e f h =
-        ap (λ (o : Option ℕ). format_form table image (value_in least_slot_count most_slot_count slots) o)
-        (no_number least_payload_bytes most_payload_bytes payload f)
-        ∙ no_payload (value_in least_slot_count most_slot_count slots)
+        ap (λ (o : Option ℕ). form_of_both make (value_in low high first) o) (no_number least most second f) ∙ no_second (value_in low high first)
     go false false e f h = cc
 
-no_drill : (table image seed frames : List ℕ) (b : Bool) → (has_minus (Some seed) || has_minus (Some frames)) ≡ true
-    → (if b then drill_form table image (value_in 0 most_seed seed) (value_in least_drill_frames most_drill_frames frames) else None) ≡ None
-no_drill table image seed frames false h = refl
-no_drill table image seed frames true h = go (starts_with_minus seed) (starts_with_minus frames) refl refl h
-  where
-    no_frames : (o : Option ℕ) → drill_form table image o None ≡ None
-    no_frames None = refl
-    no_frames (Some n) = refl
+none_of_either : (b c : Bool) (x y : Option Form) → x ≡ None → y ≡ None → (if b then x else (if c then y else None)) ≡ None
+none_of_either true c x y none none_too = none
+none_of_either false true x y none none_too = none_too
+none_of_either false false x y none none_too = refl
 
-    go : (p q : Bool) → starts_with_minus seed ≡ p → starts_with_minus frames ≡ q → (p || q) ≡ true
-        → drill_form table image (value_in 0 most_seed seed) (value_in least_drill_frames most_drill_frames frames) ≡ None
-    go true q e f h =
-        ap (λ (o : Option ℕ). drill_form table image o (value_in least_drill_frames most_drill_frames frames)) (no_number 0 most_seed seed e)
-    go false true e f h =
-        ap (λ (o : Option ℕ). drill_form table image (value_in 0 most_seed seed) o) (no_number least_drill_frames most_drill_frames frames f)
-        ∙ no_frames (value_in 0 most_seed seed)
-    go false false e f h = cc
+none_of_one : (b : Bool) (x : Option Form) → x ≡ None → (if b then x else None) ≡ None
+none_of_one true x none = none
+none_of_one false x none = refl
 
 formless_with : (args : List (List ℕ)) (slots payload seed frames : Option (List ℕ))
     → (has_minus slots || has_minus payload || has_minus seed || has_minus frames) ≡ true → form_with args slots payload seed frames ≡ None
 formless_with (command ∷ table ∷ image ∷ []) (Some slots) (Some payload) None None h =
-    no_ring table image slots payload (bytes_eq command (codes "format")) (grind arith)
+    let minus : (has_minus (Some slots) || has_minus (Some payload)) ≡ true = grind arith in
+    none_of_either (bytes_eq command (codes "format")) (bytes_eq command (codes "salvage"))
+    (form_of_ring (format_image table image) slots payload) (form_of_ring (salvage_by table image) slots payload)
+    (no_form_of_both (format_image table image) least_slot_count most_slot_count least_payload_bytes most_payload_bytes slots payload minus)
+    (no_form_of_both (salvage_by table image) least_slot_count most_slot_count least_payload_bytes most_payload_bytes slots payload minus)
 formless_with (command ∷ table ∷ image ∷ []) None None (Some seed) (Some frames) h =
-    no_drill table image seed frames (bytes_eq command (codes "drill")) h
+    none_of_one (bytes_eq command (codes "drill"))
+    (form_of_both (drill_image table image) (value_in 0 most_seed seed) (value_in least_drill_frames most_drill_frames frames))
+    (no_form_of_both (drill_image table image) 0 most_seed least_drill_frames most_drill_frames seed frames h)
 formless_with args slots payload seed frames h = grind arith
 
 formless_uses : (o : Option Uses) → EachUnfit o → option_and_then form_of_uses o ≡ None

@@ -6,24 +6,24 @@ use Rattle.fdr_table.specs.Fields.{number_in}
 use Rattle.fdr_words.specs.declared.uses.OptionName.{OptionName}
 use Rattle.fdr_words.specs.declared.uses.OptionName.TheVariants as name
 
--- an argument of the form's own: neither empty nor an option argument, which begins with `-`
+-- whether a word is plain: neither empty nor one that begins with `-`
 abbrev pub is_plain : List ℕ → Bool
 is_plain [] = false
 is_plain (byte ∷ rest) = not (byte == 45)
 
--- what an argument is; a named option's value is the next argument
+-- what a word is: plain, an option whose value is the next word, an option with its value after `=`, or wrong
 pub data Word : Type 0 where
   plain : Word
   named : (option : OptionName) → Word
   given : (option : OptionName) (value : List ℕ) → Word
   wrong : Word
 
--- what follows a prefix of the argument, where something does
+-- what follows a prefix of a word, where something does
 unfoldable pub value_after : List ℕ → List ℕ → Option (List ℕ)
 value_after prefix word =
     if bytes_eq (take (length prefix) word) prefix && nat_lt (length prefix) (length word) then Some (drop (length prefix) word) else None
 
--- `--NAME` and `--NAME=VALUE`, with a value that isn't empty; any other argument that isn't plain is wrong
+-- what this word is: plain, `--NAME`, or `--NAME=VALUE` with a value that isn't empty; any other word is wrong
 unfoldable pub word_meaning : List ℕ → Word
 word_meaning word =
     if is_plain word then plain
@@ -36,7 +36,7 @@ word_meaning word =
     (option_map_or (λ value. given name.Seed value) (value_after (codes "--seed=") word)
     (option_map_or (λ value. given name.Frames value) (value_after (codes "--frames=") word) wrong)))
 
--- The plain arguments in order, and the value that each option is given.
+-- what words give: the plain words in order, and the value that each of the four options is given
 pub record Uses : Type 0 where
   pub plain : List (List ℕ)
   pub slots : Option (List ℕ)
@@ -44,16 +44,17 @@ pub record Uses : Type 0 where
   pub seed : Option (List ℕ)
   pub frames : Option (List ℕ)
 
+-- what no words give
 abbrev pub no_uses : Uses
 no_uses = record { plain = []; slots = None; payload = None; seed = None; frames = None }
 
--- another plain argument in front; no form has more than three
+-- what words give with one more plain word in front; no form has more than three
 abbrev pub with_plain : List ℕ → Uses → Option Uses
 with_plain word u =
     if nat_lt (length u.plain) 3
     then Some (record { plain = word ∷ u.plain; slots = u.slots; payload = u.payload; seed = u.seed; frames = u.frames }) else None
 
--- an option with its value; none may be given twice
+-- what words give with this value of an option; none may be given twice
 abbrev pub with_value : OptionName → List ℕ → Uses → Option Uses
 with_value name.Slots value u =
     if is_none u.slots then Some (record { plain = u.plain; slots = Some value; payload = u.payload; seed = u.seed; frames = u.frames }) else None
@@ -64,7 +65,8 @@ with_value name.Seed value u =
 with_value name.Frames value u =
     if is_none u.frames then Some (record { plain = u.plain; slots = u.slots; payload = u.payload; seed = u.seed; frames = Some value }) else None
 
--- an argument and what follows it: another argument, and the uses of what comes after either
+-- what a word and all after it give, by what the word is, the next word, what all after the word gives, and what all after the
+-- next word gives
 abbrev pub followed : List ℕ → Word → Option (List ℕ) → Option Uses → Option Uses → Option Uses
 followed word plain next after_word after_next = option_and_then (with_plain word) after_word
 followed word (given option value) next after_word after_next = option_and_then (with_value option value) after_word
@@ -72,16 +74,16 @@ followed word (named option) None after_word after_next = None
 followed word (named option) (Some value) after_word after_next = if is_plain value then option_and_then (with_value option value) after_next else None
 followed word wrong next after_word after_next = None
 
--- how many arguments the longest form has: three plain arguments, and two options of two arguments each
+-- how many words the longest forms have, 7: three plain words, and two options of two words each
 abbrev pub most_form_args : ℕ
 most_form_args = 7
 
--- what the arguments give, where each has its place
+-- what the words give, where each has its place; none where one hasn't
 abbrev pub uses_of : List (List ℕ) → Option Uses
 uses_of [] = Some no_uses
 uses_of (word ∷ []) = followed word (word_meaning word) None (Some no_uses) None
 uses_of (word ∷ next ∷ rest) = followed word (word_meaning word) (Some next) (uses_of (next ∷ rest)) (uses_of rest)
 
--- an option's value: a number of 1 to 10 digits within bounds
+-- the value of an option: a number of 1 to 10 digits, where it is `low` to `high`
 unfoldable pub value_in : ℕ → ℕ → List ℕ → Option ℕ
 value_in low high value = if nat_le (length value) 10 then number_in low high value else None

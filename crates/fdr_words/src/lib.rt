@@ -70,6 +70,19 @@ pub enum Request {
     Upgrade {
         image: PathText,
     },
+    /// `salvage TABLE IMAGE`, also with `--slots N --payload P`: list each run of blocks that a damaged image still has.
+    Salvage {
+        table: PathText,
+        image: PathText,
+        /// How many blocks the ring has room for, 4 to 65,536, and how many bytes a block has at most, 64 to 4,096. Where they
+        /// are given, they stand in place of what the image's header says.
+        ring: Option<(u32, u32)>,
+    },
+    /// `exceed TABLE IMAGE`: list where parameters leave the limits that rules on the input line state.
+    Exceed {
+        table: PathText,
+        image: PathText,
+    },
     /// `drill TABLE IMAGE --seed S --frames F`: record a trace drawn from a seed in an image.
     Drill {
         table: PathText,
@@ -116,6 +129,8 @@ impl Request {
             Request::RecoverImage { .. } => None,
             Request::ListImage { table, .. } => Some(table.text()),
             Request::Upgrade { .. } => None,
+            Request::Salvage { table, .. } => Some(table.text()),
+            Request::Exceed { table, .. } => Some(table.text()),
             Request::Drill { table, .. } => Some(table.text()),
         }
     }
@@ -134,6 +149,8 @@ impl Request {
             Request::RecoverImage { image } => Some(image.text()),
             Request::ListImage { image, .. } => Some(image.text()),
             Request::Upgrade { image } => Some(image.text()),
+            Request::Salvage { image, .. } => Some(image.text()),
+            Request::Exceed { image, .. } => Some(image.text()),
             Request::Drill { image, .. } => Some(image.text()),
         }
     }
@@ -153,7 +170,9 @@ impl Request {
             | Request::Encode
             | Request::Decode
             | Request::RecoverImage { .. }
-            | Request::ListImage { .. } => false,
+            | Request::ListImage { .. }
+            | Request::Salvage { .. }
+            | Request::Exceed { .. } => false,
         }
     }
 }
@@ -229,10 +248,23 @@ fn paths_request(
             image: PathText::new(alloc, image)?,
         });
     }
-    if command != "list" {
+    if command == "list" {
+        return Ok(Request::ListImage {
+            table: PathText::new(alloc, table)?,
+            image: PathText::new(alloc, image)?,
+        });
+    }
+    if command == "salvage" {
+        return Ok(Request::Salvage {
+            table: PathText::new(alloc, table)?,
+            image: PathText::new(alloc, image)?,
+            ring: None,
+        });
+    }
+    if command != "exceed" {
         return Err(WordsFault::Usage);
     }
-    Ok(Request::ListImage {
+    Ok(Request::Exceed {
         table: PathText::new(alloc, table)?,
         image: PathText::new(alloc, image)?,
     })
@@ -251,14 +283,21 @@ fn ring_request(
     ensures form { IfOk result (λ request. ring_form command.now table.now image.now slots.now payload.now ≡ Some (form_of_request request)) }
     ensures limits { IfOk result (λ request. IsInBounds (form_of_request request)) }
 {
-    if command != "format" {
+    let salvages = command == "salvage";
+    if command != "format" && !salvages {
         return Err(WordsFault::Usage);
     }
     let slots = value_in(slots, MIN_SLOTS, MAX_SLOTS).ok_or(WordsFault::Usage)?;
     let payload = value_in(payload, MIN_PAYLOAD, MAX_PAYLOAD as u32).ok_or(WordsFault::Usage)?;
+    let table = PathText::new(alloc, table)?;
+    let image = PathText::new(alloc, image)?;
+    if salvages {
+        let ring = Some((slots, payload));
+        return Ok(Request::Salvage { table, image, ring });
+    }
     Ok(Request::FormatImage {
-        table: PathText::new(alloc, table)?,
-        image: PathText::new(alloc, image)?,
+        table,
+        image,
         slots,
         payload,
     })

@@ -1,6 +1,6 @@
 use Rattle.std.proofs.Common.{refl, arith}
-use Rattle.fdr_words.specs.Forms.{check_table, decode_levels, drill_image, encode_bytes, format_image}
-use Rattle.fdr_words.specs.Forms.{list_bits, list_image, record_line, recover_image, stream_line, upgrade_image}
+use Rattle.fdr_words.specs.Forms.{check_table, decode_levels, drill_image, encode_bytes, exceed_image, format_image}
+use Rattle.fdr_words.specs.Forms.{list_bits, list_image, record_line, recover_image, salvage_image, stream_line, upgrade_image}
 use Rattle.fdr_sure.proofs.Makings.{faultless, making_sure}
 use Rattle.fdr_sure.proofs.sure_command.Goals as goal
 
@@ -56,6 +56,18 @@ pub returns-clause-image_listing : goal.returns-clause-image_listing
 returns-clause-image_listing c = λ path image is accepted for.
     (rw is at c.run.ensures.runs).complete ((c.args.table.now, refl, accepted), (refl, for))
     (faultless (list_image path image) _ (λ rose. omega (arith, rose)) (λ rose. omega (arith, rose))
+    (λ rose. omega (arith, rose)) (λ rose. omega (arith, rose)))
+
+pub returns-clause-salvage : goal.returns-clause-salvage
+returns-clause-salvage c = λ path image ring is accepted can.
+    (rw is at c.run.ensures.runs).complete ((c.args.table.now, refl, accepted), (refl, can))
+    (faultless (salvage_image path image ring) _ (λ rose. omega (arith, rose)) (λ rose. omega (arith, rose))
+    (λ rose. omega (arith, rose)) (λ rose. omega (arith, rose)))
+
+pub returns-clause-exceedances : goal.returns-clause-exceedances
+returns-clause-exceedances c = λ path image is accepted good for.
+    (rw is at c.run.ensures.runs).complete ((c.args.table.now, refl, accepted), (refl, good, refl, for))
+    (faultless (exceed_image path image) _ (λ rose. omega (arith, rose)) (λ rose. omega (arith, rose))
     (λ rose. omega (arith, rose)) (λ rose. omega (arith, rose)))
 
 pub returns-clause-drill : goal.returns-clause-drill

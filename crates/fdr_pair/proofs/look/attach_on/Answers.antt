@@ -1,8 +1,10 @@
-use Rattle.std.proofs.Common.{◌≡◌, ◌∙◌, ℕ, List, ap, sym}
+use Rattle.std.proofs.Common.{◌≡◌, ◌∙◌, ℕ, ◌-◌, List, ap, sym, subst}
 use Rattle.fdr_recover.specs.Images.{next_of, recovered_run}
 use Rattle.fdr_recover.specs.Stretches.{last_session}
+use Rattle.fdr_ring.specs.Runs.{last_blocks}
 use Rattle.fdr_ring.specs.Rings.{IsAttaching}
 use Rattle.fdr_twin.specs.Pair.{disk_on}
+use Rattle.fdr_twin.proofs.Same.{IsSettled-same}
 use Rattle.fdr_twin.proofs.Turns.{Turns-disk}
 use Rattle.fdr_pair.proofs.Sides.{serves_side, facing_side, IsSureRing-same}
 use Rattle.fdr_pair.proofs.look.attach_on.Given.{Over}
@@ -43,3 +45,49 @@ returns-clause-fact g c =
     let rest = g.met.T.Twin.leaves_rest c.turn.new.self c.attach.new.deck c.attach.ensures.rest in
     let faces = facing_side _ _ c.args.side (g.met.T.Twin.faces c.attach.new.deck) (rest.turned ∙ c.turn.ensures.turns.turned) in
     IsSureRing-same _ _ _ _ _ faces.extent faces.held faces.left c.in_ok-ring.ensures.fact
+
+pub returns-clause-settled : goal.returns-clause-settled
+returns-clause-settled g c told =
+    let rest = g.met.T.Twin.leaves_rest c.turn.new.self c.attach.new.deck c.attach.ensures.rest in
+    let faces = facing_side _ _ c.args.side (g.met.T.Twin.faces c.attach.new.deck) (rest.turned ∙ c.turn.ensures.turns.turned) in
+    IsSettled-same _ _ faces (c.in_ok-ring.ensures.attached.settled told)
+
+-- what the side holds after the ring is attached
+pub returns-clause-keeps : goal.returns-clause-keeps
+returns-clause-keeps g c told =
+    let rest = g.met.T.Twin.leaves_rest c.turn.new.self c.attach.new.deck c.attach.ensures.rest in
+    let faces = facing_side _ _ c.args.side (g.met.T.Twin.faces c.attach.new.deck) (rest.turned ∙ c.turn.ensures.turns.turned) in
+    subst (λ (l : List ℕ). IsAttaching c.args.h l (disk_on c.args.side (g.T.Twin.pair c.attach.new.deck)).held)
+    (turned_held g (goal.at.returns-clause-keeps g c).After-turn)
+    (subst (λ (l : List ℕ). IsAttaching c.args.h (g.T.Deck.state c.turn.new.self).held l) (sym faces.held) (c.attach.ensures.changes.keeps told))
+
+pub returns-in_err-ring-clause-keeps : goal.returns-in_err-ring-clause-keeps
+returns-in_err-ring-clause-keeps g c told =
+    let rest = g.met.T.Twin.leaves_rest c.turn.new.self c.attach.new.deck c.attach.ensures.rest in
+    let faces = facing_side _ _ c.args.side (g.met.T.Twin.faces c.attach.new.deck) (rest.turned ∙ c.turn.ensures.turns.turned) in
+    subst (λ (l : List ℕ). IsAttaching c.args.h l (disk_on c.args.side (g.T.Twin.pair c.attach.new.deck)).held)
+    (turned_held g (goal.at.returns-in_err-ring-clause-keeps g c).After-turn)
+    (subst (λ (l : List ℕ). IsAttaching c.args.h (g.T.Deck.state c.turn.new.self).held l) (sym faces.held) (c.attach.ensures.changes.keeps told))
+
+pub returns-clause-run : goal.returns-clause-run
+returns-clause-run g c told =
+    let rest = g.met.T.Twin.leaves_rest c.turn.new.self c.attach.new.deck c.attach.ensures.rest in
+    let faces = facing_side _ _ c.args.side (g.met.T.Twin.faces c.attach.new.deck) (rest.turned ∙ c.turn.ensures.turns.turned) in
+    ap (recovered_run c.args.h) faces.held
+    ∙ c.in_ok-ring.ensures.attached.run told
+    ∙ ap (λ (l : List ℕ). last_blocks (c.args.h.slots - 1) (recovered_run c.args.h l)) (turned_held g (goal.at.returns-clause-run g c).After-turn)
+
+pub returns-clause-extent : goal.returns-clause-extent
+returns-clause-extent g c =
+    let rest = g.met.T.Twin.leaves_rest c.turn.new.self c.attach.new.deck c.attach.ensures.rest in
+    let faces = facing_side _ _ c.args.side (g.met.T.Twin.faces c.attach.new.deck) (rest.turned ∙ c.turn.ensures.turns.turned) in
+    let before = facing_side _ _ c.args.side (g.met.T.Twin.faces c.turn.new.self) c.turn.ensures.turns.turned in
+    faces.extent ∙ c.attach.ensures.changes.extent ∙ sym before.extent ∙ (Turns-disk c.args.side c.args.side _ _ c.turn.ensures.turns).extent
+
+pub returns-clause-no_fault : goal.returns-clause-no_fault
+returns-clause-no_fault g c =
+    let rest = g.met.T.Twin.leaves_rest c.turn.new.self c.attach.new.deck c.attach.ensures.rest in
+    let faces = facing_side _ _ c.args.side (g.met.T.Twin.faces c.attach.new.deck) (rest.turned ∙ c.turn.ensures.turns.turned) in
+    let before = facing_side _ _ c.args.side (g.met.T.Twin.faces c.turn.new.self) c.turn.ensures.turns.turned in
+    faces.disk_faults ∙ c.in_ok-ring.ensures.attached.succeeds.disk_faults ∙ sym before.disk_faults
+    ∙ (Turns-disk c.args.side c.args.side _ _ c.turn.ensures.turns).faults

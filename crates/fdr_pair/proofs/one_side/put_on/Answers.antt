@@ -1,9 +1,9 @@
-use Rattle.std.proofs.Common.{List, ℕ, sym, ◌∙◌, subst}
+use Rattle.std.proofs.Common.{List, [], ◌∷◌, ℕ, sym, ◌∙◌, subst}
 use Rattle.fdr_twin.specs.Pair.{seen}
 use Rattle.fdr_twin.proofs.Same.{IsSettled-same}
 use Rattle.fdr_twin.proofs.Turns.{Turns-disk}
 use Rattle.fdr_recover.specs.Blocks.{Block}
-use Rattle.fdr_pair.specs.Putting.{HasPut, MayPut}
+use Rattle.fdr_pair.specs.Putting.{AddsExactly, HasPut, MayPut}
 use Rattle.fdr_pair.proofs.Sides.{serves_side, facing_side, IsSureRing-same}
 use Rattle.fdr_pair.proofs.one_side.put_on.Goals as goal
 
@@ -42,3 +42,15 @@ returns-clause-put g c told =
     let turned = Turns-disk c.args.side c.args.side _ _ c.turn.ensures.turns in
     subst (λ (l : List ℕ). HasPut c.args.ring.header b l (seen c.args.side (g.T.Twin.pair c.put_block.new.deck)).held) (sym before.held ∙ turned.held)
     (subst (λ (l : List ℕ). HasPut c.args.ring.header b (g.T.Deck.state c.turn.new.self).held l) (sym faces.held) (c.in_ok-ring.ensures.put told))
+
+pub returns-clause-exact : goal.returns-clause-exact
+returns-clause-exact g c told =
+    let rest = g.met.T.Twin.leaves_rest c.turn.new.self c.put_block.new.deck c.put_block.ensures.rest in
+    let faces = facing_side _ _ c.args.side (g.met.T.Twin.faces c.put_block.new.deck) (rest.turned ∙ c.turn.ensures.turns.turned) in
+    let b : Block = record { number = c.args.ring.next; session = c.args.session; payload = c.args.bytes.now } in
+    let before = facing_side _ _ c.args.side (g.met.T.Twin.faces c.turn.new.self) c.turn.ensures.turns.turned in
+    let turned = Turns-disk c.args.side c.args.side _ _ c.turn.ensures.turns in
+    subst (λ (l : List ℕ). AddsExactly c.args.ring.header (b ∷ []) l (seen c.args.side (g.T.Twin.pair c.put_block.new.deck)).held)
+    (sym before.held ∙ turned.held)
+    (subst (λ (l : List ℕ). AddsExactly c.args.ring.header (b ∷ []) (g.T.Deck.state c.turn.new.self).held l) (sym faces.held)
+    (c.in_ok-ring.ensures.exact told))

@@ -1,5 +1,6 @@
 use Rattle.std.proofs.Common.{◌∙◌}
-use Rattle.fdr_pair.proofs.Puts.{quiet_prepared, quiet_put_by, put_by}
+use Rattle.fdr_pair.proofs.Puts.{exact_by, quiet_prepared, quiet_put_by, put_by}
+use Rattle.fdr_slot.proofs.HeaderLemmas.{in_limits-is}
 use Rattle.fdr_pair.proofs.put.put_block.Goals as goal
 
 pub returns-in_err-prepared-clause-disk_work : goal.returns-in_err-prepared-clause-disk_work
@@ -35,3 +36,8 @@ returns-clause-succeeds g c = record {
   fresh = c.in_ok-ring.ensures.succeeds.fresh;
   disk_faults = c.in_ok-ring.ensures.succeeds.disk_faults ∙ c.in_ok-prepared.ensures.placed.succeeds.disk_faults;
 }
+
+pub returns-clause-exact : goal.returns-clause-exact
+returns-clause-exact g c told whole is =
+    exact_by _ _ _ _ _ _ _ _ (c.in_ok-prepared.ensures.placed.run told) (c.in_ok-prepared.ensures.placed.block told) c.in_ok-prepared.ensures.prepared.0
+    c.in_ok-prepared.ensures.prepared.1 (c.in_ok-ring.ensures.added told) (in_limits-is c.args.ring.header c.args.ring.limits).least_slots whole is

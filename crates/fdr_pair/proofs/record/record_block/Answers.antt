@@ -1,5 +1,4 @@
-use Rattle.fdr_twin.specs.RestSound.{PairElapses-then}
-use Rattle.fdr_pair.proofs.Onward.{told_time}
+use Rattle.fdr_pair.proofs.Counting.{counts_block, told_living}
 use Rattle.fdr_pair.proofs.Both.{first_going, second_going}
 use Rattle.fdr_pair.proofs.record.record_block.Goals as goal
 
@@ -8,31 +7,33 @@ returns-clause-first_moments g c =
     (first_going _ _ _ _ _ _ _ _ (g.met.T.Twin.sound_pair c.args.twin.now) (g.met.T.Twin.sound_pair c.put_unless_failed-first.new.twin)
     (g.met.T.Twin.sound_pair c.put_unless_failed-second.new.twin) _ _ _ _ c.put_unless_failed-first.ensures c.put_unless_failed-second.ensures
     c.announce_living.ensures
-    c.requires.greatest c.requires.first_ready c.requires.second_ready).moments
+    c.requires.first_ready c.requires.second_ready).moments
 
 pub returns-clause-second_moments : goal.returns-clause-second_moments
 returns-clause-second_moments g c =
     (second_going _ _ _ _ _ _ _ _ (g.met.T.Twin.sound_pair c.args.twin.now) (g.met.T.Twin.sound_pair c.put_unless_failed-first.new.twin)
     (g.met.T.Twin.sound_pair c.put_unless_failed-second.new.twin) _ _ _ _ c.put_unless_failed-first.ensures c.put_unless_failed-second.ensures
     c.announce_living.ensures
-    c.requires.greatest c.requires.first_ready c.requires.second_ready).moments
+    c.requires.first_ready c.requires.second_ready).moments
 
 pub returns-clause-first_now : goal.returns-clause-first_now
 returns-clause-first_now g c =
     (first_going _ _ _ _ _ _ _ _ (g.met.T.Twin.sound_pair c.args.twin.now) (g.met.T.Twin.sound_pair c.put_unless_failed-first.new.twin)
     (g.met.T.Twin.sound_pair c.put_unless_failed-second.new.twin) _ _ _ _ c.put_unless_failed-first.ensures c.put_unless_failed-second.ensures
     c.announce_living.ensures
-    c.requires.greatest c.requires.first_ready c.requires.second_ready).now
+    c.requires.first_ready c.requires.second_ready).now
 
 pub returns-clause-second_now : goal.returns-clause-second_now
 returns-clause-second_now g c =
     (second_going _ _ _ _ _ _ _ _ (g.met.T.Twin.sound_pair c.args.twin.now) (g.met.T.Twin.sound_pair c.put_unless_failed-first.new.twin)
     (g.met.T.Twin.sound_pair c.put_unless_failed-second.new.twin) _ _ _ _ c.put_unless_failed-first.ensures c.put_unless_failed-second.ensures
     c.announce_living.ensures
-    c.requires.greatest c.requires.first_ready c.requires.second_ready).now
+    c.requires.first_ready c.requires.second_ready).now
 
-pub returns-clause-time : goal.returns-clause-time
-returns-clause-time g c =
-    PairElapses-then _ (g.T.Twin.pair c.put_unless_failed-second.new.twin) _
-    (PairElapses-then _ (g.T.Twin.pair c.put_unless_failed-first.new.twin) _ c.put_unless_failed-first.ensures.time c.put_unless_failed-second.ensures.time)
-    (told_time _ _ _ _ _ _ c.announce_living.ensures)
+pub returns-clause-numbers : goal.returns-clause-numbers
+returns-clause-numbers g c =
+    counts_block _ _ _ _ _ _ _ _ _ _ _ _ (g.met.T.Twin.sound_pair c.put_unless_failed-second.new.twin) c.put_unless_failed-first.ensures
+    c.put_unless_failed-second.ensures c.announce_living.ensures
+
+pub returns-clause-announced : goal.returns-clause-announced
+returns-clause-announced g c living = told_living _ _ _ _ _ _ living c.announce_living.ensures

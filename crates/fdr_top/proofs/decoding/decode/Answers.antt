@@ -18,7 +18,7 @@ returns g c = record {
         refusal = begun_leaves decode_levels _ (λ none. none) (λ none. none) (λ none. none) answer
             c.decode_levels.ensures.disk c.decode_levels.ensures.announced c.decode_levels.ensures.no_memory c.decode_levels.ensures.no_memory_faults;
         unused = line_unused decode_levels _ tt c.decode_levels.ensures.disk c.decode_levels.ensures.announced
-            c.decode_levels.ensures.no_memory_input (λ pulls. c.decode_levels.ensures.bounded);
+            c.decode_levels.ensures.no_memory_input (λ pulls. c.decode_levels.ensures.bounded) (λ rules. rules);
         causes = has_cause decode_levels _ answer (λ pulls. c.decode_levels.ensures.input_fault) (λ text. c.decode_levels.ensures.write_fault)
             (λ image. absurd image);
         no_fault_passed_over = record {

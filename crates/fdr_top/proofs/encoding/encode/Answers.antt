@@ -15,7 +15,7 @@ returns g c = record {
         refusal = begun_leaves encode_bytes _ (λ none. none) (λ none. none) (λ none. none) answer
             c.encode_bits.ensures.disk c.encode_bits.ensures.announced c.encode_bits.ensures.no_memory c.encode_bits.ensures.no_memory_faults;
         unused = line_unused encode_bytes _ tt c.encode_bits.ensures.disk c.encode_bits.ensures.announced
-            c.encode_bits.ensures.no_memory_input (λ pulls. c.encode_bits.ensures.bounded);
+            c.encode_bits.ensures.no_memory_input (λ pulls. c.encode_bits.ensures.bounded) (λ rules. rules);
         causes = has_cause encode_bytes _ answer (λ pulls. c.encode_bits.ensures.input_fault) (λ text. c.encode_bits.ensures.write_fault)
             (λ image. absurd image);
         no_fault_passed_over = record {

@@ -15,7 +15,7 @@ returns g c = record {
         refusal = begun_leaves (list_bits path) _ (λ none. none) (λ none. none) (λ none. none) answer
             c.list_line.ensures.disk c.list_line.ensures.announced c.list_line.ensures.no_memory c.list_line.ensures.no_memory_faults;
         unused = line_unused (list_bits path) _ tt c.list_line.ensures.disk c.list_line.ensures.announced
-            c.list_line.ensures.no_memory_input (λ pulls. c.list_line.ensures.bounded);
+            c.list_line.ensures.no_memory_input (λ pulls. c.list_line.ensures.bounded) (λ rules. rules);
         causes = has_cause (list_bits path) _ answer (λ pulls. c.list_line.ensures.input_fault) (λ text. c.list_line.ensures.write_fault)
             (λ image. absurd image);
         no_fault_passed_over = record {

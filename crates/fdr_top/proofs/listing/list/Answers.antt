@@ -1,4 +1,4 @@
-use Rattle.std.proofs.Common.{ap}
+use Rattle.std.proofs.Common.{ap, refl}
 use Rattle.fdr_words.specs.Forms.{list_image}
 use Rattle.fdr_top.proofs.Answering.{has_cause, image_unused, left_all, passes_keeps}
 use Rattle.fdr_top.proofs.ListedImages.{list_done}
@@ -18,7 +18,7 @@ returns-clause-works g c = λ path image.
           (λ image. c.list_image.ensures.disk_fault);
       no_fault_passed_over = record {
         input = λ read covers. looks.disk_work.passes.input_faults;
-        write = λ other covers. c.list_image.ensures.no_write_fault other (λ failed. covers ((tt, tt), failed));
+        write = λ other covers. c.list_image.ensures.no_write_fault other (λ failed. covers ((refl, tt), failed));
         disk = λ other. c.list_image.ensures.no_disk_fault other;
       };
       does = c.list_image.ensures.lists;

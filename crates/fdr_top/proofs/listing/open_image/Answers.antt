@@ -1,5 +1,5 @@
 use Rattle.std.proofs.Common.{Err, ap, sym, ◌∙◌, arith}
-use Rattle.fdr_top.proofs.ListedImages.{header_refused, header_shut, opening_not_memory}
+use Rattle.fdr_top.proofs.ListedImages.{header_refused, opening_not_memory}
 use Rattle.fdr_top.proofs.listing.open_image.Goals as goal
 
 pub returns-in-Err-clause-refused : goal.returns-in-Err-clause-refused

@@ -64,3 +64,12 @@ pub returns-clause-bounded : goal.returns-clause-bounded
 returns-clause-bounded g c = λ told.
     let all = c.in_ok-walk_between.ensures.all in
     anyway c.end_blocks.result (rw (all.3 told) at all.2)
+
+pub returns-clause-reads : goal.returns-clause-reads
+returns-clause-reads g c = rw c.in_ok-walk_between.ensures.all.1.0 at c.end_blocks.ensures.reads
+
+pub returns-clause-table : goal.returns-clause-table
+returns-clause-table g c = anyway c.end_blocks.result (c.end_blocks.ensures.table ∙ c.in_ok-walk_between.ensures.all.1.0)
+
+pub returns-clause-version : goal.returns-clause-version
+returns-clause-version g c = anyway c.end_blocks.result (c.end_blocks.ensures.version ∙ c.in_ok-walk_between.ensures.all.1.1)

@@ -15,7 +15,7 @@ returns g c = record {
         refusal = begun_leaves (stream_line path) _ (λ none. none) (λ none. none) (λ none. none) answer
             c.stream_sound.ensures.disk c.stream_sound.ensures.announced c.stream_sound.ensures.no_memory c.stream_sound.ensures.no_memory_faults;
         unused = line_unused (stream_line path) _ tt c.stream_sound.ensures.disk c.stream_sound.ensures.announced
-            c.stream_sound.ensures.no_memory_input (λ none. absurd none);
+            c.stream_sound.ensures.no_memory_input (λ none. absurd none) (λ rules. rules);
         causes = has_cause (stream_line path) _ answer (λ pulls. c.stream_sound.ensures.input_fault) (λ text. c.stream_sound.ensures.write_fault)
             (λ image. absurd image);
         no_fault_passed_over = record {

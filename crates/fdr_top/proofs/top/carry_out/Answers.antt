@@ -1,4 +1,4 @@
-use Rattle.std.proofs.Common.{refl, [], None, ap, Err}
+use Rattle.std.proofs.Common.{refl, [], None, ap, inr, Err}
 use Rattle.fdr_words.specs.Forms.{decode_levels, encode_bytes, recover_image, upgrade_image}
 use Rattle.fdr_words.specs.Request.{form_of_request}
 use Rattle.fdr_top.proofs.Carrying.{carried, carried_alone, table_refused}
@@ -53,3 +53,6 @@ returns-in-Decode-clause-runs g c = rw c.in-Decode.is (carried_alone decode_leve
 pub returns-in-Decode-clause-deck_untouched : goal.returns-in-Decode-clause-deck_untouched
 returns-in-Decode-clause-deck_untouched g c = λ early.
     absurd (own_uses decode_levels _ (c.decode.ensures.works (table_or None)).answer early)
+
+pub returns-in-RecoverImage-clause-memory : goal.returns-in-RecoverImage-clause-memory
+returns-in-RecoverImage-clause-memory g c = rw c.in-RecoverImage.is (λ reads memory. inr (c.recover.ensures.memory memory))

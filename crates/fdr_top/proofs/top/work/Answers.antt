@@ -1,4 +1,4 @@
-use Rattle.std.proofs.Common.{ap}
+use Rattle.std.proofs.Common.{ap, inl, inr, refl}
 use Rattle.fdr_words.specs.Request.{form_of_request}
 use Rattle.fdr_top.proofs.Carrying.{check_works}
 use Rattle.fdr_top.proofs.top.work.Goals as goal
@@ -25,3 +25,24 @@ returns-in-ListImage-clause-works g c = rw c.in-ListImage.is (c.list.ensures.wor
 
 pub returns-in-Drill-clause-works : goal.returns-in-Drill-clause-works
 returns-in-Drill-clause-works g c = rw c.in-Drill.is (c.drill.ensures.works _ _)
+
+pub returns-in-Salvage-clause-works : goal.returns-in-Salvage-clause-works
+returns-in-Salvage-clause-works g c = rw c.in-Salvage.is (c.salvage.ensures.works _ _)
+
+pub returns-in-Salvage-clause-memory : goal.returns-in-Salvage-clause-memory
+returns-in-Salvage-clause-memory g c = rw c.in-Salvage.is (λ reads memory. inr (c.salvage.ensures.memory memory))
+
+pub returns-in-ListImage-clause-memory : goal.returns-in-ListImage-clause-memory
+returns-in-ListImage-clause-memory g c = rw c.in-ListImage.is (λ reads memory. inr (c.list.ensures.memory memory))
+
+pub returns-in-Drill-clause-memory : goal.returns-in-Drill-clause-memory
+returns-in-Drill-clause-memory g c = rw c.in-Drill.is (λ reads memory. inr (c.drill.ensures.memory memory))
+
+pub returns-in-Exceed-clause-works : goal.returns-in-Exceed-clause-works
+returns-in-Exceed-clause-works g c = rw c.in-Exceed.is (c.exceed.ensures.works _ _)
+
+pub returns-in-Exceed-clause-memory : goal.returns-in-Exceed-clause-memory
+returns-in-Exceed-clause-memory g c = rw c.in-Exceed.is (λ reads memory. inr (c.exceed.ensures.memory memory))
+
+pub returns-in-RecordLine-clause-memory : goal.returns-in-RecordLine-clause-memory
+returns-in-RecordLine-clause-memory g c = rw c.in-RecordLine.is (λ reads memory. c.record.ensures.memory memory)

@@ -1,10 +1,10 @@
-use Rattle.std.proofs.Common.{◌≡◌, ◌<◌, ◌≤◌, ◌/◌, ◌%◌, ◌+◌, ℕ, ℤ, Option, Some, refl, sym, ap, ◌∙◌, arith, to_z, of_z}
+use Rattle.std.proofs.Common.{◌≡◌, ◌<◌, ◌≤◌, ◌/◌, ◌%◌, ◌+◌, ℕ, ℤ, Option, Some, refl, sym, ap, ◌∙◌, subst, arith, to_z, of_z}
 use Rattle.std.specs.Int.{w64}
 use Rattle.std.proofs.lemmas.Int.{to_z-of_z}
 use Rattle.std.proofs.lemmas.Option.{slice_get_within}
 use Rattle.fdr_layout.specs.Samples.{first_at}
 use Rattle.fdr_recon.specs.declared.Row.{Row}
-use Rattle.fdr_recon.specs.Kept.{RebuildKept, kept_counter}
+use Rattle.fdr_recon.specs.Kept.{RebuildKept, IsSmallValue, kept_counter}
 use Rattle.fdr_recon.specs.Plans.{RowPlan}
 use Rattle.fdr_recon.specs.Rows.{reach}
 use Rattle.fdr_recon.proofs.KeptRows.{kept_row-none, kept_row-some}
@@ -39,7 +39,7 @@ returns-clause-row c s is of ends =
     ∙ ap (λ n. row (first_at s.parts / 12 / k.frame.words % 4 + 1) (first_at s.parts / 12 % k.frame.words + 1) n) (ap (λ (p : RowPlan). p.param) all)
     ∙ sym (kept_row-some k s k.frame.words (first_at s.parts / 12) plan.reach c.counter.result s.param value refl refl d near
     (c.counter.ensures.counter ∙ ap (kept_counter k) c.from.ensures) refl
-    (to_z-of_z w64 c.value.result (record { sfits = c.value.type_inv }) ∙ c.value.ensures s is of ends))
+    (to_z-of_z w64 c.value.result (record { sfits = c.value.type_inv }) ∙ c.value.ensures.value s is of ends))
 
 pub returns-clause-range : goal.returns-clause-range
 returns-clause-range c =
@@ -55,4 +55,5 @@ returns-clause-range c =
       word_low = is.4;
       word_high = is.5;
       param = omega (arith, param, within);
+      value = subst IsSmallValue (sym (to_z-of_z w64 c.value.result (record { sfits = c.value.type_inv }))) c.value.ensures.small;
     }

@@ -6,7 +6,7 @@ use Rattle.std.proofs.lemmas.Option.{get_or_from_slice_get}
 use Rattle.fdr_table.specs.Rows.{ParamRow}
 use Rattle.fdr_table.specs.Value.{value_of}
 use Rattle.fdr_layout.specs.Samples.{Sample}
-use Rattle.fdr_recon.specs.Kept.{RebuildKept, kept_cycle, kept_raw, kept_value, EndsInCycle, IsSampleOf}
+use Rattle.fdr_recon.specs.Kept.{RebuildKept, kept_cycle, kept_raw, kept_value, EndsInCycle, IsSampleOf, IsSmallValue}
 use Rattle.fdr_recon.specs.Plans.{RowPlan, row_plan, planned_raw}
 use Rattle.fdr_recon.specs.Rows.{param_at}
 use Rattle.fdr_recon.proofs.KeptRows.{kept_raw-below, kept_raw-small, param_at-sample}
@@ -50,11 +50,15 @@ value-requires c =
     subst (λ n. c.raw-raw.result < 2 ^ n) (sym (ap (λ (p : ParamRow). p.width) (param_is at.After-index-scale known.0 known.1 known.2)))
     (subst (λ n. n < 2 ^ known.2.param.width) (sym (raw_is at.After-raw-raw known.0 known.1 known.3)) below)
 
-pub returns : goal.returns
+pub returns-clause-value : goal.returns-clause-value
 unfolding kept_value
-returns c s is of ends =
+returns-clause-value c s is of ends =
     let k = c.args.self.now in
-    let at = goal.at.returns c in
-    to_z-of_z w64 c.value.result (record { sfits = c.value.type_inv }) ∙ c.value.ensures
+    let at = goal.at.returns-clause-value c in
+    to_z-of_z w64 c.value.result (record { sfits = c.value.type_inv }) ∙ c.value.ensures.value
     ∙ ap (λ p. value_of p c.raw-raw.result) (param_is at.After-index-scale s is of ∙ sym (param_at-sample k.params s of))
     ∙ ap (value_of (param_at k.params s.param)) (raw_is at.After-raw-raw s is ends)
+
+pub returns-clause-small : goal.returns-clause-small
+returns-clause-small c =
+    subst IsSmallValue (sym (to_z-of_z w64 c.value.result (record { sfits = c.value.type_inv }))) c.value.ensures.small

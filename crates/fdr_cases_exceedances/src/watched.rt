@@ -1,0 +1,36 @@
+//! Images that are watched.
+
+use fdr_cases::{ALTITUDE, Ran, deck_of, frame_with, run_words};
+use fdr_top::Outcome;
+use std::alloc::{AllocError, Global};
+use std::test::Fail;
+
+/// The words of a command that lists exceedances.
+pub const EXCEED: [&str; 3] = ["exceed", "t1.csv", "flight.img"];
+
+/// A frame with this counter, up to 15, and this altitude, up to 15.
+pub fn frame_of(alloc: Global, counter: u8, altitude: u8) -> Result<Vec<u8>, AllocError> {
+    frame_with(
+        alloc,
+        &[(1, 0x02 + 16 * (counter % 16)), (13, 16 * (altitude % 16))],
+    )
+}
+
+/// What a command answers and writes for an image with these rules on the input. It leaves the image as it was.
+pub fn ran(alloc: Global, image: &[u8], rules: &[u8]) -> Result<Ran, Fail> {
+    let mut deck = deck_of(alloc, image, rules, &[])?;
+    let ran = run_words(alloc, &EXCEED, ALTITUDE, &mut deck, &[])?;
+    if deck.image() != image || deck.told() != 0 {
+        return Err("the disk")?;
+    }
+    Ok(ran)
+}
+
+/// The exceedances of rules in an image.
+pub fn exceedances(alloc: Global, image: &[u8], rules: &str) -> Result<Vec<u8>, Fail> {
+    let ran = ran(alloc, image, rules.as_bytes())?;
+    if ran.outcome != Outcome::Done {
+        return Err("the answer")?;
+    }
+    Ok(ran.written)
+}

@@ -1,0 +1,66 @@
+//! Worked command lines. Their words are parted by one space.
+
+use fdr_pair::{PairRequest, PairWordsFault, read_pair_words};
+use std::alloc::Global;
+use std::test::Fail;
+
+fn read(alloc: Global, line: &str) -> Result<Result<PairRequest, PairWordsFault>, Fail> {
+    let mut words = Vec::new(alloc);
+    for word in line.split(' ') {
+        words.push(word.to_string(alloc)?)?;
+    }
+    Ok(read_pair_words(alloc, words.as_slice()))
+}
+
+#[test]
+fn reads_three_paths(rt: HostRuntime) -> Result<(), Fail> {
+    let cases = [
+        ("record t1.csv a.img b.img", "t1.csv", "a.img", "b.img"),
+        ("record t a a", "t", "a", "a"),
+        ("record record record record", "record", "record", "record"),
+        ("record t.csv disk/a=-1 b-", "t.csv", "disk/a=-1", "b-"),
+    ];
+    for (line, table, first, second) in cases {
+        let request = read(rt.alloc(), line)?.ok().ok_or(line)?;
+        assert_eq!(rt; request.table.text(), table, "{line}");
+        assert_eq!(rt; request.first.text(), first, "{line}");
+        assert_eq!(rt; request.second.text(), second, "{line}");
+    }
+    Ok(())
+}
+
+#[test]
+fn refuses_other_words(rt: HostRuntime) -> Result<(), Fail> {
+    let lines = [
+        "",
+        "record",
+        "record t",
+        "record t a",
+        "record t a b more",
+        "record t a b ",
+        " record t a b",
+        "record  a b",
+        "record t  b",
+        "record t a ",
+        "record - a b",
+        "record t -a b",
+        "record t a --",
+        "record t a --slots",
+        "record t a b --slots 16",
+        "record -- t a b",
+        "-record t a b",
+        "--seed=1 t a b",
+        "Record t a b",
+        "records t a b",
+        "recor t a b",
+        "list t a b",
+        "t a b record",
+    ];
+    for line in lines {
+        let answer = read(rt.alloc(), line)?;
+        assert_eq!(rt; answer.err(), Some(PairWordsFault::Usage), "{line}");
+    }
+    let none = read_pair_words(rt.alloc(), &[]);
+    assert_eq!(rt; none.err(), Some(PairWordsFault::Usage));
+    Ok(())
+}

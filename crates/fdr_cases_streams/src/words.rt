@@ -1,0 +1,222 @@
+//! Words of worked recordings.
+
+ghost use Rattle.std.specs.Prelude.{◌≡◌, ◌+◌, ◌<◌, ◌≤◌, IfOk, IsTrue};
+ghost use Rattle.fdr_bus.specs.Records.{last_time};
+ghost use Rattle.fdr_bus.specs.declared.RecordKind.TheVariants.{Word};
+ghost use Rattle.fdr_table.specs.Rows.{TableRows};
+ghost use Rattle.fdr_sampler.specs.Past.{sampler_made, RepresentsSampler};
+
+use fdr_bus::{BusRecord, RecordKind};
+use fdr_check::check;
+use fdr_layout::Layout;
+use fdr_sampler::Sampler;
+use fdr_table::Table;
+use std::alloc::Global;
+use std::test::Fail;
+
+const COUNTER_SECOND: &[u8] =
+    b"F,64,2,1\nP,ALT,0,203,,11,12,U,1,1,0,0,16\nL,ALT,1,1,10,0,1,12,0,1\n";
+
+const COUNTER_LAST: &[u8] = b"F,64,64,4\nP,ALT,0,203,,11,12,U,1,1,0,0,16\nL,ALT,1,1,2,0,1,12,0,1\n";
+
+/// A position of two parts, one in each of two frames.
+const POSITION: &[u8] =
+    b"F,64,2,1\nP,POS,1,310,,9,20,U,1,1,0,0,1\nL,POS,1,1,20,0,1,12,0,16\nL,POS,2,1,20,0,1,8,1,16\n";
+
+/// Three parameters of one label: of one SDI, of any, and of another bus.
+const ONE_LABEL: &[u8] =
+    b"F,64,64,4\nP,ONE,0,203,1,11,12,U,1,1,0,0,16\nL,ONE,1,1,10,0,1,12,0,1\nP,ANY,0,203,,11,12,U,1,1,0,0,16\nL,ANY,1,1,11,0,1,12,0,1\nP,OTH,1,203,2,11,12,U,1,1,0,0,16\nL,OTH,1,1,12,0,1,12,0,1\n";
+
+/// An altitude and a bit that tells whether it is fresh, once a second in words 10 and 11. The altitude's age is the time
+/// from 0 to its word in the third subframe; that of the bit is two seconds.
+const AGED: &[u8] =
+    b"F,64,2,1\nP,ALT,0,203,,11,12,U,1,1,0,0,64,2140625\nL,ALT,1,1234,10,0,1,12,0,1\nP,OK,0,203,,11,1,V,1,1,0,0,64,2000000\nL,OK,1,1234,11,0,1,1,0,1\n";
+
+/// The same, where the altitude's age is a microsecond less.
+const AGED_LESS: &[u8] =
+    b"F,64,2,1\nP,ALT,0,203,,11,12,U,1,1,0,0,64,2140624\nL,ALT,1,1234,10,0,1,12,0,1\nP,OK,0,203,,11,1,V,1,1,0,0,64,2000000\nL,OK,1,1234,11,0,1,1,0,1\n";
+
+fn sampler_of(alloc: Global, table: &[u8]) -> Result<Sampler, Fail>
+    ensures { IfOk result (λ s. (t : TableRows) × RepresentsSampler s (sampler_made t)) }
+{
+    let table = Table::read(alloc, table).ok().ok_or("table")?;
+    let sound = check(alloc, table).ok().ok_or("sound")?;
+    let Ok(layout) = Layout::make(alloc, &sound) else {
+        return Err("memory")?;
+    };
+    let Ok(sampler) = Sampler::new(alloc, layout, &sound) else {
+        return Err("memory")?;
+    };
+    Ok(sampler)
+}
+
+fn word(bus: u8, word: u32, time: u64) -> BusRecord
+    ensures kind { result.kind ≡ Word }
+    ensures time { result.time ≡ time }
+{
+    BusRecord {
+        kind: RecordKind::Word,
+        bus,
+        word,
+        time,
+    }
+}
+
+/// The first words of the recording of one bus word.
+fn words_of(alloc: Global, sampler: Sampler, r: &BusRecord, count: usize) -> Result<Vec<u16>, Fail>
+    requires stands { (t : TableRows) × RepresentsSampler sampler (sampler_made t) }
+    requires kind { r.now.kind ≡ Word }
+    requires in_time { r.now.time ≤ last_time }
+    requires within_frame { count ≤ 4096 }
+{
+    let mut sampler = sampler;
+    let mut words = Vec::new(alloc);
+    while sampler.due(r.time) {
+        if words.len() >= count {
+            return Err("too many words")?;
+        }
+        words.push(sampler.next_word())?;
+    }
+    sampler.bus(r);
+    while words.len() < count {
+        words.push(sampler.next_word())?;
+    }
+    Ok(words)
+}
+
+/// The words that aren't empty slots' of a recording of no bus words, with their slots.
+fn drawn_words(alloc: Global, sampler: Sampler, count: u32) -> Result<Vec<(u32, u16)>, Fail>
+    requires stands { (t : TableRows) × RepresentsSampler sampler (sampler_made t) }
+    requires within_frame { count ≤ 4096 }
+{
+    let mut sampler = sampler;
+    let mut words = Vec::new(alloc);
+    let mut slot = 0;
+    while slot < count {
+        words.push((slot, sampler.next_word()))?;
+        slot += 1;
+        slot += sampler.draw_empty_slots(count - slot);
+    }
+    Ok(words)
+}
+
+// The word is of even parity, so it isn't held.
+#[test]
+fn begins_each_subframe_by_its_sync_word(rt: HostRuntime) -> Result<(), Fail> {
+    let sampler = sampler_of(rt.alloc(), COUNTER_SECOND)?;
+    let words = words_of(rt.alloc(), sampler, &word(0, 0x8000_14c1, 0), 512)?;
+    for (k, value) in [
+        (0, 0x247),
+        (1, 0),
+        (2, 0),
+        (9, 0),
+        (63, 0),
+        (64, 0x5b8),
+        (65, 0),
+        (128, 0xa47),
+        (192, 0xdb8),
+        (255, 0),
+        (256, 0x247),
+        (257, 1),
+    ] {
+        assert_eq!(rt; words.get(k).copied(), Some(value), "slot {k}");
+    }
+    Ok(())
+}
+
+// Slot 1 is sampled at 15,625 microseconds.
+#[test]
+fn holds_a_word_at_the_time_of_a_slot(rt: HostRuntime) -> Result<(), Fail> {
+    for (bits, time, altitude) in [
+        (0x14c1, 15_625, 5),
+        (0x14c1, 15_626, 0),
+        (0x8000_14c1, 15_625, 0),
+    ] {
+        let sampler = sampler_of(rt.alloc(), COUNTER_LAST)?;
+        let words = words_of(rt.alloc(), sampler, &word(0, bits, time), 512)?;
+        assert_eq!(rt; words.get(1).copied(), Some(altitude), "at {time}");
+        assert_eq!(rt; words.get(255).copied(), Some(0));
+        assert_eq!(rt; words.get(511).copied(), Some(1));
+    }
+    Ok(())
+}
+
+#[test]
+fn holds_words_by_bus_and_sdi(rt: HostRuntime) -> Result<(), Fail> {
+    for (bus, bits, one, any, other) in [
+        (0, 0x14c1, 0, 5, 0),
+        (0, 0x8000_15c1, 5, 5, 0),
+        (0, 0x8000_16c1, 0, 5, 0),
+        (1, 0x8000_16c1, 0, 0, 5),
+        (1, 0x14c1, 0, 0, 0),
+        (0, 0x15c1, 0, 0, 0),
+    ] {
+        let sampler = sampler_of(rt.alloc(), ONE_LABEL)?;
+        let words = words_of(rt.alloc(), sampler, &word(bus, bits, 0), 64)?;
+        assert_eq!(rt; words.get(9).copied(), Some(one), "one SDI of {bits}");
+        assert_eq!(rt; words.get(10).copied(), Some(any), "any SDI of {bits}");
+        assert_eq!(rt;
+            words.get(11).copied(),
+            Some(other),
+            "another bus of {bits}"
+        );
+    }
+    Ok(())
+}
+
+// Slot 137 is sampled at 2,140,625 microseconds. A word of even parity isn't held, so nothing is ever fresh.
+#[test]
+fn takes_a_word_that_is_fresh(rt: HostRuntime) -> Result<(), Fail> {
+    for (table, bits, third, first, fresh) in [
+        (AGED, 0x14c1, 5, 5, 1),
+        (AGED_LESS, 0x14c1, 4095, 5, 1),
+        (AGED, 0x8000_14c1, 4095, 4095, 0),
+    ] {
+        let sampler = sampler_of(rt.alloc(), table)?;
+        let words = words_of(rt.alloc(), sampler, &word(0, bits, 0), 256)?;
+        for (slot, value) in [
+            (9, first),
+            (10, fresh),
+            (73, first),
+            (74, fresh),
+            (137, third),
+            (138, 0),
+            (201, 4095),
+            (202, 0),
+        ] {
+            assert_eq!(rt; words.get(slot).copied(), Some(value), "slot {slot}");
+        }
+    }
+    Ok(())
+}
+
+// Both parts have pieces of the value at the first part's slot, which is sampled at 296,875 microseconds.
+#[test]
+fn takes_a_value_at_its_first_part(rt: HostRuntime) -> Result<(), Fail> {
+    for (time, low, high) in [(0, 0xcde, 0xab), (296_875, 0xcde, 0xab), (1_000_000, 0, 0)] {
+        let sampler = sampler_of(rt.alloc(), POSITION)?;
+        let words = words_of(rt.alloc(), sampler, &word(1, 0x8abc_de13, time), 512)?;
+        assert_eq!(rt; words.get(19).copied(), Some(low), "at {time}");
+        assert_eq!(rt; words.get(275).copied(), Some(high), "at {time}");
+    }
+    Ok(())
+}
+
+// The parameter's word is in word 10 of subframe 1, and the counter in word 2.
+#[test]
+fn draws_empty_slots_at_once(rt: HostRuntime) -> Result<(), Fail> {
+    let words = drawn_words(rt.alloc(), sampler_of(rt.alloc(), COUNTER_SECOND)?, 300)?;
+    let wanted = [
+        (0, 0x247),
+        (1, 0),
+        (9, 0),
+        (64, 0x5b8),
+        (128, 0xa47),
+        (192, 0xdb8),
+        (256, 0x247),
+        (257, 1),
+        (265, 0),
+    ];
+    assert_eq!(rt; words.as_slice(), wanted.as_slice());
+    Ok(())
+}

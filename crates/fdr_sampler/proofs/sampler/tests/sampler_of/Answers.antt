@@ -1,4 +1,0 @@
-use Rattle.fdr_sampler.proofs.sampler.tests.sampler_of.Goals as goal
-
-pub returns : goal.returns
-returns c = (c.in_ok-sound.sound, c.in-Ok-new.ensures)

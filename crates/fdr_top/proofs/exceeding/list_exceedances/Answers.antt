@@ -1,0 +1,127 @@
+use Rattle.std.proofs.Common.{◌≡◌, ◌⊎◌, inl, inr, ◌∙◌, arith, refl}
+use Rattle.fdr_words.specs.Forms.{exceed_image}
+use Rattle.fdr_io.specs.declared.Input.TheVariants as input
+use Rattle.fdr_top.specs.Answers.{IsOwn}
+use Rattle.fdr_top.specs.Stages.{IsBeforeInput}
+use Rattle.fdr_top.specs.declared.outcome.Outcome.{Outcome}
+use Rattle.fdr_top.specs.declared.outcome.Outcome.TheVariants as outcome
+use Rattle.fdr_top.proofs.Answering.{memory_writes, passes_keeps}
+use Rattle.fdr_top.proofs.ExceededImages.{blocks_exceeded, long_image, no_room_to_watch, of_rules, opening_own, rules_refused, unopened}
+use Rattle.fdr_top.proofs.ListedImages.{of_blocks, of_blocks_begun}
+use Rattle.fdr_top.proofs.RecordLines.{refuses_nothing}
+use Rattle.fdr_top.proofs.exceeding.list_exceedances.Goals as goal
+
+-- ---- what is promised of the text
+
+pub returns-in-Err-clause-lists : goal.returns-in-Err-clause-lists
+returns-in-Err-clause-lists g c =
+    unopened c.args.sound.now _ _ _ _ c.in-Err.answer c.open_image.ensures.looks c.in-Err.ensures.shut c.in-Err.ensures.refused
+
+pub returns-in_default-clause-lists : goal.returns-in_default-clause-lists
+returns-in_default-clause-lists g c =
+    unopened c.args.sound.now _ _ _ _ outcome.NoMemory c.open_image.ensures.looks tt (refuses_nothing _ _ _ _ outcome.NoMemory (λ past. past))
+
+pub returns-in-Err-pull_rules-clause-lists : goal.returns-in-Err-pull_rules-clause-lists
+returns-in-Err-pull_rules-clause-lists g c =
+    let opened = c.in-Ok.ensures.opened in
+    let refused = rw c.table.ensures at c.in-Err-pull_rules.ensures.refused in
+    rules_refused c.args.sound.now _ _ _ _ _ refused.0 c.in-Err-pull_rules.answer c.open_image.ensures.looks
+    (long_image c.in-Ok.reader.header _ opened.whole) opened.image
+    c.pull_rules.ensures.disk refused.1
+
+pub returns-in_default-watching-clause-lists : goal.returns-in_default-watching-clause-lists
+returns-in_default-watching-clause-lists g c =
+    let read = rw c.table.ensures at c.in-Ok-pull_rules.ensures.rules in
+    no_room_to_watch c.args.sound.now _ _ _ _ _ read.0 c.open_image.ensures.looks c.pull_rules.ensures.disk read.2
+
+pub returns-clause-lists : goal.returns-clause-lists
+returns-clause-lists g c =
+    let opened = c.in-Ok.ensures.opened in
+    let read = rw c.table.ensures at c.in-Ok-pull_rules.ensures.rules in
+    blocks_exceeded c.args.sound.now _ _ _ _ _ c.in-Ok.reader.header _ _ _ read.0 _ c.open_image.ensures.looks c.pull_rules.ensures.disk
+    c.write_exceedances.ensures.looks opened.header opened.image opened.whole read.2 (c.in-Ok-watching.ensures.rules ∙ read.1)
+    c.write_exceedances.ensures.answer (rw c.table-2.ensures at c.write_exceedances.ensures.text) (rw c.table-2.ensures at c.write_exceedances.ensures.part)
+
+-- ---- which answers there are
+
+pub returns-in-Err-clause-answer : goal.returns-in-Err-clause-answer
+returns-in-Err-clause-answer g c = λ path image. opening_own path image c.in-Err.answer c.in-Err.ensures.shut
+
+pub returns-in-Err-pull_rules-clause-answer : goal.returns-in-Err-pull_rules-clause-answer
+returns-in-Err-pull_rules-clause-answer g c = λ path image.
+    of_rules (λ (a : Outcome). (a ≡ outcome.NoMemory) ⊎ IsOwn (exceed_image path image) a) c.in-Err-pull_rules.answer (λ row f. inr tt) (inr tt) (inl refl)
+    c.in-Err-pull_rules.ensures.refused.1.only
+
+pub returns-clause-answer : goal.returns-clause-answer
+returns-clause-answer g c = λ path image.
+    inr (of_blocks (λ (a : Outcome). IsOwn (exceed_image path image) a) c.write_exceedances.result tt tt tt c.write_exceedances.ensures.answer)
+
+-- ---- the input
+
+pub returns-in-Err-clause-before_input : goal.returns-in-Err-clause-before_input
+returns-in-Err-clause-before_input g c = λ before. passes_keeps _ _ _ c.open_image.ensures.looks.disk_work.passes
+
+pub returns-in-Err-pull_rules-clause-before_input : goal.returns-in-Err-pull_rules-clause-before_input
+returns-in-Err-pull_rules-clause-before_input g c = λ before.
+    absurd (of_rules (λ (a : Outcome). IsBeforeInput a → ⊥) c.in-Err-pull_rules.answer (λ row f none. none) (λ none. none) (λ none. none)
+    c.in-Err-pull_rules.ensures.refused.1.only before)
+
+pub returns-clause-before_input : goal.returns-clause-before_input
+returns-clause-before_input g c = λ before.
+    absurd (of_blocks (λ (a : Outcome). IsBeforeInput a → ⊥) c.write_exceedances.result (λ none. none) (λ none. none) (λ none. none)
+    c.write_exceedances.ensures.answer before)
+
+pub returns-clause-bounded : goal.returns-clause-bounded
+returns-clause-bounded g c =
+    let opened = c.open_image.ensures.looks.disk_work.passes.input.taken in
+    let read = c.write_exceedances.ensures.looks.disk_work.passes.input.taken in
+    omega (arith, opened, read, c.pull_rules.ensures.bounded)
+
+-- ---- what was counted
+
+pub returns-in_default-watching-clause-no_input_fault : goal.returns-in_default-watching-clause-no_input_fault
+returns-in_default-watching-clause-no_input_fault g c = λ other.
+    c.in-Ok-pull_rules.ensures.no_input_fault (λ e. absurd (cc)) ∙ c.open_image.ensures.looks.disk_work.passes.input_faults
+
+pub returns-clause-input_fault : goal.returns-clause-input_fault
+returns-clause-input_fault g c = λ e.
+    absurd (of_blocks (λ (a : Outcome). a ≡ outcome.ReadFault input.Line → ⊥) c.write_exceedances.result (λ x. cc) (λ x. cc) (λ x. cc)
+    c.write_exceedances.ensures.answer e)
+
+pub returns-clause-no_input_fault : goal.returns-clause-no_input_fault
+returns-clause-no_input_fault g c = λ other.
+    c.write_exceedances.ensures.looks.disk_work.passes.input_faults ∙ c.in-Ok-pull_rules.ensures.no_input_fault (λ e. absurd (cc))
+    ∙ c.open_image.ensures.looks.disk_work.passes.input_faults
+
+pub returns-in_default-watching-clause-no_disk_fault : goal.returns-in_default-watching-clause-no_disk_fault
+returns-in_default-watching-clause-no_disk_fault g c = λ other.
+    c.pull_rules.ensures.disk.disk_faults ∙ c.in-Ok.ensures.no_disk_fault (λ e. absurd (cc))
+
+pub returns-clause-disk_fault : goal.returns-clause-disk_fault
+returns-clause-disk_fault g c = λ fails.
+    let looked = c.open_image.ensures.looks.disk_work.passes.disk_faults in
+    let pulled = c.pull_rules.ensures.disk.disk_faults in
+    let rose = c.write_exceedances.ensures.disk_fault fails in
+    omega (arith, looked, pulled, rose)
+
+pub returns-clause-no_disk_fault : goal.returns-clause-no_disk_fault
+returns-clause-no_disk_fault g c = λ other.
+    c.write_exceedances.ensures.no_disk_fault other ∙ c.pull_rules.ensures.disk.disk_faults ∙ c.in-Ok.ensures.no_disk_fault (λ e. absurd (cc))
+
+-- ---- memory, and where nothing is written
+
+pub returns-in_default-clause-memory : goal.returns-in_default-clause-memory
+returns-in_default-clause-memory g c = λ e.
+    let opened = c.in-Ok.ensures.opened in
+    record { long = omega (arith, opened.whole); good = λ told. (opened.image told).no_fault }
+
+pub returns-in_default-watching-clause-memory : goal.returns-in_default-watching-clause-memory
+returns-in_default-watching-clause-memory g c = λ e.
+    let opened = c.in-Ok.ensures.opened in
+    record { long = omega (arith, opened.whole, c.pull_rules.ensures.disk.extent); good = λ told. (opened.image told).no_fault }
+
+pub returns-clause-memory : goal.returns-clause-memory
+returns-clause-memory g c = λ e. absurd (of_blocks_begun c.write_exceedances.result c.write_exceedances.ensures.answer (memory_writes _ e))
+
+pub returns-clause-unwritten : goal.returns-clause-unwritten
+returns-clause-unwritten g c = λ none. absurd (none c.write_exceedances.ensures.answer)

@@ -1,0 +1,73 @@
+use Rattle.std.proofs.Common.{◌≡◌, Err, ap}
+use Rattle.std.specs.Prelude.{IsTrue}
+use Rattle.fdr_recover.specs.Images.{recovered_run}
+use Rattle.fdr_io.specs.Told.{followed_by}
+use Rattle.fdr_io.proofs.OutputSteps.{whole_is_part}
+use Rattle.fdr_top.specs.Exceed.{exceedances_of_blocks}
+use Rattle.fdr_top.specs.Exceeding.{TakesEntries, steps_of_entries}
+use Rattle.fdr_top.specs.Sessions.{entries_of_blocks}
+use Rattle.fdr_top.proofs.Exceeds.{all_written, blocks_failed_part, end_failed, first_part, gave}
+use Rattle.fdr_top.proofs.RunSizes.{run_short}
+use Rattle.fdr_top.proofs.exceeding.write_exceedances.Given.{Over}
+use Rattle.fdr_top.proofs.exceeding.write_exceedances.Goals.{In-Ok-finish}
+use Rattle.fdr_top.proofs.exceeding.write_exceedances.Goals as goal
+
+-- all lines were written
+written : (g : Over) (c : In-Ok-finish g) → IsTrue g.D.Deck.tells.bytes
+    → g.O.Sink.written c.finish.new.out ≡ followed_by (g.O.Sink.written c.args.out.now)
+    (exceedances_of_blocks c.args.blocks.now.taker.watch.rules c.args.blocks.now.table.now c.args.header.now.version
+    (recovered_run c.args.header.now (g.D.Deck.state c.args.deck.now).held))
+written g c told =
+    let t = c.args.blocks.now.table.now in
+    let version = c.args.header.now.version in
+    let run = recovered_run c.args.header.now (g.D.Deck.state c.args.deck.now).held in
+    let short = run_short c.args.header.now (g.D.Deck.state c.args.deck.now).held c.requires.limits in
+    let before = c.args.blocks.now.taker in
+    let o = g.O.Sink.written c.args.out.now in
+    let p = g.O.Sink.written c.take_blocks.new.out in
+    let now = c.take_blocks.new.blocks.taker in
+    let took : TakesEntries o p before now (entries_of_blocks t version run) = rw c.requires.version at c.in-Ok.ensures.all told in
+    let given = gave o before t version run c.requires.empty c.requires.no_rows c.requires.watching c.requires.sound short p now took in
+    let wrote = c.in-Ok-finish.ensures.all (steps_of_entries (entries_of_blocks t version run)) given.all in
+    all_written o before t version run c.requires.empty c.requires.no_rows c.requires.watching c.requires.sound short p now took _ wrote.0 wrote.1 wrote.2
+
+pub returns-in-Ok-finish-clause-text : goal.returns-in-Ok-finish-clause-text
+returns-in-Ok-finish-clause-text g c = λ done told. written g (goal.at.returns-in-Ok-finish-clause-text g c).In-Ok-finish told
+
+pub returns-in-Ok-finish-clause-part : goal.returns-in-Ok-finish-clause-part
+returns-in-Ok-finish-clause-part g c = λ told. whole_is_part _ _ _ (written g (goal.at.returns-in-Ok-finish-clause-part g c).In-Ok-finish told)
+
+pub returns-in-Err-clause-part : goal.returns-in-Err-clause-part
+returns-in-Err-clause-part g c = λ told.
+    let t = c.args.blocks.now.table.now in
+    let version = c.args.header.now.version in
+    let run = recovered_run c.args.header.now (g.D.Deck.state c.args.deck.now).held in
+    let short = run_short c.args.header.now (g.D.Deck.state c.args.deck.now).held c.requires.limits in
+    let before = c.args.blocks.now.taker in
+    let o = g.O.Sink.written c.args.out.now in
+    let p = g.O.Sink.written c.take_blocks.new.out in
+    let now = c.take_blocks.new.blocks.taker in
+    let took : TakesEntries o p before now (entries_of_blocks t version run) = rw c.requires.version at c.in-Ok.ensures.all told in
+    let given = gave o before t version run c.requires.empty c.requires.no_rows c.requires.watching c.requires.sound short p now took in
+    end_failed o before t version run c.requires.empty c.requires.no_rows c.requires.watching c.requires.sound short p now took _
+    (c.in-Err.ensures.part (steps_of_entries (entries_of_blocks t version run)) given.all)
+
+pub returns-in-Err-Disk-clause-part : goal.returns-in-Err-Disk-clause-part
+returns-in-Err-Disk-clause-part g c = λ told.
+    let t = c.args.blocks.now.table.now in
+    let version = c.args.header.now.version in
+    let run = recovered_run c.args.header.now (g.D.Deck.state c.args.deck.now).held in
+    let short = run_short c.args.header.now (g.D.Deck.state c.args.deck.now).held c.requires.limits in
+    let front = c.in-Err-Disk.ensures.front told (ap Err c.in-Err-Disk.field-0-is) in
+    first_part (g.O.Sink.written c.args.out.now) c.args.blocks.now.taker t version run c.requires.empty c.requires.no_rows c.requires.watching
+    c.requires.sound short (g.O.Sink.written c.take_blocks.new.out) _ c.take_blocks.new.blocks.taker front.0 front.1 c.flush.result front.2
+    (rw c.requires.version at front.3) c.flush.ensures.all c.flush.ensures.part
+
+pub returns-in-Err-Taker-clause-part : goal.returns-in-Err-Taker-clause-part
+returns-in-Err-Taker-clause-part g c = λ told.
+    let t = c.args.blocks.now.table.now in
+    let version = c.args.header.now.version in
+    let run = recovered_run c.args.header.now (g.D.Deck.state c.args.deck.now).held in
+    let short = run_short c.args.header.now (g.D.Deck.state c.args.deck.now).held c.requires.limits in
+    blocks_failed_part (g.O.Sink.written c.args.out.now) c.args.blocks.now.taker t version run c.requires.empty c.requires.no_rows c.requires.watching
+    c.requires.sound short _ (rw c.requires.version at (c.in-Err-Taker.ensures.part told (ap Err c.in-Err-Taker.field-0-is)))
