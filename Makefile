@@ -3,11 +3,14 @@
 
 PREFIX ?= /usr/local
 PROGRAM = crates/fdr_prog
+SOURCES = crates.txt $(shell find crates -name out -prune -o -type f \( -name '*.rt' -o -name '*.antt' \) -print)
 
 .PHONY: build demo check walk compare streams crash-test check-real check-memory bench tools-test test install clean help
 
-# Proves the program and everything below it, and puts it at bin/fdr.
-build:
+# Proves the program and everything below it, and puts it at bin/fdr. After `make test` it is there already.
+build: bin/fdr
+
+bin/fdr: $(SOURCES)
 	cd $(PROGRAM) && rt run -- listbits data/t1.csv < stdin
 	mkdir -p bin
 	cp $(PROGRAM)/out/fdr_prog bin/fdr
@@ -64,6 +67,8 @@ tools-test:
 # The gate: every proof, must-fail edit, test and program.
 test:
 	./.ci/run
+	mkdir -p bin
+	cp $(PROGRAM)/out/fdr_prog bin/fdr
 
 # Puts the program, its man page and the pages below PREFIX, which is /usr/local where it isn't given.
 install: build
