@@ -3,19 +3,28 @@
 
 PREFIX ?= /usr/local
 PROGRAM = crates/fdr_prog
+PAIR_PROGRAM = crates/fdr_pair_prog
 SOURCES = crates.txt $(shell find crates -name out -prune -o -type f \( -name '*.rt' -o -name '*.antt' \) -print)
 
 .PHONY: build demo check walk compare streams crash-test check-real check-memory bench tools-test test install clean help
 
-# Proves the program and everything below it, and puts it at bin/fdr. After `make test` it is there already.
-build: bin/fdr
+# Proves both programs and everything below them, and puts them at bin/fdr and bin/fdrpair.
+# After `make test` they are there already.
+build: bin/fdr bin/fdrpair
 
 bin/fdr: $(SOURCES)
 	cd $(PROGRAM) && rt run -- listbits data/t1.csv < stdin
 	mkdir -p bin
 	cp $(PROGRAM)/out/fdr_prog bin/fdr
 
-# Builds the program without its proofs and runs each command on the cases of examples/.
+# Without words the program ends with 1, and so does a refused proof, which leaves no program.
+bin/fdrpair: $(SOURCES)
+	rm -f $(PAIR_PROGRAM)/out/fdr_pair_prog
+	cd $(PAIR_PROGRAM) && rt run || test $$? -eq 1
+	mkdir -p bin
+	cp $(PAIR_PROGRAM)/out/fdr_pair_prog bin/fdrpair
+
+# Builds the first program without its proofs and runs each command on the cases of examples/.
 # It is built once. The output is compared: images are made, recorded in and listed, and one is listed again as a cut
 # of the power left it.
 demo:
@@ -31,34 +40,36 @@ check:
 	tools/documents.py check
 	examples/make_images.py --check
 
-# Goes the walk of examples/ with the built program, and compares what it prints with what the three pages show.
+# Goes the walk of examples/ with the built programs, and compares what they print with what the three pages show.
 walk: build
-	tests/walk.py bin/fdr
+	tests/walk.py bin/fdr bin/fdrpair
 
-# Compares the built program with a reader that was written from docs/FORMATS.md alone, on drawn inputs.
+# Compares the first program with a reader that was written from docs/FORMATS.md alone, on drawn inputs.
 compare: build
 	tests/compare.py --program bin/fdr
 
-# Runs the built program with each of its standard streams closed.
+# Runs the first program with each of its standard streams closed.
 streams: build
 	tests/streams.sh bin/fdr
 
-# Kills recordings of the built program at random moments, and looks at what the image holds then.
+# Kills recordings of the built programs at random moments, and looks at what the images hold then.
 crash-test: build
 	tests/crashes.py bin/fdr
+	tests/pair.py bin/fdrpair bin/fdr --kills
 
-# Runs the built program on real files, devices and streams, and on what goes wrong with them.
+# Runs the built programs on real files, devices and streams, and on what goes wrong with them.
 check-real: build
 	tests/files.py bin/fdr
+	tests/pair.py bin/fdrpair bin/fdr --cases
 
-# Refuses the built program its memory, one request at a time.
+# Refuses the built programs their memory, one request at a time.
 check-memory: build
-	tests/memory.py bin/fdr
+	tests/memory.py bin/fdr bin/fdrpair
 
-# Measures the built program on large inputs, beside `cat` of the same bytes.
+# Measures the built programs on large inputs, beside `cat` of the same bytes.
 # It takes under a minute after the build, and 1.5 GB for the inputs.
 bench: build
-	bench/commands.py bin/fdr
+	bench/commands.py bin/fdr bin/fdrpair
 
 # Tests the tools beside the program, and says which packages they lack.
 tools-test:
@@ -69,11 +80,13 @@ test:
 	./.ci/run
 	mkdir -p bin
 	cp $(PROGRAM)/out/fdr_prog bin/fdr
+	cp $(PAIR_PROGRAM)/out/fdr_pair_prog bin/fdrpair
 
-# Puts the program, its man page and the pages below PREFIX, which is /usr/local where it isn't given.
+# Puts the programs, their man pages and the pages below PREFIX, which is /usr/local where it isn't given.
 install: build
-	install -D -m 755 bin/fdr $(DESTDIR)$(PREFIX)/bin/fdr
-	install -D -m 644 docs/fdr.1 $(DESTDIR)$(PREFIX)/share/man/man1/fdr.1
+	install -d $(DESTDIR)$(PREFIX)/bin $(DESTDIR)$(PREFIX)/share/man/man1
+	install -m 755 bin/fdr bin/fdrpair $(DESTDIR)$(PREFIX)/bin
+	install -m 644 docs/fdr.1 docs/fdrpair.1 $(DESTDIR)$(PREFIX)/share/man/man1
 	install -d $(DESTDIR)$(PREFIX)/share/doc/fdr
 	cp -R README.md CONTRIBUTING.md CHANGELOG.md CITATION.cff docs examples $(DESTDIR)$(PREFIX)/share/doc/fdr
 

@@ -1,18 +1,18 @@
 #!/usr/bin/env python3
-"""Measures the built program on large inputs, beside `cat` of the same bytes.
+"""Measures the built programs on large inputs, beside `cat` of the same bytes.
 
-    bench/commands.py PROGRAM [--size MB] [--repeat N] [--folder FOLDER] [--memory FOLDER] [--only WORD]
+    bench/commands.py FDR FDRPAIR [--size MB] [--repeat N] [--folder FOLDER] [--memory FOLDER] [--only WORD]
 
-The inputs are made here, in a folder that is removed at the end, and without the program: tables, frames by them,
+The inputs are made here, in a folder that is removed at the end, and without the programs: tables, frames by them,
 noise, frames with a bit too many in each, traces, and a full image. The seed is fixed, so the inputs are the same in
 every run. Each work is run once with its output in a file, for its size, and then N times with its output to
 /dev/null; the run with the middle seconds of the processor counts. `cat` of the same file to /dev/null is what
 reading the bytes costs. Recordings go into an image on a file system in memory, where a sync costs next to nothing, and
-which is made anew before each run.
+which is made anew before each run; one trace is recorded by FDRPAIR in two images there, too.
 
 It prints the machine, and a table in Markdown: bytes in and out, seconds of the processor (of the program, and of the
-system for it), bytes of the input a second of these, the most memory, and the seconds of `cat`. docs/PERFORMANCE.md
-says how to read it.
+system for it), bytes of the input a second of these, the most memory, and the seconds of `cat`. The last line says how
+many times as long a recording in two images took as the same in one. docs/PERFORMANCE.md says how to read it.
 """
 
 import argparse
@@ -43,7 +43,7 @@ SECOND = 1_000_000  # microseconds
 
 Parameter = collections.namedtuple("Parameter", "bus label sdi rate")
 Place = collections.namedtuple("Place", "subframes word step lsb width cycle period")
-Work = collections.namedtuple("Work", "name words given measured image")
+Work = collections.namedtuple("Work", "name program words given measured images")
 
 
 # --- tables
@@ -213,8 +213,8 @@ def change_rules(count, window):
 
 
 def make_works(room, memory, size, hours):
-    """Makes the inputs in a folder, and answers the works: the words, the input, the file whose bytes count, and the
-    image that is made anew in a folder in memory."""
+    """Makes the inputs in a folder, and answers the works: the program, its words, the input, the file whose bytes count,
+    and the images that are made anew in a folder in memory."""
     chance = random.Random(717)
     texts = {"t1": T1, "ordinary": ORDINARY, "dense": dense_table(), "full": full_table(), "largest": largest_table()}
     for name, text in texts.items():
@@ -226,8 +226,8 @@ def make_works(room, memory, size, hours):
 
     works = []
 
-    def add(name, words, given=None, measured=None, image=None):
-        works.append(Work(name, words, given or os.devnull, measured or given, image))
+    def add(name, words, given=None, measured=None, images=(), program="fdr"):
+        works.append(Work(name, program, words, given or os.devnull, measured or given, images))
 
     for name in ("t1", "ordinary", "dense"):
         line, frame = frames(table_of[name], chance)
@@ -255,12 +255,15 @@ def make_works(room, memory, size, hours):
         write_trace(at(f"{name}.trace"), table_of[name], int(seconds * hours), chance)
         what = {"full": "four parts in each slot"}.get(name, f"the {name} table")
         add(f"stream, {what}, {seconds // 3600 * hours:g} h", ["stream", at(f"{name}.csv")], at(f"{name}.trace"))
-    image = memory / "recorded.img"
+    image, second = memory / "recorded.img", memory / "second.img"
     for name, seconds in (("ordinary", 25 * 3600), ("dense", 3600)):
-        words = ["record", at(f"{name}.csv"), image]
-        add(f"record, the {name} table, {seconds // 3600 * hours:g} h", words, at(f"{name}.trace"), image=image)
+        words, what = ["record", at(f"{name}.csv"), image], f"the {name} table, {seconds // 3600 * hours:g} h"
+        add(f"record, {what}", words, at(f"{name}.trace"), images=[image])
+        if name == "ordinary":
+            both = {"images": [image, second], "program": "fdrpair"}
+            add(f"record in two images, {what}", [*words, second], at(f"{name}.trace"), **both)
     words = ["drill", at("ordinary.csv"), image, "--seed", "7", "--frames", str(DRILLED)]
-    add(f"drill, the ordinary table, {DRILLED:,} frames", words, measured=at("ordinary.csv"), image=image)
+    add(f"drill, the ordinary table, {DRILLED:,} frames", words, measured=at("ordinary.csv"), images=[image])
     add("check, the largest table", ["check", at("largest.csv")], measured=at("largest.csv"))
     return works
 
@@ -269,10 +272,10 @@ def make_works(room, memory, size, hours):
 
 
 def make_anew(work):
-    """Makes the image of a work without blocks, by the table that its words name second."""
-    if work.image:
+    """Makes the images of a work without blocks, by the table that its words name second."""
+    for image in work.images:
         words = Table(work.words[1].read_bytes()).words
-        work.image.write_bytes(empty_image(SLOTS, PAYLOAD, words))
+        image.write_bytes(empty_image(SLOTS, PAYLOAD, words))
 
 
 def runs_of(words, work, repeat):
@@ -288,8 +291,9 @@ def middle_run(runs):
     return runs[repeat // 2]._replace(peak=max(one.peak for one in runs))
 
 
-def row_of(program, work, repeat, room):
-    words, shown = [program, *work.words], room / "shown"
+def row_of(programs, work, repeat, room):
+    """The cells of a work's row, and its seconds."""
+    words, shown = [programs[work.program], *work.words], room / "shown"
     make_anew(work)
     run(words, given=work.given, written=shown)
     written, read = shown.stat().st_size, work.measured.stat().st_size
@@ -298,7 +302,7 @@ def row_of(program, work, repeat, room):
     floor = middle_run([run(["cat", work.measured]) for _ in range(repeat)])
     speed = f"{read / figures.processor / MB:,.0f}" if figures.processor else "-"
     cells = [work.name, f"{read:,}", f"{written:,}", f"{figures.processor:.3f}", speed, f"{figures.peak:.1f}"]
-    return cells + [f"{floor.processor:.3f}"]
+    return cells + [f"{floor.processor:.3f}"], figures.processor
 
 
 def machine():
@@ -313,7 +317,8 @@ def machine():
 
 def main():
     words = argparse.ArgumentParser(description=__doc__.splitlines()[0])
-    words.add_argument("program", type=pathlib.Path)
+    words.add_argument("fdr", type=pathlib.Path)
+    words.add_argument("fdrpair", type=pathlib.Path)
     words.add_argument("--size", type=int, default=200, help="millions of bytes in each input of listbits")
     words.add_argument("--hours", type=float, default=1, help="what the hours of the traces are multiplied by")
     words.add_argument("--repeat", type=int, default=5)
@@ -321,6 +326,7 @@ def main():
     words.add_argument("--memory", default="/dev/shm", help="where the images are made that are recorded in")
     words.add_argument("--only", default="", help="the works with this in their names")
     given = words.parse_args()
+    programs = {"fdr": given.fdr.resolve(), "fdrpair": given.fdrpair.resolve()}
     print(f"{machine()}\n")
     prefix = "fdr_bench_"
     with tempfile.TemporaryDirectory(prefix=prefix, dir=given.folder) as room, tempfile.TemporaryDirectory(prefix=prefix, dir=given.memory) as memory:
@@ -328,9 +334,15 @@ def main():
         works = [work for work in make_works(room, memory, given.size * MB, given.hours) if given.only in work.name]
         print_row(["work", "bytes in", "bytes out", "seconds", "MB a second", "peak MB", "`cat`, seconds"])
         print_row(["---"] + ["---:"] * 6)
+        took = {}
         for work in works:
-            print_row(row_of(given.program.resolve(), work, given.repeat, room))
+            cells, took[work.name] = row_of(programs, work, given.repeat, room)
+            print_row(cells)
             sys.stdout.flush()
+    for name, seconds in took.items():
+        one = took.get(name.replace("record in two images", "record"))
+        if name.startswith("record in two images") and one:
+            print(f"\n{name}: {seconds / one:.2f} times as long as in one")
 
 
 if __name__ == "__main__":

@@ -15,38 +15,23 @@ expected.
 """
 
 import argparse
-import bisect
-import collections
 import contextlib
-import fcntl
 import os
 import pathlib
-import resource
-import shutil
 import signal
-import socket
-import stat
-import struct
-import subprocess
 import sys
-import tempfile
-import termios
-import threading
 import time
 
 sys.dont_write_bytecode = True
 
+import places
 from formats import HEADER, VERSION_1, bits_of, bytes_of_bits, empty_image, end_at, frame, levels_of, recorded, shape_of, slot_at, upgraded
-from inputs import T1, largest_table, t1_frame, table_of_every_word, word_at
-
-APART = "FDR_TESTS_APART"  # set where the script has mounts of its own
-NOBODY = 65534
-PIPE_SIZE = 4096
-PAGE = 4096
+from inputs import BITS, FIVES, T1, TRACE, largest_table, t1_frame, table_of_every_word, word_at
+from places import CLOSED, FOLDER, FULL, GONE, NOBODY, NOTHING, PAGE, PIPE, READ_ONLY, WRITE_ONLY, ZEROS, Front, InLittleMemory, Mismatch, To
+from places import acks, all_of, begin_apart, block_device, bound_socket, closed_subfolder, empty_pipe, few_files, file, filled, full_pipe
+from places import held_pipe, is_interrupted, link, made_read_only, mode, mounted, named_pipe, size_limit, sparse_image, subfolder, text_of, try_all, zeros_of
 
 # What each run finds in its folder, and what becomes of it.
-BITS = t1_frame(0, 5) + t1_frame(1, 7)
-TRACE = word_at(0, 5) + word_at(4_000_000, 7) + end_at(8_000_000)
 LISTING = b"row,0,1,10,ALT,5\nrow,1,1,10,ALT,7\n"
 SESSION = b"session,1,0\n"
 RUN = b"run,0,12\n"
@@ -60,7 +45,6 @@ OLD = recorded(empty_image(16, 64, version=VERSION_1), BITS)
 NEW = upgraded(OLD)
 NEW_AGAIN = recorded(NEW, BITS)
 DRILL_LINE = b"drill,6,2,2,1506\n"
-FIVES = b"".join(t1_frame(counter, 5) for counter in range(11))
 
 # More than fits in the pipes and buffers between the program and its reader.
 EVERY = table_of_every_word()
@@ -114,378 +98,6 @@ KILLED = (-signal.SIGKILL, "")
 PAST_SIZE = (-signal.SIGXFSZ, "")
 
 
-class Mismatch(Exception):
-    """What differs from what is expected."""
-
-
-class Skipped(Exception):
-    """What a case needs and isn't there."""
-
-
-class Front:
-    """A front part of these bytes, and not all of them."""
-
-    def __init__(self, data):
-        self.data = data
-
-    def __eq__(self, other):
-        return len(other) < len(self.data) and self.data.startswith(other)
-
-    def __repr__(self):
-        return f"a front part of {len(self.data)} bytes"
-
-
-def short(data):
-    return repr(data) if not isinstance(data, bytes) or len(data) <= 160 else f"{len(data)} bytes, {data[:60]!r}.."
-
-
-def text_of(acks, text=""):
-    """What stands on standard error: the acknowledgements from one number to another, and the text."""
-    said = [f"ack {number}" for number in range(acks[0], acks[1] + 1)] if acks else []
-    return "".join(line + "\n" for line in [*said, text] if line).encode()
-
-
-# --- what a run has for a stream
-
-
-CLOSED, PIPE = object(), object()
-To = collections.namedtuple("To", "name")  # a file of the run's folder
-
-
-def opened(path, flags):
-    return lambda: os.open(path, flags)
-
-
-FULL = opened("/dev/full", os.O_WRONLY)
-NOTHING = READ_ONLY = opened(os.devnull, os.O_RDONLY)
-WRITE_ONLY = opened(os.devnull, os.O_WRONLY)
-ZEROS = opened("/dev/zero", os.O_RDONLY)
-FOLDER = opened("/", os.O_RDONLY)
-
-
-def pipe_without_reader():
-    reader, writer = os.pipe()
-    os.close(reader)
-    return writer
-
-
-def empty_pipe():
-    """A pipe in which nothing is yet, and whose reader isn't made to wait."""
-    reader, writer = os.pipe()
-    os.set_blocking(reader, False)
-    HELD.append(writer)
-    return reader
-
-
-def full_pipe():
-    """A pipe in which there is no room, and whose writer isn't made to wait."""
-    reader, writer = os.pipe()
-    os.set_blocking(writer, False)
-    with contextlib.suppress(BlockingIOError):
-        while os.write(writer, bytes(PIPE_SIZE)):
-            pass
-    HELD.append(reader)
-    return writer
-
-
-GONE = pipe_without_reader
-HELD = []  # the other ends of pipes
-
-
-def zeros_of(size):
-    """A file of so many zeros, which takes no room."""
-
-    def stream():
-        with tempfile.TemporaryFile() as file:
-            file.truncate(size)
-            return os.dup(file.fileno())
-
-    return stream
-
-
-def file_with(data):
-    with tempfile.TemporaryFile() as file:
-        file.write(data)
-        file.seek(0)
-        return os.dup(file.fileno())
-
-
-# --- runs
-
-
-class Run:
-    """A run of a program in a folder. It is ended where it takes too long."""
-
-    def __init__(self, words, room, seconds, given=b"", out=PIPE, err=PIPE, limit=None, ignores=None, user=None):
-        self.shown, self.said, self.was_late = b"", b"", False
-        self.taken = 0
-        streams = [given, out, err]
-        closed = [number for number, stream in enumerate(streams) if stream is CLOSED]
-
-        def prepare():
-            for number in closed:
-                os.close(number)
-            if ignores:
-                signal.signal(ignores, signal.SIG_IGN)
-            if limit:
-                resource.setrlimit(limit[0], (limit[1], limit[1]))
-
-        own = {"user": user, "group": user, "extra_groups": []} if user and os.geteuid() == 0 else {}
-        with contextlib.ExitStack() as ends:
-            stdin, stdout, stderr = [self.end_of(stream, room, ends) for stream in streams]
-            self.source = os.dup(stdin) if isinstance(given, bytes) else None
-            own |= {"cwd": room, "preexec_fn": prepare, "bufsize": 0, "pipesize": PIPE_SIZE}
-            self.child = subprocess.Popen(words, stdin=stdin, stdout=stdout, stderr=stderr, **own)
-        self.limit = threading.Timer(seconds, self.end_late)
-        self.limit.start()
-
-    def end_of(self, stream, room, ends):
-        if stream is PIPE:
-            return subprocess.PIPE
-        if stream is CLOSED:
-            return subprocess.DEVNULL
-        if isinstance(stream, To):
-            end = os.open(room / stream.name, os.O_WRONLY | os.O_CREAT | os.O_TRUNC, 0o644)
-        else:
-            end = file_with(stream) if isinstance(stream, bytes) else stream()
-        ends.callback(os.close, end)
-        return end
-
-    def end_late(self):
-        self.was_late = True
-        self.child.kill()
-
-    def feed(self, data):
-        try:
-            self.child.stdin.write(data)
-        except BrokenPipeError:
-            raise Mismatch("ended before it read its input") from None
-
-    def shows(self, wanted):
-        """Waits until this is the standard output so far, and nothing more comes before the run waits again."""
-        self.shown = self.read_to(self.child.stdout, self.shown, wanted)
-        self.waits()
-        if held_in(self.child.stdout):
-            raise Mismatch(f"more came behind {short(wanted)}")
-
-    def says(self, wanted):
-        """Waits until this is the standard error so far."""
-        self.said = self.read_to(self.child.stderr, self.said, wanted)
-
-    def read_to(self, stream, data, wanted):
-        while len(data) < len(wanted) and (more := stream.read(len(wanted) - len(data))):
-            data += more
-        if data != wanted:
-            raise Mismatch(f"{short(data)} came and not {short(wanted)}")
-        return data
-
-    def waits(self):
-        """Waits until the run sleeps, as it does in a read of an empty pipe."""
-        while pathlib.Path(f"/proc/{self.child.pid}/stat").read_text().rpartition(")")[2].split()[0] not in "SZ":
-            time.sleep(0.001)
-
-    def fills_its_pipe(self):
-        """Waits until the run waits in a write, since its output isn't read."""
-        while held_in(self.child.stdout) < PIPE_SIZE:
-            if self.child.poll() is not None:
-                raise Mismatch("ended before its output was full")
-            time.sleep(0.001)
-
-    def ended(self):
-        """The status, the output and the text, once it ended."""
-        shown, said = self.child.communicate()
-        self.limit.cancel()
-        if self.source is not None:
-            self.taken = os.lseek(self.source, 0, os.SEEK_CUR)
-            os.close(self.source)
-        if self.was_late:
-            raise Mismatch("took too long, and was ended")
-        return self.child.returncode, self.shown + (shown or b""), self.said + (said or b"")
-
-
-def held_in(pipe):
-    """How many bytes wait in a pipe."""
-    return struct.unpack("i", fcntl.ioctl(pipe, termios.FIONREAD, bytes(4)))[0]
-
-
-def differences_in_answer(found, answer, output, acks):
-    status, shown, said = found
-    wanted = text_of(acks, answer[1])
-    if status != answer[0]:
-        yield f"ended with {status} and not {answer[0]}"
-    if not output == shown:
-        yield f"wrote {short(shown)} and not {short(output)}"
-    if said != wanted:
-        yield f"said {short(said)} and not {short(wanted)}"
-
-
-def want_none(differences):
-    told = "; ".join(differences)
-    if told:
-        raise Mismatch(told)
-
-
-class Place:
-    """Where a case runs: the program, a folder of its own and the limit of time, and what is undone when it is over."""
-
-    def __init__(self, program, top, seconds):
-        self.program, self.top, self.seconds = program, top, seconds
-        self.undo = contextlib.ExitStack()
-
-    def __enter__(self):
-        self.room = pathlib.Path(tempfile.mkdtemp(dir=self.top))
-        self.room.chmod(0o755)
-        self.undo.callback(shutil.rmtree, self.room)
-        return self
-
-    def __exit__(self, *error):
-        self.undo.close()
-
-    def anew(self):
-        return Place(self.program, self.top, self.seconds)
-
-    def run(self, words, by=(), seconds=None, **how):
-        return Run([*by, self.program, *words], self.room, seconds or self.seconds, **how)
-
-    def expect(self, words, answer, output=b"", acks=None, **how):
-        """Runs something else meanwhile, and wants this of it."""
-        differences = differences_in_answer(self.run(words, **how).ended(), answer, output, acks)
-        want_none(f"meanwhile {words[0]} {difference}" for difference in differences)
-
-
-# --- what stands in a folder
-
-
-def files_of(room):
-    """All that a folder holds: of each name its kind and mode, and the bytes of a file or the target of a link."""
-    found = {}
-    for path in sorted(room.rglob("*")):
-        mode = path.lstat().st_mode
-        readable = stat.S_ISREG(mode) and os.access(path, os.R_OK)
-        held = path.read_bytes() if readable else os.readlink(path) if stat.S_ISLNK(mode) else None
-        found[str(path.relative_to(room))] = (mode, held)
-    return found
-
-
-def differences_in_files(before, after, changes):
-    """Where these changes, of a name to its bytes or to None where it goes, weren't made, or others were."""
-    for name in sorted(before.keys() | after.keys() | changes.keys()):
-        held = after.get(name, (0, None))[1]
-        if name in changes and changes[name] is not None:
-            if not changes[name] == held:
-                yield f"{name} holds {short(held)} and not {short(changes[name])}"
-        elif name in after and (name in changes or name not in before):
-            yield f"{name} is there"
-        elif name not in changes and before[name] != after.get(name):
-            yield f"{name} isn't as it was"
-
-
-# --- what a case adds to its folder
-
-
-def all_of(*makers):
-    def make(place):
-        for maker in makers:
-            maker(place)
-
-    return make
-
-
-def file(name, data=b"", mode=0o644):
-    def make(place):
-        (place.room / name).write_bytes(data)
-        (place.room / name).chmod(mode)
-
-    return make
-
-
-def sparse_image(name, data):
-    """An image whose bytes after the header are zeros for which no room is taken."""
-
-    def make(place):
-        (place.room / name).write_bytes(data[: HEADER.size])
-        os.truncate(place.room / name, len(data))
-
-    return make
-
-
-def mode(name, bits):
-    def make(place):
-        before = stat.S_IMODE((place.room / name).stat().st_mode)
-        (place.room / name).chmod(bits)
-        place.undo.callback((place.room / name).chmod, before)
-
-    return make
-
-
-def link(target):
-    return lambda place: (place.room / "link").symlink_to(target)
-
-
-def subfolder(place):
-    (place.room / "folder").mkdir()
-
-
-def closed_subfolder(place):
-    """A folder with a table and an image that may not be entered."""
-    subfolder(place)
-    for name in ("t1.csv", "a.img"):
-        shutil.copy(place.room / name, place.room / "folder")
-    mode("folder", 0o000)(place)
-
-
-def named_pipe(place):
-    os.mkfifo(place.room / "pipe")
-
-
-def held_pipe(place):
-    """A named pipe that somebody else has open."""
-    named_pipe(place)
-    place.undo.callback(os.close, os.open(place.room / "pipe", os.O_RDWR))
-
-
-def bound_socket(place):
-    with socket.socket(socket.AF_UNIX) as made:
-        made.bind(str(place.room / "socket"))
-
-
-def mounted(size):
-    """A file system in memory with room for so many bytes, in the folder `small`."""
-
-    def make(place):
-        if APART not in os.environ:
-            raise Skipped("mounts of its own need root and unshare")
-        small = place.room / "small"
-        small.mkdir()
-        subprocess.run(["mount", "-t", "tmpfs", "-o", f"size={size}", "tmpfs", small], check=True)
-        place.undo.callback(subprocess.run, ["umount", small], check=True)
-
-    return make
-
-
-def filled(place):
-    """Takes all the room that is left in the folder `small`."""
-    with contextlib.suppress(OSError), open(place.room / "small" / "rest", "wb", buffering=0) as rest:
-        while rest.write(bytes(4096)):
-            pass
-
-
-def made_read_only(place):
-    subprocess.run(["mount", "-o", "remount,ro", place.room / "small"], check=True)
-
-
-def block_device(place):
-    """A block device over the bytes of the file `disk`, with a link to it in the folder."""
-    (place.room / "disk").write_bytes(IMAGE.ljust(65536, b"\xa5"))
-    try:
-        made = subprocess.run(["losetup", "-f", "--show", place.room / "disk"], capture_output=True, check=True)
-    except (OSError, subprocess.CalledProcessError):
-        raise Skipped("a block device needs root and losetup") from None
-    device = made.stdout.decode().strip()
-    place.undo.callback(subprocess.run, ["losetup", "-d", device], check=True)
-    (place.room / "device").symlink_to(device)
-
-
 # --- what happens while the program runs
 
 
@@ -506,14 +118,14 @@ def loses_its_reader(place, run):
 
 def shrinks_while_recorded_in(place, run):
     run.feed(word_at(0, 5) + word_at(4_000_000, 7))
-    run.says(text_of((12, 18)))
+    run.says(text_of(acks(12, 18)))
     os.truncate(place.room / "a.img", 700)
     run.feed(end_at(8_000_000))
 
 
 def others_come(place, run):
     """While an image is recorded in, every other command on it is refused."""
-    run.says(text_of((12, 12)))
+    run.says(text_of(acks(12, 12)))
     for words in (RECORD, DRILL, RECOVER, LIST, SALVAGE, UPGRADE, ["format", "t1.csv", "a.img", *SIZES]):
         place.expect(words, DISK_FAULT, given=TRACE)
     run.feed(TRACE)
@@ -528,26 +140,19 @@ def readers_come(place, run):
 
 
 def is_killed(place, run):
-    run.says(text_of((12, 12)))
+    run.says(text_of(acks(12, 12)))
     run.child.kill()
     run.child.wait()
-    place.expect(RECORD, DONE, given=TRACE, acks=(12, 24))
+    place.expect(RECORD, DONE, given=TRACE, lines=acks(12, 24))
 
 
 def image_gets(change):
     def act(place, run):
-        run.says(text_of((12, 12)))
+        run.says(text_of(acks(12, 12)))
         change(place.room / "a.img")
         run.feed(TRACE)
 
     return act
-
-
-def is_interrupted(run):
-    """Stops a run in its read, and lets it go on."""
-    run.waits()
-    run.child.send_signal(signal.SIGSTOP)
-    run.child.send_signal(signal.SIGCONT)
 
 
 def rows_come(place, run):
@@ -573,7 +178,7 @@ def acks_come(place, run):
     for record, last in ((word_at(0, 5), 12), (word_at(4_000_000, 7), 18), (end_at(8_000_000), 24)):
         is_interrupted(run)
         run.feed(record)
-        run.says(text_of((12, last)))
+        run.says(text_of(acks(12, last)))
 
 
 def table_comes_slowly(place, run):
@@ -593,74 +198,14 @@ def table_comes_slowly(place, run):
 # --- the cases
 
 
-class Case:
-    """A run: what it answers, writes and changes, and what is made before it and done while it runs."""
-
-    def __init__(self, name, words, answer, output=b"", acks=None, makes=None, changes=None, does=None, **how):
-        self.name, self.words, self.answer, self.output, self.acks = name, words, answer, output, acks
-        self.makes, self.changes, self.does, self.how = makes, changes or {}, does, how
-
-    def tried(self, place, limit=None):
-        """Runs it and compares. Where its memory is limited, it may answer that there is none, and that is told."""
-        (place.room / "t1.csv").write_bytes(T1)
-        (place.room / "a.img").write_bytes(IMAGE)
-        if self.makes:
-            self.makes(place)
-        before = files_of(place.room)
-        run = place.run(self.words, **{**self.how, **({"limit": limit} if limit else {})})
-        try:
-            if self.does:
-                self.does(place, run)
-        finally:
-            status, shown, said = run.ended()
-        lacks_memory = bool(limit) and status == NO_MEMORY[0]
-        usual = self.answer, self.output, self.acks, self.changes
-        answer, output, acks, changes = (NO_MEMORY, b"", None, {}) if lacks_memory else usual
-        # Where a stream isn't captured, what went to it is compared as a file, or not at all.
-        output = output if run.child.stdout else b""
-        found = status, shown, said if run.child.stderr else text_of(acks, answer[1])
-        differences = [*differences_in_answer(found, answer, output, acks)]
-        differences += differences_in_files(before, files_of(place.room), changes)
-        if lacks_memory and run.taken:
-            differences.append(f"took {run.taken} bytes of its input, and found no memory then")
-        want_none(differences)
-        return lacks_memory
-
-
-class InLittleMemory:
-    """A case that is run with more and more memory. It finds none and leaves all as it was, until it has enough."""
-
-    def __init__(self, case):
-        self.case, self.name = case, f"{case.name}, in little memory"
-
-    def tried(self, place):
-        pages = range(1 << 16)
-        least = bisect.bisect_left(pages, True, key=lambda count: self.starts(place, count * PAGE)) * PAGE
-        lacked = []
-        for bits in range(13, 29):
-            with place.anew() as other:
-                lacked.append(self.case.tried(other, (resource.RLIMIT_AS, least + (1 << bits))))
-        if not lacked[0] or lacked[-1] or lacked != sorted(lacked, reverse=True):
-            raise Mismatch(f"with more and more memory, it found none: {lacked}")
-
-    def starts(self, place, size):
-        """Whether the system can begin the program at all."""
-        status, _, said = place.run([], limit=(resource.RLIMIT_AS, size)).ended()
-        return (status, said) in [(answer[0], text_of(None, answer[1])) for answer in (USAGE, NO_MEMORY)]
+class Case(places.Case):
+    files, usage, no_memory = {"t1.csv": T1, "a.img": IMAGE}, USAGE, NO_MEMORY
 
 
 LARGEST = file("large.csv", largest_table())
 WIDE_IMAGE = file("a.img", empty_image(16, 64, words=1024))
 BIG = all_of(file("every.csv", EVERY), file("a.img", BIG_IMAGE))
 IN_REMOVED = ["sh", "-c", 'mkdir gone; cd gone; rmdir ../gone; exec "$0" "$@"']
-
-
-def size_limit(size):
-    return {"limit": (resource.RLIMIT_FSIZE, size)}
-
-
-def few_files(count):
-    return {"limit": (resource.RLIMIT_NOFILE, count)}
 
 
 def writers(stream, how):
@@ -673,7 +218,7 @@ def writers(stream, how):
     yield Case(f"recover, {how}", RECOVER, NO_OUTPUT, out=stream)
     yield Case(f"list, {how}", LIST, NO_OUTPUT, out=stream)
     yield Case(f"salvage, {how}", SALVAGE, NO_OUTPUT, out=stream)
-    yield Case(f"drill, {how}", DRILL, NO_OUTPUT, acks=(12, 18), changes={"a.img": DRILLED}, out=stream)
+    yield Case(f"drill, {how}", DRILL, NO_OUTPUT, lines=acks(12, 18), changes={"a.img": DRILLED}, out=stream)
 
 
 def tellers(stream, how):
@@ -689,7 +234,7 @@ def readers(stream, how):
     yield Case(f"listbits, {how}", LISTBITS, NO_INPUT, given=stream)
     yield Case(f"encode, {how}", ENCODE, NO_INPUT, given=stream)
     yield Case(f"decode, {how}", DECODE, NO_INPUT, given=stream)
-    yield Case(f"record, {how}", RECORD, NO_INPUT, acks=(12, 12), given=stream)
+    yield Case(f"record, {how}", RECORD, NO_INPUT, lines=acks(12, 12), given=stream)
 
 
 def tables(name, answer, what, **how):
@@ -746,16 +291,16 @@ def stream_cases():
     yield Case("decode, input /dev/null", DECODE, DONE, given=NOTHING)
     yield Case("decode, input without end", DECODE, NO_TRANSITION, b"\0", given=ZEROS)
     yield Case("stream, input /dev/null", STREAM, TRUNCATED, given=NOTHING)
-    yield Case("record, input /dev/null", RECORD, TRUNCATED, acks=(12, 12), given=NOTHING)
+    yield Case("record, input /dev/null", RECORD, TRUNCATED, lines=acks(12, 12), given=NOTHING)
     yield Case("stream, input without end", STREAM, BAD_KIND, given=ZEROS)
-    yield Case("record, input without end", RECORD, BAD_KIND, acks=(12, 12), given=ZEROS)
+    yield Case("record, input without end", RECORD, BAD_KIND, lines=acks(12, 12), given=ZEROS)
     whole = {"output": b"gap,0,2147483648\n", "seconds": 300}
     yield Case("listbits, the longest input", LISTBITS, DONE, given=zeros_of(1 << 28), **whole)
     yield Case("listbits, input of a byte more", LISTBITS, TOO_LONG, given=zeros_of((1 << 28) + 1), **whole)
     yield Case("listbits, input without end", LISTBITS, TOO_LONG, given=ZEROS, **whole)
     yield Case("listbits, slow input", LISTBITS, DONE, b"gap,0,16\n" + LISTING, given=PIPE, does=rows_come)
     yield Case("stream, slow input", STREAM, DONE, FIVES, given=PIPE, does=blocks_come)
-    slow = {"acks": (12, 24), "changes": {"a.img": AGAIN}, "given": PIPE}
+    slow = {"lines": acks(12, 24), "changes": {"a.img": AGAIN}, "given": PIPE}
     yield Case("record, slow input", RECORD, DONE, does=acks_come, **slow)
 
 
@@ -822,7 +367,7 @@ def image_cases():
     linked = [*FORMAT[:2], "link", *SIZES]
     yield Case("format, a link to an empty file", linked, DONE, makes=through, changes={"new.img": EMPTY})
     linked = ["record", "t1.csv", "link"]
-    recorded = {"changes": {"a.img": AGAIN}, "acks": (12, 24), "given": TRACE}
+    recorded = {"changes": {"a.img": AGAIN}, "lines": acks(12, 24), "given": TRACE}
     yield Case("record, a link to an image", linked, DONE, makes=link("a.img"), **recorded)
     yield Case("recover, a link to an image", ["recover", "link"], DONE, BITS, makes=link("a.img"))
     yield Case("recover, the image is /dev/stdin", ["recover", "/dev/stdin"], DONE, BITS, given=IMAGE)
@@ -839,7 +384,7 @@ def image_cases():
     yield Case("salvage, the header is gone, slots and payload given", [*SALVAGE, *SIZES], DONE, RUN + LISTING, **headless)
     new = {"makes": file("a.img", NEW)}
     yield Case("list, the image was upgraded", LIST, DONE, b"session,0,0\n" + LISTING, **new)
-    twice = {"changes": {"a.img": NEW_AGAIN}, "acks": (12, 24), "given": TRACE}
+    twice = {"changes": {"a.img": NEW_AGAIN}, "lines": acks(12, 24), "given": TRACE}
     yield Case("record, the image was upgraded", RECORD, DONE, **new, **twice)
 
 
@@ -849,14 +394,14 @@ def meanwhile_cases():
         yield Case(f"recover, the image is {what}", RECOVER, DISK_FAULT, Front(BIG_BITS), **shrunk)
         yield Case(f"list, the image is {what}", LIST_EVERY, DISK_FAULT, Front(BIG_LISTING), **shrunk)
     shrunk = {"changes": {"a.img": recorded(IMAGE, BITS[:384])[:700]}, "does": shrinks_while_recorded_in}
-    yield Case("record, the image is shrunk", RECORD, DISK_FAULT, acks=(12, 18), given=PIPE, **shrunk)
-    whole = {"acks": (12, 24), "given": PIPE}
+    yield Case("record, the image is shrunk", RECORD, DISK_FAULT, lines=acks(12, 18), given=PIPE, **shrunk)
+    whole = {"lines": acks(12, 24), "given": PIPE}
     yield Case("record, others come", RECORD, DONE, changes={"a.img": AGAIN}, does=others_come, **whole)
     yield Case("list, others come", LIST_EVERY, DONE, BIG_LISTING, makes=BIG, does=readers_come)
     lost = {"given": PIPE, "does": loses_its_reader}
     yield Case("listbits, its reader goes", LISTBITS, NO_OUTPUT, LISTING[:17], **lost)
     killed = {"changes": {"a.img": AGAIN}, "does": is_killed, "given": PIPE}
-    yield Case("record, killed, and record", RECORD, KILLED, acks=(12, 12), **killed)
+    yield Case("record, killed, and record", RECORD, KILLED, lines=acks(12, 12), **killed)
     renamed = {"a.img": None, "b.img": AGAIN}
     rename = image_gets(lambda path: path.rename(path.with_name("b.img")))
     yield Case("record, the image is renamed", RECORD, DONE, changes=renamed, does=rename, **whole)
@@ -866,7 +411,7 @@ def meanwhile_cases():
 
 def limit_cases():
     five, end_of_five = recorded(EMPTY, BITS[:320]), slot_at(shape_of(EMPTY), 5)
-    only = {"makes": file("a.img", EMPTY), "changes": {"a.img": five}, "acks": (0, 5), "given": TRACE}
+    only = {"makes": file("a.img", EMPTY), "changes": {"a.img": five}, "lines": acks(0, 5), "given": TRACE}
     front = {"given": BITS, "out": To("shown"), "changes": {"shown": LISTING[:20]}}
     ignored = {"ignores": signal.SIGXFSZ}
     # A limit of the size of files ends a run by a signal, where that isn't ignored.
@@ -898,10 +443,10 @@ def memory_cases():
     yield Case("listbits", ["listbits", "large.csv"], DONE, b"gap,0,6144\n", given=BITS, makes=LARGEST)
     new = {"changes": {"new.img": wide}, "makes": LARGEST}
     yield Case("format", ["format", "large.csv", "new.img", *SIZES], DONE, **new)
-    yield Case("record", ["record", "large.csv", "a.img"], DONE, acks=(0, 0), given=end_at(0), **with_image)
+    yield Case("record", ["record", "large.csv", "a.img"], DONE, lines=acks(0, 0), given=end_at(0), **with_image)
     yield Case("list", ["list", "large.csv", "a.img"], DONE, **with_image)
     yield Case("recover", RECOVER, DONE, BITS)
-    yield Case("drill", DRILL, DONE, DRILL_LINE, acks=(12, 18), changes={"a.img": DRILLED})
+    yield Case("drill", DRILL, DONE, DRILL_LINE, lines=acks(12, 18), changes={"a.img": DRILLED})
     yield Case("upgrade", UPGRADE, DONE, makes=file("a.img", OLD), changes={"a.img": NEW})
 
 
@@ -929,12 +474,12 @@ def mount_cases():
     yield Case("format, no room", large, DISK_FAULT, makes=small)
     yield Case("format of an empty file, no room", large, DISK_FAULT, makes=all_of(small, file("small/new.img")))
     yield Case("format, no room at all", large, DISK_FAULT, makes=taken)
-    whole = {"changes": {"small/a.img": AGAIN}, "acks": (12, 24), "given": TRACE}
+    whole = {"changes": {"small/a.img": AGAIN}, "lines": acks(12, 24), "given": TRACE}
     yield Case("record, no room is left", record, DONE, makes=taken, **whole)
     # The first write, of a block's head and bytes after its gate, ends where the first page ends.
     image, begin = empty_image(64, 4096), HEADER.size + 1
     torn = {"small/a.img": image[:begin] + recorded(image, FIVES[:4096])[begin:PAGE] + image[PAGE:]}
-    lacking = {"changes": torn, "acks": (0, 0), "given": word_at(0, 5) + end_at(43_000_000)}
+    lacking = {"changes": torn, "lines": acks(0, 0), "given": word_at(0, 5) + end_at(43_000_000)}
     holes = all_of(small, sparse_image("small/a.img", image), filled)
     yield Case("record, no room for an image with holes", record, DISK_FAULT, makes=holes, **lacking)
     big = all_of(BIG, small)
@@ -953,28 +498,6 @@ def mount_cases():
     yield Case("upgrade, the file system may only be read", ["upgrade", "small/a.img"], DISK_FAULT, makes=read_only)
 
 
-def begin_apart():
-    """Begins the script anew in mounts of its own, where that may be."""
-    words = ["unshare", "--mount", "--propagation", "private"]
-    if APART not in os.environ and os.geteuid() == 0 and shutil.which("unshare"):
-        if subprocess.run([*words, "true"]).returncode == 0:
-            os.execvpe("unshare", [*words, sys.executable, *sys.argv], {**os.environ, APART: "1"})
-
-
-def tell(case, place):
-    """Tries a case, prints its line, and answers what came of it."""
-    try:
-        with place:
-            case.tried(place)
-        kind, why = "ok", ""
-    except (Mismatch, OSError, subprocess.SubprocessError) as error:
-        kind, why = "DIFFERS", f": {error}"
-    except Skipped as error:
-        kind, why = "skipped", f": {error}"
-    print(f"{kind:8} {case.name}{why}", flush=True)
-    return kind
-
-
 def main():
     words = argparse.ArgumentParser(description=__doc__.splitlines()[0])
     words.add_argument("program", type=pathlib.Path)
@@ -982,18 +505,9 @@ def main():
     words.add_argument("--only", default="", help="the cases with this in their names")
     given = words.parse_args()
     begin_apart()
-    with tempfile.TemporaryDirectory(prefix="fdr_tests_") as top:
-        os.chmod(top, 0o755)
-        program = shutil.copy(given.program, pathlib.Path(top) / "fdr")
-        cases = [*word_cases(), *stream_cases(), *table_cases(), *image_cases(), *meanwhile_cases()]
-        cases += [*limit_cases(), *map(InLittleMemory, memory_cases()), *mount_cases()]
-        cases = [case for case in cases if given.only in case.name]
-        told = collections.Counter(tell(case, Place(program, top, given.seconds)) for case in cases)
-    if told["skipped"]:
-        print(f"{told['skipped']} skipped")
-    tried = len(cases) - told["skipped"]
-    print(f"{tried} cases, {told['ok']} as expected")
-    return 0 if told["ok"] == tried else 1
+    cases = [*word_cases(), *stream_cases(), *table_cases(), *image_cases(), *meanwhile_cases()]
+    cases += [*limit_cases(), *map(InLittleMemory, memory_cases()), *mount_cases()]
+    return try_all([case for case in cases if given.only in case.name], {"fdr": given.program}, given.seconds)
 
 
 if __name__ == "__main__":

@@ -183,9 +183,9 @@ def next_session(image):
     return (run[-1].session + 1) % SESSIONS if run and is_version_2(image) else int(is_version_2(image))
 
 
-def recorded(image, bits):
-    """The image after a recording of these bits: each block in its slot, and the gate of the following slot closed."""
-    shape, first, session = shape_of(image), next_number(image), next_session(image)
+def with_blocks(image, blocks):
+    """The image after these blocks, each with its session: each in its slot, and the gate of the following slot closed."""
+    shape, first = shape_of(image), next_number(image)
     image = bytearray(image)
 
     def close(at):
@@ -193,12 +193,18 @@ def recorded(image, bits):
             image[at] = CLOSED
 
     close(slot_at(shape, first))
-    for number, block in enumerate(blocks_of(bits, shape.payload), first):
+    for number, (session, block) in enumerate(blocks, first):
         here = slot_at(shape, number)
         image[here + 1 : here + HEAD.size + len(block)] = head_of(number, len(block), session)[1:] + block
         close(slot_at(shape, number + 1))
         image[here] = OPEN
     return bytes(image)
+
+
+def recorded(image, bits):
+    """The image after a recording of these bits."""
+    session = next_session(image)
+    return with_blocks(image, [(session, block) for block in blocks_of(bits, shape_of(image).payload)])
 
 
 def upgraded(image):

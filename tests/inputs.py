@@ -2,7 +2,7 @@
 
 import pathlib
 
-from formats import bus_word, frame, record_at
+from formats import bus_word, end_at, frame, record_at
 
 TOP = pathlib.Path(__file__).resolve().parent.parent
 T1 = (TOP / "examples" / "t1.csv").read_bytes()
@@ -47,3 +47,10 @@ def t1_word(value):
 def word_at(time, value):
     """The record of such a word."""
     return record_at(time, t1_word(value))
+
+
+# Two frames, and the trace that they are recorded of.
+BITS = t1_frame(0, 5) + t1_frame(1, 7)
+TRACE = word_at(0, 5) + word_at(4_000_000, 7) + end_at(8_000_000)
+# Eleven frames, of 44 seconds.
+FIVES = b"".join(t1_frame(counter, 5) for counter in range(11))

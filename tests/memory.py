@@ -1,19 +1,19 @@
 #!/usr/bin/env python3
-"""Refuses the built program its memory, one request at a time, and looks at what it answers and leaves.
+"""Refuses the built programs their memory, one request at a time, and looks at what they answer and leave.
 
-    tests/memory.py PROGRAM [--most N]
+    tests/memory.py FDR FDRPAIR [--most N] [--only WORD]
 
 Each work is run once to count its requests for memory: the runs of examples/cases, whose output is compared with the
 one stored there, some worked out by hand, and some by larger tables. Then it is run again and again. Each time one request is refused, and the
 others not; or one and all that follow. Each answer has to be one of two:
 
-- `fdr: no memory`, with status 12, where nothing was written, nothing of the input taken, and all files are as before.
+- `fdr: no memory` or `fdrpair: no memory`, with status 12, where nothing was written, nothing of the input taken, and all files are as before.
   Only `exceed` takes memory for an input that it has read;
 - the answer of the run that was refused nothing, with the same output, text and files.
 
 Of a work with more requests than N the first ones, the last ones and some between are refused. The requests are
-counted and refused by refuse.c, which `cc` compiles and which is loaded before the C library: the program is the one
-that is built.
+counted and refused by refuse.c, which `cc` compiles and which is loaded before the C library: the programs are those
+that are built.
 
 It prints a table of counts, and a line for each answer that is neither, and ends with 0 where there is none.
 """
@@ -31,20 +31,20 @@ from concurrent import futures
 sys.dont_write_bytecode = True
 
 from formats import VERSION_1, bus_word, empty_image, end_at, frame, record_at, recorded, with_bit
-from inputs import ORDINARY, T1, TOP, largest_table, t1_frame, word_at
+from inputs import BITS, ORDINARY, T1, TOP, TRACE, largest_table, t1_frame, word_at
 
 SOURCE = TOP / "tests" / "refuse.c"
 CASES = TOP / "examples" / "cases"
-NO_MEMORY = (12, b"", b"fdr: no memory\n")
 LIMIT = 60  # seconds that a run has
 
 
 class Work:
     """A command, its input and the files that it finds; and what it has to write, where that is stored."""
 
-    def __init__(self, name, words, given, files, output=None, most=sys.maxsize):
+    def __init__(self, name, words, given, files, output=None, most=sys.maxsize, program="fdr"):
         self.name, self.words, self.given, self.files = name, words, given, files
-        self.output, self.most = output, most
+        self.output, self.most, self.program = output, most, program
+        self.no_memory = (12, b"", f"{program}: no memory\n".encode())
 
 
 class Ended:
@@ -54,7 +54,7 @@ class Ended:
         self.answer, self.files, self.taken, self.requests = answer, files, taken, requests
 
 
-def run(program, library, work, first=0, last=0):
+def run(programs, library, work, first=0, last=0):
     """Runs a work in a folder of its own; the requests from the first to the last are refused."""
     with tempfile.TemporaryDirectory(prefix="fdr_memory_") as top:
         room, refusals = pathlib.Path(top) / "room", pathlib.Path(top) / "refusals"
@@ -67,7 +67,7 @@ def run(program, library, work, first=0, last=0):
             given.write(work.given)
             given.seek(0)
             how = {"stdin": given, "capture_output": True, "cwd": room, "env": environ, "timeout": LIMIT}
-            ended = subprocess.run([program, *work.words], **how)
+            ended = subprocess.run([programs[work.program], *work.words], **how)
             taken = os.lseek(given.fileno(), 0, os.SEEK_CUR)
         files = {path.name: path.read_bytes() for path in room.iterdir()}
         answer = (ended.returncode, ended.stdout, ended.stderr)
@@ -77,7 +77,7 @@ def run(program, library, work, first=0, last=0):
 def kind_of(ended, usual, work):
     """Which of the two answers a run gave, or neither."""
     may_take = work.words[:1] == ["exceed"]
-    if ended.answer == NO_MEMORY and ended.files == work.files and (may_take or not ended.taken):
+    if ended.answer == work.no_memory and ended.files == work.files and (may_take or not ended.taken):
         return "no memory"
     return "as usual" if (ended.answer, ended.files) == (usual.answer, usual.files) else "neither"
 
@@ -204,12 +204,39 @@ def further_works():
     yield Work("salvage, largest table", ["salvage", "large.csv", "w.img"], b"", files, **few)
 
 
+def pair_works():
+    """Recordings in two images, and such as are refused."""
+    image, files = recorded(empty_image(16, 64), BITS), {"t1.csv": T1, "o.csv": ORDINARY, "large.csv": largest_table()}
+    files |= {"a.img": image, "b.img": image, "behind.img": empty_image(16, 64), "other.img": empty_image(16, 65)}
+    files["apart.img"] = recorded(empty_image(16, 64), t1_frame(1, 5))
+    for number in (1, 2):
+        files |= {f"o{number}.img": empty_image(64, 512, words=256), f"w{number}.img": empty_image(16, 64, words=1024)}
+    far = "./" * 400
+    for name, words, trace, most in (
+        ("the same blocks", ["record", "t1.csv", "a.img", "b.img"], TRACE, sys.maxsize),
+        ("the second brought up", ["record", "t1.csv", "a.img", "behind.img"], TRACE, sys.maxsize),
+        ("the first brought up", ["record", "t1.csv", "behind.img", "b.img"], TRACE, sys.maxsize),
+        ("one missing", ["record", "t1.csv", "a.img", "none.img"], TRACE, sys.maxsize),
+        ("headers differ", ["record", "t1.csv", "a.img", "other.img"], TRACE, sys.maxsize),
+        ("a block differs", ["record", "t1.csv", "a.img", "apart.img"], TRACE, sys.maxsize),
+        ("a trace cut short", ["record", "t1.csv", "a.img", "b.img"], TRACE[:47], sys.maxsize),
+        ("a refused table", ["record", "a.img", "a.img", "b.img"], TRACE, sys.maxsize),
+        ("a word too few", ["record", "t1.csv", "a.img"], TRACE, sys.maxsize),
+        ("long paths", ["record", far + "t1.csv", far + "a.img", far + "b.img"], TRACE, sys.maxsize),
+        ("ordinary table", ["record", "o.csv", "o1.img", "o2.img"], ordinary_trace(70), sys.maxsize),
+        ("largest table", ["record", "large.csv", "w1.img", "w2.img"], end_at(4_000_000), 60),
+    ):
+        yield Work(f"in two images, {name}", words, trace, files, b"", most, "fdrpair")
+
+
 def main():
     words = argparse.ArgumentParser(description=__doc__.splitlines()[0])
-    words.add_argument("program", type=pathlib.Path)
+    words.add_argument("fdr", type=pathlib.Path)
+    words.add_argument("fdrpair", type=pathlib.Path)
     words.add_argument("--most", type=int, default=600, help="runs of a work in which one request is refused")
+    words.add_argument("--only", default="", help="the works with this in their names")
     given = words.parse_args()
-    program = given.program.resolve()
+    programs = {"fdr": given.fdr.resolve(), "fdrpair": given.fdrpair.resolve()}
     if not shutil.which("cc"):
         print("skipped: there is no C compiler")
         return 0
@@ -220,15 +247,16 @@ def main():
     with tempfile.TemporaryDirectory(prefix="fdr_memory_") as top, futures.ThreadPoolExecutor(os.cpu_count()) as pool:
         library = pathlib.Path(top) / "refuse.so"
         subprocess.run(["cc", "-shared", "-fPIC", "-O1", "-o", library, SOURCE], check=True)
-        for work in [*stored_works(), *worked_works(), *further_works()]:
-            usual = run(program, library, work)
+        works = [*stored_works(), *worked_works(), *further_works(), *pair_works()]
+        for work in (work for work in works if given.only in work.name):
+            usual = run(programs, library, work)
             if work.output not in (None, usual.answer[1]):
                 print(f"{work.name}: wrote {usual.answer[1][:200]!r} with all its memory")
                 unlike += 1
             numbers = refused_numbers(usual.requests, min(work.most, given.most))
             cells = []
             for how, last in (("alone", lambda number: number), ("and all after", lambda number: 1 << 62)):
-                tries = [pool.submit(run, program, library, work, number, last(number)) for number in numbers]
+                tries = [pool.submit(run, programs, library, work, number, last(number)) for number in numbers]
                 kinds = [kind_of(one.result(), usual, work) for one in tries]
                 cells += [kinds.count("no memory"), kinds.count("as usual")]
                 for number, one, kind in zip(numbers, tries, kinds):

@@ -1,11 +1,11 @@
 #!/usr/bin/env python3
-"""Goes the walk of examples/ with a built program, and compares what it prints with what its three pages show.
+"""Goes the walk of examples/ with the built programs, and compares what they print with what its three pages show.
 
-tests/walk.py PROGRAM
+tests/walk.py FDR FDRPAIR
 
-All blocks of commands, page by page, run one after another in one shell, in a folder with the
-tables, the rules, the image of version 1 and the script of the flight alone, as a reader types them. The block after one of commands is what they print. Where
-it has no line of an announcement, those lines are left out of the comparison; commands without such a block print
+All blocks of commands, page by page, run one after another in one shell, in a folder with the tables, the rules, the image
+of version 1 and the script of the flight alone, as a reader types them. The block after one of commands is what they print.
+Where it has no line of an announcement, those lines are left out of the comparison; commands without such a block print
 announcements or nothing.
 """
 import pathlib
@@ -17,7 +17,7 @@ import tempfile
 
 EXAMPLES = pathlib.Path(__file__).resolve().parent.parent / "examples"
 PAGES = ("README.md", "IMAGES.md", "EXCEEDANCES.md")
-COMMAND = re.compile(r"(fdr|put|cp|head|cat|printf) |\(")
+COMMAND = re.compile(r"(fdr|fdrpair|put|cp|head|cat|printf) |\(")
 ANNOUNCEMENT = re.compile(r"ack \d+")
 MARK = "--- end of a block ---"
 
@@ -48,8 +48,8 @@ def steps(name):
             yield f"examples/{name}:{start}", lines, after if after is not None and not is_of_commands(after) else None
 
 
-def printed(program, walk):
-    """What each block of commands prints, standard error among it, in one shell."""
+def printed(programs, walk):
+    """What each block of commands prints, standard error among it, in one shell that finds these programs by their names."""
     with tempfile.TemporaryDirectory() as room:
         folder = pathlib.Path(room, "examples")
         tools = pathlib.Path(room, "tools")
@@ -57,7 +57,8 @@ def printed(program, walk):
         tools.mkdir()
         for given in [*EXAMPLES.glob("*.csv"), EXAMPLES / "old.img", EXAMPLES / "make_flight.py"]:
             shutil.copy(given, folder)
-        (tools / "fdr").symlink_to(pathlib.Path(program).resolve())
+        for name, program in programs.items():
+            (tools / name).symlink_to(pathlib.Path(program).resolve())
         script = f"PATH={tools}:$PATH\n" + "".join("\n".join(lines) + f"\necho '{MARK}'\n" for _, lines, _ in walk)
         run = subprocess.run(["bash"], input=script, cwd=folder, stdout=subprocess.PIPE, stderr=subprocess.STDOUT, text=True, timeout=600)
     return [part.strip("\n").splitlines() for part in run.stdout.split(MARK)[:-1]]
@@ -73,10 +74,10 @@ def is_shown(lines, shown):
 
 
 def main():
-    if len(sys.argv) != 2:
+    if len(sys.argv) != 3:
         raise SystemExit(__doc__)
     walk = [step for name in PAGES for step in steps(name)]
-    outputs = printed(sys.argv[1], walk)
+    outputs = printed(dict(zip(("fdr", "fdrpair"), sys.argv[1:])), walk)
     if len(outputs) != len(walk):
         raise SystemExit(f"walk: {len(outputs)} of {len(walk)} blocks ran")
     wrong = 0

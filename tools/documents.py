@@ -245,18 +245,23 @@ def reached_from(keys):
     return seen
 
 
+# The calls that the programs make, and where they are.
+CALLS = {"run": ("fdr_top", "top.rt"), "run_pair": ("fdr_pair", "run.rt")}
+
+
 @functools.cache
-def reached():
-    """The definitions of which the contract of `run` speaks."""
-    top = (CRATES / "fdr_top" / "src" / "top.rt").read_text()
-    contract = re.search(r"^pub fn run.*?^\{", top, re.M | re.S).group()
-    return reached_from(names_in(contract, {}, imports(top, "ghost use")))
+def reached(call):
+    """The definitions of which the contract of a program's call speaks."""
+    crate, file = CALLS[call]
+    source = (CRATES / crate / "src" / file).read_text()
+    contract = re.search(rf"^pub fn {call}\b.*?^\{{", source, re.M | re.S).group()
+    return reached_from(names_in(contract, {}, imports(source, "ghost use")))
 
 
 def check_readme():
-    spoken_of, all_of_them = len(reached()), len(by_key())
-    if f"{spoken_of} of the {all_of_them} definitions" not in (TOP / "README.md").read_text():
-        yield f"README.md: `run` speaks of {spoken_of} of the {all_of_them} definitions"
+    by_run, by_pair, all_of_them = len(reached("run")), len(reached("run_pair")), len(by_key())
+    if f"{by_run} and {by_pair} of the {all_of_them} definitions" not in (TOP / "README.md").read_text():
+        yield f"README.md: `run` and `run_pair` speak of {by_run} and {by_pair} of the {all_of_them} definitions"
 
 
 def check_clauses():
@@ -295,8 +300,8 @@ def in_reading_order():
 def definition_rows(crate):
     """The marked part of a page that has the definitions of a crate."""
     own, first = all_definitions(crate), in_reading_order()
-    spoken_of = sum(definition.key in reached() for definition in own)
-    yield f"Definitions: {len(own)}. The contract of `run` speaks of {spoken_of or 'none'} of them."
+    by_run, by_pair = (sum(definition.key in reached(call) for definition in own) or "none" for call in CALLS)
+    yield f"Definitions: {len(own)}. The contract of `run` speaks of {by_run} of them, that of `run_pair` of {by_pair}."
     yield ""
     yield "| definition | module | in plain words |"
     yield "|---|---|---|"
@@ -307,9 +312,9 @@ def definition_rows(crate):
 
 
 def beginnings(cell):
-    """The definitions that a cell names, or those that the contract of `run` names."""
+    """The definitions that a cell names, or those that the contract of a program's call names."""
     names = re.findall(r"`([^`]+)`", cell)
-    return reached() if names == ["run"] else [key for key in by_key() if key[2] in names]
+    return reached(names[0]) if names[0] in CALLS else [key for key in by_key() if key[2] in names]
 
 
 def counted_rows(rows):
@@ -379,11 +384,12 @@ def check_model():
             yield f"{where} has no comment"
         elif not stands_by_itself(definition.comment):
             yield f"{where}: its comment doesn't stand by itself: {definition.comment}"
+    named = {key[2] for call in CALLS for key in reached(call)} | set(CALLS)
     for row in re.findall(r"^\| .* \| \d+ \| [\d,]+ \|$", (TOP / "docs" / "MODEL.md").read_text(), re.M):
         cell = row.split("|")[-4]
         for name in re.findall(r"`([^`]+)`", cell):
-            if name != "run" and name not in {key[2] for key in reached()}:
-                yield f"docs/MODEL.md: the contract of `run` doesn't speak of `{name}`"
+            if name not in named:
+                yield f"docs/MODEL.md: neither the contract of `run` nor that of `run_pair` speaks of `{name}`"
 
 
 def is_recursive(definition):

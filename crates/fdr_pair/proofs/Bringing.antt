@@ -24,12 +24,12 @@ use Rattle.fdr_twin.specs.Sound.{IsSoundPair}
 use Rattle.fdr_twin.specs.Serving.{Serves}
 use Rattle.fdr_recorder.specs.Keeping.{RecoversPrefix, RecoversAll}
 use Rattle.fdr_recorder.proofs.Steps.{keeps_none, keeps_more, keeps_on, all_on}
-use Rattle.fdr_pair.specs.Putting.{HasPut, MayPut}
+use Rattle.fdr_pair.specs.Putting.{AddsExactly, HasPut, MayPut}
 use Rattle.fdr_pair.specs.SidePuts.{next_block, IsSettledRing}
 use Rattle.fdr_pair.specs.PairWork.{IsSameContent, PairWork}
 use Rattle.fdr_pair.specs.Brought.{first_of, missing_blocks, IsFarBehind}
 use Rattle.fdr_pair.specs.Bringing.{IsBringing, HasNoFault, HasFailedAlone, HasBrought}
-use Rattle.fdr_pair.proofs.Going.{stands, may_stand, ring_left}
+use Rattle.fdr_pair.proofs.Going.{stands, may_stand, ring_left, exact_none, exact_on}
 use Rattle.fdr_pair.proofs.PairWorks.{work_of, work_then, work_here, work_weaken, content_of, content_then}
 use Rattle.fdr_pair.proofs.BroughtRuns.{missing_between, in_run}
 
@@ -108,13 +108,16 @@ module _ (tells : Tells) (lead : Side) (r : Ring) (session : ℕ) (bytes : List 
   -- once it is put
   pub brought_put : (s : Ring) → s.header ≡ r.header
       → (IsTrue tells.bytes → HasPut r.header (next_block r session bytes) (disk_on (other_side lead) p).held (disk_on (other_side lead) q).held)
+      → (IsTrue tells.bytes → AddsExactly r.header (next_block r session bytes ∷ []) (disk_on (other_side lead) p).held (disk_on (other_side lead) q).held)
       → IsSettledRing tells (other_side lead) s q → (disk_on (other_side lead) q).faults ≡ (disk_on (other_side lead) p).faults
       → HasBrought tells lead r s blocks p q
-  brought_put s header put ring none = record {
+  brought_put s header put exact ring none = record {
     header = header;
     keeps = λ told. subst (λ (l : List Block). RecoversAll r.header (disk_on (other_side lead) p).held
         (recovered_run r.header (disk_on (other_side lead) p).held) l (disk_on (other_side lead) q).held) (is told)
         (let has = put told in record { kept = has.kept; run = has.run; next = has.next });
+    exact = λ told. subst (λ (l : List Block). AddsExactly r.header l (disk_on (other_side lead) p).held (disk_on (other_side lead) q).held)
+        (is told) (exact told);
     ring = ring;
     no_fault = no_fault_on lead p q lead_left.disk.faults none;
   }
@@ -154,6 +157,9 @@ module _ (tells : Tells) (lead : Side) (r s : Ring) (blocks more : List Block) (
         (recovered_run r.header (disk_on (other_side lead) start).held) blocks more (brought.keeps told)
         (subst (λ (h : Header). RecoversAll h (disk_on (other_side lead) p).held (recovered_run h (disk_on (other_side lead) p).held) more
         (disk_on (other_side lead) q).held) brought.header (also.keeps told));
+    exact = λ told. exact_on r.header blocks more (disk_on (other_side lead) start).held (disk_on (other_side lead) p).held
+        (disk_on (other_side lead) q).held (brought.exact told)
+        (subst (λ (h : Header). AddsExactly h more (disk_on (other_side lead) p).held (disk_on (other_side lead) q).held) brought.header (also.exact told));
     ring = also.ring;
     no_fault = no_fault_then start p q brought.no_fault also.no_fault;
   }
@@ -179,6 +185,7 @@ module _ (tells : Tells) (lead : Side) (r : Ring) (blocks : List Block) (p mid q
     header = brought.header;
     keeps = λ told. subst (λ (l : List ℕ). RecoversAll r.header l (recovered_run r.header l) blocks (disk_on (other_side lead) q).held)
         served.other.disk.held (brought.keeps told);
+    exact = λ told. subst (λ (l : List ℕ). AddsExactly r.header blocks l (disk_on (other_side lead) q).held) served.other.disk.held (brought.exact told);
     ring = brought.ring;
     no_fault = no_fault_then p mid q (no_fault_on lead p mid none served.other.disk.faults) brought.no_fault;
   }
@@ -227,11 +234,13 @@ module _ (tells : Tells) (lead side : Side) (r : Ring) (session : ℕ) (bytes : 
 
   pub put_brought : (s : Ring) → s.header ≡ r.header
       → (IsTrue tells.bytes → HasPut r.header (next_block r session bytes) (disk_on side mid).held (disk_on side q).held)
+      → (IsTrue tells.bytes → AddsExactly r.header (next_block r session bytes ∷ []) (disk_on side mid).held (disk_on side q).held)
       → IsSettledRing tells side s q → (disk_on side q).faults ≡ (disk_on side mid).faults → (disk_on lead mid).faults ≡ (disk_on lead p).faults
       → HasBrought tells lead r s blocks p q
-  put_brought s header has settled none lead_none = looked_brought tells lead r blocks p mid q sound ring.settled served same s lead_none
+  put_brought s header has exact settled none lead_none = looked_brought tells lead r blocks p mid q sound ring.settled served same s lead_none
       (brought_put tells lead r session bytes blocks mid q sound_mid ring_mid.settled is put_there s header
       (λ told. subst (λ (x : Side). HasPut r.header (next_block r session bytes) (disk_on x mid).held (disk_on x q).held) is_side (has told))
+      (λ told. subst (λ (x : Side). AddsExactly r.header (next_block r session bytes ∷ []) (disk_on x mid).held (disk_on x q).held) is_side (exact told))
       (subst (λ (x : Side). IsSettledRing tells x s q) is_side settled)
       (subst (λ (x : Side). (disk_on x q).faults ≡ (disk_on x mid).faults) is_side none))
 
@@ -327,6 +336,8 @@ module _ (tells : Tells) (lead : Side) (r : Ring) (k end : ℕ) (start p : Pair)
     header = brought.header;
     keeps = λ told. subst (λ (l : List Block). RecoversAll r.header (disk_on (other_side lead) start).held
         (recovered_run r.header (disk_on (other_side lead) start).held) l (disk_on (other_side lead) p).held) (all_missing told) (brought.keeps told);
+    exact = λ told. subst (λ (l : List Block). AddsExactly r.header l (disk_on (other_side lead) start).held (disk_on (other_side lead) p).held)
+        (all_missing told) (brought.exact told);
     ring = brought.ring;
     no_fault = brought.no_fault;
   }
@@ -339,6 +350,19 @@ brought_none tells lead r blocks start none ring = record {
   keeps = λ told. subst (λ (l : List Block). RecoversAll r.header (disk_on (other_side lead) start).held
       (recovered_run r.header (disk_on (other_side lead) start).held) l (disk_on (other_side lead) start).held) (sym none)
       (keeps_none r.header (disk_on (other_side lead) start).held);
+  exact = λ told. subst (λ (l : List Block). AddsExactly r.header l (disk_on (other_side lead) start).held (disk_on (other_side lead) start).held)
+      (sym none) (exact_none r.header (disk_on (other_side lead) start).held);
   ring = ring;
   no_fault = no_fault_here start;
 }
+
+-- the side that follows holds what it held with the ring s, whose next number is still below the lead's
+pub behind_still : (tells : Tells) (lead : Side) (r s : Ring) (blocks : List Block) (k end : ℕ) (start p q : Pair) → HasBrought tells lead r s blocks start p
+    → s.next ≡ k → k < end → (disk_on (other_side lead) q).held ≡ (disk_on (other_side lead) p).held → IsTrue tells.bytes
+    → next_of r.header (disk_on (other_side lead) q).held < end
+behind_still tells lead r s blocks k end start p q brought at high same told =
+    let next : next_of r.header (disk_on (other_side lead) q).held ≡ s.next =
+    ap (λ (l : List ℕ). next_of r.header l) same
+    ∙ ap (λ (h : Header). next_of h (disk_on (other_side lead) p).held) (sym brought.header)
+    ∙ sym (brought.ring.sure.ring.next told) in
+    omega (arith, next, at, high)

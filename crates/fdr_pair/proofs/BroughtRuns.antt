@@ -76,6 +76,29 @@ missing_between h lead follower next end limits near is_next is_end =
     ∙ ap (blocks_between h lead (next_of h follower)) (run.whole ∙ sym is_end)
     ∙ ap (λ n. blocks_between h lead n end) (sym is_next)
 
+-- of blocks with numbers in a row those from a number on are as many as there are numbers from there on
+count_from : (number first : ℕ) (blocks : List Block) → first ≤ number → number ≤ first + length blocks → AreNumberedFrom first blocks
+    → number + length (blocks_not_below number blocks) ≡ first + length blocks
+count_from number first [] low high numbered = omega (arith, low, high)
+count_from number first (b ∷ bs) low high numbered = ⊎_elim
+    (λ later.
+    let rest = count_from number (first + 1) bs (omega (arith, later)) (omega (arith, high)) numbered.1 in
+    let same = ap length (from_below number b bs (omega (arith, later, numbered.0))) in
+    omega (arith, rest, same))
+    (λ here.
+    let equal : number ≡ first = omega (arith, here, low) in
+    let same = ap length (from_all number first (b ∷ bs) (omega (arith, equal)) numbered) in
+    omega (arith, same, equal))
+    (cases_lt first number)
+
+-- as many blocks are missing as the next number of the side that follows is below the lead's
+pub missing_count : (h : Header) (lead follower : List ℕ) → IsInLimits h → (IsFarBehind h lead follower → ⊥) → next_of h follower ≤ next_of h lead
+    → next_of h follower + length (missing_blocks h lead follower) ≡ next_of h lead
+missing_count h lead follower limits near le =
+    let run = known_run h lead limits in
+    let low : first_of h lead ≤ next_of h follower = ⊎_elim (λ far. absurd (near far)) (λ is. is) (cases_lt (next_of h follower) (first_of h lead)) in
+    count_from (next_of h follower) (first_of h lead) (recovered_run h lead) low (omega (arith, le, run.whole)) run.numbered ∙ run.whole
+
 -- blocks with numbers in a row have the numbers from the first on, below the next
 numbers_in : (first : ℕ) (blocks : List Block) (low high : ℕ) → low ≤ first → first + length blocks ≤ high → AreNumberedFrom first blocks
     → All (λ (b : Block). (low ≤ b.number) × (b.number < high)) blocks
@@ -130,3 +153,26 @@ in_run h image number limits low high =
     let run = known_run h image limits in
     let found = one_of (first_of h image) (recovered_run h image) number run.numbered low (omega (arith, high, run.whole)) in
     (found.0, (found.1.1, (found.1.0, (of_run h image found.0 number limits found.1.0 found.1.1).there)))
+
+-- as many are left as there are numbers from that one on
+length_not_below : (number first : ℕ) (blocks : List Block) → first ≤ number → number ≤ first + length blocks → AreNumberedFrom first blocks
+    → number + length (blocks_not_below number blocks) ≡ first + length blocks
+length_not_below number first [] low high numbered = omega (arith, low, high)
+length_not_below number first (b ∷ bs) low high numbered = ⊎_elim
+    (λ later.
+    let long = ap (λ (l : List Block). length l) (from_below number b bs (omega (arith, later, numbered.0))) in
+    let rest = length_not_below number (first + 1) bs (omega (arith, later)) (omega (arith, high)) numbered.1 in
+    omega (arith, long, rest))
+    (λ here.
+    let same : number ≡ first = omega (arith, here, low) in
+    let long = ap (λ (l : List Block). length l) (from_all number first (b ∷ bs) (omega (arith, same)) numbered) in
+    omega (arith, long, same))
+    (cases_lt first number)
+
+-- as many blocks are missing as the lead has numbers more
+pub missing_length : (h : Header) (lead follower : List ℕ) → IsInLimits h → (IsFarBehind h lead follower → ⊥) → next_of h follower ≤ next_of h lead
+    → next_of h follower + length (missing_blocks h lead follower) ≡ next_of h lead
+missing_length h lead follower limits near low =
+    let run = known_run h lead limits in
+    let from : first_of h lead ≤ next_of h follower = ⊎_elim (λ far. absurd (near far)) (λ is. is) (cases_lt (next_of h follower) (first_of h lead)) in
+    length_not_below (next_of h follower) (first_of h lead) (recovered_run h lead) from (omega (arith, low, run.whole)) run.numbered ∙ run.whole

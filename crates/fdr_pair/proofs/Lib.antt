@@ -5,15 +5,34 @@ pub mod Told
 pub mod Going
 pub mod Both
 pub mod Onward
-mod FourWords
 pub mod PairWorks
+pub mod Opening
+mod FourWords
 pub mod BroughtRuns
 pub mod Bringing
 pub mod Comparing
 pub mod Counting
 pub mod BothSides
 pub mod PairFeeding
+pub mod Idling
 pub mod Pulling
 pub mod Tracing
 pub mod TraceEnds
 pub mod Keeps
+pub mod FoundRuns
+pub mod StartSteps
+pub mod StartCounts
+pub mod StartJoined
+pub mod StartRefusals
+pub mod StartEnds
+pub mod PairTable
+pub mod PairLine
+pub mod PairAnswering
+pub mod PairComplete
+pub mod Joins
+pub mod Alikes
+pub mod StartMoments
+pub mod Attached
+pub mod Leading
+pub mod PairKeeping
+pub mod PairGoing

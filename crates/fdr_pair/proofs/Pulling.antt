@@ -1,6 +1,8 @@
 -- A pull of a twin, which leaves both disks.
-use Rattle.std.proofs.Common.{◌≡◌, ◌⊎◌, inl, inr, ⊎_elim, ℕ, ◌-◌, ◌<◌, ◌≤◌, List, [], ◌++◌, length, take, ap, refl, sym, ◌∙◌, subst, arith, Option, Some, None}
+use Rattle.std.proofs.Common.{◌≡◌, ◌⊎◌, inl, inr, ⊎_elim, ℕ, ◌+◌, ◌-◌, ◌<◌, ◌≤◌, List, [], ◌++◌, length, take}
+use Rattle.std.proofs.Common.{ap, refl, sym, ◌∙◌, subst, arith, Option, Some, None}
 use Rattle.std.specs.Prelude.{IsTrue}
+use Rattle.std.proofs.lemmas.Bool.{cases_lt}
 use Rattle.fdr_bus.specs.declared.BusRecord.{BusRecord}
 use Rattle.fdr_bus.specs.Records.{IsDecided}
 use Rattle.fdr_deck.specs.State.{State, Tells}
@@ -21,13 +23,14 @@ use Rattle.fdr_twin.specs.Sound.{IsSoundPair}
 use Rattle.fdr_twin.specs.Serving.{EachPairMoment}
 use Rattle.fdr_recorder.specs.Keeping.{RecoversAll, RecoversPrefix}
 use Rattle.fdr_recorder.specs.Lag.{IsInTime, KeepsUp}
-use Rattle.fdr_recorder.proofs.Lag.{at_moment, least_up}
+use Rattle.fdr_recorder.proofs.Lag.{IsInTime-pull, at_moment, least_up}
 use Rattle.fdr_recorder.proofs.Steps.{keeps_none, keeps_run, same_run}
 use Rattle.fdr_pair.specs.Living.{Follows, SideMoment, SideNow}
 use Rattle.fdr_pair.specs.PairRecording.{IsSettledSide}
 use Rattle.fdr_pair.specs.Putting.{AddsExactly}
 use Rattle.fdr_pair.specs.Traces.{IsPairLagMoment, shown_on}
 use Rattle.fdr_pair.proofs.Going.{exact_none, ring_left}
+use Rattle.fdr_pair.proofs.Idling.{IsIdleUntilPull}
 use Rattle.fdr_pair.proofs.Told.{shows}
 
 -- A side is as it was. At each new moment, where stops are told, it has an image that a stop could leave before, and the count of
@@ -76,11 +79,22 @@ module _ (tells : Tells) (s t : State) (p q : Pair) (sound : IsSoundPair tells p
     pub left : (side : Side) → IsLeft tells side p q
     left side = either_side (λ x. IsLeft tells x p q) side p.turned own_left (other_left tells (other_side p.turned) p q rest.other)
 
-    -- no number that is announced at a moment is above those from before
-    pub pull_told : EachPairMoment tells p q (λ m. m.announced ≤ p.greatest)
+    -- At a moment nothing was pulled yet, and no number above those from before is announced, or the number from before is.
+    pub pull_told : EachPairMoment tells p q (λ m. ((m.taken ≡ p.taken) × (m.announced ≤ p.greatest)) ⊎ (m.announced ≡ p.announced))
     pull_told stops m since =
         let at = shows tells (IsTraceMoment s bytes more records) p.turned s t p q here same_turned reads.moments stops m since in
-        omega (arith, at.greatest, here.greatest)
+        ⊎_elim (λ same. inl (same.taken ∙ sym here.taken, omega (arith, at.greatest, here.greatest)))
+        (λ pulling. inr (pulling.announced ∙ sym here.announced)) at.pulled
+
+    -- until bytes are pulled, nothing is done
+    pub pull_idle : EachPairMoment tells p q (IsIdleUntilPull p)
+    pull_idle stops m since =
+        let at = shows tells (IsTraceMoment s bytes more records) p.turned s t p q here same_turned reads.moments stops m since in
+        ⊎_elim (λ same. inl (record {
+          pulled = record { taken = same.taken ∙ sym here.taken; pulled_before = same.pulled_before ∙ sym here.pulled_before };
+          sides = λ side. (left side).moments stops m since;
+        }))
+        (λ pulling. inr (omega (arith, pulling.last.pull.begins, pulling.last.pull.gave_bytes, here.taken))) at.pulled
 
   -- what is said of the line is said of the twin's
   pub pulls_seen : (bytes more : List ℕ) → PullsUntilDecided tells s t bytes more → PullsUntilDecided tells (seen First p) (seen First q) bytes more
@@ -104,15 +118,26 @@ module _ (tells : Tells) (s t : State) (p q : Pair) (sound : IsSoundPair tells p
   pub pull_announced : KeepsAnnounced s t → q.announced ≡ p.announced
   pull_announced told = there.announced ∙ told.announced ∙ sym here.announced
 
-  pub pull_greatest : IsSoundDeck tells s → KeepsAnnounced s t → q.greatest ≤ p.greatest
-  pull_greatest sound_s told = omega (arith, KeepsAnnounced-greatest tells s t sound_s told, here.greatest, there.greatest)
+  -- No number above the next one may be announced any more: the announced number is the next one, and either bytes were pulled, or
+  -- none above it could be announced before.
+  pub pull_greatest : (next : ℕ) (bytes more : List ℕ) → IsSoundDeck tells s → PullsUntilDecided tells s t bytes more → KeepsAnnounced s t
+      → (s.taken < t.taken → HasOneAnnounced t) → p.announced ≡ next → (q.taken ≡ p.taken → p.greatest ≤ next) → q.greatest ≤ next
+  pull_greatest next bytes more sound_s pulls told fresh stood few = ⊎_elim
+      (λ some.
+      let anew = fresh (omega (arith, pulls.takes.taken, some)) in
+      omega (arith, anew.greatest, told.announced, here.announced, there.greatest, stood))
+      (λ none.
+      let most = few (omega (arith, pulls.takes.taken, none, here.taken, there.taken)) in
+      omega (arith, KeepsAnnounced-greatest tells s t sound_s told, here.greatest, there.greatest, most))
+      (cases_lt 0 (length more))
 
-  -- how what is announced lags behind
+  -- how what is announced lags behind, where the records so far are announced
   module _ (owed : List BusRecord → ℕ) (start : Pair) (bytes more : List ℕ) (records : List BusRecord) (sound_s : IsSoundDeck tells s)
-      (up : KeepsUp owed tells (seen First start) (seen First p) bytes records) (pulls : PullsUntilDecided tells s t bytes more)
-      (reads : PullsForRecord tells s t bytes more records) (told : KeepsAnnounced s t) (fresh : s.taken < t.taken → HasOneAnnounced t) where
-    up_here : KeepsUp owed tells (seen First start) s bytes records
-    up_here =
+      (was : PullsUntilDecided tells (seen First start) (seen First p) [] bytes) (enough : owed records ≤ p.announced)
+      (pulls : PullsUntilDecided tells s t bytes more) (reads : PullsForRecord tells s t bytes more records) (told : KeepsAnnounced s t)
+      (fresh : s.taken < t.taken → HasOneAnnounced t) where
+    up_here : KeepsUp owed tells (seen First start) (seen First p) bytes records → KeepsUp owed tells (seen First start) s bytes records
+    up_here up =
         let same : p.pulled_before - start.taken ≡ s.pulled_before - start.taken = omega (arith, here.pulled_before) in
         record {
           pulls = record {
@@ -135,18 +160,42 @@ module _ (tells : Tells) (s t : State) (p q : Pair) (sound : IsSoundPair tells p
           announced = omega (arith, up.announced, here.announced);
         }
 
-    pub pull_in_time : EachPairMoment tells p q (IsPairLagMoment owed start (bytes ++ more))
-    pull_in_time stops m since =
-        let at = shows tells (IsTraceMoment s bytes more records) p.turned s t p q here same_turned reads.moments stops m since in
-        let lag = at_moment owed tells (seen First start) s t bytes more records sound_s up_here pulls reads told fresh (shown_on p.turned m) at in
-        record { pulled = ⊎_elim (λ same. inl (record { taken = same.taken; pulled_before = same.pulled_before })) (λ late. inr late) lag.pulled }
+    all_taken : s.taken ≡ start.taken + length bytes
+    all_taken = omega (arith, was.takes.taken, here.taken)
 
-    pub pull_least : 0 < length (bytes ++ more) → IsInTime owed start.taken (bytes ++ more) q.least q.pulled_before q.taken
-    pull_least some =
+    pub pull_in_time : EachPairMoment tells p q (λ m. (m.taken ≡ p.taken → KeepsUp owed tells (seen First start) (seen First p) bytes records)
+        → IsPairLagMoment owed start (bytes ++ more) m)
+    pull_in_time stops m since up =
+        let at = shows tells (IsTraceMoment s bytes more records) p.turned s t p q here same_turned reads.moments stops m since in
+        ⊎_elim
+        (λ same.
+        let lag = at_moment owed tells (seen First start) s t bytes more records sound_s (up_here (up (same.taken ∙ sym here.taken))) pulls reads told
+        fresh (shown_on p.turned m) at in
+        record { pulled = ⊎_elim (λ same. inl (record { taken = same.taken; pulled_before = same.pulled_before })) (λ late. inr late) lag.pulled })
+        (λ pulling. record {
+          pulled = inr (IsInTime-pull owed start.taken s.taken bytes more records m.announced m.pulled_before m.taken all_taken
+              (omega (arith, enough, pulling.announced, here.announced)) pulling.last);
+        })
+        at.pulled
+
+    least_here : (q.taken ≡ p.taken → KeepsUp owed tells (seen First start) (seen First p) bytes records) → 0 < length (bytes ++ more)
+        → IsInTime owed start.taken (bytes ++ more) t.least t.pulled_before t.taken
+    least_here up some = ⊎_elim
+        (λ given.
+        let anew = fresh (omega (arith, pulls.takes.taken, given)) in
+        IsInTime-pull owed start.taken s.taken bytes more records t.least t.pulled_before t.taken all_taken
+        (omega (arith, anew.least, told.announced, here.announced, enough)) (reads.last given))
+        (λ none.
+        let same : q.taken ≡ p.taken = omega (arith, pulls.takes.taken, none, here.taken, there.taken) in
+        least_up owed tells (seen First start) s t bytes more records sound_s (up_here (up same)) pulls reads told fresh some)
+        (cases_lt 0 (length more))
+
+    pub pull_least : (q.taken ≡ p.taken → KeepsUp owed tells (seen First start) (seen First p) bytes records) → 0 < length (bytes ++ more)
+        → IsInTime owed start.taken (bytes ++ more) q.least q.pulled_before q.taken
+    pull_least up some =
         subst (λ (n : ℕ). IsInTime owed start.taken (bytes ++ more) n q.pulled_before q.taken) (sym there.least)
         (subst (λ (n : ℕ). IsInTime owed start.taken (bytes ++ more) t.least n q.taken) (sym there.pulled_before)
-        (subst (λ (n : ℕ). IsInTime owed start.taken (bytes ++ more) t.least t.pulled_before n) (sym there.taken)
-        (least_up owed tells (seen First start) s t bytes more records sound_s up_here pulls reads told fresh some)))
+        (subst (λ (n : ℕ). IsInTime owed start.taken (bytes ++ more) t.least t.pulled_before n) (sym there.taken) (least_here up some)))
 
 -- ---- a side that is left
 
@@ -158,18 +207,19 @@ image_left tells side p q sound is stops m since = ⊎_elim
     (λ stays. stays.image)
     (is.moments stops m since)
 
-pub moments_left : (tells : Tells) (side : Side) (o : Option Ring) (h : Header) (next : ℕ) (p q : Pair) → IsSoundPair tells p → IsLeft tells side p q
-    → EachPairMoment tells p q (λ m. m.announced ≤ p.greatest) → Follows h next o → IsSettledSide tells side o p → p.greatest ≤ next
-    → EachPairMoment tells p q (SideMoment side o [] p)
-moments_left tells side None h next p q sound is told follows settled few stops m since =
+-- no number above the next one is announced at a moment of which Q holds
+pub moments_left : (tells : Tells) (Q : PairMoment → Type 0) (side : Side) (o : Option Ring) (h : Header) (next : ℕ) (p q : Pair) → IsSoundPair tells p
+    → IsLeft tells side p q → EachPairMoment tells p q (λ m. Q m → m.announced ≤ next) → Follows h next o → IsSettledSide tells side o p
+    → EachPairMoment tells p q (λ m. Q m → SideMoment side o [] p m)
+moments_left tells Q side None h next p q sound is told follows settled stops m since holds =
     ⊎_elim (λ early. inl early) (λ stays. inr stays.faults) (is.moments stops m since)
-moments_left tells side (Some r) h next p q sound is told follows settled few stops m since =
+moments_left tells Q side (Some r) h next p q sound is told follows settled stops m since holds =
     let bytes = (sound.sides side).stops_need_bytes stops in
     let held = (disk_on side p).held in
     let still : image_on side m ≡ held = settled.settled stops (image_on side m) (image_left tells side p q sound is stops m since) in
-    let most = told stops m since in
+    let most = told stops m since holds in
     inr (subst (λ (l : List ℕ). RecoversPrefix r.header held (recovered_run r.header held) [] m.announced l) (sym still)
-    (keeps_run r.header held held [] m.announced (same_run r.header held) (omega (arith, most, few, settled.sure.ring.next bytes, (follows r refl).1))))
+    (keeps_run r.header held held [] m.announced (same_run r.header held) (omega (arith, most, settled.sure.ring.next bytes, (follows r refl).1))))
 
 pub now_left : (tells : Tells) (side : Side) (o : Option Ring) (p q : Pair) → IsLeft tells side p q → IsSettledSide tells side o p
     → SideNow tells side o o [] p q

@@ -85,11 +85,11 @@ module _ (tells : Tells) (side : Side) (r : Ring) (session : ℕ) (bytes : List 
     own = record { moments = own_moments; faults = rose };
   }
 
-  pub puts_put : (s : Ring) → s.header ≡ r.header → s.next ≡ r.next + 1
+  pub puts_put : (s : Ring) → s.header ≡ r.header → s.next ≡ r.next + 1 → (disk_on side new).faults ≡ (disk_on side old).faults
       → (IsTrue tells.bytes → HasPut r.header (next_block r session bytes) (disk_on side old).held (disk_on side new).held)
       → (IsTrue tells.bytes → AddsExactly r.header (next_block r session bytes ∷ []) (disk_on side old).held (disk_on side new).held)
       → IsSettledRing tells side s new → PutsUnlessFailed tells side (Some r) (Some s) session bytes old new
-  puts_put s header next put exact ring = record {
+  puts_put s header next faults put exact ring = record {
     time = served.time;
     away = served.other;
     line = line;
@@ -97,5 +97,5 @@ module _ (tells : Tells) (side : Side) (r : Ring) (session : ℕ) (bytes : List 
     least = least;
     greatest = greatest;
     moments = quiet;
-    own = record { moments = own_moments; header = header; next = next; faults = served.disk_work.passes.disk_faults; put = put; exact = exact; ring = ring };
+    own = record { moments = own_moments; header = header; next = next; faults = faults; put = put; exact = exact; ring = ring };
   }

@@ -1,17 +1,24 @@
 -- How the recording of a trace on two disks ends.
-use Rattle.std.proofs.Common.{◌≡◌, ◌≢◌, ℕ, ◌+◌, ◌-◌, ◌^◌, ◌≤◌, List, [], ◌∷◌, ◌++◌, length, take, ap, refl, sym, ◌∙◌, subst}
+use Rattle.std.proofs.Common.{◌≡◌, ◌≢◌, ⊎_elim, ℕ, ◌+◌, ◌-◌, ◌/◌, ◌^◌, ◌<◌, ◌≤◌, List, [], ◌∷◌, ◌++◌, length, take, ap, refl, sym, ◌∙◌, subst}
+use Rattle.std.proofs.lemmas.Bool.{cases_lt}
 use Rattle.std.proofs.Common.{length-append, arith, true, Option, Some, None, Result, Ok, Err}
 use Rattle.std.proofs.lemmas.List.{append-nil, take-append-le}
+use Rattle.std.proofs.lemmas.List.FromFn.{length-map-range_with_len}
+use Rattle.std.proofs.Math.Nat.{div-eq_of_lt}
 use Rattle.std.proofs.Math.Seq.{take-append-add}
 use Rattle.fdr_io.specs.Faults.{Rose}
 use Rattle.fdr_bus.specs.declared.BusRecord.{BusRecord}
 use Rattle.fdr_bus.specs.declared.TraceFault.{TraceFault}
 use Rattle.fdr_bus.specs.declared.TraceFault.TheVariants as trace
 use Rattle.fdr_bus.specs.Records.{IsDecided, good_prefix, has_end, is_end}
-use Rattle.fdr_bus.proofs.TraceLemmas.{has_end-push}
+use Rattle.fdr_bus.proofs.TraceLemmas.{good_prefix_none, has_end-push}
 use Rattle.fdr_deck.specs.State.{State, Tells}
 use Rattle.fdr_slot.specs.Limits.{IsInLimits}
 use Rattle.fdr_recover.specs.Blocks.{Block}
+use Rattle.fdr_sampler.specs.Stream.{packed, stream_words}
+use Rattle.fdr_sampler.proofs.Packing.{length-packed}
+use Rattle.fdr_sampler.proofs.Streaming.{stream_words-none}
+use Rattle.fdr_stream.specs.Blocks.{blocks_of, cut_block}
 use Rattle.fdr_trace.specs.Kept.{TraceKept}
 use Rattle.fdr_trace.specs.Reading.{IsNextRecord, IsTraceStopped, RepresentsTrace}
 use Rattle.fdr_trace.specs.declared.TraceStop.{TraceStop}
@@ -20,8 +27,9 @@ use Rattle.fdr_twin.specs.declared.side.Side.TheVariants.{First, Second}
 use Rattle.fdr_twin.specs.Pair.{Pair, seen}
 use Rattle.fdr_twin.specs.Same.{IsSameState}
 use Rattle.fdr_twin.specs.Sound.{IsSoundPair}
+use Rattle.fdr_twin.specs.Serving.{EachPairMoment}
 use Rattle.fdr_recorder.specs.Ends.{HasRecordedSource, RecordingEnd}
-use Rattle.fdr_recorder.specs.Past.{MayFeedRecording, RecordingPast, blocks_due_at, recorded_of, rest_of}
+use Rattle.fdr_recorder.specs.Past.{MayFeedRecording, RecordingPast, blocks_due_at, blocks_from, due_count, recorded_bytes, recorded_of, rest_of}
 use Rattle.fdr_recorder.specs.Supplied.{past_fed}
 use Rattle.fdr_recorder.specs.Supply.{EndsLine, line_trace}
 use Rattle.fdr_recorder.specs.declared.source.SourceEnd.{SourceEnd}
@@ -38,8 +46,9 @@ use Rattle.fdr_pair.specs.declared.fault.PairFault.TheVariants as fault
 use Rattle.fdr_pair.specs.declared.rings.PairRings.{PairRings}
 use Rattle.fdr_pair.specs.declared.session.PairSession.{PairSession}
 use Rattle.fdr_pair.proofs.BothSides.{BothFailed-then, PairRecordsAll-then}
+use Rattle.fdr_pair.proofs.Idling.{IsIdleUntilPull}
 use Rattle.fdr_pair.proofs.Onward.{moment_more}
-use Rattle.fdr_pair.proofs.Tracing.{first_after, in_time_after, pulls_after, second_after, time_after}
+use Rattle.fdr_pair.proofs.Tracing.{first_after, in_time_after, pulls_after, second_after, time_after, idle_after}
 
 -- ---- how the trace ended
 
@@ -179,6 +188,29 @@ may_feed_next past k k' before bytes records r reads next =
 
 -- ---- what was recorded
 
+-- no bytes, no records
+no_bytes : (bytes : List ℕ) → length bytes ≤ 0 → good_prefix bytes ≡ []
+no_bytes [] none = good_prefix_none
+no_bytes (b ∷ bytes) none = absurd (omega (arith, none))
+
+-- where there are no records, no block is left
+none_left : (past : RecordingPast) → IsInLimits past.header → past.records ≡ [] → rest_of past ≡ []
+none_left past limits none =
+    let words : stream_words past.table past.records ≡ [] = ap (stream_words past.table) none ∙ stream_words-none past.table in
+    let bytes : length (recorded_bytes past) ≡ 0 = omega (arith, ap (λ (l : List ℕ). length (packed l)) words, length-packed []) in
+    let p = past.header.payload in
+    let parts : (length (recorded_bytes past) + p - 1) / p ≡ 0 = div-eq_of_lt (omega (arith, bytes, limits.least_payload)) in
+    let count = length-map-range_with_len (cut_block p (recorded_bytes past)) 0 ((length (recorded_bytes past) + p - 1) / p) in
+    let rest : length (blocks_of p (recorded_bytes past)) - due_count past ≡ 0 = omega (arith, count, parts) in
+    ap (λ n. blocks_from past (due_count past) n) rest
+
+-- a record was read of some bytes
+pub gave_bytes : (bytes : List ℕ) (records later : List BusRecord) (r : BusRecord) → good_prefix bytes ≡ (records ++ r ∷ []) ++ later → 0 < length bytes
+gave_bytes [] records later r good =
+    let long = ap length (sym good_prefix_none ∙ good) in
+    absurd (omega (arith, long, length-append (records ++ r ∷ []) later, length-append records (r ∷ [])))
+gave_bytes (b ∷ bytes) records later r good = omega arith
+
 cut_short : (f : PairFault) → HasRecordedSource (recording_end (Err f)) → ⊥
 cut_short fault.DiskFault whole = whole
 cut_short fault.SeqEnd whole = whole
@@ -214,7 +246,8 @@ ended_after tells rings mid all xs ys zs start p q parts has end =
 module _ (tells : Tells) (past : RecordingPast) (rings : PairRings) (s : PairSession) (bytes : List ℕ) (records : List BusRecord) (start p q : Pair)
     (sound : IsSoundPair tells p) (begins : rings.next ≡ past.first) (has : HasFedPair tells (past_fed past records) rings s bytes start p)
     (blocks later : List Block) (wrote : PairRecordsFirst tells s.rings blocks p q)
-    (parts : trace_blocks past bytes ≡ (recorded_of (past_fed past records) ++ blocks) ++ later) where
+    (parts : trace_blocks past bytes ≡ (recorded_of (past_fed past records) ++ blocks) ++ later)
+    (idle : EachPairMoment tells start q (IsIdleUntilPull start)) where
   pub cut_trace : (f : PairFault) → (IsDecided bytes → p.input_faults ≡ start.input_faults) → (f ≡ fault.SeqEnd → PairHasEnded tells s.rings blocks p q)
       → (f ≡ fault.DiskFault → BothFailed tells s.rings p q) → PairRecordsTrace tells past rings start q (Err f)
   cut_trace f quiet ended failed =
@@ -224,13 +257,14 @@ module _ (tells : Tells) (past : RecordingPast) (rings : PairRings) (s : PairSes
         pulled = bytes;
         pulls = pulls_after tells before rings s bytes start p sound begins has q blocks wrote;
         time = time_after tells before rings s bytes start p sound begins has q blocks wrote;
-        first = λ few stops m since. subst (λ (l : List Block). SideMoment First rings.first l start m) (sym parts)
+        first = λ stops m since few. subst (λ (l : List Block). SideMoment First rings.first l start m) (sym parts)
             (moment_more First rings.first so_far later start m
-            (first_after tells before rings s bytes start p sound begins has q blocks wrote few stops m since));
-        second = λ few stops m since. subst (λ (l : List Block). SideMoment Second rings.second l start m) (sym parts)
+            (first_after tells before rings s bytes start p sound begins has q blocks wrote stops m since few));
+        second = λ stops m since few. subst (λ (l : List Block). SideMoment Second rings.second l start m) (sym parts)
             (moment_more Second rings.second so_far later start m
-            (second_after tells before rings s bytes start p sound begins has q blocks wrote few stops m since));
+            (second_after tells before rings s bytes start p sound begins has q blocks wrote stops m since few));
         in_time = in_time_after tells before rings s bytes start p sound begins has q blocks wrote;
+        idle = idle;
         recorded = λ whole. absurd (cut_short f whole);
         within = λ whole. absurd (cut_short f whole);
         seq_end = λ e. ended_after tells rings s.rings (trace_blocks past bytes) (recorded_of (past_fed past records)) blocks later start p q parts
@@ -253,7 +287,16 @@ parts_fed past bytes records later r limits may good =
 module _ (tells : Tells) (past : RecordingPast) (rings : PairRings) (s : PairSession) (start p q : Pair) (end : SourceEnd)
     (sound : IsSoundPair tells p) (begins : rings.next ≡ past.first) (whole : HasFedTrace tells past rings s start p end)
     (parts : trace_blocks past whole.pulled ≡ recorded_of (past_fed past (good_prefix whole.pulled)) ++ rest_of (past_fed past (good_prefix whole.pulled)))
-    (wrote : PairRecordsFirst tells s.rings (rest_of (past_fed past (good_prefix whole.pulled))) p q) where
+    (wrote : PairRecordsFirst tells s.rings (rest_of (past_fed past (good_prefix whole.pulled))) p q)
+    (untouched : rest_of (past_fed past (good_prefix whole.pulled)) ≡ [] → EachPairMoment tells start q (IsIdleUntilPull start)) where
+  idle_whole : EachPairMoment tells start q (IsIdleUntilPull start)
+  idle_whole = ⊎_elim
+      (λ some. idle_after tells (past_fed past (good_prefix whole.pulled)) rings s whole.pulled start p sound begins whole.has q
+      (rest_of (past_fed past (good_prefix whole.pulled))) wrote some)
+      (λ none. untouched (none_left (past_fed past (good_prefix whole.pulled)) (subst IsInLimits whole.stands.header s.rings.limits)
+      (no_bytes whole.pulled none)))
+      (cases_lt 0 (length whole.pulled))
+
   pub closed_trace : (left : PairRings) → PairRecordsAll tells s.rings left (rest_of (past_fed past (good_prefix whole.pulled))) p q
       → PairRecordsTrace tells past rings start q (Ok end)
   closed_trace left recorded =
@@ -265,11 +308,12 @@ module _ (tells : Tells) (past : RecordingPast) (rings : PairRings) (s : PairSes
         pulled = whole.pulled;
         pulls = pulls_after tells before rings s whole.pulled start p sound begins whole.has q (rest_of before) wrote;
         time = time_after tells before rings s whole.pulled start p sound begins whole.has q (rest_of before) wrote;
-        first = λ few stops m since. subst (λ (l : List Block). SideMoment First rings.first l start m) (sym parts)
-            (first_after tells before rings s whole.pulled start p sound begins whole.has q (rest_of before) wrote few stops m since);
-        second = λ few stops m since. subst (λ (l : List Block). SideMoment Second rings.second l start m) (sym parts)
-            (second_after tells before rings s whole.pulled start p sound begins whole.has q (rest_of before) wrote few stops m since);
+        first = λ stops m since few. subst (λ (l : List Block). SideMoment First rings.first l start m) (sym parts)
+            (first_after tells before rings s whole.pulled start p sound begins whole.has q (rest_of before) wrote stops m since few);
+        second = λ stops m since few. subst (λ (l : List Block). SideMoment Second rings.second l start m) (sym parts)
+            (second_after tells before rings s whole.pulled start p sound begins whole.has q (rest_of before) wrote stops m since few);
         in_time = in_time_after tells before rings s whole.pulled start p sound begins whole.has q (rest_of before) wrote;
+        idle = idle_whole;
         recorded = λ done. (left, all);
         within = λ done. omega (arith, all.next, left.bound, begins);
         seq_end = λ e. absurd (cc);
@@ -283,4 +327,4 @@ module _ (tells : Tells) (past : RecordingPast) (rings : PairRings) (s : PairSes
   unclosed_trace f ended failed =
       let before = past_fed past (good_prefix whole.pulled) in
       cut_trace tells past rings s whole.pulled (good_prefix whole.pulled) start p q sound begins whole.has (rest_of before) [] wrote
-      (parts ∙ sym (append-nil (recorded_of before ++ rest_of before))) f whole.ends.decided ended failed
+      (parts ∙ sym (append-nil (recorded_of before ++ rest_of before))) idle_whole f whole.ends.decided ended failed

@@ -14,3 +14,14 @@ pub mod Room
 pub mod PairPast
 pub mod Traces
 pub mod SideKeeping
+pub mod Opening
+pub mod PairStages
+pub mod Alike
+pub mod PairMoments
+pub mod PairEnds
+pub mod PairRun
+pub mod SideRuns
+pub mod PairAnswers
+pub mod Joining
+pub mod Attaching
+pub mod PairStarting

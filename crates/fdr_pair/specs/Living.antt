@@ -40,7 +40,7 @@ SideMoment side (Some r) new old m = Rose (disk_on side old).faults (faults_on s
 pub record HasGoneOn (tells : Tells) (side : Side) (r s : Ring) (done : List Block) (old new : Pair) : Type 0 where
   pub header : s.header ≡ r.header
   pub next : s.next ≡ r.next + length done
-  pub faults : (disk_on side old).faults ≤ (disk_on side new).faults
+  pub faults : (disk_on side new).faults ≡ (disk_on side old).faults
   pub keeps : IsTrue tells.bytes → RecoversAll r.header (disk_on side old).held (recovered_run r.header (disk_on side old).held) done (disk_on side new).held
   pub exact : IsTrue tells.bytes → AddsExactly r.header done (disk_on side old).held (disk_on side new).held
   pub ring : IsSettledRing tells side s new

@@ -39,8 +39,7 @@ pub record PairRecordsAll (tells : Tells) (rings left : PairRings) (new : List B
   pub next : left.next ≡ rings.next + length new
   pub announced : old.announced ≡ rings.next → now.announced ≡ rings.next + length new
 
--- The numbers ended among these blocks: those before that are on each side that hasn't failed, and are announced, and nothing
--- else was done.
+-- The numbers ended among these blocks: those that have one are on each side that hasn't failed, and are announced.
 pub record PairHasEnded (tells : Tells) (rings : PairRings) (new : List Block) (old now : Pair) : Type 0 where
   pub left : PairRings
   pub beyond : sequence_end < rings.next + length new

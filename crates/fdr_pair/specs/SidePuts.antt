@@ -50,7 +50,7 @@ pub record HasPutNow (tells : Tells) (side : Side) (r s : Ring) (session : ℕ) 
   pub moments : OwnMoments tells side r session bytes old new
   pub header : s.header ≡ r.header
   pub next : s.next ≡ r.next + 1
-  pub faults : (disk_on side old).faults ≤ (disk_on side new).faults
+  pub faults : (disk_on side new).faults ≡ (disk_on side old).faults
   pub put : IsTrue tells.bytes → HasPut r.header (next_block r session bytes) (disk_on side old).held (disk_on side new).held
   pub exact : IsTrue tells.bytes → AddsExactly r.header (next_block r session bytes ∷ []) (disk_on side old).held (disk_on side new).held
   pub ring : IsSettledRing tells side s new

@@ -1,5 +1,5 @@
 -- What the recording of a trace on two disks leaves, at each moment and in the end.
-use Rattle.std.specs.Prelude.{◌≡◌, ◌≤◌, ℕ, ◌+◌, List, [], length, Result, Ok, Err}
+use Rattle.std.specs.Prelude.{◌≡◌, ◌⊎◌, ◌<◌, ◌≤◌, ℕ, ◌+◌, List, [], length, Result, Ok, Err}
 use Rattle.fdr_io.specs.Faults.{Rose}
 use Rattle.fdr_bus.specs.declared.BusRecord.{BusRecord}
 use Rattle.fdr_bus.specs.Records.{good_prefix}
@@ -10,8 +10,9 @@ use Rattle.fdr_trace.specs.Pulls.{PullsUntilDecided}
 use Rattle.fdr_trace.specs.declared.TraceStop.TheVariants as stop
 use Rattle.fdr_twin.specs.declared.side.Side.{Side}
 use Rattle.fdr_twin.specs.declared.side.Side.TheVariants.{First, Second}
-use Rattle.fdr_twin.specs.Pair.{Pair, PairMoment, image_on, seen}
-use Rattle.fdr_twin.specs.Rest.{PairElapses}
+use Rattle.fdr_twin.specs.Pair.{Pair, PairMoment, disk_on, image_on, seen}
+use Rattle.fdr_twin.specs.Same.{IsSameDisk}
+use Rattle.fdr_twin.specs.Rest.{PairElapses, StaysOn}
 use Rattle.fdr_twin.specs.Serving.{EachPairMoment}
 use Rattle.fdr_recorder.specs.Past.{RecordingPast, all_blocks, recorded_of}
 use Rattle.fdr_recorder.specs.Ends.{HasRecordedSource, RecordingEnd}
@@ -21,6 +22,7 @@ use Rattle.fdr_recorder.specs.Supply.{EndsLine}
 use Rattle.fdr_recorder.specs.declared.error.SessionFault.TheVariants as session
 use Rattle.fdr_recorder.specs.declared.source.SourceEnd.{SourceEnd}
 use Rattle.fdr_recorder.specs.declared.source.SourceEnd.TheVariants as source
+use Rattle.fdr_pair.specs.Numbers.{HasPulled}
 use Rattle.fdr_pair.specs.Living.{SideMoment}
 use Rattle.fdr_pair.specs.PairPast.{RepresentsPair}
 use Rattle.fdr_pair.specs.PairRecording.{AreSettled, BothFailed, PairHasEnded, PairRecordsAll}
@@ -37,6 +39,17 @@ pub record IsPairBegun (tells : Tells) (s : PairSession) (past : RecordingPast) 
   pub settled : AreSettled tells s.rings p
   pub announced : p.announced ≡ past.first
 
+-- No number from before the recording, whose first block has the number `first`, is told any more where this many bytes were
+-- pulled: none above `first` could be announced at the start, or bytes were pulled since.
+abbrev pub TellsOnlySince : ℕ → Pair → ℕ → Type 0
+TellsOnlySince first old taken = (old.greatest ≤ first) ⊎ (old.taken < taken)
+
+-- A moment at which nothing was done yet: nothing was pulled, and each side has an image that a stop could leave before and the
+-- count of faults that it had, or the moment is one from before.
+pub record IsIdleMoment (old : Pair) (m : PairMoment) : Type 0 where
+  pub pulled : HasPulled old m
+  pub sides : (side : Side) → old.since old.clock m ⊎ StaysOn side old m
+
 -- the moment as one side shows it
 abbrev pub shown_on : Side → PairMoment → Moment
 shown_on side m = record { image = image_on side m; announced = m.announced; taken = m.taken; pulled_before = m.pulled_before }
@@ -47,18 +60,21 @@ abbrev pub IsPairLagMoment : (List BusRecord → ℕ) → Pair → List ℕ → 
 IsPairLagMoment owed old bytes m = IsLagMoment owed (seen First old) bytes (shown_on First m)
 
 -- The session that began with these rings was fed these records, all that were read of these bytes. Their due blocks are on
--- each side that hasn't failed, and are announced. At each moment each side has failed by then, or its image keeps its run, the
--- first of these blocks and every announced one, and the recording keeps up.
+-- each side that hasn't failed, and are announced. Until bytes are pulled nothing is done. At each moment each side has failed by
+-- then, or its image keeps its run, the first of these blocks and every announced one, and the recording keeps up.
 pub record HasFedPair (tells : Tells) (past : RecordingPast) (rings : PairRings) (s : PairSession) (bytes : List ℕ) (old now : Pair)
     : Type 0 where
   pub pulls : PullsUntilDecided tells (seen First old) (seen First now) [] bytes
   pub time : PairElapses old now
+  pub idle : EachPairMoment tells old now (λ m. IsIdleMoment old m ⊎ (old.taken < m.taken))
+  pub still : length bytes ≡ 0 → (side : Side) → IsSameDisk (disk_on side old) (disk_on side now)
   pub recorded : PairRecordsAll tells rings s.rings (recorded_of past) old now
-  pub greatest : old.greatest ≤ past.first → now.greatest ≤ past.first + length (recorded_of past)
-  pub first : old.greatest ≤ past.first → EachPairMoment tells old now (SideMoment First rings.first (recorded_of past) old)
-  pub second : old.greatest ≤ past.first → EachPairMoment tells old now (SideMoment Second rings.second (recorded_of past) old)
-  pub in_time : old.greatest ≤ past.first → EachPairMoment tells old now (IsPairLagMoment (owed_number_by past) old bytes)
-  pub up : old.greatest ≤ past.first → KeepsUp (owed_number_by past) tells (seen First old) (seen First now) bytes past.records
+  pub greatest : TellsOnlySince past.first old now.taken → now.greatest ≤ past.first + length (recorded_of past)
+  pub first : EachPairMoment tells old now (λ m. TellsOnlySince past.first old m.taken → SideMoment First rings.first (recorded_of past) old m)
+  pub second : EachPairMoment tells old now (λ m. TellsOnlySince past.first old m.taken → SideMoment Second rings.second (recorded_of past) old m)
+  pub in_time : EachPairMoment tells old now
+      (λ m. TellsOnlySince past.first old m.taken → IsPairLagMoment (owed_number_by past) old bytes m)
+  pub up : TellsOnlySince past.first old now.taken → KeepsUp (owed_number_by past) tells (seen First old) (seen First now) bytes past.records
 
 -- All records of the trace were fed to the session, and so the trace ended.
 pub record HasFedTrace (tells : Tells) (past : RecordingPast) (rings : PairRings) (s : PairSession) (old now : Pair) (end : SourceEnd)
@@ -80,18 +96,22 @@ recording_end (Err fault.SeqEnd) = Err session.SeqEnd
 abbrev pub trace_blocks : RecordingPast → List ℕ → List Block
 trace_blocks past bytes = all_blocks (past_fed past (good_prefix bytes))
 
--- What the recording of a trace on two disks leaves since its session was started with these rings. At each moment each side has
--- failed by then, or its image keeps its run, the first of the trace's blocks and every announced one; and the recording keeps up
--- with what was pulled. Where the trace ended, all of its blocks are on each side that hasn't failed, at least one. Where the
--- numbers ended, those that have one are. Otherwise both sides have failed.
+-- What the recording of a trace on two disks leaves since its session was started with these rings. Until bytes are pulled
+-- nothing is done. At each moment each side has failed by then, or its image keeps its run, the first of the trace's blocks and
+-- every announced one; and the recording keeps up with what was pulled. Where the trace ended, all of its blocks are on each
+-- side that hasn't failed, at least one. Where the numbers ended, those that have one are. Otherwise both sides have failed.
 pub record PairRecordsTrace (tells : Tells) (past : RecordingPast) (rings : PairRings) (old now : Pair) (end : Result SourceEnd PairFault)
     : Type 0 where
   pub pulled : List ℕ
   pub pulls : PullsUntilDecided tells (seen First old) (seen First now) [] pulled
   pub time : PairElapses old now
-  pub first : old.greatest ≤ past.first → EachPairMoment tells old now (SideMoment First rings.first (trace_blocks past pulled) old)
-  pub second : old.greatest ≤ past.first → EachPairMoment tells old now (SideMoment Second rings.second (trace_blocks past pulled) old)
-  pub in_time : old.greatest ≤ past.first → EachPairMoment tells old now (IsPairLagMoment (owed_number_by past) old pulled)
+  pub idle : EachPairMoment tells old now (λ m. IsIdleMoment old m ⊎ (old.taken < m.taken))
+  pub first : EachPairMoment tells old now
+      (λ m. TellsOnlySince past.first old m.taken → SideMoment First rings.first (trace_blocks past pulled) old m)
+  pub second : EachPairMoment tells old now
+      (λ m. TellsOnlySince past.first old m.taken → SideMoment Second rings.second (trace_blocks past pulled) old m)
+  pub in_time : EachPairMoment tells old now
+      (λ m. TellsOnlySince past.first old m.taken → IsPairLagMoment (owed_number_by past) old pulled m)
   pub recorded : HasRecordedSource (recording_end end)
       → (left : PairRings) × PairRecordsAll tells rings left (trace_blocks past pulled) old now
   pub within : HasRecordedSource (recording_end end) → past.first + length (trace_blocks past pulled) ≤ sequence_end

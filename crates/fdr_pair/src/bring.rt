@@ -32,7 +32,7 @@ pub enum BringFault {
 }
 
 // The other one.
-fn other_side(side: Side) -> Side
+pub fn other_side(side: Side) -> Side
     ensures { result ≡ other_side side }
 {
     match side {
@@ -57,6 +57,8 @@ fn bring_block<T: Twin>(twin: &mut T, lead: Side, ring: Ring, seq: u64) -> Resul
     ensures follower_failed { result ≡ Err BringFault.FollowerFailed
         → HasFailedAlone (other_side lead) (T.pair twin.old) (T.pair twin.new) }
     ensures lead_failed { result ≡ Err BringFault.LeadFailed → HasFailedAlone lead (T.pair twin.old) (T.pair twin.new) }
+    ensures unmoved { result ≡ Err BringFault.LeadFailed
+        → (disk_on (other_side lead) (T.pair twin.new)).held ≡ (disk_on (other_side lead) (T.pair twin.old)).held }
     ensures not_found { (n : ℕ) → result ≡ Err (BringFault.NotFound n) → (n ≡ seq) × HasNoFault (T.pair twin.old) (T.pair twin.new)
         × (IsTrue T.tells.bytes → block_numbered ring.header (disk_on lead (T.pair twin.old)).held ring.next ≡ None) }
 {
@@ -96,6 +98,8 @@ pub fn bring_up<T: Twin>(twin: &mut T, lead: Side, ring: Ring, end: u64) -> Resu
     ensures follower_failed { result ≡ Err BringFault.FollowerFailed
         → HasFailedAlone (other_side lead) (T.pair twin.old) (T.pair twin.new) }
     ensures lead_failed { result ≡ Err BringFault.LeadFailed → (ring.next < end) × HasFailedAlone lead (T.pair twin.old) (T.pair twin.new) }
+    ensures still_behind { result ≡ Err BringFault.LeadFailed
+        → IsTrue T.tells.bytes → next_of ring.header (disk_on (other_side lead) (T.pair twin.new)).held < end }
     ensures not_found { (seq : ℕ) → result ≡ Err (BringFault.NotFound seq) → (ring.next ≤ seq) × (seq < end)
         × HasNoFault (T.pair twin.old) (T.pair twin.new) × (IsTrue T.tells.bytes → ⊥) }
 {

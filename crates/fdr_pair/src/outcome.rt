@@ -55,7 +55,8 @@ pub enum PairOutcome {
     OldVersion,
     /// The images differ in the slots, the payload, the words or the version that their headers name.
     HeadersDiffer,
-    /// Both images hold a block of this number, the least of those that differ in length, session or payload.
+    /// Both images hold a block of this number, the least of those that differ in length, session or payload. On a twin that
+    /// doesn't tell its bytes it may also be a block that was there and no longer is.
     BlocksDiffer {
         seq: u64,
     },

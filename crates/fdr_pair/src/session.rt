@@ -49,7 +49,7 @@ pub struct PairSession {
 }
 
 impl PairSession {
-    ghost use Rattle.std.specs.Prelude.{◌≡◌, ◌≤◌, ◌+◌, ◌++◌, Err, length, IfOk, OnOk};
+    ghost use Rattle.std.specs.Prelude.{◌≡◌, ◌≤◌, ◌+◌, [], ◌++◌, Err, length, IfOk, OnOk};
     ghost use Rattle.fdr_slot.specs.Limits.{sequence_end};
     ghost use Rattle.fdr_table.specs.Rows.{TableRows};
     ghost use Rattle.fdr_recorder.specs.Past.{RecordingPast, MayFeedRecording, recording_with_record, past_at_start, blocks_due_at, rest_of, recorded_of, all_blocks};
@@ -125,11 +125,12 @@ impl PairSession {
     }
 
     /// Ends the recording: what is left of the stream is put on the sides as a last block, and announced. Answers the rings,
-    /// which are after it.
+    /// which are after it. Where nothing is left, nothing is done.
     pub fn close<T: Twin>(self, twin: &mut T) -> Result<PairRings, PairFault>
         requires stands { (past : RecordingPast) × RepresentsPair self past }
         requires settled { AreSettled T.tells self.rings (T.pair twin.old) }
         ensures all { (past : RecordingPast) → RepresentsPair self past → all_blocks past ≡ recorded_of past ++ rest_of past }
+        ensures untouched { (past : RecordingPast) → RepresentsPair self past → rest_of past ≡ [] → twin.new ≡ twin.old }
         ensures records { (past : RecordingPast) → RepresentsPair self past
             → PairRecordsFirst T.tells self.rings (rest_of past) (T.pair twin.old) (T.pair twin.new) }
         ensures recorded { (past : RecordingPast) → RepresentsPair self past

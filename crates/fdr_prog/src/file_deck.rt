@@ -2,55 +2,39 @@
 
 ghost use Rattle.std.specs.Prelude.{◌≡◌, ⊤};
 ghost use Rattle.fdr_deck.specs.Announced.{least_announced, greatest_announced};
-ghost use Rattle.fdr_prog.specs.Counts.{counts_state, telling_nothing, counts_are_sound};
+ghost use Rattle.fdr_files.specs.Counts.{counts_state, telling_nothing, counts_are_sound};
 
-use crate::image_file::ImageFile;
-use crate::system::{count, read_on};
 use fdr_deck::{Announced, Deck};
-use fdr_io::{Failed, PIECE};
-use fdr_listing::Line;
+use fdr_files::{ImageFile, PulledInput, ack_line, count};
+use fdr_io::Failed;
 use std::fs::File;
-use std::io;
-use std::io::{ErrorKind, Read, Write};
+use std::io::{Read, Write};
 use std::marker::Model;
 use std::rt::Files;
-
-/// The line of an announcement, `ack COUNT`, which goes out in one write.
-#[tactic(auto, using(fdr_line::proofs::Lengths::numbers))]
-pub fn ack_line(count: u64) -> Line {
-    let mut input = Line::new();
-    input.add(b"ack ");
-    input.add_number(count);
-    input.add(b"\n");
-    input
-}
 
 /// The deck of a program: its disk is a file, its line a reader such as standard input, and its announcements are lines
 /// on a writer such as standard error. It tells nothing: a clause sees its counts alone.
 #[derive(Drop)]
 pub struct FileDeck<'a, R: Files<File = File>, L: Read + Drop, A: Write + Drop> {
     image: ImageFile<'a, R>,
-    input: L,
+    disk_faults: u64,
+    input: PulledInput<L>,
     acknowledgements: A,
     announced: Announced,
-    taken: u64,
-    pulled_before: u64,
-    disk_faults: u64,
-    input_faults: u64,
 }
 
 impl<'a, R: Files<File = File>, L: Read + Drop, A: Write + Drop> Model for FileDeck<'a, R, L, A> {
-    ghost use Rattle.fdr_prog.specs.Counts.{Counts};
+    ghost use Rattle.fdr_files.specs.Counts.{Counts};
 
     ghost Value = { Counts };
 
     ghost view = { λ d. record {
       extent = d.image;
       announced = d.announced;
-      taken = d.taken;
-      pulled_before = d.pulled_before;
+      taken = d.input.taken;
+      pulled_before = d.input.pulled_before;
       disk_faults = d.disk_faults;
-      input_faults = d.input_faults;
+      input_faults = d.input.faults;
     } };
 }
 
@@ -68,13 +52,10 @@ impl<'a, R: Files<File = File>, L: Read + Drop, A: Write + Drop> FileDeck<'a, R,
     {
         FileDeck {
             image,
-            input,
+            disk_faults: 0,
+            input: PulledInput::new(input),
             acknowledgements,
             announced: Announced::new(),
-            taken: 0,
-            pulled_before: 0,
-            disk_faults: 0,
-            input_faults: 0,
         }
     }
 
@@ -128,18 +109,8 @@ impl<R: Files<File = File>, L: Read + Drop, A: Write + Drop> Deck for FileDeck<'
         let _ = self.acknowledgements.write_all(ack_line(count).bytes());
     }
 
-    // Past the last number that 64 bits hold, a pull that gives bytes is a fault.
     fn pull(&mut self, buf: &mut [u8]) -> Result<usize, Failed> {
         self.announced.begin_anew();
-        let room = buf.len().min(PIECE);
-        let read = read_on(&mut self.input, &mut buf[..room]);
-        let n = count(&mut self.input_faults, read)?;
-        let sum = self.taken.checked_add(n as u64);
-        let taken = count(&mut self.input_faults, sum.ok_or(ErrorKind::Other.into()))?;
-        if n > 0 {
-            self.pulled_before = self.taken;
-        }
-        self.taken = taken;
-        Ok(n)
+        self.input.pull(buf)
     }
 }

@@ -1,21 +1,15 @@
 //! The program `fdr`: the recorder's commands over files and standard streams.
 #![tactic(auto)]
 
-mod ahead;
 mod file_deck;
-mod file_source;
-mod image_file;
 mod out_sink;
-mod system;
 #[cfg(test)]
 mod tests;
 
-use ahead::{AHEAD, LineReader, Window};
+use fdr_files::{AHEAD, FileSource, ImageFile, LineReader, Window};
 use fdr_top::{Outcome, run};
 use fdr_words::{Request, WordsFault, read_words};
 use file_deck::FileDeck;
-use file_source::FileSource;
-use image_file::ImageFile;
 use out_sink::OutSink;
 use std::alloc::Global;
 use std::env::Env;

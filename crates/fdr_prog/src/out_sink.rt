@@ -2,7 +2,7 @@
 
 ghost use Rattle.std.specs.Prelude.{◌≡◌, None};
 
-use crate::system::count;
+use fdr_files::count;
 use fdr_io::{Failed, Sink};
 use std::io;
 use std::io::{ErrorKind, Write};

@@ -1,5 +1,5 @@
 -- What `encode` and `decode` promise of their input.
-use Rattle.std.proofs.Common.{◌≡◌, ◌≢◌, ◌⊎◌, inl, inr, ⊎_elim, ℕ, ◌+◌, ◌<◌, ◌≤◌, List, ◌++◌, take}
+use Rattle.std.proofs.Common.{◌≡◌, ◌⊎◌, inl, inr, ⊎_elim, ℕ, ◌+◌, ◌<◌, List, ◌++◌, take}
 use Rattle.std.proofs.Common.{Option, None, Some, ap, sym, refl, ◌∙◌, ◌-◌, [], length, append-nil, subst, false}
 use Rattle.std.specs.Prelude.{IsTrue}
 use Rattle.fdr_io.specs.Faults.{Rose}
@@ -18,7 +18,7 @@ use Rattle.fdr_biphase.proofs.Turned.{same_bits_turned, same_missing_turned}
 use Rattle.fdr_pieces.specs.Pieces.{EndsInput, PullsPieces, before_last, last_piece}
 use Rattle.fdr_pieces.specs.declared.pieces.InputEnd.{InputEnd}
 use Rattle.fdr_pieces.specs.declared.pieces.InputEnd.TheVariants as input_end
-use Rattle.fdr_top.specs.Coding.{HasDecoded, HasEncoded, SinkState}
+use Rattle.fdr_top.specs.Coding.{HasEncoded, SinkState}
 use Rattle.fdr_top.specs.Decode.{DecodesLevels, IsMissing}
 use Rattle.fdr_top.specs.Encode.{EncodesInput, levels_text}
 use Rattle.fdr_pieces.specs.Limits.{most_input_bytes}
@@ -26,8 +26,8 @@ use Rattle.fdr_top.specs.InputTexts.{WritesFront, WritesOfInput, answer_of}
 use Rattle.fdr_top.specs.declared.encoding.Encoding.{Encoding}
 use Rattle.fdr_top.specs.declared.outcome.Outcome.{Outcome}
 use Rattle.fdr_top.specs.declared.outcome.Outcome.TheVariants as outcome
-use Rattle.fdr_top.proofs.InputTexts.{all_pulled, all_taken, cut_answer, end_not_missing, end_too_long, ends_answer, line_begins, missing_answer}
-use Rattle.fdr_top.proofs.InputTexts.{writes, writes_all, writes_cut, writes_end, writes_missing}
+use Rattle.fdr_top.proofs.InputTexts.{all_pulled, all_taken, end_not_missing, end_too_long, line_begins, missing_answer}
+use Rattle.fdr_top.proofs.InputTexts.{writes_all, writes_missing}
 
 -- ---- levels of bits
 

@@ -1,8 +1,6 @@
 -- What went out of the pieces of an input that are encoded or decoded.
-use Rattle.std.proofs.Common.{◌≡◌, ℕ, ◌+◌, ◌≤◌, ◌<◌, List, [], ◌∷◌, ◌++◌, length, take, Option, None, Some, ap, sym, refl, ◌∙◌, append-nil, append_assoc, arith}
-use Rattle.std.proofs.Common.{drop, get_or, subst, false}
-use Rattle.std.proofs.lemmas.Grind.{take_at_read}
-use Rattle.std.proofs.lemmas.List.{take_all, take-append-drop}
+use Rattle.std.proofs.Common.{◌≡◌, ℕ, List, [], ◌++◌, take, Option, None, Some, ap, sym, refl, ◌∙◌, append-nil}
+use Rattle.std.proofs.Common.{subst, false}
 use Rattle.fdr_io.specs.Faults.{Rose}
 use Rattle.fdr_io.specs.Told.{followed_by}
 use Rattle.fdr_io.specs.Output.{Emits, EmitsPart}
@@ -17,12 +15,10 @@ use Rattle.fdr_biphase.specs.Phases.{cell_bits}
 use Rattle.fdr_biphase.specs.declared.Missing.{Missing}
 use Rattle.fdr_biphase.specs.declared.reader.LevelReader.{LevelReader}
 use Rattle.fdr_biphase.proofs.Packers.{answered_begin}
-use Rattle.fdr_biphase.proofs.Texts.{bits_of_all, decoded_begin, encoded_begin, encoded_none, misses_more}
-use Rattle.fdr_top.specs.Coding.{HasDecoded, HasEncoded, HasMissed, SinkState, StopsDecoding, StopsWriting}
+use Rattle.fdr_biphase.proofs.Texts.{bits_of_all, decoded_begin, encoded_begin, encoded_none}
+use Rattle.fdr_top.specs.Coding.{HasDecoded, HasEncoded, HasMissed, SinkState, StopsWriting}
 use Rattle.fdr_top.specs.Encode.{levels_text}
 use Rattle.fdr_top.specs.InputTexts.{WritesFront}
-use Rattle.fdr_top.specs.declared.decoding.Cut.{Cut}
-use Rattle.fdr_top.specs.declared.decoding.Cut.TheVariants as cut
 use Rattle.fdr_top.specs.declared.decoding.Decoding.{Decoding}
 use Rattle.fdr_top.specs.declared.encoding.Encoding.{Encoding}
 

@@ -1,5 +1,5 @@
 -- An input that is pulled to its end, and the text that is written of it.
-use Rattle.std.proofs.Common.{◌≡◌, ◌≢◌, ◌⊎◌, ℕ, ◌+◌, ◌-◌, ◌≤◌, ◌<◌, List, [], ◌++◌, length, take, drop, Option, ap, sym, refl, ◌∙◌, append-nil}
+use Rattle.std.proofs.Common.{◌≡◌, ◌≢◌, ◌⊎◌, ℕ, ◌+◌, ◌-◌, ◌<◌, List, [], ◌++◌, length, take, Option, ap, sym, refl, ◌∙◌, append-nil}
 use Rattle.std.proofs.Common.{arith, inl, inr, subst}
 use Rattle.std.specs.Prelude.{IsTrue}
 use Rattle.std.proofs.lemmas.Bool.{cases_lt}
@@ -15,7 +15,7 @@ use Rattle.fdr_pieces.specs.Pieces.{EndsInput, PullsPieces, before_last, last_pi
 use Rattle.fdr_pieces.specs.declared.pieces.InputEnd.{InputEnd}
 use Rattle.fdr_pieces.specs.declared.pieces.InputEnd.TheVariants as input_end
 use Rattle.fdr_words.specs.Forms.{Form}
-use Rattle.fdr_top.specs.Answers.{IsOwn, PullsBits, PullsInput, WritesText}
+use Rattle.fdr_top.specs.Answers.{IsOwn, PullsBits, PullsInput}
 use Rattle.fdr_top.specs.Coding.{SinkState, StopsWriting}
 use Rattle.fdr_pieces.specs.Limits.{most_input_bytes}
 use Rattle.fdr_top.specs.InputTexts.{AnswersEnd, WritesFront, WritesOfInput, answer_of}

@@ -1,6 +1,5 @@
 -- What of the payloads of a run goes out where reading them ends early.
-use Rattle.std.proofs.Common.{◌≡◌, ℕ, [], ◌++◌, List, Option, sym}
-use Rattle.fdr_io.specs.Told.{followed_by}
+use Rattle.std.proofs.Common.{ℕ, [], ◌++◌, List, Option, sym}
 use Rattle.fdr_io.specs.Output.{Emits, EmitsPart}
 use Rattle.fdr_io.proofs.Telling.{followed_by-nil}
 use Rattle.fdr_io.proofs.OutputSteps.{EmitsPart-then}

@@ -50,5 +50,6 @@ returns-clause-brought g c =
     put_brought _ _ _ _ _ _ _ _ _ _ (g.met.T.Twin.sound_pair c.args.twin.now) (g.met.T.Twin.sound_pair c.block_on.new.twin) c.other_side-follower.ensures
     c.requires.ring c.block_on.ensures.serves c.block_on.ensures.content
     (is_read g (goal.at.returns-clause-brought g c).After-put_on) c.put_on.ensures.serves c.in-Ok-put_on.ring c.in-Ok-put_on.ensures.ring.0
-    c.in-Ok-put_on.ensures.put (record { sure = c.in-Ok-put_on.ensures.fact; settled = c.in-Ok-put_on.ensures.settled }) c.in-Ok-put_on.ensures.no_fault
+    c.in-Ok-put_on.ensures.put c.in-Ok-put_on.ensures.exact (record { sure = c.in-Ok-put_on.ensures.fact; settled = c.in-Ok-put_on.ensures.settled })
+    c.in-Ok-put_on.ensures.no_fault
     c.in-Ok.ensures.no_fault

@@ -4,7 +4,8 @@ use Rattle.fdr_ring.specs.declared.ring.Ring.{Ring}
 use Rattle.fdr_recover.proofs.Between.{between_none}
 use Rattle.fdr_pair.specs.declared.bring.BringFault.{BringFault}
 use Rattle.fdr_pair.proofs.PairWorks.{content_here, content_then}
-use Rattle.fdr_pair.proofs.Bringing.{brought_none, brings_here, brought_next, brings_next, brings_missing, found_there, brings_all, brought_all, no_fault_then}
+use Rattle.fdr_pair.proofs.Bringing.{brought_none, brings_here, brought_next, brings_next, brings_missing}
+use Rattle.fdr_pair.proofs.Bringing.{found_there, brings_all, brought_all, no_fault_then, behind_still}
 use Rattle.fdr_pair.proofs.bring.bring_up.Goals as goal
 
 -- the fault that is handed on
@@ -40,6 +41,13 @@ returns-in_err-level-clause-not_found g c n fails =
           (omega (arith, c.loop-seq.auto.seq, c.next-seq.ensures.number)) (omega (arith, c.loop-seq-test.true)) c.requires.end c.requires.near
           c.requires.ring.sure.ring.next inv.next inv.lead inv.brought told (at.2 told),
     )
+
+pub returns-in_err-level-clause-still_behind : goal.returns-in_err-level-clause-still_behind
+returns-in_err-level-clause-still_behind g c fails told =
+    let inv = c.loop-seq.invariant in
+    let p = err_from_is_err_and c.from_residual.result c.from_residual.ensures.1 in
+    behind_still _ _ _ _ _ _ _ _ _ _ inv.brought inv.next (omega (arith, c.loop-seq-test.true))
+    (c.in_err-level.ensures.unmoved (same_fault _ _ _ _ p.1 p.2 fails)) told
 
 pub loop-seq-preserved : goal.loop-seq-preserved
 loop-seq-preserved g c =

@@ -8,8 +8,8 @@ use Rattle.fdr_recorder.specs.Supplied.{past_fed}
 use Rattle.fdr_recorder.proofs.ReadRecords.{count_rises, good_with_next, is_end-no, is_end-yes}
 use Rattle.fdr_pair.specs.PairPast.{RepresentsPair}
 use Rattle.fdr_pair.specs.Traces.{HasFedPair, IsPairBegun}
-use Rattle.fdr_pair.proofs.TraceEnds.{cut_trace, fed_to_end, fed_to_stop, may_feed_next, parts_fed}
-use Rattle.fdr_pair.proofs.Tracing.{fed_none, fed_pull, fed_record, settled_fed}
+use Rattle.fdr_pair.proofs.TraceEnds.{cut_trace, fed_to_end, fed_to_stop, gave_bytes, may_feed_next, parts_fed}
+use Rattle.fdr_pair.proofs.Tracing.{fed_none, fed_pull, fed_record, settled_fed, idle_after}
 use Rattle.fdr_pair.proofs.trace.feed_trace.Given.{Over}
 use Rattle.fdr_pair.proofs.trace.feed_trace.Goals.{In-Ok, In-Ok-feed}
 use Rattle.fdr_pair.proofs.trace.feed_trace.Goals as goal
@@ -41,7 +41,7 @@ pulled g c past reads is =
     let next = e.next at.0 at.1 at.2 in
     fed_pull _ (past_fed past at.1) _ _ at.0 _ _ (g.met.T.Twin.sound_pair c.loop-next.twin) is.number at.4 _ _ _
     (g.met.T.Twin.faces c.loop-next.twin) (g.met.T.Twin.faces c.next.new.deck) (g.met.T.Twin.leaves_rest c.loop-next.twin c.next.new.deck e.rest)
-    e.disk (g.met.T.Deck.sound c.loop-next.twin) next.0 next.1 next.3 e.announced e.fresh
+    e.disk (g.met.T.Deck.sound c.loop-next.twin) next.0 next.1 next.3 e.announced e.fresh is.announced
 
 quiet : (g : Over) (c : In-Ok g) → (g.T.Twin.pair c.next.new.deck).input_faults ≡ (g.T.Twin.pair c.args.twin.now).input_faults
 quiet g c =
@@ -61,8 +61,11 @@ has_fed : (g : Over) (c : In-Ok-feed g) (past : RecordingPast) (reads : Represen
 has_fed g c past reads is fits before =
     let f = c.in-Ok-feed.ensures in
     let at = c.loop-next.invariant.has past reads is in
+    let next = c.in-Ok.ensures.next at.0 at.1 at.2 in
+    let good = good_with_next _ (at.0 ++ next.0) at.1 c.in-Ok.next next.2 in
     fed_record _ (past_fed past at.1) _ _ _ _ _ (g.met.T.Twin.sound_pair c.next.new.deck) is.number before _ _ c.in-Ok.next
-    (limits_of (past_fed past at.1) _ at.3) fits is.announced (f.records (past_fed past at.1) at.3 fits) (f.recorded (past_fed past at.1) at.3 fits)
+    (limits_of (past_fed past at.1) _ at.3) fits is.announced (gave_bytes _ at.1 good.0 c.in-Ok.next good.1)
+    (f.records (past_fed past at.1) at.3 fits) (f.recorded (past_fed past at.1) at.3 fits)
 
 quiet_fed : (g : Over) (c : In-Ok-feed g) → (g.T.Twin.pair c.feed.new.twin).input_faults ≡ (g.T.Twin.pair c.args.twin.now).input_faults
 quiet_fed g c =
@@ -93,7 +96,7 @@ returns-in-Err-clause-fed g c = λ past reads is.
     let next = e.next at.0 at.1 at.2 in
     let has = fed_pull _ (past_fed past at.1) _ _ at.0 _ _ (g.met.T.Twin.sound_pair c.loop-next.twin) is.number at.4 _ _ _
     (g.met.T.Twin.faces c.loop-next.twin) (g.met.T.Twin.faces c.next.new.deck) (g.met.T.Twin.leaves_rest c.loop-next.twin c.next.new.deck e.rest)
-    e.disk (g.met.T.Deck.sound c.loop-next.twin) next.0 next.1 next.3 e.announced e.fresh in
+    e.disk (g.met.T.Deck.sound c.loop-next.twin) next.0 next.1 next.3 e.announced e.fresh is.announced in
     fed_to_stop _ past _ _ _ _ _ _ _ (at.0 ++ next.0) at.1 c.in-Err.why (g.met.T.Twin.faces c.loop-next.twin) (g.met.T.Twin.faces c.next.new.deck)
     at.3 has next.2 c.loop-next.invariant.no_fault (λ not. e.no_fault (λ x. not (err_same _ _ x)))
 
@@ -119,8 +122,11 @@ returns-in-Err-feed-clause-ended g c = λ past reads is.
     let fits = may g place.In-Ok past reads is in
     let good = good_with_next _ (at.0 ++ next.0) at.1 c.in-Ok.next next.2 in
     let parts = parts_fed past (at.0 ++ next.0) at.1 good.0 c.in-Ok.next (limits_of (past_fed past at.1) _ at.3) fits good.1 in
+    let records = f.records (past_fed past at.1) at.3 fits in
+    let idle = idle_after _ (past_fed past at.1) _ _ (at.0 ++ next.0) _ _ (g.met.T.Twin.sound_pair c.next.new.deck) is.number
+    (pulled g place.In-Ok past reads is) _ _ records (gave_bytes _ at.1 good.0 c.in-Ok.next good.1) in
     cut_trace _ past _ _ (at.0 ++ next.0) at.1 _ _ _ (g.met.T.Twin.sound_pair c.next.new.deck) is.number (pulled g place.In-Ok past reads is)
-    _ parts.0 (f.records (past_fed past at.1) at.3 fits) parts.1 c.in-Err-feed.fault (λ known. quiet g place.In-Ok)
+    _ parts.0 records parts.1 idle c.in-Err-feed.fault (λ known. quiet g place.In-Ok)
     (λ ends. f.seq_end (past_fed past at.1) at.3 fits (ap Err ends)) (λ fails. f.both_failed (ap Err fails))
 
 pub loop-next-smaller : goal.loop-next-smaller

@@ -1,6 +1,8 @@
-use Rattle.std.proofs.Common.{Err, ap}
+use Rattle.std.proofs.Common.{Err, ap, subst, sym}
 use Rattle.fdr_bus.specs.Records.{good_prefix}
+use Rattle.fdr_twin.specs.Serving.{EachPairMoment}
 use Rattle.fdr_recorder.specs.Supplied.{past_fed}
+use Rattle.fdr_pair.proofs.Idling.{IsIdleUntilPull}
 use Rattle.fdr_pair.proofs.TraceEnds.{closed_trace, unclosed_trace}
 use Rattle.fdr_pair.proofs.Tracing.{settled_fed}
 use Rattle.fdr_pair.proofs.trace.record_trace.Goals as goal
@@ -23,7 +25,10 @@ returns-in-Ok-close g c = λ past reads is.
     let before = past_fed past (good_prefix whole.pulled) in
     let e = c.in-Ok-close.ensures in
     closed_trace _ past _ _ _ _ _ _ (g.met.T.Twin.sound_pair c.feed_trace.new.twin) is.number whole (e.all before whole.stands)
-    (e.records before whole.stands) _ (e.recorded before whole.stands)
+    (e.records before whole.stands)
+    (λ none. subst (λ twin. EachPairMoment g.T.Deck.tells (g.T.Twin.pair c.args.twin.now) (g.T.Twin.pair twin)
+    (IsIdleUntilPull (g.T.Twin.pair c.args.twin.now))) (sym (e.untouched before whole.stands none)) whole.has.idle) _
+    (e.recorded before whole.stands)
 
 pub returns-in-Err-close : goal.returns-in-Err-close
 returns-in-Err-close g c = λ past reads is.
@@ -31,4 +36,7 @@ returns-in-Err-close g c = λ past reads is.
     let before = past_fed past (good_prefix whole.pulled) in
     let e = c.in-Err-close.ensures in
     unclosed_trace _ past _ _ _ _ _ _ (g.met.T.Twin.sound_pair c.feed_trace.new.twin) is.number whole (e.all before whole.stands)
-    (e.records before whole.stands) c.in-Err-close.fault (λ ends. e.seq_end before whole.stands (ap Err ends)) (λ fails. e.both_failed (ap Err fails))
+    (e.records before whole.stands)
+    (λ none. subst (λ twin. EachPairMoment g.T.Deck.tells (g.T.Twin.pair c.args.twin.now) (g.T.Twin.pair twin)
+    (IsIdleUntilPull (g.T.Twin.pair c.args.twin.now))) (sym (e.untouched before whole.stands none)) whole.has.idle) c.in-Err-close.fault
+    (λ ends. e.seq_end before whole.stands (ap Err ends)) (λ fails. e.both_failed (ap Err fails))

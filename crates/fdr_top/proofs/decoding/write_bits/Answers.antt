@@ -1,4 +1,4 @@
-use Rattle.std.proofs.Common.{◌≡◌, ◌⊎◌, ⊎_elim, ◌++◌, List, ℕ, ap, sym, subst, refl, ◌∙◌, inl, inr}
+use Rattle.std.proofs.Common.{◌≡◌, ⊎_elim, ◌++◌, List, ℕ, ap, sym, subst, refl, ◌∙◌}
 use Rattle.fdr_io.specs.Told.{followed_by}
 use Rattle.fdr_biphase.specs.Packed.{decoded_bytes}
 use Rattle.fdr_pieces.specs.Pieces.{before_last, last_piece}
@@ -6,7 +6,6 @@ use Rattle.fdr_pieces.specs.Limits.{most_input_bytes}
 use Rattle.fdr_top.specs.Coding.{HasMissed, SinkState}
 use Rattle.fdr_top.specs.Decode.{DecodesLevels}
 use Rattle.fdr_top.specs.InputTexts.{WritesFront, answer_of}
-use Rattle.fdr_top.specs.declared.outcome.Outcome.{Outcome}
 use Rattle.fdr_top.specs.declared.outcome.Outcome.TheVariants as outcome
 use Rattle.fdr_top.proofs.Coded.{decodes_all, decodes_failed, decodes_missing}
 use Rattle.fdr_top.proofs.InputTexts.{all_taken, cut_answer, end_not_write, writes_cut, writes_end, writes_missing}

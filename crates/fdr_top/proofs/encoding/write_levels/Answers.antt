@@ -1,12 +1,10 @@
-use Rattle.std.proofs.Common.{[], take, refl, inr, ◌∙◌}
+use Rattle.std.proofs.Common.{refl, inr, ◌∙◌}
 use Rattle.std.proofs.lemmas.Result.{err_from_is_err_and}
 use Rattle.fdr_io.proofs.OutputSteps.{part_at_end, written_at_end}
 use Rattle.fdr_top.specs.Coding.{SinkState}
 use Rattle.fdr_top.specs.Encode.{levels_text}
-use Rattle.fdr_pieces.specs.Limits.{most_input_bytes}
 use Rattle.fdr_top.proofs.Coded.{encodes, taken_emits}
 use Rattle.fdr_top.proofs.InputTexts.{end_too_long, writes_all, writes_cut, writes_end}
-use Rattle.fdr_top.proofs.encoding.write_levels.Given.{Over}
 use Rattle.fdr_top.proofs.encoding.write_levels.Goals.{In_ok-end}
 use Rattle.fdr_top.proofs.encoding.write_levels.Goals as goal
 

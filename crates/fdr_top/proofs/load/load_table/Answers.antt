@@ -1,12 +1,10 @@
-use Rattle.std.proofs.Common.{◌≡◌, ℕ, Result, Err, ap, sym, ◌∙◌, refl}
+use Rattle.std.proofs.Common.{◌≡◌, ℕ, Err, ap, sym, ◌∙◌, refl}
 use Rattle.fdr_io.specs.declared.Input.TheVariants as input
-use Rattle.fdr_check.specs.declared.sound.Sound.{Sound}
 use Rattle.fdr_table.specs.declared.fault.TableFault.{TableFault}
 use Rattle.fdr_load.specs.declared.load.LoadFault.{LoadFault}
 use Rattle.fdr_load.specs.declared.load.LoadFault.TheVariants as load
 use Rattle.fdr_top.specs.Stages.{IsOfTable}
 use Rattle.fdr_top.specs.Tables.{load_answer}
-use Rattle.fdr_top.specs.declared.outcome.Outcome.{Outcome}
 use Rattle.fdr_top.specs.declared.outcome.Outcome.TheVariants as outcome
 use Rattle.fdr_top.proofs.load.load_table.Goals as goal
 

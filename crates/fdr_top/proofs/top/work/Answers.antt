@@ -1,5 +1,4 @@
-use Rattle.std.proofs.Common.{ap, inl, inr, refl}
-use Rattle.fdr_words.specs.Request.{form_of_request}
+use Rattle.std.proofs.Common.{ap, inr}
 use Rattle.fdr_top.proofs.Carrying.{check_works}
 use Rattle.fdr_top.proofs.top.work.Goals as goal
 

@@ -48,6 +48,11 @@ one_left g c past stands =
     (ap (λ (l : List ℕ). take c.finish-count.result l) c.deref.ensures
     ∙ c.finish-count.ensures.last (stream_past past) (in_box c.deref_mut.ensures.value stands.stream) refl)
 
+pub returns-clause-untouched : goal.returns-clause-untouched
+returns-clause-untouched g c past stands none =
+    let one = one_left g (goal.at.returns-clause-untouched g c).After-record past stands in
+    absurd (let no = sym none ∙ one in cc)
+
 pub returns-clause-all : goal.returns-clause-all
 returns-clause-all g c past stands = all_blocks-rest past c.finish-count.result
     (c.finish-count.ensures.blocks (stream_past past) (in_box c.deref_mut.ensures.value stands.stream) refl)

@@ -1,10 +1,9 @@
-use Rattle.std.proofs.Common.{◌≡◌, ◌++◌, List, ℕ, Bool, ap, ◌∙◌}
+use Rattle.std.proofs.Common.{◌++◌, List, Bool, ap, ◌∙◌}
 use Rattle.fdr_io.proofs.OutputSteps.{failed_or_not}
 use Rattle.fdr_biphase.specs.Cells.{bits_of_bytes}
 use Rattle.fdr_biphase.specs.Packed.{answered_byte, bytes_of_bits, decoded_bytes}
 use Rattle.fdr_biphase.specs.Phases.{cell_bits}
 use Rattle.fdr_biphase.proofs.Texts.{bits_of_all}
-use Rattle.fdr_top.specs.Coding.{SinkState}
 use Rattle.fdr_top.proofs.Coding.{on_err, on_ok, rest_cut, rest_part, rest_written}
 use Rattle.fdr_top.proofs.decoding.Decoding.finish.Goals as goal
 

@@ -1,4 +1,4 @@
-use Rattle.std.proofs.Common.{◌*◌, List, ℕ, length, take}
+use Rattle.std.proofs.Common.{◌*◌, length, take}
 use Rattle.fdr_top.specs.Coding.{SinkState}
 use Rattle.fdr_top.specs.declared.encoding.Encoding.{Encoding}
 use Rattle.fdr_top.proofs.Coding.{encoded_next, encoding_stops, ok_both, err_both, on_ok, on_err}

@@ -1,9 +1,6 @@
-use Rattle.std.proofs.Common.{◌≡◌, ◌++◌, List, ℕ, [], take, refl, ◌∙◌}
+use Rattle.std.proofs.Common.{◌++◌, [], take, ◌∙◌}
 use Rattle.std.proofs.lemmas.Result.{err_from_is_err_and}
-use Rattle.fdr_io.specs.Faults.{Rose}
-use Rattle.fdr_readout.specs.Listing.{listing_of}
 use Rattle.fdr_readout.specs.Taken.{HasTaken, WritesLines}
-use Rattle.fdr_top.specs.Coding.{SinkState}
 use Rattle.fdr_top.proofs.Coding.{err_both, if_err, ok_both, on_err, on_ok}
 use Rattle.fdr_top.proofs.ListedLines.{decided_written, grown_by, in_time_then, part_of_lines, taken_flushed, waiting_front}
 use Rattle.fdr_top.proofs.list_bits.LineListingPieceTaker.take.Goals as goal

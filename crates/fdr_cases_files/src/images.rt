@@ -1,0 +1,199 @@
+//! Files that hold images.
+
+use crate::fakes::OtherFolder;
+use fdr_files::{ImageFile, Window};
+use std::fs::File;
+use std::io::ErrorKind;
+use std::os::unix::fs::{MetadataExt, symlink};
+use std::rt::Files;
+use std::test::Fail;
+use std::{fs, io};
+
+const SIZE: u64 = 4100;
+
+/// What a call answered, or which kind of error.
+fn kind_of<T: Drop>(outcome: io::Result<T>) -> Result<T, ErrorKind> {
+    outcome.map_err(|error| error.kind())
+}
+
+fn length_at(rt: &HostRuntime, path: &str, writes: bool) -> Result<u64, ErrorKind> {
+    kind_of(ImageFile::new(rt, path, writes).length())
+}
+
+/// As a program does it: what was made is discarded where not all was done.
+fn make_at<'a, R: Files<File = File>>(
+    files: &'a R,
+    path: &'a str,
+    writes: bool,
+) -> Result<(), ErrorKind> {
+    let mut image = ImageFile::new(files, path, writes);
+    let outcome = kind_of(image.provide(SIZE));
+    if outcome.is_err() {
+        image.discard();
+    }
+    outcome
+}
+
+/// Two bytes over the border of a page, and what is around them then.
+fn store_some<R: Files<File = File>>(image: &mut ImageFile<'_, R>) -> io::Result<[u8; 4]> {
+    image.write(4095, &[7, 8])?;
+    image.sync()?;
+    let mut bytes = [9; 4];
+    image.read(4094, &mut bytes)?;
+    Ok(bytes)
+}
+
+// The reads in a window, over its end, before it, far from it and near the read before, and at the end of the file.
+#[test]
+fn a_window_gives_the_bytes_of_the_file(rt: HostRuntime) -> Result<(), Fail> {
+    let path = "window.bin";
+    let mut bytes = Vec::new(rt.alloc());
+    for number in 0..140_000u32 {
+        bytes.push((number % 251) as u8)?;
+    }
+    fs::write(&rt, path, bytes.as_slice())?;
+    let mut image = ImageFile::new(&rt, path, false).seen_through(Window::new(rt.alloc())?);
+    let mut read = [0; 8];
+    for at in [0, 65_528, 65_530, 8, 70_000, 70_008, 70_400, 139_992] {
+        image.read(at, &mut read)?;
+        let held = bytes.get(at as usize..at as usize + 8).ok_or("held")?;
+        assert_eq!(rt; read.as_slice(), held, "from byte {at} on");
+    }
+    File::options().write(true).open(&rt, path)?.set_len(100)?;
+    let shorter = kind_of(image.read(70_000, &mut read));
+    assert_eq!(rt; shorter, Err(ErrorKind::UnexpectedEof));
+    assert_eq!(rt; kind_of(image.read(92, &mut read)), Ok(()));
+    fs::remove_file(&rt, path)?;
+    Ok(())
+}
+
+#[test]
+fn the_room_of_an_image_is_taken(rt: HostRuntime) -> Result<(), Fail> {
+    let path = "image.bin";
+    let mut image = ImageFile::new(&rt, path, true);
+    assert_eq!(rt; image.length()?, 0);
+    image.provide(SIZE)?;
+    assert_eq!(rt;
+        fs::read(&rt, path)?,
+        vec![in rt.alloc(); 0; SIZE as usize]?
+    );
+    assert!(rt; fs::metadata(&rt, path)?.blocks() >= 9);
+    assert_eq!(rt; store_some(&mut image)?, [0, 7, 8, 0]);
+    assert_eq!(rt;
+        fs::read(&rt, path)?.get(4094..4098),
+        Some([0, 7, 8, 0].as_slice())
+    );
+    fs::remove_file(&rt, path)?;
+    Ok(())
+}
+
+#[test]
+fn a_file_that_has_bytes_stays(rt: HostRuntime) -> Result<(), Fail> {
+    let path = "used.bin";
+    fs::write(&rt, path, b"used".as_slice())?;
+    assert_eq!(rt; make_at(&rt, path, true), Err(ErrorKind::AlreadyExists));
+    assert_eq!(rt; make_at(&rt, path, false), Err(ErrorKind::AlreadyExists));
+    assert_eq!(rt; fs::read(&rt, path)?.as_slice(), b"used".as_slice());
+    fs::remove_file(&rt, path)?;
+    Ok(())
+}
+
+// A device has no length of its own, so that it would count as an empty file.
+#[test]
+fn what_is_no_file_is_refused(rt: HostRuntime) -> Result<(), Fail> {
+    let refused = ErrorKind::InvalidInput;
+    for path in ["/dev/null", "."] {
+        assert_eq!(rt; length_at(&rt, path, false), Err(refused), "{path}");
+        assert_eq!(rt; length_at(&rt, path, true), Err(refused), "{path}");
+        assert_eq!(rt; make_at(&rt, path, true), Err(refused), "{path}");
+    }
+    Ok(())
+}
+
+#[test]
+fn a_lock_that_another_holds_is_an_error(rt: HostRuntime) -> Result<(), Fail> {
+    let path = "locked.bin";
+    let locked = ErrorKind::WouldBlock;
+    {
+        let mut image = ImageFile::new(&rt, path, true);
+        image.provide(SIZE)?;
+        assert_eq!(rt; length_at(&rt, path, true), Err(locked));
+        assert_eq!(rt; length_at(&rt, path, false), Err(locked));
+    }
+    let mut reader = ImageFile::new(&rt, path, false);
+    assert_eq!(rt; reader.length()?, SIZE);
+    assert_eq!(rt; length_at(&rt, path, false), Ok(SIZE));
+    assert_eq!(rt; length_at(&rt, path, true), Err(locked));
+    fs::remove_file(&rt, path)?;
+    Ok(())
+}
+
+#[test]
+fn a_file_that_became_shorter_is_not_made_longer(rt: HostRuntime) -> Result<(), Fail> {
+    let path = "short.bin";
+    let mut image = ImageFile::new(&rt, path, true);
+    image.provide(SIZE)?;
+    fs::write(&rt, path, b"abc".as_slice())?;
+    let stored = kind_of(store_some(&mut image));
+    assert_eq!(rt; stored, Err(ErrorKind::UnexpectedEof));
+    assert_eq!(rt; fs::read(&rt, path)?.as_slice(), b"abc".as_slice());
+    fs::remove_file(&rt, path)?;
+    Ok(())
+}
+
+#[test]
+fn a_link_to_no_file_is_no_missing_image(rt: HostRuntime) -> Result<(), Fail> {
+    symlink(&rt, "target.bin", "link.bin")?;
+    assert_eq!(rt; length_at(&rt, "link.bin", true), Err(ErrorKind::NotFound));
+    let made = make_at(&rt, "link.bin", true);
+    assert_eq!(rt; made, Err(ErrorKind::AlreadyExists));
+    assert!(rt; !fs::exists(&rt, "target.bin")?);
+    fs::remove_file(&rt, "link.bin")?;
+    Ok(())
+}
+
+#[test]
+fn an_image_that_cannot_be_made_leaves_no_file(rt: HostRuntime) -> Result<(), Fail> {
+    let path = "new.bin";
+    // A folder that can't be opened, and one that can't be synced.
+    for folder in ["missing", "/dev/null"] {
+        let files = OtherFolder::new(&rt, folder);
+        assert!(rt; make_at(&files, path, true).is_err());
+        assert!(rt; !fs::exists(&rt, path)?);
+        // One that was there stays, and is empty.
+        fs::write(&rt, path, b"".as_slice())?;
+        assert!(rt; make_at(&files, path, true).is_err());
+        assert_eq!(rt; fs::metadata(&rt, path)?.len(), 0);
+        fs::remove_file(&rt, path)?;
+    }
+    Ok(())
+}
+
+/// Makes an image, whose file then becomes shorter, and writes to it; discards it, and tells which of the two was done.
+fn make_and_fail<'a>(rt: &'a HostRuntime, path: &'a str) -> Result<(bool, bool), Fail> {
+    let mut image = ImageFile::new(rt, path, true);
+    let is_made = image.provide(SIZE).is_ok();
+    fs::write(rt, path, b"abc".as_slice())?;
+    let is_written = store_some(&mut image).is_ok();
+    image.discard();
+    Ok((is_made, is_written))
+}
+
+#[test]
+fn an_image_whose_header_cannot_be_written_is_discarded(rt: HostRuntime) -> Result<(), Fail> {
+    let path = "undone.bin";
+    assert_eq!(rt; make_and_fail(&rt, path)?, (true, false));
+    assert!(rt; !fs::exists(&rt, path)?);
+    // One that was there stays, and is empty.
+    fs::write(&rt, path, b"".as_slice())?;
+    assert_eq!(rt; make_and_fail(&rt, path)?, (true, false));
+    assert_eq!(rt; fs::metadata(&rt, path)?.len(), 0);
+    // One that is only looked at, or that had bytes, stays as it is.
+    fs::write(&rt, path, b"used".as_slice())?;
+    let mut image = ImageFile::new(&rt, path, true);
+    assert_eq!(rt; image.length()?, 4);
+    image.discard();
+    assert_eq!(rt; fs::read(&rt, path)?.as_slice(), b"used".as_slice());
+    fs::remove_file(&rt, path)?;
+    Ok(())
+}

@@ -1,0 +1,11 @@
+//! Worked calls of the adapters over real files and streams: what they leave of files, and what is a fault.
+#![tactic(auto)]
+
+#[cfg(test)]
+mod fakes;
+#[cfg(test)]
+mod images;
+#[cfg(test)]
+mod inputs;
+#[cfg(test)]
+mod sources;

@@ -1,0 +1,25 @@
+//! Files as sources.
+
+use fdr_files::FileSource;
+use fdr_io::{Failed, Source};
+use std::fs;
+use std::test::Fail;
+
+fn read_some<S: Source>(source: &mut S) -> Result<(usize, [u8; 8]), Failed> {
+    let mut buf = [0; 8];
+    let n = source.read(&mut buf)?;
+    Ok((n, buf))
+}
+
+#[test]
+fn a_file_is_read_from_its_front(rt: HostRuntime) -> Result<(), Fail> {
+    let path = "source.bin";
+    fs::write(&rt, path, b"table".as_slice())?;
+    let mut source = FileSource::new(&rt, path);
+    assert_eq!(rt; read_some(&mut source), Ok((5, *b"table\0\0\0")));
+    assert_eq!(rt; read_some(&mut source), Ok((0, [0; 8])));
+    fs::remove_file(&rt, path)?;
+    let mut missing = FileSource::new(&rt, path);
+    assert_eq!(rt; read_some(&mut missing), Err(Failed));
+    Ok(())
+}

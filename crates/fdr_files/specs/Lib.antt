@@ -1,0 +1,4 @@
+pub mod Acknowledgements
+pub mod Apart
+pub mod Counts
+pub mod Pulled

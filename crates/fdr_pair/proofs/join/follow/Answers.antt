@@ -1,0 +1,19 @@
+use Rattle.fdr_pair.proofs.PairWorks.{content_then}
+use Rattle.fdr_pair.proofs.Joins.{lead_attached, joins_attached, joins_brought}
+use Rattle.fdr_pair.proofs.join.follow.Goals as goal
+
+pub returns-in-Ok-clause-lead : goal.returns-in-Ok-clause-lead
+returns-in-Ok-clause-lead g c =
+    content_then _ _ _ (lead_attached _ _ _ _ _ _ c.other_side.ensures c.attach_on.ensures.serves) c.bring.ensures.lead
+
+pub returns-in-Err-clause-lead : goal.returns-in-Err-clause-lead
+returns-in-Err-clause-lead g c = lead_attached _ _ _ _ _ _ c.other_side.ensures c.attach_on.ensures.serves
+
+pub returns-in-Ok-clause-work : goal.returns-in-Ok-clause-work
+returns-in-Ok-clause-work g c =
+    joins_brought _ _ _ _ _ _ c.other_side.ensures c.attach_on.ensures.serves (g.met.T.Twin.sound_pair c.args.twin.now) c.requires.near c.in-Ok.ring
+    c.in-Ok.ensures.header c.attach_on.ensures.keeps (g.T.Twin.pair c.bring.new.twin) c.bring.ensures.work
+
+pub returns-in-Err-clause-work : goal.returns-in-Err-clause-work
+returns-in-Err-clause-work g c =
+    joins_attached _ _ _ _ _ _ c.other_side.ensures c.attach_on.ensures.serves (g.met.T.Twin.sound_pair c.args.twin.now) c.requires.near

@@ -1,0 +1,3 @@
+pub mod MadeTwins
+pub mod Entries
+pub mod OnBoth

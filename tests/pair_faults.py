@@ -1,0 +1,137 @@
+"""Faults of either disk, for pair.py: each call of `fdrpair record` on one image fails in turn.
+
+strace lets the call fail. Of each run it is wanted that the fault is said once and that the program doesn't use this image
+again; that the recording goes on with the other image, which then
+is, byte for byte, as the blocks of the trace make it; and that the image that failed holds what it should have until then.
+Where the image that leads fails while the other is brought up to it, the answer is `lead disk fault` instead, with status
+18: the lead is as it was, and the other has some more of the lead's blocks, whole.
+"""
+
+import collections
+import itertools
+import shutil
+import subprocess
+
+from formats import blocks_of, empty_image, end_at, next_number, next_session, recovered, shape_of, with_blocks
+from inputs import T1, t1_frame, word_at
+from places import Mismatch, Skipped
+from recordings import LIMIT, PROMISED_LESS
+
+CALLS = ["openat", "newfstatat", "statx", "fstat", "pread64", "pwrite64", "fdatasync"]
+TRACE = word_at(0, 5) + end_at(4_000_000)
+BITS = t1_frame(0, 5)
+NAMES = {"first": "a.img", "second": "b.img"}
+
+Ended = collections.namedtuple("Ended", "status told others was_injected later images")
+
+
+def started(slots, *recordings):
+    """An image in which so many blocks were recorded, one recording after another."""
+    image = empty_image(slots, 64)
+    for count in recordings:
+        image = with_blocks(image, [(next_session(image), block) for block in blocks_of(BITS * 8, 64)[:count]])
+    return image
+
+
+PAIRS = {
+    "both have the same blocks": (started(5, 3), started(5, 3)),
+    "the second is behind": (started(5, 3, 3), started(5, 3)),
+    "the first is behind": (started(8, 2), started(8, 2, 4)),
+}
+
+
+def run_with_fault(program, room, side, call, number):
+    """A run in which the call of this kind and number on one image fails."""
+    paths = {one: (room / name).resolve() for one, name in NAMES.items()}
+    words = ["strace", "-qq", "-o", "calls", "-P", paths[side], "-e", f"trace={','.join(CALLS)}", "-e", f"inject={call}:error=EIO:when={number}"]
+    words += [program, "record", "t1.csv", *paths.values()]
+    ended = subprocess.run(words, cwd=room, input=TRACE, capture_output=True, timeout=LIMIT)
+    lines = ended.stderr.decode().splitlines()
+    told = [int(line.split()[1]) for line in lines if line.startswith("ack ")]
+    others = [line for line in lines if not line.startswith("ack ")]
+    _, was_injected, later = (room / "calls").read_text().partition("(INJECTED)")
+    return Ended(ended.returncode, told, others, was_injected, later.split("\n")[1:-1], {one: path.read_bytes() for one, path in paths.items()})
+
+
+def want(is_so, what):
+    if not is_so:
+        raise Mismatch(what)
+
+
+def look(before, side, ended):
+    """Compares what a run left after this side failed, and answers whether the recording went on."""
+    other = "first" if side == "second" else "second"
+    lead = max(NAMES, key=lambda one: next_number(before[one]))
+    new = [(next_session(before[lead]), block) for block in blocks_of(BITS, 64)]
+    missing = [(block.session, block.payload) for block in recovered(before[lead]) if block.number >= next_number(before[other])]
+    want(not ended.later, f"the {side} image was used after its fault: {ended.later[:1]}")
+    if ended.status == 18:
+        want(ended.others == [f"fault {side}", "fdrpair: lead disk fault"] and not ended.told, f"said {ended.others} after {ended.told}")
+        want(side == lead and missing, f"the {side} image doesn't lead, or nothing is missing")
+        want(ended.images[side] == before[side], "the lead was changed")
+        some = [with_blocks(before[other], missing[:count]) for count in range(len(missing))]
+        want(ended.images[other] in some, "the other image hasn't some of the lead's blocks")
+        return False
+    want(ended.status == 0 and ended.others == [f"fault {side}"], f"ended with {ended.status} and said {ended.others}")
+    # Where the lead failed early, the other goes on with its own blocks alone.
+    first = ended.told[0]
+    is_alone = first == next_number(before[other])
+    if is_alone and missing:
+        new = [(next_session(before[other]), block) for block in blocks_of(BITS, 64)]
+    want(first == next_number(before[other if is_alone else lead]), f"the first number was {first}")
+    want(ended.told == list(range(first, first + len(new) + 1)), f"acknowledged were {ended.told}")
+    want(ended.images[other] == with_blocks(before[other], new if is_alone else missing + new), "the other image isn't as it should be")
+    want(holds_its_own(before[side], before[lead], new, ended.images[side]), f"the {side} image doesn't hold what it should have until then")
+    return True
+
+
+def holds_its_own(before, lead, new, image):
+    """Whether an image that failed at some call holds the last of its blocks, and then the first of those that were to come."""
+    run = recovered(image)
+    blocks = {block.number: (block.session, block.payload) for block in [*recovered(before), *recovered(lead)]}
+    blocks |= dict(enumerate(new, next_number(lead)))
+    following = next_number(image)
+    is_long = len(run) >= min(shape_of(image).slots - PROMISED_LESS, following)
+    return is_long and following >= next_number(before) and all(blocks.get(one.number) == (one.session, one.payload) for one in run)
+
+
+def fail_in_turn(program, room, first, second, side):
+    """Has each call on one image fail in turn, and answers how many calls there were, and after how many faults the recording
+    went on."""
+    before, calls, went_on = {"first": first, "second": second}, 0, 0
+    (room / "t1.csv").write_bytes(T1)
+    for call in CALLS:
+        for number in itertools.count(1):
+            for one, name in NAMES.items():
+                (room / name).write_bytes(before[one])
+            ended = run_with_fault(program, room, side, call, number)
+            if not ended.was_injected:
+                want(ended.status == 0 and not ended.others, f"without a fault it ended with {ended.status} and said {ended.others}")
+                break
+            calls += 1
+            try:
+                went_on += look(before, side, ended)
+            except Mismatch as error:
+                raise Mismatch(f"{call} {number}: {error}") from None
+    return calls, went_on
+
+
+class Faults:
+    """A case of faults: each call on one image of a pair."""
+
+    def __init__(self, what, side):
+        self.what, self.side = what, side
+        self.name = f"each call on the {side} image fails in turn, {what}"
+
+    def tried(self, place):
+        can_trace = shutil.which("strace") and subprocess.run(["strace", "-o", "/dev/null", "true"], capture_output=True).returncode == 0
+        if not can_trace:
+            raise Skipped("it needs strace")
+        calls, went_on = fail_in_turn(place.program, place.room, *PAIRS[self.what], self.side)
+        self.name += f": {calls} calls, the recording went on after {went_on}"
+
+
+def fault_cases():
+    for what in PAIRS:
+        for side in NAMES:
+            yield Faults(what, side)
