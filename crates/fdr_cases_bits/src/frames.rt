@@ -56,7 +56,7 @@ fn takes_the_false_frame_that_comes_first(rt: HostRuntime) -> Result<(), Fail> {
         (101, Some(3172)),
         (3173, None),
     ] {
-        assert_eq!(rt; next_frame(&bytes, from, WORDS), found, "from {from}");
+        assert!(rt; next_frame(&bytes, from, WORDS) == found, "from {from}");
     }
     for (at, is_frame) in [
         (0, true),
@@ -65,10 +65,10 @@ fn takes_the_false_frame_that_comes_first(rt: HostRuntime) -> Result<(), Fail> {
         (3172, true),
         (u64::MAX, false),
     ] {
-        assert_eq!(rt; frame_at(&bytes, at, WORDS), is_frame, "at {at}");
+        assert!(rt; frame_at(&bytes, at, WORDS) == is_frame, "at {at}");
     }
     let frames = accepted_frames(rt.alloc(), &bytes, WORDS)?;
-    assert_eq!(rt; frames.as_slice(), [0, 3172].as_slice());
+    assert!(rt; frames.as_slice() == [0, 3172].as_slice());
     let gaps = gaps(rt.alloc(), &bytes, WORDS)?;
     let expected = [
         Gap {
@@ -77,7 +77,7 @@ fn takes_the_false_frame_that_comes_first(rt: HostRuntime) -> Result<(), Fail> {
         },
         Gap { at: 6244, bits: 4 },
     ];
-    assert_eq!(rt; gaps.as_slice(), expected.as_slice());
+    assert!(rt; gaps.as_slice() == expected.as_slice());
     Ok(())
 }
 
@@ -94,8 +94,8 @@ fn finds_no_frame_where_a_bit_is_struck_out(rt: HostRuntime) -> Result<(), Fail>
     ];
     put_words(&mut bytes, &words);
     let frames = accepted_frames(rt.alloc(), &bytes, WORDS)?;
-    assert_eq!(rt; frames.len(), 0);
+    assert!(rt; frames.is_empty());
     let gaps = gaps(rt.alloc(), &bytes, WORDS)?;
-    assert_eq!(rt; gaps.as_slice(), [Gap { at: 0, bits: 3072 }].as_slice());
+    assert!(rt; gaps.as_slice() == [Gap { at: 0, bits: 3072 }].as_slice());
     Ok(())
 }

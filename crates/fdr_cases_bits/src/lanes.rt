@@ -23,7 +23,7 @@ fn finds_the_first_sync_word(rt: HostRuntime) {
     // The word is at bits 0 and 20, and its first eight bits at bit 32.
     let bytes = [0x47, 0x02, 0x70, 0x24, 0x47];
     for (from, found) in [(0, Some(0)), (1, Some(20)), (21, None), (u64::MAX, None)] {
-        assert_eq!(rt; first_sync(&bytes, from), found, "from {from}");
+        assert!(rt; first_sync(&bytes, from) == found, "from {from}");
     }
 }
 
@@ -46,9 +46,8 @@ fn finds_what_a_plain_search_finds(rt: HostRuntime) {
         for end in [0, 1, 2, 33, 34, 35, 65, 66, 67, 200] {
             let bytes = &bytes[..end];
             for from in 0..8 * end as u64 + 2 {
-                assert_eq!(rt;
-                    first_sync(bytes, from),
-                    plain_first_sync(bytes, from),
+                assert!(rt;
+                    first_sync(bytes, from) == plain_first_sync(bytes, from),
                     "{end} bytes from {from}"
                 );
             }
@@ -61,9 +60,9 @@ fn reads_words_in_a_row(rt: HostRuntime) {
     let bytes = [0x47, 0x32, 0x12, 0xff, 0x0f];
     let mut words = [0; 3];
     unpack(&bytes, 0, &mut words);
-    assert_eq!(rt; words, [0x247, 0x123, 0xfff]);
+    assert!(rt; words == [0x247, 0x123, 0xfff]);
     unpack(&bytes, 4, &mut words);
-    assert_eq!(rt; words, [0x324, 0xf12, 0x0ff]);
+    assert!(rt; words == [0x324, 0xf12, 0x0ff]);
 }
 
 #[test]
@@ -81,9 +80,8 @@ fn reads_the_words_that_single_reads_give(rt: HostRuntime) {
             if from + 12 * count as u64 <= 800 {
                 unpack(&bytes, from, words);
                 for (i, word) in words.iter().enumerate() {
-                    assert_eq!(rt;
-                        *word,
-                        word12(&bytes, from + 12 * i as u64),
+                    assert!(rt;
+                        *word == word12(&bytes, from + 12 * i as u64),
                         "word {i} from {from}"
                     );
                 }

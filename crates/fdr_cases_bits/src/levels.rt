@@ -32,29 +32,29 @@ fn decoded(levels: &[u8]) -> (u64, u32, Option<u64>)
 #[test]
 fn encodes_after_a_low_level(rt: HostRuntime) {
     let mut encoder = Encoder::new(false);
-    assert_eq!(rt; encoder.byte(0x47), [0xd5, 0x2c]);
+    assert!(rt; encoder.byte(0x47) == [0xd5, 0x2c]);
 }
 
 #[test]
 fn decodes_levels_and_turned_levels(rt: HostRuntime) {
-    assert_eq!(rt; decoded(&[0xd5, 0x2c]), (0x47, 8, None));
-    assert_eq!(rt; decoded(&[0x2a, 0xd3]), (0x47, 8, None));
+    assert!(rt; decoded(&[0xd5, 0x2c]) == (0x47, 8, None));
+    assert!(rt; decoded(&[0x2a, 0xd3]) == (0x47, 8, None));
 }
 
 #[test]
 fn decodes_from_the_middle_of_a_cell(rt: HostRuntime) {
-    assert_eq!(rt; decoded(&[0x6a, 0x96]), (0x23, 7, None));
+    assert!(rt; decoded(&[0x6a, 0x96]) == (0x23, 7, None));
 }
 
 #[test]
 fn names_the_place_where_no_phase_is_left(rt: HostRuntime) {
-    assert_eq!(rt; decoded(&[0x6a, 0x16]), (0x23, 7, Some(15)));
+    assert!(rt; decoded(&[0x6a, 0x16]) == (0x23, 7, Some(15)));
 }
 
 #[test]
 fn decodes_where_both_phases_fit(rt: HostRuntime) {
-    assert_eq!(rt; decoded(&[0x55]), (0x0f, 4, None));
-    assert_eq!(rt; decoded(&[]), (0, 0, None));
+    assert!(rt; decoded(&[0x55]) == (0x0f, 4, None));
+    assert!(rt; decoded(&[]) == (0, 0, None));
 }
 
 // What a decoder gives of these levels one by one: the bytes that its bits fill, how many they are, and the missing place.
@@ -118,14 +118,14 @@ fn drawn_levels(middle: bool, turned: usize) -> [u8; 24] {
 fn words_decode_as_their_levels(rt: HostRuntime) {
     for turned in 50..140 {
         let whole = drawn_levels(false, turned);
-        assert_eq!(rt; together(&whole), one_by_one(&whole));
+        assert!(rt; together(&whole) == one_by_one(&whole));
         let begun = drawn_levels(true, turned);
-        assert_eq!(rt; together(&begun), one_by_one(&begun));
+        assert!(rt; together(&begun) == one_by_one(&begun));
     }
     let whole = drawn_levels(false, 192);
     let begun = drawn_levels(true, 192);
     for count in 0..25 {
-        assert_eq!(rt; together(&whole[..count]), one_by_one(&whole[..count]));
-        assert_eq!(rt; together(&begun[..count]), one_by_one(&begun[..count]));
+        assert!(rt; together(&whole[..count]) == one_by_one(&whole[..count]));
+        assert!(rt; together(&begun[..count]) == one_by_one(&begun[..count]));
     }
 }

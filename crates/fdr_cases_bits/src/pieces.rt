@@ -66,7 +66,7 @@ fn scanned(
     let mut at = 0;
     while at < bytes.len() {
         let end = bytes.len().min(at + size);
-        assert_eq!(rt; scanner.push(&bytes[at..end]), end - at);
+        assert!(rt; scanner.push(&bytes[at..end]) == end - at);
         at = end;
         take_all(scanner, &mut events)?;
     }
@@ -77,16 +77,16 @@ fn scanned(
 
 // Half of these bytes are sync words of first subframes, one after another, the rest is noise.
 fn put_noise(bytes: &mut [u8]) {
-    let mut state: u64 = 1;
+    let mut state: u32 = 1;
     let half = bytes.len() / 2;
     for (i, byte) in bytes.iter_mut().enumerate() {
-        state = state
-            .wrapping_mul(6_364_136_223_846_793_005)
-            .wrapping_add(1_442_695_040_888_963_407);
-        *byte = if i < half {
-            [0x47, 0x72, 0x24][i % 3]
-        } else {
-            (state >> 56) as u8
+        state = state.wrapping_mul(1664525).wrapping_add(1013904223);
+        let [highest, _, _, _] = state.to_be_bytes();
+        *byte = match i % 3 {
+            _ if i >= half => highest,
+            0 => 0x47,
+            1 => 0x72,
+            _ => 0x24,
         };
     }
 }
@@ -113,12 +113,14 @@ fn gives_what_a_search_of_the_whole_gives(rt: HostRuntime) -> Result<(), Fail> {
                 Event::Gap { at, bits } => gaps.push(Gap { at, bits })?,
             }
         }
-        assert_eq!(rt;
-            frames.as_slice(),
-            plain_frames.as_slice(),
+        assert!(rt;
+            frames.as_slice() == plain_frames.as_slice(),
             "pieces of {size}"
         );
-        assert_eq!(rt; gaps.as_slice(), plain_gaps.as_slice(), "pieces of {size}");
+        assert!(rt;
+            gaps.as_slice() == plain_gaps.as_slice(),
+            "pieces of {size}"
+        );
     }
     Ok(())
 }
@@ -129,25 +131,22 @@ fn reads_the_words_of_a_frame(rt: HostRuntime) -> Result<(), Fail> {
     put_frame(&mut bytes, 13);
     put_word(&mut bytes, 25, 0xabc);
     let mut scanner = Scanner::new(rt.alloc(), WORDS).map_err(|_| AllocError)?;
-    assert_eq!(rt; scanner.push(&bytes), 400);
-    assert_eq!(rt; scanner.take(), Some(Event::Gap { at: 0, bits: 13 }));
+    assert!(rt; scanner.push(&bytes) == 400);
+    assert!(rt; scanner.take() == Some(Event::Gap { at: 0, bits: 13 }));
     let event = scanner.take();
-    assert_eq!(rt; event, Some(Event::Frame { at: 13 }));
+    assert!(rt; event == Some(Event::Frame { at: 13 }));
     let mut words = [0; 256];
     scanner.frame_words(&mut words);
-    assert_eq!(rt;
-        (words[0], words[1], words[2], words[64]),
-        (0x247, 0xabc, 0, 0x5b8)
-    );
-    assert_eq!(rt; scanner.take(), None);
+    assert!(rt; (words[0], words[1], words[2], words[64]) == (0x247, 0xabc, 0, 0x5b8));
+    assert!(rt; scanner.take() == None);
     scanner.finish();
-    assert_eq!(rt;
-        scanner.take(),
-        Some(Event::Gap {
-            at: 3085,
-            bits: 115
-        })
+    assert!(rt;
+        scanner.take()
+            == Some(Event::Gap {
+                at: 3085,
+                bits: 115
+            })
     );
-    assert_eq!(rt; scanner.take(), None);
+    assert!(rt; scanner.take() == None);
     Ok(())
 }

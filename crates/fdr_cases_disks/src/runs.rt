@@ -64,7 +64,7 @@ fn a_ring_with_lost_blocks_has_two_runs(rt: HostRuntime) -> Result<(), Fail> {
     let alloc = rt.alloc();
     let numbers = [Some(8), Some(9), None, None, None, Some(5), None, None];
     let image = image_of(alloc, write_header(&EIGHT), OPEN, &numbers)?;
-    assert_eq!(rt; image.len(), 704);
+    assert!(rt; image.len() == 704);
     let wanted = [run_of(5, 6), run_of(8, 10)];
     assert!(rt; has_runs(alloc, &EIGHT, image, &wanted)?);
     let closed = image_of(alloc, write_header(&EIGHT), 0, &numbers)?;
@@ -180,7 +180,7 @@ fn each_byte_of_a_head_altered(rt: HostRuntime) -> Result<(), Fail> {
         [Some(0), Some(1), None, Some(0x5A03)],
     ] {
         let image = image_of(alloc, write_header(&FOUR), OPEN, &numbers)?;
-        assert_eq!(rt; image.len(), HEADER + 4 * SLOT);
+        assert!(rt; image.len() == HEADER + 4 * SLOT);
         for slot in 0..4 {
             for byte in 0..HEAD {
                 for value in [0x00, 0x5A, 0xFF] {
@@ -209,11 +209,8 @@ fn each_read_of_a_slot_may_fail(rt: HostRuntime) -> Result<(), Fail> {
         )?;
         let mut deck = MemDeck::new(alloc, image, Vec::new(alloc), vec![in alloc; failing]?);
         assert!(rt; deck.image().len() == 384);
-        assert_eq!(rt;
-            runs(alloc, &mut deck, &FOUR).err(),
-            Some(SalvageFault::DiskFault)
-        );
-        assert_eq!(rt; deck.calls(), failing + 1);
+        assert!(rt; runs(alloc, &mut deck, &FOUR).err() == Some(SalvageFault::DiskFault));
+        assert!(rt; deck.calls() == failing + 1);
     }
     Ok(())
 }

@@ -80,15 +80,15 @@ fn pull_two<T: Twin>(twin: &mut T, side: Side) -> Result<(usize, [u8; 2]), Faile
 fn a_stop_tears_what_is_pending_on_each_side(rt: HostRuntime) -> Result<(), Fail> {
     let alloc = rt.alloc();
     let mut twin = empty_twin(alloc, Vec::new(alloc), Vec::new(alloc), None, None)?;
-    assert_eq!(rt; put(&mut twin, Side::First, &[1, 2]), Ok(()));
-    assert_eq!(rt; sync_side(&mut twin, Side::First), Ok(()));
-    assert_eq!(rt; put(&mut twin, Side::Second, &[3, 4, 5]), Ok(()));
-    assert_eq!(rt; sync_side(&mut twin, Side::First), Ok(()));
-    assert_eq!(rt; get(&mut twin, Side::First), Ok([0, 1, 2, 0]));
-    assert_eq!(rt; get(&mut twin, Side::Second), Ok([0, 3, 4, 5]));
-    assert_eq!(rt; twin.image(Side::First), [0, 1, 2, 0].as_slice());
-    assert_eq!(rt; twin.image(Side::Second), [0, 3, 4, 5].as_slice());
-    assert_eq!(rt; twin.calls(), 10);
+    assert!(rt; put(&mut twin, Side::First, &[1, 2]) == Ok(()));
+    assert!(rt; sync_side(&mut twin, Side::First) == Ok(()));
+    assert!(rt; put(&mut twin, Side::Second, &[3, 4, 5]) == Ok(()));
+    assert!(rt; sync_side(&mut twin, Side::First) == Ok(()));
+    assert!(rt; get(&mut twin, Side::First) == Ok([0, 1, 2, 0]));
+    assert!(rt; get(&mut twin, Side::Second) == Ok([0, 3, 4, 5]));
+    assert!(rt; twin.image(Side::First) == [0, 1, 2, 0].as_slice());
+    assert!(rt; twin.image(Side::Second) == [0, 3, 4, 5].as_slice());
+    assert!(rt; twin.calls() == 10);
     let none = [0, 0, 0, 0];
     let settled = [0, 1, 2, 0];
     assert!(rt; leaves(alloc, &twin, 1, Tear::New, &settled, &none)?);
@@ -107,11 +107,11 @@ fn listed_calls_fail_on_the_side_that_they_are_of(rt: HostRuntime) -> Result<(),
     let alloc = rt.alloc();
     let failing = vec![in alloc; 1, 4]?;
     let mut twin = empty_twin(alloc, Vec::new(alloc), failing, None, None)?;
-    assert_eq!(rt; put(&mut twin, Side::First, &[1, 2, 3]), Err(Failed));
-    assert_eq!(rt; put(&mut twin, Side::Second, &[4, 5, 6]), Ok(()));
-    assert_eq!(rt; sync_side(&mut twin, Side::Second), Err(Failed));
-    assert_eq!(rt; get(&mut twin, Side::First), Ok([0, 0, 0, 0]));
-    assert_eq!(rt; get(&mut twin, Side::Second), Ok([0, 4, 5, 6]));
+    assert!(rt; put(&mut twin, Side::First, &[1, 2, 3]) == Err(Failed));
+    assert!(rt; put(&mut twin, Side::Second, &[4, 5, 6]) == Ok(()));
+    assert!(rt; sync_side(&mut twin, Side::Second) == Err(Failed));
+    assert!(rt; get(&mut twin, Side::First) == Ok([0, 0, 0, 0]));
+    assert!(rt; get(&mut twin, Side::Second) == Ok([0, 4, 5, 6]));
     assert!(rt; leaves(alloc, &twin, 8, Tear::New, &[0, 1, 2, 3], &[0, 4, 5, 6])?);
     assert!(rt; leaves(alloc, &twin, 8, Tear::Old, &[0, 0, 0, 0], &[0, 0, 0, 0])?);
     Ok(())
@@ -122,17 +122,17 @@ fn a_dead_disk_fails_from_its_call_on(rt: HostRuntime) -> Result<(), Fail> {
     let alloc = rt.alloc();
     let input = vec![in alloc; 7, 8, 9]?;
     let mut twin = empty_twin(alloc, input, Vec::new(alloc), None, Some(3))?;
-    assert_eq!(rt; put(&mut twin, Side::Second, &[1]), Ok(()));
-    assert_eq!(rt; sync_side(&mut twin, Side::Second), Ok(()));
-    assert_eq!(rt; sync_side(&mut twin, Side::Second), Err(Failed));
-    assert_eq!(rt; get(&mut twin, Side::Second), Err(Failed));
-    assert_eq!(rt; pull_two(&mut twin, Side::Second), Ok((2, [7, 8])));
-    assert_eq!(rt; put(&mut twin, Side::First, &[2]), Ok(()));
-    assert_eq!(rt; twin.image(Side::First), [0, 2, 0, 0].as_slice());
-    assert_eq!(rt; twin.image(Side::Second), [0, 1, 0, 0].as_slice());
+    assert!(rt; put(&mut twin, Side::Second, &[1]) == Ok(()));
+    assert!(rt; sync_side(&mut twin, Side::Second) == Ok(()));
+    assert!(rt; sync_side(&mut twin, Side::Second) == Err(Failed));
+    assert!(rt; get(&mut twin, Side::Second) == Err(Failed));
+    assert!(rt; pull_two(&mut twin, Side::Second) == Ok((2, [7, 8])));
+    assert!(rt; put(&mut twin, Side::First, &[2]) == Ok(()));
+    assert!(rt; twin.image(Side::First) == [0, 2, 0, 0].as_slice());
+    assert!(rt; twin.image(Side::Second) == [0, 1, 0, 0].as_slice());
     let mut other = empty_twin(alloc, Vec::new(alloc), Vec::new(alloc), Some(1), None)?;
-    assert_eq!(rt; put(&mut other, Side::First, &[1]), Err(Failed));
-    assert_eq!(rt; put(&mut other, Side::Second, &[1]), Ok(()));
+    assert!(rt; put(&mut other, Side::First, &[1]) == Err(Failed));
+    assert!(rt; put(&mut other, Side::Second, &[1]) == Ok(()));
     Ok(())
 }
 
@@ -142,13 +142,13 @@ fn the_input_and_the_announced_number_are_of_no_side(rt: HostRuntime) -> Result<
     let input = vec![in alloc; 7, 8, 9]?;
     let failing = vec![in alloc; 1]?;
     let mut twin = empty_twin(alloc, input, failing, Some(0), Some(0))?;
-    assert_eq!(rt; pull_two(&mut twin, Side::First), Ok((2, [7, 8])));
+    assert!(rt; pull_two(&mut twin, Side::First) == Ok((2, [7, 8])));
     twin.announce(5);
-    assert_eq!(rt; pull_two(&mut twin, Side::First), Err(Failed));
-    assert_eq!(rt; pull_two(&mut twin, Side::Second), Ok((1, [9, 0])));
-    assert_eq!(rt; pull_two(&mut twin, Side::First), Ok((0, [0, 0])));
-    assert_eq!(rt; twin.told(), 5);
-    assert_eq!(rt; twin.calls(), 4);
+    assert!(rt; pull_two(&mut twin, Side::First) == Err(Failed));
+    assert!(rt; pull_two(&mut twin, Side::Second) == Ok((1, [9, 0])));
+    assert!(rt; pull_two(&mut twin, Side::First) == Ok((0, [0, 0])));
+    assert!(rt; twin.told() == 5);
+    assert!(rt; twin.calls() == 4);
     Ok(())
 }
 
@@ -165,10 +165,10 @@ fn an_empty_disk_is_provided(rt: HostRuntime) -> Result<(), Fail> {
         None,
         None,
     );
-    assert_eq!(rt; twin.provide(4), Ok(()));
+    assert!(rt; twin.provide(4) == Ok(()));
     twin.turn(Side::Second);
-    assert_eq!(rt; twin.provide(2), Err(Failed));
-    assert_eq!(rt; twin.size(), Ok(0));
+    assert!(rt; twin.provide(2) == Err(Failed));
+    assert!(rt; twin.size() == Ok(0));
     assert!(rt; leaves(alloc, &twin, 0, Tear::Half, &[0, 0], &[])?);
     assert!(rt; leaves(alloc, &twin, 1, Tear::Old, &[0, 0, 0, 0], &[])?);
     assert!(rt; leaves(alloc, &twin, 2, Tear::New, &[0, 0, 0, 0], &[0, 0])?);
@@ -184,13 +184,13 @@ fn a_sure_twin_keeps_both_sides(rt: HostRuntime) -> Result<(), Fail> {
     assert!(rt; first.len() > 0);
     assert!(rt; second.len() > 0);
     let mut twin = SureTwin::new(first, second, input);
-    assert_eq!(rt; put(&mut twin, Side::First, &[1, 2]), Ok(()));
-    assert_eq!(rt; put(&mut twin, Side::Second, &[3]), Ok(()));
-    assert_eq!(rt; sync_side(&mut twin, Side::Second), Ok(()));
-    assert_eq!(rt; get(&mut twin, Side::First), Ok([0, 1, 2, 0]));
-    assert_eq!(rt; get(&mut twin, Side::Second), Ok([9, 3, 9, 9]));
-    assert_eq!(rt; pull_two(&mut twin, Side::First), Ok((2, [7, 8])));
-    assert_eq!(rt; pull_two(&mut twin, Side::Second), Ok((1, [9, 0])));
-    assert_eq!(rt; pull_two(&mut twin, Side::Second), Ok((0, [0, 0])));
+    assert!(rt; put(&mut twin, Side::First, &[1, 2]) == Ok(()));
+    assert!(rt; put(&mut twin, Side::Second, &[3]) == Ok(()));
+    assert!(rt; sync_side(&mut twin, Side::Second) == Ok(()));
+    assert!(rt; get(&mut twin, Side::First) == Ok([0, 1, 2, 0]));
+    assert!(rt; get(&mut twin, Side::Second) == Ok([9, 3, 9, 9]));
+    assert!(rt; pull_two(&mut twin, Side::First) == Ok((2, [7, 8])));
+    assert!(rt; pull_two(&mut twin, Side::Second) == Ok((1, [9, 0])));
+    assert!(rt; pull_two(&mut twin, Side::Second) == Ok((0, [0, 0])));
     Ok(())
 }

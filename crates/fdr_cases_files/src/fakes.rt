@@ -1,9 +1,9 @@
-//! A reader and a file system for the tests.
+//! A reader, a writer and a file system for the tests.
 
 use std::alloc::Allocator;
 use std::fs::{File, Metadata, OpenOptions};
 use std::io;
-use std::io::{ErrorKind, Read};
+use std::io::{ErrorKind, Read, Write};
 use std::rt::Files;
 
 /// A reader that a signal interrupts before each byte.
@@ -29,6 +29,30 @@ impl Read for Interrupted<'_> {
             return Err(io::Error::from(ErrorKind::Interrupted));
         }
         self.bytes.read(&mut buf[..1])
+    }
+}
+
+/// A writer that keeps what it was given, with a bar after each write.
+#[derive(Drop)]
+pub struct Marked<'a> {
+    kept: &'a mut Vec<u8>,
+}
+
+impl<'a> Marked<'a> {
+    pub fn new(kept: &'a mut Vec<u8>) -> Self {
+        Marked { kept }
+    }
+}
+
+impl Write for Marked<'_> {
+    fn write(&mut self, buf: &[u8]) -> io::Result<usize> {
+        self.kept.extend_from_slice(buf)?;
+        self.kept.extend_from_slice(b"|")?;
+        Ok(buf.len())
+    }
+
+    fn flush(&mut self) -> io::Result<()> {
+        Ok(())
     }
 }
 

@@ -57,12 +57,12 @@ fn a_window_gives_the_bytes_of_the_file(rt: HostRuntime) -> Result<(), Fail> {
     for at in [0, 65_528, 65_530, 8, 70_000, 70_008, 70_400, 139_992] {
         image.read(at, &mut read)?;
         let held = bytes.get(at as usize..at as usize + 8).ok_or("held")?;
-        assert_eq!(rt; read.as_slice(), held, "from byte {at} on");
+        assert!(rt; read.as_slice() == held, "from byte {at} on");
     }
     File::options().write(true).open(&rt, path)?.set_len(100)?;
     let shorter = kind_of(image.read(70_000, &mut read));
-    assert_eq!(rt; shorter, Err(ErrorKind::UnexpectedEof));
-    assert_eq!(rt; kind_of(image.read(92, &mut read)), Ok(()));
+    assert!(rt; shorter == Err(ErrorKind::UnexpectedEof));
+    assert!(rt; kind_of(image.read(92, &mut read)) == Ok(()));
     fs::remove_file(&rt, path)?;
     Ok(())
 }
@@ -71,18 +71,12 @@ fn a_window_gives_the_bytes_of_the_file(rt: HostRuntime) -> Result<(), Fail> {
 fn the_room_of_an_image_is_taken(rt: HostRuntime) -> Result<(), Fail> {
     let path = "image.bin";
     let mut image = ImageFile::new(&rt, path, true);
-    assert_eq!(rt; image.length()?, 0);
+    assert!(rt; image.length()? == 0);
     image.provide(SIZE)?;
-    assert_eq!(rt;
-        fs::read(&rt, path)?,
-        vec![in rt.alloc(); 0; SIZE as usize]?
-    );
+    assert!(rt; fs::read(&rt, path)? == vec![in rt.alloc(); 0; SIZE as usize]?);
     assert!(rt; fs::metadata(&rt, path)?.blocks() >= 9);
-    assert_eq!(rt; store_some(&mut image)?, [0, 7, 8, 0]);
-    assert_eq!(rt;
-        fs::read(&rt, path)?.get(4094..4098),
-        Some([0, 7, 8, 0].as_slice())
-    );
+    assert!(rt; store_some(&mut image)? == [0, 7, 8, 0]);
+    assert!(rt; fs::read(&rt, path)?.get(4094..4098) == Some([0, 7, 8, 0].as_slice()));
     fs::remove_file(&rt, path)?;
     Ok(())
 }
@@ -91,9 +85,9 @@ fn the_room_of_an_image_is_taken(rt: HostRuntime) -> Result<(), Fail> {
 fn a_file_that_has_bytes_stays(rt: HostRuntime) -> Result<(), Fail> {
     let path = "used.bin";
     fs::write(&rt, path, b"used".as_slice())?;
-    assert_eq!(rt; make_at(&rt, path, true), Err(ErrorKind::AlreadyExists));
-    assert_eq!(rt; make_at(&rt, path, false), Err(ErrorKind::AlreadyExists));
-    assert_eq!(rt; fs::read(&rt, path)?.as_slice(), b"used".as_slice());
+    assert!(rt; make_at(&rt, path, true) == Err(ErrorKind::AlreadyExists));
+    assert!(rt; make_at(&rt, path, false) == Err(ErrorKind::AlreadyExists));
+    assert!(rt; fs::read(&rt, path)?.as_slice() == b"used".as_slice());
     fs::remove_file(&rt, path)?;
     Ok(())
 }
@@ -103,9 +97,9 @@ fn a_file_that_has_bytes_stays(rt: HostRuntime) -> Result<(), Fail> {
 fn what_is_no_file_is_refused(rt: HostRuntime) -> Result<(), Fail> {
     let refused = ErrorKind::InvalidInput;
     for path in ["/dev/null", "."] {
-        assert_eq!(rt; length_at(&rt, path, false), Err(refused), "{path}");
-        assert_eq!(rt; length_at(&rt, path, true), Err(refused), "{path}");
-        assert_eq!(rt; make_at(&rt, path, true), Err(refused), "{path}");
+        assert!(rt; length_at(&rt, path, false) == Err(refused), "{path}");
+        assert!(rt; length_at(&rt, path, true) == Err(refused), "{path}");
+        assert!(rt; make_at(&rt, path, true) == Err(refused), "{path}");
     }
     Ok(())
 }
@@ -117,13 +111,13 @@ fn a_lock_that_another_holds_is_an_error(rt: HostRuntime) -> Result<(), Fail> {
     {
         let mut image = ImageFile::new(&rt, path, true);
         image.provide(SIZE)?;
-        assert_eq!(rt; length_at(&rt, path, true), Err(locked));
-        assert_eq!(rt; length_at(&rt, path, false), Err(locked));
+        assert!(rt; length_at(&rt, path, true) == Err(locked));
+        assert!(rt; length_at(&rt, path, false) == Err(locked));
     }
     let mut reader = ImageFile::new(&rt, path, false);
-    assert_eq!(rt; reader.length()?, SIZE);
-    assert_eq!(rt; length_at(&rt, path, false), Ok(SIZE));
-    assert_eq!(rt; length_at(&rt, path, true), Err(locked));
+    assert!(rt; reader.length()? == SIZE);
+    assert!(rt; length_at(&rt, path, false) == Ok(SIZE));
+    assert!(rt; length_at(&rt, path, true) == Err(locked));
     fs::remove_file(&rt, path)?;
     Ok(())
 }
@@ -135,8 +129,8 @@ fn a_file_that_became_shorter_is_not_made_longer(rt: HostRuntime) -> Result<(), 
     image.provide(SIZE)?;
     fs::write(&rt, path, b"abc".as_slice())?;
     let stored = kind_of(store_some(&mut image));
-    assert_eq!(rt; stored, Err(ErrorKind::UnexpectedEof));
-    assert_eq!(rt; fs::read(&rt, path)?.as_slice(), b"abc".as_slice());
+    assert!(rt; stored == Err(ErrorKind::UnexpectedEof));
+    assert!(rt; fs::read(&rt, path)?.as_slice() == b"abc".as_slice());
     fs::remove_file(&rt, path)?;
     Ok(())
 }
@@ -144,9 +138,9 @@ fn a_file_that_became_shorter_is_not_made_longer(rt: HostRuntime) -> Result<(), 
 #[test]
 fn a_link_to_no_file_is_no_missing_image(rt: HostRuntime) -> Result<(), Fail> {
     symlink(&rt, "target.bin", "link.bin")?;
-    assert_eq!(rt; length_at(&rt, "link.bin", true), Err(ErrorKind::NotFound));
+    assert!(rt; length_at(&rt, "link.bin", true) == Err(ErrorKind::NotFound));
     let made = make_at(&rt, "link.bin", true);
-    assert_eq!(rt; made, Err(ErrorKind::AlreadyExists));
+    assert!(rt; made == Err(ErrorKind::AlreadyExists));
     assert!(rt; !fs::exists(&rt, "target.bin")?);
     fs::remove_file(&rt, "link.bin")?;
     Ok(())
@@ -163,7 +157,7 @@ fn an_image_that_cannot_be_made_leaves_no_file(rt: HostRuntime) -> Result<(), Fa
         // One that was there stays, and is empty.
         fs::write(&rt, path, b"".as_slice())?;
         assert!(rt; make_at(&files, path, true).is_err());
-        assert_eq!(rt; fs::metadata(&rt, path)?.len(), 0);
+        assert!(rt; fs::metadata(&rt, path)?.len() == 0);
         fs::remove_file(&rt, path)?;
     }
     Ok(())
@@ -182,18 +176,18 @@ fn make_and_fail<'a>(rt: &'a HostRuntime, path: &'a str) -> Result<(bool, bool),
 #[test]
 fn an_image_whose_header_cannot_be_written_is_discarded(rt: HostRuntime) -> Result<(), Fail> {
     let path = "undone.bin";
-    assert_eq!(rt; make_and_fail(&rt, path)?, (true, false));
+    assert!(rt; make_and_fail(&rt, path)? == (true, false));
     assert!(rt; !fs::exists(&rt, path)?);
     // One that was there stays, and is empty.
     fs::write(&rt, path, b"".as_slice())?;
-    assert_eq!(rt; make_and_fail(&rt, path)?, (true, false));
-    assert_eq!(rt; fs::metadata(&rt, path)?.len(), 0);
+    assert!(rt; make_and_fail(&rt, path)? == (true, false));
+    assert!(rt; fs::metadata(&rt, path)?.len() == 0);
     // One that is only looked at, or that had bytes, stays as it is.
     fs::write(&rt, path, b"used".as_slice())?;
     let mut image = ImageFile::new(&rt, path, true);
-    assert_eq!(rt; image.length()?, 4);
+    assert!(rt; image.length()? == 4);
     image.discard();
-    assert_eq!(rt; fs::read(&rt, path)?.as_slice(), b"used".as_slice());
+    assert!(rt; fs::read(&rt, path)?.as_slice() == b"used".as_slice());
     fs::remove_file(&rt, path)?;
     Ok(())
 }

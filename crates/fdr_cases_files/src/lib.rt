@@ -2,6 +2,8 @@
 #![tactic(auto)]
 
 #[cfg(test)]
+mod decks;
+#[cfg(test)]
 mod fakes;
 #[cfg(test)]
 mod images;
@@ -9,3 +11,5 @@ mod images;
 mod inputs;
 #[cfg(test)]
 mod sources;
+#[cfg(test)]
+mod twins;

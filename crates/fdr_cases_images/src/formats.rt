@@ -31,15 +31,15 @@ fn makes_an_image_once(rt: HostRuntime) -> Result<(), Fail> {
     let image = fresh_image(alloc)?;
     let mut deck = deck_of(alloc, &[], &[], &[])?;
     let made = format(alloc, ALTITUDE, "--slots=4", &mut deck)?;
-    assert_eq!(rt; made.outcome, Outcome::Done);
-    assert_eq!(rt; made.written.len(), 0);
-    assert_eq!(rt; deck.image(), image.as_slice());
+    assert!(rt; made.outcome == Outcome::Done);
+    assert!(rt; made.written.is_empty());
+    assert!(rt; deck.image() == image.as_slice());
     let again = format(alloc, ALTITUDE, "--slots=4", &mut deck)?;
-    assert_eq!(rt; again.outcome, Outcome::NotEmpty);
+    assert!(rt; again.outcome == Outcome::NotEmpty);
     let few = format(alloc, ALTITUDE, "--slots=3", &mut deck)?;
-    assert_eq!(rt; few.outcome, Outcome::Usage);
-    assert_eq!(rt; deck.image(), image.as_slice());
-    assert_eq!(rt; deck.told(), 0);
+    assert!(rt; few.outcome == Outcome::Usage);
+    assert!(rt; deck.image() == image.as_slice());
+    assert!(rt; deck.told() == 0);
     Ok(())
 }
 
@@ -57,11 +57,11 @@ fn makes_an_image_of_options_in_other_spellings(rt: HostRuntime) -> Result<(), F
         "016",
     ];
     let made = run_words(alloc, &words, ALTITUDE, &mut deck, &[])?;
-    assert_eq!(rt; made.outcome, Outcome::Done);
+    assert!(rt; made.outcome == Outcome::Done);
     let mut image = HEADER.to_vec(alloc)?;
     *image.get_mut(11).ok_or("a byte")? = 16;
     image.resize(64 + 16 * 80, 0)?;
-    assert_eq!(rt; deck.image(), image.as_slice());
+    assert!(rt; deck.image() == image.as_slice());
     Ok(())
 }
 
@@ -71,12 +71,12 @@ fn leaves_a_disk_that_it_does_not_make(rt: HostRuntime) -> Result<(), Fail> {
     let mut deck = deck_of(alloc, &[], &[], &[])?;
     let refused = format(alloc, "X,1\n", "--slots=4", &mut deck)?;
     let fault = TableFault::Shape;
-    assert_eq!(rt; refused.outcome, Outcome::TableRefused { row: 0, fault });
-    assert_eq!(rt; deck.calls(), 0);
+    assert!(rt; refused.outcome == Outcome::TableRefused { row: 0, fault });
+    assert!(rt; deck.calls() == 0);
     let mut deck = deck_of(alloc, b"x", &[], &[])?;
     let refused = format(alloc, ALTITUDE, "--slots=4", &mut deck)?;
-    assert_eq!(rt; refused.outcome, Outcome::NotEmpty);
-    assert_eq!(rt; deck.image(), b"x".as_slice());
+    assert!(rt; refused.outcome == Outcome::NotEmpty);
+    assert!(rt; deck.image() == b"x".as_slice());
     Ok(())
 }
 
@@ -87,8 +87,8 @@ fn says_that_the_disk_failed(rt: HostRuntime) -> Result<(), Fail> {
     for call in 0..6 {
         let mut deck = deck_of(alloc, &[], &[], &[call])?;
         let failed = format(alloc, ALTITUDE, "--slots=4", &mut deck)?;
-        assert_eq!(rt; failed.outcome, Outcome::DiskFault, "call {call}");
-        assert_eq!(rt; deck.calls(), call + 1, "call {call}");
+        assert!(rt; failed.outcome == Outcome::DiskFault, "call {call}");
+        assert!(rt; deck.calls() == call + 1, "call {call}");
     }
     Ok(())
 }

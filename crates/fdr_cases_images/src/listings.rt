@@ -35,21 +35,21 @@ fn lists_what_was_recorded(rt: HostRuntime) -> Result<(), Fail> {
         "--payload=64",
     ];
     let made = run_words(alloc, &words, ALTITUDE, &mut deck, &[])?;
-    assert_eq!(rt; made.outcome, Outcome::Done);
-    assert_eq!(rt; deck.image().len(), 1344);
+    assert!(rt; made.outcome == Outcome::Done);
+    assert!(rt; deck.image().len() == 1344);
     let words = ["record", "t1.csv", "flight.img"];
     let recorded = run_words(alloc, &words, ALTITUDE, &mut deck, &[])?;
-    assert_eq!(rt; recorded.outcome, Outcome::Done);
-    assert_eq!(rt; deck.told(), 6);
+    assert!(rt; recorded.outcome == Outcome::Done);
+    assert!(rt; deck.told() == 6);
 
     let image = deck.image().to_vec(alloc)?;
     let mut deck = deck_of(alloc, &image, &TRACE, &[])?;
     let listed = list(alloc, ALTITUDE, &mut deck)?;
-    assert_eq!(rt; listed.outcome, Outcome::Done);
+    assert!(rt; listed.outcome == Outcome::Done);
     let lines = b"session,1,0\nrow,0,1,10,ALT,5\n";
-    assert_eq!(rt; listed.written.as_slice(), lines.as_slice());
-    assert_eq!(rt; deck.image(), image.as_slice());
-    assert_eq!(rt; deck.told(), 0);
+    assert!(rt; listed.written.as_slice() == lines.as_slice());
+    assert!(rt; deck.image() == image.as_slice());
+    assert!(rt; deck.told() == 0);
     Ok(())
 }
 
@@ -80,10 +80,10 @@ fn lists_blocks_in_the_order_of_their_numbers(rt: HostRuntime) -> Result<(), Fai
     // Of 18 blocks the last 15 stand: half a frame, and two frames, of which the second begins in slot 12 and ends in slot 1.
     let mut deck = deck_of(alloc, &recorded(alloc, 3)?, &[], &[])?;
     let listed = list(alloc, ALTITUDE, &mut deck)?;
-    assert_eq!(rt; listed.outcome, Outcome::Done);
+    assert!(rt; listed.outcome == Outcome::Done);
     let lines =
         "session,1,3\ngap,0,1536\nsession,2,6\nrow,0,1,10,ALT,5\nsession,3,12\nrow,0,1,10,ALT,5\n";
-    assert_eq!(rt; listed.written.as_slice(), lines.as_bytes());
+    assert!(rt; listed.written.as_slice() == lines.as_bytes());
     Ok(())
 }
 
@@ -92,17 +92,17 @@ fn lists_the_blocks_that_a_ring_holds(rt: HostRuntime) -> Result<(), Fail> {
     let alloc = rt.alloc();
     let mut empty = deck_of(alloc, &fresh_image(alloc)?, &[], &[])?;
     let listed = list(alloc, ALTITUDE, &mut empty)?;
-    assert_eq!(rt; listed.outcome, Outcome::Done);
-    assert_eq!(rt; listed.written.len(), 0);
+    assert!(rt; listed.outcome == Outcome::Done);
+    assert!(rt; listed.written.is_empty());
 
     // The last three blocks of a frame have two of its four sync words.
     let image = image_of_a_frame(alloc)?;
     let mut deck = deck_of(alloc, &image, &[], &[])?;
     let listed = list(alloc, ALTITUDE, &mut deck)?;
-    assert_eq!(rt; listed.outcome, Outcome::Done);
+    assert!(rt; listed.outcome == Outcome::Done);
     let lines = b"session,1,3\ngap,0,1536\n";
-    assert_eq!(rt; listed.written.as_slice(), lines.as_slice());
-    assert_eq!(rt; deck.image(), image.as_slice());
+    assert!(rt; listed.written.as_slice() == lines.as_slice());
+    assert!(rt; deck.image() == image.as_slice());
     Ok(())
 }
 
@@ -124,19 +124,13 @@ fn refuses_an_image_for_other_words(rt: HostRuntime) -> Result<(), Fail> {
         image: 64,
         table: 256,
     };
-    assert_eq!(rt; refused(alloc, OTHER_WORDS, &image)?, differ);
+    assert!(rt; refused(alloc, OTHER_WORDS, &image)? == differ);
     // What is no image is refused first.
     let mut closed = image;
     *closed.first_mut().ok_or("a byte")? = 0;
     let fault = ImageFault::Closed;
-    assert_eq!(rt;
-        refused(alloc, OTHER_WORDS, &closed)?,
-        Outcome::ImageRefused(fault)
-    );
-    assert_eq!(rt;
-        refused(alloc, OTHER_WORDS, &[])?,
-        Outcome::ImageRefused(ImageFault::Small)
-    );
+    assert!(rt; refused(alloc, OTHER_WORDS, &closed)? == Outcome::ImageRefused(fault));
+    assert!(rt; refused(alloc, OTHER_WORDS, &[])? == Outcome::ImageRefused(ImageFault::Small));
     Ok(())
 }
 
@@ -151,15 +145,15 @@ fn says_what_of_a_listing_failed(rt: HostRuntime) -> Result<(), Fail> {
             let mut deck = deck_of(alloc, &image, &[], &[call])?;
             let listed = list(alloc, ALTITUDE, &mut deck)?;
             let written = listed.written;
-            assert_eq!(rt; listed.outcome, Outcome::DiskFault, "call {call}");
+            assert!(rt; listed.outcome == Outcome::DiskFault, "call {call}");
             assert!(rt; lines.as_bytes().starts_with(&written), "call {call}");
             assert!(rt; written.len() < lines.len(), "call {call}");
-            assert_eq!(rt; deck.image(), image.as_slice(), "call {call}");
+            assert!(rt; deck.image() == image.as_slice(), "call {call}");
         }
     }
     let mut deck = deck_of(alloc, &image, &[], &[])?;
     let unwritten = run_words(alloc, LIST, ALTITUDE, &mut deck, &[0])?;
-    assert_eq!(rt; unwritten.outcome, Outcome::WriteFault);
-    assert_eq!(rt; unwritten.written.len(), 0);
+    assert!(rt; unwritten.outcome == Outcome::WriteFault);
+    assert!(rt; unwritten.written.is_empty());
     Ok(())
 }

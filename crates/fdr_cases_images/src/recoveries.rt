@@ -61,8 +61,8 @@ fn a_block_takes_at_most_six_calls(rt: HostRuntime) -> Result<(), Fail> {
         .to_vec(alloc)?;
     blocks.extend_from_slice(&[7; 64])?;
     let recovered = recover(alloc, &mut deck)?;
-    assert_eq!(rt; recovered.outcome, Outcome::Done);
-    assert_eq!(rt; recovered.written, blocks);
+    assert!(rt; recovered.outcome == Outcome::Done);
+    assert!(rt; recovered.written == blocks);
     Ok(())
 }
 
@@ -72,16 +72,16 @@ fn recovers_the_last_blocks_of_a_ring(rt: HostRuntime) -> Result<(), Fail> {
     let image = image_of_a_frame(alloc)?;
     let mut deck = deck_of(alloc, &image, &[], &[])?;
     let recovered = recover(alloc, &mut deck)?;
-    assert_eq!(rt; recovered.outcome, Outcome::Done);
+    assert!(rt; recovered.outcome == Outcome::Done);
     let frame = frame_with(alloc, &[])?;
     let last = frame.get(192..).ok_or("three blocks")?;
-    assert_eq!(rt; recovered.written.as_slice(), last);
-    assert_eq!(rt; deck.image(), image.as_slice());
+    assert!(rt; recovered.written.as_slice() == last);
+    assert!(rt; deck.image() == image.as_slice());
 
     let mut empty = deck_of(alloc, &fresh_image(alloc)?, &[], &[])?;
     let recovered = recover(alloc, &mut empty)?;
-    assert_eq!(rt; recovered.outcome, Outcome::Done);
-    assert_eq!(rt; recovered.written.len(), 0);
+    assert!(rt; recovered.outcome == Outcome::Done);
+    assert!(rt; recovered.written.is_empty());
     Ok(())
 }
 
@@ -113,9 +113,8 @@ fn refuses_what_is_no_image(rt: HostRuntime) -> Result<(), Fail> {
         (0, 0x5a, 385, Outcome::Done),
     ];
     for (at, byte, length, outcome) in cases {
-        assert_eq!(rt;
-            refused(alloc, at, byte, length)?,
-            outcome,
+        assert!(rt;
+            refused(alloc, at, byte, length)? == outcome,
             "byte {at}, {length} bytes"
         );
     }
@@ -130,14 +129,14 @@ fn says_what_failed(rt: HostRuntime) -> Result<(), Fail> {
     for call in 0..16 {
         let mut deck = deck_of(alloc, &image, &[], &[call])?;
         let recovered = recover(alloc, &mut deck)?;
-        assert_eq!(rt; recovered.outcome, Outcome::DiskFault, "call {call}");
-        assert_eq!(rt; deck.image(), image.as_slice(), "call {call}");
+        assert!(rt; recovered.outcome == Outcome::DiskFault, "call {call}");
+        assert!(rt; deck.image() == image.as_slice(), "call {call}");
     }
     let mut deck = deck_of(alloc, &image, &[], &[])?;
     let words = ["recover", "flight.img"];
     let unwritten = run_words(alloc, &words, ALTITUDE, &mut deck, &[0])?;
-    assert_eq!(rt; unwritten.outcome, Outcome::WriteFault);
-    assert_eq!(rt; unwritten.written.len(), 0);
+    assert!(rt; unwritten.outcome == Outcome::WriteFault);
+    assert!(rt; unwritten.written.is_empty());
     Ok(())
 }
 
@@ -188,15 +187,15 @@ fn recovers_the_run_that_ends_at_the_greatest(rt: HostRuntime) -> Result<(), Fai
         next: 9,
         session: 8,
     };
-    assert_eq!(rt; found(&mut deck).ok(), Some(run));
+    assert!(rt; found(&mut deck).ok() == Some(run));
     let mut old = broken_ring(alloc)?;
     *old.get_mut(1).ok_or("a version")? = 0;
     let run = Found { session: 0, ..run };
-    assert_eq!(rt; found(&mut deck_of(alloc, &old, &[], &[])?).ok(), Some(run));
+    assert!(rt; found(&mut deck_of(alloc, &old, &[], &[])?).ok() == Some(run));
     let recovered = recover(alloc, &mut deck)?;
-    assert_eq!(rt; recovered.outcome, Outcome::Done);
+    assert!(rt; recovered.outcome == Outcome::Done);
     let mut blocks = vec![in alloc; 7; 64]?;
     blocks.extend_from_slice(&[8; 64])?;
-    assert_eq!(rt; recovered.written, blocks);
+    assert!(rt; recovered.written == blocks);
     Ok(())
 }

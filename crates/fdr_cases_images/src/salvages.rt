@@ -102,7 +102,7 @@ fn lists_each_run(rt: HostRuntime) -> Result<(), Fail> {
         let image = image_of(alloc, blocks)?;
         for words in [SALVAGE, BY_EIGHT] {
             let written = salvaged(alloc, words, &image)?;
-            assert_eq!(rt; written.as_slice(), lines.as_bytes(), "{blocks:?}");
+            assert!(rt; written.as_slice() == lines.as_bytes(), "{blocks:?}");
         }
     }
     Ok(())
@@ -115,7 +115,7 @@ fn lists_rows_that_the_last_run_has_not(rt: HostRuntime) -> Result<(), Fail> {
     let ring = ring_with(alloc, 0xa5, &[1; 6], &frame)?;
     let row = "run,0,6\nsession,1,0\nrow,0,1,10,ALT,5\n";
     let written = salvaged(alloc, SALVAGE, &ring)?;
-    assert_eq!(rt; written.as_slice(), row.as_bytes());
+    assert!(rt; written.as_slice() == row.as_bytes());
     // Block 9 is one more: the last run is block 9 alone.
     let mut later = ring.to_vec(alloc)?;
     let head = [0x5a, 0, 0, 64, 0, 0, 0, 2, 0, 0, 0, 0, 0, 0, 0, 9];
@@ -125,12 +125,12 @@ fn lists_rows_that_the_last_run_has_not(rt: HostRuntime) -> Result<(), Fail> {
     }
     let lines = "run,0,6\nsession,1,0\nrow,0,1,10,ALT,5\nrun,9,1\nsession,2,9\ngap,0,512\n";
     let written = salvaged(alloc, SALVAGE, &later)?;
-    assert_eq!(rt; written.as_slice(), lines.as_bytes());
+    assert!(rt; written.as_slice() == lines.as_bytes());
     // Without block 2 no frame is whole, and no row joins the two runs.
     let holed = with_byte(alloc, &ring, 64 + 2 * 80, 0)?;
     let lines = "run,0,2\nsession,1,0\ngap,0,1024\nrun,3,3\nsession,1,3\ngap,0,1536\n";
     let written = salvaged(alloc, SALVAGE, &holed)?;
-    assert_eq!(rt; written.as_slice(), lines.as_bytes());
+    assert!(rt; written.as_slice() == lines.as_bytes());
     Ok(())
 }
 
@@ -140,9 +140,9 @@ fn reads_slots_and_payload_from_the_words(rt: HostRuntime) -> Result<(), Fail> {
     let image = image_of(alloc, &[(5, 1), (8, 1), (9, 1)])?;
     let closed = with_byte(alloc, &image, 0, 0)?;
     let fault = Outcome::ImageRefused(ImageFault::Closed);
-    assert_eq!(rt; refused(alloc, SALVAGE, &closed)?, fault);
+    assert!(rt; refused(alloc, SALVAGE, &closed)? == fault);
     let written = salvaged(alloc, BY_EIGHT, &closed)?;
-    assert_eq!(rt; written.as_slice(), TWO_RUNS.as_bytes());
+    assert!(rt; written.as_slice() == TWO_RUNS.as_bytes());
 
     // Of a header that is gone the words have all but the version.
     let mut gone = image.to_vec(alloc)?;
@@ -151,10 +151,10 @@ fn reads_slots_and_payload_from_the_words(rt: HostRuntime) -> Result<(), Fail> {
     }
     let lines = "run,5,1\ngap,0,512\nrun,8,2\ngap,0,1024\n";
     let written = salvaged(alloc, BY_EIGHT, &gone)?;
-    assert_eq!(rt; written.as_slice(), lines.as_bytes());
+    assert!(rt; written.as_slice() == lines.as_bytes());
     let second = with_byte(alloc, &gone, 1, 0xa5)?;
     let written = salvaged(alloc, BY_EIGHT, &second)?;
-    assert_eq!(rt; written.as_slice(), TWO_RUNS.as_bytes());
+    assert!(rt; written.as_slice() == TWO_RUNS.as_bytes());
 
     // Slots that the words don't name aren't looked at.
     let words = [
@@ -166,7 +166,7 @@ fn reads_slots_and_payload_from_the_words(rt: HostRuntime) -> Result<(), Fail> {
     ];
     let written = salvaged(alloc, &words, &image)?;
     let lines = "run,8,2\nsession,1,8\ngap,0,1024\n";
-    assert_eq!(rt; written.as_slice(), lines.as_bytes());
+    assert!(rt; written.as_slice() == lines.as_bytes());
     Ok(())
 }
 
@@ -183,18 +183,18 @@ fn refuses_by_the_header_or_by_the_length(rt: HostRuntime) -> Result<(), Fail> {
     ];
     let short = Outcome::ImageRefused(ImageFault::Short);
     let small = Outcome::ImageRefused(ImageFault::Small);
-    assert_eq!(rt; refused(alloc, &nine, &image)?, short);
+    assert!(rt; refused(alloc, &nine, &image)? == short);
     let mut longer = image.to_vec(alloc)?;
     longer.resize(783, 0)?;
-    assert_eq!(rt; refused(alloc, &nine, &longer)?, short);
+    assert!(rt; refused(alloc, &nine, &longer)? == short);
     longer.resize(784, 0)?;
     let written = salvaged(alloc, SALVAGE, &longer)?;
-    assert_eq!(rt; written.as_slice(), TWO_RUNS.as_bytes());
+    assert!(rt; written.as_slice() == TWO_RUNS.as_bytes());
     for words in [SALVAGE, BY_EIGHT] {
         for (length, answer) in [(703, short), (64, short), (63, small), (0, small)] {
             let mut cut = image.to_vec(alloc)?;
             cut.truncate(length);
-            assert_eq!(rt; refused(alloc, words, &cut)?, answer, "{length} bytes");
+            assert!(rt; refused(alloc, words, &cut)? == answer, "{length} bytes");
         }
     }
 
@@ -204,9 +204,9 @@ fn refuses_by_the_header_or_by_the_length(rt: HostRuntime) -> Result<(), Fail> {
         image: 256,
         table: 64,
     };
-    assert_eq!(rt; refused(alloc, SALVAGE, &other)?, differ);
+    assert!(rt; refused(alloc, SALVAGE, &other)? == differ);
     let written = salvaged(alloc, BY_EIGHT, &other)?;
-    assert_eq!(rt; written.as_slice(), TWO_RUNS.as_bytes());
+    assert!(rt; written.as_slice() == TWO_RUNS.as_bytes());
     Ok(())
 }
 
@@ -220,18 +220,18 @@ fn says_what_of_a_salvage_failed(rt: HostRuntime) -> Result<(), Fail> {
             let mut deck = deck_of(alloc, &image, &[], &[call])?;
             let ran = salvage(alloc, words, &mut deck)?;
             let written = ran.written;
-            assert_eq!(rt; ran.outcome, Outcome::DiskFault, "call {call}");
+            assert!(rt; ran.outcome == Outcome::DiskFault, "call {call}");
             assert!(rt; TWO_RUNS.as_bytes().starts_with(&written), "call {call}");
             assert!(rt; written.len() < TWO_RUNS.len(), "call {call}");
-            assert_eq!(rt; deck.image(), image.as_slice(), "call {call}");
+            assert!(rt; deck.image() == image.as_slice(), "call {call}");
         }
         let mut deck = deck_of(alloc, &image, &[], &[16])?;
         let ran = salvage(alloc, words, &mut deck)?;
-        assert_eq!(rt; ran.outcome, Outcome::Done);
+        assert!(rt; ran.outcome == Outcome::Done);
         let mut deck = deck_of(alloc, &image, &[], &[])?;
         let unwritten = run_words(alloc, words, ALTITUDE, &mut deck, &[0])?;
-        assert_eq!(rt; unwritten.outcome, Outcome::WriteFault);
-        assert_eq!(rt; unwritten.written.len(), 0);
+        assert!(rt; unwritten.outcome == Outcome::WriteFault);
+        assert!(rt; unwritten.written.is_empty());
     }
     Ok(())
 }

@@ -51,10 +51,13 @@ fn lists_each_session_by_itself(rt: HostRuntime) -> Result<(), Fail> {
     ];
     for (shows, sessions, listing) in cases {
         let lines = listed(rt.alloc(), ALTITUDE, 0xa5, &sessions)?;
-        assert_eq!(rt; lines.as_slice(), listing.as_bytes(), "{shows}");
+        assert!(rt; lines.as_slice() == listing.as_bytes(), "{shows}");
         let lines = listed(rt.alloc(), ALTITUDE, 0x00, &sessions)?;
         let rows = b"row,0,1,10,ALT,5\nrow,1,1,10,ALT,5\n";
-        assert_eq!(rt; lines.as_slice(), rows.as_slice(), "{shows}, in version 1");
+        assert!(rt;
+            lines.as_slice() == rows.as_slice(),
+            "{shows}, in version 1"
+        );
     }
     Ok(())
 }
@@ -65,9 +68,9 @@ fn joins_no_parts_over_two_sessions(rt: HostRuntime) -> Result<(), Fail> {
     let sessions = [1, 1, 1, 1, 1, 1, 2, 2, 2, 2, 2, 2];
     let lines = listed(rt.alloc(), TWO_PARTS, 0xa5, &sessions)?;
     let apart = b"session,1,0\nrow,0,1,10,ALT,5\nsession,2,6\nrow,1,1,10,ALT,5\n";
-    assert_eq!(rt; lines.as_slice(), apart.as_slice());
+    assert!(rt; lines.as_slice() == apart.as_slice());
     let lines = listed(rt.alloc(), TWO_PARTS, 0x00, &sessions)?;
     let joined = b"row,0,1,10,ALT,5\nrow,1,1,10,ALT,5\nrow,0,1,20,POS,703710\n";
-    assert_eq!(rt; lines.as_slice(), joined.as_slice());
+    assert!(rt; lines.as_slice() == joined.as_slice());
     Ok(())
 }

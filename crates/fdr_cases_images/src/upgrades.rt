@@ -64,27 +64,27 @@ fn records_in_an_old_image_once_it_is_upgraded(rt: HostRuntime) -> Result<(), Fa
     let old = old_ring(alloc)?;
     for words in [RECORD, DRILL] {
         let (answer, left) = recorded(alloc, words, &old)?;
-        assert_eq!(rt; answer, Outcome::OldVersion, "{words:?}");
-        assert_eq!(rt; left, old, "{words:?}");
+        assert!(rt; answer == Outcome::OldVersion, "{words:?}");
+        assert!(rt; left == old, "{words:?}");
     }
     let row = b"row,0,1,10,ALT,5\n";
-    assert_eq!(rt; listed(alloc, &old)?.as_slice(), row.as_slice());
+    assert!(rt; listed(alloc, &old)?.as_slice() == row.as_slice());
 
     let new = with_version(alloc, &old, 0xa5)?;
     let mut deck = deck_of(alloc, &old, &[], &[])?;
     for _ in 0..2 {
         let ran = upgrade(alloc, &mut deck)?;
-        assert_eq!(rt; ran.outcome, Outcome::Done);
-        assert_eq!(rt; ran.written.len(), 0);
-        assert_eq!(rt; deck.image(), new.as_slice());
+        assert!(rt; ran.outcome == Outcome::Done);
+        assert!(rt; ran.written.is_empty());
+        assert!(rt; deck.image() == new.as_slice());
     }
     let lines = b"session,0,0\nrow,0,1,10,ALT,5\n";
-    assert_eq!(rt; listed(alloc, &new)?.as_slice(), lines.as_slice());
+    assert!(rt; listed(alloc, &new)?.as_slice() == lines.as_slice());
 
     let (answer, longer) = recorded(alloc, RECORD, &new)?;
-    assert_eq!(rt; answer, Outcome::Done);
+    assert!(rt; answer == Outcome::Done);
     let lines = b"session,0,0\nrow,0,1,10,ALT,5\nsession,1,6\nrow,0,1,10,ALT,5\n";
-    assert_eq!(rt; listed(alloc, &longer)?.as_slice(), lines.as_slice());
+    assert!(rt; listed(alloc, &longer)?.as_slice() == lines.as_slice());
     Ok(())
 }
 
@@ -96,12 +96,12 @@ fn an_upgrade_keeps_numbers_and_bytes(rt: HostRuntime) -> Result<(), Fail> {
     let old = ring_with(alloc, 0x17, &[3, 3, 3, 3, 3, 4], &frame)?;
     let mut deck = deck_of(alloc, &old, &[], &[])?;
     let before = recover(alloc, &mut deck)?;
-    assert_eq!(rt; before.written, frame);
-    assert_eq!(rt; upgrade(alloc, &mut deck)?.outcome, Outcome::Done);
+    assert!(rt; before.written == frame);
+    assert!(rt; upgrade(alloc, &mut deck)?.outcome == Outcome::Done);
     let after = recover(alloc, &mut deck)?;
-    assert_eq!(rt; after.written, frame);
+    assert!(rt; after.written == frame);
     let lines = b"session,3,0\ngap,0,2560\nsession,4,5\ngap,0,512\n";
-    assert_eq!(rt; listed(alloc, deck.image())?.as_slice(), lines.as_slice());
+    assert!(rt; listed(alloc, deck.image())?.as_slice() == lines.as_slice());
     Ok(())
 }
 
@@ -111,7 +111,7 @@ fn a_stop_leaves_one_version_or_the_other(rt: HostRuntime) -> Result<(), Fail> {
     let old = old_ring(alloc)?;
     let mut whole = deck_of(alloc, &old, &[], &[])?;
     upgrade(alloc, &mut whole)?;
-    assert_eq!(rt; whole.calls(), WRITE + 2);
+    assert!(rt; whole.calls() == WRITE + 2);
     let tears = [
         (Tear::Old, 0x00, "row,0,1,10,ALT,5\n"),
         (Tear::New, 0xa5, "session,0,0\nrow,0,1,10,ALT,5\n"),
@@ -122,21 +122,21 @@ fn a_stop_leaves_one_version_or_the_other(rt: HostRuntime) -> Result<(), Fail> {
         // Nothing is pending before the write.
         let mut failing = deck_of(alloc, &old, &[], &[call])?;
         let failed = upgrade(alloc, &mut failing)?;
-        assert_eq!(rt; failed.outcome, Outcome::DiskFault, "call {call}");
-        assert_eq!(rt; failing.calls(), call + 1, "call {call}");
+        assert!(rt; failed.outcome == Outcome::DiskFault, "call {call}");
+        assert!(rt; failing.calls() == call + 1, "call {call}");
         for (tear, version, lines) in tears {
             let version = if call < WRITE { 0x00 } else { version };
             for deck in [&whole, &failing] {
                 if call < deck.calls() {
                     let left = deck.stop(alloc, call, tear)?;
                     let expected = with_version(alloc, &old, version)?;
-                    assert_eq!(rt; left, expected, "call {call}, {tear:?}");
+                    assert!(rt; left == expected, "call {call}, {tear:?}");
                 }
             }
             if call >= WRITE {
                 let left = with_version(alloc, &old, version)?;
                 let written = listed(alloc, &left)?;
-                assert_eq!(rt; written.as_slice(), lines.as_bytes(), "{tear:?}");
+                assert!(rt; written.as_slice() == lines.as_bytes(), "{tear:?}");
             }
         }
     }
@@ -168,7 +168,7 @@ fn upgrades_no_other_file(rt: HostRuntime) -> Result<(), Fail> {
     ];
     for (at, byte, length, outcome) in cases {
         let answer = upgraded(rt.alloc(), at, byte, length)?;
-        assert_eq!(rt; answer, outcome, "byte {at}, {length} bytes");
+        assert!(rt; answer == outcome, "byte {at}, {length} bytes");
     }
     Ok(())
 }

@@ -11,14 +11,14 @@ fn reads_fields_of_words(rt: HostRuntime) {
         (0x8000_0113, 0o310, 1, true),
         (0x8000_0213, 0o310, 2, true),
     ] {
-        assert_eq!(rt; label(word), octal, "label of {word}");
-        assert_eq!(rt; sdi(word), source, "SDI of {word}");
-        assert_eq!(rt; is_odd(word), is_sound, "parity of {word}");
+        assert!(rt; label(word) == octal, "label of {word}");
+        assert!(rt; sdi(word) == source, "SDI of {word}");
+        assert!(rt; is_odd(word) == is_sound, "parity of {word}");
     }
-    assert_eq!(rt; field(0x0000_14c1, 11, 12), 5);
-    assert_eq!(rt; field(0x8abc_de13, 9, 20), 0xabcde);
-    assert_eq!(rt; field(0x8abc_de13, 32, 1), 1);
-    assert_eq!(rt; field(0x8abc_de13, 1, 32), 0x8abc_de13);
+    assert!(rt; field(0x0000_14c1, 11, 12) == 5);
+    assert!(rt; field(0x8abc_de13, 9, 20) == 0xabcde);
+    assert!(rt; field(0x8abc_de13, 32, 1) == 1);
+    assert!(rt; field(0x8abc_de13, 1, 32) == 0x8abc_de13);
 }
 
 #[test]
@@ -30,9 +30,9 @@ fn reads_records(rt: HostRuntime) {
         word: 0x14c1,
         time: 15_625,
     };
-    assert_eq!(rt; parse(&word, 0), Ok(read));
-    assert_eq!(rt; parse(&word, 15_625), Ok(read));
-    assert_eq!(rt; parse(&word, 15_626), Err(TraceFault::Back));
+    assert!(rt; parse(&word, 0) == Ok(read));
+    assert!(rt; parse(&word, 15_625) == Ok(read));
+    assert!(rt; parse(&word, 15_626) == Err(TraceFault::Back));
 
     let end = [2, 0, 0, 0, 0, 0, 0, 0, 0, 0, 0, 0, 0, 0x3d, 0x09, 0];
     let last = BusRecord {
@@ -41,5 +41,5 @@ fn reads_records(rt: HostRuntime) {
         word: 0,
         time: 4_000_000,
     };
-    assert_eq!(rt; parse(&end, 15_625), Ok(last));
+    assert!(rt; parse(&end, 15_625) == Ok(last));
 }

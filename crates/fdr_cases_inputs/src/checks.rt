@@ -44,9 +44,6 @@ fn refuses_the_first_fault(rt: HostRuntime) {
 #[test]
 fn reports_on_a_sound_table(rt: HostRuntime) -> Result<(), Fail> {
     let report = report_of(rt.alloc(), TWO_PLACES)?;
-    assert_eq!(rt;
-        report.as_slice(),
-        b"frame,64,1,32\nparam,A,32,even\n".as_slice()
-    );
+    assert!(rt; report.as_slice() == b"frame,64,1,32\nparam,A,32,even\n".as_slice());
     Ok(())
 }

@@ -62,14 +62,13 @@ fn reads_each_command(rt: HostRuntime) -> Result<(), Fail> {
     for (line, table, image, writes) in cases {
         let request = read(rt.alloc(), line)?.ok().ok_or(line)?;
         let (command, _) = line.split_once(' ').unwrap_or((line, ""));
-        assert_eq!(rt; command_of(&request), command, "{line}");
-        assert_eq!(rt; numbers_of(&request), (0, 0), "{line}");
-        assert_eq!(rt;
-            (request.table(), request.image()),
-            (table, image),
+        assert!(rt; command_of(&request) == command, "{line}");
+        assert!(rt; numbers_of(&request) == (0, 0), "{line}");
+        assert!(rt;
+            (request.table(), request.image()) == (table, image),
             "{line}"
         );
-        assert_eq!(rt; request.writes(), writes, "{line}");
+        assert!(rt; request.writes() == writes, "{line}");
     }
     Ok(())
 }
@@ -107,14 +106,13 @@ fn reads_options_anywhere(rt: HostRuntime) -> Result<(), Fail> {
     ];
     for (line, command, numbers) in cases {
         let request = read(rt.alloc(), line)?.ok().ok_or(line)?;
-        assert_eq!(rt; command_of(&request), command, "{line}");
-        assert_eq!(rt;
-            (request.table(), request.image()),
-            (Some("t"), Some("i")),
+        assert!(rt; command_of(&request) == command, "{line}");
+        assert!(rt;
+            (request.table(), request.image()) == (Some("t"), Some("i")),
             "{line}"
         );
-        assert_eq!(rt; numbers_of(&request), numbers, "{line}");
-        assert_eq!(rt; request.writes(), command != "salvage", "{line}");
+        assert!(rt; numbers_of(&request) == numbers, "{line}");
+        assert!(rt; request.writes() == (command != "salvage"), "{line}");
     }
     Ok(())
 }
@@ -183,10 +181,10 @@ fn refuses_other_words(rt: HostRuntime) -> Result<(), Fail> {
     ];
     for line in lines {
         let answer = read(rt.alloc(), line)?;
-        assert_eq!(rt; answer.err(), Some(WordsFault::Usage), "{line}");
+        assert!(rt; answer.err() == Some(WordsFault::Usage), "{line}");
     }
     let none = read_words(rt.alloc(), &[]);
-    assert_eq!(rt; none.err(), Some(WordsFault::Usage));
+    assert!(rt; none.err() == Some(WordsFault::Usage));
     Ok(())
 }
 
@@ -197,6 +195,6 @@ fn refuses_any_number_of_words(rt: HostRuntime) -> Result<(), Fail> {
         args.push("check".to_string(rt.alloc())?)?;
     }
     let answer = read_words(rt.alloc(), args.as_slice());
-    assert_eq!(rt; answer.err(), Some(WordsFault::Usage));
+    assert!(rt; answer.err() == Some(WordsFault::Usage));
     Ok(())
 }

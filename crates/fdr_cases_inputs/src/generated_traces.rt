@@ -46,11 +46,11 @@ fn gives_the_trace_of_seed_1(rt: HostRuntime) -> Result<(), Fail> {
         (0x25fa_e0c1, 2),
         (0x6203_54c1, 3),
     ] {
-        assert_eq!(rt; generator.next(), word(0, bits, second));
+        assert!(rt; generator.next() == word(0, bits, second));
     }
-    assert_eq!(rt; generator.next(), END);
-    assert_eq!(rt; generator.next(), None);
-    assert_eq!(rt; generator.next(), None);
+    assert!(rt; generator.next() == END);
+    assert!(rt; generator.next() == None);
+    assert!(rt; generator.next() == None);
     Ok(())
 }
 
@@ -67,17 +67,17 @@ fn gives_each_parameter_a_word_in_turn(rt: HostRuntime) -> Result<(), Fail> {
         (0, 0x37a2_48c1, 3),
         (3, 0xa854_8213, 3),
     ] {
-        assert_eq!(rt; generator.next(), word(bus, bits, second));
+        assert!(rt; generator.next() == word(bus, bits, second));
     }
-    assert_eq!(rt; generator.next(), END);
-    assert_eq!(rt; generator.next(), None);
+    assert!(rt; generator.next() == END);
+    assert!(rt; generator.next() == None);
     Ok(())
 }
 
 #[test]
 fn gives_the_end_alone_without_parameters(rt: HostRuntime) -> Result<(), Fail> {
     let mut generator = generator_of(rt.alloc(), NONE, 1)?;
-    assert_eq!(rt; generator.next(), END);
-    assert_eq!(rt; generator.next(), None);
+    assert!(rt; generator.next() == END);
+    assert!(rt; generator.next() == None);
     Ok(())
 }

@@ -12,7 +12,7 @@ fn loads_a_table(rt: HostRuntime) -> Result<(), Fail> {
     let alloc = rt.alloc();
     let mut source = MemSource::new(Vec::from_slice(alloc, TABLE)?, Vec::new(alloc));
     let sound = load_table(alloc, &mut source)?;
-    assert_eq!(rt; sound.table().frame().words, 64);
+    assert!(rt; sound.table().frame().words == 64);
     Ok(())
 }
 

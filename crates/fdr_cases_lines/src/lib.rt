@@ -1,10 +1,18 @@
-//! Worked cases of `listbits`, `encode` and `decode`: lines of bits and of levels made by hand, with the answer and the text
-//! that each gives.
+//! Worked cases of what comes on the input: lines of bits and of levels by `listbits`, `encode` and `decode`, and traces by
+//! `stream`, made by hand and altered.
 #![tactic(auto)]
 
 #[cfg(test)]
 mod coding;
 #[cfg(test)]
+mod cuts;
+#[cfg(test)]
+mod freshness;
+#[cfg(test)]
 mod lines;
 #[cfg(test)]
-mod tests;
+mod listbits;
+#[cfg(test)]
+mod readouts;
+#[cfg(test)]
+mod traces;

@@ -94,8 +94,8 @@ fn says_each_answer(rt: HostRuntime) {
         ),
     ];
     for (answer, status, text) in answers {
-        assert_eq!(rt; answer.status(), status, "{answer:?}");
-        assert_eq!(rt; answer.text().bytes(), text, "{answer:?}");
+        assert!(rt; answer.status() == status, "{answer:?}");
+        assert!(rt; answer.text().bytes() == text, "{answer:?}");
     }
 }
 
@@ -131,8 +131,8 @@ fn says_which_image_is_refused(rt: HostRuntime) {
     for (fault, first, second) in faults {
         for (side, text) in [(Side::First, first), (Side::Second, second)] {
             let answer = PairOutcome::ImageRefused { side, fault };
-            assert_eq!(rt; answer.status(), 4, "{answer:?}");
-            assert_eq!(rt; answer.text().bytes(), text, "{answer:?}");
+            assert!(rt; answer.status() == 4, "{answer:?}");
+            assert!(rt; answer.text().bytes() == text, "{answer:?}");
         }
     }
 }

@@ -91,11 +91,11 @@ fn refused(side: Side, fault: ImageFault) -> Result<Opened, PairOutcome> {
 fn opens_two_good_sides(rt: HostRuntime) -> Result<(), Fail> {
     let alloc = rt.alloc();
     let ring = empty_ring(alloc, &SMALL)?;
-    assert_eq!(rt; opened(alloc, &ring, &ring, SURE, 64)?, (both(SMALL), 4));
+    assert!(rt; opened(alloc, &ring, &ring, SURE, 64)? == (both(SMALL), 4));
     let exact = image(alloc, &SMALL, 384, None)?;
-    assert_eq!(rt; opened(alloc, &ring, &exact, SURE, 64)?.0, both(SMALL));
+    assert!(rt; opened(alloc, &ring, &exact, SURE, 64)?.0 == both(SMALL));
     let other = image(alloc, &SMALL, 384, Some((63, 1)))?;
-    assert_eq!(rt; opened(alloc, &other, &exact, SURE, 64)?.0, both(SMALL));
+    assert!(rt; opened(alloc, &other, &exact, SURE, 64)?.0 == both(SMALL));
     Ok(())
 }
 
@@ -118,22 +118,21 @@ fn names_the_first_image_that_is_refused(rt: HostRuntime) -> Result<(), Fail> {
     for (len, change, fault) in cases {
         let bad = image(alloc, &SMALL, len, change)?;
         let answer = opened(alloc, &bad, &ring, SURE, 64)?.0;
-        assert_eq!(rt; answer, refused(Side::First, fault), "{len} {change:?}");
+        assert!(rt; answer == refused(Side::First, fault), "{len} {change:?}");
         let answer = opened(alloc, &ring, &bad, SURE, 128)?.0;
-        assert_eq!(rt; answer, refused(Side::Second, fault), "{len} {change:?}");
+        assert!(rt; answer == refused(Side::Second, fault), "{len} {change:?}");
         let answer = opened(alloc, &bad, &open, SURE, 64)?.0;
-        assert_eq!(rt; answer, refused(Side::First, fault), "{len} {change:?}");
+        assert!(rt; answer == refused(Side::First, fault), "{len} {change:?}");
         let answer = opened(alloc, &open, &bad, SURE, 64)?.0;
-        assert_eq!(rt;
-            answer,
-            refused(Side::First, ImageFault::Closed),
+        assert!(rt;
+            answer == refused(Side::First, ImageFault::Closed),
             "{len} {change:?}"
         );
         // the other side has failed
         let answer = opened(alloc, &ring, &bad, [Some(0), None], 64)?.0;
-        assert_eq!(rt; answer, refused(Side::Second, fault), "{len} {change:?}");
+        assert!(rt; answer == refused(Side::Second, fault), "{len} {change:?}");
         let answer = opened(alloc, &bad, &open, [None, Some(0)], 64)?.0;
-        assert_eq!(rt; answer, refused(Side::First, fault), "{len} {change:?}");
+        assert!(rt; answer == refused(Side::First, fault), "{len} {change:?}");
     }
     Ok(())
 }
@@ -162,9 +161,9 @@ fn refuses_headers_that_differ(rt: HostRuntime) -> Result<(), Fail> {
         for words in [64, 128, 256] {
             let differ = Err(PairOutcome::HeadersDiffer);
             let answer = opened(alloc, &ring, &other, SURE, words)?.0;
-            assert_eq!(rt; answer, differ, "{header:?}");
+            assert!(rt; answer == differ, "{header:?}");
             let answer = opened(alloc, &other, &ring, SURE, words)?.0;
-            assert_eq!(rt; answer, differ, "{header:?}");
+            assert!(rt; answer == differ, "{header:?}");
         }
     }
     Ok(())
@@ -186,20 +185,22 @@ fn refuses_other_words_before_an_old_version(rt: HostRuntime) -> Result<(), Fail
         table: 128,
     });
     for dead in [SURE, [Some(0), None], [None, Some(0)]] {
-        assert_eq!(rt;
-            opened(alloc, &ring, &ring, dead, 128)?.0,
-            differ,
+        assert!(rt;
+            opened(alloc, &ring, &ring, dead, 128)?.0 == differ,
             "{dead:?}"
         );
-        assert_eq!(rt; opened(alloc, &old, &old, dead, 128)?.0, differ, "{dead:?}");
+        assert!(rt;
+            opened(alloc, &old, &old, dead, 128)?.0 == differ,
+            "{dead:?}"
+        );
         let answer = opened(alloc, &old, &old, dead, 64)?.0;
-        assert_eq!(rt; answer, Err(PairOutcome::OldVersion), "{dead:?}");
+        assert!(rt; answer == Err(PairOutcome::OldVersion), "{dead:?}");
     }
     // the version of a side that has failed doesn't count
     let answer = opened(alloc, &old, &ring, [None, Some(0)], 64)?.0;
-    assert_eq!(rt; answer, Err(PairOutcome::OldVersion));
+    assert!(rt; answer == Err(PairOutcome::OldVersion));
     let answer = opened(alloc, &ring, &old, [Some(0), None], 64)?.0;
-    assert_eq!(rt; answer, Err(PairOutcome::OldVersion));
+    assert!(rt; answer == Err(PairOutcome::OldVersion));
     Ok(())
 }
 
@@ -227,16 +228,16 @@ fn leaves_a_side_aside_that_fails(rt: HostRuntime) -> Result<(), Fail> {
     for aside in [&ring, &longer, &bad] {
         for call in 0..2 {
             let answer = opened(alloc, aside, &ring, [Some(call), None], 64)?;
-            assert_eq!(rt; answer, (second, call + 3), "{call}");
+            assert!(rt; answer == (second, call + 3), "{call}");
         }
         for call in 0..4 {
             let answer = opened(alloc, &ring, aside, [None, Some(call)], 64)?;
-            assert_eq!(rt; answer, (first, if call < 3 { 3 } else { 4 }), "{call}");
+            assert!(rt; answer == (first, if call < 3 { 3 } else { 4 }), "{call}");
         }
     }
     // A side that dies after its header is read isn't noticed yet.
     let answer = opened(alloc, &ring, &ring, [Some(2), Some(4)], 64)?.0;
-    assert_eq!(rt; answer, both(SMALL));
+    assert!(rt; answer == both(SMALL));
     Ok(())
 }
 
@@ -248,20 +249,15 @@ fn refuses_two_failed_sides(rt: HostRuntime) -> Result<(), Fail> {
     for dead in [[0, 0], [1, 0], [1, 2], [1, 3], [0, 2]] {
         let [first, second] = dead;
         let dead = [Some(first), Some(second)];
-        assert_eq!(rt;
-            opened(alloc, &ring, &ring, dead, 64)?.0,
-            DISK_FAULT,
+        assert!(rt;
+            opened(alloc, &ring, &ring, dead, 64)?.0 == DISK_FAULT,
             "{dead:?}"
         );
-        assert_eq!(rt;
-            opened(alloc, &ring, &ring, dead, 128)?.0,
-            DISK_FAULT,
+        assert!(rt;
+            opened(alloc, &ring, &ring, dead, 128)?.0 == DISK_FAULT,
             "{dead:?}"
         );
     }
-    assert_eq!(rt;
-        opened(alloc, &none, &none, [Some(0), Some(0)], 64)?.0,
-        DISK_FAULT
-    );
+    assert!(rt; opened(alloc, &none, &none, [Some(0), Some(0)], 64)?.0 == DISK_FAULT);
     Ok(())
 }

@@ -1,6 +1,6 @@
 //! Pairs of images, and recordings in them.
 
-use fdr_deck::MemDeck;
+use fdr_deck::{MemDeck, Tear};
 use fdr_io::MemSource;
 use fdr_pair::{PairOutcome, run_pair};
 use fdr_recover::{block, read_image_header, scan};
@@ -162,4 +162,17 @@ pub fn recovered(alloc: Global, image: &[u8]) -> Result<Vec<u8>, Fail> {
         payloads.extend_from_slice(&payload_of(alloc, image, seq)?)?;
     }
     Ok(payloads)
+}
+
+/// The images that a stop within a call leaves.
+pub fn stopped(
+    alloc: Global,
+    twin: &MemTwin,
+    call: u64,
+    tear: Tear,
+) -> Result<(Vec<u8>, Vec<u8>), Fail> {
+    if call >= twin.calls() {
+        return Err("no such call")?;
+    }
+    Ok(twin.stop(alloc, call, tear)?)
 }

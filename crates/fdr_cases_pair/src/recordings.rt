@@ -2,7 +2,7 @@
 
 use crate::pairs::{
     ALIVE, Dead, GATE_OF_SLOT_5, empty_image, no_words, one_behind, one_frame, record,
-    recorded_image, recovered, run_of, twin_of, with_byte,
+    recorded_image, recovered, run_of, stopped, twin_of, with_byte,
 };
 use fdr_deck::Tear;
 use fdr_pair::PairOutcome;
@@ -19,13 +19,13 @@ fn records_on_both(rt: HostRuntime) -> Result<(), Fail> {
     let alloc = rt.alloc();
     let empty = empty_image(alloc)?;
     let mut twin = twin_of(alloc, &empty, &empty, one_frame(alloc)?, ALIVE)?;
-    assert_eq!(rt; record(alloc, &mut twin)?, PairOutcome::Done);
-    assert_eq!(rt; twin.told(), 6);
+    assert!(rt; record(alloc, &mut twin)? == PairOutcome::Done);
+    assert!(rt; twin.told() == 6);
     let first = recovered(alloc, twin.image(Side::First))?;
     let second = recovered(alloc, twin.image(Side::Second))?;
-    assert_eq!(rt; first.len(), 384);
-    assert_eq!(rt; first, second);
-    assert_eq!(rt; run_of(alloc, twin.image(Side::First))?, (0, 6, 1));
+    assert!(rt; first.len() == 384);
+    assert!(rt; first == second);
+    assert!(rt; run_of(alloc, twin.image(Side::First))? == (0, 6, 1));
     Ok(())
 }
 
@@ -34,7 +34,7 @@ fn first_write_on_second(alloc: Global, empty: &[u8]) -> Result<u64, Fail> {
     let mut whole = twin_of(alloc, empty, empty, one_frame(alloc)?, ALIVE)?;
     record(alloc, &mut whole)?;
     for call in 0..whole.calls() {
-        let (_, second) = whole.stop(alloc, call, Tear::Fill(0xee))?;
+        let (_, second) = stopped(alloc, &whole, call, Tear::Fill(0xee))?;
         if second.as_slice() != empty {
             return Ok(call);
         }
@@ -51,9 +51,9 @@ fn goes_on_where_the_second_dies(rt: HostRuntime) -> Result<(), Fail> {
         second: Some(first_write_on_second(alloc, &empty)?),
     };
     let mut twin = twin_of(alloc, &empty, &empty, one_frame(alloc)?, dead)?;
-    assert_eq!(rt; record(alloc, &mut twin)?, PairOutcome::Done);
-    assert_eq!(rt; twin.told(), 6);
-    assert_eq!(rt; run_of(alloc, twin.image(Side::First))?, (0, 6, 1));
+    assert!(rt; record(alloc, &mut twin)? == PairOutcome::Done);
+    assert!(rt; twin.told() == 6);
+    assert!(rt; run_of(alloc, twin.image(Side::First))? == (0, 6, 1));
     Ok(())
 }
 
@@ -66,8 +66,8 @@ fn fails_where_both_are_dead(rt: HostRuntime) -> Result<(), Fail> {
         second: Some(0),
     };
     let mut twin = twin_of(alloc, &empty, &empty, one_frame(alloc)?, dead)?;
-    assert_eq!(rt; record(alloc, &mut twin)?, PairOutcome::DiskFault);
-    assert_eq!(rt; twin.told(), 0);
+    assert!(rt; record(alloc, &mut twin)? == PairOutcome::DiskFault);
+    assert!(rt; twin.told() == 0);
     Ok(())
 }
 
@@ -75,13 +75,13 @@ fn fails_where_both_are_dead(rt: HostRuntime) -> Result<(), Fail> {
 fn the_one_behind_is_brought_up(rt: HostRuntime) -> Result<(), Fail> {
     let alloc = rt.alloc();
     let mut twin = one_behind(alloc, ALIVE)?;
-    assert_eq!(rt; run_of(alloc, twin.image(Side::Second))?, (0, 5, 1));
-    assert_eq!(rt; record(alloc, &mut twin)?, PairOutcome::Done);
-    assert_eq!(rt; twin.told(), 6);
-    assert_eq!(rt; run_of(alloc, twin.image(Side::First))?, (0, 6, 1));
-    assert_eq!(rt; run_of(alloc, twin.image(Side::Second))?, (0, 6, 1));
+    assert!(rt; run_of(alloc, twin.image(Side::Second))? == (0, 5, 1));
+    assert!(rt; record(alloc, &mut twin)? == PairOutcome::Done);
+    assert!(rt; twin.told() == 6);
+    assert!(rt; run_of(alloc, twin.image(Side::First))? == (0, 6, 1));
+    assert!(rt; run_of(alloc, twin.image(Side::Second))? == (0, 6, 1));
     let first = recovered(alloc, twin.image(Side::First))?;
-    assert_eq!(rt; first, recovered(alloc, twin.image(Side::Second))?);
+    assert!(rt; first == recovered(alloc, twin.image(Side::Second))?);
     Ok(())
 }
 
@@ -102,30 +102,31 @@ fn refuses_images_that_cannot_be_brought_together(rt: HostRuntime) -> Result<(),
     let mut third = recorded_image(alloc)?;
     for _ in 0..2 {
         let mut twin = twin_of(alloc, &third, &third, one_frame(alloc)?, ALIVE)?;
-        assert_eq!(rt; record(alloc, &mut twin)?, PairOutcome::Done);
+        assert!(rt; record(alloc, &mut twin)? == PairOutcome::Done);
         third = Vec::from_slice(alloc, twin.image(Side::First))?;
     }
-    assert_eq!(rt; run_of(alloc, &third)?, (3, 18, 3));
+    assert!(rt; run_of(alloc, &third)? == (3, 18, 3));
     let six = recorded_image(alloc)?;
     let other = with_byte(alloc, &six, PAYLOAD_OF_SLOT_5, 0xff)?;
     let small = PairOutcome::ImageRefused {
         side: Side::Second,
         fault: ImageFault::Small,
     };
-    assert_eq!(rt;
-        refusal_of(alloc, &third, &empty)?,
-        PairOutcome::FarBehind(Side::Second)
-    );
-    assert_eq!(rt;
-        refusal_of(alloc, &empty, &third)?,
-        PairOutcome::FarBehind(Side::First)
-    );
-    assert_eq!(rt; refusal_of(alloc, &six, &[])?, small);
-    assert_eq!(rt;
-        refusal_of(alloc, &six, &other)?,
-        PairOutcome::BlocksDiffer { seq: 5 }
-    );
+    assert!(rt; refusal_of(alloc, &third, &empty)? == PairOutcome::FarBehind(Side::Second));
+    assert!(rt; refusal_of(alloc, &empty, &third)? == PairOutcome::FarBehind(Side::First));
+    assert!(rt; refusal_of(alloc, &six, &[])? == small);
+    assert!(rt; refusal_of(alloc, &six, &other)? == PairOutcome::BlocksDiffer { seq: 5 });
     Ok(())
+}
+
+// The next number of an image whose run is a front part of these blocks.
+fn next_in(alloc: Global, image: &[u8], blocks: &[u8]) -> Result<u64, Fail> {
+    let (start, next, _) = run_of(alloc, image)?;
+    let payloads = recovered(alloc, image)?;
+    if start != 0 || payloads.len() as u64 / 64 != next || !blocks.starts_with(&payloads) {
+        return Err("no front part")?;
+    }
+    Ok(next)
 }
 
 #[test]
@@ -138,16 +139,11 @@ fn a_stop_leaves_the_announced_blocks_on_each(rt: HostRuntime) -> Result<(), Fai
     for tear in [Tear::Old, Tear::New, Tear::Half, Tear::Fill(0x5a)] {
         let mut before = (0, 0);
         for call in 0..twin.calls() {
-            let (first, second) = twin.stop(alloc, call, tear)?;
-            for image in [first, second] {
-                let (start, next, _) = run_of(alloc, &image)?;
-                assert_eq!(rt; start, 0);
-                let payloads = recovered(alloc, &image)?;
-                assert!(rt; whole.starts_with(&payloads));
-                assert_eq!(rt; payloads.len() as u64 / 64, next);
-            }
-            let (first, second) = twin.stop(alloc, call, tear)?;
-            let now = (run_of(alloc, &first)?.1, run_of(alloc, &second)?.1);
+            let (first, second) = stopped(alloc, &twin, call, tear)?;
+            let now = (
+                next_in(alloc, &first, &whole)?,
+                next_in(alloc, &second, &whole)?,
+            );
             assert!(rt; before.0 <= now.0 && before.1 <= now.1);
             assert!(rt; now.1 <= now.0 && now.0.saturating_sub(now.1) <= 1);
             before = now;
@@ -173,16 +169,16 @@ fn the_first_dies_at_each_call(rt: HostRuntime) -> Result<(), Fail> {
         let outcome = record(alloc, &mut twin)?;
         let next = run_of(alloc, twin.image(Side::Second))?.1;
         if outcome == PairOutcome::LeadFault(Side::First) {
-            assert_eq!(rt; twin.image(Side::First), first.as_slice());
-            assert_eq!(rt; (twin.told(), next), (0, 5));
+            assert!(rt; twin.image(Side::First) == first.as_slice());
+            assert!(rt; (twin.told(), next) == (0, 5));
             lead = true;
         } else {
-            assert_eq!(rt; outcome, PairOutcome::Done);
-            assert_eq!(rt; twin.told(), next);
+            assert!(rt; outcome == PairOutcome::Done);
+            assert!(rt; twin.told() == next);
             if next == 5 {
                 alone = true;
             } else {
-                assert_eq!(rt; next, 6);
+                assert!(rt; next == 6);
                 both = true;
             }
         }

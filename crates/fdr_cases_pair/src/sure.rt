@@ -25,9 +25,9 @@ fn a_made_twin_has_its_images(rt: HostRuntime) -> Result<(), Fail> {
         None,
         Some(3),
     );
-    assert_eq!(rt; twin.image(Side::First), first.as_slice());
-    assert_eq!(rt; twin.image(Side::Second), second.as_slice());
-    assert_eq!(rt; (twin.told(), twin.calls()), (0, 0));
+    assert!(rt; twin.image(Side::First) == first.as_slice());
+    assert!(rt; twin.image(Side::Second) == second.as_slice());
+    assert!(rt; (twin.told(), twin.calls()) == (0, 0));
     Ok(())
 }
 
@@ -52,15 +52,15 @@ fn ran(alloc: Global, dead_second: Option<u64>) -> Result<PairRan, Fail> {
 fn a_recording_hands_out_its_twin(rt: HostRuntime) -> Result<(), Fail> {
     let alloc = rt.alloc();
     let whole = ran(alloc, None)?;
-    assert_eq!(rt; whole.answer, PairOutcome::Done);
-    assert_eq!(rt; whole.twin.told(), 6);
+    assert!(rt; whole.answer == PairOutcome::Done);
+    assert!(rt; whole.twin.told() == 6);
     let first = recovered(alloc, whole.twin.image(Side::First))?;
-    assert_eq!(rt; first.len(), 384);
-    assert_eq!(rt; first, recovered(alloc, whole.twin.image(Side::Second))?);
+    assert!(rt; first.len() == 384);
+    assert!(rt; first == recovered(alloc, whole.twin.image(Side::Second))?);
     let alone = ran(alloc, Some(0))?;
-    assert_eq!(rt; alone.answer, PairOutcome::Done);
-    assert_eq!(rt; run_of(alloc, alone.twin.image(Side::First))?, (0, 6, 1));
-    assert_eq!(rt; run_of(alloc, alone.twin.image(Side::Second))?, (0, 0, 0));
+    assert!(rt; alone.answer == PairOutcome::Done);
+    assert!(rt; run_of(alloc, alone.twin.image(Side::First))? == (0, 6, 1));
+    assert!(rt; run_of(alloc, alone.twin.image(Side::Second))? == (0, 0, 0));
     Ok(())
 }
 
@@ -82,12 +82,12 @@ fn a_recording_that_cannot_fail_is_done(rt: HostRuntime) -> Result<(), Fail> {
         let mut table = SureSource::new(altitude_bytes(alloc)?);
         let mut twin = sure_twin(alloc, line)?;
         let answer = sure_recording(alloc, &words, &mut table, &mut twin);
-        assert_eq!(rt; answer, PairOutcome::Done);
+        assert!(rt; answer == PairOutcome::Done);
     }
     let mut table = SureSource::new(Vec::new(alloc));
     let mut twin = sure_twin(alloc, Vec::new(alloc))?;
     let none: Vec<String> = Vec::new(alloc);
     let answer = sure_recording(alloc, &none, &mut table, &mut twin);
-    assert_eq!(rt; answer, PairOutcome::Usage);
+    assert!(rt; answer == PairOutcome::Usage);
     Ok(())
 }

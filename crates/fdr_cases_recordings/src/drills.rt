@@ -36,14 +36,14 @@ fn drill(
 fn drills_one_frame(rt: HostRuntime) -> Result<(), Fail> {
     let alloc = rt.alloc();
     let (ran, deck) = drill(alloc, &fresh(alloc, "16")?, "1", "1", &[], &[])?;
-    assert_eq!(rt; ran.outcome, Outcome::Done);
-    assert_eq!(rt; ran.written.as_slice(), b"drill,6,1,1,1499\n".as_slice());
-    assert_eq!(rt; deck.told(), 6);
+    assert!(rt; ran.outcome == Outcome::Done);
+    assert!(rt; ran.written.as_slice() == b"drill,6,1,1,1499\n".as_slice());
+    assert!(rt; deck.told() == 6);
     let frame = frame_with(alloc, &[(13, 0xb0), (14, 0x5d)])?;
-    assert_eq!(rt; recovered(alloc, deck.image())?, frame);
-    assert_eq!(rt;
-        listed(alloc, ALTITUDE, deck.image())?.as_slice(),
-        b"session,1,0\nrow,0,1,10,ALT,1499\n".as_slice()
+    assert!(rt; recovered(alloc, deck.image())? == frame);
+    assert!(rt;
+        listed(alloc, ALTITUDE, deck.image())?.as_slice()
+            == b"session,1,0\nrow,0,1,10,ALT,1499\n".as_slice()
     );
     Ok(())
 }
@@ -54,9 +54,9 @@ fn drills_twice_in_one_image(rt: HostRuntime) -> Result<(), Fail> {
     let alloc = rt.alloc();
     let (_, deck) = drill(alloc, &fresh(alloc, "16")?, "1", "1", &[], &[])?;
     let (ran, deck) = drill(alloc, deck.image(), "1", "1", &[], &[])?;
-    assert_eq!(rt; ran.outcome, Outcome::Done);
-    assert_eq!(rt; ran.written.as_slice(), b"drill,6,2,2,2998\n".as_slice());
-    assert_eq!(rt; deck.told(), 12);
+    assert!(rt; ran.outcome == Outcome::Done);
+    assert!(rt; ran.written.as_slice() == b"drill,6,2,2,2998\n".as_slice());
+    assert!(rt; deck.told() == 12);
     Ok(())
 }
 
@@ -65,7 +65,7 @@ fn drills_twice_in_one_image(rt: HostRuntime) -> Result<(), Fail> {
 fn drills_ten_thousand_frames(rt: HostRuntime) -> Result<(), Fail> {
     let alloc = rt.alloc();
     let image = formatted(alloc, "1024", "4096")?;
-    assert_eq!(rt; image.len(), 4_210_752);
+    assert!(rt; image.len() == 4_210_752);
     let (ran, deck) = drill(alloc, &image, "7", "10000", &[], &[])?;
     let mut state: u64 = 7;
     let mut sum: u64 = 0;
@@ -78,9 +78,9 @@ fn drills_ten_thousand_frames(rt: HostRuntime) -> Result<(), Fail> {
         }
     }
     let line = format!(in alloc; "drill,938,10000,10000,{sum}\n")?;
-    assert_eq!(rt; ran.outcome, Outcome::Done);
-    assert_eq!(rt; ran.written.as_slice(), line.as_bytes());
-    assert_eq!(rt; deck.told(), 938);
+    assert!(rt; ran.outcome == Outcome::Done);
+    assert!(rt; ran.written.as_slice() == line.as_bytes());
+    assert!(rt; deck.told() == 938);
     Ok(())
 }
 
@@ -93,13 +93,12 @@ fn keeps_what_is_announced_and_writes_nothing(rt: HostRuntime) -> Result<(), Fai
     let (_, whole) = drill(alloc, &image, "1", "1", &[], &[])?;
     for call in 0..whole.calls() {
         let (ran, deck) = drill(alloc, &image, "1", "1", &[call], &[])?;
-        assert_eq!(rt; ran.outcome, Outcome::DiskFault, "call {call}");
-        assert_eq!(rt; ran.written.len(), 0, "call {call}");
+        assert!(rt; ran.outcome == Outcome::DiskFault, "call {call}");
+        assert!(rt; ran.written.is_empty(), "call {call}");
         let held = recovered(alloc, &stopped(alloc, &deck, call, Tear::Old)?)?;
         let announced = deck.told().saturating_mul(64) as usize;
-        assert_eq!(rt;
-            held.as_slice(),
-            frame.get(..announced).ok_or("blocks")?,
+        assert!(rt;
+            held.as_slice() == frame.get(..announced).ok_or("blocks")?,
             "call {call}"
         );
     }
@@ -110,12 +109,12 @@ fn keeps_what_is_announced_and_writes_nothing(rt: HostRuntime) -> Result<(), Fai
 fn has_recorded_all_where_its_line_fails(rt: HostRuntime) -> Result<(), Fail> {
     let alloc = rt.alloc();
     let (ran, deck) = drill(alloc, &fresh(alloc, "16")?, "1", "1", &[], &[0])?;
-    assert_eq!(rt; ran.outcome, Outcome::WriteFault);
-    assert_eq!(rt; ran.written.len(), 0);
-    assert_eq!(rt; deck.told(), 6);
-    assert_eq!(rt;
-        listed(alloc, ALTITUDE, deck.image())?.as_slice(),
-        b"session,1,0\nrow,0,1,10,ALT,1499\n".as_slice()
+    assert!(rt; ran.outcome == Outcome::WriteFault);
+    assert!(rt; ran.written.is_empty());
+    assert!(rt; deck.told() == 6);
+    assert!(rt;
+        listed(alloc, ALTITUDE, deck.image())?.as_slice()
+            == b"session,1,0\nrow,0,1,10,ALT,1499\n".as_slice()
     );
     Ok(())
 }
@@ -131,14 +130,14 @@ fn refuses_what_a_recording_refuses(rt: HostRuntime) -> Result<(), Fail> {
         image: 64,
         table: 256,
     };
-    assert_eq!(rt; ran.outcome, differ);
-    assert_eq!(rt; ran.written.len(), 0);
-    assert_eq!(rt; deck.image(), image.as_slice());
+    assert!(rt; ran.outcome == differ);
+    assert!(rt; ran.written.is_empty());
+    assert!(rt; deck.image() == image.as_slice());
     let old = ring_with(alloc, 0, &[], &[])?;
     let (ran, deck) = drill(alloc, &old, "1", "1", &[], &[])?;
-    assert_eq!(rt; ran.outcome, Outcome::OldVersion);
-    assert_eq!(rt; ran.written.len(), 0);
-    assert_eq!(rt; deck.image(), old.as_slice());
+    assert!(rt; ran.outcome == Outcome::OldVersion);
+    assert!(rt; ran.written.is_empty());
+    assert!(rt; deck.image() == old.as_slice());
     // Its slot 3 holds the block of the greatest number.
     let mut last = image.clone()?;
     let head = [
@@ -148,13 +147,13 @@ fn refuses_what_a_recording_refuses(rt: HostRuntime) -> Result<(), Fail> {
         *last.get_mut(304 + at).ok_or("a head")? = *byte;
     }
     let (ran, deck) = drill(alloc, &last, "1", "1", &[], &[])?;
-    assert_eq!(rt; ran.outcome, Outcome::SeqEnd);
-    assert_eq!(rt; ran.written.len(), 0);
-    assert_eq!(rt; deck.image(), last.as_slice());
-    assert_eq!(rt; deck.told(), 1 << 48);
+    assert!(rt; ran.outcome == Outcome::SeqEnd);
+    assert!(rt; ran.written.is_empty());
+    assert!(rt; deck.image() == last.as_slice());
+    assert!(rt; deck.told() == 1 << 48);
     let (answer, deck) = record(alloc, &last, &[END_AT_0], &[])?;
-    assert_eq!(rt; answer, Outcome::Done);
-    assert_eq!(rt; deck.told(), 1 << 48);
+    assert!(rt; answer == Outcome::Done);
+    assert!(rt; deck.told() == 1 << 48);
     Ok(())
 }
 
@@ -166,7 +165,7 @@ fn twenty_five_hours_are_within_the_limits(rt: HostRuntime) -> Result<(), Fail> 
         .ok()
         .ok_or("the table")?;
     let words = table.frame().words;
-    assert_eq!(rt; words, 256);
+    assert!(rt; words == 256);
     let header = Header {
         slots: 8_448,
         payload: 4_096,
@@ -175,13 +174,13 @@ fn twenty_five_hours_are_within_the_limits(rt: HostRuntime) -> Result<(), Fail> 
     };
     assert!(rt; in_limits(&header));
     let bytes: u64 = 22_500 * 1_536;
-    assert_eq!(rt; bytes, 34_560_000);
+    assert!(rt; bytes == 34_560_000);
     let blocks = bytes.div_ceil(4_096);
-    assert_eq!(rt; blocks, 8_438);
+    assert!(rt; blocks == 8_438);
     assert!(rt; blocks <= u64::from(header.slots).saturating_sub(2));
     let end = [2, 0, 0, 0, 0, 0, 0, 0, 0, 0, 0, 0x14, 0xf4, 0x6b, 0x04, 0];
     let record = parse(&end, 0).ok().ok_or("the end")?;
-    assert_eq!(rt; record.kind, RecordKind::End);
-    assert_eq!(rt; record.time, 90_000_000_000);
+    assert!(rt; record.kind == RecordKind::End);
+    assert!(rt; record.time == 90_000_000_000);
     Ok(())
 }

@@ -15,16 +15,16 @@ fn keeps_what_was_pulled_before_a_fault(rt: HostRuntime) -> Result<(), Fail> {
     let trace = [WORD_AT_0, WORD_AT_4000000];
     let (ended, deck) = record(alloc, &image, &trace, &[])?;
     let fault = TraceFault::Truncated;
-    assert_eq!(rt; ended, Outcome::TraceRefused { index: 2, fault });
+    assert!(rt; ended == Outcome::TraceRefused { index: 2, fault });
     let second = deck.calls().saturating_sub(1);
     let (failed, deck) = record(alloc, &image, &trace, &[second])?;
-    assert_eq!(rt; failed, Outcome::ReadFault(Input::Line));
-    assert_eq!(rt; deck.told(), 6);
+    assert!(rt; failed == Outcome::ReadFault(Input::Line));
+    assert!(rt; deck.told() == 6);
     let five = frame_with(alloc, &[(13, 0x50)])?;
-    assert_eq!(rt; recovered(alloc, deck.image())?, five);
-    assert_eq!(rt;
-        listed(alloc, ALTITUDE, deck.image())?.as_slice(),
-        b"session,1,0\nrow,0,1,10,ALT,5\n".as_slice()
+    assert!(rt; recovered(alloc, deck.image())? == five);
+    assert!(rt;
+        listed(alloc, ALTITUDE, deck.image())?.as_slice()
+            == b"session,1,0\nrow,0,1,10,ALT,5\n".as_slice()
     );
     Ok(())
 }
@@ -35,19 +35,19 @@ fn records_nothing_where_the_first_sync_fails(rt: HostRuntime) -> Result<(), Fai
     let alloc = rt.alloc();
     let image = fresh(alloc, "16")?;
     let (opened, deck) = record(alloc, &image, &[END_AT_0], &[])?;
-    assert_eq!(rt; opened, Outcome::Done);
+    assert!(rt; opened == Outcome::Done);
     let sync = deck.calls().saturating_sub(2);
     let trace = [WORD_AT_0, END_AT_4000000];
     let (failed, deck) = record(alloc, &image, &trace, &[sync])?;
-    assert_eq!(rt; failed, Outcome::DiskFault);
-    assert_eq!(rt; deck.told(), 0);
-    assert_eq!(rt; deck.calls(), sync.saturating_add(1));
-    assert_eq!(rt; recovered(alloc, deck.image())?.len(), 0);
+    assert!(rt; failed == Outcome::DiskFault);
+    assert!(rt; deck.told() == 0);
+    assert!(rt; deck.calls() == sync.saturating_add(1));
+    assert!(rt; recovered(alloc, deck.image())?.len() == 0);
     for tear in [Tear::Old, Tear::New, Tear::Half, Tear::Fill(0x5a)] {
         let left = stopped(alloc, &deck, sync, tear)?;
-        assert_eq!(rt; recovered(alloc, &left)?.len(), 0, "{tear:?}");
+        assert!(rt; recovered(alloc, &left)?.len() == 0, "{tear:?}");
         let lines = listed(alloc, ALTITUDE, &left)?;
-        assert_eq!(rt; lines.len(), 0, "{tear:?}");
+        assert!(rt; lines.is_empty(), "{tear:?}");
     }
     Ok(())
 }
@@ -63,7 +63,7 @@ fn keeps_what_is_announced_where_a_call_fails(rt: HostRuntime) -> Result<(), Fai
     let mut pulls: u64 = 0;
     for call in 0..whole.calls() {
         let (failed, deck) = record(alloc, &image, &trace, &[call])?;
-        assert_eq!(rt; deck.calls(), call + 1, "call {call}");
+        assert!(rt; deck.calls() == call + 1, "call {call}");
         match failed {
             Outcome::DiskFault => {}
             Outcome::ReadFault(Input::Line) => pulls = pulls.saturating_add(1),
@@ -71,12 +71,11 @@ fn keeps_what_is_announced_where_a_call_fails(rt: HostRuntime) -> Result<(), Fai
         }
         let held = recovered(alloc, &stopped(alloc, &deck, call, Tear::Old)?)?;
         let announced = deck.told().saturating_mul(64) as usize;
-        assert_eq!(rt;
-            held.as_slice(),
-            five.get(..announced).ok_or("blocks")?,
+        assert!(rt;
+            held.as_slice() == five.get(..announced).ok_or("blocks")?,
             "call {call}"
         );
     }
-    assert_eq!(rt; pulls, 1);
+    assert!(rt; pulls == 1);
     Ok(())
 }

@@ -103,15 +103,14 @@ fn records_worked_traces(rt: HostRuntime) -> Result<(), Fail> {
         let shows = case.shows;
         let image = fresh(alloc, case.slots)?;
         let (answer, deck) = record(alloc, &image, case.trace, &[])?;
-        assert_eq!(rt; answer, case.answer, "{shows}");
-        assert_eq!(rt; deck.told(), case.announced, "{shows}");
+        assert!(rt; answer == case.answer, "{shows}");
+        assert!(rt; deck.told() == case.announced, "{shows}");
         let held = recovered(alloc, deck.image())?;
-        assert_eq!(rt; held.as_slice(), case.recovered, "{shows}");
+        assert!(rt; held.as_slice() == case.recovered, "{shows}");
         let lines = listed(alloc, ALTITUDE, deck.image())?;
-        assert_eq!(rt; lines.as_slice(), case.listed.as_bytes(), "{shows}");
-        assert_eq!(rt;
-            goes_on_with(alloc, deck.image())?,
-            case.announced,
+        assert!(rt; lines.as_slice() == case.listed.as_bytes(), "{shows}");
+        assert!(rt;
+            goes_on_with(alloc, deck.image())? == case.announced,
             "{shows}"
         );
     }
@@ -130,7 +129,7 @@ fn lays_blocks_round_a_ring(rt: HostRuntime) -> Result<(), Fail> {
         expected.extend_from_slice(&[gate, 0, 0, 64, 0, 0, 0, 1, 0, 0, 0, 0, 0, 0, 0, number])?;
         expected.extend_from_slice(frame.get(at..at + 64).ok_or("a block")?)?;
     }
-    assert_eq!(rt; deck.image(), expected.as_slice());
+    assert!(rt; deck.image() == expected.as_slice());
     Ok(())
 }
 
@@ -139,17 +138,17 @@ fn numbers_go_on_in_a_second_recording(rt: HostRuntime) -> Result<(), Fail> {
     let alloc = rt.alloc();
     let trace = [WORD_AT_0, END_AT_4000000];
     let (first, deck) = record(alloc, &fresh(alloc, "16")?, &trace, &[])?;
-    assert_eq!(rt; first, Outcome::Done);
-    assert_eq!(rt; deck.told(), 6);
+    assert!(rt; first == Outcome::Done);
+    assert!(rt; deck.told() == 6);
     let (second, deck) = record(alloc, deck.image(), &trace, &[])?;
-    assert_eq!(rt; second, Outcome::Done);
-    assert_eq!(rt; deck.told(), 12);
+    assert!(rt; second == Outcome::Done);
+    assert!(rt; deck.told() == 12);
     let mut twice = frame_with(alloc, &[(13, 0x50)])?;
     twice.extend_from_slice(&frame_with(alloc, &[(13, 0x50)])?)?;
-    assert_eq!(rt; recovered(alloc, deck.image())?, twice);
-    assert_eq!(rt;
-        listed(alloc, ALTITUDE, deck.image())?.as_slice(),
-        b"session,1,0\nrow,0,1,10,ALT,5\nsession,2,6\nrow,0,1,10,ALT,5\n".as_slice()
+    assert!(rt; recovered(alloc, deck.image())? == twice);
+    assert!(rt;
+        listed(alloc, ALTITUDE, deck.image())?.as_slice()
+            == b"session,1,0\nrow,0,1,10,ALT,5\nsession,2,6\nrow,0,1,10,ALT,5\n".as_slice()
     );
     Ok(())
 }
@@ -160,14 +159,11 @@ fn counts_the_places_of_gaps_from_the_first_bit_of_a_session(rt: HostRuntime) ->
     let alloc = rt.alloc();
     let (_, deck) = record(alloc, &fresh(alloc, "16")?, &[END_AT_4000001], &[])?;
     let (answer, deck) = record(alloc, deck.image(), &[END_AT_4000001], &[])?;
-    assert_eq!(rt; answer, Outcome::Done);
+    assert!(rt; answer == Outcome::Done);
     let first = "session,1,0\nrow,0,1,10,ALT,0\ngap,3072,16\n";
     let second = "session,2,7\nrow,0,1,10,ALT,0\ngap,3072,16\n";
     let lines = format!(in alloc; "{first}{second}")?;
-    assert_eq!(rt;
-        listed(alloc, ALTITUDE, deck.image())?.as_slice(),
-        lines.as_bytes()
-    );
+    assert!(rt; listed(alloc, ALTITUDE, deck.image())?.as_slice() == lines.as_bytes());
     Ok(())
 }
 
@@ -178,16 +174,13 @@ fn the_session_after_the_greatest_is_0(rt: HostRuntime) -> Result<(), Fail> {
     let trace = [WORD_AT_0, END_AT_4000000];
     for _ in 0..2 {
         let (answer, deck) = record(alloc, &image, &trace, &[])?;
-        assert_eq!(rt; answer, Outcome::Done);
+        assert!(rt; answer == Outcome::Done);
         image = deck.image().to_vec(alloc)?;
     }
     let before = "session,4294967295,0\ngap,0,8\n";
     let after = "session,0,1\nrow,0,1,10,ALT,5\nsession,1,7\nrow,0,1,10,ALT,5\n";
     let lines = format!(in alloc; "{before}{after}")?;
-    assert_eq!(rt;
-        listed(alloc, ALTITUDE, &image)?.as_slice(),
-        lines.as_bytes()
-    );
+    assert!(rt; listed(alloc, ALTITUDE, &image)?.as_slice() == lines.as_bytes());
     Ok(())
 }
 
@@ -203,11 +196,11 @@ fn lists_a_recording_in_two_parts(rt: HostRuntime) -> Result<(), Fail> {
     ];
     let mut deck = deck_of(alloc, &fresh(alloc, "16")?, &line_of(alloc, &trace)?, &[])?;
     let ran = run_words(alloc, &RECORD, TWO_PARTS, &mut deck, &[])?;
-    assert_eq!(rt; ran.outcome, Outcome::Done);
-    assert_eq!(rt; deck.told(), 12);
-    assert_eq!(rt;
-        listed(alloc, TWO_PARTS, deck.image())?.as_slice(),
-        b"session,1,0\nrow,0,1,10,ALT,5\nrow,1,1,10,ALT,5\nrow,0,1,20,POS,703710\n".as_slice()
+    assert!(rt; ran.outcome == Outcome::Done);
+    assert!(rt; deck.told() == 12);
+    assert!(rt;
+        listed(alloc, TWO_PARTS, deck.image())?.as_slice()
+            == b"session,1,0\nrow,0,1,10,ALT,5\nrow,1,1,10,ALT,5\nrow,0,1,20,POS,703710\n".as_slice()
     );
     Ok(())
 }
@@ -225,9 +218,9 @@ fn ends_where_no_number_is_left(rt: HostRuntime) -> Result<(), Fail> {
     }
     for (end, outcome) in [(END_AT_4000000, Outcome::SeqEnd), (END_AT_0, Outcome::Done)] {
         let (answer, deck) = record(alloc, &image, &[end], &[])?;
-        assert_eq!(rt; answer, outcome);
-        assert_eq!(rt; deck.image(), image.as_slice(), "{answer:?}");
-        assert_eq!(rt; deck.told(), 1 << 48, "{answer:?}");
+        assert!(rt; answer == outcome);
+        assert!(rt; deck.image() == image.as_slice(), "{answer:?}");
+        assert!(rt; deck.told() == 1 << 48, "{answer:?}");
     }
     Ok(())
 }

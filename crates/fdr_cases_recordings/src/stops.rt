@@ -20,7 +20,7 @@ fn a_stop_leaves_what_is_promised(rt: HostRuntime) -> Result<(), Fail> {
     let alloc = rt.alloc();
     let frame = frame_with(alloc, &[])?;
     let (answer, deck) = record(alloc, &fresh(alloc, "4")?, &[END_AT_4000000], &[])?;
-    assert_eq!(rt; answer, Outcome::Done);
+    assert!(rt; answer == Outcome::Done);
     let begins = first_call_with(&deck, 4)?;
     let cases = [
         (BODY, Tear::Old, 1usize, 4usize),
@@ -44,9 +44,9 @@ fn a_stop_leaves_what_is_promised(rt: HostRuntime) -> Result<(), Fail> {
         let bytes = first.saturating_mul(64)..next.saturating_mul(64);
         let blocks = frame.get(bytes).ok_or("blocks")?;
         let held = recovered(alloc, &image)?;
-        assert_eq!(rt; held.as_slice(), blocks, "call {step}, {tear:?}");
+        assert!(rt; held.as_slice() == blocks, "call {step}, {tear:?}");
         let number = goes_on_with(alloc, &image)?;
-        assert_eq!(rt; number, next as u64, "call {step}, {tear:?}");
+        assert!(rt; number == next as u64, "call {step}, {tear:?}");
     }
     Ok(())
 }
@@ -63,7 +63,7 @@ fn stops_are_within_writes(rt: HostRuntime) -> Result<(), Fail> {
         let after = stopped(alloc, &deck, call, Tear::New)?;
         assert!(rt; before != after, "call {step}");
         if call < deck.calls() {
-            assert_eq!(rt; deck.told_at(call), 4, "call {step}");
+            assert!(rt; deck.told_at(call) == 4, "call {step}");
         }
     }
     Ok(())
@@ -87,11 +87,11 @@ fn stops_in_a_row_lose_no_more(rt: HostRuntime) -> Result<(), Fail> {
         let (_, deck) = record(alloc, &image, &[WORD_AT_0, END_AT_4000000], &[])?;
         let call = first_call_with(&deck, 6)?.saturating_add(step);
         let written = stopped(alloc, &deck, call, Tear::New)?;
-        assert_eq!(rt; goes_on_with(alloc, &written)?, next, "{shows}");
+        assert!(rt; goes_on_with(alloc, &written)? == next, "{shows}");
         image = stopped(alloc, &deck, call, Tear::Fill(0x00))?;
         let held = recovered(alloc, &image)?;
-        assert_eq!(rt; held.as_slice(), kept, "{shows}");
-        assert_eq!(rt; goes_on_with(alloc, &image)?, 6, "{shows}");
+        assert!(rt; held.as_slice() == kept, "{shows}");
+        assert!(rt; goes_on_with(alloc, &image)? == 6, "{shows}");
     }
     Ok(())
 }

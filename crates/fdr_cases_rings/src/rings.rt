@@ -21,30 +21,30 @@ fn makes_an_image_and_adds_a_block(rt: HostRuntime) -> Result<(), Fail> {
     let alloc = rt.alloc();
     let mut deck = MemDeck::new(alloc, Vec::new(alloc), Vec::new(alloc), Vec::new(alloc));
     let ring = format(&mut deck, &SMALL)?;
-    assert_eq!(rt; deck.image().len(), 384);
+    assert!(rt; deck.image().len() == 384);
     assert!(rt; deck.image().starts_with(&write_header(&SMALL)));
     assert!(rt; deck.image()[64..].iter().all(|b| *b == 0));
-    assert_eq!(rt; read_image_header(&mut deck), Ok(SMALL));
+    assert!(rt; read_image_header(&mut deck) == Ok(SMALL));
 
     let ring = ring.prepare(&mut deck, 3, &[7; 9])?.commit(&mut deck)?;
-    assert_eq!(rt; ring.next(), 1);
-    assert_eq!(rt; ring.session(), 3);
-    assert_eq!(rt; ring.header(), SMALL);
+    assert!(rt; ring.next() == 1);
+    assert!(rt; ring.session() == 3);
+    assert!(rt; ring.header() == SMALL);
     let head = [OPEN, 0, 0, 9, 0, 0, 0, 3, 0, 0, 0, 0, 0, 0, 0, 0];
     assert!(rt; deck.image()[64..].starts_with(&head));
     assert!(rt; deck.image()[80..].starts_with(&[7, 7, 7, 7, 7, 7, 7, 7, 7, 0]));
 
-    assert_eq!(rt;
-        scan(&mut deck, &SMALL),
-        Ok(Found {
-            first: 0,
-            next: 1,
-            session: 3
-        })
+    assert!(rt;
+        scan(&mut deck, &SMALL)
+            == Ok(Found {
+                first: 0,
+                next: 1,
+                session: 3
+            })
     );
     let again = Ring::attach(&mut deck, SMALL)?;
-    assert_eq!(rt; again.next(), 1);
-    assert_eq!(rt; again.session(), 3);
+    assert!(rt; again.next() == 1);
+    assert!(rt; again.session() == 3);
     assert!(rt; matches!(format(&mut deck, &SMALL), Err(RingFault::NotEmpty)));
     Ok(())
 }
@@ -59,7 +59,7 @@ fn a_prepared_block_is_not_found(rt: HostRuntime) -> Result<(), Fail> {
         next: 0,
         session: 0,
     };
-    assert_eq!(rt; scan(&mut deck, &SMALL), Ok(none));
+    assert!(rt; scan(&mut deck, &SMALL) == Ok(none));
     Ok(())
 }
 
@@ -72,10 +72,10 @@ fn refuses_the_block_after_the_last_number(rt: HostRuntime) -> Result<(), Fail> 
     head[0] = OPEN;
     image.extend_from_slice(&head)?;
     image.extend_from_slice(&[0; 64])?;
-    assert_eq!(rt; image.len(), 384);
+    assert!(rt; image.len() == 384);
     let mut deck = SureDeck::new(image, Vec::new(alloc));
     let ring = Ring::attach(&mut deck, SMALL)?;
-    assert_eq!(rt; ring.next(), SEQUENCE_END);
+    assert!(rt; ring.next() == SEQUENCE_END);
     assert!(rt; matches!(ring.prepare(&mut deck, 1, &[1]), Err(RingFault::SeqEnd)));
     Ok(())
 }
@@ -84,10 +84,7 @@ fn refuses_the_block_after_the_last_number(rt: HostRuntime) -> Result<(), Fail> 
 fn names_what_is_no_image(rt: HostRuntime) -> Result<(), Fail> {
     let alloc = rt.alloc();
     let mut deck = MemDeck::new(alloc, Vec::new(alloc), Vec::new(alloc), Vec::new(alloc));
-    assert_eq!(rt;
-        read_image_header(&mut deck),
-        Err(RingFault::Image(ImageFault::Small))
-    );
+    assert!(rt; read_image_header(&mut deck) == Err(RingFault::Image(ImageFault::Small)));
     Ok(())
 }
 
@@ -144,12 +141,9 @@ fn left_by(alloc: Global, deck: &MemDeck, call: u64, tear: Tear) -> Result<(u64,
 #[test]
 fn a_block_takes_six_calls(rt: HostRuntime) -> Result<(), Fail> {
     let (deck, [before, between, after]) = seven_blocks(rt.alloc())?;
-    assert_eq!(rt; between.checked_sub(before), Some(4));
-    assert_eq!(rt; after.checked_sub(before), Some(6));
-    assert_eq!(rt;
-        run_in(rt.alloc(), deck.image().to_vec(rt.alloc())?)?,
-        (4, 7)
-    );
+    assert!(rt; between.checked_sub(before) == Some(4));
+    assert!(rt; after.checked_sub(before) == Some(6));
+    assert!(rt; run_in(rt.alloc(), deck.image().to_vec(rt.alloc())?)? == (4, 7));
     Ok(())
 }
 
@@ -164,7 +158,7 @@ fn the_body_and_the_close_are_torn_together(rt: HostRuntime) -> Result<(), Fail>
         (Tear::Fill(OPEN), (3, 6)),
         (Tear::Fill(0xee), (4, 6)),
     ] {
-        assert_eq!(rt; left_by(rt.alloc(), &deck, sync, tear)?, run);
+        assert!(rt; left_by(rt.alloc(), &deck, sync, tear)? == run);
     }
     Ok(())
 }
@@ -173,8 +167,8 @@ fn the_body_and_the_close_are_torn_together(rt: HostRuntime) -> Result<(), Fail>
 fn a_gate_is_torn_alone(rt: HostRuntime) -> Result<(), Fail> {
     let (deck, [_, _, after]) = seven_blocks(rt.alloc())?;
     let sync = after.saturating_sub(1);
-    assert_eq!(rt; left_by(rt.alloc(), &deck, sync, Tear::Old)?, (4, 6));
-    assert_eq!(rt; left_by(rt.alloc(), &deck, sync, Tear::New)?, (4, 7));
+    assert!(rt; left_by(rt.alloc(), &deck, sync, Tear::Old)? == (4, 6));
+    assert!(rt; left_by(rt.alloc(), &deck, sync, Tear::New)? == (4, 7));
     Ok(())
 }
 
@@ -195,10 +189,10 @@ fn unsettled_block(alloc: Global) -> Result<(MemDeck, u64), Fail> {
 fn a_block_that_is_found_again_is_durable(rt: HostRuntime) -> Result<(), Fail> {
     let (mut deck, before) = unsettled_block(rt.alloc())?;
     let header = read_image_header(&mut deck)?;
-    assert_eq!(rt; left_by(rt.alloc(), &deck, before, Tear::Old)?, (0, 0));
-    assert_eq!(rt; Ring::attach(&mut deck, header)?.next(), 1);
+    assert!(rt; left_by(rt.alloc(), &deck, before, Tear::Old)? == (0, 0));
+    assert!(rt; Ring::attach(&mut deck, header)?.next() == 1);
     let after = deck.calls();
     deck.size()?;
-    assert_eq!(rt; left_by(rt.alloc(), &deck, after, Tear::Old)?, (0, 1));
+    assert!(rt; left_by(rt.alloc(), &deck, after, Tear::Old)? == (0, 1));
     Ok(())
 }

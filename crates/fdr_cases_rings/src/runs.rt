@@ -105,19 +105,19 @@ fn finds_the_run(rt: HostRuntime) -> Result<(), Fail> {
         ([(true, 64, 1, 0), free, free, free], 0, 1, 1),
     ] {
         let image = image_of(rt.alloc(), slots)?;
-        assert_eq!(rt; image.len(), 384);
+        assert!(rt; image.len() == 384);
         let mut deck = SureDeck::new(image, Vec::new(rt.alloc()));
         let found = Found {
             first,
             next,
             session,
         };
-        assert_eq!(rt; scan(&mut deck, &SMALL), Ok(found));
+        assert!(rt; scan(&mut deck, &SMALL) == Ok(found));
         let found = Found {
             session: 0,
             ..found
         };
-        assert_eq!(rt; scan(&mut deck, &SMALL_FIRST), Ok(found));
+        assert!(rt; scan(&mut deck, &SMALL_FIRST) == Ok(found));
     }
     Ok(())
 }
@@ -131,27 +131,27 @@ fn gives_the_payload_of_a_block(rt: HostRuntime) -> Result<(), Fail> {
         (true, 64, 5, 3),
     ];
     let image = image_of(rt.alloc(), slots)?;
-    assert_eq!(rt; image.len(), 384);
+    assert!(rt; image.len() == 384);
     let mut deck = SureDeck::new(image, Vec::new(rt.alloc()));
     let mut buf = [0; 64];
     let info = BlockInfo { len: 3, session: 7 };
-    assert_eq!(rt; block(&mut deck, &SMALL, 5, &mut buf), Ok(info));
+    assert!(rt; block(&mut deck, &SMALL, 5, &mut buf) == Ok(info));
     assert!(rt; buf.starts_with(&[5, 5, 5, 0]));
     let info = BlockInfo {
         len: 64,
         session: 6,
     };
-    assert_eq!(rt; block(&mut deck, &SMALL, 4, &mut buf), Ok(info));
+    assert!(rt; block(&mut deck, &SMALL, 4, &mut buf) == Ok(info));
     assert!(rt; buf.iter().all(|b| *b == 4));
     let info = BlockInfo {
         len: 64,
         session: 0,
     };
-    assert_eq!(rt; block(&mut deck, &SMALL_FIRST, 4, &mut buf), Ok(info));
+    assert!(rt; block(&mut deck, &SMALL_FIRST, 4, &mut buf) == Ok(info));
     let none = BlockInfo { len: 0, session: 0 };
-    assert_eq!(rt; block(&mut deck, &SMALL, 2, &mut buf), Ok(none));
-    assert_eq!(rt; block(&mut deck, &SMALL, 0, &mut buf), Ok(none));
-    assert_eq!(rt; block(&mut deck, &SMALL, 9, &mut buf), Ok(none));
+    assert!(rt; block(&mut deck, &SMALL, 2, &mut buf) == Ok(none));
+    assert!(rt; block(&mut deck, &SMALL, 0, &mut buf) == Ok(none));
+    assert!(rt; block(&mut deck, &SMALL, 9, &mut buf) == Ok(none));
     Ok(())
 }
 
@@ -202,7 +202,7 @@ fn walks_over_what_is_there(rt: HostRuntime) -> Result<(), Fail> {
             (true, 64, 5, 3),
         ];
         let image = image_of(rt.alloc(), slots)?;
-        assert_eq!(rt; image.len(), 384);
+        assert!(rt; image.len() == 384);
         let mut deck = SureDeck::new(image, Vec::new(rt.alloc()));
         let mut handed = Handed {
             blocks: [none; 4],
@@ -210,8 +210,8 @@ fn walks_over_what_is_there(rt: HostRuntime) -> Result<(), Fail> {
         };
         let mut out = NullSink::new();
         let walked = walk_between(&mut deck, &SMALL, first, next, &mut handed, &mut out);
-        assert_eq!(rt; walked, Ok(()));
-        assert_eq!(rt; handed.blocks, blocks);
+        assert!(rt; walked == Ok(()));
+        assert!(rt; handed.blocks == blocks);
     }
     Ok(())
 }

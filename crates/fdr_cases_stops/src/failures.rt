@@ -54,18 +54,21 @@ fn check_call(
     seen: &mut Seen,
 ) -> Result<(), Fail> {
     let (ran, deck) = base.run(alloc, &[call])?;
-    assert_eq!(rt; ran.written.len(), 0, "call {call}");
-    assert_eq!(rt; deck.calls(), call.saturating_add(1), "call {call}");
+    assert!(rt; ran.written.is_empty(), "call {call}");
+    assert!(rt; deck.calls() == call.saturating_add(1), "call {call}");
     if Some(call) == pull {
         // Nothing was pulled, so that nothing is recorded.
-        assert_eq!(rt; ran.outcome, Outcome::ReadFault(Input::Line), "call {call}");
-        assert_eq!(rt; deck.told(), base.began, "call {call}");
+        assert!(rt;
+            ran.outcome == Outcome::ReadFault(Input::Line),
+            "call {call}"
+        );
+        assert!(rt; deck.told() == base.began, "call {call}");
         let standing = seen.rings.open(alloc, deck.image())?;
         let next = base.next_in(alloc, standing, base.began)?;
-        assert_eq!(rt; next, Some(base.began), "call {call}");
+        assert!(rt; next == Some(base.began), "call {call}");
         seen.line = seen.line.saturating_add(1);
     } else {
-        assert_eq!(rt; ran.outcome, Outcome::DiskFault, "call {call}");
+        assert!(rt; ran.outcome == Outcome::DiskFault, "call {call}");
         seen.disk = seen.disk.saturating_add(1);
     }
     let new = deck.told().saturating_sub(base.began) as usize;
@@ -77,9 +80,9 @@ fn check_call(
 /// Checks the runs in which each call fails once, as many as the whole run has.
 fn check_failures(rt: &impl Abort, alloc: Global, base: &Base, pulls: u64) -> Result<(), Fail> {
     let (whole, deck) = base.run(alloc, &[])?;
-    assert_eq!(rt; whole.outcome, Outcome::Done);
-    assert_eq!(rt; whole.written, base.text);
-    assert_eq!(rt; deck.told(), base.ends());
+    assert!(rt; whole.outcome == Outcome::Done);
+    assert!(rt; whole.written == base.text);
+    assert!(rt; deck.told() == base.ends());
     let blocks = base.ends().saturating_sub(base.began) as usize;
     let mut seen = Seen {
         rings: Rings::new(alloc),
@@ -91,12 +94,12 @@ fn check_failures(rt: &impl Abort, alloc: Global, base: &Base, pulls: u64) -> Re
     for call in 0..deck.calls() {
         check_call(rt, alloc, base, call, pull, &mut seen)?;
     }
-    assert_eq!(rt; seen.line, pulls);
-    assert_eq!(rt; seen.disk, deck.calls().saturating_sub(pulls));
+    assert!(rt; seen.line == pulls);
+    assert!(rt; seen.disk == deck.calls().saturating_sub(pulls));
     assert!(rt; seen.rings.count() > blocks, "{}", seen.rings.count());
     // A recording of the line makes no call once all is announced. A drill then reads what it lists.
     let unseen = seen.announced.iter().filter(|count| **count == 0).count();
-    assert_eq!(rt; unseen as u64, pulls, "{:?}", seen.announced);
+    assert!(rt; unseen as u64 == pulls, "{:?}", seen.announced);
     Ok(())
 }
 

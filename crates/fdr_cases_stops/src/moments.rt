@@ -60,8 +60,8 @@ fn check_call(
 /// Checks what stops within each call of a recording of six blocks leave.
 fn check_stops(rt: &impl Abort, alloc: Global, base: &Base) -> Result<(), Fail> {
     let (ran, deck) = base.run(alloc, &[])?;
-    assert_eq!(rt; ran.outcome, Outcome::Done);
-    assert_eq!(rt; deck.told(), base.ends());
+    assert!(rt; ran.outcome == Outcome::Done);
+    assert!(rt; deck.told() == base.ends());
     let mut seen = Seen {
         stops: 0,
         rings: Rings::new(alloc),
@@ -70,7 +70,7 @@ fn check_stops(rt: &impl Abort, alloc: Global, base: &Base) -> Result<(), Fail> 
     for call in 0..deck.calls() {
         check_call(rt, alloc, base, &deck, call, &mut seen)?;
     }
-    assert_eq!(rt; seen.stops, deck.calls().saturating_mul(12));
+    assert!(rt; seen.stops == deck.calls().saturating_mul(12));
     // Each number of new blocks is left by some stops, and there are four different rings for each.
     let ends = &seen.ends;
     assert!(rt; ends.iter().all(|count| *count > 0), "{ends:?}");

@@ -91,8 +91,8 @@ fn gives_a_block_as_soon_as_it_is_whole(rt: HostRuntime) -> Result<(), Fail> {
         (4_000_001, 6, 386),
     ] {
         let (given, bytes) = recording(rt.alloc(), TABLE, 0, end)?;
-        assert_eq!(rt; given, blocks, "blocks up to {end}");
-        assert_eq!(rt; bytes.len(), len, "bytes up to {end}");
+        assert!(rt; given == blocks, "blocks up to {end}");
+        assert!(rt; bytes.len() == len, "bytes up to {end}");
     }
     Ok(())
 }
@@ -117,7 +117,7 @@ fn packs_the_words_of_a_frame(rt: HostRuntime) -> Result<(), Fail> {
         (384, 0x47),
         (385, 0x02),
     ] {
-        assert_eq!(rt; bytes.get(at).copied(), Some(value), "byte {at}");
+        assert!(rt; bytes.get(at).copied() == Some(value), "byte {at}");
     }
     Ok(())
 }
@@ -155,7 +155,7 @@ fn expect_packed(rt: &impl Abort, alloc: Global, count: usize, end: u64) -> Resu
 {
     let (_, bytes) = recording(alloc, DOUBLED, 0x802a_f0c1, end)?;
     let expected = packed_words(alloc, count)?;
-    assert_eq!(rt; bytes.as_slice(), expected.as_slice(), "{count} words");
+    assert!(rt; bytes.as_slice() == expected.as_slice(), "{count} words");
     Ok(())
 }
 

@@ -119,7 +119,7 @@ fn begins_each_subframe_by_its_sync_word(rt: HostRuntime) -> Result<(), Fail> {
         (256, 0x247),
         (257, 1),
     ] {
-        assert_eq!(rt; words.get(k).copied(), Some(value), "slot {k}");
+        assert!(rt; words.get(k).copied() == Some(value), "slot {k}");
     }
     Ok(())
 }
@@ -134,9 +134,9 @@ fn holds_a_word_at_the_time_of_a_slot(rt: HostRuntime) -> Result<(), Fail> {
     ] {
         let sampler = sampler_of(rt.alloc(), COUNTER_LAST)?;
         let words = words_of(rt.alloc(), sampler, &word(0, bits, time), 512)?;
-        assert_eq!(rt; words.get(1).copied(), Some(altitude), "at {time}");
-        assert_eq!(rt; words.get(255).copied(), Some(0));
-        assert_eq!(rt; words.get(511).copied(), Some(1));
+        assert!(rt; words.get(1).copied() == Some(altitude), "at {time}");
+        assert!(rt; words.get(255).copied() == Some(0));
+        assert!(rt; words.get(511).copied() == Some(1));
     }
     Ok(())
 }
@@ -153,11 +153,10 @@ fn holds_words_by_bus_and_sdi(rt: HostRuntime) -> Result<(), Fail> {
     ] {
         let sampler = sampler_of(rt.alloc(), ONE_LABEL)?;
         let words = words_of(rt.alloc(), sampler, &word(bus, bits, 0), 64)?;
-        assert_eq!(rt; words.get(9).copied(), Some(one), "one SDI of {bits}");
-        assert_eq!(rt; words.get(10).copied(), Some(any), "any SDI of {bits}");
-        assert_eq!(rt;
-            words.get(11).copied(),
-            Some(other),
+        assert!(rt; words.get(9).copied() == Some(one), "one SDI of {bits}");
+        assert!(rt; words.get(10).copied() == Some(any), "any SDI of {bits}");
+        assert!(rt;
+            words.get(11).copied() == Some(other),
             "another bus of {bits}"
         );
     }
@@ -184,7 +183,7 @@ fn takes_a_word_that_is_fresh(rt: HostRuntime) -> Result<(), Fail> {
             (201, 4095),
             (202, 0),
         ] {
-            assert_eq!(rt; words.get(slot).copied(), Some(value), "slot {slot}");
+            assert!(rt; words.get(slot).copied() == Some(value), "slot {slot}");
         }
     }
     Ok(())
@@ -196,8 +195,8 @@ fn takes_a_value_at_its_first_part(rt: HostRuntime) -> Result<(), Fail> {
     for (time, low, high) in [(0, 0xcde, 0xab), (296_875, 0xcde, 0xab), (1_000_000, 0, 0)] {
         let sampler = sampler_of(rt.alloc(), POSITION)?;
         let words = words_of(rt.alloc(), sampler, &word(1, 0x8abc_de13, time), 512)?;
-        assert_eq!(rt; words.get(19).copied(), Some(low), "at {time}");
-        assert_eq!(rt; words.get(275).copied(), Some(high), "at {time}");
+        assert!(rt; words.get(19).copied() == Some(low), "at {time}");
+        assert!(rt; words.get(275).copied() == Some(high), "at {time}");
     }
     Ok(())
 }
@@ -217,6 +216,6 @@ fn draws_empty_slots_at_once(rt: HostRuntime) -> Result<(), Fail> {
         (257, 1),
         (265, 0),
     ];
-    assert_eq!(rt; words.as_slice(), wanted.as_slice());
+    assert!(rt; words.as_slice() == wanted.as_slice());
     Ok(())
 }

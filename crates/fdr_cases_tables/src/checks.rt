@@ -41,8 +41,8 @@ param,PIT,32,uneven
     ];
     for (table, report) in cases {
         let (outcome, written) = checked(rt.alloc(), table)?;
-        assert_eq!(rt; outcome, Outcome::Done, "{table}");
-        assert_eq!(rt; written.as_slice(), report.as_bytes(), "{table}");
+        assert!(rt; outcome == Outcome::Done, "{table}");
+        assert!(rt; written.as_slice() == report.as_bytes(), "{table}");
     }
     Ok(())
 }
@@ -79,8 +79,8 @@ fn names_the_first_fault_of_the_rows(rt: HostRuntime) -> Result<(), Fail> {
     ];
     for (table, row, fault) in cases {
         let (outcome, written) = checked(rt.alloc(), table)?;
-        assert_eq!(rt; outcome, Outcome::TableRefused { row, fault }, "{table}");
-        assert_eq!(rt; written.len(), 0, "{table}");
+        assert!(rt; outcome == Outcome::TableRefused { row, fault }, "{table}");
+        assert!(rt; written.is_empty(), "{table}");
     }
     Ok(())
 }
@@ -112,8 +112,8 @@ fn names_the_faults_of_ages_and_signs(rt: HostRuntime) -> Result<(), Fail> {
     ];
     for (table, row, fault) in cases {
         let (outcome, written) = checked(rt.alloc(), table)?;
-        assert_eq!(rt; outcome, Outcome::TableRefused { row, fault }, "{table}");
-        assert_eq!(rt; written.len(), 0, "{table}");
+        assert!(rt; outcome == Outcome::TableRefused { row, fault }, "{table}");
+        assert!(rt; written.is_empty(), "{table}");
     }
     Ok(())
 }
@@ -184,8 +184,8 @@ L,E,1,1234,3,1,5,1,0,1
     ];
     for (table, row, fault) in cases {
         let (outcome, written) = checked(rt.alloc(), table)?;
-        assert_eq!(rt; outcome, Outcome::TableRefused { row, fault }, "{table}");
-        assert_eq!(rt; written.len(), 0, "{table}");
+        assert!(rt; outcome == Outcome::TableRefused { row, fault }, "{table}");
+        assert!(rt; written.is_empty(), "{table}");
     }
     Ok(())
 }
@@ -198,7 +198,7 @@ fn refuses_a_table_of_a_byte_too_many(rt: HostRuntime) -> Result<(), Fail> {
     }
     let (outcome, written) = checked(rt.alloc(), table.as_str())?;
     let fault = TableFault::Size;
-    assert_eq!(rt; outcome, Outcome::TableRefused { row: 0, fault });
-    assert_eq!(rt; written.len(), 0);
+    assert!(rt; outcome == Outcome::TableRefused { row: 0, fault });
+    assert!(rt; written.is_empty());
     Ok(())
 }

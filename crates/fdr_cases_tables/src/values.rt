@@ -38,13 +38,13 @@ fn writes_half_of_minus_one_with_a_decimal(rt: HostRuntime) -> Result<(), Fail> 
     ];
     for (raw, put, value, text, row) in cases {
         let (given, decimals) = value_by_table(alloc, raw)?;
-        assert_eq!(rt; (given, decimals), (value, 1), "raw {raw}");
+        assert!(rt; (given, decimals) == (value, 1), "raw {raw}");
         assert!(rt; decimals <= 9);
-        assert_eq!(rt; value_text(given, decimals).bytes(), text, "raw {raw}");
+        assert!(rt; value_text(given, decimals).bytes() == text, "raw {raw}");
         let mut deck = deck_of(alloc, &[], &frame_with(alloc, put)?, &[])?;
         let ran = run_words(alloc, &["listbits", "t.csv"], HALVES, &mut deck, &[])?;
-        assert_eq!(rt; ran.outcome, Outcome::Done, "raw {raw}");
-        assert_eq!(rt; ran.written.as_slice(), row, "raw {raw}");
+        assert!(rt; ran.outcome == Outcome::Done, "raw {raw}");
+        assert!(rt; ran.written.as_slice() == row, "raw {raw}");
     }
     Ok(())
 }

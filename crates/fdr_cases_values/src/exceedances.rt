@@ -79,9 +79,9 @@ const FLIGHT: [Step; 6] = [
 fn lists_exceedances_of_each_kind(rt: HostRuntime) -> Result<(), Fail> {
     let rules = b"HI,ALT,above,4,2\nLO,ALT,below,4,1\nSTEP,ALT,change,4,2\n";
     let lines = lines_of(rt.alloc(), rules, &FLIGHT)?;
-    assert_eq!(rt;
-        lines.as_slice(),
-        b"exceed,HI,0,1,10,3,9\nexceed,LO,3,1,10,1,3\nexceed,STEP,3,1,10,2,6\n".as_slice()
+    assert!(rt;
+        lines.as_slice()
+            == b"exceed,HI,0,1,10,3,9\nexceed,LO,3,1,10,1,3\nexceed,STEP,3,1,10,2,6\n".as_slice()
     );
     Ok(())
 }
@@ -89,11 +89,11 @@ fn lists_exceedances_of_each_kind(rt: HostRuntime) -> Result<(), Fail> {
 #[test]
 fn lists_the_change_within_a_window(rt: HostRuntime) -> Result<(), Fail> {
     let lines = lines_of(rt.alloc(), b"STEP,ALT,change,4,3\n", &FLIGHT)?;
-    assert_eq!(rt; lines.as_slice(), b"exceed,STEP,3,1,10,2,6\n".as_slice());
+    assert!(rt; lines.as_slice() == b"exceed,STEP,3,1,10,2,6\n".as_slice());
     let lines = lines_of(rt.alloc(), b"STEP,ALT,change,3,3\n", &FLIGHT)?;
-    assert_eq!(rt; lines.as_slice(), b"exceed,STEP,2,1,10,3,6\n".as_slice());
+    assert!(rt; lines.as_slice() == b"exceed,STEP,2,1,10,3,6\n".as_slice());
     let lines = lines_of(rt.alloc(), b"STEP,ALT,change,0,1\n", &FLIGHT)?;
-    assert_eq!(rt; lines.as_slice(), b"".as_slice());
+    assert!(rt; lines.as_slice() == b"".as_slice());
     Ok(())
 }
 
@@ -108,26 +108,22 @@ fn a_stretch_ends_a_list(rt: HostRuntime) -> Result<(), Fail> {
         Step::Reset,
     ];
     let lines = lines_of(rt.alloc(), b"HI,ALT,above,4,2\n", &steps)?;
-    assert_eq!(rt; lines.as_slice(), b"".as_slice());
+    assert!(rt; lines.as_slice() == b"".as_slice());
     let rules = b"LO,SPD,below,0,1\nHI,ALT,above,4,1\nSPD,SPD,above,6,1\n";
     let lines = lines_of(rt.alloc(), rules, &steps)?;
-    assert_eq!(rt;
-        lines.as_slice(),
-        b"exceed,HI,0,1,10,1,5\nexceed,SPD,0,1,10,1,0.7\nexceed,LO,9,1,10,1,-0.7\nexceed,HI,9,1,10,1,5\n".as_slice()
+    assert!(rt;
+        lines.as_slice()
+            == b"exceed,HI,0,1,10,1,5\nexceed,SPD,0,1,10,1,0.7\nexceed,LO,9,1,10,1,-0.7\nexceed,HI,9,1,10,1,5\n".as_slice()
     );
     Ok(())
 }
 
 #[test]
 fn names_faults(rt: HostRuntime) {
-    assert_eq!(rt;
-        rule_fault_text(RuleFault::Number { field: 3 }).bytes(),
-        b"number in field 3".as_slice()
+    assert!(rt;
+        rule_fault_text(RuleFault::Number { field: 3 }).bytes() == b"number in field 3".as_slice()
     );
-    assert_eq!(rt;
-        rule_fault_text(RuleFault::Unknown).bytes(),
-        b"unknown name".as_slice()
-    );
+    assert!(rt; rule_fault_text(RuleFault::Unknown).bytes() == b"unknown name".as_slice());
 }
 
 /// Whether the rules are refused so.

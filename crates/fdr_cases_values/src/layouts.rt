@@ -47,10 +47,10 @@ fn a_sample_ends_in_the_cycle_of_its_last_part(rt: HostRuntime) -> Result<(), Fa
         first: 19,
         last: 275,
     };
-    assert_eq!(rt; layout.ending_in(1), [altitude, position].as_slice());
-    assert_eq!(rt; layout.ending_in(0).len(), 1);
-    assert_eq!(rt; layout.ending_in(15).len(), 1);
-    assert_eq!(rt; layout.samples(), 17);
+    assert!(rt; layout.ending_in(1) == [altitude, position].as_slice());
+    assert!(rt; layout.ending_in(0).len() == 1);
+    assert!(rt; layout.ending_in(15).len() == 1);
+    assert!(rt; layout.samples() == 17);
 
     let low = Part {
         slot: 19,
@@ -67,11 +67,11 @@ fn a_sample_ends_in_the_cycle_of_its_last_part(rt: HostRuntime) -> Result<(), Fa
         sample: 0,
     };
     if 0 < layout.samples() {
-        assert_eq!(rt; layout.parts(0), [low, high].as_slice());
+        assert!(rt; layout.parts(0) == [low, high].as_slice());
     }
-    assert_eq!(rt; layout.at_slot(19), [low].as_slice());
-    assert_eq!(rt; layout.at_slot(275), [high].as_slice());
-    assert_eq!(rt; layout.at_slot(20).len(), 0);
+    assert!(rt; layout.at_slot(19) == [low].as_slice());
+    assert!(rt; layout.at_slot(275) == [high].as_slice());
+    assert!(rt; layout.at_slot(20).is_empty());
     Ok(())
 }
 
@@ -93,6 +93,6 @@ fn parts_of_a_slot_come_by_lowest_bit(rt: HostRuntime) -> Result<(), Fail> {
         shift: 0,
         sample: 0,
     };
-    assert_eq!(rt; layout.at_slot(9), [low, high].as_slice());
+    assert!(rt; layout.at_slot(9) == [low, high].as_slice());
     Ok(())
 }

@@ -20,9 +20,8 @@ fn writes_values(rt: HostRuntime) {
     ];
     for (value, decimals, text) in cases {
         assert!(rt; decimals <= 9);
-        assert_eq!(rt;
-            value_text(value, decimals).bytes(),
-            text,
+        assert!(rt;
+            value_text(value, decimals).bytes() == text,
             "{value} with {decimals} decimals"
         );
     }
@@ -39,15 +38,12 @@ fn writes_lines(rt: HostRuntime) -> Result<(), Fail> {
         param: 0,
         value: -1,
     };
-    assert_eq!(rt;
-        row_line(&row, &name, 3).bytes(),
-        b"row,4095,4,1024,VRTG,-0.001\n".as_slice()
-    );
-    assert_eq!(rt; gap_line(0, 3072).bytes(), b"gap,0,3072\n".as_slice());
+    assert!(rt; row_line(&row, &name, 3).bytes() == b"row,4095,4,1024,VRTG,-0.001\n".as_slice());
+    assert!(rt; gap_line(0, 3072).bytes() == b"gap,0,3072\n".as_slice());
     let mut line = Line::new();
     line.add(b"frames ");
     line.add_number(0);
-    assert_eq!(rt; line.bytes(), b"frames 0".as_slice());
+    assert!(rt; line.bytes() == b"frames 0".as_slice());
     Ok(())
 }
 
@@ -95,9 +91,8 @@ fn puts_together_the_line_of_a_row(rt: HostRuntime) -> Result<(), Fail> {
             };
             let line = put_together(rt.alloc(), &row, &name, decimals)?;
             assert!(rt; decimals <= 9 && counter < 4096 && subframe <= 4 && word <= 1024);
-            assert_eq!(rt;
-                line.as_slice(),
-                row_line(&row, &name, decimals).bytes(),
+            assert!(rt;
+                line.as_slice() == row_line(&row, &name, decimals).bytes(),
                 "{counter}, {value}"
             );
         }

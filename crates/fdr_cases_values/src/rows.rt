@@ -63,13 +63,13 @@ fn position(counter: u16, value: i64) -> Option<Row> {
 #[test]
 fn lists_an_altitude_of_each_frame(rt: HostRuntime) -> Result<(), Fail> {
     let mut rebuild = rebuild_by(rt.alloc(), ALTITUDE)?;
-    assert_eq!(rt; rebuild.rows(), 0);
+    assert!(rt; rebuild.rows() == 0);
     rebuild.frame(true, &frame_of(4095, 5, 0));
-    assert_eq!(rt; rebuild.rows(), 1);
-    assert_eq!(rt; rebuild.row(0), altitude(0, 4095, 5));
+    assert!(rt; rebuild.rows() == 1);
+    assert!(rt; rebuild.row(0) == altitude(0, 4095, 5));
     rebuild.frame(true, &frame_of(0, 5, 0));
-    assert_eq!(rt; rebuild.rows(), 1);
-    assert_eq!(rt; rebuild.row(0), altitude(0, 0, 5));
+    assert!(rt; rebuild.rows() == 1);
+    assert!(rt; rebuild.row(0) == altitude(0, 0, 5));
     Ok(())
 }
 
@@ -96,14 +96,14 @@ fn values_are_those_of_the_table(rt: HostRuntime) -> Result<(), Fail> {
         )?;
         let table = Table::read(alloc, text.as_bytes()).ok().ok_or(scale)?;
         let param = table.params().first().ok_or(scale)?;
-        assert_eq!(rt; param.width, 12, "{scale}");
+        assert!(rt; param.width == 12, "{scale}");
         for raw in [0, 1, 7, 0x7ff, 0x800, 0xffe, 0xfff] {
             let words = frame_of(0, raw, 0);
             let value = param.value(u32::from(raw));
             let mut rebuild = rebuild_by(alloc, text.as_bytes())?;
             rebuild.frame(false, &words);
-            assert_eq!(rt; rebuild.rows(), 1);
-            assert_eq!(rt; rebuild.row(0), altitude(0, 0, value), "{raw} by {scale}");
+            assert!(rt; rebuild.rows() == 1);
+            assert!(rt; rebuild.row(0) == altitude(0, 0, value), "{raw} by {scale}");
         }
     }
     Ok(())
@@ -114,12 +114,12 @@ fn values_are_those_of_the_table(rt: HostRuntime) -> Result<(), Fail> {
 fn joins_the_parts_of_a_position(rt: HostRuntime) -> Result<(), Fail> {
     let mut rebuild = rebuild_by(rt.alloc(), POSITION)?;
     rebuild.frame(false, &frame_of(0, 5, 0xcde));
-    assert_eq!(rt; rebuild.rows(), 1);
-    assert_eq!(rt; rebuild.row(0), altitude(1, 0, 5));
+    assert!(rt; rebuild.rows() == 1);
+    assert!(rt; rebuild.row(0) == altitude(1, 0, 5));
     rebuild.frame(true, &frame_of(1, 5, 0xab));
-    assert_eq!(rt; rebuild.rows(), 2);
-    assert_eq!(rt; rebuild.row(0), altitude(1, 1, 5));
-    assert_eq!(rt; rebuild.row(1), position(0, 703_710));
+    assert!(rt; rebuild.rows() == 2);
+    assert!(rt; rebuild.row(0) == altitude(1, 1, 5));
+    assert!(rt; rebuild.row(1) == position(0, 703_710));
     Ok(())
 }
 
@@ -132,9 +132,9 @@ fn joins_no_parts_over_a_gap(rt: HostRuntime) -> Result<(), Fail> {
         let mut rebuild = rebuild_by(rt.alloc(), POSITION)?;
         rebuild.frame(false, &first);
         rebuild.frame(adjacent, &second);
-        assert_eq!(rt; rebuild.rows(), 2);
-        assert_eq!(rt; rebuild.row(0), altitude(1, counter, 5));
-        assert_eq!(rt; rebuild.row(1), None);
+        assert!(rt; rebuild.rows() == 2);
+        assert!(rt; rebuild.row(0) == altitude(1, counter, 5));
+        assert!(rt; rebuild.row(1) == None);
     }
     Ok(())
 }

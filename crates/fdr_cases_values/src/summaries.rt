@@ -81,7 +81,7 @@ fn adds_up_values_below_zero(rt: HostRuntime) -> Result<(), Fail> {
         rows: 3,
         sum: u64::MAX - 1,
     };
-    assert_eq!(rt; summary_of(alloc, &bytes)?, summary);
+    assert!(rt; summary_of(alloc, &bytes)? == summary);
     Ok(())
 }
 
@@ -105,6 +105,6 @@ fn counts_what_survives_a_cut(rt: HostRuntime) -> Result<(), Fail> {
         rows: 3,
         sum: 703_709,
     };
-    assert_eq!(rt; summary_of(alloc, &bytes)?, summary);
+    assert!(rt; summary_of(alloc, &bytes)? == summary);
     Ok(())
 }

@@ -1,13 +1,9 @@
 //! The program `fdrpair`: a recorder on two disks, over files and standard streams.
 #![tactic(auto)]
 
-mod file_twin;
-#[cfg(test)]
-mod tests;
-
+use fdr_adapters::FileTwin;
 use fdr_files::{FileSource, ImageFile};
 use fdr_pair::{PairOutcome, PairWordsFault, read_pair_words, run_pair};
-use file_twin::FileTwin;
 use std::env::Env;
 use std::io::Write;
 use std::process::ExitCode;

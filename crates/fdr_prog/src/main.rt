@@ -1,16 +1,10 @@
 //! The program `fdr`: the recorder's commands over files and standard streams.
 #![tactic(auto)]
 
-mod file_deck;
-mod out_sink;
-#[cfg(test)]
-mod tests;
-
+use fdr_adapters::{FileDeck, OutSink};
 use fdr_files::{AHEAD, FileSource, ImageFile, LineReader, Window};
 use fdr_top::{Outcome, run};
 use fdr_words::{Request, WordsFault, read_words};
-use file_deck::FileDeck;
-use out_sink::OutSink;
 use std::alloc::Global;
 use std::env::Env;
 use std::io::{BufReader, Stdin, Write};
