@@ -3,7 +3,7 @@
 
 mod fixtures;
 
-use fdr_deck::MemDeck;
+use fdr_deck::{MemDeck, Tear};
 use fdr_io::{MemSink, MemSource};
 use fdr_top::{Outcome, run};
 pub use fixtures::{
@@ -43,6 +43,21 @@ pub fn deck_of(
     ))
 }
 
+/// The image that a stop within a call of a deck leaves, if the deck had that call. Without clauses, so that tests are
+/// proved without those of `MemDeck`.
+pub fn stopped(
+    alloc: Global,
+    deck: &MemDeck,
+    call: u64,
+    tear: Tear,
+) -> Result<Option<Vec<u8>>, AllocError> {
+    if call >= deck.calls() {
+        return Ok(None);
+    }
+    let left = deck.stop(alloc, call, tear).map_err(|_| AllocError)?;
+    Ok(Some(left))
+}
+
 /// What a command answers. Without clauses of its own, so that tests are proved without those of `run`.
 pub fn answer(
     alloc: Global,
@@ -52,6 +67,58 @@ pub fn answer(
     out: &mut MemSink,
 ) -> Outcome {
     run(alloc, words, table, deck, out)
+}
+
+/// What a command finds, and which reads of its table, calls of its deck and writes of its sink fail.
+#[derive(Clone, Copy)]
+pub struct Given<'a> {
+    pub table: &'a [u8],
+    pub image: &'a [u8],
+    pub line: &'a [u8],
+    pub reads: &'a [u64],
+    pub calls: &'a [u64],
+    pub writes: &'a [u64],
+}
+
+impl<'a> Given<'a> {
+    /// A table alone: the image and the line are empty, and nothing fails.
+    pub fn by(table: &'a str) -> Given<'a> {
+        Given {
+            table: table.as_bytes(),
+            image: &[],
+            line: &[],
+            reads: &[],
+            calls: &[],
+            writes: &[],
+        }
+    }
+}
+
+/// What a command answered and wrote, and what it left: the image, the number that was announced last, and how many calls
+/// its deck had.
+#[derive(Drop)]
+pub struct Left {
+    pub outcome: Outcome,
+    pub written: Vec<u8>,
+    pub image: Vec<u8>,
+    pub told: u64,
+    pub calls: u64,
+}
+
+/// Runs a command on what is given.
+pub fn run_on(alloc: Global, words: &[&str], given: Given<'_>) -> Result<Left, AllocError> {
+    let words = words_of(alloc, words)?;
+    let mut table = MemSource::new(given.table.to_vec(alloc)?, given.reads.to_vec(alloc)?);
+    let mut deck = deck_of(alloc, given.image, given.line, given.calls)?;
+    let mut out = MemSink::new(alloc, given.writes.to_vec(alloc)?);
+    let outcome = answer(alloc, &words, &mut table, &mut deck, &mut out);
+    Ok(Left {
+        outcome,
+        written: out.bytes().to_vec(alloc)?,
+        image: deck.image().to_vec(alloc)?,
+        told: deck.told(),
+        calls: deck.calls(),
+    })
 }
 
 /// Runs a command by the text of a table, where no read of the table fails and the listed writes do.

@@ -1,5 +1,4 @@
-use fdr_cases::{ALTITUDE, Ran, deck_of, run_words};
-use fdr_deck::MemDeck;
+use fdr_cases::{ALTITUDE, Given, Left, run_on};
 use fdr_table::TableFault;
 use fdr_top::Outcome;
 use std::alloc::{AllocError, Global};
@@ -20,26 +19,34 @@ pub fn fresh_image(alloc: Global) -> Result<Vec<u8>, AllocError> {
     Ok(image)
 }
 
-fn format(alloc: Global, table: &str, slots: &str, deck: &mut MemDeck) -> Result<Ran, AllocError> {
+/// Makes an image on a disk with these bytes, where the listed calls fail.
+fn format(
+    alloc: Global,
+    table: &str,
+    slots: &str,
+    disk: &[u8],
+    calls: &[u64],
+) -> Result<Left, AllocError> {
     let words = ["format", "t1.csv", "flight.img", slots, "--payload", "64"];
-    run_words(alloc, &words, table, deck, &[])
+    let given = Given {
+        image: disk,
+        calls,
+        ..Given::by(table)
+    };
+    run_on(alloc, &words, given)
 }
 
 #[test]
 fn makes_an_image_once(rt: HostRuntime) -> Result<(), Fail> {
     let alloc = rt.alloc();
     let image = fresh_image(alloc)?;
-    let mut deck = deck_of(alloc, &[], &[], &[])?;
-    let made = format(alloc, ALTITUDE, "--slots=4", &mut deck)?;
-    assert!(rt; made.outcome == Outcome::Done);
-    assert!(rt; made.written.is_empty());
-    assert!(rt; deck.image() == image.as_slice());
-    let again = format(alloc, ALTITUDE, "--slots=4", &mut deck)?;
-    assert!(rt; again.outcome == Outcome::NotEmpty);
-    let few = format(alloc, ALTITUDE, "--slots=3", &mut deck)?;
-    assert!(rt; few.outcome == Outcome::Usage);
-    assert!(rt; deck.image() == image.as_slice());
-    assert!(rt; deck.told() == 0);
+    let made = format(alloc, ALTITUDE, "--slots=4", &[], &[])?;
+    assert!(rt; made.outcome == Outcome::Done && made.written.is_empty() && made.told == 0);
+    assert!(rt; made.image == image);
+    let again = format(alloc, ALTITUDE, "--slots=4", &image, &[])?;
+    assert!(rt; again.outcome == Outcome::NotEmpty && again.image == image);
+    let few = format(alloc, ALTITUDE, "--slots=3", &image, &[])?;
+    assert!(rt; few.outcome == Outcome::Usage && few.image == image);
     Ok(())
 }
 
@@ -47,7 +54,6 @@ fn makes_an_image_once(rt: HostRuntime) -> Result<(), Fail> {
 #[test]
 fn makes_an_image_of_options_in_other_spellings(rt: HostRuntime) -> Result<(), Fail> {
     let alloc = rt.alloc();
-    let mut deck = deck_of(alloc, &[], &[], &[])?;
     let words = [
         "format",
         "t1.csv",
@@ -56,27 +62,24 @@ fn makes_an_image_of_options_in_other_spellings(rt: HostRuntime) -> Result<(), F
         "--slots",
         "016",
     ];
-    let made = run_words(alloc, &words, ALTITUDE, &mut deck, &[])?;
-    assert!(rt; made.outcome == Outcome::Done);
+    let made = run_on(alloc, &words, Given::by(ALTITUDE))?;
     let mut image = HEADER.to_vec(alloc)?;
     *image.get_mut(11).ok_or("a byte")? = 16;
     image.resize(64 + 16 * 80, 0)?;
-    assert!(rt; deck.image() == image.as_slice());
+    assert!(rt; made.outcome == Outcome::Done && made.image == image);
     Ok(())
 }
 
 #[test]
 fn leaves_a_disk_that_it_does_not_make(rt: HostRuntime) -> Result<(), Fail> {
     let alloc = rt.alloc();
-    let mut deck = deck_of(alloc, &[], &[], &[])?;
-    let refused = format(alloc, "X,1\n", "--slots=4", &mut deck)?;
+    let refused = format(alloc, "X,1\n", "--slots=4", &[], &[])?;
     let fault = TableFault::Shape;
     assert!(rt; refused.outcome == Outcome::TableRefused { row: 0, fault });
-    assert!(rt; deck.calls() == 0);
-    let mut deck = deck_of(alloc, b"x", &[], &[])?;
-    let refused = format(alloc, ALTITUDE, "--slots=4", &mut deck)?;
+    assert!(rt; refused.calls == 0);
+    let refused = format(alloc, ALTITUDE, "--slots=4", b"x", &[])?;
     assert!(rt; refused.outcome == Outcome::NotEmpty);
-    assert!(rt; deck.image() == b"x".as_slice());
+    assert!(rt; refused.image.as_slice() == b"x".as_slice());
     Ok(())
 }
 
@@ -85,10 +88,11 @@ fn leaves_a_disk_that_it_does_not_make(rt: HostRuntime) -> Result<(), Fail> {
 fn says_that_the_disk_failed(rt: HostRuntime) -> Result<(), Fail> {
     let alloc = rt.alloc();
     for call in 0..6 {
-        let mut deck = deck_of(alloc, &[], &[], &[call])?;
-        let failed = format(alloc, ALTITUDE, "--slots=4", &mut deck)?;
-        assert!(rt; failed.outcome == Outcome::DiskFault, "call {call}");
-        assert!(rt; deck.calls() == call + 1, "call {call}");
+        let failed = format(alloc, ALTITUDE, "--slots=4", &[], &[call])?;
+        assert!(rt;
+            failed.outcome == Outcome::DiskFault && failed.calls == call + 1,
+            "call {call}"
+        );
     }
     Ok(())
 }

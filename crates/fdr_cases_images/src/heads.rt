@@ -2,7 +2,7 @@
 
 use crate::listings::list;
 use crate::recoveries::{image_of_a_frame, recover};
-use fdr_cases::{ALTITUDE, deck_of};
+use fdr_cases::ALTITUDE;
 use fdr_top::Outcome;
 use std::alloc::{AllocError, Global};
 use std::test::Fail;
@@ -128,23 +128,21 @@ fn damaged(alloc: Global, image: &[u8], at: usize, byte: u8) -> Result<Vec<u8>, 
 
 /// Whether what is recovered of an image is what its heads say.
 fn recovers(alloc: Global, image: &[u8]) -> Result<bool, Fail> {
-    let mut deck = deck_of(alloc, image, &[], &[])?;
-    let ran = recover(alloc, &mut deck)?;
+    let ran = recover(alloc, image, &[])?;
     Ok(
         ran.outcome == Outcome::Done
             && ran.written == recovered(alloc, image)?
-            && deck.image() == image,
+            && ran.image.as_slice() == image,
     )
 }
 
 /// Whether what is listed of an image is what its heads say.
 fn lists(alloc: Global, image: &[u8], version: u8) -> Result<bool, Fail> {
-    let mut deck = deck_of(alloc, image, &[], &[])?;
-    let ran = list(alloc, ALTITUDE, &mut deck)?;
+    let ran = list(alloc, ALTITUDE, image, &[])?;
     Ok(
         ran.outcome == Outcome::Done
             && ran.written == listing(alloc, image, version)?
-            && deck.image() == image,
+            && ran.image.as_slice() == image,
     )
 }
 

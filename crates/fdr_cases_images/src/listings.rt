@@ -1,7 +1,6 @@
 use crate::formats::fresh_image;
 use crate::recoveries::image_of_a_frame;
-use fdr_cases::{ALTITUDE, Ran, deck_of, run_words};
-use fdr_deck::MemDeck;
+use fdr_cases::{ALTITUDE, Given, Left, run_on};
 use fdr_slot::ImageFault;
 use fdr_top::Outcome;
 use std::alloc::{AllocError, Global};
@@ -18,99 +17,86 @@ const TRACE: [u8; 32] = [
 
 const LIST: &[&str] = &["list", "t1.csv", "flight.img"];
 
-/// Lists an image by a table.
-pub fn list(alloc: Global, table: &str, deck: &mut MemDeck) -> Result<Ran, AllocError> {
-    run_words(alloc, LIST, table, deck, &[])
+/// Lists an image by a table, where the listed calls of the disk fail.
+pub fn list(alloc: Global, table: &str, image: &[u8], calls: &[u64]) -> Result<Left, AllocError> {
+    let given = Given {
+        image,
+        calls,
+        ..Given::by(table)
+    };
+    run_on(alloc, LIST, given)
 }
 
-#[test]
-fn lists_what_was_recorded(rt: HostRuntime) -> Result<(), Fail> {
-    let alloc = rt.alloc();
-    let mut deck = deck_of(alloc, &[], &TRACE, &[])?;
-    let words = [
-        "format",
-        "t1.csv",
-        "flight.img",
-        "--slots=16",
-        "--payload=64",
-    ];
-    let made = run_words(alloc, &words, ALTITUDE, &mut deck, &[])?;
-    assert!(rt; made.outcome == Outcome::Done);
-    assert!(rt; deck.image().len() == 1344);
-    let words = ["record", "t1.csv", "flight.img"];
-    let recorded = run_words(alloc, &words, ALTITUDE, &mut deck, &[])?;
-    assert!(rt; recorded.outcome == Outcome::Done);
-    assert!(rt; deck.told() == 6);
-
-    let image = deck.image().to_vec(alloc)?;
-    let mut deck = deck_of(alloc, &image, &TRACE, &[])?;
-    let listed = list(alloc, ALTITUDE, &mut deck)?;
-    assert!(rt; listed.outcome == Outcome::Done);
-    let lines = b"session,1,0\nrow,0,1,10,ALT,5\n";
-    assert!(rt; listed.written.as_slice() == lines.as_slice());
-    assert!(rt; deck.image() == image.as_slice());
-    assert!(rt; deck.told() == 0);
-    Ok(())
+/// What is listed of an image by a table. It stays as it is, and nothing is announced.
+pub fn listed(alloc: Global, table: &str, image: &[u8]) -> Result<Vec<u8>, Fail> {
+    let listed = list(alloc, table, image, &[])?;
+    if listed.outcome != Outcome::Done || listed.image.as_slice() != image || listed.told != 0 {
+        return Err("the image")?;
+    }
+    Ok(listed.written)
 }
 
 /// The image of 16 slots after this many recordings of six blocks.
 fn recorded(alloc: Global, times: usize) -> Result<Vec<u8>, Fail> {
-    let mut deck = deck_of(alloc, &[], &[], &[])?;
-    let words = [
+    let format = [
         "format",
         "t1.csv",
         "flight.img",
         "--slots=16",
         "--payload=64",
     ];
-    run_words(alloc, &words, ALTITUDE, &mut deck, &[])?;
-    let mut image = deck.image().to_vec(alloc)?;
+    let mut image = run_on(alloc, &format, Given::by(ALTITUDE))?.image;
+    let mut blocks: u64 = 0;
     for _ in 0..times {
-        let mut deck = deck_of(alloc, &image, &TRACE, &[])?;
-        let words = ["record", "t1.csv", "flight.img"];
-        run_words(alloc, &words, ALTITUDE, &mut deck, &[])?;
-        image = deck.image().to_vec(alloc)?;
+        let given = Given {
+            image: &image,
+            line: &TRACE,
+            ..Given::by(ALTITUDE)
+        };
+        let recorded = run_on(alloc, &["record", "t1.csv", "flight.img"], given)?;
+        blocks = blocks.saturating_add(6);
+        if recorded.outcome != Outcome::Done || recorded.told != blocks {
+            return Err("six blocks")?;
+        }
+        image = recorded.image;
     }
     Ok(image)
 }
 
 #[test]
+fn lists_what_was_recorded(rt: HostRuntime) -> Result<(), Fail> {
+    let image = recorded(rt.alloc(), 1)?;
+    assert!(rt; image.len() == 1344);
+    let lines = listed(rt.alloc(), ALTITUDE, &image)?;
+    assert!(rt; lines.as_slice() == b"session,1,0\nrow,0,1,10,ALT,5\n".as_slice());
+    Ok(())
+}
+
+// Of 18 blocks the last 15 stand: half a frame, and two frames, of which the second begins in slot 12 and ends in slot 1.
+#[test]
 fn lists_blocks_in_the_order_of_their_numbers(rt: HostRuntime) -> Result<(), Fail> {
-    let alloc = rt.alloc();
-    // Of 18 blocks the last 15 stand: half a frame, and two frames, of which the second begins in slot 12 and ends in slot 1.
-    let mut deck = deck_of(alloc, &recorded(alloc, 3)?, &[], &[])?;
-    let listed = list(alloc, ALTITUDE, &mut deck)?;
-    assert!(rt; listed.outcome == Outcome::Done);
+    let written = listed(rt.alloc(), ALTITUDE, &recorded(rt.alloc(), 3)?)?;
     let lines =
         "session,1,3\ngap,0,1536\nsession,2,6\nrow,0,1,10,ALT,5\nsession,3,12\nrow,0,1,10,ALT,5\n";
-    assert!(rt; listed.written.as_slice() == lines.as_bytes());
+    assert!(rt; written.as_slice() == lines.as_bytes());
     Ok(())
 }
 
 #[test]
 fn lists_the_blocks_that_a_ring_holds(rt: HostRuntime) -> Result<(), Fail> {
     let alloc = rt.alloc();
-    let mut empty = deck_of(alloc, &fresh_image(alloc)?, &[], &[])?;
-    let listed = list(alloc, ALTITUDE, &mut empty)?;
-    assert!(rt; listed.outcome == Outcome::Done);
-    assert!(rt; listed.written.is_empty());
-
+    let lines = listed(alloc, ALTITUDE, &fresh_image(alloc)?)?;
+    assert!(rt; lines.is_empty());
     // The last three blocks of a frame have two of its four sync words.
-    let image = image_of_a_frame(alloc)?;
-    let mut deck = deck_of(alloc, &image, &[], &[])?;
-    let listed = list(alloc, ALTITUDE, &mut deck)?;
-    assert!(rt; listed.outcome == Outcome::Done);
-    let lines = b"session,1,3\ngap,0,1536\n";
-    assert!(rt; listed.written.as_slice() == lines.as_slice());
-    assert!(rt; deck.image() == image.as_slice());
+    let lines = listed(alloc, ALTITUDE, &image_of_a_frame(alloc)?)?;
+    assert!(rt; lines.as_slice() == b"session,1,3\ngap,0,1536\n".as_slice());
     Ok(())
 }
 
 /// What is answered to an image, of which nothing is listed.
 fn refused(alloc: Global, table: &str, image: &[u8]) -> Result<Outcome, Fail> {
-    let mut deck = deck_of(alloc, image, &[], &[])?;
-    let listed = list(alloc, table, &mut deck)?;
-    if !listed.written.is_empty() || deck.image() != image {
+    let listed = list(alloc, table, image, &[])?;
+    if !listed.written.is_empty() || listed.image.as_slice() != image {
         return Err("changed")?;
     }
     Ok(listed.outcome)
@@ -142,18 +128,24 @@ fn says_what_of_a_listing_failed(rt: HostRuntime) -> Result<(), Fail> {
         *image.get_mut(1).ok_or("a version")? = version;
         // The size, the header, the heads of four slots, those of four numbers downward, and three blocks in two reads each.
         for call in 0..16 {
-            let mut deck = deck_of(alloc, &image, &[], &[call])?;
-            let listed = list(alloc, ALTITUDE, &mut deck)?;
-            let written = listed.written;
-            assert!(rt; listed.outcome == Outcome::DiskFault, "call {call}");
-            assert!(rt; lines.as_bytes().starts_with(&written), "call {call}");
-            assert!(rt; written.len() < lines.len(), "call {call}");
-            assert!(rt; deck.image() == image.as_slice(), "call {call}");
+            let failed = list(alloc, ALTITUDE, &image, &[call])?;
+            let written = failed.written;
+            assert!(rt;
+                failed.outcome == Outcome::DiskFault && failed.image == image,
+                "call {call}"
+            );
+            assert!(rt;
+                lines.as_bytes().starts_with(&written) && written.len() < lines.len(),
+                "call {call}"
+            );
         }
     }
-    let mut deck = deck_of(alloc, &image, &[], &[])?;
-    let unwritten = run_words(alloc, LIST, ALTITUDE, &mut deck, &[0])?;
-    assert!(rt; unwritten.outcome == Outcome::WriteFault);
-    assert!(rt; unwritten.written.is_empty());
+    let given = Given {
+        image: &image,
+        writes: &[0],
+        ..Given::by(ALTITUDE)
+    };
+    let unwritten = run_on(alloc, LIST, given)?;
+    assert!(rt; unwritten.outcome == Outcome::WriteFault && unwritten.written.is_empty());
     Ok(())
 }

@@ -1,5 +1,5 @@
 use crate::formats::fresh_image;
-use fdr_cases::{ALTITUDE, Ran, deck_of, frame_with, run_words};
+use fdr_cases::{ALTITUDE, END_AT_4000000, Given, Left, deck_of, frame_with, run_on};
 use fdr_deck::MemDeck;
 use fdr_recover::{Found, RingFault, read_image_header, scan};
 use fdr_ring::Ring;
@@ -8,31 +8,29 @@ use fdr_top::Outcome;
 use std::alloc::{AllocError, Global};
 use std::test::Fail;
 
-/// Recovers an image. The table isn't read.
-pub fn recover(alloc: Global, deck: &mut MemDeck) -> Result<Ran, AllocError> {
-    run_words(alloc, &["recover", "flight.img"], "", deck, &[])
+/// Recovers an image, where the listed calls of the disk fail. The table isn't read.
+pub fn recover(alloc: Global, image: &[u8], calls: &[u64]) -> Result<Left, AllocError> {
+    let given = Given {
+        image,
+        calls,
+        ..Given::by("")
+    };
+    run_on(alloc, &["recover", "flight.img"], given)
 }
 
-/// Adds a block of session 1 to the ring of an image, which has room for its bytes.
-fn add_block(deck: &mut MemDeck, bytes: &[u8]) -> Result<(), RingFault> {
-    let header = read_image_header(deck)?;
-    let ring = Ring::attach(deck, header)?;
-    if header.version != 2 || bytes.is_empty() || bytes.len() > header.payload as usize {
-        return Err(RingFault::SeqEnd);
-    }
-    let prepared = ring.prepare(deck, 1, bytes)?;
-    prepared.commit(deck)?;
-    Ok(())
-}
-
-/// The image of 4 slots after the six blocks of a frame.
+/// The image of 4 slots after the six blocks of a frame, which are of session 1.
 pub fn image_of_a_frame(alloc: Global) -> Result<Vec<u8>, Fail> {
-    let frame = frame_with(alloc, &[])?;
-    let mut deck = deck_of(alloc, &fresh_image(alloc)?, &[], &[])?;
-    for block in frame.chunks(64) {
-        add_block(&mut deck, block).ok().ok_or("the disk")?;
+    let fresh = fresh_image(alloc)?;
+    let given = Given {
+        image: &fresh,
+        line: &END_AT_4000000,
+        ..Given::by(ALTITUDE)
+    };
+    let recorded = run_on(alloc, &["record", "t1.csv", "flight.img"], given)?;
+    if recorded.outcome != Outcome::Done || recorded.told != 6 {
+        return Err("six blocks")?;
     }
-    Ok(deck.image().to_vec(alloc)?)
+    Ok(recorded.image)
 }
 
 /// Adds a block of 64 bytes to the ring of an image that is opened first, and answers how many calls that takes.
@@ -60,9 +58,8 @@ fn a_block_takes_at_most_six_calls(rt: HostRuntime) -> Result<(), Fail> {
         .ok_or("blocks")?
         .to_vec(alloc)?;
     blocks.extend_from_slice(&[7; 64])?;
-    let recovered = recover(alloc, &mut deck)?;
-    assert!(rt; recovered.outcome == Outcome::Done);
-    assert!(rt; recovered.written == blocks);
+    let recovered = recover(alloc, deck.image(), &[])?;
+    assert!(rt; recovered.outcome == Outcome::Done && recovered.written == blocks);
     Ok(())
 }
 
@@ -70,18 +67,13 @@ fn a_block_takes_at_most_six_calls(rt: HostRuntime) -> Result<(), Fail> {
 fn recovers_the_last_blocks_of_a_ring(rt: HostRuntime) -> Result<(), Fail> {
     let alloc = rt.alloc();
     let image = image_of_a_frame(alloc)?;
-    let mut deck = deck_of(alloc, &image, &[], &[])?;
-    let recovered = recover(alloc, &mut deck)?;
-    assert!(rt; recovered.outcome == Outcome::Done);
+    let recovered = recover(alloc, &image, &[])?;
     let frame = frame_with(alloc, &[])?;
     let last = frame.get(192..).ok_or("three blocks")?;
+    assert!(rt; recovered.outcome == Outcome::Done && recovered.image == image);
     assert!(rt; recovered.written.as_slice() == last);
-    assert!(rt; deck.image() == image.as_slice());
-
-    let mut empty = deck_of(alloc, &fresh_image(alloc)?, &[], &[])?;
-    let recovered = recover(alloc, &mut empty)?;
-    assert!(rt; recovered.outcome == Outcome::Done);
-    assert!(rt; recovered.written.is_empty());
+    let recovered = recover(alloc, &fresh_image(alloc)?, &[])?;
+    assert!(rt; recovered.outcome == Outcome::Done && recovered.written.is_empty());
     Ok(())
 }
 
@@ -90,9 +82,8 @@ fn refused(alloc: Global, at: usize, byte: u8, length: usize) -> Result<Outcome,
     let mut image = fresh_image(alloc)?;
     *image.get_mut(at).ok_or("a byte")? = byte;
     image.resize(length, 0)?;
-    let mut deck = deck_of(alloc, &image, &[], &[])?;
-    let recovered = recover(alloc, &mut deck)?;
-    if !recovered.written.is_empty() || deck.image() != image.as_slice() {
+    let recovered = recover(alloc, &image, &[])?;
+    if !recovered.written.is_empty() || recovered.image != image {
         return Err("changed")?;
     }
     Ok(recovered.outcome)
@@ -127,16 +118,19 @@ fn says_what_failed(rt: HostRuntime) -> Result<(), Fail> {
     let image = image_of_a_frame(alloc)?;
     // The size, the header, the heads of four slots, those of four numbers downward, and three blocks in two reads each.
     for call in 0..16 {
-        let mut deck = deck_of(alloc, &image, &[], &[call])?;
-        let recovered = recover(alloc, &mut deck)?;
-        assert!(rt; recovered.outcome == Outcome::DiskFault, "call {call}");
-        assert!(rt; deck.image() == image.as_slice(), "call {call}");
+        let recovered = recover(alloc, &image, &[call])?;
+        assert!(rt;
+            recovered.outcome == Outcome::DiskFault && recovered.image == image,
+            "call {call}"
+        );
     }
-    let mut deck = deck_of(alloc, &image, &[], &[])?;
-    let words = ["recover", "flight.img"];
-    let unwritten = run_words(alloc, &words, ALTITUDE, &mut deck, &[0])?;
-    assert!(rt; unwritten.outcome == Outcome::WriteFault);
-    assert!(rt; unwritten.written.is_empty());
+    let given = Given {
+        image: &image,
+        writes: &[0],
+        ..Given::by("")
+    };
+    let unwritten = run_on(alloc, &["recover", "flight.img"], given)?;
+    assert!(rt; unwritten.outcome == Outcome::WriteFault && unwritten.written.is_empty());
     Ok(())
 }
 
@@ -181,21 +175,20 @@ fn found(deck: &mut MemDeck) -> Result<Found, RingFault> {
 #[test]
 fn recovers_the_run_that_ends_at_the_greatest(rt: HostRuntime) -> Result<(), Fail> {
     let alloc = rt.alloc();
-    let mut deck = deck_of(alloc, &broken_ring(alloc)?, &[], &[])?;
+    let ring = broken_ring(alloc)?;
     let run = Found {
         first: 7,
         next: 9,
         session: 8,
     };
-    assert!(rt; found(&mut deck).ok() == Some(run));
-    let mut old = broken_ring(alloc)?;
+    assert!(rt; found(&mut deck_of(alloc, &ring, &[], &[])?).ok() == Some(run));
+    let mut old = ring.to_vec(alloc)?;
     *old.get_mut(1).ok_or("a version")? = 0;
     let run = Found { session: 0, ..run };
     assert!(rt; found(&mut deck_of(alloc, &old, &[], &[])?).ok() == Some(run));
-    let recovered = recover(alloc, &mut deck)?;
-    assert!(rt; recovered.outcome == Outcome::Done);
+    let recovered = recover(alloc, &ring, &[])?;
     let mut blocks = vec![in alloc; 7; 64]?;
     blocks.extend_from_slice(&[8; 64])?;
-    assert!(rt; recovered.written == blocks);
+    assert!(rt; recovered.outcome == Outcome::Done && recovered.written == blocks);
     Ok(())
 }

@@ -1,7 +1,6 @@
 //! Images that are damaged: every run of blocks that is still there is listed.
 
-use fdr_cases::{ALTITUDE, Ran, deck_of, frame_with, ring_with, run_words};
-use fdr_deck::MemDeck;
+use fdr_cases::{ALTITUDE, Given, Left, frame_with, ring_with, run_on};
 use fdr_slot::ImageFault;
 use fdr_top::Outcome;
 use std::alloc::{AllocError, Global};
@@ -50,16 +49,28 @@ fn with_byte(alloc: Global, image: &[u8], at: usize, byte: u8) -> Result<Vec<u8>
     Ok(other)
 }
 
-/// Salvages the image of a deck.
-fn salvage(alloc: Global, words: &[&str], deck: &mut MemDeck) -> Result<Ran, AllocError> {
-    run_words(alloc, words, ALTITUDE, deck, &[])
+/// Salvages an image, where the listed calls of the disk and writes fail. A line is there, and isn't pulled.
+fn salvage(
+    alloc: Global,
+    words: &[&str],
+    image: &[u8],
+    calls: &[u64],
+    writes: &[u64],
+) -> Result<Left, AllocError> {
+    let given = Given {
+        image,
+        line: &[1],
+        calls,
+        writes,
+        ..Given::by(ALTITUDE)
+    };
+    run_on(alloc, words, given)
 }
 
 /// What is listed of an image, which stays as it is.
 fn salvaged(alloc: Global, words: &[&str], image: &[u8]) -> Result<Vec<u8>, Fail> {
-    let mut deck = deck_of(alloc, image, &[1], &[])?;
-    let ran = salvage(alloc, words, &mut deck)?;
-    if ran.outcome != Outcome::Done || deck.image() != image {
+    let ran = salvage(alloc, words, image, &[], &[])?;
+    if ran.outcome != Outcome::Done || ran.image.as_slice() != image {
         return Err("not salvaged")?;
     }
     Ok(ran.written)
@@ -67,9 +78,8 @@ fn salvaged(alloc: Global, words: &[&str], image: &[u8]) -> Result<Vec<u8>, Fail
 
 /// What is answered to an image, of which nothing is listed.
 fn refused(alloc: Global, words: &[&str], image: &[u8]) -> Result<Outcome, Fail> {
-    let mut deck = deck_of(alloc, image, &[], &[])?;
-    let ran = salvage(alloc, words, &mut deck)?;
-    if !ran.written.is_empty() || deck.image() != image {
+    let ran = salvage(alloc, words, image, &[], &[])?;
+    if !ran.written.is_empty() || ran.image.as_slice() != image {
         return Err("changed")?;
     }
     Ok(ran.outcome)
@@ -217,21 +227,21 @@ fn says_what_of_a_salvage_failed(rt: HostRuntime) -> Result<(), Fail> {
     for words in [SALVAGE, BY_EIGHT] {
         // The size, the header, the heads of eight slots, and three blocks in two reads each.
         for call in 0..16 {
-            let mut deck = deck_of(alloc, &image, &[], &[call])?;
-            let ran = salvage(alloc, words, &mut deck)?;
+            let ran = salvage(alloc, words, &image, &[call], &[])?;
             let written = ran.written;
-            assert!(rt; ran.outcome == Outcome::DiskFault, "call {call}");
-            assert!(rt; TWO_RUNS.as_bytes().starts_with(&written), "call {call}");
-            assert!(rt; written.len() < TWO_RUNS.len(), "call {call}");
-            assert!(rt; deck.image() == image.as_slice(), "call {call}");
+            assert!(rt;
+                ran.outcome == Outcome::DiskFault && ran.image == image,
+                "call {call}"
+            );
+            assert!(rt;
+                TWO_RUNS.as_bytes().starts_with(&written) && written.len() < TWO_RUNS.len(),
+                "call {call}"
+            );
         }
-        let mut deck = deck_of(alloc, &image, &[], &[16])?;
-        let ran = salvage(alloc, words, &mut deck)?;
+        let ran = salvage(alloc, words, &image, &[16], &[])?;
         assert!(rt; ran.outcome == Outcome::Done);
-        let mut deck = deck_of(alloc, &image, &[], &[])?;
-        let unwritten = run_words(alloc, words, ALTITUDE, &mut deck, &[0])?;
-        assert!(rt; unwritten.outcome == Outcome::WriteFault);
-        assert!(rt; unwritten.written.is_empty());
+        let unwritten = salvage(alloc, words, &image, &[], &[0])?;
+        assert!(rt; unwritten.outcome == Outcome::WriteFault && unwritten.written.is_empty());
     }
     Ok(())
 }

@@ -1,10 +1,11 @@
 //! Images of version 1: what is refused and listed of them, and what an upgrade does.
 
 use crate::formats::fresh_image;
-use crate::listings::list;
+use crate::listings::listed;
 use crate::recoveries::recover;
 use fdr_cases::{
-    ALTITUDE, END_AT_4000000, Ran, WORD_AT_0, deck_of, frame_with, ring_with, run_words,
+    ALTITUDE, END_AT_4000000, Given, Left, WORD_AT_0, deck_of, frame_with, ring_with, run_on,
+    run_words, stopped,
 };
 use fdr_deck::{MemDeck, Tear};
 use fdr_slot::ImageFault;
@@ -27,64 +28,74 @@ fn with_version(alloc: Global, image: &[u8], version: u8) -> Result<Vec<u8>, Fai
     Ok(other)
 }
 
+const UPGRADE: &[&str] = &["upgrade", "flight.img"];
+
 /// Upgrades an image. The table isn't read.
-fn upgrade(alloc: Global, deck: &mut MemDeck) -> Result<Ran, AllocError> {
-    run_words(alloc, &["upgrade", "flight.img"], "", deck, &[])
+fn upgrade(alloc: Global, image: &[u8]) -> Result<Left, AllocError> {
+    let given = Given {
+        image,
+        ..Given::by("")
+    };
+    run_on(alloc, UPGRADE, given)
 }
 
-/// What a command answers that records a trace of a frame with the altitude 5, and the image that it leaves.
-fn recorded(alloc: Global, words: &[&str], image: &[u8]) -> Result<(Outcome, Vec<u8>), Fail> {
+/// What an upgrade answers where the listed calls of the disk fail, and the deck after it.
+fn upgrade_failing(
+    alloc: Global,
+    image: &[u8],
+    calls: &[u64],
+) -> Result<(Outcome, MemDeck), AllocError> {
+    let mut deck = deck_of(alloc, image, &[], calls)?;
+    let ran = run_words(alloc, UPGRADE, "", &mut deck, &[])?;
+    Ok((ran.outcome, deck))
+}
+
+/// Runs a command that records a trace of a frame with the altitude 5. It writes no text.
+fn recorded(alloc: Global, words: &[&str], image: &[u8]) -> Result<Left, Fail> {
     let mut trace = WORD_AT_0.to_vec(alloc)?;
     trace.extend_from_slice(&END_AT_4000000)?;
-    let mut deck = deck_of(alloc, image, &trace, &[])?;
-    let ran = run_words(alloc, words, ALTITUDE, &mut deck, &[])?;
-    if !ran.written.is_empty() {
+    let given = Given {
+        image,
+        line: &trace,
+        ..Given::by(ALTITUDE)
+    };
+    let left = run_on(alloc, words, given)?;
+    if !left.written.is_empty() {
         return Err("it writes no text")?;
     }
-    Ok((ran.outcome, deck.image().to_vec(alloc)?))
+    Ok(left)
 }
 
 const RECORD: &[&str] = &["record", "t1.csv", "flight.img"];
 
 const DRILL: &[&str] = &["drill", "t1.csv", "flight.img", "--seed=1", "--frames=1"];
 
-/// What is listed of an image.
-fn listed(alloc: Global, image: &[u8]) -> Result<Vec<u8>, Fail> {
-    let mut deck = deck_of(alloc, image, &[], &[])?;
-    let ran = list(alloc, ALTITUDE, &mut deck)?;
-    if ran.outcome != Outcome::Done {
-        return Err("the image")?;
-    }
-    Ok(ran.written)
-}
-
 #[test]
 fn records_in_an_old_image_once_it_is_upgraded(rt: HostRuntime) -> Result<(), Fail> {
     let alloc = rt.alloc();
     let old = old_ring(alloc)?;
     for words in [RECORD, DRILL] {
-        let (answer, left) = recorded(alloc, words, &old)?;
-        assert!(rt; answer == Outcome::OldVersion, "{words:?}");
-        assert!(rt; left == old, "{words:?}");
+        let refused = recorded(alloc, words, &old)?;
+        assert!(rt;
+            refused.outcome == Outcome::OldVersion && refused.image == old,
+            "{words:?}"
+        );
     }
     let row = b"row,0,1,10,ALT,5\n";
-    assert!(rt; listed(alloc, &old)?.as_slice() == row.as_slice());
+    assert!(rt; listed(alloc, ALTITUDE, &old)?.as_slice() == row.as_slice());
 
     let new = with_version(alloc, &old, 0xa5)?;
-    let mut deck = deck_of(alloc, &old, &[], &[])?;
-    for _ in 0..2 {
-        let ran = upgrade(alloc, &mut deck)?;
-        assert!(rt; ran.outcome == Outcome::Done);
-        assert!(rt; ran.written.is_empty());
-        assert!(rt; deck.image() == new.as_slice());
+    for image in [old, new.to_vec(alloc)?] {
+        let ran = upgrade(alloc, &image)?;
+        assert!(rt; ran.outcome == Outcome::Done && ran.written.is_empty() && ran.image == new);
     }
     let lines = b"session,0,0\nrow,0,1,10,ALT,5\n";
-    assert!(rt; listed(alloc, &new)?.as_slice() == lines.as_slice());
+    assert!(rt; listed(alloc, ALTITUDE, &new)?.as_slice() == lines.as_slice());
 
-    let (answer, longer) = recorded(alloc, RECORD, &new)?;
-    assert!(rt; answer == Outcome::Done);
+    let longer = recorded(alloc, RECORD, &new)?;
+    assert!(rt; longer.outcome == Outcome::Done);
     let lines = b"session,0,0\nrow,0,1,10,ALT,5\nsession,1,6\nrow,0,1,10,ALT,5\n";
-    assert!(rt; listed(alloc, &longer)?.as_slice() == lines.as_slice());
+    assert!(rt; listed(alloc, ALTITUDE, &longer.image)?.as_slice() == lines.as_slice());
     Ok(())
 }
 
@@ -94,14 +105,13 @@ fn an_upgrade_keeps_numbers_and_bytes(rt: HostRuntime) -> Result<(), Fail> {
     let alloc = rt.alloc();
     let frame = frame_with(alloc, &[(13, 0x50)])?;
     let old = ring_with(alloc, 0x17, &[3, 3, 3, 3, 3, 4], &frame)?;
-    let mut deck = deck_of(alloc, &old, &[], &[])?;
-    let before = recover(alloc, &mut deck)?;
-    assert!(rt; before.written == frame);
-    assert!(rt; upgrade(alloc, &mut deck)?.outcome == Outcome::Done);
-    let after = recover(alloc, &mut deck)?;
-    assert!(rt; after.written == frame);
+    let upgraded = upgrade(alloc, &old)?;
+    assert!(rt; upgraded.outcome == Outcome::Done);
+    for image in [&old, &upgraded.image] {
+        assert!(rt; recover(alloc, image, &[])?.written == frame);
+    }
     let lines = b"session,3,0\ngap,0,2560\nsession,4,5\ngap,0,512\n";
-    assert!(rt; listed(alloc, deck.image())?.as_slice() == lines.as_slice());
+    assert!(rt; listed(alloc, ALTITUDE, &upgraded.image)?.as_slice() == lines.as_slice());
     Ok(())
 }
 
@@ -109,8 +119,7 @@ fn an_upgrade_keeps_numbers_and_bytes(rt: HostRuntime) -> Result<(), Fail> {
 fn a_stop_leaves_one_version_or_the_other(rt: HostRuntime) -> Result<(), Fail> {
     let alloc = rt.alloc();
     let old = old_ring(alloc)?;
-    let mut whole = deck_of(alloc, &old, &[], &[])?;
-    upgrade(alloc, &mut whole)?;
+    let (_, whole) = upgrade_failing(alloc, &old, &[])?;
     assert!(rt; whole.calls() == WRITE + 2);
     let tears = [
         (Tear::Old, 0x00, "row,0,1,10,ALT,5\n"),
@@ -120,22 +129,22 @@ fn a_stop_leaves_one_version_or_the_other(rt: HostRuntime) -> Result<(), Fail> {
     ];
     for call in 0..WRITE + 2 {
         // Nothing is pending before the write.
-        let mut failing = deck_of(alloc, &old, &[], &[call])?;
-        let failed = upgrade(alloc, &mut failing)?;
-        assert!(rt; failed.outcome == Outcome::DiskFault, "call {call}");
+        let (failed, failing) = upgrade_failing(alloc, &old, &[call])?;
+        assert!(rt; failed == Outcome::DiskFault, "call {call}");
         assert!(rt; failing.calls() == call + 1, "call {call}");
         for (tear, version, lines) in tears {
             let version = if call < WRITE { 0x00 } else { version };
-            for deck in [&whole, &failing] {
-                if call < deck.calls() {
-                    let left = deck.stop(alloc, call, tear)?;
-                    let expected = with_version(alloc, &old, version)?;
-                    assert!(rt; left == expected, "call {call}, {tear:?}");
-                }
-            }
+            let left = Some(with_version(alloc, &old, version)?);
+            assert!(rt;
+                stopped(alloc, &whole, call, tear)? == left,
+                "call {call}, {tear:?}"
+            );
+            assert!(rt;
+                stopped(alloc, &failing, call, tear)? == left,
+                "call {call}, {tear:?}"
+            );
             if call >= WRITE {
-                let left = with_version(alloc, &old, version)?;
-                let written = listed(alloc, &left)?;
+                let written = listed(alloc, ALTITUDE, &with_version(alloc, &old, version)?)?;
                 assert!(rt; written.as_slice() == lines.as_bytes(), "{tear:?}");
             }
         }
@@ -148,9 +157,8 @@ fn upgraded(alloc: Global, at: usize, byte: u8, length: usize) -> Result<Outcome
     let mut image = fresh_image(alloc)?;
     *image.get_mut(at).ok_or("a byte")? = byte;
     image.resize(length, 0)?;
-    let mut deck = deck_of(alloc, &image, &[], &[])?;
-    let ran = upgrade(alloc, &mut deck)?;
-    if !ran.written.is_empty() || deck.image() != image.as_slice() {
+    let ran = upgrade(alloc, &image)?;
+    if !ran.written.is_empty() || ran.image != image {
         return Err("changed")?;
     }
     Ok(ran.outcome)

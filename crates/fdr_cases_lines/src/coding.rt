@@ -1,32 +1,27 @@
 //! Worked lines of bits and of levels.
 
 use crate::lines::frame;
-use fdr_cases::{answer, words_of};
-use fdr_deck::MemDeck;
-use fdr_io::{Input, MemSink, MemSource};
+use fdr_cases::{Given, Left, run_on};
+use fdr_io::Input;
 use fdr_top::Outcome;
-use std::alloc::Global;
+use std::alloc::{AllocError, Global};
 use std::test::Fail;
 
 /// What a command without a table answers and writes of a line, where the listed pulls and writes fail.
-fn run_on(
+fn coded(
     alloc: Global,
     command: &str,
     line: &[u8],
     pulls: &[u64],
     writes: &[u64],
-) -> Result<(Outcome, Vec<u8>), Fail> {
-    let words = words_of(alloc, &[command])?;
-    let mut table = MemSource::new(Vec::new(alloc), Vec::new(alloc));
-    let mut deck = MemDeck::new(
-        alloc,
-        Vec::new(alloc),
-        line.to_vec(alloc)?,
-        pulls.to_vec(alloc)?,
-    );
-    let mut out = MemSink::new(alloc, writes.to_vec(alloc)?);
-    let given = answer(alloc, &words, &mut table, &mut deck, &mut out);
-    Ok((given, out.bytes().to_vec(alloc)?))
+) -> Result<Left, AllocError> {
+    let given = Given {
+        line,
+        calls: pulls,
+        writes,
+        ..Given::by("")
+    };
+    run_on(alloc, &[command], given)
 }
 
 #[test]
@@ -86,9 +81,11 @@ fn codes_worked_lines(rt: HostRuntime) -> Result<(), Fail> {
         ),
     ];
     for (shows, command, line, outcome, written) in cases {
-        let given = run_on(rt.alloc(), command, line, &[], &[])?;
-        assert!(rt; given.0 == outcome, "{shows}");
-        assert!(rt; given.1.as_slice() == written, "{shows}");
+        let ran = coded(rt.alloc(), command, line, &[], &[])?;
+        assert!(rt;
+            ran.outcome == outcome && ran.written.as_slice() == written,
+            "{shows}"
+        );
     }
     Ok(())
 }
@@ -96,12 +93,11 @@ fn codes_worked_lines(rt: HostRuntime) -> Result<(), Fail> {
 #[test]
 fn decodes_what_was_encoded(rt: HostRuntime) -> Result<(), Fail> {
     let line = frame(0, 5);
-    let levels = run_on(rt.alloc(), "encode", &line, &[], &[])?;
-    assert!(rt; levels.0 == Outcome::Done);
-    assert!(rt; levels.1.len() == 768);
-    let bits = run_on(rt.alloc(), "decode", &levels.1, &[], &[])?;
-    assert!(rt; bits.0 == Outcome::Done);
-    assert!(rt; bits.1.as_slice() == line.as_slice());
+    let levels = coded(rt.alloc(), "encode", &line, &[], &[])?;
+    assert!(rt; levels.outcome == Outcome::Done && levels.written.len() == 768);
+    let bits = coded(rt.alloc(), "decode", &levels.written, &[], &[])?;
+    assert!(rt; bits.outcome == Outcome::Done);
+    assert!(rt; bits.written.as_slice() == line.as_slice());
     Ok(())
 }
 
@@ -128,9 +124,11 @@ fn answers_faults_of_the_line_and_the_sink(rt: HostRuntime) -> Result<(), Fail> 
         ("decode", &[0x6a, 0x16], &[], &[0], Outcome::WriteFault, &[]),
     ];
     for (command, given, pulls, writes, outcome, written) in cases {
-        let (answered, text) = run_on(rt.alloc(), command, given, pulls, writes)?;
-        assert!(rt; answered == outcome, "{command}");
-        assert!(rt; text.as_slice() == written, "{command}");
+        let ran = coded(rt.alloc(), command, given, pulls, writes)?;
+        assert!(rt;
+            ran.outcome == outcome && ran.written.as_slice() == written,
+            "{command}"
+        );
     }
     Ok(())
 }

@@ -2,13 +2,14 @@
 
 use fdr_bus::TraceFault;
 use fdr_cases::{
-    END_AT_8000000, POSITION_AT_0, POSITION_AT_1000000, TWO_PARTS, WORD_AT_0, deck_of, frame_with,
-    run_words,
+    END_AT_8000000, Given, POSITION_AT_0, POSITION_AT_1000000, TWO_PARTS, WORD_AT_0, frame_with,
+    run_on,
 };
-use fdr_deck::MemDeck;
 use fdr_top::Outcome;
 use std::alloc::{AllocError, Global};
 use std::test::Fail;
+
+const STREAM: &[&str] = &["stream", "t3.csv"];
 
 /// The altitude 5, a position in two parts, its next value a second later, and an end after two frames.
 fn whole_trace(alloc: Global) -> Result<Vec<u8>, AllocError> {
@@ -32,9 +33,8 @@ fn recorded_of(alloc: Global, length: usize) -> Result<Vec<u8>, AllocError> {
     Ok(frame)
 }
 
-/// The ring of four slots of 64 bytes without blocks.
-fn fresh_ring(alloc: Global) -> Result<MemDeck, AllocError> {
-    let mut deck = deck_of(alloc, &[], &[], &[])?;
+/// The image of a ring of four slots of 64 bytes without blocks.
+fn fresh_ring(alloc: Global) -> Result<Vec<u8>, AllocError> {
     let words = [
         "format",
         "t3.csv",
@@ -42,8 +42,7 @@ fn fresh_ring(alloc: Global) -> Result<MemDeck, AllocError> {
         "--slots=4",
         "--payload=64",
     ];
-    run_words(alloc, &words, TWO_PARTS, &mut deck, &[])?;
-    Ok(deck)
+    Ok(run_on(alloc, &words, Given::by(TWO_PARTS))?.image)
 }
 
 /// How a trace of this length is refused.
@@ -60,9 +59,11 @@ fn streams_the_whole_records_of_a_cut_trace(rt: HostRuntime) -> Result<(), Fail>
     let trace = whole_trace(alloc)?;
     let mut bytes: usize = 0;
     for length in 0..64 {
-        let line = trace.get(..length).ok_or("bytes")?;
-        let mut deck = deck_of(alloc, &[], line, &[])?;
-        let ran = run_words(alloc, &["stream", "t3.csv"], TWO_PARTS, &mut deck, &[])?;
+        let given = Given {
+            line: trace.get(..length).ok_or("bytes")?,
+            ..Given::by(TWO_PARTS)
+        };
+        let ran = run_on(alloc, STREAM, given)?;
         assert!(rt; ran.outcome == refusal(length), "{length} bytes");
         assert!(rt;
             ran.written == recorded_of(alloc, length)?,
@@ -71,10 +72,12 @@ fn streams_the_whole_records_of_a_cut_trace(rt: HostRuntime) -> Result<(), Fail>
         bytes = bytes.saturating_add(ran.written.len());
     }
     assert!(rt; bytes == 16 * 96);
-    let mut deck = deck_of(alloc, &[], &trace, &[])?;
-    let ran = run_words(alloc, &["stream", "t3.csv"], TWO_PARTS, &mut deck, &[])?;
-    assert!(rt; ran.outcome == Outcome::Done);
-    assert!(rt; ran.written.len() == 768);
+    let given = Given {
+        line: &trace,
+        ..Given::by(TWO_PARTS)
+    };
+    let ran = run_on(alloc, STREAM, given)?;
+    assert!(rt; ran.outcome == Outcome::Done && ran.written.len() == 768);
     Ok(())
 }
 
@@ -86,21 +89,26 @@ fn records_the_whole_records_of_a_cut_trace(rt: HostRuntime) -> Result<(), Fail>
     let ring = fresh_ring(alloc)?;
     let mut blocks: u64 = 0;
     for length in 0..64 {
-        let line = trace.get(..length).ok_or("bytes")?;
-        let mut deck = deck_of(alloc, ring.image(), line, &[])?;
-        let words = ["record", "t3.csv", "flight.img"];
-        let ran = run_words(alloc, &words, TWO_PARTS, &mut deck, &[])?;
-        assert!(rt; ran.outcome == refusal(length), "{length} bytes");
-        assert!(rt; ran.written.is_empty(), "{length} bytes");
+        let given = Given {
+            image: &ring,
+            line: trace.get(..length).ok_or("bytes")?,
+            ..Given::by(TWO_PARTS)
+        };
+        let ran = run_on(alloc, &["record", "t3.csv", "flight.img"], given)?;
         let expected = recorded_of(alloc, length)?;
         assert!(rt;
-            deck.told() == expected.len().div_ceil(64) as u64,
+            ran.outcome == refusal(length)
+                && ran.written.is_empty()
+                && ran.told == expected.len().div_ceil(64) as u64,
             "{length} bytes"
         );
-        blocks = blocks.saturating_add(deck.told());
-        let mut left = deck_of(alloc, deck.image(), &[], &[])?;
-        let ran = run_words(alloc, &["recover", "flight.img"], "", &mut left, &[])?;
-        assert!(rt; ran.written == expected, "{length} bytes");
+        blocks = blocks.saturating_add(ran.told);
+        let given = Given {
+            image: &ran.image,
+            ..Given::by("")
+        };
+        let recovered = run_on(alloc, &["recover", "flight.img"], given)?;
+        assert!(rt; recovered.written == expected, "{length} bytes");
     }
     assert!(rt; blocks == 16 * 2);
     Ok(())

@@ -1,6 +1,6 @@
 //! Parameters with an age, and parameters that tell freshness: what is listed of the stream of a bus that falls silent.
 
-use fdr_cases::{END_AT_4000000, END_AT_8000000, WORD_AT_0, deck_of, run_words};
+use fdr_cases::{END_AT_4000000, END_AT_8000000, Given, WORD_AT_0, run_on};
 use fdr_top::Outcome;
 use std::alloc::Global;
 use std::test::Fail;
@@ -57,13 +57,19 @@ fn listed(alloc: Global, table: &str, trace: &[[u8; 16]]) -> Result<Vec<u8>, Fai
     for record in trace {
         line.extend_from_slice(record)?;
     }
-    let mut deck = deck_of(alloc, &[], &line, &[])?;
-    let streamed = run_words(alloc, &["stream", "t.csv"], table, &mut deck, &[])?;
+    let given = Given {
+        line: &line,
+        ..Given::by(table)
+    };
+    let streamed = run_on(alloc, &["stream", "t.csv"], given)?;
     if streamed.outcome != Outcome::Done {
         return Err("the trace")?;
     }
-    let mut deck = deck_of(alloc, &[], &streamed.written, &[])?;
-    let listed = run_words(alloc, &["listbits", "t.csv"], table, &mut deck, &[])?;
+    let given = Given {
+        line: &streamed.written,
+        ..given
+    };
+    let listed = run_on(alloc, &["listbits", "t.csv"], given)?;
     if listed.outcome != Outcome::Done {
         return Err("the stream")?;
     }

@@ -2,12 +2,13 @@ use crate::lines::{
     frame, frame_behind_a_false_one, frame_with_a_bit_struck_out, frames_behind_five_bits,
     frames_far_apart, thirty_frames,
 };
-use fdr_cases::{ALTITUDE, answer, words_of};
+use fdr_cases::{ALTITUDE, Given, answer, deck_of, run_on, run_words, words_of};
 use fdr_deck::{Deck, MemDeck, SureDeck};
 use fdr_io::{Input, MemSink, MemSource, NullSink, SureSource};
 use fdr_sure::sure_command;
 use fdr_table::TableFault;
 use fdr_top::Outcome;
+use std::alloc::{AllocError, Global};
 use std::test::Fail;
 
 /// An altitude in the counter's word.
@@ -17,8 +18,6 @@ const LISTBITS: &[&str] = &["listbits", "t1.csv"];
 
 #[test]
 fn lists_worked_lines(rt: HostRuntime) -> Result<(), Fail> {
-    let alloc = rt.alloc();
-    let words = words_of(alloc, LISTBITS)?;
     let clean = frame(0, 5);
     let struck = frame_with_a_bit_struck_out();
     let behind = frames_behind_five_bits();
@@ -46,12 +45,13 @@ fn lists_worked_lines(rt: HostRuntime) -> Result<(), Fail> {
         ),
     ];
     for (shows, line, listing) in cases {
-        let mut table = MemSource::new(ALTITUDE.as_bytes().to_vec(alloc)?, Vec::new(alloc));
-        let mut deck = MemDeck::new(alloc, Vec::new(alloc), line.to_vec(alloc)?, Vec::new(alloc));
-        let mut out = MemSink::new(alloc, Vec::new(alloc));
-        let given = answer(alloc, &words, &mut table, &mut deck, &mut out);
-        assert!(rt; given == Outcome::Done, "{shows}");
-        assert!(rt; out.bytes() == listing, "{shows}");
+        let given = Given {
+            line,
+            ..Given::by(ALTITUDE)
+        };
+        let ran = run_on(rt.alloc(), LISTBITS, given)?;
+        assert!(rt; ran.outcome == Outcome::Done, "{shows}");
+        assert!(rt; ran.written.as_slice() == listing, "{shows}");
     }
     Ok(())
 }
@@ -70,10 +70,33 @@ struct Fault<'a> {
     left: &'a [u8],
 }
 
+/// What a command answered and wrote, and what another one did of the rest of the line, where nothing fails.
+#[derive(Drop)]
+struct Answered {
+    answer: Outcome,
+    written: Vec<u8>,
+    then: Outcome,
+    left: Vec<u8>,
+}
+
+fn answers_to(alloc: Global, line: &[u8], case: &Fault) -> Result<Answered, AllocError> {
+    let words = words_of(alloc, LISTBITS)?;
+    let mut table = MemSource::new(case.table.to_vec(alloc)?, case.reads.to_vec(alloc)?);
+    let mut deck = deck_of(alloc, &[], line, case.pulls)?;
+    let mut out = MemSink::new(alloc, case.writes.to_vec(alloc)?);
+    let given = answer(alloc, &words, &mut table, &mut deck, &mut out);
+    let then = run_words(alloc, LISTBITS, ALTITUDE, &mut deck, &[])?;
+    Ok(Answered {
+        answer: given,
+        written: out.bytes().to_vec(alloc)?,
+        then: then.outcome,
+        left: then.written,
+    })
+}
+
 #[test]
 fn answers_faults_and_refusals(rt: HostRuntime) -> Result<(), Fail> {
     let alloc = rt.alloc();
-    let words = words_of(alloc, LISTBITS)?;
     let line = frames_far_apart();
     let too_large = vec![in alloc; b'X'; 1_048_577]?;
     let whole: &[u8] = b"row,0,1,10,ALT,5\ngap,3072,29696\nrow,1,1,10,ALT,7\n";
@@ -127,39 +150,29 @@ fn answers_faults_and_refusals(rt: HostRuntime) -> Result<(), Fail> {
     ];
     for case in cases {
         let shows = case.shows;
-        let mut table = MemSource::new(case.table.to_vec(alloc)?, case.reads.to_vec(alloc)?);
-        let mut deck = MemDeck::new(
-            alloc,
-            Vec::new(alloc),
-            line.to_vec(alloc)?,
-            case.pulls.to_vec(alloc)?,
-        );
-        let mut out = MemSink::new(alloc, case.writes.to_vec(alloc)?);
-        let given = answer(alloc, &words, &mut table, &mut deck, &mut out);
-        assert!(rt; given == case.answer, "{shows}");
-        assert!(rt; out.bytes() == case.written, "{shows}");
-        let mut table = MemSource::new(ALTITUDE.as_bytes().to_vec(alloc)?, Vec::new(alloc));
-        let mut out = MemSink::new(alloc, Vec::new(alloc));
+        let ran = answers_to(alloc, &line, &case)?;
         assert!(rt;
-            answer(alloc, &words, &mut table, &mut deck, &mut out) == Outcome::Done,
+            ran.answer == case.answer && ran.written.as_slice() == case.written,
             "{shows}"
         );
-        assert!(rt; out.bytes() == case.left, "{shows}");
+        assert!(rt;
+            ran.then == Outcome::Done && ran.left.as_slice() == case.left,
+            "{shows}"
+        );
     }
     Ok(())
 }
 
 #[test]
 fn writes_nothing_where_the_first_write_fails(rt: HostRuntime) -> Result<(), Fail> {
-    let alloc = rt.alloc();
-    let words = words_of(alloc, LISTBITS)?;
-    let line = frames_behind_five_bits().to_vec(alloc)?;
-    let mut table = MemSource::new(ALTITUDE.as_bytes().to_vec(alloc)?, Vec::new(alloc));
-    let mut deck = MemDeck::new(alloc, Vec::new(alloc), line, Vec::new(alloc));
-    let mut out = MemSink::new(alloc, vec![in alloc; 0]?);
-    let given = answer(alloc, &words, &mut table, &mut deck, &mut out);
-    assert!(rt; given == Outcome::WriteFault);
-    assert!(rt; out.bytes().is_empty());
+    let line = frames_behind_five_bits();
+    let given = Given {
+        line: &line,
+        writes: &[0],
+        ..Given::by(ALTITUDE)
+    };
+    let ran = run_on(rt.alloc(), LISTBITS, given)?;
+    assert!(rt; ran.outcome == Outcome::WriteFault && ran.written.is_empty());
     Ok(())
 }
 
@@ -178,14 +191,9 @@ fn left_of(deck: &mut MemDeck) -> Result<usize, Fail> {
 #[test]
 fn pulls_no_further_where_a_write_fails(rt: HostRuntime) -> Result<(), Fail> {
     let alloc = rt.alloc();
-    let words = words_of(alloc, LISTBITS)?;
-    let line = thirty_frames().to_vec(alloc)?;
-    let mut table = MemSource::new(ALTITUDE.as_bytes().to_vec(alloc)?, Vec::new(alloc));
-    let mut deck = MemDeck::new(alloc, Vec::new(alloc), line, Vec::new(alloc));
-    let mut out = MemSink::new(alloc, vec![in alloc; 0]?);
-    let given = answer(alloc, &words, &mut table, &mut deck, &mut out);
-    assert!(rt; given == Outcome::WriteFault);
-    assert!(rt; out.bytes().is_empty());
+    let mut deck = deck_of(alloc, &[], &thirty_frames(), &[])?;
+    let ran = run_words(alloc, LISTBITS, ALTITUDE, &mut deck, &[0])?;
+    assert!(rt; ran.outcome == Outcome::WriteFault && ran.written.is_empty());
     assert!(rt; left_of(&mut deck)? >= 7041);
     Ok(())
 }
@@ -194,14 +202,11 @@ fn pulls_no_further_where_a_write_fails(rt: HostRuntime) -> Result<(), Fail> {
 #[test]
 fn lists_the_first_bytes_of_a_line_too_long(rt: HostRuntime) -> Result<(), Fail> {
     let alloc = rt.alloc();
-    let words = words_of(alloc, LISTBITS)?;
     let line = vec![in alloc; 0; 268_435_457]?;
-    let mut table = MemSource::new(ALTITUDE.as_bytes().to_vec(alloc)?, Vec::new(alloc));
     let mut deck = MemDeck::new(alloc, Vec::new(alloc), line, Vec::new(alloc));
-    let mut out = MemSink::new(alloc, Vec::new(alloc));
-    let given = answer(alloc, &words, &mut table, &mut deck, &mut out);
-    assert!(rt; given == Outcome::TooLong);
-    assert!(rt; out.bytes() == b"gap,0,2147483648\n".as_slice());
+    let ran = run_words(alloc, LISTBITS, ALTITUDE, &mut deck, &[])?;
+    assert!(rt; ran.outcome == Outcome::TooLong);
+    assert!(rt; ran.written.as_slice() == b"gap,0,2147483648\n".as_slice());
     Ok(())
 }
 

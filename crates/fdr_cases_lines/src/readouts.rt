@@ -1,6 +1,6 @@
 //! A line of three frames in which bits and bytes are struck out, turned, doubled or put in.
 
-use fdr_cases::{ALTITUDE, deck_of, frame_with, run_words};
+use fdr_cases::{ALTITUDE, Given, frame_with, run_on};
 use fdr_top::Outcome;
 use std::alloc::{AllocError, Global};
 use std::test::Fail;
@@ -49,8 +49,11 @@ fn joined(alloc: Global, pieces: &[Option<&[u8]>]) -> Result<Vec<u8>, Fail> {
 
 /// What is listed of a line.
 fn listed(alloc: Global, line: &[u8]) -> Result<Vec<u8>, Fail> {
-    let mut deck = deck_of(alloc, &[], line, &[])?;
-    let ran = run_words(alloc, &["listbits", "t1.csv"], ALTITUDE, &mut deck, &[])?;
+    let given = Given {
+        line,
+        ..Given::by(ALTITUDE)
+    };
+    let ran = run_on(alloc, &["listbits", "t1.csv"], given)?;
     if ran.outcome != Outcome::Done {
         return Err("a listing")?;
     }

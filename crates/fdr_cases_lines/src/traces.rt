@@ -1,10 +1,10 @@
 use fdr_bus::TraceFault;
 use fdr_cases::{
-    ALTITUDE, END_AT_4000000, END_AT_4000001, WORD_AT_0, WORD_AT_4000000, answer, frame_with,
-    words_of,
+    ALTITUDE, END_AT_4000000, END_AT_4000001, Given, WORD_AT_0, WORD_AT_4000000, frame_with,
+    run_on, words_of,
 };
-use fdr_deck::{MemDeck, SureDeck};
-use fdr_io::{Input, MemSink, MemSource, NullSink, SureSource};
+use fdr_deck::SureDeck;
+use fdr_io::{Input, NullSink, SureSource};
 use fdr_sure::sure_command;
 use fdr_top::Outcome;
 use std::alloc::{AllocError, Global};
@@ -89,28 +89,23 @@ fn refused<'a>(
     case
 }
 
-/// Runs a case. Without clauses, so that each test is proved without those of its calls.
-fn run_case(
-    alloc: Global,
-    words: &[String],
-    case: &Case,
-) -> Result<(Outcome, Vec<u8>), AllocError> {
-    let mut table = MemSource::new(case.table.to_vec(alloc)?, Vec::new(alloc));
-    let mut deck = MemDeck::new(
-        alloc,
-        Vec::new(alloc),
-        bytes_of(alloc, case.trace, case.cut)?,
-        case.pulls.to_vec(alloc)?,
-    );
-    let mut out = MemSink::new(alloc, case.writes.to_vec(alloc)?);
-    let given = answer(alloc, words, &mut table, &mut deck, &mut out);
-    Ok((given, out.bytes().to_vec(alloc)?))
+/// Whether a case is answered and written as it says.
+fn is_as_said(alloc: Global, case: &Case) -> Result<bool, AllocError> {
+    let line = bytes_of(alloc, case.trace, case.cut)?;
+    let given = Given {
+        table: case.table,
+        line: &line,
+        calls: case.pulls,
+        writes: case.writes,
+        ..Given::by("")
+    };
+    let ran = run_on(alloc, STREAM, given)?;
+    Ok(ran.outcome == case.answer && ran.written.as_slice() == case.written)
 }
 
 #[test]
 fn streams_worked_traces(rt: HostRuntime) -> Result<(), Fail> {
     let alloc = rt.alloc();
-    let words = words_of(alloc, STREAM)?;
     let zero = frame_with(alloc, &[])?;
     let five = frame_with(alloc, FIVE)?;
     let second = frame_with(alloc, FIVE_SECOND)?;
@@ -160,9 +155,7 @@ fn streams_worked_traces(rt: HostRuntime) -> Result<(), Fail> {
         ),
     ];
     for case in cases {
-        let (given, written) = run_case(alloc, &words, &case)?;
-        assert!(rt; given == case.answer, "{}", case.shows);
-        assert!(rt; written.as_slice() == case.written, "{}", case.shows);
+        assert!(rt; is_as_said(alloc, &case)?, "{}", case.shows);
     }
     Ok(())
 }
@@ -170,7 +163,6 @@ fn streams_worked_traces(rt: HostRuntime) -> Result<(), Fail> {
 #[test]
 fn streams_what_was_pulled_before_a_fault(rt: HostRuntime) -> Result<(), Fail> {
     let alloc = rt.alloc();
-    let words = words_of(alloc, STREAM)?;
     let five = frame_with(alloc, FIVE)?;
     let mut cut = refused(
         "a word and 15 bytes",
@@ -197,9 +189,7 @@ fn streams_what_was_pulled_before_a_fault(rt: HostRuntime) -> Result<(), Fail> {
     unwritten.writes = &[0];
     unwritten.answer = Outcome::WriteFault;
     for case in [cut, unread, unwritten] {
-        let (given, written) = run_case(alloc, &words, &case)?;
-        assert!(rt; given == case.answer, "{}", case.shows);
-        assert!(rt; written.as_slice() == case.written, "{}", case.shows);
+        assert!(rt; is_as_said(alloc, &case)?, "{}", case.shows);
     }
     Ok(())
 }
@@ -207,36 +197,20 @@ fn streams_what_was_pulled_before_a_fault(rt: HostRuntime) -> Result<(), Fail> {
 #[test]
 fn lists_what_was_streamed(rt: HostRuntime) -> Result<(), Fail> {
     let alloc = rt.alloc();
-    let trace = bytes_of(alloc, &[WORD_AT_0, END_AT_4000001], 0)?;
-    let mut table = MemSource::new(ALTITUDE.as_bytes().to_vec(alloc)?, Vec::new(alloc));
-    let mut deck = MemDeck::new(alloc, Vec::new(alloc), trace, Vec::new(alloc));
-    let mut stream = MemSink::new(alloc, Vec::new(alloc));
-    let given = answer(
-        alloc,
-        &words_of(alloc, STREAM)?,
-        &mut table,
-        &mut deck,
-        &mut stream,
-    );
-    assert!(rt; given == Outcome::Done);
-
-    let mut table = MemSource::new(ALTITUDE.as_bytes().to_vec(alloc)?, Vec::new(alloc));
-    let mut deck = MemDeck::new(
-        alloc,
-        Vec::new(alloc),
-        stream.bytes().to_vec(alloc)?,
-        Vec::new(alloc),
-    );
-    let mut out = MemSink::new(alloc, Vec::new(alloc));
-    let given = answer(
-        alloc,
-        &words_of(alloc, &["listbits", "t1.csv"])?,
-        &mut table,
-        &mut deck,
-        &mut out,
-    );
-    assert!(rt; given == Outcome::Done);
-    assert!(rt; out.bytes() == b"row,0,1,10,ALT,5\ngap,3072,16\n".as_slice());
+    let line = bytes_of(alloc, &[WORD_AT_0, END_AT_4000001], 0)?;
+    let given = Given {
+        line: &line,
+        ..Given::by(ALTITUDE)
+    };
+    let streamed = run_on(alloc, STREAM, given)?;
+    assert!(rt; streamed.outcome == Outcome::Done);
+    let given = Given {
+        line: &streamed.written,
+        ..Given::by(ALTITUDE)
+    };
+    let listed = run_on(alloc, &["listbits", "t1.csv"], given)?;
+    assert!(rt; listed.outcome == Outcome::Done);
+    assert!(rt; listed.written.as_slice() == b"row,0,1,10,ALT,5\ngap,3072,16\n".as_slice());
     Ok(())
 }
 

@@ -107,8 +107,5 @@ pub fn first_call_with(deck: &MemDeck, number: u64) -> Result<u64, Fail> {
 
 /// The image that a stop within a call leaves.
 pub fn stopped(alloc: Global, deck: &MemDeck, call: u64, tear: Tear) -> Result<Vec<u8>, Fail> {
-    if call >= deck.calls() {
-        return Err("no such call")?;
-    }
-    Ok(deck.stop(alloc, call, tear)?)
+    Ok(fdr_cases::stopped(alloc, deck, call, tear)?.ok_or("no such call")?)
 }

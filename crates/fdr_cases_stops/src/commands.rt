@@ -1,12 +1,9 @@
 //! The commands whose sink and table fail, and what they write where nothing does.
 
 use fdr_cases::{
-    ALTITUDE, END_AT_4000000, END_AT_4000001, ORDINARY, WORD_AT_0, answer, deck_of, frame_with,
-    ring_with, run_words, words_of,
+    ALTITUDE, END_AT_4000000, END_AT_4000001, Given, Left, ORDINARY, WORD_AT_0, frame_with,
+    ring_with, run_on,
 };
-use fdr_deck::MemDeck;
-use fdr_io::{MemSink, MemSource};
-use fdr_top::Outcome;
 use std::alloc::{AllocError, Global};
 use std::test::Fail;
 
@@ -59,12 +56,14 @@ impl Inputs {
         trace.extend_from_slice(&END_AT_4000000)?;
         let mut longer = frame_with(alloc, &[])?;
         longer.extend_from_slice(&[0x47, 0x02])?;
-        let mut deck = deck_of(alloc, &[], &trace, &[])?;
-        run_words(alloc, FORMAT, ALTITUDE, &mut deck, &[])?;
-        let fresh = deck.image().to_vec(alloc)?;
-        run_words(alloc, RECORD, ALTITUDE, &mut deck, &[])?;
-        let recorded = deck.image().to_vec(alloc)?;
-        if deck.told() != 6 {
+        let fresh = run_on(alloc, FORMAT, Given::by(ALTITUDE))?.image;
+        let given = Given {
+            image: &fresh,
+            line: &trace,
+            ..Given::by(ALTITUDE)
+        };
+        let recorded = run_on(alloc, RECORD, given)?;
+        if recorded.told != 6 {
             return Err("six blocks")?;
         }
         Ok(Inputs {
@@ -75,7 +74,7 @@ impl Inputs {
             longer,
             eleven: eleven_frames(alloc)?,
             fresh,
-            recorded,
+            recorded: recorded.image,
             old: ring_with(alloc, 0, &[0; 6], &frame_with(alloc, &[(13, 0x50)])?)?,
         })
     }
@@ -173,30 +172,19 @@ param,HDG,32,even
 param,PIT,32,uneven
 ";
 
-/// What a command answered and wrote, and its deck.
-#[derive(Drop)]
-pub struct Failed {
-    pub outcome: Outcome,
-    pub written: Vec<u8>,
-    pub deck: MemDeck,
-}
-
 /// Runs a command where the listed reads of the table and the listed writes fail.
 pub fn run_failing(
     alloc: Global,
     command: &Command,
     reads: &[u64],
     writes: &[u64],
-) -> Result<Failed, AllocError> {
-    let words = words_of(alloc, command.words)?;
-    let bytes = command.table.as_bytes().to_vec(alloc)?;
-    let mut table = MemSource::new(bytes, reads.to_vec(alloc)?);
-    let mut deck = deck_of(alloc, command.image, command.line, &[])?;
-    let mut out = MemSink::new(alloc, writes.to_vec(alloc)?);
-    let outcome = answer(alloc, &words, &mut table, &mut deck, &mut out);
-    Ok(Failed {
-        outcome,
-        written: out.bytes().to_vec(alloc)?,
-        deck,
-    })
+) -> Result<Left, AllocError> {
+    let given = Given {
+        image: command.image,
+        line: command.line,
+        reads,
+        writes,
+        ..Given::by(command.table)
+    };
+    run_on(alloc, command.words, given)
 }

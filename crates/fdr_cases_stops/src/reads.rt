@@ -16,11 +16,14 @@ fn reads_of(rt: &impl Abort, alloc: Global, command: &Command) -> Result<u64, Fa
             return Ok(call);
         }
         let fault = Outcome::ReadFault(Input::Table);
-        assert!(rt; ran.outcome == fault, "{words:?}, read {call}");
-        assert!(rt; ran.written.is_empty(), "{words:?}, read {call}");
-        assert!(rt; ran.deck.calls() == 0, "{words:?}, read {call}");
-        assert!(rt; ran.deck.told() == 0, "{words:?}, read {call}");
-        assert!(rt; ran.deck.image() == command.image, "{words:?}, read {call}");
+        assert!(rt;
+            ran.outcome == fault && ran.written.is_empty(),
+            "{words:?}, read {call}"
+        );
+        assert!(rt;
+            ran.calls == 0 && ran.told == 0 && ran.image.as_slice() == command.image,
+            "{words:?}, read {call}"
+        );
     }
     Err("more reads than were looked for")?
 }

@@ -1,6 +1,6 @@
 //! Rings of a few slots: what is recovered of them, what a recording in them goes on with, and what a stop leaves.
 
-use fdr_cases::{ALTITUDE, END_AT_4000000, WORD_AT_0, deck_of, frame_with, run_words};
+use fdr_cases::{ALTITUDE, END_AT_4000000, WORD_AT_0, deck_of, frame_with, run_words, stopped};
 use fdr_deck::{MemDeck, Tear};
 use fdr_top::Outcome;
 use std::alloc::{AllocError, Global};
@@ -122,10 +122,7 @@ impl Rings {
 
 /// The image that a stop within a call leaves.
 pub fn left_by_stop(alloc: Global, deck: &MemDeck, call: u64, tear: Tear) -> Result<Vec<u8>, Fail> {
-    if call >= deck.calls() {
-        return Err("no such call")?;
-    }
-    Ok(deck.stop(alloc, call, tear)?)
+    Ok(stopped(alloc, deck, call, tear)?.ok_or("no such call")?)
 }
 
 /// The bytes of one image with the gates of another, where a block has `payload` bytes. Where a stop may leave both, it may

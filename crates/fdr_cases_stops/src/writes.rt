@@ -17,22 +17,19 @@ fn writes_of(rt: &impl Abort, alloc: Global, command: &Command) -> Result<u64, F
         }
         let count = ran.written.len();
         assert!(rt;
-            ran.outcome == Outcome::WriteFault,
+            ran.outcome == Outcome::WriteFault
+                && command.text.starts_with(&ran.written)
+                && count < command.text.len(),
             "{words:?}, write {call}"
         );
         assert!(rt;
-            command.text.starts_with(&ran.written),
+            (call == 0) == (count == 0) && (call == 0 || before < count),
             "{words:?}, write {call}"
         );
-        assert!(rt; count < command.text.len(), "{words:?}, write {call}");
-        assert!(rt; (call == 0) == (count == 0), "{words:?}, write {call}");
-        assert!(rt; call == 0 || before < count, "{words:?}, write {call}");
-        if ran.deck.told() == 0 {
-            assert!(rt;
-                ran.deck.image() == command.image,
-                "{words:?}, write {call}"
-            );
-        }
+        assert!(rt;
+            ran.told > 0 || ran.image.as_slice() == command.image,
+            "{words:?}, write {call}"
+        );
         before = count;
     }
     Err("more writes than were looked for")?

@@ -1,8 +1,7 @@
 use fdr_bus::TraceFault;
-use fdr_cases::{ALTITUDE, answer, frame_with, words_of};
-use fdr_deck::MemDeck;
+use fdr_cases::{ALTITUDE, Given, frame_with, run_on};
 use fdr_exceed::RuleFault;
-use fdr_io::{Input, MemSink, MemSource};
+use fdr_io::Input;
 use fdr_slot::ImageFault;
 use fdr_table::TableFault;
 use fdr_top::Outcome;
@@ -11,6 +10,7 @@ use std::test::Fail;
 #[test]
 fn refuses_other_words(rt: HostRuntime) -> Result<(), Fail> {
     let alloc = rt.alloc();
+    let line = frame_with(alloc, &[(13, 0x50)])?;
     let cases: [&[&str]; 13] = [
         &[],
         &["list"],
@@ -37,18 +37,15 @@ fn refuses_other_words(rt: HostRuntime) -> Result<(), Fail> {
         &["salvage", "t1.csv", "flight.img", "--slots", "16"],
     ];
     for case in cases {
-        let words = words_of(alloc, case)?;
-        let mut table = MemSource::new(ALTITUDE.as_bytes().to_vec(alloc)?, Vec::new(alloc));
-        let mut deck = MemDeck::new(
-            alloc,
-            Vec::new(alloc),
-            frame_with(alloc, &[(13, 0x50)])?,
-            Vec::new(alloc),
+        let given = Given {
+            line: &line,
+            ..Given::by(ALTITUDE)
+        };
+        let ran = run_on(alloc, case, given)?;
+        assert!(rt;
+            ran.outcome == Outcome::Usage && ran.written.is_empty(),
+            "{case:?}"
         );
-        let mut out = MemSink::new(alloc, Vec::new(alloc));
-        let given = answer(alloc, &words, &mut table, &mut deck, &mut out);
-        assert!(rt; given == Outcome::Usage, "{case:?}");
-        assert!(rt; out.bytes().is_empty(), "{case:?}");
     }
     Ok(())
 }
@@ -246,8 +243,7 @@ fn says_each_answer(rt: HostRuntime) -> Result<(), Fail> {
         ),
     ];
     for (answer, status, text) in answers {
-        assert!(rt; answer.status() == status);
-        assert!(rt; answer.text().bytes() == text);
+        assert!(rt; answer.status() == status && answer.text().bytes() == text);
     }
     Ok(())
 }

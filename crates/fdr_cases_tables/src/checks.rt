@@ -1,4 +1,4 @@
-use fdr_cases::{ALTITUDE, ORDINARY, deck_of, run_words};
+use fdr_cases::{ALTITUDE, Given, ORDINARY, run_on};
 use fdr_table::TableFault;
 use fdr_top::Outcome;
 use std::alloc::Global;
@@ -6,8 +6,7 @@ use std::test::Fail;
 
 /// What `check` answers to a table, and the report that it writes.
 fn checked(alloc: Global, table: &str) -> Result<(Outcome, Vec<u8>), Fail> {
-    let mut deck = deck_of(alloc, &[], &[], &[])?;
-    let ran = run_words(alloc, &["check", "t.csv"], table, &mut deck, &[])?;
+    let ran = run_on(alloc, &["check", "t.csv"], Given::by(table))?;
     Ok((ran.outcome, ran.written))
 }
 

@@ -1,5 +1,5 @@
 use crate::watched::{exceedances, frame_of};
-use fdr_cases::{ALTITUDE, WORD_AT_0, deck_of, ring_with, run_words};
+use fdr_cases::{ALTITUDE, Given, WORD_AT_0, ring_with, run_on};
 use fdr_top::Outcome;
 use std::alloc::{AllocError, Global};
 use std::test::Fail;
@@ -24,7 +24,6 @@ fn flight(alloc: Global) -> Result<Vec<u8>, Fail> {
     for record in &FLIGHT {
         line.extend_from_slice(record)?;
     }
-    let mut deck = deck_of(alloc, &[], &line, &[])?;
     let words = [
         "format",
         "t1.csv",
@@ -32,13 +31,17 @@ fn flight(alloc: Global) -> Result<Vec<u8>, Fail> {
         "--slots=32",
         "--payload=64",
     ];
-    let made = run_words(alloc, &words, ALTITUDE, &mut deck, &[])?;
-    let words = ["record", "t1.csv", "flight.img"];
-    let recorded = run_words(alloc, &words, ALTITUDE, &mut deck, &[])?;
+    let made = run_on(alloc, &words, Given::by(ALTITUDE))?;
+    let given = Given {
+        image: &made.image,
+        line: &line,
+        ..Given::by(ALTITUDE)
+    };
+    let recorded = run_on(alloc, &["record", "t1.csv", "flight.img"], given)?;
     if made.outcome != Outcome::Done || recorded.outcome != Outcome::Done {
         return Err("no recording")?;
     }
-    Ok(deck.image().to_vec(alloc)?)
+    Ok(recorded.image)
 }
 
 #[test]
@@ -57,9 +60,9 @@ fn lists_exceedances_of_each_kind(rt: HostRuntime) -> Result<(), Fail> {
 fn lists_nothing_without_rules(rt: HostRuntime) -> Result<(), Fail> {
     let alloc = rt.alloc();
     let lines = exceedances(alloc, &flight(alloc)?, "")?;
-    assert!(rt; lines.as_slice() == b"".as_slice());
+    assert!(rt; lines.is_empty());
     let lines = exceedances(alloc, &flight(alloc)?, "HI,ALT,above,9,1\n")?;
-    assert!(rt; lines.as_slice() == b"".as_slice());
+    assert!(rt; lines.is_empty());
     Ok(())
 }
 
@@ -143,7 +146,7 @@ fn stretches_end_an_exceedance(rt: HostRuntime) -> Result<(), Fail> {
         let shows = cut.shows;
         let image = two_frames(alloc, cut.version, cut.last, cut.between, cut.sessions)?;
         let lines = exceedances(alloc, &image, TWO)?;
-        assert!(rt; lines.as_slice() == b"".as_slice(), "{shows}");
+        assert!(rt; lines.is_empty(), "{shows}");
         let lines = exceedances(alloc, &image, ONE)?;
         let second: &[u8] = if cut.last == 1 {
             b"exceed,HI,0,1,10,1,5\nexceed,HI,1,1,10,1,5\n"
@@ -161,7 +164,7 @@ fn lists_each_session_by_itself(rt: HostRuntime) -> Result<(), Fail> {
     let alloc = rt.alloc();
     let image = two_frames(alloc, 0xa5, 0, &[], &[1, 1, 1, 1, 1, 1, 2, 2, 2, 2, 2, 2])?;
     let lines = exceedances(alloc, &image, TWO)?;
-    assert!(rt; lines.as_slice() == b"".as_slice());
+    assert!(rt; lines.is_empty());
     let lines = exceedances(alloc, &image, ONE)?;
     assert!(rt; lines.as_slice() == b"exceed,HI,0,1,10,1,5\nexceed,HI,0,1,10,1,5\n".as_slice());
     Ok(())

@@ -1,6 +1,6 @@
 use fdr_cases::{
-    END_AT_4000000, END_AT_8000000, ORDINARY, POSITION_AT_0, POSITION_AT_1000000, TWO_PARTS,
-    WORD_AT_0, deck_of, run_words,
+    END_AT_4000000, END_AT_8000000, Given, ORDINARY, POSITION_AT_0, POSITION_AT_1000000, TWO_PARTS,
+    WORD_AT_0, run_on,
 };
 use fdr_top::Outcome;
 use std::alloc::{AllocError, Global};
@@ -94,14 +94,20 @@ fn streamed(alloc: Global, table: &str, trace: &[[u8; 16]]) -> Result<(Outcome, 
     for record in trace {
         line.extend_from_slice(record)?;
     }
-    let mut deck = deck_of(alloc, &[], &line, &[])?;
-    let ran = run_words(alloc, &["stream", "t.csv"], table, &mut deck, &[])?;
+    let given = Given {
+        line: &line,
+        ..Given::by(table)
+    };
+    let ran = run_on(alloc, &["stream", "t.csv"], given)?;
     Ok((ran.outcome, ran.written))
 }
 
 fn listed(alloc: Global, table: &str, line: &[u8]) -> Result<(Outcome, Vec<u8>), Fail> {
-    let mut deck = deck_of(alloc, &[], line, &[])?;
-    let ran = run_words(alloc, &["listbits", "t.csv"], table, &mut deck, &[])?;
+    let given = Given {
+        line,
+        ..Given::by(table)
+    };
+    let ran = run_on(alloc, &["listbits", "t.csv"], given)?;
     Ok((ran.outcome, ran.written))
 }
 

@@ -1,5 +1,5 @@
-use crate::watched::{EXCEED, frame_of, ran};
-use fdr_cases::{ALTITUDE, deck_of, ring_with, run_words};
+use crate::watched::{frame_of, ran};
+use fdr_cases::ring_with;
 use fdr_exceed::RuleFault;
 use fdr_io::Input;
 use fdr_slot::ImageFault;
@@ -28,12 +28,11 @@ fn refuses_rules_for_each_fault(rt: HostRuntime) -> Result<(), Fail> {
         ("HI,ALT,above,4,2\nHI,ALT,below,4,2\n", 1, RuleFault::Twice),
     ];
     for (rules, row, fault) in cases {
-        let ran = ran(alloc, &image, rules.as_bytes())?;
+        let ran = ran(alloc, &image, rules.as_bytes(), &[])?;
         assert!(rt;
-            ran.outcome == Outcome::RuleRefused { row, fault },
+            ran.outcome == Outcome::RuleRefused { row, fault } && ran.written.is_empty(),
             "{rules}"
         );
-        assert!(rt; ran.written.as_slice() == b"".as_slice(), "{rules}");
     }
     Ok(())
 }
@@ -52,12 +51,12 @@ fn many_rules(alloc: Global, count: u16) -> Result<Vec<u8>, Fail> {
 fn refuses_too_many_rules(rt: HostRuntime) -> Result<(), Fail> {
     let alloc = rt.alloc();
     let image = one_frame(alloc)?;
-    let ran_all = ran(alloc, &image, &many_rules(alloc, 256)?)?;
+    let ran_all = ran(alloc, &image, &many_rules(alloc, 256)?, &[])?;
     assert!(rt; ran_all.outcome == Outcome::Done);
-    let refused = ran(alloc, &image, &many_rules(alloc, 257)?)?;
+    let refused = ran(alloc, &image, &many_rules(alloc, 257)?, &[])?;
     let fault = RuleFault::Size;
     assert!(rt; refused.outcome == Outcome::RuleRefused { row: 256, fault });
-    assert!(rt; refused.written.as_slice() == b"".as_slice());
+    assert!(rt; refused.written.is_empty());
     Ok(())
 }
 
@@ -68,13 +67,13 @@ fn refuses_too_many_bytes_before_any_record(rt: HostRuntime) -> Result<(), Fail>
     let image = one_frame(alloc)?;
     let mut rules = b"HI,ALT,above,4,1\n".to_vec(alloc)?;
     rules.resize(65_536, b'\n')?;
-    let longest = ran(alloc, &image, &rules)?;
+    let longest = ran(alloc, &image, &rules, &[])?;
     assert!(rt; longest.outcome == Outcome::Done);
     assert!(rt; longest.written.as_slice() == b"exceed,HI,0,1,10,1,5\n".as_slice());
     let mut shapeless = vec![in alloc; b','; 65_536]?;
     shapeless.push(b'\n')?;
     let fault = RuleFault::Size;
-    let refused = ran(alloc, &image, &shapeless)?;
+    let refused = ran(alloc, &image, &shapeless, &[])?;
     assert!(rt; refused.outcome == Outcome::RuleRefused { row: 0, fault });
     Ok(())
 }
@@ -83,13 +82,13 @@ fn refuses_too_many_bytes_before_any_record(rt: HostRuntime) -> Result<(), Fail>
 #[test]
 fn refuses_an_image_before_the_rules(rt: HostRuntime) -> Result<(), Fail> {
     let alloc = rt.alloc();
-    let small = ran(alloc, &[0; 63], b"HI")?;
+    let small = ran(alloc, &[0; 63], b"HI", &[])?;
     assert!(rt; small.outcome == Outcome::ImageRefused(ImageFault::Small));
     let mut other = one_frame(alloc)?;
     if let Some(words) = other.get_mut(19) {
         *words = 128;
     }
-    let refused = ran(alloc, &other, b"HI")?;
+    let refused = ran(alloc, &other, b"HI", &[])?;
     assert!(rt;
         refused.outcome
             == Outcome::WordsDiffer {
@@ -108,9 +107,7 @@ fn tells_faults_of_the_input_and_the_disk(rt: HostRuntime) -> Result<(), Fail> {
     let image = one_frame(alloc)?;
     let mut pulls: u32 = 0;
     for call in 0..200 {
-        let mut deck = deck_of(alloc, &image, b"HI,ALT,above,4,1\n", &[call])?;
-        let ran = run_words(alloc, &EXCEED, ALTITUDE, &mut deck, &[])?;
-        assert!(rt; deck.image() == image.as_slice(), "call {call}");
+        let ran = ran(alloc, &image, b"HI,ALT,above,4,1\n", &[call])?;
         match ran.outcome {
             Outcome::Done => {
                 assert!(rt; ran.written.as_slice() == b"exceed,HI,0,1,10,1,5\n".as_slice());
@@ -118,8 +115,10 @@ fn tells_faults_of_the_input_and_the_disk(rt: HostRuntime) -> Result<(), Fail> {
                 return Ok(());
             }
             Outcome::ReadFault(input) => {
-                assert!(rt; input == Input::Line, "call {call}");
-                assert!(rt; ran.written.as_slice() == b"".as_slice(), "call {call}");
+                assert!(rt;
+                    input == Input::Line && ran.written.is_empty(),
+                    "call {call}"
+                );
                 pulls = pulls.saturating_add(1);
             }
             other => assert!(rt; other == Outcome::DiskFault, "call {call}"),

@@ -1,6 +1,6 @@
 //! Values of a signed parameter in halves with one decimal: by its table, as a text, and in a listing.
 
-use fdr_cases::{deck_of, frame_with, run_words};
+use fdr_cases::{Given, frame_with, run_on};
 use fdr_listing::value_text;
 use fdr_table::Table;
 use fdr_top::Outcome;
@@ -41,10 +41,16 @@ fn writes_half_of_minus_one_with_a_decimal(rt: HostRuntime) -> Result<(), Fail> 
         assert!(rt; (given, decimals) == (value, 1), "raw {raw}");
         assert!(rt; decimals <= 9);
         assert!(rt; value_text(given, decimals).bytes() == text, "raw {raw}");
-        let mut deck = deck_of(alloc, &[], &frame_with(alloc, put)?, &[])?;
-        let ran = run_words(alloc, &["listbits", "t.csv"], HALVES, &mut deck, &[])?;
-        assert!(rt; ran.outcome == Outcome::Done, "raw {raw}");
-        assert!(rt; ran.written.as_slice() == row, "raw {raw}");
+        let line = frame_with(alloc, put)?;
+        let given = Given {
+            line: &line,
+            ..Given::by(HALVES)
+        };
+        let ran = run_on(alloc, &["listbits", "t.csv"], given)?;
+        assert!(rt;
+            ran.outcome == Outcome::Done && ran.written.as_slice() == row,
+            "raw {raw}"
+        );
     }
     Ok(())
 }
