@@ -23,6 +23,7 @@ The check wants:
   README.md for each command;
 - README.md, CHANGELOG.md, CITATION.cff and docs/fdr.1 to name the version of VERSION, the last three with one date; README.md
   and docs/GUARANTEES.md to name the logic of the kit that is here;
+- each crate that a page or a source names to be there;
 - each link to lead to a file and heading, and each path from the top that a page or a script names to be there;
 - each paragraph of a page to be one line, and each page to have fewer than 300 that are written by hand, and fewer than 1,000
   in all but for those of docs/clauses;
@@ -583,6 +584,17 @@ def check_places():
                 yield f"docs/ARCHITECTURE.md: {crate} has no {mark}"
 
 
+def check_crates():
+    """The crates that a page or a source names are there."""
+    known = {name for name, _ in crate_lines()}
+    sources = [path for folder in ("src", "specs", "proofs", "must-fail") for path in CRATES.glob(f"*/{folder}/**/*.*")]
+    for path in [*written_pages(), *sorted(sources)]:
+        for number, line in enumerate(path.read_text().splitlines(), 1):
+            for name in re.findall(r"\bfdr_[a-z_]*[a-z]\b", line):
+                if name not in known:
+                    yield f"{path.relative_to(TOP)}:{number}: there is no crate {name}"
+
+
 def anchors(path):
     for heading in re.findall(r"^#+ (.*)$", path.read_text(), re.M):
         plain = re.sub(r"[^\w\- ]", "", heading.lower())
@@ -749,7 +761,7 @@ def main(command):
     checks = (
         *(check_readme, check_session, check_clauses, check_model, check_recursive, check_guarantees, check_layers, check_edges, check_places),
         *(check_commands, check_manual, check_version, check_kit, check_links, check_paths, check_paragraphs, check_lengths),
-        *(check_names, check_columns),
+        *(check_names, check_columns, check_crates),
     )
     faults = [fault for check in checks for fault in check()]
     for note in (*note_kit(), *note_uses()):

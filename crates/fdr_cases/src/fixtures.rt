@@ -84,23 +84,25 @@ pub fn ring_with(
     Ok(ring)
 }
 
-/// The 384 bytes of a frame of subframes of 64 words: its sync words, these bytes at their places, and zeros.
-pub fn frame_with(alloc: Global, put: &[(usize, u8)]) -> Result<Vec<u8>, AllocError> {
-    let mut frame = vec![in alloc; 0; 384]?;
-    let sync = [
-        (0, 0x47),
-        (1, 0x02),
-        (96, 0xb8),
-        (97, 0x05),
-        (192, 0x47),
-        (193, 0x0a),
-        (288, 0xb8),
-        (289, 0x0d),
-    ];
-    for (at, byte) in sync.iter().chain(put) {
+// Where the bytes of the four sync words are in a frame of subframes of 64 words.
+const SYNC: [(usize, u8); 8] = [
+    (0, 0x47),
+    (1, 0x02),
+    (96, 0xb8),
+    (97, 0x05),
+    (192, 0x47),
+    (193, 0x0a),
+    (288, 0xb8),
+    (289, 0x0d),
+];
+
+/// A frame of subframes of 64 words: its sync words, these bytes at their places, and zeros.
+pub fn frame_with(put: &[(usize, u8)]) -> [u8; 384] {
+    let mut frame = [0; 384];
+    for (at, byte) in SYNC.iter().chain(put) {
         if let Some(place) = frame.get_mut(*at) {
             *place = *byte;
         }
     }
-    Ok(frame)
+    frame
 }

@@ -105,20 +105,55 @@ pub struct Left {
     pub calls: u64,
 }
 
-/// Runs a command on what is given.
-pub fn run_on(alloc: Global, words: &[&str], given: Given<'_>) -> Result<Left, AllocError> {
+// The deck that a command leaves, with what the command answered and wrote.
+fn ran_on(alloc: Global, words: &[&str], given: Given<'_>) -> Result<(Ran, MemDeck), AllocError> {
     let words = words_of(alloc, words)?;
     let mut table = MemSource::new(given.table.to_vec(alloc)?, given.reads.to_vec(alloc)?);
     let mut deck = deck_of(alloc, given.image, given.line, given.calls)?;
     let mut out = MemSink::new(alloc, given.writes.to_vec(alloc)?);
     let outcome = answer(alloc, &words, &mut table, &mut deck, &mut out);
+    let written = out.bytes().to_vec(alloc)?;
+    Ok((Ran { outcome, written }, deck))
+}
+
+/// Runs a command on what is given.
+pub fn run_on(alloc: Global, words: &[&str], given: Given<'_>) -> Result<Left, AllocError> {
+    let (Ran { outcome, written }, deck) = ran_on(alloc, words, given)?;
     Ok(Left {
         outcome,
-        written: out.bytes().to_vec(alloc)?,
+        written,
         image: deck.image().to_vec(alloc)?,
         told: deck.told(),
         calls: deck.calls(),
     })
+}
+
+/// The image that a stop within a call of a command leaves, if the command has that call.
+pub fn stop_of(
+    alloc: Global,
+    words: &[&str],
+    given: Given<'_>,
+    call: u64,
+    tear: Tear,
+) -> Result<Option<Vec<u8>>, AllocError> {
+    let (_, deck) = ran_on(alloc, words, given)?;
+    stopped(alloc, &deck, call, tear)
+}
+
+/// The first call of a command as which this number was announced, if it ever was.
+pub fn first_call_with(
+    alloc: Global,
+    words: &[&str],
+    given: Given<'_>,
+    number: u64,
+) -> Result<Option<u64>, AllocError> {
+    let (_, deck) = ran_on(alloc, words, given)?;
+    for call in 0..deck.calls() {
+        if deck.told_at(call) == number {
+            return Ok(Some(call));
+        }
+    }
+    Ok(None)
 }
 
 /// Runs a command by the text of a table, where no read of the table fails and the listed writes do.

@@ -53,10 +53,7 @@ fn a_block_takes_at_most_six_calls(rt: HostRuntime) -> Result<(), Fail> {
     let mut deck = deck_of(alloc, &image_of_a_frame(alloc)?, &[], &[])?;
     let taken = calls_of_a_block(&mut deck, &[7; 64]).ok().ok_or("a block")?;
     assert!(rt; taken <= 6, "{taken} calls");
-    let mut blocks = frame_with(alloc, &[])?
-        .get(256..)
-        .ok_or("blocks")?
-        .to_vec(alloc)?;
+    let mut blocks = frame_with(&[]).get(256..).ok_or("blocks")?.to_vec(alloc)?;
     blocks.extend_from_slice(&[7; 64])?;
     let recovered = recover(alloc, deck.image(), &[])?;
     assert!(rt; recovered.outcome == Outcome::Done && recovered.written == blocks);
@@ -68,7 +65,7 @@ fn recovers_the_last_blocks_of_a_ring(rt: HostRuntime) -> Result<(), Fail> {
     let alloc = rt.alloc();
     let image = image_of_a_frame(alloc)?;
     let recovered = recover(alloc, &image, &[])?;
-    let frame = frame_with(alloc, &[])?;
+    let frame = frame_with(&[]);
     let last = frame.get(192..).ok_or("three blocks")?;
     assert!(rt; recovered.outcome == Outcome::Done && recovered.image == image);
     assert!(rt; recovered.written.as_slice() == last);

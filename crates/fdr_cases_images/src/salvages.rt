@@ -121,7 +121,7 @@ fn lists_each_run(rt: HostRuntime) -> Result<(), Fail> {
 #[test]
 fn lists_rows_that_the_last_run_has_not(rt: HostRuntime) -> Result<(), Fail> {
     let alloc = rt.alloc();
-    let frame = frame_with(alloc, &[(13, 0x50)])?;
+    let frame = frame_with(&[(13, 0x50)]);
     let ring = ring_with(alloc, 0xa5, &[1; 6], &frame)?;
     let row = "run,0,6\nsession,1,0\nrow,0,1,10,ALT,5\n";
     let written = salvaged(alloc, SALVAGE, &ring)?;

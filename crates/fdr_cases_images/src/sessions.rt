@@ -7,8 +7,8 @@ use std::test::Fail;
 
 /// Two frames with the counters 0 and 1: the altitude 5, and the position 703710 in two parts.
 fn two_frames(alloc: Global) -> Result<Vec<u8>, AllocError> {
-    let mut frames = frame_with(alloc, &[(13, 0x50), (28, 0xe0), (29, 0xcd)])?;
-    let second = frame_with(alloc, &[(1, 0x12), (13, 0x50), (28, 0xb0), (29, 0x0a)])?;
+    let mut frames = frame_with(&[(13, 0x50), (28, 0xe0), (29, 0xcd)]).to_vec(alloc)?;
+    let second = frame_with(&[(1, 0x12), (13, 0x50), (28, 0xb0), (29, 0x0a)]);
     frames.extend_from_slice(&second)?;
     Ok(frames)
 }

@@ -1,4 +1,4 @@
-//! Each answer's status and text. `fdr_cases_answers` has the text of each fault of a table and of a trace.
+//! Each answer's status and text. `fdr_cases_commands` has the text of each fault of a table and of a trace.
 
 use fdr_bus::TraceFault;
 use fdr_io::Input;
@@ -94,8 +94,10 @@ fn says_each_answer(rt: HostRuntime) {
         ),
     ];
     for (answer, status, text) in answers {
-        assert!(rt; answer.status() == status, "{answer:?}");
-        assert!(rt; answer.text().bytes() == text, "{answer:?}");
+        assert!(rt;
+            answer.status() == status && answer.text().bytes() == text,
+            "{answer:?}"
+        );
     }
 }
 
@@ -131,8 +133,10 @@ fn says_which_image_is_refused(rt: HostRuntime) {
     for (fault, first, second) in faults {
         for (side, text) in [(Side::First, first), (Side::Second, second)] {
             let answer = PairOutcome::ImageRefused { side, fault };
-            assert!(rt; answer.status() == 4, "{answer:?}");
-            assert!(rt; answer.text().bytes() == text, "{answer:?}");
+            assert!(rt;
+                answer.status() == 4 && answer.text().bytes() == text,
+                "{answer:?}"
+            );
         }
     }
 }

@@ -22,9 +22,12 @@ fn reads_three_paths(rt: HostRuntime) -> Result<(), Fail> {
     ];
     for (line, table, first, second) in cases {
         let request = read(rt.alloc(), line)?.ok().ok_or(line)?;
-        assert!(rt; request.table.text() == table, "{line}");
-        assert!(rt; request.first.text() == first, "{line}");
-        assert!(rt; request.second.text() == second, "{line}");
+        assert!(rt;
+            request.table.text() == table
+                && request.first.text() == first
+                && request.second.text() == second,
+            "{line}"
+        );
     }
     Ok(())
 }

@@ -1,8 +1,8 @@
 //! Recordings on two disks, of which either may fail.
 
 use crate::pairs::{
-    ALIVE, Dead, GATE_OF_SLOT_5, empty_image, no_words, one_behind, one_frame, record,
-    recorded_image, recovered, run_of, stopped, twin_of, with_byte,
+    ALIVE, Dead, GATE_OF_SLOT_5, Given, Images, NO_WORDS, ONE_FRAME, empty_image, one_behind,
+    record, recorded_image, recovered, run_of, stops, with_byte,
 };
 use fdr_deck::Tear;
 use fdr_pair::PairOutcome;
@@ -18,25 +18,22 @@ const PAYLOAD_OF_SLOT_5: usize = GATE_OF_SLOT_5 + 16;
 fn records_on_both(rt: HostRuntime) -> Result<(), Fail> {
     let alloc = rt.alloc();
     let empty = empty_image(alloc)?;
-    let mut twin = twin_of(alloc, &empty, &empty, one_frame(alloc)?, ALIVE)?;
-    assert!(rt; record(alloc, &mut twin)? == PairOutcome::Done);
-    assert!(rt; twin.told() == 6);
-    let first = recovered(alloc, twin.image(Side::First))?;
-    let second = recovered(alloc, twin.image(Side::Second))?;
-    assert!(rt; first.len() == 384);
-    assert!(rt; first == second);
-    assert!(rt; run_of(alloc, twin.image(Side::First))? == (0, 6, 1));
+    let left = record(alloc, Given::of(&empty, &empty, &ONE_FRAME))?;
+    assert!(rt; left.outcome == PairOutcome::Done && left.told == 6);
+    let first = recovered(alloc, &left.first)?;
+    assert!(rt;
+        first.len() == 384
+            && first == recovered(alloc, &left.second)?
+            && run_of(alloc, &left.first)? == (0, 6, 1)
+    );
     Ok(())
 }
 
 // The first call of a recording on two images without blocks that changes the second.
-fn first_write_on_second(alloc: Global, empty: &[u8]) -> Result<u64, Fail> {
-    let mut whole = twin_of(alloc, empty, empty, one_frame(alloc)?, ALIVE)?;
-    record(alloc, &mut whole)?;
-    for call in 0..whole.calls() {
-        let (_, second) = stopped(alloc, &whole, call, Tear::Fill(0xee))?;
-        if second.as_slice() != empty {
-            return Ok(call);
+fn first_write_on_second(alloc: Global, given: Given<'_>) -> Result<u64, Fail> {
+    for (call, stop) in stops(alloc, given, Tear::Fill(0xee))?.iter().enumerate() {
+        if stop.second.as_slice() != given.second {
+            return Ok(call as u64);
         }
     }
     Err("no write")?
@@ -46,14 +43,17 @@ fn first_write_on_second(alloc: Global, empty: &[u8]) -> Result<u64, Fail> {
 fn goes_on_where_the_second_dies(rt: HostRuntime) -> Result<(), Fail> {
     let alloc = rt.alloc();
     let empty = empty_image(alloc)?;
+    let given = Given::of(&empty, &empty, &ONE_FRAME);
     let dead = Dead {
         first: None,
-        second: Some(first_write_on_second(alloc, &empty)?),
+        second: Some(first_write_on_second(alloc, given)?),
     };
-    let mut twin = twin_of(alloc, &empty, &empty, one_frame(alloc)?, dead)?;
-    assert!(rt; record(alloc, &mut twin)? == PairOutcome::Done);
-    assert!(rt; twin.told() == 6);
-    assert!(rt; run_of(alloc, twin.image(Side::First))? == (0, 6, 1));
+    let left = record(alloc, Given { dead, ..given })?;
+    assert!(rt;
+        left.outcome == PairOutcome::Done
+            && left.told == 6
+            && run_of(alloc, &left.first)? == (0, 6, 1)
+    );
     Ok(())
 }
 
@@ -65,46 +65,55 @@ fn fails_where_both_are_dead(rt: HostRuntime) -> Result<(), Fail> {
         first: Some(0),
         second: Some(0),
     };
-    let mut twin = twin_of(alloc, &empty, &empty, one_frame(alloc)?, dead)?;
-    assert!(rt; record(alloc, &mut twin)? == PairOutcome::DiskFault);
-    assert!(rt; twin.told() == 0);
+    let given = Given::of(&empty, &empty, &ONE_FRAME);
+    let left = record(alloc, Given { dead, ..given })?;
+    assert!(rt; left.outcome == PairOutcome::DiskFault && left.told == 0);
     Ok(())
 }
 
 #[test]
 fn the_one_behind_is_brought_up(rt: HostRuntime) -> Result<(), Fail> {
     let alloc = rt.alloc();
-    let mut twin = one_behind(alloc, ALIVE)?;
-    assert!(rt; run_of(alloc, twin.image(Side::Second))? == (0, 5, 1));
-    assert!(rt; record(alloc, &mut twin)? == PairOutcome::Done);
-    assert!(rt; twin.told() == 6);
-    assert!(rt; run_of(alloc, twin.image(Side::First))? == (0, 6, 1));
-    assert!(rt; run_of(alloc, twin.image(Side::Second))? == (0, 6, 1));
-    let first = recovered(alloc, twin.image(Side::First))?;
-    assert!(rt; first == recovered(alloc, twin.image(Side::Second))?);
+    let images = one_behind(alloc)?;
+    assert!(rt; run_of(alloc, &images.second)? == (0, 5, 1));
+    let left = record(alloc, images.with(&NO_WORDS))?;
+    assert!(rt;
+        left.outcome == PairOutcome::Done
+            && left.told == 6
+            && run_of(alloc, &left.first)? == (0, 6, 1)
+            && run_of(alloc, &left.second)? == (0, 6, 1)
+            && recovered(alloc, &left.first)? == recovered(alloc, &left.second)?
+    );
     Ok(())
 }
 
 // What a recording of one frame on these images answers, where it announces nothing and changes neither.
 fn refusal_of(alloc: Global, first: &[u8], second: &[u8]) -> Result<PairOutcome, Fail> {
-    let mut twin = twin_of(alloc, first, second, one_frame(alloc)?, ALIVE)?;
-    let outcome = record(alloc, &mut twin)?;
-    if twin.told() != 0 || twin.image(Side::First) != first || twin.image(Side::Second) != second {
+    let left = record(alloc, Given::of(first, second, &ONE_FRAME))?;
+    if left.told != 0 || left.first.as_slice() != first || left.second.as_slice() != second {
         return Err("a refusal changes nothing")?;
     }
-    Ok(outcome)
+    Ok(left.outcome)
+}
+
+// An image that three recordings of one frame each went round.
+fn third_image(alloc: Global) -> Result<Vec<u8>, Fail> {
+    let mut image = recorded_image(alloc)?;
+    for _ in 0..2 {
+        let left = record(alloc, Given::of(&image, &image, &ONE_FRAME))?;
+        if left.outcome != PairOutcome::Done {
+            return Err("no image")?;
+        }
+        image = left.first;
+    }
+    Ok(image)
 }
 
 #[test]
 fn refuses_images_that_cannot_be_brought_together(rt: HostRuntime) -> Result<(), Fail> {
     let alloc = rt.alloc();
     let empty = empty_image(alloc)?;
-    let mut third = recorded_image(alloc)?;
-    for _ in 0..2 {
-        let mut twin = twin_of(alloc, &third, &third, one_frame(alloc)?, ALIVE)?;
-        assert!(rt; record(alloc, &mut twin)? == PairOutcome::Done);
-        third = Vec::from_slice(alloc, twin.image(Side::First))?;
-    }
+    let third = third_image(alloc)?;
     assert!(rt; run_of(alloc, &third)? == (3, 18, 3));
     let six = recorded_image(alloc)?;
     let other = with_byte(alloc, &six, PAYLOAD_OF_SLOT_5, 0xff)?;
@@ -112,10 +121,12 @@ fn refuses_images_that_cannot_be_brought_together(rt: HostRuntime) -> Result<(),
         side: Side::Second,
         fault: ImageFault::Small,
     };
-    assert!(rt; refusal_of(alloc, &third, &empty)? == PairOutcome::FarBehind(Side::Second));
-    assert!(rt; refusal_of(alloc, &empty, &third)? == PairOutcome::FarBehind(Side::First));
-    assert!(rt; refusal_of(alloc, &six, &[])? == small);
-    assert!(rt; refusal_of(alloc, &six, &other)? == PairOutcome::BlocksDiffer { seq: 5 });
+    assert!(rt;
+        refusal_of(alloc, &third, &empty)? == PairOutcome::FarBehind(Side::Second)
+            && refusal_of(alloc, &empty, &third)? == PairOutcome::FarBehind(Side::First)
+            && refusal_of(alloc, &six, &[])? == small
+            && refusal_of(alloc, &six, &other)? == PairOutcome::BlocksDiffer { seq: 5 }
+    );
     Ok(())
 }
 
@@ -129,23 +140,28 @@ fn next_in(alloc: Global, image: &[u8], blocks: &[u8]) -> Result<u64, Fail> {
     Ok(next)
 }
 
+// The next numbers of both images.
+fn next_of_each(alloc: Global, images: &Images, blocks: &[u8]) -> Result<(u64, u64), Fail> {
+    let first = next_in(alloc, &images.first, blocks)?;
+    Ok((first, next_in(alloc, &images.second, blocks)?))
+}
+
 #[test]
 fn a_stop_leaves_the_announced_blocks_on_each(rt: HostRuntime) -> Result<(), Fail> {
     let alloc = rt.alloc();
     let empty = empty_image(alloc)?;
-    let mut twin = twin_of(alloc, &empty, &empty, one_frame(alloc)?, ALIVE)?;
-    record(alloc, &mut twin)?;
-    let whole = recovered(alloc, twin.image(Side::First))?;
+    let given = Given::of(&empty, &empty, &ONE_FRAME);
+    let whole = recovered(alloc, &record(alloc, given)?.first)?;
     for tear in [Tear::Old, Tear::New, Tear::Half, Tear::Fill(0x5a)] {
         let mut before = (0, 0);
-        for call in 0..twin.calls() {
-            let (first, second) = stopped(alloc, &twin, call, tear)?;
-            let now = (
-                next_in(alloc, &first, &whole)?,
-                next_in(alloc, &second, &whole)?,
+        for stop in stops(alloc, given, tear)?.iter() {
+            let now = next_of_each(alloc, stop, &whole)?;
+            assert!(rt;
+                before.0 <= now.0
+                    && before.1 <= now.1
+                    && now.1 <= now.0
+                    && now.0.saturating_sub(now.1) <= 1
             );
-            assert!(rt; before.0 <= now.0 && before.1 <= now.1);
-            assert!(rt; now.1 <= now.0 && now.0.saturating_sub(now.1) <= 1);
             before = now;
         }
     }
@@ -155,32 +171,24 @@ fn a_stop_leaves_the_announced_blocks_on_each(rt: HostRuntime) -> Result<(), Fai
 #[test]
 fn the_first_dies_at_each_call(rt: HostRuntime) -> Result<(), Fail> {
     let alloc = rt.alloc();
-    let mut whole = one_behind(alloc, ALIVE)?;
-    let first = Vec::from_slice(alloc, whole.image(Side::First))?;
-    let second = Vec::from_slice(alloc, whole.image(Side::Second))?;
-    record(alloc, &mut whole)?;
+    let images = one_behind(alloc)?;
+    let given = images.with(&NO_WORDS);
     let (mut alone, mut lead, mut both) = (false, false, false);
-    for call in 0..whole.calls() {
+    for call in 0..record(alloc, given)?.calls {
         let dead = Dead {
             first: Some(call),
-            second: None,
+            ..ALIVE
         };
-        let mut twin = twin_of(alloc, &first, &second, no_words(alloc)?, dead)?;
-        let outcome = record(alloc, &mut twin)?;
-        let next = run_of(alloc, twin.image(Side::Second))?.1;
-        if outcome == PairOutcome::LeadFault(Side::First) {
-            assert!(rt; twin.image(Side::First) == first.as_slice());
-            assert!(rt; (twin.told(), next) == (0, 5));
+        let left = record(alloc, Given { dead, ..given })?;
+        let next = run_of(alloc, &left.second)?.1;
+        if left.outcome == PairOutcome::LeadFault(Side::First) {
+            assert!(rt; left.first == images.first && left.told == 0 && next == 5);
             lead = true;
         } else {
-            assert!(rt; outcome == PairOutcome::Done);
-            assert!(rt; twin.told() == next);
-            if next == 5 {
-                alone = true;
-            } else {
-                assert!(rt; next == 6);
-                both = true;
-            }
+            assert!(rt; left.outcome == PairOutcome::Done && left.told == next);
+            assert!(rt; next == 5 || next == 6);
+            alone = alone || next == 5;
+            both = both || next == 6;
         }
     }
     assert!(rt; alone && lead && both);

@@ -36,21 +36,30 @@ same_block a b number session payload =
     ∙ ap (λ (l : List ℕ). let x : Block = record { number = b.number; session = b.session; payload = l } in x) payload
 
 module _ (h : Header) (a b : List ℕ) (number la lb sa sb : ℕ) (xa xb : List ℕ) (one : IsRead h a number la sa xa) (other : IsRead h b number lb sb xb) where
+  len_same : take la xa ≡ take lb xb → la ≡ lb
+  len_same payload = omega (arith, ap length payload, length-take la xa, length-take lb xb, one.room, other.room)
+
+  -- two blocks that were read alike
+  module _ (x y : Block) (x_is : block_numbered h a number ≡ Some x) (y_is : block_numbered h b number ≡ Some y) where
+    number_alike : x.number ≡ y.number
+    number_alike = numbered h a number x x_is ∙ sym (numbered h b number y y_is)
+
+    session_alike : sa ≡ sb → x.session ≡ y.session
+    session_alike session = sym (ap session_of_slot x_is) ∙ sym one.session ∙ session ∙ other.session ∙ ap session_of_slot y_is
+
+    payload_alike : take la xa ≡ take lb xb → x.payload ≡ y.payload
+    payload_alike payload = sym (ap payload_of x_is) ∙ sym one.payload ∙ payload ∙ other.payload ∙ ap payload_of y_is
+
+    block_alike : sa ≡ sb → take la xa ≡ take lb xb → block_numbered h a number ≡ block_numbered h b number
+    block_alike session payload = x_is ∙ ap Some (same_block x y number_alike (session_alike session) (payload_alike payload)) ∙ sym y_is
+
   -- what was read alike is the same
   pub read_same : sa ≡ sb → take la xa ≡ take lb xb → block_numbered h a number ≡ block_numbered h b number
-  read_same session payload =
-      let len : la ≡ lb = omega (arith, ap length payload, length-take la xa, length-take lb xb, one.room, other.room) in
-      ⊎_elim
-      (λ none. none ∙ sym (other.none.0 (sym len ∙ one.none.1 none)))
+  read_same session payload = ⊎_elim
+      (λ none. none ∙ sym (other.none.0 (sym (len_same payload) ∙ one.none.1 none)))
       (λ some. ⊎_elim
-      (λ none. absurd (let here = one.none.0 (len ∙ other.none.1 none) in let there = some.1 in cc))
-      (λ more.
-      let numbers : some.0.number ≡ more.0.number = numbered h a number some.0 some.1 ∙ sym (numbered h b number more.0 more.1) in
-      let sessions : some.0.session ≡ more.0.session =
-      sym (ap session_of_slot some.1) ∙ sym one.session ∙ session ∙ other.session ∙ ap session_of_slot more.1 in
-      let payloads : some.0.payload ≡ more.0.payload =
-      sym (ap payload_of some.1) ∙ sym one.payload ∙ payload ∙ other.payload ∙ ap payload_of more.1 in
-      some.1 ∙ ap Some (same_block some.0 more.0 numbers sessions payloads) ∙ sym more.1)
+      (λ none. absurd (let here = one.none.0 (len_same payload ∙ other.none.1 none) in let there = some.1 in cc))
+      (λ more. block_alike some.0 more.0 some.1 more.1 session payload)
       (some_or_none (block_numbered h b number)))
       (some_or_none (block_numbered h a number))
 
@@ -75,6 +84,12 @@ alike_more h a b from number alike same k low high = ⊎_elim
     (λ here. let is : number ≡ k = omega (arith, here, high) in
     ap (block_numbered h a) (sym is) ∙ same ∙ ap (block_numbered h b) is)
     (cases_lt k number)
+
+-- two images that hold what these hold have the same block too
+pub alike_held : (h : Header) (a b x y : List ℕ) (number : ℕ) → x ≡ a → y ≡ b → block_numbered h x number ≡ block_numbered h y number
+    → block_numbered h a number ≡ block_numbered h b number
+alike_held h a b x y number one other same =
+    ap (λ (l : List ℕ). block_numbered h l number) (sym one) ∙ same ∙ ap (λ (l : List ℕ). block_numbered h l number) other
 
 module _ (h : Header) (a b : List ℕ) (limits : IsInLimits h) (found other : Found) (one : HasFound h found a) (two : HasFound h other b) where
   first_a : found.first ≡ first_of h a

@@ -1,11 +1,12 @@
 -- The side that follows, while its ring is attached and it is brought up to the lead.
-use Rattle.std.proofs.Common.{◌≡◌, ℕ, ◌-◌, List, take, refl, sym, ◌∙◌, ap, subst, arith}
-use Rattle.std.specs.Prelude.{IsTrue}
+use Rattle.std.proofs.Common.{◌≡◌, ℕ, ◌-◌, ◌<◌, List, take, refl, sym, ◌∙◌, ap, subst, arith}
+use Rattle.std.proofs.Common.{Result, Ok, Err}
+use Rattle.std.specs.Prelude.{IsTrue, IfErr}
 use Rattle.fdr_deck.specs.State.{Tells}
 use Rattle.fdr_slot.specs.declared.image.Header.{Header}
 use Rattle.fdr_recover.specs.Blocks.{Block}
 use Rattle.fdr_recover.specs.Images.{recovered_run, next_of}
-use Rattle.fdr_ring.specs.Runs.{KeepsRun}
+use Rattle.fdr_ring.specs.Runs.{KeepsRun, last_blocks}
 use Rattle.fdr_ring.specs.Rings.{IsAttaching, OfSettled}
 use Rattle.fdr_ring.specs.declared.ring.Ring.{Ring}
 use Rattle.fdr_ring.proofs.Turning.{KeepsHeader-then}
@@ -19,10 +20,15 @@ use Rattle.fdr_recorder.specs.Keeping.{RecoversPrefix}
 use Rattle.fdr_recorder.proofs.Steps.{keeps_run, same_run, tail_on}
 use Rattle.fdr_pair.specs.PairWork.{IsSameContent, PairWork}
 use Rattle.fdr_pair.specs.Brought.{blocks_not_below, missing_blocks, IsFarBehind}
-use Rattle.fdr_pair.specs.Bringing.{IsBringing}
-use Rattle.fdr_pair.specs.Joining.{IsJoining}
+use Rattle.fdr_pair.specs.Putting.{AddsExactly}
+use Rattle.fdr_pair.specs.Bringing.{IsBringing, HasNoFault}
+use Rattle.fdr_pair.specs.Joining.{IsJoining, IsBroughtIn, HasJoined, IsJoinRefusal}
+use Rattle.fdr_pair.specs.declared.join.Follower.{Follower}
+use Rattle.fdr_pair.specs.declared.join.Follower.TheVariants as follower
+use Rattle.fdr_pair.specs.declared.outcome.PairOutcome.{PairOutcome}
+use Rattle.fdr_pair.specs.declared.outcome.PairOutcome.TheVariants as outcome
 use Rattle.fdr_pair.proofs.PairWorks.{work_of, work_then, work_here, content_of}
-use Rattle.fdr_pair.proofs.Bringing.{other_twice}
+use Rattle.fdr_pair.proofs.Bringing.{other_twice, no_fault_on, no_fault_then, failed_after}
 
 -- at least N - 1 blocks are at least N - 2
 weaker : (h : Header) (old new : List ℕ) → KeepsRun h (h.slots - 1) old new → KeepsRun h (h.slots - 2) old new
@@ -123,3 +129,61 @@ module _ (tells : Tells) (h : Header) (lead side : Side) (p mid : Pair) (is_side
           (missing_blocks r.header (disk_on lead mid).held (disk_on (other_side lead) mid).held) mid) (IsJoining h lead p) p mid q joins_attached work
           (λ stops m is. is)
           (λ stops m is. bringing m ((sound.sides First).stops_need_bytes stops) is)
+
+      -- what became of it, by its counts of faults and its run after `attach`, where the lead's next number is this one
+      module _ (next : ℕ) (q : Pair) (quiet : (disk_on side mid).faults ≡ (disk_on side p).faults) where
+        no_fault : HasNoFault p mid
+        no_fault = no_fault_on lead p mid left.disk.faults (subst (λ (s : Side). (disk_on s mid).faults ≡ (disk_on s p).faults) is_side quiet)
+
+        pub joined_brought : (IsTrue tells.bytes → next ≡ next_of h (disk_on lead p).held)
+            → (IsTrue tells.bytes → recovered_run h (disk_on side mid).held ≡ last_blocks (h.slots - 1) (recovered_run h (disk_on side p).held))
+            → (f : Follower) → IsBroughtIn tells lead r next f mid q → HasJoined tells h lead next f p q
+        joined_brought is_next run follower.Failed failed = failed_after (other_side lead) p mid q no_fault failed
+        joined_brought is_next run follower.Level never = absurd never
+        joined_brought is_next run (follower.Brought s) is =
+            let brought = is.1 in
+            let same_header = brought.header ∙ header in (
+              no_fault_then p mid q no_fault brought.no_fault,
+              same_header,
+              is.0,
+              brought.ring,
+              λ told. record {
+                kept = KeepsHeader-then (disk_on (other_side lead) p).held (disk_on (other_side lead) mid).held (disk_on (other_side lead) q).held
+                    (kept_run told).kept (brought.keeps told).kept;
+                run = subst (λ (l : List Block). AddsExactly h l (disk_on (other_side lead) mid).held (disk_on (other_side lead) q).held) (missing_then told)
+                    (subst (λ (x : Header). AddsExactly x (missing_blocks r.header (disk_on lead mid).held (disk_on (other_side lead) mid).held)
+                    (disk_on (other_side lead) mid).held (disk_on (other_side lead) q).held) header (brought.exact told))
+                    (recovered_run h (disk_on (other_side lead) p).held)
+                    (subst (λ (x : Side). recovered_run h (disk_on x mid).held ≡ last_blocks (h.slots - 1) (recovered_run h (disk_on x p).held)) is_side
+                    (run told));
+                next = ap (λ (x : Header). next_of x (disk_on (other_side lead) q).held) (sym same_header) ∙ sym (brought.ring.sure.ring.next told)
+                    ∙ is.0 ∙ is_next told;
+              },
+            )
+
+        -- why it wasn't brought up. It is never too far behind
+        refused_for : (why : PairOutcome) → IsJoinRefusal tells r.header lead next why mid q → ((s : Side) → why ≡ outcome.FarBehind s → ⊥)
+            → IsJoinRefusal tells h lead next why p q
+        refused_for (outcome.LeadFault s) is near_enough =
+            let behind : IsTrue tells.bytes → next_of h (disk_on (other_side lead) q).held < next =
+            λ told. subst (λ (x : Header). next_of x (disk_on (other_side lead) q).held < next) header (is.2 told) in
+            (is.0, failed_after lead p mid q no_fault is.1, behind)
+        refused_for (outcome.FarBehind s) is near_enough = absurd (near_enough s refl)
+        refused_for (outcome.BlocksDiffer seq) is near_enough = (no_fault_then p mid q no_fault is.0, is.1)
+        refused_for outcome.Done is near_enough = is
+        refused_for outcome.Usage is near_enough = is
+        refused_for (outcome.TableRefused row f) is near_enough = is
+        refused_for (outcome.TraceRefused index f) is near_enough = is
+        refused_for (outcome.ImageRefused s why) is near_enough = is
+        refused_for (outcome.WordsDiffer image table) is near_enough = is
+        refused_for outcome.SeqEnd is near_enough = is
+        refused_for (outcome.ReadFault i) is near_enough = is
+        refused_for outcome.DiskFault is near_enough = is
+        refused_for outcome.NoMemory is near_enough = is
+        refused_for outcome.OldVersion is near_enough = is
+        refused_for outcome.HeadersDiffer is near_enough = is
+
+        pub refused_brought : (o : Result Follower PairOutcome) → IfErr o (λ why. IsJoinRefusal tells r.header lead next why mid q)
+            → ((s : Side) → o ≡ Err (outcome.FarBehind s) → ⊥) → IfErr o (λ why. IsJoinRefusal tells h lead next why p q)
+        refused_brought (Ok f) is near_enough = tt
+        refused_brought (Err why) is near_enough = refused_for why is (λ s same. near_enough s (ap Err same))

@@ -38,8 +38,7 @@ pub fn scan_on<T: Twin>(twin: &mut T, side: Side, h: &Header) -> Result<Found, F
     ensures cause { OnErr result (Rose (disk_on side (T.pair twin.old)).faults (disk_on side (T.pair twin.new)).faults) }
 {
     twin.turn(side);
-    let found = scan(twin, h)?;
-    Ok(found)
+    scan(twin, h)
 }
 
 /// Turns to a side and opens its image again, as `attach` of a ring does. The other side is left.
@@ -64,6 +63,5 @@ pub fn attach_on<T: Twin>(twin: &mut T, side: Side, h: Header) -> Result<Ring, R
     ensures cause { OnErr result (Rose (disk_on side (T.pair twin.old)).faults (disk_on side (T.pair twin.new)).faults) }
 {
     twin.turn(side);
-    let ring = Ring::attach(twin, h)?;
-    Ok(ring)
+    Ring::attach(twin, h)
 }

@@ -47,8 +47,7 @@ pub fn put_on<T: Twin>(
         → Rose (disk_on side (T.pair twin.old)).faults (disk_on side (T.pair twin.new)).faults }
 {
     twin.turn(side);
-    let ring = put_block(twin, ring, session, bytes)?;
-    Ok(ring)
+    put_block(twin, ring, session, bytes)
 }
 
 /// Puts a block on a side that has this ring, unless it has failed, which is None. Where it fails now, it has failed from now

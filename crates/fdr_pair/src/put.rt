@@ -42,6 +42,5 @@ pub fn put_block<D: Deck>(
     ensures rest { D.same_rest deck.old deck.new }
 {
     let prepared = ring.prepare(deck, session, bytes)?;
-    let ring = prepared.commit(deck)?;
-    Ok(ring)
+    prepared.commit(deck)
 }

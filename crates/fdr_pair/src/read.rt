@@ -41,6 +41,5 @@ pub fn block_on<T: Twin>(
     ensures cause { OnErr result (Rose (disk_on side (T.pair twin.old)).faults (disk_on side (T.pair twin.new)).faults) }
 {
     twin.turn(side);
-    let info = block(twin, h, seq, buf)?;
-    Ok(info)
+    block(twin, h, seq, buf)
 }

@@ -6,6 +6,7 @@ pub mod Commands
 pub mod Recovery
 pub mod SessionLemmas
 pub mod SessionEntries
+pub mod BlocksRead
 pub mod SessionSummaries
 pub mod Images
 pub mod Making
@@ -18,6 +19,9 @@ pub mod OneRun
 pub mod Readable
 pub mod InputTexts
 pub mod ListedLines
+pub mod Results
+pub mod SourceEnds
+pub mod Openings
 pub mod Coding
 pub mod Coded
 pub mod ListedImages

@@ -38,7 +38,7 @@ use Rattle.fdr_top.specs.declared.outcome.Outcome.TheVariants as outcome
 use Rattle.fdr_top.proofs.Images.{OnlyLooks-here, OnlyLooks-then, same_fault}
 use Rattle.fdr_top.proofs.ListedImages.{IsOfBlocks, of_blocks_begun, shut_not_done, shut_not_write}
 use Rattle.fdr_top.proofs.Making.{table_or, table_told}
-use Rattle.fdr_top.proofs.RecordLines.{disk_failed, no_differ, no_first, refuses_nothing, takes_image}
+use Rattle.fdr_top.proofs.RecordLines.{no_differ, no_first, refuses_nothing, takes_image}
 use Rattle.fdr_top.proofs.SessionEntries.{lines_of_blocks}
 use Rattle.fdr_top.proofs.TableAnswers.{past_not_memory, table_not_past}
 
@@ -146,11 +146,6 @@ refuses_by_nothing (Some ring) t tells old new answer early = record {
   refused_always = λ why past. absurd (early past);
   words = λ image table e. early (subst IsPastTable (sym e) tt);
 }
-
--- where the disk failed
-pub failed_by : (ring : Option (ℕ × ℕ)) (t : TableRows) (tells : Tells) (old new : State) → RefusesBy ring t tells old new outcome.DiskFault
-failed_by None t tells old new = disk_failed t tells old new
-failed_by (Some ring) t tells old new = length_failed ring new
 
 -- an image that can be read isn't refused
 takes_by : (ring : Option (ℕ × ℕ)) (t : TableRows) (tells : Tells) (old new : State) (answer : Outcome) → (WritesNothing answer → ⊥)

@@ -163,6 +163,40 @@ fn list_runs<D: Deck, O: Sink>(
     }
 }
 
+/// Finds the runs of an opened image, and lists their blocks. The memory for the runs is taken before a line is written.
+fn list_found<D: Deck, O: Sink>(
+    alloc: Global,
+    header: &Header,
+    blocks: &mut BlockReader<'_, LineWriter>,
+    deck: &mut D,
+    out: &mut O,
+) -> Outcome
+    requires reads { (past : ScannerPast) × ReadsEvents blocks.old.table.now blocks.old.events past }
+    requires version { blocks.old.version ≡ header.now.version }
+    requires empty { blocks.old.taker ≡ [] }
+    requires limits { IsInLimits header.now }
+    requires whole { image_size header.now ≤ (D.state deck.old).extent }
+    ensures answer { (result ≡ Outcome.NoMemory)
+        ⊎ ((result ≡ Outcome.Done) ⊎ ((result ≡ Outcome.WriteFault) ⊎ (result ≡ Outcome.DiskFault))) }
+    ensures text { result ≡ Outcome.Done → IsTrue D.tells.bytes
+        → O.written out.new ≡ followed_by (O.written out.old) (salvage_text blocks.old.table.now header.now (D.state deck.old).held) }
+    ensures part { IsTrue D.tells.bytes → (k : ℕ) × (O.written out.new ≡ followed_by (O.written out.old)
+        (take k (salvage_text blocks.old.table.now header.now (D.state deck.old).held))) }
+    ensures looks { Looks D.tells (D.state deck.old) (D.state deck.new) }
+    ensures disk_fault { result ≡ Outcome.DiskFault → Rose (D.state deck.old).disk_faults (D.state deck.new).disk_faults }
+    ensures write_fault { result ≡ Outcome.WriteFault → Rose (O.faults out.old) (O.faults out.new) }
+    ensures no_disk_fault { result ≢ Outcome.DiskFault → (D.state deck.new).disk_faults ≡ (D.state deck.old).disk_faults }
+    ensures no_write_fault { result ≢ Outcome.WriteFault → result ≢ Outcome.DiskFault → O.faults out.new ≡ O.faults out.old }
+    ensures no_memory { result ≡ Outcome.NoMemory → out.new ≡ out.old }
+{
+    let found = match runs(alloc, deck, header) {
+        Ok(found) => found,
+        Err(SalvageFault::DiskFault) => return Outcome::DiskFault,
+        Err(SalvageFault::NoMemory) => return Outcome::NoMemory,
+    };
+    list_runs(header, &found, blocks, deck, out)
+}
+
 /// Lists every run of blocks of the deck's image by a table. All memory is taken before a line is written.
 fn salvage_image<D: Deck, O: Sink>(
     alloc: Global,
@@ -191,11 +225,6 @@ fn salvage_image<D: Deck, O: Sink>(
         return Outcome::NoMemory;
     };
     let ImageReader { header, events } = reader;
-    let found = match runs(alloc, deck, &header) {
-        Ok(found) => found,
-        Err(SalvageFault::DiskFault) => return Outcome::DiskFault,
-        Err(SalvageFault::NoMemory) => return Outcome::NoMemory,
-    };
     let mut blocks = BlockReader {
         events,
         table: sound.table(),
@@ -203,7 +232,7 @@ fn salvage_image<D: Deck, O: Sink>(
         open_session: None,
         taker: lines,
     };
-    list_runs(&header, &found, &mut blocks, deck, out)
+    list_found(alloc, &header, &mut blocks, deck, out)
 }
 
 /// `salvage`: lists every run of blocks that the deck's image still holds by a table, in version 2 each session of a run by

@@ -1,12 +1,25 @@
 use Rattle.fdr_recover.specs.Images.{blocks_between}
-use Rattle.std.proofs.Common.{◌≡◌, ◌+◌, [], ◌∷◌, take}
+use Rattle.std.proofs.Common.{◌≡◌, ◌+◌, [], ◌∷◌, take, sym, subst}
 use Rattle.std.specs.Prelude.{IsTrue}
-use Rattle.fdr_twin.specs.Pair.{disk_on}
+use Rattle.fdr_twin.specs.Pair.{disk_on, seen, other_side}
 use Rattle.fdr_pair.specs.SidePuts.{next_block}
+use Rattle.fdr_ring.specs.Rings.{IsRing}
+use Rattle.fdr_twin.specs.declared.side.Side.{Side}
+use Rattle.fdr_pair.proofs.Going.{ring_left}
 use Rattle.fdr_pair.proofs.Bringing.{brings_looked, block_of_read, lead_kept, put_work, put_brought}
 use Rattle.fdr_pair.proofs.bring.bring_block.Given.{Over}
 use Rattle.fdr_pair.proofs.bring.bring_block.Goals.{After-put_on}
 use Rattle.fdr_pair.proofs.bring.bring_block.Goals as goal
+
+pub put_on-requires-clause-fact : goal.put_on-requires-clause-fact
+put_on-requires-clause-fact g c =
+    let mid = g.T.Twin.pair c.block_on.new.twin in
+    subst (λ (side : Side). IsRing g.T.Deck.tells c.args.ring.header c.args.ring.next (seen side mid)) (sym c.other_side-follower.ensures)
+    (ring_left g.T.Deck.tells (other_side c.args.lead) c.args.ring (g.T.Twin.pair c.args.twin.now) mid c.block_on.ensures.serves.other.disk
+    c.requires.ring).sure.ring
+
+pub returns-in_default-clause-lead_failed : goal.returns-in_default-clause-lead_failed
+returns-in_default-clause-lead_failed g c fails = record { rose = c.in_default.ensures.cause; other = c.block_on.ensures.serves.other.disk.faults }
 
 pub returns-in_default-clause-work : goal.returns-in_default-clause-work
 returns-in_default-clause-work g c =

@@ -1,6 +1,21 @@
+use Rattle.std.proofs.Common.{arith}
+use Rattle.fdr_twin.specs.declared.side.Side.TheVariants.{First, Second}
 use Rattle.fdr_pair.proofs.Counting.{counts_block, told_living}
-use Rattle.fdr_pair.proofs.Both.{first_going, second_going}
+use Rattle.fdr_pair.proofs.Both.{first_going, second_going, put_ready, ready_left}
 use Rattle.fdr_pair.proofs.record.record_block.Goals as goal
+
+pub put_unless_failed-first-requires-clause-ready : goal.put_unless_failed-first-requires-clause-ready
+put_unless_failed-first-requires-clause-ready g c =
+    put_ready g.T.Deck.tells First c.args.first c.args.next c.args.session c.args.bytes.now (g.T.Twin.pair c.args.twin.now) c.requires.first_ready
+    (omega (arith, c.requires.bound))
+
+pub put_unless_failed-second-requires-clause-ready : goal.put_unless_failed-second-requires-clause-ready
+put_unless_failed-second-requires-clause-ready g c =
+    let old = g.T.Twin.pair c.args.twin.now in
+    let mid = g.T.Twin.pair c.put_unless_failed-first.new.twin in
+    put_ready g.T.Deck.tells Second c.args.second c.args.next c.args.session c.args.bytes.now mid
+    (ready_left g.T.Deck.tells Second c.args.second c.args.next c.args.session c.args.bytes.now old mid c.put_unless_failed-first.ensures.away
+    c.requires.second_ready) (omega (arith, c.requires.bound))
 
 pub returns-clause-first_moments : goal.returns-clause-first_moments
 returns-clause-first_moments g c =

@@ -1,4 +1,4 @@
-use Rattle.std.proofs.Common.{◌∙◌, ap, refl, sym, inr, ⊎_elim, arith}
+use Rattle.std.proofs.Common.{◌∙◌, ap, refl, sym, inl, inr, ⊎_elim, arith}
 use Rattle.fdr_recorder.specs.Supply.{drawn_trace}
 use Rattle.fdr_recorder.proofs.SessionEnds.{keeps_input_then}
 use Rattle.fdr_recorder.proofs.Supplies.{drawn_made}
@@ -6,9 +6,11 @@ use Rattle.fdr_top.specs.Ends.{session_refusal}
 use Rattle.fdr_top.specs.declared.outcome.Outcome.TheVariants as outcome
 use Rattle.fdr_top.proofs.Drilled.{drill_cut, drill_shut, drill_told, learns_then}
 use Rattle.fdr_top.proofs.ListedImages.{of_blocks_begun, of_blocks_drill}
-use Rattle.fdr_top.proofs.Answering.{memory_writes}
+use Rattle.fdr_top.proofs.Answering.{memory_writes, passes_keeps}
 use Rattle.fdr_top.proofs.RecordLines.{refuses_nothing}
 use Rattle.fdr_top.proofs.RecordingEnds.{is_disk_fault, is_no_memory, keeps_line, refusal_not_write, refusal_own_drill, refused_at_start}
+use Rattle.fdr_top.proofs.Results.{err_same, memory_not_disk, memory_not_write, ok_not_err, rose_after, rose_later}
+use Rattle.fdr_top.proofs.Openings.{opening_own_drill, shut_unwritten}
 use Rattle.fdr_top.proofs.drilling.drill_image.Goals as goal
 
 pub returns-in-Err-clause-drills : goal.returns-in-Err-clause-drills
@@ -40,10 +42,8 @@ returns-clause-drills g c =
 
 pub returns-clause-disk_fault : goal.returns-clause-disk_fault
 returns-clause-disk_fault g c = λ fails.
-    let looked = c.open_image.ensures.looks.disk_work.passes.disk_faults in
-    let still = c.in-Ok-record_source.ensures.no_disk_fault in
-    let rose = c.write_summary.ensures.disk_fault fails in
-    omega (arith, looked, still, rose)
+    rose_later _ _ _ c.open_image.ensures.looks.disk_work.passes.disk_faults
+    (rose_after _ _ _ c.in-Ok-record_source.ensures.no_disk_fault (c.write_summary.ensures.disk_fault fails))
 
 pub returns-in-Err-record_source-clause-drills : goal.returns-in-Err-record_source-clause-drills
 returns-in-Err-record_source-clause-drills g c =
@@ -97,7 +97,7 @@ returns-clause-memory g c = λ e. absurd (of_blocks_begun c.write_summary.result
 
 pub returns-clause-no_disk_fault : goal.returns-clause-no_disk_fault
 returns-clause-no_disk_fault g c = λ other.
-    c.write_summary.ensures.no_disk_fault other ∙ c.in-Ok-record_source.ensures.no_disk_fault ∙ c.in-Ok.ensures.no_disk_fault (λ e. absurd (cc))
+    c.write_summary.ensures.no_disk_fault other ∙ c.in-Ok-record_source.ensures.no_disk_fault ∙ c.in-Ok.ensures.no_disk_fault (ok_not_err _ _)
 
 -- ---- where the session was refused or cut short
 
@@ -123,9 +123,8 @@ returns-in-Err-record_source-clause-announced g c = λ nothing.
 
 pub returns-in-Err-record_source-clause-disk_fault : goal.returns-in-Err-record_source-clause-disk_fault
 returns-in-Err-record_source-clause-disk_fault g c = λ fails.
-    let looked = c.open_image.ensures.looks.disk_work.passes.disk_faults in
-    let rose = c.in-Err-record_source.ensures.disk_fault (is_disk_fault c.in-Err-record_source.fault (sym c.session_refusal.ensures ∙ fails)) in
-    omega (arith, looked, rose)
+    rose_later _ _ _ c.open_image.ensures.looks.disk_work.passes.disk_faults
+    (c.in-Err-record_source.ensures.disk_fault (is_disk_fault c.in-Err-record_source.fault (sym c.session_refusal.ensures ∙ fails)))
 
 pub returns-in-Err-record_source-clause-write_fault : goal.returns-in-Err-record_source-clause-write_fault
 returns-in-Err-record_source-clause-write_fault g c = λ fails.
@@ -134,4 +133,78 @@ returns-in-Err-record_source-clause-write_fault g c = λ fails.
 pub returns-in-Err-record_source-clause-no_disk_fault : goal.returns-in-Err-record_source-clause-no_disk_fault
 returns-in-Err-record_source-clause-no_disk_fault g c = λ other.
     c.in-Err-record_source.ensures.no_fault_if_cut (λ e. other (c.session_refusal.ensures ∙ ap session_refusal e))
-    ∙ c.in-Ok.ensures.no_disk_fault (λ e. absurd (cc))
+    ∙ c.in-Ok.ensures.no_disk_fault (ok_not_err _ _)
+
+pub returns-in-Err-record_source-clause-input : goal.returns-in-Err-record_source-clause-input
+returns-in-Err-record_source-clause-input g c =
+    let opened = c.open_image.ensures.looks.disk_work.passes in
+    let left = c.in-Err-record_source.ensures.unpulled tt in
+    keeps_line _ _ (keeps_input_then _ _ _ _ (opened.input, opened.input_faults) refl left.0 left.1)
+
+pub returns-in-Err-record_source-clause-learns : goal.returns-in-Err-record_source-clause-learns
+returns-in-Err-record_source-clause-learns g c =
+    learns_then _ _ _ _ _ c.open_image.ensures.looks.learns c.in-Err-record_source.ensures.learns refl
+
+-- ---- where the image isn't opened
+
+pub returns-in-Err-clause-answer : goal.returns-in-Err-clause-answer
+returns-in-Err-clause-answer g c = λ path image.
+    opening_own_drill path image c.args.seed c.args.frames c.in-Err.answer c.in-Err.ensures.shut
+
+pub returns-in-Err-clause-untouched : goal.returns-in-Err-clause-untouched
+returns-in-Err-clause-untouched g c = λ nothing. c.open_image.ensures.looks.disk
+
+pub returns-in-Err-clause-announced : goal.returns-in-Err-clause-announced
+returns-in-Err-clause-announced g c = λ nothing. c.open_image.ensures.looks.disk_work.passes.announced.announced
+
+pub returns-in-Err-clause-input : goal.returns-in-Err-clause-input
+returns-in-Err-clause-input g c = passes_keeps _ _ _ c.open_image.ensures.looks.disk_work.passes
+
+pub returns-in-Err-clause-learns : goal.returns-in-Err-clause-learns
+returns-in-Err-clause-learns g c = c.open_image.ensures.looks.learns
+
+pub returns-in-Err-clause-disk_fault : goal.returns-in-Err-clause-disk_fault
+returns-in-Err-clause-disk_fault g c = c.in-Err.ensures.disk_fault
+
+pub returns-in-Err-clause-write_fault : goal.returns-in-Err-clause-write_fault
+returns-in-Err-clause-write_fault g c = λ e. absurd (shut_unwritten c.in-Err.answer c.in-Err.ensures.shut e)
+
+pub returns-in-Err-clause-no_disk_fault : goal.returns-in-Err-clause-no_disk_fault
+returns-in-Err-clause-no_disk_fault g c = λ other. c.in-Err.ensures.no_disk_fault (λ e. other (err_same _ _ e))
+
+pub returns-in-Err-clause-memory : goal.returns-in-Err-clause-memory
+returns-in-Err-clause-memory g c = c.in-Err.ensures.memory
+
+-- ---- where there is no room for the generator
+
+pub returns-in_default-clause-answer : goal.returns-in_default-clause-answer
+returns-in_default-clause-answer g c = λ path image. inl refl
+
+pub returns-in_default-clause-untouched : goal.returns-in_default-clause-untouched
+returns-in_default-clause-untouched g c = λ nothing. c.open_image.ensures.looks.disk
+
+pub returns-in_default-clause-announced : goal.returns-in_default-clause-announced
+returns-in_default-clause-announced g c = λ nothing. c.open_image.ensures.looks.disk_work.passes.announced.announced
+
+pub returns-in_default-clause-input : goal.returns-in_default-clause-input
+returns-in_default-clause-input g c = passes_keeps _ _ _ c.open_image.ensures.looks.disk_work.passes
+
+pub returns-in_default-clause-learns : goal.returns-in_default-clause-learns
+returns-in_default-clause-learns g c = c.open_image.ensures.looks.learns
+
+pub returns-in_default-clause-disk_fault : goal.returns-in_default-clause-disk_fault
+returns-in_default-clause-disk_fault g c = λ e. absurd (memory_not_disk e)
+
+pub returns-in_default-clause-write_fault : goal.returns-in_default-clause-write_fault
+returns-in_default-clause-write_fault g c = λ e. absurd (memory_not_write e)
+
+pub returns-in_default-clause-no_disk_fault : goal.returns-in_default-clause-no_disk_fault
+returns-in_default-clause-no_disk_fault g c = λ other. c.in-Ok.ensures.no_disk_fault (ok_not_err _ _)
+
+-- ---- where the summary is written
+
+pub returns-clause-write_fault : goal.returns-clause-write_fault
+returns-clause-write_fault g c = c.write_summary.ensures.write_fault
+
+pub returns-clause-no_write_fault : goal.returns-clause-no_write_fault
+returns-clause-no_write_fault g c = c.write_summary.ensures.no_write_fault

@@ -1,14 +1,57 @@
-use Rattle.std.proofs.Common.{◌∙◌, ⊎_elim, ap, sym, Err, arith}
+use Rattle.std.proofs.Common.{◌≡◌, ◌⊎◌, ◌∙◌, ℕ, List, ⊎_elim, ap, inl, inr, refl, subst, sym, Err, arith}
 use Rattle.fdr_deck.specs.State.{State, Tells}
 use Rattle.fdr_deck.specs.Calls.{IsDiskWork}
 use Rattle.fdr_deck.specs.Disk.{KeepsDisk, LearnsExtent}
 use Rattle.fdr_top.specs.Recover.{OnlyLooks}
 use Rattle.fdr_top.proofs.Images.{header_not_memory, header_unread, nothing_recovered, run_recovered}
+use Rattle.fdr_words.specs.Forms.{recover_image}
+use Rattle.fdr_slot.specs.declared.image.ImageFault.{ImageFault}
+use Rattle.fdr_recover.specs.declared.error.RingFault.{RingFault}
+use Rattle.fdr_recover.specs.declared.error.RingFault.TheVariants as ring
+use Rattle.fdr_top.specs.Answers.{IsOwn}
+use Rattle.fdr_top.specs.Recover.{header_refusal}
+use Rattle.fdr_top.specs.declared.outcome.Outcome.{Outcome}
+use Rattle.fdr_top.specs.declared.outcome.Outcome.TheVariants as outcome
+use Rattle.fdr_top.proofs.Results.{disk_not_done, disk_not_memory, done_not_disk, done_not_memory, done_not_write, err_same, memory_not_disk}
+use Rattle.fdr_top.proofs.Results.{memory_not_done, memory_not_write, ok_not_err, write_not_done, write_not_memory}
 use Rattle.fdr_top.proofs.recovering.recover_image.Goals as goal
 
 only_looks : (tells : Tells) (old new : State) → LearnsExtent tells old new → KeepsDisk old new → IsDiskWork tells old.may_leave old new
     → OnlyLooks tells old new
 only_looks tells old new learns disk quiet = record { learns = learns; disk = disk; disk_work = quiet }
+
+-- what writing the run answers where it fails
+cut_not : (P : Outcome → Type 0) (answer : Outcome) → (answer ≡ outcome.DiskFault) ⊎ (answer ≡ outcome.WriteFault)
+    → P outcome.DiskFault → P outcome.WriteFault → P answer
+cut_not P answer either disk sink = ⊎_elim
+    (λ (e : answer ≡ outcome.DiskFault). subst P (sym e) disk)
+    (λ (e : answer ≡ outcome.WriteFault). subst P (sym e) sink)
+    either
+
+memory_unrefused : (why : ImageFault) → outcome.NoMemory ≡ outcome.ImageRefused why → ⊥
+memory_unrefused why e = cc
+
+done_unrefused : (why : ImageFault) → outcome.Done ≡ outcome.ImageRefused why → ⊥
+done_unrefused why e = cc
+
+disk_unrefused : (why : ImageFault) → outcome.DiskFault ≡ outcome.ImageRefused why → ⊥
+disk_unrefused why e = cc
+
+write_unrefused : (why : ImageFault) → outcome.WriteFault ≡ outcome.ImageRefused why → ⊥
+write_unrefused why e = cc
+
+-- where the header isn't read
+header_own : (image : List ℕ) (f : RingFault) → (header_refusal f ≡ outcome.NoMemory) ⊎ IsOwn (recover_image image) (header_refusal f)
+header_own image (ring.Image why) = inr tt
+header_own image ring.NotEmpty = inr tt
+header_own image ring.DiskFault = inr tt
+header_own image ring.SeqEnd = inr tt
+
+header_not_write : (f : RingFault) → header_refusal f ≡ outcome.WriteFault → ⊥
+header_not_write (ring.Image why) e = cc
+header_not_write ring.NotEmpty e = cc
+header_not_write ring.DiskFault e = cc
+header_not_write ring.SeqEnd e = cc
 
 pub returns-in-Err-clause-recovers : goal.returns-in-Err-clause-recovers
 returns-in-Err-clause-recovers g c =
@@ -22,8 +65,8 @@ returns-in-Err-clause-recovers g c =
 pub returns-in_default-clause-recovers : goal.returns-in_default-clause-recovers
 returns-in_default-clause-recovers g c =
     let looks = only_looks _ _ _ c.read_image_header.ensures.learns c.read_image_header.ensures.disk c.read_image_header.ensures.disk_work in
-    nothing_recovered _ _ _ _ _ looks (λ e. absurd (cc)) (λ no_fault read told. c.in-Ok.ensures.good told) (λ why e told. absurd (cc)) (λ why e. absurd (cc))
-    (λ no_fault read. omega (arith, c.in-Ok.ensures.whole)) (λ e. absurd (cc))
+    nothing_recovered _ _ _ _ _ looks memory_not_done (λ no_fault read told. c.in-Ok.ensures.good told) (λ why e told. absurd (memory_unrefused why e))
+    (λ why e. absurd (memory_unrefused why e)) (λ no_fault read. omega (arith, c.in-Ok.ensures.whole)) (λ e. absurd (memory_not_disk e))
 
 pub returns-in-Ok-write_run-clause-recovers : goal.returns-in-Ok-write_run-clause-recovers
 returns-in-Ok-write_run-clause-recovers g c =
@@ -31,18 +74,18 @@ returns-in-Ok-write_run-clause-recovers g c =
     run_recovered _ _ _ _ c.in-Ok.header _ _ _ (g.met.D.Deck.sound c.args.deck.now) looks c.write_run.ensures.looks
     c.in-Ok.ensures.read c.in-Ok.ensures.good
     (λ done told. c.in-Ok-write_run.ensures.all told) (λ told. c.write_run.ensures.part told) c.in-Ok.ensures.whole
-    (λ why e. absurd (cc)) (c.in-Ok.ensures.succeeds (λ e. absurd (cc))).disk_faults (λ e. absurd (cc))
+    done_unrefused (c.in-Ok.ensures.succeeds (ok_not_err _ _)).disk_faults (λ e. absurd (done_not_disk e))
 
 pub returns-clause-recovers : goal.returns-clause-recovers
 returns-clause-recovers g c =
     let looks = only_looks _ _ _ c.read_image_header.ensures.learns c.read_image_header.ensures.disk c.read_image_header.ensures.disk_work in
+    let cut = λ (P : Outcome → Type 0). cut_not P c.in-Err-write_run.answer c.in-Err-write_run.ensures.answer in
     run_recovered _ _ _ _ c.in-Ok.header _ _ c.in-Err-write_run.answer (g.met.D.Deck.sound c.args.deck.now) looks c.write_run.ensures.looks
     c.in-Ok.ensures.read c.in-Ok.ensures.good
-    (λ done told. absurd (⊎_elim (λ disk. let e = sym disk ∙ done in absurd (cc)) (λ sink. let e = sym sink ∙ done in absurd (cc))
-    c.in-Err-write_run.ensures.answer))
+    (λ done told. absurd (cut (λ (a : Outcome). a ≡ outcome.Done → ⊥) disk_not_done write_not_done done))
     (λ told. c.write_run.ensures.part told) c.in-Ok.ensures.whole
-    (λ why is. ⊎_elim (λ disk. let e = sym disk ∙ is in absurd (cc)) (λ sink. let e = sym sink ∙ is in absurd (cc)) c.in-Err-write_run.ensures.answer)
-    (c.in-Ok.ensures.succeeds (λ e. absurd (cc))).disk_faults
+    (λ why. cut (λ (a : Outcome). a ≡ outcome.ImageRefused why → ⊥) (disk_unrefused why) (write_unrefused why))
+    (c.in-Ok.ensures.succeeds (ok_not_err _ _)).disk_faults
     (λ e. c.write_run.ensures.disk_fault (c.in-Err-write_run.is ∙ ap Err e))
 
 pub returns-in_default-clause-memory : goal.returns-in_default-clause-memory
@@ -52,5 +95,60 @@ pub returns-in-Err-clause-memory : goal.returns-in-Err-clause-memory
 returns-in-Err-clause-memory g c = λ e. absurd (header_not_memory c.in-Err.fault (sym c.refusal.ensures ∙ e))
 
 pub returns-clause-memory : goal.returns-clause-memory
-returns-clause-memory g c = λ is.
-    absurd (⊎_elim (λ disk. let e = sym disk ∙ is in cc) (λ sink. let e = sym sink ∙ is in cc) c.in-Err-write_run.ensures.answer)
+returns-clause-memory g c = λ is. absurd (cut_not (λ (a : Outcome). a ≡ outcome.NoMemory → ⊥) c.in-Err-write_run.answer c.in-Err-write_run.ensures.answer
+    disk_not_memory write_not_memory is)
+
+-- ---- which answers there are
+
+pub returns-in-Err-clause-answer : goal.returns-in-Err-clause-answer
+returns-in-Err-clause-answer g c = λ image. rw c.refusal.ensures (header_own image c.in-Err.fault)
+
+pub returns-in_default-clause-answer : goal.returns-in_default-clause-answer
+returns-in_default-clause-answer g c = λ image. inl refl
+
+pub returns-in-Ok-write_run-clause-answer : goal.returns-in-Ok-write_run-clause-answer
+returns-in-Ok-write_run-clause-answer g c = λ image. inr tt
+
+pub returns-clause-answer : goal.returns-clause-answer
+returns-clause-answer g c = λ image. inr (cut_not (IsOwn (recover_image image)) c.in-Err-write_run.answer c.in-Err-write_run.ensures.answer tt tt)
+
+-- ---- what was counted
+
+pub returns-in-Err-clause-write_fault : goal.returns-in-Err-clause-write_fault
+returns-in-Err-clause-write_fault g c = λ e. absurd (header_not_write c.in-Err.fault (sym c.refusal.ensures ∙ e))
+
+pub returns-in-Err-clause-no_disk_fault : goal.returns-in-Err-clause-no_disk_fault
+returns-in-Err-clause-no_disk_fault g c = λ other.
+    (c.in-Err.ensures.succeeds (λ e. other (c.refusal.ensures ∙ ap header_refusal (err_same _ _ e)))).disk_faults
+
+pub returns-in_default-clause-write_fault : goal.returns-in_default-clause-write_fault
+returns-in_default-clause-write_fault g c = λ e. absurd (memory_not_write e)
+
+pub returns-in_default-clause-no_disk_fault : goal.returns-in_default-clause-no_disk_fault
+returns-in_default-clause-no_disk_fault g c = λ other. (c.in-Ok.ensures.succeeds (ok_not_err _ _)).disk_faults
+
+pub returns-in-Ok-write_run-clause-write_fault : goal.returns-in-Ok-write_run-clause-write_fault
+returns-in-Ok-write_run-clause-write_fault g c = λ e. absurd (done_not_write e)
+
+pub returns-in-Ok-write_run-clause-no_disk_fault : goal.returns-in-Ok-write_run-clause-no_disk_fault
+returns-in-Ok-write_run-clause-no_disk_fault g c = λ other.
+    c.in-Ok-write_run.ensures.disk_unfailed (ok_not_err _ _) ∙ (c.in-Ok.ensures.succeeds (ok_not_err _ _)).disk_faults
+
+pub returns-in-Ok-write_run-clause-no_write_fault : goal.returns-in-Ok-write_run-clause-no_write_fault
+returns-in-Ok-write_run-clause-no_write_fault g c = λ other. c.in-Ok-write_run.ensures.sink_unfailed (ok_not_err _ _)
+
+pub returns-in-Ok-write_run-clause-memory : goal.returns-in-Ok-write_run-clause-memory
+returns-in-Ok-write_run-clause-memory g c = λ e. absurd (done_not_memory e)
+
+pub returns-clause-write_fault : goal.returns-clause-write_fault
+returns-clause-write_fault g c = λ e. c.write_run.ensures.write_fault (c.in-Err-write_run.is ∙ ap Err e)
+
+pub returns-clause-no_disk_fault : goal.returns-clause-no_disk_fault
+returns-clause-no_disk_fault g c = λ other.
+    c.write_run.ensures.disk_unfailed (λ e. other (err_same _ _ (sym c.in-Err-write_run.is ∙ e))) ∙ (c.in-Ok.ensures.succeeds (ok_not_err _ _)).disk_faults
+
+pub returns-clause-no_write_fault : goal.returns-clause-no_write_fault
+returns-clause-no_write_fault g c = λ other. c.write_run.ensures.sink_unfailed (λ e. other (err_same _ _ (sym c.in-Err-write_run.is ∙ e)))
+
+pub returns-clause-unwritten : goal.returns-clause-unwritten
+returns-clause-unwritten g c = λ done sink disk. absurd (⊎_elim disk sink c.in-Err-write_run.ensures.answer)

@@ -1,10 +1,12 @@
-use Rattle.std.proofs.Common.{[], Err, ap}
+use Rattle.std.proofs.Common.{[], Err, ap, inl, inr, refl, ◌∙◌}
 use Rattle.std.specs.Prelude.{IsTrue}
 use Rattle.fdr_io.specs.Output.{Emits}
 use Rattle.fdr_io.proofs.OutputSteps.{part_at_end, whole_is_part, written_at_end}
 use Rattle.fdr_top.specs.Salvage.{AreRunsOf, entries_in_runs, salvage_text}
 use Rattle.fdr_top.proofs.ListedLines.{part_of_entries, part_of_first}
 use Rattle.fdr_top.proofs.Salvages.{lines_salvaged}
+use Rattle.fdr_top.proofs.Results.{disk_not_done, disk_not_write, done_not_disk, done_not_write, ok_not_err, rose_after, taker_not_disk}
+use Rattle.fdr_top.proofs.Results.{write_not_disk, write_not_done}
 use Rattle.fdr_top.proofs.salvaging.list_runs.Given.{Over}
 use Rattle.fdr_top.proofs.salvaging.list_runs.Goals.{In-Ok}
 use Rattle.fdr_top.proofs.salvaging.list_runs.Goals as goal
@@ -51,3 +53,92 @@ returns-in-Err-Taker-clause-part g c = λ told are.
     part_of_entries t (entries_in_runs t h held c.args.runs.now) (salvage_text t h held) (g.O.Sink.written c.args.out.now)
     (g.O.Sink.written c.take_runs.new.out) (lines_salvaged t h held c.args.runs.now are)
     (rw c.requires.empty at (c.in-Err-Taker.ensures.part told (ap Err c.in-Err-Taker.field-0-is)))
+
+-- ---- where all was written
+
+pub returns-in-Ok-finish-clause-answer : goal.returns-in-Ok-finish-clause-answer
+returns-in-Ok-finish-clause-answer g c = inl refl
+
+pub returns-in-Ok-finish-clause-looks : goal.returns-in-Ok-finish-clause-looks
+returns-in-Ok-finish-clause-looks g c = c.take_runs.ensures.looks
+
+pub returns-in-Ok-finish-clause-disk_fault : goal.returns-in-Ok-finish-clause-disk_fault
+returns-in-Ok-finish-clause-disk_fault g c = λ e. absurd (done_not_disk e)
+
+pub returns-in-Ok-finish-clause-write_fault : goal.returns-in-Ok-finish-clause-write_fault
+returns-in-Ok-finish-clause-write_fault g c = λ e. absurd (done_not_write e)
+
+pub returns-in-Ok-finish-clause-no_disk_fault : goal.returns-in-Ok-finish-clause-no_disk_fault
+returns-in-Ok-finish-clause-no_disk_fault g c = λ other. c.in-Ok.ensures.disk_unfailed (ok_not_err _ _)
+
+pub returns-in-Ok-finish-clause-no_write_fault : goal.returns-in-Ok-finish-clause-no_write_fault
+returns-in-Ok-finish-clause-no_write_fault g c = λ other more. c.in-Ok-finish.ensures.no_fault ∙ c.in-Ok.ensures.no_fault
+
+-- ---- where the last of it wasn't
+
+pub returns-in-Err-clause-answer : goal.returns-in-Err-clause-answer
+returns-in-Err-clause-answer g c = inr (inl refl)
+
+pub returns-in-Err-clause-text : goal.returns-in-Err-clause-text
+returns-in-Err-clause-text g c = λ done told are. absurd (write_not_done done)
+
+pub returns-in-Err-clause-looks : goal.returns-in-Err-clause-looks
+returns-in-Err-clause-looks g c = c.take_runs.ensures.looks
+
+pub returns-in-Err-clause-disk_fault : goal.returns-in-Err-clause-disk_fault
+returns-in-Err-clause-disk_fault g c = λ e. absurd (write_not_disk e)
+
+pub returns-in-Err-clause-write_fault : goal.returns-in-Err-clause-write_fault
+returns-in-Err-clause-write_fault g c = λ e. rose_after _ _ _ c.in-Ok.ensures.no_fault c.in-Err.ensures.cause
+
+pub returns-in-Err-clause-no_disk_fault : goal.returns-in-Err-clause-no_disk_fault
+returns-in-Err-clause-no_disk_fault g c = λ other. c.in-Ok.ensures.disk_unfailed (ok_not_err _ _)
+
+pub returns-in-Err-clause-no_write_fault : goal.returns-in-Err-clause-no_write_fault
+returns-in-Err-clause-no_write_fault g c = λ other more. absurd (other refl)
+
+-- ---- where the disk fails
+
+pub returns-in-Err-Disk-clause-answer : goal.returns-in-Err-Disk-clause-answer
+returns-in-Err-Disk-clause-answer g c = inr (inr refl)
+
+pub returns-in-Err-Disk-clause-text : goal.returns-in-Err-Disk-clause-text
+returns-in-Err-Disk-clause-text g c = λ done told are. absurd (disk_not_done done)
+
+pub returns-in-Err-Disk-clause-looks : goal.returns-in-Err-Disk-clause-looks
+returns-in-Err-Disk-clause-looks g c = c.take_runs.ensures.looks
+
+pub returns-in-Err-Disk-clause-disk_fault : goal.returns-in-Err-Disk-clause-disk_fault
+returns-in-Err-Disk-clause-disk_fault g c = λ e. c.in-Err-Disk.ensures.disk_fault (ap Err c.in-Err-Disk.field-0-is)
+
+pub returns-in-Err-Disk-clause-write_fault : goal.returns-in-Err-Disk-clause-write_fault
+returns-in-Err-Disk-clause-write_fault g c = λ e. absurd (disk_not_write e)
+
+pub returns-in-Err-Disk-clause-no_disk_fault : goal.returns-in-Err-Disk-clause-no_disk_fault
+returns-in-Err-Disk-clause-no_disk_fault g c = λ other. absurd (other refl)
+
+pub returns-in-Err-Disk-clause-no_write_fault : goal.returns-in-Err-Disk-clause-no_write_fault
+returns-in-Err-Disk-clause-no_write_fault g c = λ other more. absurd (more refl)
+
+-- ---- where the sink fails in between
+
+pub returns-in-Err-Taker-clause-answer : goal.returns-in-Err-Taker-clause-answer
+returns-in-Err-Taker-clause-answer g c = inr (inl refl)
+
+pub returns-in-Err-Taker-clause-text : goal.returns-in-Err-Taker-clause-text
+returns-in-Err-Taker-clause-text g c = λ done told are. absurd (write_not_done done)
+
+pub returns-in-Err-Taker-clause-looks : goal.returns-in-Err-Taker-clause-looks
+returns-in-Err-Taker-clause-looks g c = c.take_runs.ensures.looks
+
+pub returns-in-Err-Taker-clause-disk_fault : goal.returns-in-Err-Taker-clause-disk_fault
+returns-in-Err-Taker-clause-disk_fault g c = λ e. absurd (write_not_disk e)
+
+pub returns-in-Err-Taker-clause-write_fault : goal.returns-in-Err-Taker-clause-write_fault
+returns-in-Err-Taker-clause-write_fault g c = λ e. c.in-Err-Taker.ensures.write_fault (ap Err c.in-Err-Taker.field-0-is)
+
+pub returns-in-Err-Taker-clause-no_disk_fault : goal.returns-in-Err-Taker-clause-no_disk_fault
+returns-in-Err-Taker-clause-no_disk_fault g c = λ other. c.in-Err-Taker.ensures.disk_unfailed (taker_not_disk _ c.in-Err-Taker.field-0-is)
+
+pub returns-in-Err-Taker-clause-no_write_fault : goal.returns-in-Err-Taker-clause-no_write_fault
+returns-in-Err-Taker-clause-no_write_fault g c = λ other more. absurd (other refl)

@@ -1,14 +1,80 @@
-use Rattle.std.proofs.Common.{[], ◌∙◌, inr, arith}
+use Rattle.std.proofs.Common.{◌≡◌, ◌⊎◌, ⊎_elim, ℕ, List, [], Option, take, ◌∙◌, ap, inl, inr, refl, subst, sym, Err}
 use Rattle.std.specs.Prelude.{IsTrue}
-use Rattle.fdr_recover.proofs.Looking.{Looks-then}
+use Rattle.fdr_io.specs.Told.{followed_by}
+use Rattle.fdr_deck.specs.Moments.{IsSoundDeck}
+use Rattle.fdr_deck.specs.State.{State, Tells}
+use Rattle.fdr_recover.specs.Looks.{Looks}
+use Rattle.fdr_table.specs.Rows.{TableRows}
 use Rattle.fdr_readout.specs.Reading.{decided_past}
-use Rattle.fdr_top.specs.Salvage.{AreRunsOf}
+use Rattle.fdr_top.specs.List.{RefusesOpening}
+use Rattle.fdr_top.specs.Recover.{OnlyLooks}
+use Rattle.fdr_top.specs.Refusals.{RefusesBy}
+use Rattle.fdr_top.specs.Salvage.{IsOpenedBy, SalvagesImage, salvage_text}
+use Rattle.fdr_top.specs.declared.listing.ImageReader.{ImageReader}
+use Rattle.fdr_top.specs.declared.outcome.Outcome.{Outcome}
 use Rattle.fdr_top.specs.declared.outcome.Outcome.TheVariants as outcome
-use Rattle.fdr_top.proofs.Answering.{memory_writes}
 use Rattle.fdr_top.proofs.Images.{OnlyLooks-then}
-use Rattle.fdr_top.proofs.ListedImages.{of_blocks_begun, of_blocks_salvage}
-use Rattle.fdr_top.proofs.Salvages.{failed_by, opening_own, readable_kept, refuses_by_nothing, runs_salvaged, unsalvaged}
+use Rattle.fdr_top.proofs.ListedImages.{IsOfBlocks, of_blocks_begun, of_blocks_salvage}
+use Rattle.fdr_top.proofs.Openings.{shut_unwritten}
+use Rattle.fdr_top.proofs.Results.{err_same, memory_not_disk, memory_not_write, ok_not_err, rose_later}
+use Rattle.fdr_top.proofs.Salvages.{opening_own, readable_kept, refuses_by_nothing, runs_salvaged, unsalvaged}
 use Rattle.fdr_top.proofs.salvaging.salvage_image.Goals as goal
+
+-- ---- where the runs are looked for
+
+-- they are listed, or memory ended before
+found_salvaged : (t : TableRows) (ring : Option (ℕ × ℕ)) (tells : Tells) (old mid new : State) (r : ImageReader) (before now : Option (List ℕ))
+    (answer : Outcome) → IsSoundDeck tells old → OnlyLooks tells old mid → Looks tells mid new → IsOpenedBy ring t tells old mid r
+    → (answer ≡ outcome.NoMemory) ⊎ IsOfBlocks answer
+    → (answer ≡ outcome.Done → IsTrue tells.bytes → now ≡ followed_by before (salvage_text t r.header mid.held))
+    → (IsTrue tells.bytes → (k : ℕ) × (now ≡ followed_by before (take k (salvage_text t r.header mid.held))))
+    → (answer ≡ outcome.NoMemory → now ≡ before) → SalvagesImage t ring tells old new before now answer
+found_salvaged t ring tells old mid new r before now answer sound first second opened either text part same = ⊎_elim
+    (λ (none : answer ≡ outcome.NoMemory). subst (λ (w : Option (List ℕ)). SalvagesImage t ring tells old new before w answer) (sym (same none))
+    (unsalvaged t ring tells old new before answer (OnlyLooks-then tells old mid new sound first second) (subst RefusesOpening (sym none) tt)
+    (subst (RefusesBy ring t tells old new) (sym none) (refuses_by_nothing ring t tells old new outcome.NoMemory (λ past. past)))))
+    (λ (of : IsOfBlocks answer). runs_salvaged t ring tells old mid new r before now answer sound first second opened of text part)
+    either
+
+pub list_found-requires-clause-reads : goal.list_found-requires-clause-reads
+list_found-requires-clause-reads g c =
+    rw c.table.ensures (decided_past c.args.sound.now.frame.words [], c.in-Ok.ensures.opened.fresh)
+
+pub returns-clause-answer : goal.returns-clause-answer
+returns-clause-answer g c = λ path image. ⊎_elim
+    (λ none. inl none)
+    (λ of. inr (of_blocks_salvage path image c.args.ring c.list_found.result of))
+    c.list_found.ensures.answer
+
+pub returns-clause-salvages : goal.returns-clause-salvages
+returns-clause-salvages g c = found_salvaged c.args.sound.now c.args.ring _ _ _ _ c.in-Ok.reader _ _ c.list_found.result
+    (g.met.D.Deck.sound c.args.deck.now) c.open_by.ensures.looks c.list_found.ensures.looks c.in-Ok.ensures.opened c.list_found.ensures.answer
+    (rw c.table.ensures at c.list_found.ensures.text) (rw c.table.ensures at c.list_found.ensures.part)
+    (λ none. ap g.O.Sink.written (c.list_found.ensures.no_memory none))
+
+pub returns-clause-disk_fault : goal.returns-clause-disk_fault
+returns-clause-disk_fault g c = λ fails.
+    rose_later _ _ _ c.open_by.ensures.looks.disk_work.passes.disk_faults (c.list_found.ensures.disk_fault fails)
+
+pub returns-clause-write_fault : goal.returns-clause-write_fault
+returns-clause-write_fault g c = c.list_found.ensures.write_fault
+
+pub returns-clause-no_disk_fault : goal.returns-clause-no_disk_fault
+returns-clause-no_disk_fault g c = λ other. c.list_found.ensures.no_disk_fault other ∙ c.in-Ok.ensures.no_disk_fault (ok_not_err _ _)
+
+pub returns-clause-no_write_fault : goal.returns-clause-no_write_fault
+returns-clause-no_write_fault g c = c.list_found.ensures.no_write_fault
+
+pub returns-clause-memory : goal.returns-clause-memory
+returns-clause-memory g c = λ e. readable_kept c.args.ring _ _ _ _ c.list_found.ensures.looks.extent c.in-Ok.ensures.opened.readable
+
+pub returns-clause-unwritten : goal.returns-clause-unwritten
+returns-clause-unwritten g c = λ nothing. ⊎_elim
+    (λ none. c.list_found.ensures.no_memory none)
+    (λ of. absurd (of_blocks_begun c.list_found.result of nothing))
+    c.list_found.ensures.answer
+
+-- ---- where the image isn't opened
 
 pub returns-in-Err-clause-answer : goal.returns-in-Err-clause-answer
 returns-in-Err-clause-answer g c = λ path image.
@@ -18,59 +84,36 @@ pub returns-in-Err-clause-salvages : goal.returns-in-Err-clause-salvages
 returns-in-Err-clause-salvages g c =
     unsalvaged c.args.sound.now c.args.ring _ _ _ _ c.in-Err.answer c.open_by.ensures.looks c.in-Err.ensures.shut c.in-Err.ensures.refused
 
+pub returns-in-Err-clause-disk_fault : goal.returns-in-Err-clause-disk_fault
+returns-in-Err-clause-disk_fault g c = λ e. c.in-Err.ensures.disk_fault (ap Err e)
+
+pub returns-in-Err-clause-write_fault : goal.returns-in-Err-clause-write_fault
+returns-in-Err-clause-write_fault g c = λ e. absurd (shut_unwritten c.in-Err.answer c.in-Err.ensures.shut e)
+
+pub returns-in-Err-clause-no_disk_fault : goal.returns-in-Err-clause-no_disk_fault
+returns-in-Err-clause-no_disk_fault g c = λ other. c.in-Err.ensures.no_disk_fault (λ e. other (err_same _ _ e))
+
+pub returns-in-Err-clause-memory : goal.returns-in-Err-clause-memory
+returns-in-Err-clause-memory g c = c.in-Err.ensures.memory
+
+-- ---- where there is no room for lines
+
+pub returns-in_default-clause-answer : goal.returns-in_default-clause-answer
+returns-in_default-clause-answer g c = λ path image. inl refl
+
 pub returns-in_default-clause-salvages : goal.returns-in_default-clause-salvages
 returns-in_default-clause-salvages g c =
     unsalvaged c.args.sound.now c.args.ring _ _ _ _ outcome.NoMemory c.open_by.ensures.looks tt
     (refuses_by_nothing c.args.ring _ _ _ _ outcome.NoMemory (λ past. past))
 
+pub returns-in_default-clause-disk_fault : goal.returns-in_default-clause-disk_fault
+returns-in_default-clause-disk_fault g c = λ e. absurd (memory_not_disk e)
+
+pub returns-in_default-clause-write_fault : goal.returns-in_default-clause-write_fault
+returns-in_default-clause-write_fault g c = λ e. absurd (memory_not_write e)
+
+pub returns-in_default-clause-no_disk_fault : goal.returns-in_default-clause-no_disk_fault
+returns-in_default-clause-no_disk_fault g c = λ other. c.in-Ok.ensures.no_disk_fault (ok_not_err _ _)
+
 pub returns-in_default-clause-memory : goal.returns-in_default-clause-memory
 returns-in_default-clause-memory g c = λ e. c.in-Ok.ensures.opened.readable
-
-pub returns-in-Err-DiskFault-clause-salvages : goal.returns-in-Err-DiskFault-clause-salvages
-returns-in-Err-DiskFault-clause-salvages g c =
-    unsalvaged c.args.sound.now c.args.ring _ _ _ _ outcome.DiskFault
-    (OnlyLooks-then _ _ _ _ (g.met.D.Deck.sound c.args.deck.now) c.open_by.ensures.looks c.runs.ensures.looks) tt (failed_by c.args.ring _ _ _ _)
-
-pub returns-in-Err-NoMemory-clause-salvages : goal.returns-in-Err-NoMemory-clause-salvages
-returns-in-Err-NoMemory-clause-salvages g c =
-    unsalvaged c.args.sound.now c.args.ring _ _ _ _ outcome.NoMemory
-    (OnlyLooks-then _ _ _ _ (g.met.D.Deck.sound c.args.deck.now) c.open_by.ensures.looks c.runs.ensures.looks) tt
-    (refuses_by_nothing c.args.ring _ _ _ _ outcome.NoMemory (λ past. past))
-
-pub returns-in-Err-NoMemory-clause-memory : goal.returns-in-Err-NoMemory-clause-memory
-returns-in-Err-NoMemory-clause-memory g c = λ e. readable_kept c.args.ring _ _ _ _ c.runs.ensures.looks.extent c.in-Ok.ensures.opened.readable
-
-pub returns-clause-answer : goal.returns-clause-answer
-returns-clause-answer g c = λ path image. inr (of_blocks_salvage path image c.args.ring c.list_runs.result c.list_runs.ensures.answer)
-
-pub list_runs-requires-clause-reads : goal.list_runs-requires-clause-reads
-list_runs-requires-clause-reads g c =
-    rw c.table.ensures (decided_past c.args.sound.now.frame.words [], c.in-Ok.ensures.opened.fresh)
-
-pub returns-clause-salvages : goal.returns-clause-salvages
-returns-clause-salvages g c =
-    let opened = c.in-Ok.ensures.opened in
-    let held = c.runs.ensures.looks.disk.held in
-    let are : IsTrue g.D.Deck.tells.bytes → AreRunsOf c.in-Ok.reader.header (g.D.Deck.state c.runs.new.deck).held c.deref.result.now = λ told.
-    rw (held, c.deref.ensures.value) (record { numbers = c.in-Ok-runs.ensures.runs told; blocks = c.in-Ok-runs.ensures.blocks told }) in
-    runs_salvaged c.args.sound.now c.args.ring _ _ _ _ c.in-Ok.reader _ _ _ (g.met.D.Deck.sound c.args.deck.now) c.open_by.ensures.looks
-    (Looks-then _ _ _ _ (g.met.D.Deck.sound c.open_by.new.deck) c.runs.ensures.looks c.list_runs.ensures.looks) opened c.list_runs.ensures.answer
-    (λ done told. rw (c.table.ensures, held) at (c.list_runs.ensures.text done told (are told)))
-    (λ told. rw (c.table.ensures, held) at (c.list_runs.ensures.part told (are told)))
-
-pub returns-clause-disk_fault : goal.returns-clause-disk_fault
-returns-clause-disk_fault g c = λ fails.
-    let looked = c.open_by.ensures.looks.disk_work.passes.disk_faults in
-    let found = c.runs.ensures.looks.disk_work.passes.disk_faults in
-    let rose = c.list_runs.ensures.disk_fault fails in
-    omega (arith, looked, found, rose)
-
-pub returns-clause-no_disk_fault : goal.returns-clause-no_disk_fault
-returns-clause-no_disk_fault g c = λ other.
-    c.list_runs.ensures.no_disk_fault other ∙ c.in-Ok-runs.ensures.disk_unfailed (λ e. absurd (cc)) ∙ c.in-Ok.ensures.no_disk_fault (λ e. absurd (cc))
-
-pub returns-clause-unwritten : goal.returns-clause-unwritten
-returns-clause-unwritten g c = λ nothing. absurd (of_blocks_begun c.list_runs.result c.list_runs.ensures.answer nothing)
-
-pub returns-clause-memory : goal.returns-clause-memory
-returns-clause-memory g c = λ e. absurd (of_blocks_begun c.list_runs.result c.list_runs.ensures.answer (memory_writes _ e))
