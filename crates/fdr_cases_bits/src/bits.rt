@@ -5,10 +5,12 @@ use fdr_bits::{bit, get_bits, pack_pair, put_bits, word12};
 #[test]
 fn packs_and_reads_words(rt: HostRuntime) {
     let bytes = pack_pair(0x247, 0x123);
-    assert!(rt; bytes == [0x47, 0x32, 0x12]);
-    assert!(rt; word12(&bytes, 0) == 0x247);
-    assert!(rt; word12(&bytes, 12) == 0x123);
-    assert!(rt; word12(&bytes, 5) == 0x192);
+    assert!(rt;
+        bytes == [0x47, 0x32, 0x12]
+            && word12(&bytes, 0) == 0x247
+            && word12(&bytes, 12) == 0x123
+            && word12(&bytes, 5) == 0x192
+    );
     for (p, is_set) in [
         (0, true),
         (3, false),
@@ -23,9 +25,11 @@ fn packs_and_reads_words(rt: HostRuntime) {
 
 #[test]
 fn writes_and_reads_fields(rt: HostRuntime) {
-    assert!(rt; put_bits(0xfff, 5, 4, 0x3) == 0xf3f);
-    assert!(rt; put_bits(0x000, 12, 1, 1) == 0x800);
-    assert!(rt; put_bits(0x123, 1, 12, 0xabc) == 0xabc);
-    assert!(rt; get_bits(0xf3f, 5, 4) == 0x3);
-    assert!(rt; get_bits(0xabc, 9, 4) == 0xa);
+    assert!(rt;
+        put_bits(0xfff, 5, 4, 0x3) == 0xf3f
+            && put_bits(0x000, 12, 1, 1) == 0x800
+            && put_bits(0x123, 1, 12, 0xabc) == 0xabc
+            && get_bits(0xf3f, 5, 4) == 0x3
+            && get_bits(0xabc, 9, 4) == 0xa
+    );
 }

@@ -33,12 +33,12 @@ fn reaches_up_to_the_last_number_and_no_further(rt: HostRuntime) {
         assert!(rt; !divisor.reaches(u64::MAX), "the greatest number by {by}");
         if divisor.reaches(last) {
             let (quotient, rest) = divisor.split(last);
-            assert!(rt; divisor.quotient(last) == quotient, "{last} by {by}");
             assert!(rt;
-                u64::from(quotient) == last / u64::from(by),
+                divisor.quotient(last) == quotient
+                    && u64::from(quotient) == last / u64::from(by)
+                    && u64::from(rest) == last % u64::from(by),
                 "{last} by {by}"
             );
-            assert!(rt; u64::from(rest) == last % u64::from(by), "{last} by {by}");
         }
     }
 }

@@ -37,8 +37,9 @@ fn encodes_after_a_low_level(rt: HostRuntime) {
 
 #[test]
 fn decodes_levels_and_turned_levels(rt: HostRuntime) {
-    assert!(rt; decoded(&[0xd5, 0x2c]) == (0x47, 8, None));
-    assert!(rt; decoded(&[0x2a, 0xd3]) == (0x47, 8, None));
+    assert!(rt;
+        decoded(&[0xd5, 0x2c]) == (0x47, 8, None) && decoded(&[0x2a, 0xd3]) == (0x47, 8, None)
+    );
 }
 
 #[test]
@@ -53,8 +54,7 @@ fn names_the_place_where_no_phase_is_left(rt: HostRuntime) {
 
 #[test]
 fn decodes_where_both_phases_fit(rt: HostRuntime) {
-    assert!(rt; decoded(&[0x55]) == (0x0f, 4, None));
-    assert!(rt; decoded(&[]) == (0, 0, None));
+    assert!(rt; decoded(&[0x55]) == (0x0f, 4, None) && decoded(&[]) == (0, 0, None));
 }
 
 // What a decoder gives of these levels one by one: the bytes that its bits fill, how many they are, and the missing place.
@@ -125,7 +125,9 @@ fn words_decode_as_their_levels(rt: HostRuntime) {
     let whole = drawn_levels(false, 192);
     let begun = drawn_levels(true, 192);
     for count in 0..25 {
-        assert!(rt; together(&whole[..count]) == one_by_one(&whole[..count]));
-        assert!(rt; together(&begun[..count]) == one_by_one(&begun[..count]));
+        assert!(rt;
+            together(&whole[..count]) == one_by_one(&whole[..count])
+                && together(&begun[..count]) == one_by_one(&begun[..count])
+        );
     }
 }

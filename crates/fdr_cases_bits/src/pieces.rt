@@ -114,11 +114,8 @@ fn gives_what_a_search_of_the_whole_gives(rt: HostRuntime) -> Result<(), Fail> {
             }
         }
         assert!(rt;
-            frames.as_slice() == plain_frames.as_slice(),
-            "pieces of {size}"
-        );
-        assert!(rt;
-            gaps.as_slice() == plain_gaps.as_slice(),
+            frames.as_slice() == plain_frames.as_slice()
+                && gaps.as_slice() == plain_gaps.as_slice(),
             "pieces of {size}"
         );
     }
@@ -131,14 +128,17 @@ fn reads_the_words_of_a_frame(rt: HostRuntime) -> Result<(), Fail> {
     put_frame(&mut bytes, 13);
     put_word(&mut bytes, 25, 0xabc);
     let mut scanner = Scanner::new(rt.alloc(), WORDS).map_err(|_| AllocError)?;
-    assert!(rt; scanner.push(&bytes) == 400);
-    assert!(rt; scanner.take() == Some(Event::Gap { at: 0, bits: 13 }));
+    assert!(rt;
+        scanner.push(&bytes) == 400 && scanner.take() == Some(Event::Gap { at: 0, bits: 13 })
+    );
     let event = scanner.take();
     assert!(rt; event == Some(Event::Frame { at: 13 }));
     let mut words = [0; 256];
     scanner.frame_words(&mut words);
-    assert!(rt; (words[0], words[1], words[2], words[64]) == (0x247, 0xabc, 0, 0x5b8));
-    assert!(rt; scanner.take() == None);
+    assert!(rt;
+        (words[0], words[1], words[2], words[64]) == (0x247, 0xabc, 0, 0x5b8)
+            && scanner.take() == None
+    );
     scanner.finish();
     assert!(rt;
         scanner.take()
@@ -146,7 +146,7 @@ fn reads_the_words_of_a_frame(rt: HostRuntime) -> Result<(), Fail> {
                 at: 3085,
                 bits: 115
             })
+            && scanner.take() == None
     );
-    assert!(rt; scanner.take() == None);
     Ok(())
 }

@@ -40,8 +40,10 @@ param,PIT,32,uneven
     ];
     for (table, report) in cases {
         let (outcome, written) = checked(rt.alloc(), table)?;
-        assert!(rt; outcome == Outcome::Done, "{table}");
-        assert!(rt; written.as_slice() == report.as_bytes(), "{table}");
+        assert!(rt;
+            outcome == Outcome::Done && written.as_slice() == report.as_bytes(),
+            "{table}"
+        );
     }
     Ok(())
 }
@@ -78,8 +80,10 @@ fn names_the_first_fault_of_the_rows(rt: HostRuntime) -> Result<(), Fail> {
     ];
     for (table, row, fault) in cases {
         let (outcome, written) = checked(rt.alloc(), table)?;
-        assert!(rt; outcome == Outcome::TableRefused { row, fault }, "{table}");
-        assert!(rt; written.is_empty(), "{table}");
+        assert!(rt;
+            outcome == Outcome::TableRefused { row, fault } && written.is_empty(),
+            "{table}"
+        );
     }
     Ok(())
 }
@@ -111,8 +115,10 @@ fn names_the_faults_of_ages_and_signs(rt: HostRuntime) -> Result<(), Fail> {
     ];
     for (table, row, fault) in cases {
         let (outcome, written) = checked(rt.alloc(), table)?;
-        assert!(rt; outcome == Outcome::TableRefused { row, fault }, "{table}");
-        assert!(rt; written.is_empty(), "{table}");
+        assert!(rt;
+            outcome == Outcome::TableRefused { row, fault } && written.is_empty(),
+            "{table}"
+        );
     }
     Ok(())
 }
@@ -183,8 +189,10 @@ L,E,1,1234,3,1,5,1,0,1
     ];
     for (table, row, fault) in cases {
         let (outcome, written) = checked(rt.alloc(), table)?;
-        assert!(rt; outcome == Outcome::TableRefused { row, fault }, "{table}");
-        assert!(rt; written.is_empty(), "{table}");
+        assert!(rt;
+            outcome == Outcome::TableRefused { row, fault } && written.is_empty(),
+            "{table}"
+        );
     }
     Ok(())
 }
@@ -197,7 +205,6 @@ fn refuses_a_table_of_a_byte_too_many(rt: HostRuntime) -> Result<(), Fail> {
     }
     let (outcome, written) = checked(rt.alloc(), table.as_str())?;
     let fault = TableFault::Size;
-    assert!(rt; outcome == Outcome::TableRefused { row: 0, fault });
-    assert!(rt; written.is_empty());
+    assert!(rt; outcome == Outcome::TableRefused { row: 0, fault } && written.is_empty());
     Ok(())
 }

@@ -96,8 +96,7 @@ fn decodes_what_was_encoded(rt: HostRuntime) -> Result<(), Fail> {
     let levels = coded(rt.alloc(), "encode", &line, &[], &[])?;
     assert!(rt; levels.outcome == Outcome::Done && levels.written.len() == 768);
     let bits = coded(rt.alloc(), "decode", &levels.written, &[], &[])?;
-    assert!(rt; bits.outcome == Outcome::Done);
-    assert!(rt; bits.written.as_slice() == line.as_slice());
+    assert!(rt; bits.outcome == Outcome::Done && bits.written.as_slice() == line.as_slice());
     Ok(())
 }
 

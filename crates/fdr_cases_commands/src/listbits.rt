@@ -50,8 +50,10 @@ fn lists_worked_lines(rt: HostRuntime) -> Result<(), Fail> {
             ..Given::by(ALTITUDE)
         };
         let ran = run_on(rt.alloc(), LISTBITS, given)?;
-        assert!(rt; ran.outcome == Outcome::Done, "{shows}");
-        assert!(rt; ran.written.as_slice() == listing, "{shows}");
+        assert!(rt;
+            ran.outcome == Outcome::Done && ran.written.as_slice() == listing,
+            "{shows}"
+        );
     }
     Ok(())
 }
@@ -152,11 +154,10 @@ fn answers_faults_and_refusals(rt: HostRuntime) -> Result<(), Fail> {
         let shows = case.shows;
         let ran = answers_to(alloc, &line, &case)?;
         assert!(rt;
-            ran.answer == case.answer && ran.written.as_slice() == case.written,
-            "{shows}"
-        );
-        assert!(rt;
-            ran.then == Outcome::Done && ran.left.as_slice() == case.left,
+            ran.answer == case.answer
+                && ran.written.as_slice() == case.written
+                && ran.then == Outcome::Done
+                && ran.left.as_slice() == case.left,
             "{shows}"
         );
     }
@@ -193,8 +194,9 @@ fn pulls_no_further_where_a_write_fails(rt: HostRuntime) -> Result<(), Fail> {
     let alloc = rt.alloc();
     let mut deck = deck_of(alloc, &[], &thirty_frames(), &[])?;
     let ran = run_words(alloc, LISTBITS, ALTITUDE, &mut deck, &[0])?;
-    assert!(rt; ran.outcome == Outcome::WriteFault && ran.written.is_empty());
-    assert!(rt; left_of(&mut deck)? >= 7041);
+    assert!(rt;
+        ran.outcome == Outcome::WriteFault && ran.written.is_empty() && left_of(&mut deck)? >= 7041
+    );
     Ok(())
 }
 
@@ -205,8 +207,10 @@ fn lists_the_first_bytes_of_a_line_too_long(rt: HostRuntime) -> Result<(), Fail>
     let line = vec![in alloc; 0; 268_435_457]?;
     let mut deck = MemDeck::new(alloc, Vec::new(alloc), line, Vec::new(alloc));
     let ran = run_words(alloc, LISTBITS, ALTITUDE, &mut deck, &[])?;
-    assert!(rt; ran.outcome == Outcome::TooLong);
-    assert!(rt; ran.written.as_slice() == b"gap,0,2147483648\n".as_slice());
+    assert!(rt;
+        ran.outcome == Outcome::TooLong
+            && ran.written.as_slice() == b"gap,0,2147483648\n".as_slice()
+    );
     Ok(())
 }
 

@@ -132,8 +132,7 @@ fn streams_pieces_of_one_value(rt: HostRuntime) -> Result<(), Fail> {
     ];
     for trace in traces {
         let (outcome, written) = streamed(alloc, TWO_PARTS, &trace)?;
-        assert!(rt; outcome == Outcome::Done);
-        assert!(rt; written == expected);
+        assert!(rt; outcome == Outcome::Done && written == expected);
     }
     Ok(())
 }
@@ -159,8 +158,10 @@ fn joins_parts_of_neighbouring_frames_alone(rt: HostRuntime) -> Result<(), Fail>
     ];
     for (line, listing) in cases {
         let (outcome, written) = listed(alloc, TWO_PARTS, line)?;
-        assert!(rt; outcome == Outcome::Done, "{listing}");
-        assert!(rt; written.as_slice() == listing.as_bytes(), "{listing}");
+        assert!(rt;
+            outcome == Outcome::Done && written.as_slice() == listing.as_bytes(),
+            "{listing}"
+        );
     }
     Ok(())
 }
@@ -171,11 +172,9 @@ fn lists_scaled_values_of_an_ordinary_table(rt: HostRuntime) -> Result<(), Fail>
     let [altitude, airspeed, acceleration, gear] = ORDINARY_WORDS;
     let trace = [altitude, airspeed, acceleration, gear, END_AT_4000000];
     let (outcome, frame) = streamed(alloc, ORDINARY, &trace)?;
-    assert!(rt; outcome == Outcome::Done);
-    assert!(rt; frame.len() == 1536);
+    assert!(rt; outcome == Outcome::Done && frame.len() == 1536);
     let (outcome, written) = listed(alloc, ORDINARY, &frame)?;
-    assert!(rt; outcome == Outcome::Done);
-    assert!(rt; written.as_slice() == LISTING.as_bytes());
+    assert!(rt; outcome == Outcome::Done && written.as_slice() == LISTING.as_bytes());
     Ok(())
 }
 

@@ -55,8 +55,9 @@ fn refuses_too_many_rules(rt: HostRuntime) -> Result<(), Fail> {
     assert!(rt; ran_all.outcome == Outcome::Done);
     let refused = ran(alloc, &image, &many_rules(alloc, 257)?, &[])?;
     let fault = RuleFault::Size;
-    assert!(rt; refused.outcome == Outcome::RuleRefused { row: 256, fault });
-    assert!(rt; refused.written.is_empty());
+    assert!(rt;
+        refused.outcome == Outcome::RuleRefused { row: 256, fault } && refused.written.is_empty()
+    );
     Ok(())
 }
 
@@ -68,8 +69,10 @@ fn refuses_too_many_bytes_before_any_record(rt: HostRuntime) -> Result<(), Fail>
     let mut rules = b"HI,ALT,above,4,1\n".to_vec(alloc)?;
     rules.resize(65_536, b'\n')?;
     let longest = ran(alloc, &image, &rules, &[])?;
-    assert!(rt; longest.outcome == Outcome::Done);
-    assert!(rt; longest.written.as_slice() == b"exceed,HI,0,1,10,1,5\n".as_slice());
+    assert!(rt;
+        longest.outcome == Outcome::Done
+            && longest.written.as_slice() == b"exceed,HI,0,1,10,1,5\n".as_slice()
+    );
     let mut shapeless = vec![in alloc; b','; 65_536]?;
     shapeless.push(b'\n')?;
     let fault = RuleFault::Size;
@@ -110,8 +113,9 @@ fn tells_faults_of_the_input_and_the_disk(rt: HostRuntime) -> Result<(), Fail> {
         let ran = ran(alloc, &image, b"HI,ALT,above,4,1\n", &[call])?;
         match ran.outcome {
             Outcome::Done => {
-                assert!(rt; ran.written.as_slice() == b"exceed,HI,0,1,10,1,5\n".as_slice());
-                assert!(rt; pulls == 2);
+                assert!(rt;
+                    ran.written.as_slice() == b"exceed,HI,0,1,10,1,5\n".as_slice() && pulls == 2
+                );
                 return Ok(());
             }
             Outcome::ReadFault(input) => {

@@ -209,8 +209,10 @@ fn lists_what_was_streamed(rt: HostRuntime) -> Result<(), Fail> {
         ..Given::by(ALTITUDE)
     };
     let listed = run_on(alloc, &["listbits", "t1.csv"], given)?;
-    assert!(rt; listed.outcome == Outcome::Done);
-    assert!(rt; listed.written.as_slice() == b"row,0,1,10,ALT,5\ngap,3072,16\n".as_slice());
+    assert!(rt;
+        listed.outcome == Outcome::Done
+            && listed.written.as_slice() == b"row,0,1,10,ALT,5\ngap,3072,16\n".as_slice()
+    );
     Ok(())
 }
 

@@ -208,9 +208,11 @@ fn each_read_of_a_slot_may_fail(rt: HostRuntime) -> Result<(), Fail> {
             &[Some(4), Some(5), None, Some(3)],
         )?;
         let mut deck = MemDeck::new(alloc, image, Vec::new(alloc), vec![in alloc; failing]?);
-        assert!(rt; deck.image().len() == 384);
-        assert!(rt; runs(alloc, &mut deck, &FOUR).err() == Some(SalvageFault::DiskFault));
-        assert!(rt; deck.calls() == failing + 1);
+        assert!(rt;
+            deck.image().len() == 384
+                && runs(alloc, &mut deck, &FOUR).err() == Some(SalvageFault::DiskFault)
+                && deck.calls() == failing + 1
+        );
     }
     Ok(())
 }

@@ -1,11 +1,11 @@
 //! The deck and the sink over files and streams.
 
 use crate::fakes::Marked;
+use crate::on_disk::{has_at, is_there};
 use fdr_adapters::{FileDeck, OutSink};
 use fdr_deck::Deck;
 use fdr_files::ImageFile;
 use fdr_io::Failed;
-use std::fs;
 use std::io::{Sink, sink};
 use std::test::Fail;
 
@@ -59,8 +59,7 @@ fn deck_over<'a>(
 fn a_writer_takes_bytes_or_faults(rt: HostRuntime) -> Result<(), Fail> {
     let mut room = [0u8; 4];
     let mut sink = OutSink::new(room.as_mut_slice());
-    assert!(rt; write_some(&mut sink) == Ok(4));
-    assert!(rt; write_some(&mut sink) == Err(Failed));
+    assert!(rt; write_some(&mut sink) == Ok(4) && write_some(&mut sink) == Err(Failed));
     Ok(())
 }
 
@@ -68,9 +67,11 @@ fn a_writer_takes_bytes_or_faults(rt: HostRuntime) -> Result<(), Fail> {
 fn a_line_is_pulled_to_its_end(rt: HostRuntime) -> Result<(), Fail> {
     let image = ImageFile::new(&rt, "", false);
     let mut deck = FileDeck::new(image, b"abc".as_slice(), sink());
-    assert!(rt; pull_some(&mut deck) == Ok((2, *b"ab")));
-    assert!(rt; pull_some(&mut deck) == Ok((1, *b"c\0")));
-    assert!(rt; pull_some(&mut deck) == Ok((0, [0; 2])));
+    assert!(rt;
+        pull_some(&mut deck) == Ok((2, *b"ab"))
+            && pull_some(&mut deck) == Ok((1, *b"c\0"))
+            && pull_some(&mut deck) == Ok((0, [0; 2]))
+    );
     Ok(())
 }
 
@@ -90,13 +91,15 @@ fn an_announcement_is_one_line_in_one_write(rt: HostRuntime) -> Result<(), Fail>
 fn a_disk_is_a_file(rt: HostRuntime) -> Result<(), Fail> {
     let path = "image.bin";
     let mut deck = deck_over(&rt, path, true);
-    assert!(rt; measure(&mut deck) == Ok(0));
-    assert!(rt; make_some(&mut deck) == Ok(()));
-    assert!(rt; store_some(&mut deck) == Ok([0, 7, 8, 0]));
-    assert!(rt; fs::read(&rt, path)?.get(50..54) == Some([0, 7, 8, 0].as_slice()));
+    assert!(rt;
+        measure(&mut deck) == Ok(0)
+            && make_some(&mut deck) == Ok(())
+            && store_some(&mut deck) == Ok([0, 7, 8, 0])
+            && has_at(&rt, path, 50, &[0, 7, 8, 0])?
+    );
     let mut other = deck_over(&rt, path, true);
     assert!(rt; measure(&mut other) == Err(Failed));
     deck.discard();
-    assert!(rt; !fs::exists(&rt, path)?);
+    assert!(rt; !is_there(&rt, path)?);
     Ok(())
 }

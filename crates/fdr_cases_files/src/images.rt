@@ -1,6 +1,7 @@
 //! Files that hold images.
 
 use crate::fakes::OtherFolder;
+use crate::on_disk::{has_at, holds, is_there, put, remove};
 use fdr_files::{ImageFile, Window};
 use std::fs::File;
 use std::io::ErrorKind;
@@ -51,7 +52,7 @@ fn a_window_gives_the_bytes_of_the_file(rt: HostRuntime) -> Result<(), Fail> {
     for number in 0..140_000u32 {
         bytes.push((number % 251) as u8)?;
     }
-    fs::write(&rt, path, bytes.as_slice())?;
+    put(&rt, path, &bytes)?;
     let mut image = ImageFile::new(&rt, path, false).seen_through(Window::new(rt.alloc())?);
     let mut read = [0; 8];
     for at in [0, 65_528, 65_530, 8, 70_000, 70_008, 70_400, 139_992] {
@@ -61,9 +62,10 @@ fn a_window_gives_the_bytes_of_the_file(rt: HostRuntime) -> Result<(), Fail> {
     }
     File::options().write(true).open(&rt, path)?.set_len(100)?;
     let shorter = kind_of(image.read(70_000, &mut read));
-    assert!(rt; shorter == Err(ErrorKind::UnexpectedEof));
-    assert!(rt; kind_of(image.read(92, &mut read)) == Ok(()));
-    fs::remove_file(&rt, path)?;
+    assert!(rt;
+        shorter == Err(ErrorKind::UnexpectedEof) && kind_of(image.read(92, &mut read)) == Ok(())
+    );
+    remove(&rt, path)?;
     Ok(())
 }
 
@@ -73,22 +75,26 @@ fn the_room_of_an_image_is_taken(rt: HostRuntime) -> Result<(), Fail> {
     let mut image = ImageFile::new(&rt, path, true);
     assert!(rt; image.length()? == 0);
     image.provide(SIZE)?;
-    assert!(rt; fs::read(&rt, path)? == vec![in rt.alloc(); 0; SIZE as usize]?);
-    assert!(rt; fs::metadata(&rt, path)?.blocks() >= 9);
-    assert!(rt; store_some(&mut image)? == [0, 7, 8, 0]);
-    assert!(rt; fs::read(&rt, path)?.get(4094..4098) == Some([0, 7, 8, 0].as_slice()));
-    fs::remove_file(&rt, path)?;
+    assert!(rt;
+        holds(&rt, path, &[0; 4100])?
+            && fs::metadata(&rt, path)?.blocks() >= 9
+            && store_some(&mut image)? == [0, 7, 8, 0]
+            && has_at(&rt, path, 4094, &[0, 7, 8, 0])?
+    );
+    remove(&rt, path)?;
     Ok(())
 }
 
 #[test]
 fn a_file_that_has_bytes_stays(rt: HostRuntime) -> Result<(), Fail> {
     let path = "used.bin";
-    fs::write(&rt, path, b"used".as_slice())?;
-    assert!(rt; make_at(&rt, path, true) == Err(ErrorKind::AlreadyExists));
-    assert!(rt; make_at(&rt, path, false) == Err(ErrorKind::AlreadyExists));
-    assert!(rt; fs::read(&rt, path)?.as_slice() == b"used".as_slice());
-    fs::remove_file(&rt, path)?;
+    put(&rt, path, b"used")?;
+    assert!(rt;
+        make_at(&rt, path, true) == Err(ErrorKind::AlreadyExists)
+            && make_at(&rt, path, false) == Err(ErrorKind::AlreadyExists)
+            && holds(&rt, path, b"used")?
+    );
+    remove(&rt, path)?;
     Ok(())
 }
 
@@ -97,9 +103,12 @@ fn a_file_that_has_bytes_stays(rt: HostRuntime) -> Result<(), Fail> {
 fn what_is_no_file_is_refused(rt: HostRuntime) -> Result<(), Fail> {
     let refused = ErrorKind::InvalidInput;
     for path in ["/dev/null", "."] {
-        assert!(rt; length_at(&rt, path, false) == Err(refused), "{path}");
-        assert!(rt; length_at(&rt, path, true) == Err(refused), "{path}");
-        assert!(rt; make_at(&rt, path, true) == Err(refused), "{path}");
+        assert!(rt;
+            length_at(&rt, path, false) == Err(refused)
+                && length_at(&rt, path, true) == Err(refused)
+                && make_at(&rt, path, true) == Err(refused),
+            "{path}"
+        );
     }
     Ok(())
 }
@@ -111,14 +120,17 @@ fn a_lock_that_another_holds_is_an_error(rt: HostRuntime) -> Result<(), Fail> {
     {
         let mut image = ImageFile::new(&rt, path, true);
         image.provide(SIZE)?;
-        assert!(rt; length_at(&rt, path, true) == Err(locked));
-        assert!(rt; length_at(&rt, path, false) == Err(locked));
+        assert!(rt;
+            length_at(&rt, path, true) == Err(locked) && length_at(&rt, path, false) == Err(locked)
+        );
     }
     let mut reader = ImageFile::new(&rt, path, false);
-    assert!(rt; reader.length()? == SIZE);
-    assert!(rt; length_at(&rt, path, false) == Ok(SIZE));
-    assert!(rt; length_at(&rt, path, true) == Err(locked));
-    fs::remove_file(&rt, path)?;
+    assert!(rt;
+        reader.length()? == SIZE
+            && length_at(&rt, path, false) == Ok(SIZE)
+            && length_at(&rt, path, true) == Err(locked)
+    );
+    remove(&rt, path)?;
     Ok(())
 }
 
@@ -127,11 +139,10 @@ fn a_file_that_became_shorter_is_not_made_longer(rt: HostRuntime) -> Result<(), 
     let path = "short.bin";
     let mut image = ImageFile::new(&rt, path, true);
     image.provide(SIZE)?;
-    fs::write(&rt, path, b"abc".as_slice())?;
+    put(&rt, path, b"abc")?;
     let stored = kind_of(store_some(&mut image));
-    assert!(rt; stored == Err(ErrorKind::UnexpectedEof));
-    assert!(rt; fs::read(&rt, path)?.as_slice() == b"abc".as_slice());
-    fs::remove_file(&rt, path)?;
+    assert!(rt; stored == Err(ErrorKind::UnexpectedEof) && holds(&rt, path, b"abc")?);
+    remove(&rt, path)?;
     Ok(())
 }
 
@@ -140,9 +151,8 @@ fn a_link_to_no_file_is_no_missing_image(rt: HostRuntime) -> Result<(), Fail> {
     symlink(&rt, "target.bin", "link.bin")?;
     assert!(rt; length_at(&rt, "link.bin", true) == Err(ErrorKind::NotFound));
     let made = make_at(&rt, "link.bin", true);
-    assert!(rt; made == Err(ErrorKind::AlreadyExists));
-    assert!(rt; !fs::exists(&rt, "target.bin")?);
-    fs::remove_file(&rt, "link.bin")?;
+    assert!(rt; made == Err(ErrorKind::AlreadyExists) && !is_there(&rt, "target.bin")?);
+    remove(&rt, "link.bin")?;
     Ok(())
 }
 
@@ -152,13 +162,11 @@ fn an_image_that_cannot_be_made_leaves_no_file(rt: HostRuntime) -> Result<(), Fa
     // A folder that can't be opened, and one that can't be synced.
     for folder in ["missing", "/dev/null"] {
         let files = OtherFolder::new(&rt, folder);
-        assert!(rt; make_at(&files, path, true).is_err());
-        assert!(rt; !fs::exists(&rt, path)?);
+        assert!(rt; make_at(&files, path, true).is_err() && !is_there(&rt, path)?);
         // One that was there stays, and is empty.
-        fs::write(&rt, path, b"".as_slice())?;
-        assert!(rt; make_at(&files, path, true).is_err());
-        assert!(rt; fs::metadata(&rt, path)?.len() == 0);
-        fs::remove_file(&rt, path)?;
+        put(&rt, path, b"")?;
+        assert!(rt; make_at(&files, path, true).is_err() && holds(&rt, path, b"")?);
+        remove(&rt, path)?;
     }
     Ok(())
 }
@@ -167,7 +175,7 @@ fn an_image_that_cannot_be_made_leaves_no_file(rt: HostRuntime) -> Result<(), Fa
 fn make_and_fail<'a>(rt: &'a HostRuntime, path: &'a str) -> Result<(bool, bool), Fail> {
     let mut image = ImageFile::new(rt, path, true);
     let is_made = image.provide(SIZE).is_ok();
-    fs::write(rt, path, b"abc".as_slice())?;
+    put(rt, path, b"abc")?;
     let is_written = store_some(&mut image).is_ok();
     image.discard();
     Ok((is_made, is_written))
@@ -176,18 +184,16 @@ fn make_and_fail<'a>(rt: &'a HostRuntime, path: &'a str) -> Result<(bool, bool),
 #[test]
 fn an_image_whose_header_cannot_be_written_is_discarded(rt: HostRuntime) -> Result<(), Fail> {
     let path = "undone.bin";
-    assert!(rt; make_and_fail(&rt, path)? == (true, false));
-    assert!(rt; !fs::exists(&rt, path)?);
+    assert!(rt; make_and_fail(&rt, path)? == (true, false) && !is_there(&rt, path)?);
     // One that was there stays, and is empty.
-    fs::write(&rt, path, b"".as_slice())?;
-    assert!(rt; make_and_fail(&rt, path)? == (true, false));
-    assert!(rt; fs::metadata(&rt, path)?.len() == 0);
+    put(&rt, path, b"")?;
+    assert!(rt; make_and_fail(&rt, path)? == (true, false) && holds(&rt, path, b"")?);
     // One that is only looked at, or that had bytes, stays as it is.
-    fs::write(&rt, path, b"used".as_slice())?;
+    put(&rt, path, b"used")?;
     let mut image = ImageFile::new(&rt, path, true);
     assert!(rt; image.length()? == 4);
     image.discard();
-    assert!(rt; fs::read(&rt, path)?.as_slice() == b"used".as_slice());
-    fs::remove_file(&rt, path)?;
+    assert!(rt; holds(&rt, path, b"used")?);
+    remove(&rt, path)?;
     Ok(())
 }

@@ -16,27 +16,34 @@ fn pull_some<L: Read + Drop>(input: &mut PulledInput<L>) -> Result<(usize, [u8; 
 fn an_input_is_read_ahead(rt: HostRuntime) -> Result<(), Fail> {
     let ahead = BufReader::with_capacity(rt.alloc(), 5, Interrupted::new(b"abc"))?;
     let mut input = PulledInput::new(LineReader::Ahead(ahead));
-    assert!(rt; pull_some(&mut input) == Ok((1, *b"a\0")));
-    assert!(rt; pull_some(&mut input) == Ok((1, *b"b\0")));
+    assert!(rt;
+        pull_some(&mut input) == Ok((1, *b"a\0")) && pull_some(&mut input) == Ok((1, *b"b\0"))
+    );
     let ahead = BufReader::with_capacity(rt.alloc(), 5, b"abc".as_slice())?;
     let mut input = PulledInput::new(LineReader::Ahead(ahead));
-    assert!(rt; pull_some(&mut input) == Ok((2, *b"ab")));
-    assert!(rt; pull_some(&mut input) == Ok((1, *b"c\0")));
-    assert!(rt; pull_some(&mut input) == Ok((0, [0; 2])));
+    assert!(rt;
+        pull_some(&mut input) == Ok((2, *b"ab"))
+            && pull_some(&mut input) == Ok((1, *b"c\0"))
+            && pull_some(&mut input) == Ok((0, [0; 2]))
+    );
     Ok(())
 }
 
 #[test]
 fn an_input_is_pulled_to_its_end(rt: HostRuntime) -> Result<(), Fail> {
     let mut input = PulledInput::new(LineReader::Exact(Interrupted::new(b"ab")));
-    assert!(rt; pull_some(&mut input) == Ok((1, *b"a\0")));
-    assert!(rt; pull_some(&mut input) == Ok((1, *b"b\0")));
-    assert!(rt; pull_some(&mut input) == Ok((0, [0; 2])));
+    assert!(rt;
+        pull_some(&mut input) == Ok((1, *b"a\0"))
+            && pull_some(&mut input) == Ok((1, *b"b\0"))
+            && pull_some(&mut input) == Ok((0, [0; 2]))
+    );
     Ok(())
 }
 
 #[test]
 fn an_acknowledgement_is_one_line(rt: HostRuntime) {
-    assert!(rt; ack_line(0).bytes() == b"ack 0\n".as_slice());
-    assert!(rt; ack_line(281_474_976_710_656).bytes() == b"ack 281474976710656\n".as_slice());
+    assert!(rt;
+        ack_line(0).bytes() == b"ack 0\n".as_slice()
+            && ack_line(281_474_976_710_656).bytes() == b"ack 281474976710656\n".as_slice()
+    );
 }

@@ -10,6 +10,8 @@ mod images;
 #[cfg(test)]
 mod inputs;
 #[cfg(test)]
+mod on_disk;
+#[cfg(test)]
 mod sources;
 #[cfg(test)]
 mod twins;

@@ -1,8 +1,8 @@
 //! Files as sources.
 
+use crate::on_disk::{put, remove};
 use fdr_files::FileSource;
 use fdr_io::{Failed, Source};
-use std::fs;
 use std::test::Fail;
 
 fn read_some<S: Source>(source: &mut S) -> Result<(usize, [u8; 8]), Failed> {
@@ -14,11 +14,13 @@ fn read_some<S: Source>(source: &mut S) -> Result<(usize, [u8; 8]), Failed> {
 #[test]
 fn a_file_is_read_from_its_front(rt: HostRuntime) -> Result<(), Fail> {
     let path = "source.bin";
-    fs::write(&rt, path, b"table".as_slice())?;
+    put(&rt, path, b"table")?;
     let mut source = FileSource::new(&rt, path);
-    assert!(rt; read_some(&mut source) == Ok((5, *b"table\0\0\0")));
-    assert!(rt; read_some(&mut source) == Ok((0, [0; 8])));
-    fs::remove_file(&rt, path)?;
+    assert!(rt;
+        read_some(&mut source) == Ok((5, *b"table\0\0\0"))
+            && read_some(&mut source) == Ok((0, [0; 8]))
+    );
+    remove(&rt, path)?;
     let mut missing = FileSource::new(&rt, path);
     assert!(rt; read_some(&mut missing) == Err(Failed));
     Ok(())

@@ -1,11 +1,11 @@
 //! The twin over two files.
 
+use crate::on_disk::{has_at, put, remove};
 use fdr_adapters::FileTwin;
 use fdr_deck::Deck;
 use fdr_files::ImageFile;
 use fdr_io::Failed;
 use fdr_twin::{Side, Twin};
-use std::fs;
 use std::io::sink;
 use std::test::Fail;
 
@@ -40,41 +40,45 @@ fn pull_some<D: Deck>(deck: &mut D) -> Result<(usize, [u8; 2]), Failed> {
 
 #[test]
 fn each_side_is_a_file(rt: HostRuntime) -> Result<(), Fail> {
-    fs::write(&rt, "first.img", [0u8; 100].as_slice())?;
-    fs::write(&rt, "second.img", [0u8; 100].as_slice())?;
+    put(&rt, "first.img", &[0; 100])?;
+    put(&rt, "second.img", &[0; 100])?;
     let first = ImageFile::new(&rt, "first.img", true);
     let second = ImageFile::new(&rt, "second.img", true);
     let mut twin = FileTwin::new(first, second, b"ab".as_slice(), sink());
-    assert!(rt; store(&mut twin, Side::First, 7) == Ok([0, 7, 0]));
-    assert!(rt; store(&mut twin, Side::Second, 8) == Ok([0, 8, 0]));
-    assert!(rt; fs::read(&rt, "first.img")?.get(50) == Some(&7));
-    assert!(rt; fs::read(&rt, "second.img")?.get(50) == Some(&8));
-    assert!(rt; pull_some(&mut twin) == Ok((2, *b"ab")));
-    fs::remove_file(&rt, "first.img")?;
-    fs::remove_file(&rt, "second.img")?;
+    assert!(rt;
+        store(&mut twin, Side::First, 7) == Ok([0, 7, 0])
+            && store(&mut twin, Side::Second, 8) == Ok([0, 8, 0])
+            && has_at(&rt, "first.img", 50, &[7])?
+            && has_at(&rt, "second.img", 50, &[8])?
+            && pull_some(&mut twin) == Ok((2, *b"ab"))
+    );
+    remove(&rt, "first.img")?;
+    remove(&rt, "second.img")?;
     Ok(())
 }
 
 // The second image becomes shorter after its length was learned.
 #[test]
 fn a_side_goes_on_alone(rt: HostRuntime) -> Result<(), Fail> {
-    fs::write(&rt, "whole.img", [0u8; 100].as_slice())?;
-    fs::write(&rt, "short.img", [0u8; 100].as_slice())?;
+    put(&rt, "whole.img", &[0; 100])?;
+    put(&rt, "short.img", &[0; 100])?;
     let mut lines = Vec::new(rt.alloc());
     {
         let first = ImageFile::new(&rt, "whole.img", true);
         let second = ImageFile::new(&rt, "short.img", true);
         let mut twin = FileTwin::new(first, second, b"".as_slice(), &mut lines);
         assert!(rt; store(&mut twin, Side::Second, 8).is_ok());
-        fs::write(&rt, "short.img", b"abc".as_slice())?;
-        assert!(rt; store(&mut twin, Side::Second, 9) == Err(Failed));
-        assert!(rt; store(&mut twin, Side::Second, 9) == Err(Failed));
-        assert!(rt; store(&mut twin, Side::First, 9) == Ok([0, 9, 0]));
+        put(&rt, "short.img", b"abc")?;
+        assert!(rt;
+            store(&mut twin, Side::Second, 9) == Err(Failed)
+                && store(&mut twin, Side::Second, 9) == Err(Failed)
+                && store(&mut twin, Side::First, 9) == Ok([0, 9, 0])
+        );
         announce_some(&mut twin);
     }
     assert!(rt; lines.as_slice() == b"fault second\nack 3\n".as_slice());
-    fs::remove_file(&rt, "whole.img")?;
-    fs::remove_file(&rt, "short.img")?;
+    remove(&rt, "whole.img")?;
+    remove(&rt, "short.img")?;
     Ok(())
 }
 
@@ -85,8 +89,10 @@ fn a_folder_is_no_image(rt: HostRuntime) -> Result<(), Fail> {
         let first = ImageFile::new(&rt, ".", true);
         let second = ImageFile::new(&rt, "missing.img", true);
         let mut twin = FileTwin::new(first, second, b"".as_slice(), &mut lines);
-        assert!(rt; sync(&mut twin, Side::First) == Err(Failed));
-        assert!(rt; sync(&mut twin, Side::First) == Err(Failed));
+        assert!(rt;
+            sync(&mut twin, Side::First) == Err(Failed)
+                && sync(&mut twin, Side::First) == Err(Failed)
+        );
     }
     assert!(rt; lines.as_slice() == b"fault first\n".as_slice());
     Ok(())

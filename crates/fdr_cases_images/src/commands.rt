@@ -1,8 +1,7 @@
 //! The commands whose sink and table fail, and what they write where nothing does.
 
 use fdr_cases::{
-    ALTITUDE, END_AT_4000000, END_AT_4000001, Given, Left, ORDINARY, WORD_AT_0, frame_with,
-    ring_with, run_on,
+    ALTITUDE, END_AT_4000000, END_AT_4000001, Given, Left, ORDINARY, frame_with, ring_with, run_on,
 };
 use std::alloc::{AllocError, Global};
 use std::test::Fail;
@@ -11,15 +10,14 @@ use std::test::Fail;
 #[derive(Drop)]
 pub struct Inputs {
     // Two frames after five bits, and three bits after them.
-    frames: Vec<u8>,
-    // A trace of a frame, and what it records.
-    trace: Vec<u8>,
+    frames: [u8; 769],
+    // What a trace of a frame records.
     frame: [u8; 384],
     // A frame of no words, and the first word of another.
     zero: [u8; 384],
-    longer: Vec<u8>,
+    longer: [u8; 386],
     // Eleven such frames.
-    eleven: Vec<u8>,
+    eleven: [u8; 4224],
     // A ring of sixteen slots without blocks, and with the blocks of the trace.
     fresh: Vec<u8>,
     recorded: Vec<u8>,
@@ -27,55 +25,69 @@ pub struct Inputs {
     old: Vec<u8>,
 }
 
+/// A trace of a frame with the altitude 5.
+const TRACE: [u8; 32] = [
+    1, 0, 0, 0, 0, 0, 0x14, 0xc1, 0, 0, 0, 0, 0, 0, 0, 0, 2, 0, 0, 0, 0, 0, 0, 0, 0, 0, 0, 0, 0,
+    0x3d, 0x09, 0,
+];
+
 /// Five zero bits, two frames with the altitude 5, and three zero bits.
-fn frames_behind_five_bits(alloc: Global) -> Result<Vec<u8>, AllocError> {
+fn frames_behind_five_bits() -> [u8; 769] {
     let first = frame_with(&[(13, 0x50)]);
     let second = frame_with(&[(1, 0x12), (13, 0x50)]);
-    let mut line = Vec::new(alloc);
+    let mut line = [0; 769];
     let mut before = 0;
-    for byte in first.iter().chain(&second) {
-        line.push((byte << 5) | (before >> 3))?;
+    for (place, byte) in line.iter_mut().zip(first.iter().chain(&second).chain(&[0])) {
+        *place = (*byte << 5) | (before >> 3);
         before = *byte;
     }
-    line.push(before >> 3)?;
-    Ok(line)
+    line
 }
 
 /// Eleven frames of no words. Their counters go from 0 to 10.
-fn eleven_frames(alloc: Global) -> Result<Vec<u8>, AllocError> {
-    let mut frames = Vec::new(alloc);
-    for counter in 0..11 {
-        frames.extend_from_slice(&frame_with(&[(1, 0x02 | counter << 4)]))?;
+fn eleven_frames() -> [u8; 4224] {
+    let mut frames = [0; 4224];
+    for (counter, place) in frames.chunks_exact_mut(384).enumerate() {
+        let frame = frame_with(&[(1, 0x02 | (counter as u8 % 16) << 4)]);
+        for (to, from) in place.iter_mut().zip(&frame) {
+            *to = *from;
+        }
     }
-    Ok(frames)
+    frames
+}
+
+/// A frame of no words, and the first word of another.
+fn a_word_longer() -> [u8; 386] {
+    let mut longer = [0; 386];
+    let frame = frame_with(&[]);
+    for (to, from) in longer.iter_mut().zip(frame.iter().chain(&[0x47, 0x02])) {
+        *to = *from;
+    }
+    longer
 }
 
 impl Inputs {
     pub fn new(alloc: Global) -> Result<Inputs, Fail> {
-        let mut trace = WORD_AT_0.to_vec(alloc)?;
-        trace.extend_from_slice(&END_AT_4000000)?;
-        let mut longer = frame_with(&[]).to_vec(alloc)?;
-        longer.extend_from_slice(&[0x47, 0x02])?;
         let fresh = run_on(alloc, FORMAT, Given::by(ALTITUDE))?.image;
         let given = Given {
             image: &fresh,
-            line: &trace,
+            line: &TRACE,
             ..Given::by(ALTITUDE)
         };
         let recorded = run_on(alloc, RECORD, given)?;
         if recorded.told != 6 {
             return Err("six blocks")?;
         }
+        let frame = frame_with(&[(13, 0x50)]);
         Ok(Inputs {
-            frames: frames_behind_five_bits(alloc)?,
-            trace,
-            frame: frame_with(&[(13, 0x50)]),
+            frames: frames_behind_five_bits(),
+            frame,
             zero: frame_with(&[]),
-            longer,
-            eleven: eleven_frames(alloc)?,
+            longer: a_word_longer(),
+            eleven: eleven_frames(),
             fresh,
             recorded: recorded.image,
-            old: ring_with(alloc, 0, &[0; 6], &frame_with(&[(13, 0x50)]))?,
+            old: ring_with(alloc, 0, &[0; 6], &frame)?,
         })
     }
 }
@@ -152,7 +164,7 @@ pub fn commands<'a>(inputs: &'a Inputs) -> [Command<'a>; 12] {
         upgrade,
         by_altitude(DRILL, &inputs.fresh, &[], b"drill,6,1,1,1499\n", 1),
         by_altitude(FORMAT, &[], &[], &[], 0),
-        by_altitude(RECORD, &inputs.fresh, &inputs.trace, &[], 0),
+        by_altitude(RECORD, &inputs.fresh, &TRACE, &[], 0),
     ]
 }
 

@@ -40,11 +40,16 @@ fn drill(alloc: Global, image: &[u8]) -> Result<Left, AllocError> {
 fn drills_one_frame(rt: HostRuntime) -> Result<(), Fail> {
     let alloc = rt.alloc();
     let left = drill(alloc, &fresh(alloc, "16")?)?;
-    assert!(rt; left.outcome == Outcome::Done && left.told == 6);
-    assert!(rt; left.written.as_slice() == b"drill,6,1,1,1499\n".as_slice());
+    assert!(rt;
+        left.outcome == Outcome::Done
+            && left.told == 6
+            && left.written.as_slice() == b"drill,6,1,1,1499\n".as_slice()
+    );
     let frame = frame_with(&[(13, 0xb0), (14, 0x5d)]);
-    assert!(rt; holds(alloc, &left.image, &frame, 6)?);
-    assert!(rt; lists(alloc, &left.image, "session,1,0\nrow,0,1,10,ALT,1499\n")?);
+    assert!(rt;
+        holds(alloc, &left.image, &frame, 6)?
+            && lists(alloc, &left.image, "session,1,0\nrow,0,1,10,ALT,1499\n")?
+    );
     Ok(())
 }
 
@@ -54,8 +59,11 @@ fn drills_twice_in_one_image(rt: HostRuntime) -> Result<(), Fail> {
     let alloc = rt.alloc();
     let first = drill(alloc, &fresh(alloc, "16")?)?;
     let second = drill(alloc, &first.image)?;
-    assert!(rt; second.outcome == Outcome::Done && second.told == 12);
-    assert!(rt; second.written.as_slice() == b"drill,6,2,2,2998\n".as_slice());
+    assert!(rt;
+        second.outcome == Outcome::Done
+            && second.told == 12
+            && second.written.as_slice() == b"drill,6,2,2,2998\n".as_slice()
+    );
     Ok(())
 }
 
@@ -91,8 +99,11 @@ fn drills_ten_thousand_frames(rt: HostRuntime) -> Result<(), Fail> {
     ];
     let left = run_on(alloc, &words, given(&image))?;
     let line = format!(in alloc; "drill,938,10000,10000,{}\n", sum_of_values(40_000))?;
-    assert!(rt; left.outcome == Outcome::Done && left.told == 938);
-    assert!(rt; left.written.as_slice() == line.as_bytes());
+    assert!(rt;
+        left.outcome == Outcome::Done
+            && left.told == 938
+            && left.written.as_slice() == line.as_bytes()
+    );
     Ok(())
 }
 
@@ -134,8 +145,12 @@ fn has_recorded_all_where_its_line_fails(rt: HostRuntime) -> Result<(), Fail> {
         ..given(&image)
     };
     let left = run_on(alloc, DRILL, failing)?;
-    assert!(rt; left.outcome == Outcome::WriteFault && left.written.is_empty() && left.told == 6);
-    assert!(rt; lists(alloc, &left.image, "session,1,0\nrow,0,1,10,ALT,1499\n")?);
+    assert!(rt;
+        left.outcome == Outcome::WriteFault
+            && left.written.is_empty()
+            && left.told == 6
+            && lists(alloc, &left.image, "session,1,0\nrow,0,1,10,ALT,1499\n")?
+    );
     Ok(())
 }
 
@@ -189,11 +204,9 @@ fn twenty_five_hours_are_within_the_limits(rt: HostRuntime) -> Result<(), Fail> 
     let bytes: u64 = 22_500 * 1_536;
     assert!(rt; bytes == 34_560_000);
     let blocks = bytes.div_ceil(4_096);
-    assert!(rt; blocks == 8_438);
-    assert!(rt; blocks <= u64::from(header.slots).saturating_sub(2));
+    assert!(rt; blocks == 8_438 && blocks <= u64::from(header.slots).saturating_sub(2));
     let end = [2, 0, 0, 0, 0, 0, 0, 0, 0, 0, 0, 0x14, 0xf4, 0x6b, 0x04, 0];
     let record = parse(&end, 0).ok().ok_or("the end")?;
-    assert!(rt; record.kind == RecordKind::End);
-    assert!(rt; record.time == 90_000_000_000);
+    assert!(rt; record.kind == RecordKind::End && record.time == 90_000_000_000);
     Ok(())
 }

@@ -22,26 +22,38 @@ struct Seen {
     announced: Vec<u64>,
 }
 
-/// Checks what a failed call leaves: what the disk holds, and after a stop within the call.
-fn check_left(
-    rt: &impl Abort,
+/// The number of the next block in what is left of the ring, where it is what is promised.
+fn next_in(
+    alloc: Global,
+    base: &Base,
+    image: &[u8],
+    announced: u64,
+    rings: &mut Rings,
+) -> Result<Option<u64>, Fail> {
+    let standing = rings.open(alloc, image)?;
+    base.next_in(alloc, standing, announced)
+}
+
+/// Whether a failed call leaves what is promised: on the disk, and after a stop within the call.
+fn leaves_promised(
     alloc: Global,
     base: &Base,
     deck: &MemDeck,
     call: u64,
     rings: &mut Rings,
-) -> Result<(), Fail> {
-    let standing = rings.open(alloc, deck.image())?;
-    let next = base.next_in(alloc, standing, deck.told())?;
-    assert!(rt; next.is_some(), "call {call}");
+) -> Result<bool, Fail> {
+    if next_in(alloc, base, deck.image(), deck.told(), rings)?.is_none() {
+        return Ok(false);
+    }
     for tear in TEARS {
         let image = left_by_stop(alloc, deck, call, tear)?;
-        assert!(rt; base.is_same_ring(&image), "call {call}, {tear:?}");
-        let standing = rings.open(alloc, &image)?;
-        let next = base.next_in(alloc, standing, deck.told())?;
-        assert!(rt; next.is_some(), "call {call}, {tear:?}");
+        if !base.is_same_ring(&image)
+            || next_in(alloc, base, &image, deck.told(), rings)?.is_none()
+        {
+            return Ok(false);
+        }
     }
-    Ok(())
+    Ok(true)
 }
 
 /// Checks the run in which this call fails: the answer, that it is the last call, that nothing is written, and what is left.
@@ -54,18 +66,19 @@ fn check_call(
     seen: &mut Seen,
 ) -> Result<(), Fail> {
     let (ran, deck) = base.run(alloc, &[call])?;
-    assert!(rt; ran.written.is_empty(), "call {call}");
-    assert!(rt; deck.calls() == call.saturating_add(1), "call {call}");
+    assert!(rt;
+        ran.written.is_empty() && deck.calls() == call.saturating_add(1),
+        "call {call}"
+    );
     if Some(call) == pull {
         // Nothing was pulled, so that nothing is recorded.
+        let next = next_in(alloc, base, deck.image(), base.began, &mut seen.rings)?;
         assert!(rt;
-            ran.outcome == Outcome::ReadFault(Input::Line),
+            ran.outcome == Outcome::ReadFault(Input::Line)
+                && deck.told() == base.began
+                && next == Some(base.began),
             "call {call}"
         );
-        assert!(rt; deck.told() == base.began, "call {call}");
-        let standing = seen.rings.open(alloc, deck.image())?;
-        let next = base.next_in(alloc, standing, base.began)?;
-        assert!(rt; next == Some(base.began), "call {call}");
         seen.line = seen.line.saturating_add(1);
     } else {
         assert!(rt; ran.outcome == Outcome::DiskFault, "call {call}");
@@ -74,15 +87,19 @@ fn check_call(
     let new = deck.told().saturating_sub(base.began) as usize;
     let count = seen.announced.get_mut(new).ok_or("a block too many")?;
     *count = count.saturating_add(1);
-    check_left(rt, alloc, base, &deck, call, &mut seen.rings)
+    assert!(rt;
+        leaves_promised(alloc, base, &deck, call, &mut seen.rings)?,
+        "call {call}"
+    );
+    Ok(())
 }
 
 /// Checks the runs in which each call fails once, as many as the whole run has.
 fn check_failures(rt: &impl Abort, alloc: Global, base: &Base, pulls: u64) -> Result<(), Fail> {
     let (whole, deck) = base.run(alloc, &[])?;
-    assert!(rt; whole.outcome == Outcome::Done);
-    assert!(rt; whole.written == base.text);
-    assert!(rt; deck.told() == base.ends());
+    assert!(rt;
+        whole.outcome == Outcome::Done && whole.written == base.text && deck.told() == base.ends()
+    );
     let blocks = base.ends().saturating_sub(base.began) as usize;
     let mut seen = Seen {
         rings: Rings::new(alloc),
@@ -94,8 +111,7 @@ fn check_failures(rt: &impl Abort, alloc: Global, base: &Base, pulls: u64) -> Re
     for call in 0..deck.calls() {
         check_call(rt, alloc, base, call, pull, &mut seen)?;
     }
-    assert!(rt; seen.line == pulls);
-    assert!(rt; seen.disk == deck.calls().saturating_sub(pulls));
+    assert!(rt; seen.line == pulls && seen.disk == deck.calls().saturating_sub(pulls));
     assert!(rt; seen.rings.count() > blocks, "{}", seen.rings.count());
     // A recording of the line makes no call once all is announced. A drill then reads what it lists.
     let unseen = seen.announced.iter().filter(|count| **count == 0).count();

@@ -23,8 +23,10 @@ fn keeps_what_was_pulled_before_a_fault(rt: HostRuntime) -> Result<(), Fail> {
     let failed = recording.done(alloc, &[ended.calls.saturating_sub(1)])?;
     assert!(rt; failed.outcome == Outcome::ReadFault(Input::Line) && failed.told == 6);
     let five = frame_with(&[(13, 0x50)]);
-    assert!(rt; holds(alloc, &failed.image, &five, 6)?);
-    assert!(rt; lists(alloc, &failed.image, "session,1,0\nrow,0,1,10,ALT,5\n")?);
+    assert!(rt;
+        holds(alloc, &failed.image, &five, 6)?
+            && lists(alloc, &failed.image, "session,1,0\nrow,0,1,10,ALT,5\n")?
+    );
     Ok(())
 }
 
@@ -42,9 +44,11 @@ fn records_nothing_where_the_first_sync_fails(rt: HostRuntime) -> Result<(), Fai
     };
     let failed = recording.done(alloc, &[sync])?;
     assert!(rt;
-        failed.outcome == Outcome::DiskFault && failed.told == 0 && failed.calls == sync + 1
+        failed.outcome == Outcome::DiskFault
+            && failed.told == 0
+            && failed.calls == sync + 1
+            && holds(alloc, &failed.image, &[], 0)?
     );
-    assert!(rt; holds(alloc, &failed.image, &[], 0)?);
     for tear in [Tear::Old, Tear::New, Tear::Half, Tear::Fill(0x5a)] {
         let left = recording.stopped(alloc, &[sync], sync, tear)?;
         assert!(rt;

@@ -34,14 +34,17 @@ fn an_image_file_is_made_once_and_recovered(rt: HostRuntime) -> Result<(), Fail>
         "--payload=64",
     ];
     let recover = ["recover", "flight.img"];
-    assert!(rt; answer(&rt, &recover, false)?.status() == 4);
-    assert!(rt; answer(&rt, &format, true)?.status() == 0);
+    assert!(rt;
+        answer(&rt, &recover, false)?.status() == 4 && answer(&rt, &format, true)?.status() == 0
+    );
     let image = fs::read(&rt, "flight.img")?;
-    assert!(rt; image.len() == 384);
-    assert!(rt; image.get(..8) == Some(b"\x5a\xa5FDR717".as_slice()));
-    assert!(rt; answer(&rt, &format, true)?.status() == 5);
-    assert!(rt; answer(&rt, &recover, false)?.status() == 0);
-    assert!(rt; fs::read(&rt, "flight.img")? == image);
+    assert!(rt;
+        image.len() == 384
+            && image.get(..8) == Some(b"\x5a\xa5FDR717".as_slice())
+            && answer(&rt, &format, true)?.status() == 5
+            && answer(&rt, &recover, false)?.status() == 0
+            && fs::read(&rt, "flight.img")? == image
+    );
     fs::remove_file(&rt, "flight.img")?;
     fs::remove_file(&rt, "t1.csv")?;
     Ok(())

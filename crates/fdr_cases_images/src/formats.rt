@@ -41,8 +41,12 @@ fn makes_an_image_once(rt: HostRuntime) -> Result<(), Fail> {
     let alloc = rt.alloc();
     let image = fresh_image(alloc)?;
     let made = format(alloc, ALTITUDE, "--slots=4", &[], &[])?;
-    assert!(rt; made.outcome == Outcome::Done && made.written.is_empty() && made.told == 0);
-    assert!(rt; made.image == image);
+    assert!(rt;
+        made.outcome == Outcome::Done
+            && made.written.is_empty()
+            && made.told == 0
+            && made.image == image
+    );
     let again = format(alloc, ALTITUDE, "--slots=4", &image, &[])?;
     assert!(rt; again.outcome == Outcome::NotEmpty && again.image == image);
     let few = format(alloc, ALTITUDE, "--slots=3", &image, &[])?;
@@ -75,11 +79,11 @@ fn leaves_a_disk_that_it_does_not_make(rt: HostRuntime) -> Result<(), Fail> {
     let alloc = rt.alloc();
     let refused = format(alloc, "X,1\n", "--slots=4", &[], &[])?;
     let fault = TableFault::Shape;
-    assert!(rt; refused.outcome == Outcome::TableRefused { row: 0, fault });
-    assert!(rt; refused.calls == 0);
+    assert!(rt; refused.outcome == Outcome::TableRefused { row: 0, fault } && refused.calls == 0);
     let refused = format(alloc, ALTITUDE, "--slots=4", b"x", &[])?;
-    assert!(rt; refused.outcome == Outcome::NotEmpty);
-    assert!(rt; refused.image.as_slice() == b"x".as_slice());
+    assert!(rt;
+        refused.outcome == Outcome::NotEmpty && refused.image.as_slice() == b"x".as_slice()
+    );
     Ok(())
 }
 

@@ -42,10 +42,13 @@ fn check_call(
     listing: u64,
 ) -> Result<bool, Fail> {
     let (ran, deck) = base.run(alloc, &[call])?;
-    assert!(rt; ran.outcome == Outcome::DiskFault, "call {call}");
-    assert!(rt; ran.written.is_empty(), "call {call}");
-    assert!(rt; deck.calls() == call.saturating_add(1), "call {call}");
-    assert!(rt; base.is_same_ring(deck.image()), "call {call}");
+    assert!(rt;
+        ran.outcome == Outcome::DiskFault
+            && ran.written.is_empty()
+            && deck.calls() == call.saturating_add(1)
+            && base.is_same_ring(deck.image()),
+        "call {call}"
+    );
     let stands = base.stands_in_slot_0(deck.image()).ok_or("an open slot")?;
     assert!(rt; deck.told() == u64::from(call >= listing), "call {call}");
     assert!(rt; stands || call < listing, "call {call}");
@@ -57,9 +60,7 @@ fn a_large_ring_stands_where_a_call_of_a_drill_fails(rt: HostRuntime) -> Result<
     let alloc = rt.alloc();
     let base = drill_of_one_block(alloc, 1024)?;
     let (whole, deck) = base.run(alloc, &[])?;
-    assert!(rt; whole.outcome == Outcome::Done);
-    assert!(rt; whole.written == base.text);
-    assert!(rt; deck.told() == 1);
+    assert!(rt; whole.outcome == Outcome::Done && whole.written == base.text && deck.told() == 1);
     let listing = first_of_listing(&deck)?;
     assert!(rt; listing > 1024 && deck.calls() > 2048);
     let mut standing: u64 = 0;

@@ -115,8 +115,10 @@ fn refuses_an_image_for_other_words(rt: HostRuntime) -> Result<(), Fail> {
     let mut closed = image;
     *closed.first_mut().ok_or("a byte")? = 0;
     let fault = ImageFault::Closed;
-    assert!(rt; refused(alloc, OTHER_WORDS, &closed)? == Outcome::ImageRefused(fault));
-    assert!(rt; refused(alloc, OTHER_WORDS, &[])? == Outcome::ImageRefused(ImageFault::Small));
+    assert!(rt;
+        refused(alloc, OTHER_WORDS, &closed)? == Outcome::ImageRefused(fault)
+            && refused(alloc, OTHER_WORDS, &[])? == Outcome::ImageRefused(ImageFault::Small)
+    );
     Ok(())
 }
 
@@ -131,11 +133,10 @@ fn says_what_of_a_listing_failed(rt: HostRuntime) -> Result<(), Fail> {
             let failed = list(alloc, ALTITUDE, &image, &[call])?;
             let written = failed.written;
             assert!(rt;
-                failed.outcome == Outcome::DiskFault && failed.image == image,
-                "call {call}"
-            );
-            assert!(rt;
-                lines.as_bytes().starts_with(&written) && written.len() < lines.len(),
+                failed.outcome == Outcome::DiskFault
+                    && failed.image == image
+                    && lines.as_bytes().starts_with(&written)
+                    && written.len() < lines.len(),
                 "call {call}"
             );
         }

@@ -35,40 +35,43 @@ fn check_stop(
     Ok(base.is_same_ring(image))
 }
 
-/// Checks what stops within a call leave, each torn in another way, and each with all gates that are pending written.
-fn check_call(
-    rt: &impl Abort,
+/// Whether stops within a call leave what is promised, each torn in another way, and each with all gates that are pending
+/// written.
+fn leaves_promised(
     alloc: Global,
     base: &Base,
     deck: &MemDeck,
     call: u64,
     seen: &mut Seen,
-) -> Result<(), Fail> {
+) -> Result<bool, Fail> {
     let announced = announced_at(deck, call)?;
     let new = left_by_stop(alloc, deck, call, Tear::New)?;
     for tear in TEARS {
         let image = left_by_stop(alloc, deck, call, tear)?;
-        let kept = check_stop(alloc, base, &image, announced, seen)?;
-        assert!(rt; kept, "call {call}, {tear:?}");
         let mixed = with_gates(alloc, &image, &new, base.block)?;
-        let kept = check_stop(alloc, base, &mixed, announced, seen)?;
-        assert!(rt; kept, "call {call}, {tear:?} with its gates written");
+        if !check_stop(alloc, base, &image, announced, seen)?
+            || !check_stop(alloc, base, &mixed, announced, seen)?
+        {
+            return Ok(false);
+        }
     }
-    Ok(())
+    Ok(true)
 }
 
 /// Checks what stops within each call of a recording of six blocks leave.
 fn check_stops(rt: &impl Abort, alloc: Global, base: &Base) -> Result<(), Fail> {
     let (ran, deck) = base.run(alloc, &[])?;
-    assert!(rt; ran.outcome == Outcome::Done);
-    assert!(rt; deck.told() == base.ends());
+    assert!(rt; ran.outcome == Outcome::Done && deck.told() == base.ends());
     let mut seen = Seen {
         stops: 0,
         rings: Rings::new(alloc),
         ends: vec![in alloc; 0; 7]?,
     };
     for call in 0..deck.calls() {
-        check_call(rt, alloc, base, &deck, call, &mut seen)?;
+        assert!(rt;
+            leaves_promised(alloc, base, &deck, call, &mut seen)?,
+            "call {call}"
+        );
     }
     assert!(rt; seen.stops == deck.calls().saturating_mul(12));
     // Each number of new blocks is left by some stops, and there are four different rings for each.

@@ -17,11 +17,11 @@ fn reads_of(rt: &impl Abort, alloc: Global, command: &Command) -> Result<u64, Fa
         }
         let fault = Outcome::ReadFault(Input::Table);
         assert!(rt;
-            ran.outcome == fault && ran.written.is_empty(),
-            "{words:?}, read {call}"
-        );
-        assert!(rt;
-            ran.calls == 0 && ran.told == 0 && ran.image.as_slice() == command.image,
+            ran.outcome == fault
+                && ran.written.is_empty()
+                && ran.calls == 0
+                && ran.told == 0
+                && ran.image.as_slice() == command.image,
             "{words:?}, read {call}"
         );
     }

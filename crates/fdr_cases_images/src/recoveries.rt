@@ -67,8 +67,11 @@ fn recovers_the_last_blocks_of_a_ring(rt: HostRuntime) -> Result<(), Fail> {
     let recovered = recover(alloc, &image, &[])?;
     let frame = frame_with(&[]);
     let last = frame.get(192..).ok_or("three blocks")?;
-    assert!(rt; recovered.outcome == Outcome::Done && recovered.image == image);
-    assert!(rt; recovered.written.as_slice() == last);
+    assert!(rt;
+        recovered.outcome == Outcome::Done
+            && recovered.image == image
+            && recovered.written.as_slice() == last
+    );
     let recovered = recover(alloc, &fresh_image(alloc)?, &[])?;
     assert!(rt; recovered.outcome == Outcome::Done && recovered.written.is_empty());
     Ok(())

@@ -19,6 +19,23 @@ const BY_EIGHT: &[&str] = &[
     "64",
 ];
 
+/// The same, where four or nine slots are given.
+const BY_FOUR: &[&str] = &[
+    "salvage",
+    "t1.csv",
+    "flight.img",
+    "--slots=4",
+    "--payload=64",
+];
+
+const BY_NINE: &[&str] = &[
+    "salvage",
+    "t1.csv",
+    "flight.img",
+    "--slots=9",
+    "--payload=64",
+];
+
 /// What is listed of blocks 5, 8 and 9 of session 1, with 64 zero bytes each.
 const TWO_RUNS: &str = "run,5,1\nsession,1,5\ngap,0,512\nrun,8,2\nsession,1,8\ngap,0,1024\n";
 
@@ -42,10 +59,20 @@ fn image_of(alloc: Global, blocks: &[(u8, u8)]) -> Result<Vec<u8>, Fail> {
     Ok(image)
 }
 
-/// An image in which one byte is another.
-fn with_byte(alloc: Global, image: &[u8], at: usize, byte: u8) -> Result<Vec<u8>, Fail> {
+/// The image of blocks 5, 8 and 9 of session 1, of this many bytes and with these bytes at their places.
+fn three_blocks(alloc: Global, length: usize, put: &[(usize, u8)]) -> Result<Vec<u8>, Fail> {
+    let image = image_of(alloc, &[(5, 1), (8, 1), (9, 1)])?;
+    let mut other = with_bytes(alloc, &image, put)?;
+    other.resize(length, 0)?;
+    Ok(other)
+}
+
+/// An image with these bytes at their places.
+fn with_bytes(alloc: Global, image: &[u8], put: &[(usize, u8)]) -> Result<Vec<u8>, Fail> {
     let mut other = image.to_vec(alloc)?;
-    *other.get_mut(at).ok_or("a byte")? = byte;
+    for (at, byte) in put {
+        *other.get_mut(*at).ok_or("a byte")? = *byte;
+    }
     Ok(other)
 }
 
@@ -74,6 +101,11 @@ fn salvaged(alloc: Global, words: &[&str], image: &[u8]) -> Result<Vec<u8>, Fail
         return Err("not salvaged")?;
     }
     Ok(ran.written)
+}
+
+/// Whether these lines are what is listed of an image.
+fn lists(alloc: Global, words: &[&str], image: &[u8], lines: &str) -> Result<bool, Fail> {
+    Ok(salvaged(alloc, words, image)?.as_slice() == lines.as_bytes())
 }
 
 /// What is answered to an image, of which nothing is listed.
@@ -111,112 +143,125 @@ fn lists_each_run(rt: HostRuntime) -> Result<(), Fail> {
     for (blocks, lines) in blocks {
         let image = image_of(alloc, blocks)?;
         for words in [SALVAGE, BY_EIGHT] {
-            let written = salvaged(alloc, words, &image)?;
-            assert!(rt; written.as_slice() == lines.as_bytes(), "{blocks:?}");
+            assert!(rt; lists(alloc, words, &image, lines)?, "{blocks:?}");
         }
     }
     Ok(())
 }
 
+/// A ring of version 2 with the six blocks of a frame with the altitude 5, and with these bytes at their places.
+fn frame_in_a_ring(alloc: Global, put: &[(usize, u8)]) -> Result<Vec<u8>, Fail> {
+    let ring = ring_with(alloc, 0xa5, &[1; 6], &frame_with(&[(13, 0x50)]))?;
+    with_bytes(alloc, &ring, put)
+}
+
+/// Where the heads of slots 2 and 9 are.
+const SECOND: usize = 64 + 2 * 80;
+
+const NINTH: usize = 64 + 9 * 80;
+
 #[test]
 fn lists_rows_that_the_last_run_has_not(rt: HostRuntime) -> Result<(), Fail> {
-    let alloc = rt.alloc();
-    let frame = frame_with(&[(13, 0x50)]);
-    let ring = ring_with(alloc, 0xa5, &[1; 6], &frame)?;
-    let row = "run,0,6\nsession,1,0\nrow,0,1,10,ALT,5\n";
-    let written = salvaged(alloc, SALVAGE, &ring)?;
-    assert!(rt; written.as_slice() == row.as_bytes());
     // Block 9 is one more: the last run is block 9 alone.
-    let mut later = ring.to_vec(alloc)?;
-    let head = [0x5a, 0, 0, 64, 0, 0, 0, 2, 0, 0, 0, 0, 0, 0, 0, 9];
-    for (at, byte) in head.iter().enumerate() {
-        let place = at.saturating_add(64 + 9 * 80);
-        *later.get_mut(place).ok_or("a slot")? = *byte;
+    let later = [
+        (NINTH, 0x5a),
+        (NINTH + 3, 64),
+        (NINTH + 7, 2),
+        (NINTH + 15, 9),
+    ];
+    let cases: [(&[(usize, u8)], &str); 3] = [
+        (&[], "run,0,6\nsession,1,0\nrow,0,1,10,ALT,5\n"),
+        (
+            &later,
+            "run,0,6\nsession,1,0\nrow,0,1,10,ALT,5\nrun,9,1\nsession,2,9\ngap,0,512\n",
+        ),
+        // Without block 2 no frame is whole, and no row joins the two runs.
+        (
+            &[(SECOND, 0)],
+            "run,0,2\nsession,1,0\ngap,0,1024\nrun,3,3\nsession,1,3\ngap,0,1536\n",
+        ),
+    ];
+    for (put, lines) in cases {
+        let image = frame_in_a_ring(rt.alloc(), put)?;
+        assert!(rt; lists(rt.alloc(), SALVAGE, &image, lines)?, "{put:?}");
     }
-    let lines = "run,0,6\nsession,1,0\nrow,0,1,10,ALT,5\nrun,9,1\nsession,2,9\ngap,0,512\n";
-    let written = salvaged(alloc, SALVAGE, &later)?;
-    assert!(rt; written.as_slice() == lines.as_bytes());
-    // Without block 2 no frame is whole, and no row joins the two runs.
-    let holed = with_byte(alloc, &ring, 64 + 2 * 80, 0)?;
-    let lines = "run,0,2\nsession,1,0\ngap,0,1024\nrun,3,3\nsession,1,3\ngap,0,1536\n";
-    let written = salvaged(alloc, SALVAGE, &holed)?;
-    assert!(rt; written.as_slice() == lines.as_bytes());
     Ok(())
 }
 
 #[test]
 fn reads_slots_and_payload_from_the_words(rt: HostRuntime) -> Result<(), Fail> {
     let alloc = rt.alloc();
-    let image = image_of(alloc, &[(5, 1), (8, 1), (9, 1)])?;
-    let closed = with_byte(alloc, &image, 0, 0)?;
+    let closed = three_blocks(alloc, 704, &[(0, 0)])?;
     let fault = Outcome::ImageRefused(ImageFault::Closed);
     assert!(rt; refused(alloc, SALVAGE, &closed)? == fault);
-    let written = salvaged(alloc, BY_EIGHT, &closed)?;
-    assert!(rt; written.as_slice() == TWO_RUNS.as_bytes());
-
-    // Of a header that is gone the words have all but the version.
-    let mut gone = image.to_vec(alloc)?;
-    for at in 0..64 {
-        *gone.get_mut(at).ok_or("a byte")? = 0;
-    }
-    let lines = "run,5,1\ngap,0,512\nrun,8,2\ngap,0,1024\n";
-    let written = salvaged(alloc, BY_EIGHT, &gone)?;
-    assert!(rt; written.as_slice() == lines.as_bytes());
-    let second = with_byte(alloc, &gone, 1, 0xa5)?;
-    let written = salvaged(alloc, BY_EIGHT, &second)?;
-    assert!(rt; written.as_slice() == TWO_RUNS.as_bytes());
-
+    assert!(rt; lists(alloc, BY_EIGHT, &closed, TWO_RUNS)?);
     // Slots that the words don't name aren't looked at.
-    let words = [
-        "salvage",
-        "t1.csv",
-        "flight.img",
-        "--slots=4",
-        "--payload=64",
-    ];
-    let written = salvaged(alloc, &words, &image)?;
     let lines = "run,8,2\nsession,1,8\ngap,0,1024\n";
-    assert!(rt; written.as_slice() == lines.as_bytes());
+    assert!(rt; lists(alloc, BY_FOUR, &three_blocks(alloc, 704, &[])?, lines)?);
+    Ok(())
+}
+
+// Of a header that is gone the words have all but the version.
+#[test]
+fn lists_an_image_without_a_header(rt: HostRuntime) -> Result<(), Fail> {
+    let alloc = rt.alloc();
+    let mut gone = three_blocks(alloc, 704, &[])?;
+    for byte in gone.iter_mut().take(64) {
+        *byte = 0;
+    }
+    assert!(rt;
+        lists(
+            alloc,
+            BY_EIGHT,
+            &gone,
+            "run,5,1\ngap,0,512\nrun,8,2\ngap,0,1024\n"
+        )?
+    );
+    let second = with_bytes(alloc, &gone, &[(1, 0xa5)])?;
+    assert!(rt; lists(alloc, BY_EIGHT, &second, TWO_RUNS)?);
     Ok(())
 }
 
 #[test]
 fn refuses_by_the_header_or_by_the_length(rt: HostRuntime) -> Result<(), Fail> {
-    let alloc = rt.alloc();
-    let image = image_of(alloc, &[(5, 1), (8, 1), (9, 1)])?;
-    let nine = [
-        "salvage",
-        "t1.csv",
-        "flight.img",
-        "--slots=9",
-        "--payload=64",
-    ];
     let short = Outcome::ImageRefused(ImageFault::Short);
     let small = Outcome::ImageRefused(ImageFault::Small);
-    assert!(rt; refused(alloc, &nine, &image)? == short);
-    let mut longer = image.to_vec(alloc)?;
-    longer.resize(783, 0)?;
-    assert!(rt; refused(alloc, &nine, &longer)? == short);
-    longer.resize(784, 0)?;
-    let written = salvaged(alloc, SALVAGE, &longer)?;
-    assert!(rt; written.as_slice() == TWO_RUNS.as_bytes());
-    for words in [SALVAGE, BY_EIGHT] {
-        for (length, answer) in [(703, short), (64, short), (63, small), (0, small)] {
-            let mut cut = image.to_vec(alloc)?;
-            cut.truncate(length);
-            assert!(rt; refused(alloc, words, &cut)? == answer, "{length} bytes");
-        }
-    }
-
     // The words in a subframe are the table's where slots and payload are given.
-    let other = with_byte(alloc, &with_byte(alloc, &image, 18, 1)?, 19, 0)?;
+    let more_words: &[(usize, u8)] = &[(18, 1), (19, 0)];
     let differ = Outcome::WordsDiffer {
         image: 256,
         table: 64,
     };
-    assert!(rt; refused(alloc, SALVAGE, &other)? == differ);
-    let written = salvaged(alloc, BY_EIGHT, &other)?;
-    assert!(rt; written.as_slice() == TWO_RUNS.as_bytes());
+    let cases: [(&[&str], usize, &[(usize, u8)], Outcome); 11] = [
+        (SALVAGE, 703, &[], short),
+        (SALVAGE, 64, &[], short),
+        (SALVAGE, 63, &[], small),
+        (SALVAGE, 0, &[], small),
+        (BY_EIGHT, 703, &[], short),
+        (BY_EIGHT, 64, &[], short),
+        (BY_EIGHT, 63, &[], small),
+        (BY_EIGHT, 0, &[], small),
+        (BY_NINE, 704, &[], short),
+        (BY_NINE, 783, &[], short),
+        (SALVAGE, 704, more_words, differ),
+    ];
+    for (words, length, put, answer) in cases {
+        let image = three_blocks(rt.alloc(), length, put)?;
+        assert!(rt;
+            refused(rt.alloc(), words, &image)? == answer,
+            "{words:?}, {length} bytes"
+        );
+    }
+    Ok(())
+}
+
+#[test]
+fn lists_a_longer_image_and_one_for_other_words(rt: HostRuntime) -> Result<(), Fail> {
+    let alloc = rt.alloc();
+    let longer = three_blocks(alloc, 784, &[])?;
+    assert!(rt; lists(alloc, SALVAGE, &longer, TWO_RUNS)?);
+    let other = three_blocks(alloc, 704, &[(18, 1), (19, 0)])?;
+    assert!(rt; lists(alloc, BY_EIGHT, &other, TWO_RUNS)?);
     Ok(())
 }
 
@@ -230,11 +275,10 @@ fn says_what_of_a_salvage_failed(rt: HostRuntime) -> Result<(), Fail> {
             let ran = salvage(alloc, words, &image, &[call], &[])?;
             let written = ran.written;
             assert!(rt;
-                ran.outcome == Outcome::DiskFault && ran.image == image,
-                "call {call}"
-            );
-            assert!(rt;
-                TWO_RUNS.as_bytes().starts_with(&written) && written.len() < TWO_RUNS.len(),
+                ran.outcome == Outcome::DiskFault
+                    && ran.image == image
+                    && TWO_RUNS.as_bytes().starts_with(&written)
+                    && written.len() < TWO_RUNS.len(),
                 "call {call}"
             );
         }

@@ -49,8 +49,7 @@ fn check_image(rt: &impl Abort, alloc: Global, image: &[u8], seen: &mut Seen) ->
     let answer = answer_to(image, &empty_ring(alloc, 4, 64)?).ok_or("another image")?;
     let mut deck = deck_of(alloc, image, &[], &[])?;
     let ran = run_words(alloc, &["recover", "flight.img"], "", &mut deck, &[])?;
-    assert!(rt; ran.outcome == answer);
-    assert!(rt; ran.written.is_empty());
+    assert!(rt; ran.outcome == answer && ran.written.is_empty());
     match answer {
         Outcome::Done => seen.whole = seen.whole.saturating_add(1),
         Outcome::ImageRefused(ImageFault::Small) => seen.small = seen.small.saturating_add(1),
@@ -65,8 +64,7 @@ fn check_image(rt: &impl Abort, alloc: Global, image: &[u8], seen: &mut Seen) ->
 fn a_stop_leaves_no_image_or_a_whole_one(rt: HostRuntime) -> Result<(), Fail> {
     let alloc = rt.alloc();
     let (ran, deck) = format(alloc, &[])?;
-    assert!(rt; ran.outcome == Outcome::Done);
-    assert!(rt; deck.calls() == 6);
+    assert!(rt; ran.outcome == Outcome::Done && deck.calls() == 6);
     let mut seen = Seen {
         small: 0,
         closed: 0,
@@ -93,9 +91,10 @@ fn a_failed_call_leaves_no_image_or_a_whole_one(rt: HostRuntime) -> Result<(), F
     };
     for call in 0..6 {
         let (ran, deck) = format(alloc, &[call])?;
-        assert!(rt; ran.outcome == Outcome::DiskFault, "call {call}");
-        assert!(rt; deck.calls() == call + 1, "call {call}");
-        assert!(rt; deck.told() == 0, "call {call}");
+        assert!(rt;
+            ran.outcome == Outcome::DiskFault && deck.calls() == call + 1 && deck.told() == 0,
+            "call {call}"
+        );
         check_image(&rt, alloc, deck.image(), &mut seen)?;
         for tear in TEARS {
             let image = left_by_stop(alloc, &deck, call, tear)?;

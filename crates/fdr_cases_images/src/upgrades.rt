@@ -4,10 +4,9 @@ use crate::formats::fresh_image;
 use crate::listings::listed;
 use crate::recoveries::recover;
 use fdr_cases::{
-    ALTITUDE, END_AT_4000000, Given, Left, WORD_AT_0, deck_of, frame_with, ring_with, run_on,
-    run_words, stopped,
+    ALTITUDE, END_AT_4000000, Given, Left, WORD_AT_0, frame_with, ring_with, run_on, stop_of,
 };
-use fdr_deck::{MemDeck, Tear};
+use fdr_deck::Tear;
 use fdr_slot::ImageFault;
 use fdr_top::Outcome;
 use std::alloc::{AllocError, Global};
@@ -39,17 +38,6 @@ fn upgrade(alloc: Global, image: &[u8]) -> Result<Left, AllocError> {
     run_on(alloc, UPGRADE, given)
 }
 
-/// What an upgrade answers where the listed calls of the disk fail, and the deck after it.
-fn upgrade_failing(
-    alloc: Global,
-    image: &[u8],
-    calls: &[u64],
-) -> Result<(Outcome, MemDeck), AllocError> {
-    let mut deck = deck_of(alloc, image, &[], calls)?;
-    let ran = run_words(alloc, UPGRADE, "", &mut deck, &[])?;
-    Ok((ran.outcome, deck))
-}
-
 /// Runs a command that records a trace of a frame with the altitude 5. It writes no text.
 fn recorded(alloc: Global, words: &[&str], image: &[u8]) -> Result<Left, Fail> {
     let mut trace = WORD_AT_0.to_vec(alloc)?;
@@ -70,8 +58,13 @@ const RECORD: &[&str] = &["record", "t1.csv", "flight.img"];
 
 const DRILL: &[&str] = &["drill", "t1.csv", "flight.img", "--seed=1", "--frames=1"];
 
+/// Whether these lines are what is listed of an image by the table of the altitude.
+fn lists(alloc: Global, image: &[u8], lines: &str) -> Result<bool, Fail> {
+    Ok(listed(alloc, ALTITUDE, image)?.as_slice() == lines.as_bytes())
+}
+
 #[test]
-fn records_in_an_old_image_once_it_is_upgraded(rt: HostRuntime) -> Result<(), Fail> {
+fn records_nothing_in_an_old_image(rt: HostRuntime) -> Result<(), Fail> {
     let alloc = rt.alloc();
     let old = old_ring(alloc)?;
     for words in [RECORD, DRILL] {
@@ -81,21 +74,22 @@ fn records_in_an_old_image_once_it_is_upgraded(rt: HostRuntime) -> Result<(), Fa
             "{words:?}"
         );
     }
-    let row = b"row,0,1,10,ALT,5\n";
-    assert!(rt; listed(alloc, ALTITUDE, &old)?.as_slice() == row.as_slice());
+    assert!(rt; lists(alloc, &old, "row,0,1,10,ALT,5\n")?);
+    Ok(())
+}
 
-    let new = with_version(alloc, &old, 0xa5)?;
-    for image in [old, new.to_vec(alloc)?] {
-        let ran = upgrade(alloc, &image)?;
+#[test]
+fn records_in_an_old_image_once_it_is_upgraded(rt: HostRuntime) -> Result<(), Fail> {
+    let alloc = rt.alloc();
+    let new = with_version(alloc, &old_ring(alloc)?, 0xa5)?;
+    for version in [0x00, 0xa5] {
+        let ran = upgrade(alloc, &with_version(alloc, &new, version)?)?;
         assert!(rt; ran.outcome == Outcome::Done && ran.written.is_empty() && ran.image == new);
     }
-    let lines = b"session,0,0\nrow,0,1,10,ALT,5\n";
-    assert!(rt; listed(alloc, ALTITUDE, &new)?.as_slice() == lines.as_slice());
-
+    assert!(rt; lists(alloc, &new, "session,0,0\nrow,0,1,10,ALT,5\n")?);
     let longer = recorded(alloc, RECORD, &new)?;
-    assert!(rt; longer.outcome == Outcome::Done);
-    let lines = b"session,0,0\nrow,0,1,10,ALT,5\nsession,1,6\nrow,0,1,10,ALT,5\n";
-    assert!(rt; listed(alloc, ALTITUDE, &longer.image)?.as_slice() == lines.as_slice());
+    let lines = "session,0,0\nrow,0,1,10,ALT,5\nsession,1,6\nrow,0,1,10,ALT,5\n";
+    assert!(rt; longer.outcome == Outcome::Done && lists(alloc, &longer.image, lines)?);
     Ok(())
 }
 
@@ -115,39 +109,78 @@ fn an_upgrade_keeps_numbers_and_bytes(rt: HostRuntime) -> Result<(), Fail> {
     Ok(())
 }
 
+/// Whether a stop within a call of an upgrade leaves the old image with this version byte, where the call fails too.
+fn leaves(alloc: Global, old: &[u8], call: u64, tear: Tear, version: u8) -> Result<bool, Fail> {
+    let left = Some(with_version(alloc, old, version)?);
+    let whole = Given {
+        image: old,
+        ..Given::by("")
+    };
+    let failing = Given {
+        calls: &[call],
+        ..whole
+    };
+    Ok(
+        stop_of(alloc, UPGRADE, whole, call, tear)? == left
+            && stop_of(alloc, UPGRADE, failing, call, tear)? == left,
+    )
+}
+
 #[test]
 fn a_stop_leaves_one_version_or_the_other(rt: HostRuntime) -> Result<(), Fail> {
     let alloc = rt.alloc();
     let old = old_ring(alloc)?;
-    let (_, whole) = upgrade_failing(alloc, &old, &[])?;
-    assert!(rt; whole.calls() == WRITE + 2);
+    assert!(rt; upgrade(alloc, &old)?.calls == WRITE + 2);
     let tears = [
-        (Tear::Old, 0x00, "row,0,1,10,ALT,5\n"),
-        (Tear::New, 0xa5, "session,0,0\nrow,0,1,10,ALT,5\n"),
-        (Tear::Fill(0x17), 0x17, "row,0,1,10,ALT,5\n"),
-        (Tear::Fill(0xa5), 0xa5, "session,0,0\nrow,0,1,10,ALT,5\n"),
+        (Tear::Old, 0x00),
+        (Tear::New, 0xa5),
+        (Tear::Fill(0x17), 0x17),
+        (Tear::Fill(0xa5), 0xa5),
     ];
     for call in 0..WRITE + 2 {
-        // Nothing is pending before the write.
-        let (failed, failing) = upgrade_failing(alloc, &old, &[call])?;
-        assert!(rt; failed == Outcome::DiskFault, "call {call}");
-        assert!(rt; failing.calls() == call + 1, "call {call}");
-        for (tear, version, lines) in tears {
+        for (tear, version) in tears {
+            // Nothing is pending before the write.
             let version = if call < WRITE { 0x00 } else { version };
-            let left = Some(with_version(alloc, &old, version)?);
             assert!(rt;
-                stopped(alloc, &whole, call, tear)? == left,
+                leaves(alloc, &old, call, tear, version)?,
                 "call {call}, {tear:?}"
             );
-            assert!(rt;
-                stopped(alloc, &failing, call, tear)? == left,
-                "call {call}, {tear:?}"
-            );
-            if call >= WRITE {
-                let written = listed(alloc, ALTITUDE, &with_version(alloc, &old, version)?)?;
-                assert!(rt; written.as_slice() == lines.as_bytes(), "{tear:?}");
-            }
         }
+    }
+    Ok(())
+}
+
+#[test]
+fn each_call_of_an_upgrade_fails(rt: HostRuntime) -> Result<(), Fail> {
+    let alloc = rt.alloc();
+    let old = old_ring(alloc)?;
+    for call in 0..WRITE + 2 {
+        let failing = Given {
+            image: &old,
+            calls: &[call],
+            ..Given::by("")
+        };
+        let left = run_on(alloc, UPGRADE, failing)?;
+        assert!(rt;
+            left.outcome == Outcome::DiskFault && left.calls == call + 1,
+            "call {call}"
+        );
+    }
+    Ok(())
+}
+
+// The version byte counts as 2 where it is hexadecimal A5, and else as 1.
+#[test]
+fn lists_each_version_byte_that_a_stop_leaves(rt: HostRuntime) -> Result<(), Fail> {
+    let alloc = rt.alloc();
+    let old = old_ring(alloc)?;
+    for (version, lines) in [
+        (0x00, "row,0,1,10,ALT,5\n"),
+        (0x17, "row,0,1,10,ALT,5\n"),
+        (0xa5, "session,0,0\nrow,0,1,10,ALT,5\n"),
+    ] {
+        let image = with_version(alloc, &old, version)?;
+        assert!(rt; lists(alloc, &image, lines)?, "version byte {version}");
     }
     Ok(())
 }

@@ -15,10 +15,12 @@ fn reads_fields_of_words(rt: HostRuntime) {
         assert!(rt; sdi(word) == source, "SDI of {word}");
         assert!(rt; is_odd(word) == is_sound, "parity of {word}");
     }
-    assert!(rt; field(0x0000_14c1, 11, 12) == 5);
-    assert!(rt; field(0x8abc_de13, 9, 20) == 0xabcde);
-    assert!(rt; field(0x8abc_de13, 32, 1) == 1);
-    assert!(rt; field(0x8abc_de13, 1, 32) == 0x8abc_de13);
+    assert!(rt;
+        field(0x0000_14c1, 11, 12) == 5
+            && field(0x8abc_de13, 9, 20) == 0xabcde
+            && field(0x8abc_de13, 32, 1) == 1
+            && field(0x8abc_de13, 1, 32) == 0x8abc_de13
+    );
 }
 
 #[test]
@@ -30,9 +32,11 @@ fn reads_records(rt: HostRuntime) {
         word: 0x14c1,
         time: 15_625,
     };
-    assert!(rt; parse(&word, 0) == Ok(read));
-    assert!(rt; parse(&word, 15_625) == Ok(read));
-    assert!(rt; parse(&word, 15_626) == Err(TraceFault::Back));
+    assert!(rt;
+        parse(&word, 0) == Ok(read)
+            && parse(&word, 15_625) == Ok(read)
+            && parse(&word, 15_626) == Err(TraceFault::Back)
+    );
 
     let end = [2, 0, 0, 0, 0, 0, 0, 0, 0, 0, 0, 0, 0, 0x3d, 0x09, 0];
     let last = BusRecord {

@@ -62,13 +62,13 @@ fn reads_each_command(rt: HostRuntime) -> Result<(), Fail> {
     for (line, table, image, writes) in cases {
         let request = read(rt.alloc(), line)?.ok().ok_or(line)?;
         let (command, _) = line.split_once(' ').unwrap_or((line, ""));
-        assert!(rt; command_of(&request) == command, "{line}");
-        assert!(rt; numbers_of(&request) == (0, 0), "{line}");
         assert!(rt;
-            (request.table(), request.image()) == (table, image),
+            command_of(&request) == command
+                && numbers_of(&request) == (0, 0)
+                && (request.table(), request.image()) == (table, image)
+                && request.writes() == writes,
             "{line}"
         );
-        assert!(rt; request.writes() == writes, "{line}");
     }
     Ok(())
 }
@@ -106,13 +106,13 @@ fn reads_options_anywhere(rt: HostRuntime) -> Result<(), Fail> {
     ];
     for (line, command, numbers) in cases {
         let request = read(rt.alloc(), line)?.ok().ok_or(line)?;
-        assert!(rt; command_of(&request) == command, "{line}");
         assert!(rt;
-            (request.table(), request.image()) == (Some("t"), Some("i")),
+            command_of(&request) == command
+                && (request.table(), request.image()) == (Some("t"), Some("i"))
+                && numbers_of(&request) == numbers
+                && request.writes() == (command != "salvage"),
             "{line}"
         );
-        assert!(rt; numbers_of(&request) == numbers, "{line}");
-        assert!(rt; request.writes() == (command != "salvage"), "{line}");
     }
     Ok(())
 }

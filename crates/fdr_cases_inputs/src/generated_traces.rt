@@ -48,9 +48,7 @@ fn gives_the_trace_of_seed_1(rt: HostRuntime) -> Result<(), Fail> {
     ] {
         assert!(rt; generator.next() == word(0, bits, second));
     }
-    assert!(rt; generator.next() == END);
-    assert!(rt; generator.next() == None);
-    assert!(rt; generator.next() == None);
+    assert!(rt; generator.next() == END && generator.next() == None && generator.next() == None);
     Ok(())
 }
 
@@ -69,15 +67,13 @@ fn gives_each_parameter_a_word_in_turn(rt: HostRuntime) -> Result<(), Fail> {
     ] {
         assert!(rt; generator.next() == word(bus, bits, second));
     }
-    assert!(rt; generator.next() == END);
-    assert!(rt; generator.next() == None);
+    assert!(rt; generator.next() == END && generator.next() == None);
     Ok(())
 }
 
 #[test]
 fn gives_the_end_alone_without_parameters(rt: HostRuntime) -> Result<(), Fail> {
     let mut generator = generator_of(rt.alloc(), NONE, 1)?;
-    assert!(rt; generator.next() == END);
-    assert!(rt; generator.next() == None);
+    assert!(rt; generator.next() == END && generator.next() == None);
     Ok(())
 }

@@ -15,22 +15,28 @@ const LIMITS: &[u8] =
 fn reads_a_table(rt: HostRuntime) -> Result<(), Fail> {
     let table = Table::read(rt.alloc(), ALT)?;
     let frame = table.frame();
-    assert!(rt; (frame.words, frame.cword, frame.csub) == (64, 2, 1));
-    assert!(rt; table.rows() == 3);
-    assert!(rt; table.params().len() == 1);
+    assert!(rt;
+        (frame.words, frame.cword, frame.csub) == (64, 2, 1)
+            && table.rows() == 3
+            && table.params().len() == 1
+    );
     let param = &table.params()[0];
-    assert!(rt; param.name.bytes() == b"ALT".as_slice());
-    assert!(rt; (param.bus, param.label, param.sdi) == (0, 0o203, None));
-    assert!(rt; (param.lsb, param.width, param.signed) == (11, 12, false));
-    assert!(rt; (param.num, param.den, param.offset) == (1, 1, 0));
-    assert!(rt; (param.decimals, param.rate, param.row) == (0, 16, 1));
-    assert!(rt; (param.age, param.tells) == (None, false));
-    assert!(rt; table.places().len() == 1);
+    assert!(rt;
+        param.name.bytes() == b"ALT".as_slice()
+            && (param.bus, param.label, param.sdi) == (0, 0o203, None)
+            && (param.lsb, param.width, param.signed) == (11, 12, false)
+            && (param.num, param.den, param.offset) == (1, 1, 0)
+            && (param.decimals, param.rate, param.row) == (0, 16, 1)
+            && (param.age, param.tells) == (None, false)
+            && table.places().len() == 1
+    );
     let place = &table.places()[0];
-    assert!(rt; (place.param, place.part, place.subs) == (0, 1, 1));
-    assert!(rt; (place.word, place.step) == (10, 0));
-    assert!(rt; (place.lsb, place.width) == (1, 12));
-    assert!(rt; (place.cycle, place.period, place.row) == (0, 1, 2));
+    assert!(rt;
+        (place.param, place.part, place.subs) == (0, 1, 1)
+            && (place.word, place.step) == (10, 0)
+            && (place.lsb, place.width) == (1, 12)
+            && (place.cycle, place.period, place.row) == (0, 1, 2)
+    );
     Ok(())
 }
 
@@ -38,25 +44,26 @@ fn reads_a_table(rt: HostRuntime) -> Result<(), Fail> {
 fn reads_fields_at_their_limits(rt: HostRuntime) -> Result<(), Fail> {
     let table = Table::read(rt.alloc(), LIMITS)?;
     let frame = table.frame();
-    assert!(rt; (frame.words, frame.cword, frame.csub) == (1024, 1024, 4));
-    assert!(rt; table.rows() == 5);
+    assert!(rt; (frame.words, frame.cword, frame.csub) == (1024, 1024, 4) && table.rows() == 5);
     let ([wide, narrow], [first, second]) = (table.params(), table.places()) else {
         return Err("two parameters and two places")?;
     };
-    assert!(rt; wide.name.bytes() == b"Z9._-".as_slice());
-    assert!(rt; (wide.bus, wide.label, wide.sdi) == (255, 0o377, Some(3)));
-    assert!(rt; (wide.lsb, wide.width, wide.signed) == (1, 32, true));
-    assert!(rt; (wide.num, wide.den) == (-1_000_000_000, 1_000_000_000));
-    assert!(rt; wide.offset == -1_000_000_000_000_000);
-    assert!(rt; (wide.decimals, wide.rate, wide.row) == (9, 262_144, 1));
-    assert!(rt; narrow.name.bytes() == b"B".as_slice());
-    assert!(rt; (narrow.label, narrow.lsb, narrow.width) == (0, 32, 1));
-    assert!(rt; (narrow.num, narrow.offset) == (1_000_000_000, 1_000_000_000_000_000));
-    assert!(rt; (first.param, first.part, first.subs) == (1, 4, 10));
-    assert!(rt; (first.word, first.lsb, first.row) == (1024, 12, 3));
-    assert!(rt; (second.param, second.part, second.subs) == (0, 1, 15));
-    assert!(rt; (second.word, second.step) == (1, 1024));
-    assert!(rt; (second.cycle, second.period, second.row) == (15, 16, 4));
+    assert!(rt;
+        wide.name.bytes() == b"Z9._-".as_slice()
+            && (wide.bus, wide.label, wide.sdi) == (255, 0o377, Some(3))
+            && (wide.lsb, wide.width, wide.signed) == (1, 32, true)
+            && (wide.num, wide.den) == (-1_000_000_000, 1_000_000_000)
+            && wide.offset == -1_000_000_000_000_000
+            && (wide.decimals, wide.rate, wide.row) == (9, 262_144, 1)
+            && narrow.name.bytes() == b"B".as_slice()
+            && (narrow.label, narrow.lsb, narrow.width) == (0, 32, 1)
+            && (narrow.num, narrow.offset) == (1_000_000_000, 1_000_000_000_000_000)
+            && (first.param, first.part, first.subs) == (1, 4, 10)
+            && (first.word, first.lsb, first.row) == (1024, 12, 3)
+            && (second.param, second.part, second.subs) == (0, 1, 15)
+            && (second.word, second.step) == (1, 1024)
+            && (second.cycle, second.period, second.row) == (15, 16, 4)
+    );
     Ok(())
 }
 
@@ -247,12 +254,14 @@ fn values_are_rounded_down(rt: HostRuntime) -> Result<(), Fail> {
     let signed: &[u8] = b"F,64,2,1\nP,A,0,1,,11,12,S,1,2,0,0,1\n";
     let unsigned: &[u8] = b"F,64,2,1\nP,A,0,1,,11,12,U,1,2,0,0,1\n";
     let falling: &[u8] = b"F,64,2,1\nP,A,0,1,,11,12,U,-1,3,7,2,1\n";
-    assert!(rt; first_value(rt.alloc(), signed, 0) == Some(0));
-    assert!(rt; first_value(rt.alloc(), signed, 0x7FF) == Some(1023));
-    assert!(rt; first_value(rt.alloc(), signed, 0x800) == Some(-1024));
-    assert!(rt; first_value(rt.alloc(), signed, 0xFFF) == Some(-1));
-    assert!(rt; first_value(rt.alloc(), unsigned, 0xFFF) == Some(2047));
-    assert!(rt; first_value(rt.alloc(), falling, 1) == Some(6));
+    assert!(rt;
+        first_value(rt.alloc(), signed, 0) == Some(0)
+            && first_value(rt.alloc(), signed, 0x7FF) == Some(1023)
+            && first_value(rt.alloc(), signed, 0x800) == Some(-1024)
+            && first_value(rt.alloc(), signed, 0xFFF) == Some(-1)
+            && first_value(rt.alloc(), unsigned, 0xFFF) == Some(2047)
+            && first_value(rt.alloc(), falling, 1) == Some(6)
+    );
     Ok(())
 }
 
@@ -273,11 +282,13 @@ fn values_at_the_limits(rt: HostRuntime) -> Result<(), Fail> {
 #[test]
 fn names_and_paths(rt: HostRuntime) -> Result<(), Fail> {
     let longest = Name::new(b"ABCabc019_-.WXYZ").ok_or("16 bytes")?;
-    assert!(rt; longest.bytes() == b"ABCabc019_-.WXYZ".as_slice());
-    assert!(rt; longest.copied().bytes() == b"ABCabc019_-.WXYZ".as_slice());
-    assert!(rt; Name::new(b"ABCabc019_-.WXYZ0").is_none());
-    assert!(rt; Name::new(b"").is_none());
-    assert!(rt; Name::new(b"A B").is_none());
+    assert!(rt;
+        longest.bytes() == b"ABCabc019_-.WXYZ".as_slice()
+            && longest.copied().bytes() == b"ABCabc019_-.WXYZ".as_slice()
+            && Name::new(b"ABCabc019_-.WXYZ0").is_none()
+            && Name::new(b"").is_none()
+            && Name::new(b"A B").is_none()
+    );
     let path = PathText::new(rt.alloc(), "t1.csv")?;
     assert!(rt; path.text() == "t1.csv");
     Ok(())

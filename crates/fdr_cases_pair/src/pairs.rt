@@ -110,7 +110,7 @@ pub fn altitude_bytes(alloc: Global) -> Result<Vec<u8>, AllocError> {
     ALTITUDE.as_bytes().to_vec(alloc)
 }
 
-// A twin on which the table of the altitude was recorded by, and what that answered. Without clauses, so that tests are proved
+// What a recording by the table of the altitude answers, and its twin. Without clauses, so that tests are proved
 // without those of `run_pair`.
 fn recorded_on(alloc: Global, given: Given<'_>) -> Result<(PairOutcome, MemTwin), AllocError> {
     let words = record_words(alloc)?;

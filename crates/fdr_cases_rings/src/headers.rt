@@ -28,33 +28,32 @@ fn writes_and_reads_a_header(rt: HostRuntime) {
     let bytes = write_header(&SMALL);
     assert!(rt; bytes.starts_with(&SMALL_START));
     assert!(rt; bytes[20..].iter().all(|b| *b == 0));
-    assert!(rt; image_size(&SMALL) == 384);
-    assert!(rt; slot_at(&SMALL, 3) == 304);
-    assert!(rt; read_header(&bytes, 384) == Ok(SMALL));
-    assert!(rt; read_header(&bytes, 1_000) == Ok(SMALL));
-    assert!(rt; read_header(&bytes, 383) == Err(ImageFault::Short));
-    assert!(rt; read_header(&[0; 64], 384) == Err(ImageFault::Closed));
+    assert!(rt;
+        image_size(&SMALL) == 384
+            && slot_at(&SMALL, 3) == 304
+            && read_header(&bytes, 384) == Ok(SMALL)
+            && read_header(&bytes, 1_000) == Ok(SMALL)
+            && read_header(&bytes, 383) == Err(ImageFault::Short)
+            && read_header(&[0; 64], 384) == Err(ImageFault::Closed)
+    );
 }
 
 #[test]
 fn writes_and_reads_a_header_of_version_2(rt: HostRuntime) {
     let bytes = write_header(&SMALL_SECOND);
-    assert!(rt; bytes.starts_with(&[0x5a, 0xa5]));
-    assert!(rt; bytes[2..20] == SMALL_START[2..]);
+    assert!(rt; bytes.starts_with(&[0x5a, 0xa5]) && bytes[2..20] == SMALL_START[2..]);
     assert!(rt; bytes[20..].iter().all(|b| *b == 0));
-    assert!(rt; read_header(&bytes, 384) == Ok(SMALL_SECOND));
-    assert!(rt; in_limits(&SMALL_SECOND));
     assert!(rt;
-        !in_limits(&Header {
-            version: 3,
-            ..SMALL
-        })
-    );
-    assert!(rt;
-        !in_limits(&Header {
-            version: 0,
-            ..SMALL
-        })
+        read_header(&bytes, 384) == Ok(SMALL_SECOND)
+            && in_limits(&SMALL_SECOND)
+            && !in_limits(&Header {
+                version: 3,
+                ..SMALL
+            })
+            && !in_limits(&Header {
+                version: 0,
+                ..SMALL
+            })
     );
 }
 
@@ -91,21 +90,21 @@ fn writes_and_reads_heads(rt: HostRuntime) {
             len: 64,
             session: 0,
             seq: 4
-        }
+        } && is_valid(&head, &SMALL, 0)
+            && is_valid(&head, &SMALL_SECOND, 0)
+            && !is_valid(&head, &SMALL, 1)
     );
-    assert!(rt; is_valid(&head, &SMALL, 0));
-    assert!(rt; is_valid(&head, &SMALL_SECOND, 0));
-    assert!(rt; !is_valid(&head, &SMALL, 1));
 
     let closed = [0, 0, 0, 0x40, 0, 0, 0, 0, 0, 0, 0, 0, 0, 0, 0, 2];
-    assert!(rt; write_slot_head(64, 0, 2) == closed);
-    assert!(rt; !is_valid(&read_slot(&closed), &SMALL, 2));
     assert!(rt;
-        write_slot_head(0x102, 0x304_0506, 0x708_090a_0b0c_0d0e)
-            == [0, 0, 1, 2, 3, 4, 5, 6, 7, 8, 9, 10, 11, 12, 13, 14]
+        write_slot_head(64, 0, 2) == closed
+            && !is_valid(&read_slot(&closed), &SMALL, 2)
+            && write_slot_head(0x102, 0x304_0506, 0x708_090a_0b0c_0d0e)
+                == [0, 0, 1, 2, 3, 4, 5, 6, 7, 8, 9, 10, 11, 12, 13, 14]
     );
 
     let of_session_7 = read_slot(&write_slot_head(64, 7, 2));
-    assert!(rt; session_in(&SMALL, &of_session_7) == 0);
-    assert!(rt; session_in(&SMALL_SECOND, &of_session_7) == 7);
+    assert!(rt;
+        session_in(&SMALL, &of_session_7) == 0 && session_in(&SMALL_SECOND, &of_session_7) == 7
+    );
 }

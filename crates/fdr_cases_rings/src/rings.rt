@@ -21,18 +21,17 @@ fn makes_an_image_and_adds_a_block(rt: HostRuntime) -> Result<(), Fail> {
     let alloc = rt.alloc();
     let mut deck = MemDeck::new(alloc, Vec::new(alloc), Vec::new(alloc), Vec::new(alloc));
     let ring = format(&mut deck, &SMALL)?;
-    assert!(rt; deck.image().len() == 384);
-    assert!(rt; deck.image().starts_with(&write_header(&SMALL)));
+    assert!(rt; deck.image().len() == 384 && deck.image().starts_with(&write_header(&SMALL)));
     assert!(rt; deck.image()[64..].iter().all(|b| *b == 0));
     assert!(rt; read_image_header(&mut deck) == Ok(SMALL));
 
     let ring = ring.prepare(&mut deck, 3, &[7; 9])?.commit(&mut deck)?;
-    assert!(rt; ring.next() == 1);
-    assert!(rt; ring.session() == 3);
-    assert!(rt; ring.header() == SMALL);
+    assert!(rt; ring.next() == 1 && ring.session() == 3 && ring.header() == SMALL);
     let head = [OPEN, 0, 0, 9, 0, 0, 0, 3, 0, 0, 0, 0, 0, 0, 0, 0];
-    assert!(rt; deck.image()[64..].starts_with(&head));
-    assert!(rt; deck.image()[80..].starts_with(&[7, 7, 7, 7, 7, 7, 7, 7, 7, 0]));
+    assert!(rt;
+        deck.image()[64..].starts_with(&head)
+            && deck.image()[80..].starts_with(&[7, 7, 7, 7, 7, 7, 7, 7, 7, 0])
+    );
 
     assert!(rt;
         scan(&mut deck, &SMALL)
@@ -43,8 +42,7 @@ fn makes_an_image_and_adds_a_block(rt: HostRuntime) -> Result<(), Fail> {
             })
     );
     let again = Ring::attach(&mut deck, SMALL)?;
-    assert!(rt; again.next() == 1);
-    assert!(rt; again.session() == 3);
+    assert!(rt; again.next() == 1 && again.session() == 3);
     assert!(rt; matches!(format(&mut deck, &SMALL), Err(RingFault::NotEmpty)));
     Ok(())
 }
@@ -141,9 +139,11 @@ fn left_by(alloc: Global, deck: &MemDeck, call: u64, tear: Tear) -> Result<(u64,
 #[test]
 fn a_block_takes_six_calls(rt: HostRuntime) -> Result<(), Fail> {
     let (deck, [before, between, after]) = seven_blocks(rt.alloc())?;
-    assert!(rt; between.checked_sub(before) == Some(4));
-    assert!(rt; after.checked_sub(before) == Some(6));
-    assert!(rt; run_in(rt.alloc(), deck.image().to_vec(rt.alloc())?)? == (4, 7));
+    assert!(rt;
+        between.checked_sub(before) == Some(4)
+            && after.checked_sub(before) == Some(6)
+            && run_in(rt.alloc(), deck.image().to_vec(rt.alloc())?)? == (4, 7)
+    );
     Ok(())
 }
 
@@ -167,8 +167,10 @@ fn the_body_and_the_close_are_torn_together(rt: HostRuntime) -> Result<(), Fail>
 fn a_gate_is_torn_alone(rt: HostRuntime) -> Result<(), Fail> {
     let (deck, [_, _, after]) = seven_blocks(rt.alloc())?;
     let sync = after.saturating_sub(1);
-    assert!(rt; left_by(rt.alloc(), &deck, sync, Tear::Old)? == (4, 6));
-    assert!(rt; left_by(rt.alloc(), &deck, sync, Tear::New)? == (4, 7));
+    assert!(rt;
+        left_by(rt.alloc(), &deck, sync, Tear::Old)? == (4, 6)
+            && left_by(rt.alloc(), &deck, sync, Tear::New)? == (4, 7)
+    );
     Ok(())
 }
 
@@ -189,8 +191,10 @@ fn unsettled_block(alloc: Global) -> Result<(MemDeck, u64), Fail> {
 fn a_block_that_is_found_again_is_durable(rt: HostRuntime) -> Result<(), Fail> {
     let (mut deck, before) = unsettled_block(rt.alloc())?;
     let header = read_image_header(&mut deck)?;
-    assert!(rt; left_by(rt.alloc(), &deck, before, Tear::Old)? == (0, 0));
-    assert!(rt; Ring::attach(&mut deck, header)?.next() == 1);
+    assert!(rt;
+        left_by(rt.alloc(), &deck, before, Tear::Old)? == (0, 0)
+            && Ring::attach(&mut deck, header)?.next() == 1
+    );
     let after = deck.calls();
     deck.size()?;
     assert!(rt; left_by(rt.alloc(), &deck, after, Tear::Old)? == (0, 1));

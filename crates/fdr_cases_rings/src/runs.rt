@@ -135,8 +135,9 @@ fn gives_the_payload_of_a_block(rt: HostRuntime) -> Result<(), Fail> {
     let mut deck = SureDeck::new(image, Vec::new(rt.alloc()));
     let mut buf = [0; 64];
     let info = BlockInfo { len: 3, session: 7 };
-    assert!(rt; block(&mut deck, &SMALL, 5, &mut buf) == Ok(info));
-    assert!(rt; buf.starts_with(&[5, 5, 5, 0]));
+    assert!(rt;
+        block(&mut deck, &SMALL, 5, &mut buf) == Ok(info) && buf.starts_with(&[5, 5, 5, 0])
+    );
     let info = BlockInfo {
         len: 64,
         session: 6,
@@ -149,9 +150,11 @@ fn gives_the_payload_of_a_block(rt: HostRuntime) -> Result<(), Fail> {
     };
     assert!(rt; block(&mut deck, &SMALL_FIRST, 4, &mut buf) == Ok(info));
     let none = BlockInfo { len: 0, session: 0 };
-    assert!(rt; block(&mut deck, &SMALL, 2, &mut buf) == Ok(none));
-    assert!(rt; block(&mut deck, &SMALL, 0, &mut buf) == Ok(none));
-    assert!(rt; block(&mut deck, &SMALL, 9, &mut buf) == Ok(none));
+    assert!(rt;
+        block(&mut deck, &SMALL, 2, &mut buf) == Ok(none)
+            && block(&mut deck, &SMALL, 0, &mut buf) == Ok(none)
+            && block(&mut deck, &SMALL, 9, &mut buf) == Ok(none)
+    );
     Ok(())
 }
 
@@ -210,8 +213,7 @@ fn walks_over_what_is_there(rt: HostRuntime) -> Result<(), Fail> {
         };
         let mut out = NullSink::new();
         let walked = walk_between(&mut deck, &SMALL, first, next, &mut handed, &mut out);
-        assert!(rt; walked == Ok(()));
-        assert!(rt; handed.blocks == blocks);
+        assert!(rt; walked == Ok(()) && handed.blocks == blocks);
     }
     Ok(())
 }

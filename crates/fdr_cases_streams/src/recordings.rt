@@ -77,8 +77,7 @@ fn records_a_trace(rt: HostRuntime) -> Result<(), Fail> {
     let alloc = rt.alloc();
     let mut deck = MemDeck::new(alloc, Vec::new(alloc), Vec::new(alloc), Vec::new(alloc));
     format(&mut deck, &IMAGE)?;
-    assert!(rt; numbers(alloc, &mut deck)? == [0, 0, 1, 1, 2]);
-    assert!(rt; deck.told() == 2);
+    assert!(rt; numbers(alloc, &mut deck)? == [0, 0, 1, 1, 2] && deck.told() == 2);
     assert!(rt; deck.image().len() == 384);
     let first = [
         0x5a, 0, 0, 64, 0, 0, 0, 1, 0, 0, 0, 0, 0, 0, 0, 0, 0x47, 0x02, 0x00,

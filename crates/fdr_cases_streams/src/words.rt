@@ -135,8 +135,7 @@ fn holds_a_word_at_the_time_of_a_slot(rt: HostRuntime) -> Result<(), Fail> {
         let sampler = sampler_of(rt.alloc(), COUNTER_LAST)?;
         let words = words_of(rt.alloc(), sampler, &word(0, bits, time), 512)?;
         assert!(rt; words.get(1).copied() == Some(altitude), "at {time}");
-        assert!(rt; words.get(255).copied() == Some(0));
-        assert!(rt; words.get(511).copied() == Some(1));
+        assert!(rt; words.get(255).copied() == Some(0) && words.get(511).copied() == Some(1));
     }
     Ok(())
 }
@@ -195,8 +194,10 @@ fn takes_a_value_at_its_first_part(rt: HostRuntime) -> Result<(), Fail> {
     for (time, low, high) in [(0, 0xcde, 0xab), (296_875, 0xcde, 0xab), (1_000_000, 0, 0)] {
         let sampler = sampler_of(rt.alloc(), POSITION)?;
         let words = words_of(rt.alloc(), sampler, &word(1, 0x8abc_de13, time), 512)?;
-        assert!(rt; words.get(19).copied() == Some(low), "at {time}");
-        assert!(rt; words.get(275).copied() == Some(high), "at {time}");
+        assert!(rt;
+            words.get(19).copied() == Some(low) && words.get(275).copied() == Some(high),
+            "at {time}"
+        );
     }
     Ok(())
 }

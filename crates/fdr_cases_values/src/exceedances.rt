@@ -122,8 +122,8 @@ fn a_stretch_ends_a_list(rt: HostRuntime) -> Result<(), Fail> {
 fn names_faults(rt: HostRuntime) {
     assert!(rt;
         rule_fault_text(RuleFault::Number { field: 3 }).bytes() == b"number in field 3".as_slice()
+            && rule_fault_text(RuleFault::Unknown).bytes() == b"unknown name".as_slice()
     );
-    assert!(rt; rule_fault_text(RuleFault::Unknown).bytes() == b"unknown name".as_slice());
 }
 
 /// Whether the rules are refused so.
@@ -161,8 +161,10 @@ fn refuses_rules(rt: HostRuntime) {
 #[test]
 fn refuses_too_many_rules(rt: HostRuntime) -> Result<(), Fail> {
     let bytes = vec![in rt.alloc(); b'X'; 65_537]?;
-    assert!(rt; is_refused(rt.alloc(), bytes.as_slice(), 0, RuleFault::Size));
-    assert!(rt; is_refused(rt.alloc(), &bytes[..65_536], 0, RuleFault::Shape));
+    assert!(rt;
+        is_refused(rt.alloc(), bytes.as_slice(), 0, RuleFault::Size)
+            && is_refused(rt.alloc(), &bytes[..65_536], 0, RuleFault::Shape)
+    );
     let mut text = String::new(rt.alloc());
     for i in 0..257_u32 {
         let rule = format!(in rt.alloc(); "R{i},ALT,above,4,1\n")?;

@@ -47,10 +47,12 @@ fn a_sample_ends_in_the_cycle_of_its_last_part(rt: HostRuntime) -> Result<(), Fa
         first: 19,
         last: 275,
     };
-    assert!(rt; layout.ending_in(1) == [altitude, position].as_slice());
-    assert!(rt; layout.ending_in(0).len() == 1);
-    assert!(rt; layout.ending_in(15).len() == 1);
-    assert!(rt; layout.samples() == 17);
+    assert!(rt;
+        layout.ending_in(1) == [altitude, position].as_slice()
+            && layout.ending_in(0).len() == 1
+            && layout.ending_in(15).len() == 1
+            && layout.samples() == 17
+    );
 
     let low = Part {
         slot: 19,
@@ -69,9 +71,11 @@ fn a_sample_ends_in_the_cycle_of_its_last_part(rt: HostRuntime) -> Result<(), Fa
     if 0 < layout.samples() {
         assert!(rt; layout.parts(0) == [low, high].as_slice());
     }
-    assert!(rt; layout.at_slot(19) == [low].as_slice());
-    assert!(rt; layout.at_slot(275) == [high].as_slice());
-    assert!(rt; layout.at_slot(20).is_empty());
+    assert!(rt;
+        layout.at_slot(19) == [low].as_slice()
+            && layout.at_slot(275) == [high].as_slice()
+            && layout.at_slot(20).is_empty()
+    );
     Ok(())
 }
 

@@ -38,8 +38,10 @@ fn writes_lines(rt: HostRuntime) -> Result<(), Fail> {
         param: 0,
         value: -1,
     };
-    assert!(rt; row_line(&row, &name, 3).bytes() == b"row,4095,4,1024,VRTG,-0.001\n".as_slice());
-    assert!(rt; gap_line(0, 3072).bytes() == b"gap,0,3072\n".as_slice());
+    assert!(rt;
+        row_line(&row, &name, 3).bytes() == b"row,4095,4,1024,VRTG,-0.001\n".as_slice()
+            && gap_line(0, 3072).bytes() == b"gap,0,3072\n".as_slice()
+    );
     let mut line = Line::new();
     line.add(b"frames ");
     line.add_number(0);

@@ -16,17 +16,11 @@ fn says_what_is_wrong(rt: HostRuntime) {
     assert!(rt;
         table_message(b"fdr", u32::MAX, &overlap).bytes()
             == b"fdr: table row 4294967295: overlap with row 4294967294 at word 7 bit 12".as_slice()
-    );
-    assert!(rt;
-        trace_message(b"fdrpair", 2, &TraceFault::Back).bytes()
-            == b"fdrpair: trace record 2: time goes back".as_slice()
-    );
-    assert!(rt;
-        image_message(b"fdr", &ImageFault::Short).bytes()
-            == b"fdr: image: shorter than its ring".as_slice()
-    );
-    assert!(rt;
-        words_message(b"fdr", 64, 128).bytes()
-            == b"fdr: image has 64 words, table has 128".as_slice()
+            && trace_message(b"fdrpair", 2, &TraceFault::Back).bytes()
+                == b"fdrpair: trace record 2: time goes back".as_slice()
+            && image_message(b"fdr", &ImageFault::Short).bytes()
+                == b"fdr: image: shorter than its ring".as_slice()
+            && words_message(b"fdr", 64, 128).bytes()
+                == b"fdr: image has 64 words, table has 128".as_slice()
     );
 }

@@ -65,11 +65,9 @@ fn lists_an_altitude_of_each_frame(rt: HostRuntime) -> Result<(), Fail> {
     let mut rebuild = rebuild_by(rt.alloc(), ALTITUDE)?;
     assert!(rt; rebuild.rows() == 0);
     rebuild.frame(true, &frame_of(4095, 5, 0));
-    assert!(rt; rebuild.rows() == 1);
-    assert!(rt; rebuild.row(0) == altitude(0, 4095, 5));
+    assert!(rt; rebuild.rows() == 1 && rebuild.row(0) == altitude(0, 4095, 5));
     rebuild.frame(true, &frame_of(0, 5, 0));
-    assert!(rt; rebuild.rows() == 1);
-    assert!(rt; rebuild.row(0) == altitude(0, 0, 5));
+    assert!(rt; rebuild.rows() == 1 && rebuild.row(0) == altitude(0, 0, 5));
     Ok(())
 }
 
@@ -114,12 +112,13 @@ fn values_are_those_of_the_table(rt: HostRuntime) -> Result<(), Fail> {
 fn joins_the_parts_of_a_position(rt: HostRuntime) -> Result<(), Fail> {
     let mut rebuild = rebuild_by(rt.alloc(), POSITION)?;
     rebuild.frame(false, &frame_of(0, 5, 0xcde));
-    assert!(rt; rebuild.rows() == 1);
-    assert!(rt; rebuild.row(0) == altitude(1, 0, 5));
+    assert!(rt; rebuild.rows() == 1 && rebuild.row(0) == altitude(1, 0, 5));
     rebuild.frame(true, &frame_of(1, 5, 0xab));
-    assert!(rt; rebuild.rows() == 2);
-    assert!(rt; rebuild.row(0) == altitude(1, 1, 5));
-    assert!(rt; rebuild.row(1) == position(0, 703_710));
+    assert!(rt;
+        rebuild.rows() == 2
+            && rebuild.row(0) == altitude(1, 1, 5)
+            && rebuild.row(1) == position(0, 703_710)
+    );
     Ok(())
 }
 
@@ -132,9 +131,11 @@ fn joins_no_parts_over_a_gap(rt: HostRuntime) -> Result<(), Fail> {
         let mut rebuild = rebuild_by(rt.alloc(), POSITION)?;
         rebuild.frame(false, &first);
         rebuild.frame(adjacent, &second);
-        assert!(rt; rebuild.rows() == 2);
-        assert!(rt; rebuild.row(0) == altitude(1, counter, 5));
-        assert!(rt; rebuild.row(1) == None);
+        assert!(rt;
+            rebuild.rows() == 2
+                && rebuild.row(0) == altitude(1, counter, 5)
+                && rebuild.row(1) == None
+        );
     }
     Ok(())
 }

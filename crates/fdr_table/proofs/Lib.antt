@@ -6,4 +6,5 @@ pub mod FaultFacts
 pub mod DraftFacts
 pub mod NextFacts
 pub mod NameFacts
+pub mod ValueFacts
 mod Worked

@@ -232,6 +232,13 @@ fn path_request(alloc: Global, command: &str, path: &str) -> Result<Request, Wor
     Ok(Request::Upgrade { image })
 }
 
+/// The paths of a table and of an image.
+fn both_paths(alloc: Global, table: &str, image: &str) -> Result<(PathText, PathText), NoMemory>
+    ensures { IfOk result (λ paths. (paths.0 ≡ table.now) × (paths.1 ≡ image.now)) }
+{
+    Ok((PathText::new(alloc, table)?, PathText::new(alloc, image)?))
+}
+
 /// What the arguments of a command with two paths and no options ask for.
 fn paths_request(
     alloc: Global,
@@ -243,31 +250,26 @@ fn paths_request(
     ensures form { IfOk result (λ request. paths_form command.now table.now image.now ≡ Some (form_of_request request)) }
 {
     if command == "record" {
-        return Ok(Request::RecordLine {
-            table: PathText::new(alloc, table)?,
-            image: PathText::new(alloc, image)?,
-        });
+        let (table, image) = both_paths(alloc, table, image)?;
+        return Ok(Request::RecordLine { table, image });
     }
     if command == "list" {
-        return Ok(Request::ListImage {
-            table: PathText::new(alloc, table)?,
-            image: PathText::new(alloc, image)?,
-        });
+        let (table, image) = both_paths(alloc, table, image)?;
+        return Ok(Request::ListImage { table, image });
     }
     if command == "salvage" {
+        let (table, image) = both_paths(alloc, table, image)?;
         return Ok(Request::Salvage {
-            table: PathText::new(alloc, table)?,
-            image: PathText::new(alloc, image)?,
+            table,
+            image,
             ring: None,
         });
     }
     if command != "exceed" {
         return Err(WordsFault::Usage);
     }
-    Ok(Request::Exceed {
-        table: PathText::new(alloc, table)?,
-        image: PathText::new(alloc, image)?,
-    })
+    let (table, image) = both_paths(alloc, table, image)?;
+    Ok(Request::Exceed { table, image })
 }
 
 /// What the arguments of a command with two paths and the options of a ring ask for.
@@ -289,8 +291,7 @@ fn ring_request(
     }
     let slots = value_in(slots, MIN_SLOTS, MAX_SLOTS).ok_or(WordsFault::Usage)?;
     let payload = value_in(payload, MIN_PAYLOAD, MAX_PAYLOAD as u32).ok_or(WordsFault::Usage)?;
-    let table = PathText::new(alloc, table)?;
-    let image = PathText::new(alloc, image)?;
+    let (table, image) = both_paths(alloc, table, image)?;
     if salvages {
         let ring = Some((slots, payload));
         return Ok(Request::Salvage { table, image, ring });
@@ -321,9 +322,10 @@ fn seeded_request(
     }
     let seed = value_in(seed, 0, 4_294_967_295).ok_or(WordsFault::Usage)?;
     let frames = value_in(frames, 1, 100_000).ok_or(WordsFault::Usage)?;
+    let (table, image) = both_paths(alloc, table, image)?;
     Ok(Request::Drill {
-        table: PathText::new(alloc, table)?,
-        image: PathText::new(alloc, image)?,
+        table,
+        image,
         seed: u64::from(seed),
         frames,
     })
