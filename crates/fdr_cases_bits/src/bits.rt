@@ -19,7 +19,7 @@ fn packs_and_reads_words(rt: HostRuntime) {
         (20, true),
         (23, false),
     ] {
-        assert!(rt; bit(&bytes, p) == is_set, "bit {p}");
+        assert!(rt; bit(&bytes, p) == is_set, "{p}");
     }
 }
 

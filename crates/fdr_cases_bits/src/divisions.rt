@@ -20,25 +20,29 @@ const REACH: [(u32, u64); 14] = [
     (4_294_967_295, 256),
 ];
 
+/// Whether a number is within reach, and its quotient and rest are those of a division.
+fn is_division(divisor: &Divisor, by: u32, number: u64) -> bool {
+    if by == 0 || !divisor.reaches(number) {
+        return false;
+    }
+    let (quotient, rest) = divisor.split(number);
+    divisor.quotient(number) == quotient
+        && u64::from(quotient) == number / u64::from(by)
+        && u64::from(rest) == number % u64::from(by)
+}
+
 #[test]
 fn reaches_up_to_the_last_number_and_no_further(rt: HostRuntime) {
     for (by, last) in REACH {
-        assert!(rt; by > 0);
+        assert!(rt; by > 0 && last < u64::MAX);
         let divisor = Divisor::new(by);
-        assert!(rt; last < u64::MAX);
         let next = last + 1;
-        assert!(rt; divisor.reaches(0), "0 by {by}");
-        assert!(rt; divisor.reaches(last), "{last} by {by}");
-        assert!(rt; !divisor.reaches(next), "{next} by {by}");
-        assert!(rt; !divisor.reaches(u64::MAX), "the greatest number by {by}");
-        if divisor.reaches(last) {
-            let (quotient, rest) = divisor.split(last);
-            assert!(rt;
-                divisor.quotient(last) == quotient
-                    && u64::from(quotient) == last / u64::from(by)
-                    && u64::from(rest) == last % u64::from(by),
-                "{last} by {by}"
-            );
-        }
+        assert!(rt;
+            divisor.reaches(0)
+                && is_division(&divisor, by, last)
+                && !divisor.reaches(next)
+                && !divisor.reaches(u64::MAX),
+            "{by}"
+        );
     }
 }

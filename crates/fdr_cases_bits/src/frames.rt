@@ -3,7 +3,6 @@
 ghost use Rattle.std.specs.Prelude.{◌<◌};
 
 use fdr_sync::{Gap, accepted_frames, frame_at, gaps, next_frame};
-use std::test::Fail;
 
 const WORDS: u32 = 64;
 
@@ -35,7 +34,7 @@ fn put_frame(bytes: &mut [u8], at: u32, counter: u16, value: u16)
 }
 
 #[test]
-fn takes_the_false_frame_that_comes_first(rt: HostRuntime) -> Result<(), Fail> {
+fn takes_the_false_frame_that_comes_first(rt: HostRuntime) {
     let mut bytes = [0u8; 781];
     // A sync word alone at bit 0; words of the true frame spell the other three at 768, 1,536 and 2,304.
     let words = [
@@ -56,7 +55,7 @@ fn takes_the_false_frame_that_comes_first(rt: HostRuntime) -> Result<(), Fail> {
         (101, Some(3172)),
         (3173, None),
     ] {
-        assert!(rt; next_frame(&bytes, from, WORDS) == found, "from {from}");
+        assert!(rt; next_frame(&bytes, from, WORDS) == found, "{from}");
     }
     for (at, is_frame) in [
         (0, true),
@@ -65,11 +64,11 @@ fn takes_the_false_frame_that_comes_first(rt: HostRuntime) -> Result<(), Fail> {
         (3172, true),
         (u64::MAX, false),
     ] {
-        assert!(rt; frame_at(&bytes, at, WORDS) == is_frame, "at {at}");
+        assert!(rt; frame_at(&bytes, at, WORDS) == is_frame, "{at}");
     }
-    let frames = accepted_frames(rt.alloc(), &bytes, WORDS)?;
+    let frames = accepted_frames(rt.alloc(), &bytes, WORDS).expect(&rt, "frames");
     assert!(rt; frames.as_slice() == [0, 3172].as_slice());
-    let gaps = gaps(rt.alloc(), &bytes, WORDS)?;
+    let gaps = gaps(rt.alloc(), &bytes, WORDS).expect(&rt, "gaps");
     let expected = [
         Gap {
             at: 3072,
@@ -78,11 +77,10 @@ fn takes_the_false_frame_that_comes_first(rt: HostRuntime) -> Result<(), Fail> {
         Gap { at: 6244, bits: 4 },
     ];
     assert!(rt; gaps.as_slice() == expected.as_slice());
-    Ok(())
 }
 
 #[test]
-fn finds_no_frame_where_a_bit_is_struck_out(rt: HostRuntime) -> Result<(), Fail> {
+fn finds_no_frame_where_a_bit_is_struck_out(rt: HostRuntime) {
     let mut bytes = [0u8; 384];
     // Bit 48 of a frame is left out, so all that follows it is a bit earlier.
     let words = [
@@ -93,9 +91,8 @@ fn finds_no_frame_where_a_bit_is_struck_out(rt: HostRuntime) -> Result<(), Fail>
         (2303, 0xdb8),
     ];
     put_words(&mut bytes, &words);
-    let frames = accepted_frames(rt.alloc(), &bytes, WORDS)?;
+    let frames = accepted_frames(rt.alloc(), &bytes, WORDS).expect(&rt, "frames");
     assert!(rt; frames.is_empty());
-    let gaps = gaps(rt.alloc(), &bytes, WORDS)?;
+    let gaps = gaps(rt.alloc(), &bytes, WORDS).expect(&rt, "gaps");
     assert!(rt; gaps.as_slice() == [Gap { at: 0, bits: 3072 }].as_slice());
-    Ok(())
 }

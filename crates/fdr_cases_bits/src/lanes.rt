@@ -23,7 +23,7 @@ fn finds_the_first_sync_word(rt: HostRuntime) {
     // The word is at bits 0 and 20, and its first eight bits at bit 32.
     let bytes = [0x47, 0x02, 0x70, 0x24, 0x47];
     for (from, found) in [(0, Some(0)), (1, Some(20)), (21, None), (u64::MAX, None)] {
-        assert!(rt; first_sync(&bytes, from) == found, "from {from}");
+        assert!(rt; first_sync(&bytes, from) == found, "{from}");
     }
 }
 
@@ -48,7 +48,7 @@ fn finds_what_a_plain_search_finds(rt: HostRuntime) {
             for from in 0..8 * end as u64 + 2 {
                 assert!(rt;
                     first_sync(bytes, from) == plain_first_sync(bytes, from),
-                    "{end} bytes from {from}"
+                    "{end}, {from}"
                 );
             }
         }
@@ -82,7 +82,7 @@ fn reads_the_words_that_single_reads_give(rt: HostRuntime) {
                 for (i, word) in words.iter().enumerate() {
                     assert!(rt;
                         *word == word12(&bytes, from + 12 * i as u64),
-                        "word {i} from {from}"
+                        "{i}, {from}"
                     );
                 }
             }

@@ -118,9 +118,10 @@ fn drawn_levels(middle: bool, turned: usize) -> [u8; 24] {
 fn words_decode_as_their_levels(rt: HostRuntime) {
     for turned in 50..140 {
         let whole = drawn_levels(false, turned);
-        assert!(rt; together(&whole) == one_by_one(&whole));
         let begun = drawn_levels(true, turned);
-        assert!(rt; together(&begun) == one_by_one(&begun));
+        assert!(rt;
+            together(&whole) == one_by_one(&whole) && together(&begun) == one_by_one(&begun)
+        );
     }
     let whole = drawn_levels(false, 192);
     let begun = drawn_levels(true, 192);

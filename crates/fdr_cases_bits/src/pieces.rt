@@ -1,14 +1,12 @@
 //! Lists of bits that come in pieces, beside a search of the whole. With 64 words a subframe, a frame has 3,072 bits, and
 //! sync words at 0, 768, 1,536 and 2,304.
 
-ghost use Rattle.std.specs.Prelude.{◌≡◌, ◌+◌, ◌^◌, ◌≤◌, false, OnOk, length};
+ghost use Rattle.std.specs.Prelude.{◌≡◌, ◌+◌, ◌^◌, ◌≤◌, false, length};
 ghost use Rattle.fdr_resync.specs.Past.{bytes_pushed};
 
 use fdr_resync::{Event, Scanner};
 use fdr_sync::{Gap, accepted_frames, gaps};
-use std::alloc::{AllocError, Global};
 use std::process::Abort;
-use std::test::Fail;
 
 const WORDS: u32 = 64;
 
@@ -37,42 +35,40 @@ fn put_frame(bytes: &mut [u8], at: usize)
 }
 
 // Takes all events that are decided.
-fn take_all(scanner: &mut Scanner, events: &mut Vec<Event>) -> Result<(), AllocError>
+fn take_all(rt: &impl Abort, scanner: &mut Scanner, events: &mut Vec<Event>)
     ensures pushed { bytes_pushed scanner.new ≡ bytes_pushed scanner.old }
     ensures ended { scanner.new.ended ≡ scanner.old.ended }
     ensures words { scanner.new.words ≡ scanner.old.words }
 {
     while let Some(event) = scanner.take() {
-        events.push(event)?;
+        events.push(event).expect(rt, "room for an event");
     }
-    Ok(())
 }
 
 // The events of bytes that are pushed in pieces of this size, each of which must be taken whole.
 fn scanned(
-    rt: &impl Abort,
-    alloc: Global,
+    rt: &(impl Abort + AllocGlobal),
     scanner: &mut Scanner,
     bytes: &[u8],
     size: usize,
-) -> Result<Vec<Event>, AllocError>
+) -> Vec<Event>
     requires empty { bytes_pushed scanner.old ≡ 0 }
     requires open { scanner.old.ended ≡ false }
     requires not_empty { 1 ≤ size }
     requires small { size ≤ 4096 }
     requires limit { length bytes.now ≤ 2 ^ 20 }
 {
-    let mut events = Vec::new(alloc);
+    let mut events = Vec::new(rt.alloc());
     let mut at = 0;
     while at < bytes.len() {
         let end = bytes.len().min(at + size);
         assert!(rt; scanner.push(&bytes[at..end]) == end - at);
         at = end;
-        take_all(scanner, &mut events)?;
+        take_all(rt, scanner, &mut events);
     }
     scanner.finish();
-    take_all(scanner, &mut events)?;
-    Ok(events)
+    take_all(rt, scanner, &mut events);
+    events
 }
 
 // Half of these bytes are sync words of first subframes, one after another, the rest is noise.
@@ -91,43 +87,48 @@ fn put_noise(bytes: &mut [u8]) {
     }
 }
 
+// The frames and the gaps of these events.
+fn parted(rt: &(impl Abort + AllocGlobal), events: &[Event]) -> (Vec<u64>, Vec<Gap>) {
+    let mut frames = Vec::new(rt.alloc());
+    let mut gaps = Vec::new(rt.alloc());
+    for event in events {
+        match *event {
+            Event::Frame { at } => frames.push(at).expect(rt, "room for a frame"),
+            Event::Gap { at, bits } => gaps.push(Gap { at, bits }).expect(rt, "room for a gap"),
+        }
+    }
+    (frames, gaps)
+}
+
 #[test]
-fn gives_what_a_search_of_the_whole_gives(rt: HostRuntime) -> Result<(), Fail> {
+fn gives_what_a_search_of_the_whole_gives(rt: HostRuntime) {
     let mut bytes = [0u8; 9000];
     put_noise(&mut bytes);
     for at in [0, 3072, 6145, 20011, 30000, 40001, 43073, 50000] {
         put_frame(&mut bytes, at);
     }
-    let plain_frames = accepted_frames(rt.alloc(), &bytes, WORDS)?;
-    let plain_gaps = gaps(rt.alloc(), &bytes, WORDS)?;
+    let plain_frames = accepted_frames(rt.alloc(), &bytes, WORDS).expect(&rt, "frames");
+    let plain_gaps = gaps(rt.alloc(), &bytes, WORDS).expect(&rt, "gaps");
     assert!(rt; plain_frames.len() > 5);
-    let mut scanner = Scanner::new(rt.alloc(), WORDS).map_err(|_| AllocError)?;
+    let mut scanner = Scanner::new(rt.alloc(), WORDS).expect(&rt, "a scanner");
     for size in [1, 7, 4096] {
         scanner.restart();
-        let events = scanned(&rt, rt.alloc(), &mut scanner, &bytes, size)?;
-        let mut frames = Vec::new(rt.alloc());
-        let mut gaps = Vec::new(rt.alloc());
-        for event in &events {
-            match *event {
-                Event::Frame { at } => frames.push(at)?,
-                Event::Gap { at, bits } => gaps.push(Gap { at, bits })?,
-            }
-        }
+        let events = scanned(&rt, &mut scanner, &bytes, size);
+        let (frames, gaps) = parted(&rt, events.as_slice());
         assert!(rt;
             frames.as_slice() == plain_frames.as_slice()
                 && gaps.as_slice() == plain_gaps.as_slice(),
-            "pieces of {size}"
+            "{size}"
         );
     }
-    Ok(())
 }
 
 #[test]
-fn reads_the_words_of_a_frame(rt: HostRuntime) -> Result<(), Fail> {
+fn reads_the_words_of_a_frame(rt: HostRuntime) {
     let mut bytes = [0u8; 400];
     put_frame(&mut bytes, 13);
     put_word(&mut bytes, 25, 0xabc);
-    let mut scanner = Scanner::new(rt.alloc(), WORDS).map_err(|_| AllocError)?;
+    let mut scanner = Scanner::new(rt.alloc(), WORDS).expect(&rt, "a scanner");
     assert!(rt;
         scanner.push(&bytes) == 400 && scanner.take() == Some(Event::Gap { at: 0, bits: 13 })
     );
@@ -148,5 +149,4 @@ fn reads_the_words_of_a_frame(rt: HostRuntime) -> Result<(), Fail> {
             })
             && scanner.take() == None
     );
-    Ok(())
 }

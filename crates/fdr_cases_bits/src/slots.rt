@@ -14,9 +14,12 @@ fn places_slots(rt: HostRuntime) {
         (256 * 4096 + 255, SlotKind::Counter, 0, 4, 64),
     ];
     for (k, kind, counter, subframe, word) in cases {
-        assert!(rt; slot_kind(k, 64, 64, 4) == kind, "kind of slot {k}");
-        assert!(rt; counter_of(k, 64) == counter, "counter of slot {k}");
-        assert!(rt; subframe_of(k, 64) == subframe, "subframe of slot {k}");
-        assert!(rt; word_of(k, 64) == word, "word of slot {k}");
+        assert!(rt;
+            slot_kind(k, 64, 64, 4) == kind
+                && counter_of(k, 64) == counter
+                && subframe_of(k, 64) == subframe
+                && word_of(k, 64) == word,
+            "{k}"
+        );
     }
 }

@@ -1,15 +1,14 @@
+use crate::commands::gives;
 use fdr_bus::TraceFault;
-use fdr_cases::{ALTITUDE, Given, frame_with, run_on};
+use fdr_cases::{ALTITUDE, Given, frame_with};
 use fdr_exceed::RuleFault;
 use fdr_io::Input;
 use fdr_slot::ImageFault;
 use fdr_table::TableFault;
 use fdr_top::Outcome;
-use std::test::Fail;
 
 #[test]
-fn refuses_other_words(rt: HostRuntime) -> Result<(), Fail> {
-    let alloc = rt.alloc();
+fn refuses_other_words(rt: HostRuntime) {
     let line = frame_with(&[(13, 0x50)]);
     let cases: [&[&str]; 13] = [
         &[],
@@ -41,17 +40,15 @@ fn refuses_other_words(rt: HostRuntime) -> Result<(), Fail> {
             line: &line,
             ..Given::by(ALTITUDE)
         };
-        let ran = run_on(alloc, case, given)?;
         assert!(rt;
-            ran.outcome == Outcome::Usage && ran.written.is_empty(),
+            gives(&rt, rt.alloc(), case, given, Outcome::Usage, b""),
             "{case:?}"
         );
     }
-    Ok(())
 }
 
 #[test]
-fn says_each_answer(rt: HostRuntime) -> Result<(), Fail> {
+fn says_each_answer(rt: HostRuntime) {
     let row = u32::MAX;
     let index = u64::MAX;
     let faults: [(TableFault, &[u8]); 15] = [
@@ -245,5 +242,4 @@ fn says_each_answer(rt: HostRuntime) -> Result<(), Fail> {
     for (answer, status, text) in answers {
         assert!(rt; answer.status() == status && answer.text().bytes() == text);
     }
-    Ok(())
 }

@@ -1,17 +1,30 @@
-use fdr_cases::{ALTITUDE, Given, ORDINARY, run_on};
+use crate::commands::gives;
+use fdr_cases::{ALTITUDE, Given, ORDINARY};
 use fdr_table::TableFault;
 use fdr_top::Outcome;
 use std::alloc::Global;
-use std::test::Fail;
+use std::process::Abort;
 
-/// What `check` answers to a table, and the report that it writes.
-fn checked(alloc: Global, table: &str) -> Result<(Outcome, Vec<u8>), Fail> {
-    let ran = run_on(alloc, &["check", "t.csv"], Given::by(table))?;
-    Ok((ran.outcome, ran.written))
+/// Whether `check` answers so to a table, and writes this report.
+fn reports(rt: &impl Abort, alloc: Global, table: &str, answer: Outcome, report: &str) -> bool {
+    let given = Given::by(table);
+    gives(
+        rt,
+        alloc,
+        &["check", "t.csv"],
+        given,
+        answer,
+        report.as_bytes(),
+    )
+}
+
+/// Whether `check` refuses a table for this fault of this row, and writes nothing.
+fn refuses(rt: &impl Abort, alloc: Global, table: &str, row: u32, fault: TableFault) -> bool {
+    reports(rt, alloc, table, Outcome::TableRefused { row, fault }, "")
 }
 
 #[test]
-fn reports_on_sound_tables(rt: HostRuntime) -> Result<(), Fail> {
+fn reports_on_sound_tables(rt: HostRuntime) {
     let cases = [
         (ALTITUDE, "frame,64,1,16\nparam,ALT,16,even\n"),
         // Two parameters that take turns in one bit.
@@ -39,17 +52,15 @@ param,PIT,32,uneven
         ),
     ];
     for (table, report) in cases {
-        let (outcome, written) = checked(rt.alloc(), table)?;
         assert!(rt;
-            outcome == Outcome::Done && written.as_slice() == report.as_bytes(),
+            reports(&rt, rt.alloc(), table, Outcome::Done, report),
             "{table}"
         );
     }
-    Ok(())
 }
 
 #[test]
-fn names_the_first_fault_of_the_rows(rt: HostRuntime) -> Result<(), Fail> {
+fn names_the_first_fault_of_the_rows(rt: HostRuntime) {
     let cases = [
         ("", 0, TableFault::NoFrame),
         ("X,1\n", 0, TableFault::Shape),
@@ -79,17 +90,12 @@ fn names_the_first_fault_of_the_rows(rt: HostRuntime) -> Result<(), Fail> {
         ),
     ];
     for (table, row, fault) in cases {
-        let (outcome, written) = checked(rt.alloc(), table)?;
-        assert!(rt;
-            outcome == Outcome::TableRefused { row, fault } && written.is_empty(),
-            "{table}"
-        );
+        assert!(rt; refuses(&rt, rt.alloc(), table, row, fault), "{table}");
     }
-    Ok(())
 }
 
 #[test]
-fn names_the_faults_of_ages_and_signs(rt: HostRuntime) -> Result<(), Fail> {
+fn names_the_faults_of_ages_and_signs(rt: HostRuntime) {
     let cases = [
         // A parameter of two bits that would tell freshness.
         (
@@ -114,17 +120,12 @@ fn names_the_faults_of_ages_and_signs(rt: HostRuntime) -> Result<(), Fail> {
         ),
     ];
     for (table, row, fault) in cases {
-        let (outcome, written) = checked(rt.alloc(), table)?;
-        assert!(rt;
-            outcome == Outcome::TableRefused { row, fault } && written.is_empty(),
-            "{table}"
-        );
+        assert!(rt; refuses(&rt, rt.alloc(), table, row, fault), "{table}");
     }
-    Ok(())
 }
 
 #[test]
-fn names_the_first_fault_of_places(rt: HostRuntime) -> Result<(), Fail> {
+fn names_the_first_fault_of_places(rt: HostRuntime) {
     let cases = [
         (
             "F,64,2,1\nP,ALT,0,203,,11,12,U,1,1,0,0,16\nL,ALT,1,1,65,0,1,12,0,1\n",
@@ -188,23 +189,21 @@ L,E,1,1234,3,1,5,1,0,1
         ),
     ];
     for (table, row, fault) in cases {
-        let (outcome, written) = checked(rt.alloc(), table)?;
-        assert!(rt;
-            outcome == Outcome::TableRefused { row, fault } && written.is_empty(),
-            "{table}"
-        );
+        assert!(rt; refuses(&rt, rt.alloc(), table, row, fault), "{table}");
     }
-    Ok(())
+}
+
+/// A text of so many letters.
+fn letters(rt: &impl Abort, alloc: Global, count: u32) -> String {
+    let mut text = String::new(alloc);
+    for _ in 0..count {
+        text.push('X').expect(rt, "memory");
+    }
+    text
 }
 
 #[test]
-fn refuses_a_table_of_a_byte_too_many(rt: HostRuntime) -> Result<(), Fail> {
-    let mut table = String::new(rt.alloc());
-    for _ in 0..1_048_577 {
-        table.push('X')?;
-    }
-    let (outcome, written) = checked(rt.alloc(), table.as_str())?;
-    let fault = TableFault::Size;
-    assert!(rt; outcome == Outcome::TableRefused { row: 0, fault } && written.is_empty());
-    Ok(())
+fn refuses_a_table_of_a_byte_too_many(rt: HostRuntime) {
+    let table = letters(&rt, rt.alloc(), 1_048_577);
+    assert!(rt; refuses(&rt, rt.alloc(), table.as_str(), 0, TableFault::Size));
 }

@@ -1,31 +1,21 @@
 //! Worked lines of bits and of levels.
 
+use crate::commands::{gives, written};
 use crate::lines::frame;
-use fdr_cases::{Given, Left, run_on};
+use fdr_cases::Given;
 use fdr_io::Input;
 use fdr_top::Outcome;
-use std::alloc::{AllocError, Global};
-use std::test::Fail;
 
-/// What a command without a table answers and writes of a line, where the listed pulls and writes fail.
-fn coded(
-    alloc: Global,
-    command: &str,
-    line: &[u8],
-    pulls: &[u64],
-    writes: &[u64],
-) -> Result<Left, AllocError> {
-    let given = Given {
+/// A line alone: a command without a table reads no more.
+fn line_alone(line: &[u8]) -> Given<'_> {
+    Given {
         line,
-        calls: pulls,
-        writes,
         ..Given::by("")
-    };
-    run_on(alloc, &[command], given)
+    }
 }
 
 #[test]
-fn codes_worked_lines(rt: HostRuntime) -> Result<(), Fail> {
+fn codes_worked_lines(rt: HostRuntime) {
     let cases: [(&str, &str, &[u8], Outcome, &[u8]); 10] = [
         (
             "a byte's levels",
@@ -81,27 +71,26 @@ fn codes_worked_lines(rt: HostRuntime) -> Result<(), Fail> {
         ),
     ];
     for (shows, command, line, outcome, written) in cases {
-        let ran = coded(rt.alloc(), command, line, &[], &[])?;
+        let given = line_alone(line);
         assert!(rt;
-            ran.outcome == outcome && ran.written.as_slice() == written,
+            gives(&rt, rt.alloc(), &[command], given, outcome, written),
             "{shows}"
         );
     }
-    Ok(())
 }
 
 #[test]
-fn decodes_what_was_encoded(rt: HostRuntime) -> Result<(), Fail> {
+fn decodes_what_was_encoded(rt: HostRuntime) {
     let line = frame(0, 5);
-    let levels = coded(rt.alloc(), "encode", &line, &[], &[])?;
-    assert!(rt; levels.outcome == Outcome::Done && levels.written.len() == 768);
-    let bits = coded(rt.alloc(), "decode", &levels.written, &[], &[])?;
-    assert!(rt; bits.outcome == Outcome::Done && bits.written.as_slice() == line.as_slice());
-    Ok(())
+    let levels = written(&rt, rt.alloc(), &["encode"], line_alone(&line));
+    let given = line_alone(&levels);
+    assert!(rt;
+        levels.len() == 768 && gives(&rt, rt.alloc(), &["decode"], given, Outcome::Done, &line)
+    );
 }
 
 #[test]
-fn answers_faults_of_the_line_and_the_sink(rt: HostRuntime) -> Result<(), Fail> {
+fn answers_faults_of_the_line_and_the_sink(rt: HostRuntime) {
     type Failing<'a> = (&'a str, &'a [u8], &'a [u64], &'a [u64], Outcome, &'a [u8]);
     let line = Outcome::ReadFault(Input::Line);
     let cases: [Failing<'_>; 7] = [
@@ -122,12 +111,15 @@ fn answers_faults_of_the_line_and_the_sink(rt: HostRuntime) -> Result<(), Fail> 
         ),
         ("decode", &[0x6a, 0x16], &[], &[0], Outcome::WriteFault, &[]),
     ];
-    for (command, given, pulls, writes, outcome, written) in cases {
-        let ran = coded(rt.alloc(), command, given, pulls, writes)?;
+    for (command, line, calls, writes, outcome, written) in cases {
+        let given = Given {
+            calls,
+            writes,
+            ..line_alone(line)
+        };
         assert!(rt;
-            ran.outcome == outcome && ran.written.as_slice() == written,
+            gives(&rt, rt.alloc(), &[command], given, outcome, written),
             "{command}"
         );
     }
-    Ok(())
 }

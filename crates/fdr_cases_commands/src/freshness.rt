@@ -1,9 +1,9 @@
 //! Parameters with an age, and parameters that tell freshness: what is listed of the stream of a bus that falls silent.
 
-use fdr_cases::{END_AT_4000000, END_AT_8000000, Given, WORD_AT_0, run_on};
-use fdr_top::Outcome;
+use crate::commands::{lists, streamed};
+use fdr_cases::{END_AT_4000000, END_AT_8000000, WORD_AT_0};
 use std::alloc::Global;
-use std::test::Fail;
+use std::process::Abort;
 
 /// A table with an altitude and a bit that tells whether it is fresh, once a second in words 10 and 11. Both have an age
 /// of two seconds.
@@ -51,33 +51,20 @@ const AT_SLOT_265: [u8; 16] = [
     1, 0, 0, 0, 0, 0, 0x14, 0xc1, 0, 0, 0, 0, 0, 0x3f, 0x2e, 0x51,
 ];
 
-/// What is listed of the stream of a trace.
-fn listed(alloc: Global, table: &str, trace: &[[u8; 16]]) -> Result<Vec<u8>, Fail> {
-    let mut line = Vec::new(alloc);
-    for record in trace {
-        line.extend_from_slice(record)?;
-    }
-    let given = Given {
-        line: &line,
-        ..Given::by(table)
-    };
-    let streamed = run_on(alloc, &["stream", "t.csv"], given)?;
-    if streamed.outcome != Outcome::Done {
-        return Err("the trace")?;
-    }
-    let given = Given {
-        line: &streamed.written,
-        ..given
-    };
-    let listed = run_on(alloc, &["listbits", "t.csv"], given)?;
-    if listed.outcome != Outcome::Done {
-        return Err("the stream")?;
-    }
-    Ok(listed.written)
+/// Whether the stream of a trace has this listing.
+fn lists_stream(
+    rt: &impl Abort,
+    alloc: Global,
+    table: &str,
+    trace: &[[u8; 16]],
+    rows: &str,
+) -> bool {
+    let line = streamed(rt, alloc, table, trace);
+    lists(rt, alloc, table, &line, rows.as_bytes())
 }
 
 #[test]
-fn a_word_is_fresh_up_to_its_age(rt: HostRuntime) -> Result<(), Fail> {
+fn a_word_is_fresh_up_to_its_age(rt: HostRuntime) {
     let cases = [
         (
             TWO_SECONDS,
@@ -93,24 +80,24 @@ fn a_word_is_fresh_up_to_its_age(rt: HostRuntime) -> Result<(), Fail> {
         ),
     ];
     for (table, rows) in cases {
-        let written = listed(rt.alloc(), table, &[WORD_AT_0, END_AT_4000000])?;
-        assert!(rt; written.as_slice() == rows.as_bytes(), "{table}");
+        let trace = [WORD_AT_0, END_AT_4000000];
+        assert!(rt;
+            lists_stream(&rt, rt.alloc(), table, &trace, rows),
+            "{table}"
+        );
     }
-    Ok(())
 }
 
 #[test]
-fn none_is_fresh_where_none_came(rt: HostRuntime) -> Result<(), Fail> {
-    let written = listed(rt.alloc(), TWO_SECONDS, &[END_AT_4000000])?;
+fn none_is_fresh_where_none_came(rt: HostRuntime) {
     let rows =
         "row,0,1,10,ALT,4095\nrow,0,1,11,OK,0\nrow,0,2,10,ALT,4095\nrow,0,2,11,OK,0\nrow,0,3,10,ALT,4095\nrow,0,3,11,OK,0\nrow,0,4,10,ALT,4095\nrow,0,4,11,OK,0\n";
-    assert!(rt; written.as_slice() == rows.as_bytes());
-    Ok(())
+    assert!(rt; lists_stream(&rt, rt.alloc(), TWO_SECONDS, &[END_AT_4000000], rows));
 }
 
 // The number with an age of a microsecond is all ones, which is -1. The others' words don't grow old.
 #[test]
-fn a_word_without_an_age_stays_fresh(rt: HostRuntime) -> Result<(), Fail> {
+fn a_word_without_an_age_stays_fresh(rt: HostRuntime) {
     let cases: [(&[[u8; 16]], &str); 2] = [
         (
             &[WORD_AT_0, END_AT_4000000],
@@ -122,14 +109,15 @@ fn a_word_without_an_age_stays_fresh(rt: HostRuntime) -> Result<(), Fail> {
         ),
     ];
     for (trace, rows) in cases {
-        let written = listed(rt.alloc(), OTHERS, trace)?;
-        assert!(rt; written.as_slice() == rows.as_bytes(), "{rows}");
+        assert!(rt;
+            lists_stream(&rt, rt.alloc(), OTHERS, trace, rows),
+            "{rows}"
+        );
     }
-    Ok(())
 }
 
 #[test]
-fn only_a_word_of_the_parameter_makes_fresh(rt: HostRuntime) -> Result<(), Fail> {
+fn only_a_word_of_the_parameter_makes_fresh(rt: HostRuntime) {
     let cases: [(&[[u8; 16]], &str); 4] = [
         (
             &[SDI_1_AT_0, SDI_1, END_AT_4000000],
@@ -149,20 +137,21 @@ fn only_a_word_of_the_parameter_makes_fresh(rt: HostRuntime) -> Result<(), Fail>
         ),
     ];
     for (trace, rows) in cases {
-        let written = listed(rt.alloc(), OF_SDI_1, trace)?;
-        assert!(rt; written.as_slice() == rows.as_bytes(), "{rows}");
+        assert!(rt;
+            lists_stream(&rt, rt.alloc(), OF_SDI_1, trace, rows),
+            "{rows}"
+        );
     }
-    Ok(())
 }
 
 // The word is fresh at the first part and too old at the others, which carry pieces of it all the same.
 #[test]
-fn freshness_is_decided_at_the_first_part(rt: HostRuntime) -> Result<(), Fail> {
+fn freshness_is_decided_at_the_first_part(rt: HostRuntime) {
     let trace = [WORD_AT_0, AT_SLOT_265, END_AT_8000000];
-    let written = listed(rt.alloc(), THREE_PARTS, &trace)?;
     let rows = "row,0,1,10,ALL,5313\nrow,1,1,10,ALL,5313\n";
-    assert!(rt; written.as_slice() == rows.as_bytes());
-    let written = listed(rt.alloc(), THREE_PARTS, &[END_AT_4000000])?;
-    assert!(rt; written.as_slice() == b"row,0,1,10,ALL,4294967295\n".as_slice());
-    Ok(())
+    let none = "row,0,1,10,ALL,4294967295\n";
+    assert!(rt;
+        lists_stream(&rt, rt.alloc(), THREE_PARTS, &trace, rows)
+            && lists_stream(&rt, rt.alloc(), THREE_PARTS, &[END_AT_4000000], none)
+    );
 }

@@ -9,6 +9,8 @@ mod checks;
 #[cfg(test)]
 mod coding;
 #[cfg(test)]
+mod commands;
+#[cfg(test)]
 mod cuts;
 #[cfg(test)]
 mod freshness;

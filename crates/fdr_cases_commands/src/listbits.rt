@@ -1,15 +1,15 @@
+use crate::commands::{gives, sure_answer};
 use crate::lines::{
     frame, frame_behind_a_false_one, frame_with_a_bit_struck_out, frames_behind_five_bits,
     frames_far_apart, thirty_frames,
 };
-use fdr_cases::{ALTITUDE, Given, answer, deck_of, run_on, run_words, words_of};
-use fdr_deck::{Deck, MemDeck, SureDeck};
-use fdr_io::{Input, MemSink, MemSource, NullSink, SureSource};
-use fdr_sure::sure_command;
+use fdr_cases::{ALTITUDE, Given, Ran, answer, deck_of, run_words, words_of};
+use fdr_deck::{Deck, MemDeck};
+use fdr_io::{Input, MemSink, MemSource};
 use fdr_table::TableFault;
 use fdr_top::Outcome;
-use std::alloc::{AllocError, Global};
-use std::test::Fail;
+use std::alloc::Global;
+use std::process::Abort;
 
 /// An altitude in the counter's word.
 const ON_COUNTER: &[u8] = b"F,64,2,1\nP,ALT,0,203,,11,12,U,1,1,0,0,16\nL,ALT,1,1,2,0,1,12,0,1\n";
@@ -17,7 +17,7 @@ const ON_COUNTER: &[u8] = b"F,64,2,1\nP,ALT,0,203,,11,12,U,1,1,0,0,16\nL,ALT,1,1
 const LISTBITS: &[&str] = &["listbits", "t1.csv"];
 
 #[test]
-fn lists_worked_lines(rt: HostRuntime) -> Result<(), Fail> {
+fn lists_worked_lines(rt: HostRuntime) {
     let clean = frame(0, 5);
     let struck = frame_with_a_bit_struck_out();
     let behind = frames_behind_five_bits();
@@ -49,13 +49,11 @@ fn lists_worked_lines(rt: HostRuntime) -> Result<(), Fail> {
             line,
             ..Given::by(ALTITUDE)
         };
-        let ran = run_on(rt.alloc(), LISTBITS, given)?;
         assert!(rt;
-            ran.outcome == Outcome::Done && ran.written.as_slice() == listing,
+            gives(&rt, rt.alloc(), LISTBITS, given, Outcome::Done, listing),
             "{shows}"
         );
     }
-    Ok(())
 }
 
 /// Objects some of whose calls fail, a table, and what is answered.
@@ -72,35 +70,35 @@ struct Fault<'a> {
     left: &'a [u8],
 }
 
-/// What a command answered and wrote, and what another one did of the rest of the line, where nothing fails.
-#[derive(Drop)]
-struct Answered {
-    answer: Outcome,
-    written: Vec<u8>,
-    then: Outcome,
-    left: Vec<u8>,
+/// What a command answers and writes where objects fail, and the deck that it leaves.
+fn ran_with(rt: &impl Abort, alloc: Global, line: &[u8], case: &Fault) -> (Ran, MemDeck) {
+    let words = words_of(alloc, LISTBITS).expect(rt, "memory");
+    let mut table = MemSource::new(
+        case.table.to_vec(alloc).expect(rt, "memory"),
+        case.reads.to_vec(alloc).expect(rt, "memory"),
+    );
+    let mut deck = deck_of(alloc, &[], line, case.pulls).expect(rt, "memory");
+    let mut out = MemSink::new(alloc, case.writes.to_vec(alloc).expect(rt, "memory"));
+    let outcome = answer(alloc, &words, &mut table, &mut deck, &mut out);
+    let written = out.bytes().to_vec(alloc).expect(rt, "memory");
+    (Ran { outcome, written }, deck)
 }
 
-fn answers_to(alloc: Global, line: &[u8], case: &Fault) -> Result<Answered, AllocError> {
-    let words = words_of(alloc, LISTBITS)?;
-    let mut table = MemSource::new(case.table.to_vec(alloc)?, case.reads.to_vec(alloc)?);
-    let mut deck = deck_of(alloc, &[], line, case.pulls)?;
-    let mut out = MemSink::new(alloc, case.writes.to_vec(alloc)?);
-    let given = answer(alloc, &words, &mut table, &mut deck, &mut out);
-    let then = run_words(alloc, LISTBITS, ALTITUDE, &mut deck, &[])?;
-    Ok(Answered {
-        answer: given,
-        written: out.bytes().to_vec(alloc)?,
-        then: then.outcome,
-        left: then.written,
-    })
+/// Whether a fault is answered as it says, and another command lists the rest of the line, where nothing fails.
+fn is_as_said(rt: &impl Abort, alloc: Global, line: &[u8], case: &Fault) -> bool {
+    let (ran, mut deck) = ran_with(rt, alloc, line, case);
+    let then = run_words(alloc, LISTBITS, ALTITUDE, &mut deck, &[]).expect(rt, "memory");
+    ran.outcome == case.answer
+        && ran.written.as_slice() == case.written
+        && then.outcome == Outcome::Done
+        && then.written.as_slice() == case.left
 }
 
 #[test]
-fn answers_faults_and_refusals(rt: HostRuntime) -> Result<(), Fail> {
+fn answers_faults_and_refusals(rt: HostRuntime) {
     let alloc = rt.alloc();
     let line = frames_far_apart();
-    let too_large = vec![in alloc; b'X'; 1_048_577]?;
+    let too_large = vec![in alloc; b'X'; 1_048_577].expect(&rt, "memory");
     let whole: &[u8] = b"row,0,1,10,ALT,5\ngap,3072,29696\nrow,1,1,10,ALT,7\n";
     let cases = [
         Fault {
@@ -152,77 +150,60 @@ fn answers_faults_and_refusals(rt: HostRuntime) -> Result<(), Fail> {
     ];
     for case in cases {
         let shows = case.shows;
-        let ran = answers_to(alloc, &line, &case)?;
-        assert!(rt;
-            ran.answer == case.answer
-                && ran.written.as_slice() == case.written
-                && ran.then == Outcome::Done
-                && ran.left.as_slice() == case.left,
-            "{shows}"
-        );
+        assert!(rt; is_as_said(&rt, alloc, &line, &case), "{shows}");
     }
-    Ok(())
 }
 
 #[test]
-fn writes_nothing_where_the_first_write_fails(rt: HostRuntime) -> Result<(), Fail> {
+fn writes_nothing_where_the_first_write_fails(rt: HostRuntime) {
     let line = frames_behind_five_bits();
     let given = Given {
         line: &line,
         writes: &[0],
         ..Given::by(ALTITUDE)
     };
-    let ran = run_on(rt.alloc(), LISTBITS, given)?;
-    assert!(rt; ran.outcome == Outcome::WriteFault && ran.written.is_empty());
-    Ok(())
+    assert!(rt; gives(&rt, rt.alloc(), LISTBITS, given, Outcome::WriteFault, b""));
 }
 
 /// How many bytes of the deck's line are left. It pulls them all.
-fn left_of(deck: &mut MemDeck) -> Result<usize, Fail> {
+fn left_of(rt: &impl Abort, deck: &mut impl Deck) -> usize {
     let mut left = 0_usize;
     let mut piece = [0; 512];
     for _ in 0..64 {
-        let count = deck.pull(&mut piece).ok().ok_or("pull")?;
+        let count = deck.pull(&mut piece).expect(rt, "a pull");
         left = left.saturating_add(count);
     }
-    Ok(left)
+    left
 }
 
 // The lines of the first frames are written before the line is pulled further, so the fault of the sink comes early.
 #[test]
-fn pulls_no_further_where_a_write_fails(rt: HostRuntime) -> Result<(), Fail> {
+fn pulls_no_further_where_a_write_fails(rt: HostRuntime) {
     let alloc = rt.alloc();
-    let mut deck = deck_of(alloc, &[], &thirty_frames(), &[])?;
-    let ran = run_words(alloc, LISTBITS, ALTITUDE, &mut deck, &[0])?;
+    let mut deck = deck_of(alloc, &[], &thirty_frames(), &[]).expect(&rt, "memory");
+    let ran = run_words(alloc, LISTBITS, ALTITUDE, &mut deck, &[0]).expect(&rt, "memory");
     assert!(rt;
-        ran.outcome == Outcome::WriteFault && ran.written.is_empty() && left_of(&mut deck)? >= 7041
+        ran.outcome == Outcome::WriteFault
+            && ran.written.is_empty()
+            && left_of(&rt, &mut deck) >= 7041
     );
-    Ok(())
 }
 
 // One zero byte more than are listed.
 #[test]
-fn lists_the_first_bytes_of_a_line_too_long(rt: HostRuntime) -> Result<(), Fail> {
+fn lists_the_first_bytes_of_a_line_too_long(rt: HostRuntime) {
     let alloc = rt.alloc();
-    let line = vec![in alloc; 0; 268_435_457]?;
+    let line = vec![in alloc; 0; 268_435_457].expect(&rt, "memory");
     let mut deck = MemDeck::new(alloc, Vec::new(alloc), line, Vec::new(alloc));
-    let ran = run_words(alloc, LISTBITS, ALTITUDE, &mut deck, &[])?;
+    let ran = run_words(alloc, LISTBITS, ALTITUDE, &mut deck, &[]).expect(&rt, "memory");
     assert!(rt;
         ran.outcome == Outcome::TooLong
             && ran.written.as_slice() == b"gap,0,2147483648\n".as_slice()
     );
-    Ok(())
 }
 
 #[test]
-fn lists_where_nothing_fails(rt: HostRuntime) -> Result<(), Fail> {
-    let alloc = rt.alloc();
-    let words = words_of(alloc, LISTBITS)?;
-    let image = vec![in alloc; 0]?;
-    assert!(rt; image.len() > 0);
-    let mut table = SureSource::new(ALTITUDE.as_bytes().to_vec(alloc)?);
-    let mut deck = SureDeck::new(image, frame(0, 5).to_vec(alloc)?);
-    let answer = sure_command(alloc, &words, &mut table, &mut deck, &mut NullSink::new());
+fn lists_where_nothing_fails(rt: HostRuntime) {
+    let answer = sure_answer(&rt, rt.alloc(), LISTBITS, &frame(0, 5));
     assert!(rt; answer == Outcome::Done);
-    Ok(())
 }

@@ -1,8 +1,9 @@
-use crate::watched::{exceedances, frame_of};
-use fdr_cases::{ALTITUDE, Given, WORD_AT_0, ring_with, run_on};
+use crate::commands::{run, trace_of};
+use crate::watched::{exceeds, frame_of};
+use fdr_cases::{ALTITUDE, Given, WORD_AT_0, ring_with};
 use fdr_top::Outcome;
-use std::alloc::{AllocError, Global};
-use std::test::Fail;
+use std::alloc::Global;
+use std::process::Abort;
 
 /// The altitudes 5, 7, 9, 3 and 8, one in each of five frames.
 const FLIGHT: [[u8; 16]; 6] = [
@@ -19,11 +20,8 @@ const FLIGHT: [[u8; 16]; 6] = [
 ];
 
 /// The image of 32 slots in which the flight was recorded.
-fn flight(alloc: Global) -> Result<Vec<u8>, Fail> {
-    let mut line = Vec::new(alloc);
-    for record in &FLIGHT {
-        line.extend_from_slice(record)?;
-    }
+fn flight(rt: &impl Abort, alloc: Global) -> Vec<u8> {
+    let line = trace_of(rt, alloc, &FLIGHT);
     let words = [
         "format",
         "t1.csv",
@@ -31,54 +29,50 @@ fn flight(alloc: Global) -> Result<Vec<u8>, Fail> {
         "--slots=32",
         "--payload=64",
     ];
-    let made = run_on(alloc, &words, Given::by(ALTITUDE))?;
+    let made = run(rt, alloc, &words, Given::by(ALTITUDE));
     let given = Given {
         image: &made.image,
         line: &line,
         ..Given::by(ALTITUDE)
     };
-    let recorded = run_on(alloc, &["record", "t1.csv", "flight.img"], given)?;
-    if made.outcome != Outcome::Done || recorded.outcome != Outcome::Done {
-        return Err("no recording")?;
-    }
-    Ok(recorded.image)
+    let recorded = run(rt, alloc, &["record", "t1.csv", "flight.img"], given);
+    assert!(rt; made.outcome == Outcome::Done && recorded.outcome == Outcome::Done);
+    recorded.image
 }
 
 #[test]
-fn lists_exceedances_of_each_kind(rt: HostRuntime) -> Result<(), Fail> {
+fn lists_exceedances_of_each_kind(rt: HostRuntime) {
     let alloc = rt.alloc();
+    let image = flight(&rt, alloc);
     let rules = "HI,ALT,above,4,2\nLO,ALT,below,4,1\nSTEP,ALT,change,4,2\n";
-    let lines = exceedances(alloc, &flight(alloc)?, rules)?;
-    assert!(rt;
-        lines.as_slice()
-            == b"exceed,HI,0,1,10,3,9\nexceed,LO,3,1,10,1,3\nexceed,STEP,3,1,10,2,6\n".as_slice()
-    );
-    Ok(())
+    let lines = b"exceed,HI,0,1,10,3,9\nexceed,LO,3,1,10,1,3\nexceed,STEP,3,1,10,2,6\n";
+    assert!(rt; exceeds(&rt, alloc, &image, rules, lines));
 }
 
 #[test]
-fn lists_nothing_without_rules(rt: HostRuntime) -> Result<(), Fail> {
+fn lists_nothing_without_rules(rt: HostRuntime) {
     let alloc = rt.alloc();
-    let lines = exceedances(alloc, &flight(alloc)?, "")?;
-    assert!(rt; lines.is_empty());
-    let lines = exceedances(alloc, &flight(alloc)?, "HI,ALT,above,9,1\n")?;
-    assert!(rt; lines.is_empty());
-    Ok(())
+    let image = flight(&rt, alloc);
+    assert!(rt;
+        exceeds(&rt, alloc, &image, "", b"")
+            && exceeds(&rt, alloc, &image, "HI,ALT,above,9,1\n", b"")
+    );
 }
 
 /// Two frames with the altitude 5 and these bytes between them, in blocks of these sessions.
 fn two_frames(
+    rt: &impl Abort,
     alloc: Global,
     version: u8,
     last: u8,
     between: &[u8],
     sessions: &[u32],
-) -> Result<Vec<u8>, AllocError> {
-    let mut frames = frame_of(0, 5).to_vec(alloc)?;
-    frames.extend_from_slice(between)?;
-    let second = frame_of(last, 5);
-    frames.extend_from_slice(&second)?;
-    ring_with(alloc, version, sessions, &frames)
+) -> Vec<u8> {
+    let mut frames = frame_of(0, 5).to_vec(alloc).expect(rt, "memory");
+    for bytes in [between, frame_of(last, 5).as_slice()] {
+        frames.extend_from_slice(bytes).expect(rt, "memory");
+    }
+    ring_with(alloc, version, sessions, &frames).expect(rt, "memory")
 }
 
 const ONE: &str = "HI,ALT,above,4,1\n";
@@ -86,17 +80,11 @@ const ONE: &str = "HI,ALT,above,4,1\n";
 const TWO: &str = "HI,ALT,above,4,2\n";
 
 #[test]
-fn joins_neighbouring_frames(rt: HostRuntime) -> Result<(), Fail> {
+fn joins_neighbouring_frames(rt: HostRuntime) {
     let alloc = rt.alloc();
-    let image = two_frames(alloc, 0xa5, 1, &[], &[1; 12])?;
-    for rules in [ONE, TWO] {
-        let lines = exceedances(alloc, &image, rules)?;
-        assert!(rt;
-            lines.as_slice() == b"exceed,HI,0,1,10,2,5\n".as_slice(),
-            "{rules}"
-        );
-    }
-    Ok(())
+    let image = two_frames(&rt, alloc, 0xa5, 1, &[], &[1; 12]);
+    let line = b"exceed,HI,0,1,10,2,5\n";
+    assert!(rt; exceeds(&rt, alloc, &image, ONE, line) && exceeds(&rt, alloc, &image, TWO, line));
 }
 
 /// What cuts an exceedance in two: bytes between the frames, another counter in the second, or another session of it.
@@ -110,7 +98,7 @@ struct Cut<'a> {
 }
 
 #[test]
-fn stretches_end_an_exceedance(rt: HostRuntime) -> Result<(), Fail> {
+fn stretches_end_an_exceedance(rt: HostRuntime) {
     let alloc = rt.alloc();
     let cuts = [
         Cut {
@@ -144,38 +132,34 @@ fn stretches_end_an_exceedance(rt: HostRuntime) -> Result<(), Fail> {
     ];
     for cut in cuts {
         let shows = cut.shows;
-        let image = two_frames(alloc, cut.version, cut.last, cut.between, cut.sessions)?;
-        let lines = exceedances(alloc, &image, TWO)?;
-        assert!(rt; lines.is_empty(), "{shows}");
-        let lines = exceedances(alloc, &image, ONE)?;
-        let second: &[u8] = if cut.last == 1 {
+        let image = two_frames(&rt, alloc, cut.version, cut.last, cut.between, cut.sessions);
+        let both: &[u8] = if cut.last == 1 {
             b"exceed,HI,0,1,10,1,5\nexceed,HI,1,1,10,1,5\n"
         } else {
             b"exceed,HI,0,1,10,1,5\nexceed,HI,2,1,10,1,5\n"
         };
-        assert!(rt; lines.as_slice() == second, "{shows}");
+        assert!(rt;
+            exceeds(&rt, alloc, &image, TWO, b"") && exceeds(&rt, alloc, &image, ONE, both),
+            "{shows}"
+        );
     }
-    Ok(())
 }
 
 // Each frame is the first of a session, so that both have the counter 0.
 #[test]
-fn lists_each_session_by_itself(rt: HostRuntime) -> Result<(), Fail> {
+fn lists_each_session_by_itself(rt: HostRuntime) {
     let alloc = rt.alloc();
-    let image = two_frames(alloc, 0xa5, 0, &[], &[1, 1, 1, 1, 1, 1, 2, 2, 2, 2, 2, 2])?;
-    let lines = exceedances(alloc, &image, TWO)?;
-    assert!(rt; lines.is_empty());
-    let lines = exceedances(alloc, &image, ONE)?;
-    assert!(rt; lines.as_slice() == b"exceed,HI,0,1,10,1,5\nexceed,HI,0,1,10,1,5\n".as_slice());
-    Ok(())
+    let sessions = [1, 1, 1, 1, 1, 1, 2, 2, 2, 2, 2, 2];
+    let image = two_frames(&rt, alloc, 0xa5, 0, &[], &sessions);
+    let both = b"exceed,HI,0,1,10,1,5\nexceed,HI,0,1,10,1,5\n";
+    assert!(rt; exceeds(&rt, alloc, &image, TWO, b"") && exceeds(&rt, alloc, &image, ONE, both));
 }
 
 // In version 1 all blocks are read as one, whatever stands where version 2 has sessions.
 #[test]
-fn version_1_has_no_sessions(rt: HostRuntime) -> Result<(), Fail> {
+fn version_1_has_no_sessions(rt: HostRuntime) {
     let alloc = rt.alloc();
-    let image = two_frames(alloc, 0, 1, &[], &[1, 1, 1, 1, 1, 1, 2, 2, 2, 2, 2, 2])?;
-    let lines = exceedances(alloc, &image, TWO)?;
-    assert!(rt; lines.as_slice() == b"exceed,HI,0,1,10,2,5\n".as_slice());
-    Ok(())
+    let sessions = [1, 1, 1, 1, 1, 1, 2, 2, 2, 2, 2, 2];
+    let image = two_frames(&rt, alloc, 0, 1, &[], &sessions);
+    assert!(rt; exceeds(&rt, alloc, &image, TWO, b"exceed,HI,0,1,10,2,5\n"));
 }

@@ -1,10 +1,8 @@
+use crate::commands::{lists, streamed};
 use fdr_cases::{
-    END_AT_4000000, END_AT_8000000, Given, ORDINARY, POSITION_AT_0, POSITION_AT_1000000, TWO_PARTS,
-    WORD_AT_0, run_on,
+    END_AT_4000000, END_AT_8000000, ORDINARY, POSITION_AT_0, POSITION_AT_1000000, TWO_PARTS,
+    WORD_AT_0,
 };
-use fdr_top::Outcome;
-use std::alloc::{AllocError, Global};
-use std::test::Fail;
 
 // Words of the ordinary table at the start: -3 feet, 125.5 knots, -0.25 g, gear down.
 const ORDINARY_WORDS: [[u8; 16]; 4] = [
@@ -14,13 +12,9 @@ const ORDINARY_WORDS: [[u8; 16]; 4] = [
     [1, 3, 0, 0, 0x00, 0x00, 0x04, 0x1d, 0, 0, 0, 0, 0, 0, 0, 0],
 ];
 
-/// Zeros with these bytes at these places.
-fn bytes_with(
-    alloc: Global,
-    count: usize,
-    put: &[(usize, [u8; 2])],
-) -> Result<Vec<u8>, AllocError> {
-    let mut bytes = vec![in alloc; 0; count]?;
+/// The bytes of two frames: zeros with these bytes at these places.
+fn frames_with(put: &[(usize, [u8; 2])]) -> [u8; 768] {
+    let mut bytes = [0; 768];
     for (at, two) in put {
         for (offset, byte) in two.iter().enumerate() {
             if let Some(place) = bytes.get_mut(at.saturating_add(offset)) {
@@ -28,93 +22,61 @@ fn bytes_with(
             }
         }
     }
-    Ok(bytes)
+    bytes
 }
 
 /// Two frames of the table with two parts: the position hexadecimal ABCDE and the altitude 5 in both.
-fn two_frames(alloc: Global) -> Result<Vec<u8>, AllocError> {
-    bytes_with(
-        alloc,
-        768,
-        &[
-            (0, [0x47, 0x02]),
-            (13, [0x50, 0]),
-            (28, [0xe0, 0xcd]),
-            (96, [0xb8, 0x05]),
-            (192, [0x47, 0x0a]),
-            (288, [0xb8, 0x0d]),
-            (384, [0x47, 0x12]),
-            (397, [0x50, 0]),
-            (412, [0xb0, 0x0a]),
-            (480, [0xb8, 0x05]),
-            (576, [0x47, 0x0a]),
-            (672, [0xb8, 0x0d]),
-        ],
-    )
+fn two_frames() -> [u8; 768] {
+    frames_with(&[
+        (0, [0x47, 0x02]),
+        (13, [0x50, 0]),
+        (28, [0xe0, 0xcd]),
+        (96, [0xb8, 0x05]),
+        (192, [0x47, 0x0a]),
+        (288, [0xb8, 0x0d]),
+        (384, [0x47, 0x12]),
+        (397, [0x50, 0]),
+        (412, [0xb0, 0x0a]),
+        (480, [0xb8, 0x05]),
+        (576, [0x47, 0x0a]),
+        (672, [0xb8, 0x0d]),
+    ])
 }
 
 /// Zeros except the sync words of two frames and their counters. A counter fills the upper half of byte 1 and byte 2.
-fn two_counters(alloc: Global, first: u16, second: u16) -> Result<Vec<u8>, AllocError> {
-    bytes_with(
-        alloc,
-        768,
-        &[
-            (0, [0x47, 0x02 | (first % 16) as u8 * 16]),
-            (2, [(first / 16 % 256) as u8, 0]),
-            (96, [0xb8, 0x05]),
-            (192, [0x47, 0x0a]),
-            (288, [0xb8, 0x0d]),
-            (384, [0x47, 0x02 | (second % 16) as u8 * 16]),
-            (386, [(second / 16 % 256) as u8, 0]),
-            (480, [0xb8, 0x05]),
-            (576, [0x47, 0x0a]),
-            (672, [0xb8, 0x0d]),
-        ],
-    )
+fn two_counters(first: u16, second: u16) -> [u8; 768] {
+    frames_with(&[
+        (0, [0x47, 0x02 | (first % 16) as u8 * 16]),
+        (2, [(first / 16 % 256) as u8, 0]),
+        (96, [0xb8, 0x05]),
+        (192, [0x47, 0x0a]),
+        (288, [0xb8, 0x0d]),
+        (384, [0x47, 0x02 | (second % 16) as u8 * 16]),
+        (386, [(second / 16 % 256) as u8, 0]),
+        (480, [0xb8, 0x05]),
+        (576, [0x47, 0x0a]),
+        (672, [0xb8, 0x0d]),
+    ])
 }
 
-/// The bits with a zero bit put in before this one, and seven after the last.
-fn with_a_bit_before(alloc: Global, bytes: &[u8], bit: usize) -> Result<Vec<u8>, AllocError> {
-    let mut longer = vec![in alloc; 0; bytes.len()]?;
-    longer.push(0)?;
-    for at in 0..bytes.len().saturating_mul(8) {
+/// The bits of two frames with a zero bit put in before this one, and seven after the last.
+fn with_a_bit_before(frames: &[u8; 768], bit: usize) -> [u8; 769] {
+    let mut longer = [0_u8; 769];
+    for at in 0..frames.len().saturating_mul(8) {
         let place = if at < bit { at } else { at.saturating_add(1) };
-        let one = bytes
+        let one = frames
             .get(at / 8)
             .is_some_and(|byte| byte >> (at % 8) & 1 == 1);
         if let (true, Some(byte)) = (one, longer.get_mut(place / 8)) {
             *byte |= 1 << (place % 8);
         }
     }
-    Ok(longer)
-}
-
-fn streamed(alloc: Global, table: &str, trace: &[[u8; 16]]) -> Result<(Outcome, Vec<u8>), Fail> {
-    let mut line = Vec::new(alloc);
-    for record in trace {
-        line.extend_from_slice(record)?;
-    }
-    let given = Given {
-        line: &line,
-        ..Given::by(table)
-    };
-    let ran = run_on(alloc, &["stream", "t.csv"], given)?;
-    Ok((ran.outcome, ran.written))
-}
-
-fn listed(alloc: Global, table: &str, line: &[u8]) -> Result<(Outcome, Vec<u8>), Fail> {
-    let given = Given {
-        line,
-        ..Given::by(table)
-    };
-    let ran = run_on(alloc, &["listbits", "t.csv"], given)?;
-    Ok((ran.outcome, ran.written))
+    longer
 }
 
 #[test]
-fn streams_pieces_of_one_value(rt: HostRuntime) -> Result<(), Fail> {
-    let alloc = rt.alloc();
-    let expected = two_frames(alloc)?;
+fn streams_pieces_of_one_value(rt: HostRuntime) {
+    let expected = two_frames();
     let traces = [
         [
             WORD_AT_0,
@@ -131,19 +93,17 @@ fn streams_pieces_of_one_value(rt: HostRuntime) -> Result<(), Fail> {
         ],
     ];
     for trace in traces {
-        let (outcome, written) = streamed(alloc, TWO_PARTS, &trace)?;
-        assert!(rt; outcome == Outcome::Done && written == expected);
+        let line = streamed(&rt, rt.alloc(), TWO_PARTS, &trace);
+        assert!(rt; line.as_slice() == expected.as_slice());
     }
-    Ok(())
 }
 
 #[test]
-fn joins_parts_of_neighbouring_frames_alone(rt: HostRuntime) -> Result<(), Fail> {
-    let alloc = rt.alloc();
-    let whole = two_frames(alloc)?;
-    let cut = with_a_bit_before(alloc, &whole, 3072)?;
-    let over = two_counters(alloc, 4095, 0)?;
-    let back = two_counters(alloc, 2, 1)?;
+fn joins_parts_of_neighbouring_frames_alone(rt: HostRuntime) {
+    let whole = two_frames();
+    let cut = with_a_bit_before(&whole, 3072);
+    let over = two_counters(4095, 0);
+    let back = two_counters(2, 1);
     let cases: [(&[u8], &str); 4] = [
         (
             &whole,
@@ -157,25 +117,21 @@ fn joins_parts_of_neighbouring_frames_alone(rt: HostRuntime) -> Result<(), Fail>
         (&back, "row,2,1,10,ALT,0\nrow,1,1,10,ALT,0\n"),
     ];
     for (line, listing) in cases {
-        let (outcome, written) = listed(alloc, TWO_PARTS, line)?;
         assert!(rt;
-            outcome == Outcome::Done && written.as_slice() == listing.as_bytes(),
+            lists(&rt, rt.alloc(), TWO_PARTS, line, listing.as_bytes()),
             "{listing}"
         );
     }
-    Ok(())
 }
 
 #[test]
-fn lists_scaled_values_of_an_ordinary_table(rt: HostRuntime) -> Result<(), Fail> {
-    let alloc = rt.alloc();
+fn lists_scaled_values_of_an_ordinary_table(rt: HostRuntime) {
     let [altitude, airspeed, acceleration, gear] = ORDINARY_WORDS;
     let trace = [altitude, airspeed, acceleration, gear, END_AT_4000000];
-    let (outcome, frame) = streamed(alloc, ORDINARY, &trace)?;
-    assert!(rt; outcome == Outcome::Done && frame.len() == 1536);
-    let (outcome, written) = listed(alloc, ORDINARY, &frame)?;
-    assert!(rt; outcome == Outcome::Done && written.as_slice() == LISTING.as_bytes());
-    Ok(())
+    let frame = streamed(&rt, rt.alloc(), ORDINARY, &trace);
+    assert!(rt;
+        frame.len() == 1536 && lists(&rt, rt.alloc(), ORDINARY, &frame, LISTING.as_bytes())
+    );
 }
 
 /// What these words list as.

@@ -1,17 +1,15 @@
+use crate::commands::{gives, sure_answer, trace_of, written};
 use fdr_bus::TraceFault;
 use fdr_cases::{
     ALTITUDE, END_AT_4000000, END_AT_4000001, Given, WORD_AT_0, WORD_AT_4000000, frame_with,
-    run_on, words_of,
 };
-use fdr_deck::SureDeck;
-use fdr_io::{Input, NullSink, SureSource};
-use fdr_sure::sure_command;
+use fdr_io::Input;
 use fdr_top::Outcome;
-use std::alloc::{AllocError, Global};
-use std::test::Fail;
+use std::alloc::Global;
+use std::process::Abort;
 
 /// An altitude in word 2 of the first subframe, and the counter in the last word of the frame.
-const COUNTER_LAST: &[u8] = b"F,64,64,4\nP,ALT,0,203,,11,12,U,1,1,0,0,16\nL,ALT,1,1,2,0,1,12,0,1\n";
+const COUNTER_LAST: &str = "F,64,64,4\nP,ALT,0,203,,11,12,U,1,1,0,0,16\nL,ALT,1,1,2,0,1,12,0,1\n";
 
 const STREAM: &[&str] = &["stream", "t1.csv"];
 
@@ -33,22 +31,122 @@ const OTHER_KIND: [u8; 16] = [3, 0, 0, 0, 0, 0, 0, 0, 0, 0, 0, 0, 0, 0, 0, 0];
 
 const TOO_LATE: [u8; 16] = [2, 0, 0, 0, 0, 0, 0, 0, 0, 0, 1, 0x4f, 0x46, 0xb0, 0x40, 1];
 
-/// The bytes of a trace except the last `cut`.
-fn bytes_of(alloc: Global, records: &[[u8; 16]], cut: usize) -> Result<Vec<u8>, AllocError> {
-    let mut bytes = Vec::new(alloc);
-    for record in records {
-        bytes.extend_from_slice(record)?;
-    }
-    bytes.truncate(bytes.len().saturating_sub(cut));
-    Ok(bytes)
+/// Whether the stream of a trace is answered and written so.
+fn streams(
+    rt: &impl Abort,
+    alloc: Global,
+    table: &str,
+    trace: &[[u8; 16]],
+    answer: Outcome,
+    written: &[u8],
+) -> bool {
+    let line = trace_of(rt, alloc, trace);
+    let given = Given {
+        line: &line,
+        ..Given::by(table)
+    };
+    gives(rt, alloc, STREAM, given, answer, written)
 }
 
-/// A trace, how many bytes at its end are left out, the calls of the deck and of the sink that fail, and what is answered
+/// A frame of zeros and the first word of the next.
+fn a_word_more(rt: &impl Abort, alloc: Global) -> Vec<u8> {
+    let mut bytes = frame_with(&[]).to_vec(alloc).expect(rt, "memory");
+    bytes.extend_from_slice(&[0x47, 0x02]).expect(rt, "memory");
+    bytes
+}
+
+/// The answer to a trace that is refused at a record.
+fn refused(index: u64, fault: TraceFault) -> Outcome {
+    Outcome::TraceRefused { index, fault }
+}
+
+#[test]
+fn streams_worked_traces(rt: HostRuntime) {
+    let alloc = rt.alloc();
+    let done = Outcome::Done;
+    let zero = frame_with(&[]);
+    let five = frame_with(FIVE);
+    let second = frame_with(FIVE_SECOND);
+    let more = a_word_more(&rt, alloc);
+    let cases: [(&str, &str, &[[u8; 16]], Outcome, &[u8]); 10] = [
+        ("an end", ALTITUDE, &[END_AT_4000000], done, &zero),
+        (
+            "an end a slot later",
+            ALTITUDE,
+            &[END_AT_4000001],
+            done,
+            &more,
+        ),
+        (
+            "a word at a slot's time",
+            COUNTER_LAST,
+            &[WORD_AT_15625, END_AT_4000000],
+            done,
+            &second,
+        ),
+        (
+            "a word after it",
+            COUNTER_LAST,
+            &[WORD_AT_15626, END_AT_4000000],
+            done,
+            &zero,
+        ),
+        (
+            "even parity",
+            COUNTER_LAST,
+            &[EVEN_AT_15625, END_AT_4000000],
+            done,
+            &zero,
+        ),
+        (
+            "nothing counts behind an end",
+            ALTITUDE,
+            &[WORD_AT_0, END_AT_4000000, OTHER_KIND],
+            done,
+            &five,
+        ),
+        (
+            "another kind",
+            ALTITUDE,
+            &[OTHER_KIND],
+            refused(0, TraceFault::Kind),
+            &[],
+        ),
+        (
+            "too late",
+            ALTITUDE,
+            &[TOO_LATE],
+            refused(0, TraceFault::Late),
+            &[],
+        ),
+        (
+            "nothing",
+            ALTITUDE,
+            &[],
+            refused(0, TraceFault::Truncated),
+            &[],
+        ),
+        (
+            "time goes back",
+            ALTITUDE,
+            &[WORD_AT_0, WORD_AT_4000000, WORD_AT_15625],
+            refused(2, TraceFault::Back),
+            &five,
+        ),
+    ];
+    for (shows, table, trace, answer, written) in cases {
+        assert!(rt;
+            streams(&rt, alloc, table, trace, answer, written),
+            "{shows}"
+        );
+    }
+}
+
+/// A trace of which bytes at its end are left out, the calls of the deck and of the sink that fail, and what is answered
 /// and written.
 #[derive(Clone, Copy)]
-struct Case<'a> {
+struct Fault<'a> {
     shows: &'a str,
-    table: &'a [u8],
     trace: &'a [[u8; 16]],
     cut: usize,
     pulls: &'a [u64],
@@ -57,174 +155,77 @@ struct Case<'a> {
     written: &'a [u8],
 }
 
-/// A trace by a table, where nothing fails and all is written.
-fn whole<'a>(
-    shows: &'a str,
-    table: &'a [u8],
-    trace: &'a [[u8; 16]],
-    written: &'a [u8],
-) -> Case<'a> {
-    Case {
-        shows,
-        table,
-        trace,
-        cut: 0,
-        pulls: &[],
-        writes: &[],
-        answer: Outcome::Done,
-        written,
-    }
-}
-
-/// A trace that is refused at a record.
-fn refused<'a>(
-    shows: &'a str,
-    trace: &'a [[u8; 16]],
-    index: u64,
-    fault: TraceFault,
-    written: &'a [u8],
-) -> Case<'a> {
-    let mut case = whole(shows, ALTITUDE.as_bytes(), trace, written);
-    case.answer = Outcome::TraceRefused { index, fault };
-    case
-}
-
-/// Whether a case is answered and written as it says.
-fn is_as_said(alloc: Global, case: &Case) -> Result<bool, AllocError> {
-    let line = bytes_of(alloc, case.trace, case.cut)?;
+/// Whether a fault is answered as it says.
+fn is_as_said(rt: &impl Abort, alloc: Global, case: &Fault) -> bool {
+    let mut line = trace_of(rt, alloc, case.trace);
+    line.truncate(line.len().saturating_sub(case.cut));
     let given = Given {
-        table: case.table,
         line: &line,
         calls: case.pulls,
         writes: case.writes,
-        ..Given::by("")
+        ..Given::by(ALTITUDE)
     };
-    let ran = run_on(alloc, STREAM, given)?;
-    Ok(ran.outcome == case.answer && ran.written.as_slice() == case.written)
+    gives(rt, alloc, STREAM, given, case.answer, case.written)
 }
 
 #[test]
-fn streams_worked_traces(rt: HostRuntime) -> Result<(), Fail> {
-    let alloc = rt.alloc();
-    let zero = frame_with(&[]);
+fn streams_what_was_pulled_before_a_fault(rt: HostRuntime) {
     let five = frame_with(FIVE);
-    let second = frame_with(FIVE_SECOND);
-    let mut a_word_more = zero.to_vec(alloc)?;
-    a_word_more.extend_from_slice(&[0x47, 0x02])?;
     let cases = [
-        whole("an end", ALTITUDE.as_bytes(), &[END_AT_4000000], &zero),
-        whole(
-            "an end a slot later",
-            ALTITUDE.as_bytes(),
-            &[END_AT_4000001],
-            &a_word_more,
-        ),
-        whole(
-            "a word at a slot's time",
-            COUNTER_LAST,
-            &[WORD_AT_15625, END_AT_4000000],
-            &second,
-        ),
-        whole(
-            "a word after it",
-            COUNTER_LAST,
-            &[WORD_AT_15626, END_AT_4000000],
-            &zero,
-        ),
-        whole(
-            "even parity",
-            COUNTER_LAST,
-            &[EVEN_AT_15625, END_AT_4000000],
-            &zero,
-        ),
-        whole(
-            "nothing counts behind an end",
-            ALTITUDE.as_bytes(),
-            &[WORD_AT_0, END_AT_4000000, OTHER_KIND],
-            &five,
-        ),
-        refused("another kind", &[OTHER_KIND], 0, TraceFault::Kind, &[]),
-        refused("too late", &[TOO_LATE], 0, TraceFault::Late, &[]),
-        refused("nothing", &[], 0, TraceFault::Truncated, &[]),
-        refused(
-            "time goes back",
-            &[WORD_AT_0, WORD_AT_4000000, WORD_AT_15625],
-            2,
-            TraceFault::Back,
-            &five,
-        ),
+        Fault {
+            shows: "a word and 15 bytes",
+            trace: &[WORD_AT_0, END_AT_4000000],
+            cut: 1,
+            pulls: &[],
+            writes: &[],
+            answer: refused(1, TraceFault::Truncated),
+            written: &[],
+        },
+        Fault {
+            shows: "the second pull fails",
+            trace: &[WORD_AT_0, WORD_AT_4000000],
+            cut: 0,
+            pulls: &[1],
+            writes: &[],
+            answer: Outcome::ReadFault(Input::Line),
+            written: &five,
+        },
+        Fault {
+            shows: "the first write fails",
+            trace: &[END_AT_4000000],
+            cut: 0,
+            pulls: &[],
+            writes: &[0],
+            answer: Outcome::WriteFault,
+            written: &[],
+        },
     ];
     for case in cases {
-        assert!(rt; is_as_said(alloc, &case)?, "{}", case.shows);
+        let shows = case.shows;
+        assert!(rt; is_as_said(&rt, rt.alloc(), &case), "{shows}");
     }
-    Ok(())
 }
 
 #[test]
-fn streams_what_was_pulled_before_a_fault(rt: HostRuntime) -> Result<(), Fail> {
+fn lists_what_was_streamed(rt: HostRuntime) {
     let alloc = rt.alloc();
-    let five = frame_with(FIVE);
-    let mut cut = refused(
-        "a word and 15 bytes",
-        &[WORD_AT_0, END_AT_4000000],
-        1,
-        TraceFault::Truncated,
-        &[],
-    );
-    cut.cut = 1;
-    let mut unread = whole(
-        "the second pull fails",
-        ALTITUDE.as_bytes(),
-        &[WORD_AT_0, WORD_AT_4000000],
-        &five,
-    );
-    unread.pulls = &[1];
-    unread.answer = Outcome::ReadFault(Input::Line);
-    let mut unwritten = whole(
-        "the first write fails",
-        ALTITUDE.as_bytes(),
-        &[END_AT_4000000],
-        &[],
-    );
-    unwritten.writes = &[0];
-    unwritten.answer = Outcome::WriteFault;
-    for case in [cut, unread, unwritten] {
-        assert!(rt; is_as_said(alloc, &case)?, "{}", case.shows);
-    }
-    Ok(())
-}
-
-#[test]
-fn lists_what_was_streamed(rt: HostRuntime) -> Result<(), Fail> {
-    let alloc = rt.alloc();
-    let line = bytes_of(alloc, &[WORD_AT_0, END_AT_4000001], 0)?;
+    let line = trace_of(&rt, alloc, &[WORD_AT_0, END_AT_4000001]);
     let given = Given {
         line: &line,
         ..Given::by(ALTITUDE)
     };
-    let streamed = run_on(alloc, STREAM, given)?;
-    assert!(rt; streamed.outcome == Outcome::Done);
+    let stream = written(&rt, alloc, STREAM, given);
     let given = Given {
-        line: &streamed.written,
-        ..Given::by(ALTITUDE)
+        line: &stream,
+        ..given
     };
-    let listed = run_on(alloc, &["listbits", "t1.csv"], given)?;
-    assert!(rt;
-        listed.outcome == Outcome::Done
-            && listed.written.as_slice() == b"row,0,1,10,ALT,5\ngap,3072,16\n".as_slice()
-    );
-    Ok(())
+    let listing = b"row,0,1,10,ALT,5\ngap,3072,16\n";
+    let words = ["listbits", "t1.csv"];
+    assert!(rt; gives(&rt, alloc, &words, given, Outcome::Done, listing));
 }
 
 #[test]
-fn streams_where_nothing_fails(rt: HostRuntime) -> Result<(), Fail> {
-    let alloc = rt.alloc();
-    let image = vec![in alloc; 0]?;
-    assert!(rt; image.len() > 0);
-    let mut table = SureSource::new(ALTITUDE.as_bytes().to_vec(alloc)?);
-    let mut deck = SureDeck::new(image, END_AT_4000000.to_vec(alloc)?);
-    let words = words_of(alloc, STREAM)?;
-    let answer = sure_command(alloc, &words, &mut table, &mut deck, &mut NullSink::new());
+fn streams_where_nothing_fails(rt: HostRuntime) {
+    let answer = sure_answer(&rt, rt.alloc(), STREAM, &END_AT_4000000);
     assert!(rt; answer == Outcome::Done);
-    Ok(())
 }

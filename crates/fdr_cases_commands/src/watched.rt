@@ -1,9 +1,10 @@
 //! Images that are watched.
 
-use fdr_cases::{ALTITUDE, Given, Left, frame_with, run_on};
+use crate::commands::run;
+use fdr_cases::{ALTITUDE, Given, Left, frame_with};
 use fdr_top::Outcome;
 use std::alloc::Global;
-use std::test::Fail;
+use std::process::Abort;
 
 /// The words of a command that lists exceedances.
 const EXCEED: [&str; 3] = ["exceed", "t1.csv", "flight.img"];
@@ -15,25 +16,32 @@ pub fn frame_of(counter: u8, altitude: u8) -> [u8; 384] {
 
 /// What a command answers and writes for an image with these rules on the input, where the listed calls of the deck fail. It
 /// leaves the image as it was.
-pub fn ran(alloc: Global, image: &[u8], rules: &[u8], calls: &[u64]) -> Result<Left, Fail> {
+pub fn watch(rt: &impl Abort, alloc: Global, image: &[u8], rules: &[u8], calls: &[u64]) -> Left {
     let given = Given {
         image,
         line: rules,
         calls,
         ..Given::by(ALTITUDE)
     };
-    let ran = run_on(alloc, &EXCEED, given)?;
-    if ran.image.as_slice() != image || ran.told != 0 {
-        return Err("the disk")?;
-    }
-    Ok(ran)
+    let left = run(rt, alloc, &EXCEED, given);
+    assert!(rt; left.image.as_slice() == image && left.told == 0);
+    left
 }
 
-/// The exceedances of rules in an image.
-pub fn exceedances(alloc: Global, image: &[u8], rules: &str) -> Result<Vec<u8>, Fail> {
-    let ran = ran(alloc, image, rules.as_bytes(), &[])?;
-    if ran.outcome != Outcome::Done {
-        return Err("the answer")?;
-    }
-    Ok(ran.written)
+/// Whether a command answers and writes this for an image with these rules, where nothing fails.
+pub fn watches(
+    rt: &impl Abort,
+    alloc: Global,
+    image: &[u8],
+    rules: &[u8],
+    answer: Outcome,
+    lines: &[u8],
+) -> bool {
+    let left = watch(rt, alloc, image, rules, &[]);
+    left.outcome == answer && left.written.as_slice() == lines
+}
+
+/// Whether these are the exceedances of rules in an image.
+pub fn exceeds(rt: &impl Abort, alloc: Global, image: &[u8], rules: &str, lines: &[u8]) -> bool {
+    watches(rt, alloc, image, rules.as_bytes(), Outcome::Done, lines)
 }

@@ -2,8 +2,7 @@
 
 use fdr_deck::{Deck, MemDeck, SureDeck, Tear};
 use fdr_io::Failed;
-use std::alloc::{AllocError, Global};
-use std::test::Fail;
+use std::process::Abort;
 
 fn pull_three<D: Deck>(deck: &mut D) -> Result<(usize, [u8; 3]), Failed> {
     let mut buf = [0; 3];
@@ -21,23 +20,34 @@ fn pulls<D: Deck>(deck: &mut D, expected: &[Result<(usize, [u8; 3]), Failed>]) -
     true
 }
 
-fn deck_of(
-    alloc: Global,
-    image: &[u8],
-    line: &[u8],
-    failing: &[u64],
-) -> Result<MemDeck, AllocError> {
-    Ok(MemDeck::new(
-        alloc,
-        image.to_vec(alloc)?,
-        line.to_vec(alloc)?,
-        failing.to_vec(alloc)?,
-    ))
+/// A copy of these bytes.
+pub fn copied(rt: &(impl Abort + AllocGlobal), bytes: &[u8]) -> Vec<u8> {
+    bytes.to_vec(rt.alloc()).expect(rt, "a copy")
+}
+
+/// A copy of the numbers of calls.
+pub fn calls_of(rt: &(impl Abort + AllocGlobal), numbers: &[u64]) -> Vec<u64> {
+    numbers.to_vec(rt.alloc()).expect(rt, "the calls")
+}
+
+fn deck_of(rt: &(impl Abort + AllocGlobal), image: &[u8], line: &[u8], failing: &[u64]) -> MemDeck {
+    MemDeck::new(
+        rt.alloc(),
+        copied(rt, image),
+        copied(rt, line),
+        calls_of(rt, failing),
+    )
+}
+
+fn sure_deck_of(rt: &(impl Abort + AllocGlobal), image: &[u8], line: &[u8]) -> SureDeck {
+    let image = copied(rt, image);
+    assert!(rt; image.len() > 0);
+    SureDeck::new(image, copied(rt, line))
 }
 
 #[test]
-fn listed_pulls_fail_and_take_nothing(rt: HostRuntime) -> Result<(), Fail> {
-    let mut deck = deck_of(rt.alloc(), &[], &[1, 2, 3, 4], &[1])?;
+fn listed_pulls_fail_and_take_nothing(rt: HostRuntime) {
+    let mut deck = deck_of(&rt, &[], &[1, 2, 3, 4], &[1]);
     let expected = [
         Ok((3, [1, 2, 3])),
         Err(Failed),
@@ -45,30 +55,27 @@ fn listed_pulls_fail_and_take_nothing(rt: HostRuntime) -> Result<(), Fail> {
         Ok((0, [0, 0, 0])),
     ];
     assert!(rt; pulls(&mut deck, &expected));
-    Ok(())
 }
 
 #[test]
-fn a_sure_deck_gives_its_line(rt: HostRuntime) -> Result<(), Fail> {
-    let image = [0].to_vec(rt.alloc())?;
-    assert!(rt; image.len() > 0);
-    let mut deck = SureDeck::new(image, [5, 6, 7, 8].to_vec(rt.alloc())?);
+fn a_sure_deck_gives_its_line(rt: HostRuntime) {
+    let mut deck = sure_deck_of(&rt, &[0], &[5, 6, 7, 8]);
     let expected = [Ok((3, [5, 6, 7])), Ok((1, [8, 0, 0])), Ok((0, [0, 0, 0]))];
     assert!(rt; pulls(&mut deck, &expected));
-    Ok(())
 }
 
 // A call that is stopped, how what is pending is torn, and the image after it.
 type Stop<'a> = (u64, Tear, &'a [u8]);
 
 // Whether the deck had as many calls, and stops leave exactly these images.
-fn leaves(alloc: Global, deck: &MemDeck, calls: u64, stops: &[Stop<'_>]) -> Result<bool, Fail> {
+fn leaves(rt: &(impl Abort + AllocGlobal), deck: &MemDeck, calls: u64, stops: &[Stop<'_>]) -> bool {
+    let mut holds = deck.calls() == calls;
     for (call, tear, image) in stops {
-        if *call >= deck.calls() || deck.stop(alloc, *call, *tear)?.as_slice() != *image {
-            return Ok(false);
-        }
+        assert!(rt; *call < deck.calls());
+        let left = deck.stop(rt.alloc(), *call, *tear).expect(rt, "a stop");
+        holds = holds && left.as_slice() == *image;
     }
-    Ok(deck.calls() == calls)
+    holds
 }
 
 // Writes bytes within the image, which is one call.
@@ -80,23 +87,38 @@ fn put(deck: &mut MemDeck, at: u64, bytes: &[u8]) -> Result<(), Failed> {
     deck.write(at, bytes)
 }
 
+// Reads the first eight bytes of the image, which is one call.
+fn get(deck: &mut MemDeck) -> Result<[u8; 8], Failed> {
+    let mut buf = [9; 8];
+    if deck.image().len() < 8 {
+        return Err(Failed);
+    }
+    deck.read(0, &mut buf)?;
+    Ok(buf)
+}
+
+fn sync<D: Deck>(deck: &mut D) -> Result<(), Failed> {
+    deck.sync()
+}
+
+fn size<D: Deck>(deck: &mut D) -> Result<u64, Failed> {
+    deck.size()
+}
+
 #[test]
-fn a_stop_tears_what_is_pending(rt: HostRuntime) -> Result<(), Fail> {
-    let mut deck = deck_of(rt.alloc(), &[0; 8], &[], &[1])?;
+fn a_stop_tears_what_is_pending(rt: HostRuntime) {
+    let mut deck = deck_of(&rt, &[0; 8], &[], &[1]);
     deck.announce(7);
+    let zeros = [0; 8];
+    let written = [0, 0, 1, 2, 3, 4, 0, 0];
     assert!(rt;
         put(&mut deck, 2, &[1, 2, 3, 4]) == Ok(())
-            && deck.sync() == Err(Failed)
-            && deck.sync() == Ok(())
+            && sync(&mut deck) == Err(Failed)
+            && sync(&mut deck) == Ok(())
+            && deck.image() == written.as_slice()
+            && deck.told() == 7
+            && get(&mut deck) == Ok(written)
     );
-    let written = [0, 0, 1, 2, 3, 4, 0, 0];
-    assert!(rt; deck.image() == written.as_slice() && deck.told() == 7);
-    let mut read = [9; 8];
-    if deck.image().len() == 8 {
-        assert!(rt; deck.read(0, &mut read) == Ok(()));
-    }
-    assert!(rt; read == written);
-    let zeros = [0; 8];
     let stops: [Stop<'_>; 6] = [
         (0, Tear::Old, &zeros),
         (0, Tear::New, &written),
@@ -105,19 +127,15 @@ fn a_stop_tears_what_is_pending(rt: HostRuntime) -> Result<(), Fail> {
         (2, Tear::Old, &zeros),
         (3, Tear::Old, &written),
     ];
-    assert!(rt; leaves(rt.alloc(), &deck, 4, &stops)?);
-    if deck.calls() > 0 {
-        assert!(rt; deck.told_at(0) == 7);
-    }
-    Ok(())
+    assert!(rt; leaves(&rt, &deck, 4, &stops) && deck.calls() > 0 && deck.told_at(0) == 7);
 }
 
 #[test]
-fn a_stop_tears_what_failed(rt: HostRuntime) -> Result<(), Fail> {
-    let mut deck = deck_of(rt.alloc(), &[7; 7], &[], &[0])?;
+fn a_stop_tears_what_failed(rt: HostRuntime) {
+    let mut deck = deck_of(&rt, &[7; 7], &[], &[0]);
     assert!(rt;
         put(&mut deck, 1, &[1, 2, 3, 4, 5]) == Err(Failed)
-            && deck.size() == Ok(7)
+            && size(&mut deck) == Ok(7)
             && deck.image() == [7; 7].as_slice()
     );
     let stops: [Stop<'_>; 4] = [
@@ -126,19 +144,17 @@ fn a_stop_tears_what_failed(rt: HostRuntime) -> Result<(), Fail> {
         (1, Tear::Half, &[7, 1, 2, 7, 7, 7, 7]),
         (1, Tear::Fill(9), &[7, 9, 9, 9, 9, 9, 7]),
     ];
-    assert!(rt; leaves(rt.alloc(), &deck, 2, &stops)?);
-    Ok(())
+    assert!(rt; leaves(&rt, &deck, 2, &stops));
 }
 
 #[test]
-fn an_empty_disk_is_provided(rt: HostRuntime) -> Result<(), Fail> {
-    let mut deck = deck_of(rt.alloc(), &[], &[], &[])?;
-    assert!(rt; deck.provide(4) == Ok(()) && deck.size() == Ok(4));
+fn an_empty_disk_is_provided(rt: HostRuntime) {
+    let mut deck = deck_of(&rt, &[], &[], &[]);
+    assert!(rt; deck.provide(4) == Ok(()) && size(&mut deck) == Ok(4));
     let stops: [Stop<'_>; 3] = [
         (0, Tear::Old, &[]),
         (0, Tear::Half, &[0, 0]),
         (0, Tear::New, &[0; 4]),
     ];
-    assert!(rt; leaves(rt.alloc(), &deck, 2, &stops)?);
-    Ok(())
+    assert!(rt; leaves(&rt, &deck, 2, &stops));
 }

@@ -1,10 +1,10 @@
 //! The runs of images, whole and damaged.
 
-use fdr_deck::{Deck, MemDeck, SureDeck};
+use crate::disks::{calls_of, copied};
+use fdr_deck::{MemDeck, SureDeck};
 use fdr_salvage::{Run, SalvageFault, runs};
 use fdr_slot::{Header, OPEN, image_size, in_limits, write_header, write_slot_head};
-use std::alloc::{AllocError, Global};
-use std::test::Fail;
+use std::process::Abort;
 
 const EIGHT: Header = Header {
     slots: 8,
@@ -24,35 +24,31 @@ const SLOT: usize = 80;
 
 /// An image with this header, this gate, and these numbers in its slots, in session 1. The gate of a slot without a number is closed.
 fn image_of(
-    alloc: Global,
+    rt: &(impl Abort + AllocGlobal),
     header: [u8; HEADER],
     gate: u8,
     numbers: &[Option<u64>],
-) -> Result<Vec<u8>, AllocError> {
+) -> Vec<u8> {
     let mut header = header;
     header[0] = gate;
-    let mut image = Vec::from_slice(alloc, &header)?;
+    let mut image = copied(rt, &header);
     for number in numbers {
         let mut head = write_slot_head(64, 1, number.unwrap_or(0));
         if number.is_some() {
             head[0] = OPEN;
         }
-        image.extend_from_slice(&head)?;
-        image.extend_from_slice(&[0; 64])?;
+        image.extend_from_slice(&head).expect(rt, "room");
+        image.extend_from_slice(&[0; 64]).expect(rt, "room");
     }
-    Ok(image)
+    image
 }
 
 /// Whether these are the runs of the image.
-fn has_runs(alloc: Global, h: &Header, image: Vec<u8>, wanted: &[Run]) -> Result<bool, Fail> {
-    if !in_limits(h) || (image.len() as u64) < image_size(h) {
-        return Ok(false);
-    }
-    let mut deck = SureDeck::new(image, Vec::new(alloc));
-    match runs(alloc, &mut deck, h) {
-        Ok(found) => Ok(found.as_slice() == wanted),
-        Err(_) => Ok(false),
-    }
+fn has_runs(rt: &(impl Abort + AllocGlobal), h: &Header, image: Vec<u8>, wanted: &[Run]) -> bool {
+    assert!(rt; in_limits(h) && image.len() as u64 >= image_size(h));
+    let mut deck = SureDeck::new(image, Vec::new(rt.alloc()));
+    let found = runs(rt.alloc(), &mut deck, h).expect(rt, "the runs");
+    found.as_slice() == wanted
 }
 
 fn run_of(first: u64, next: u64) -> Run {
@@ -60,21 +56,17 @@ fn run_of(first: u64, next: u64) -> Run {
 }
 
 #[test]
-fn a_ring_with_lost_blocks_has_two_runs(rt: HostRuntime) -> Result<(), Fail> {
-    let alloc = rt.alloc();
+fn a_ring_with_lost_blocks_has_two_runs(rt: HostRuntime) {
     let numbers = [Some(8), Some(9), None, None, None, Some(5), None, None];
-    let image = image_of(alloc, write_header(&EIGHT), OPEN, &numbers)?;
-    assert!(rt; image.len() == 704);
     let wanted = [run_of(5, 6), run_of(8, 10)];
-    assert!(rt; has_runs(alloc, &EIGHT, image, &wanted)?);
-    let closed = image_of(alloc, write_header(&EIGHT), 0, &numbers)?;
-    assert!(rt; has_runs(alloc, &EIGHT, closed, &wanted)?);
-    Ok(())
+    for gate in [OPEN, 0] {
+        let image = image_of(&rt, write_header(&EIGHT), gate, &numbers);
+        assert!(rt; image.len() == 704 && has_runs(&rt, &EIGHT, image, &wanted));
+    }
 }
 
 #[test]
-fn rings_of_four(rt: HostRuntime) -> Result<(), Fail> {
-    let alloc = rt.alloc();
+fn rings_of_four(rt: HostRuntime) {
     let last = (1 << 48) - 1;
     // what is in the slots, and the runs
     let none: [Run; 0] = [];
@@ -110,10 +102,9 @@ fn rings_of_four(rt: HostRuntime) -> Result<(), Fail> {
         ),
     ];
     for (numbers, wanted) in cases {
-        let image = image_of(alloc, write_header(&FOUR), OPEN, &numbers)?;
-        assert!(rt; has_runs(alloc, &FOUR, image, wanted)?);
+        let image = image_of(&rt, write_header(&FOUR), OPEN, &numbers);
+        assert!(rt; has_runs(&rt, &FOUR, image, wanted));
     }
-    Ok(())
 }
 
 /// The number that bytes of an image say, the most significant first.
@@ -148,71 +139,77 @@ fn holds(image: &[u8], number: u64) -> bool {
     false
 }
 
-/// The runs of an image of four slots by their meaning: each begins at a number that is held without the one before, and ends
-/// before the first that isn't held.
-fn runs_by_meaning(alloc: Global, image: &[u8]) -> Result<Vec<Run>, AllocError> {
-    let mut found = Vec::new(alloc);
+/// The run that begins in a slot of an image of four, by its meaning: at a number that is held without the one before, and it
+/// ends before the first that isn't held.
+fn run_from(image: &[u8], slot: usize) -> Option<Run> {
+    let first = number_in(image, slot)?;
+    if first > 0 && holds(image, first - 1) {
+        return None;
+    }
+    let mut next = first;
+    for _block in 0..4 {
+        if holds(image, next) {
+            next = next.saturating_add(1);
+        }
+    }
+    Some(run_of(first, next))
+}
+
+/// The runs of an image of four slots by their meaning.
+fn runs_by_meaning(rt: &(impl Abort + AllocGlobal), image: &[u8]) -> Vec<Run> {
+    let mut found = Vec::new(rt.alloc());
     for slot in 0..4 {
-        let Some(first) = number_in(image, slot) else {
-            continue;
-        };
-        if first > 0 && holds(image, first - 1) {
-            continue;
+        if let Some(run) = run_from(image, slot) {
+            found.push(run).expect(rt, "room");
         }
-        let mut next = first;
-        for _block in 0..4 {
-            if holds(image, next) {
-                next = next.saturating_add(1);
-            }
-        }
-        found.push(run_of(first, next))?;
     }
     found.sort_unstable_by_key(|run| run.first);
-    Ok(found)
+    found
+}
+
+/// Whether an image of four with another byte at this place has the runs that its bytes mean.
+fn has_its_runs(rt: &(impl Abort + AllocGlobal), image: &[u8], at: usize, value: u8) -> bool {
+    let mut altered = copied(rt, image);
+    let place = altered.get_mut(at).expect(rt, "a place");
+    *place = value;
+    let wanted = runs_by_meaning(rt, &altered);
+    has_runs(rt, &FOUR, altered, &wanted)
 }
 
 #[test]
-fn each_byte_of_a_head_altered(rt: HostRuntime) -> Result<(), Fail> {
-    let alloc = rt.alloc();
+fn each_byte_of_a_head_altered(rt: HostRuntime) {
     for numbers in [
         [Some(4), Some(5), Some(2), Some(3)],
         [Some(8), Some(5), Some(6), Some(3)],
         [Some(0), Some(1), None, Some(0x5A03)],
     ] {
-        let image = image_of(alloc, write_header(&FOUR), OPEN, &numbers)?;
+        let image = image_of(&rt, write_header(&FOUR), OPEN, &numbers);
         assert!(rt; image.len() == HEADER + 4 * SLOT);
         for slot in 0..4 {
             for byte in 0..HEAD {
                 for value in [0x00, 0x5A, 0xFF] {
-                    let mut altered = image.clone()?;
-                    if let Some(place) = altered.get_mut(HEADER + slot * SLOT + byte) {
-                        *place = value;
-                    }
-                    let wanted = runs_by_meaning(alloc, &altered)?;
-                    assert!(rt; has_runs(alloc, &FOUR, altered, &wanted)?);
+                    let at = HEADER + slot * SLOT + byte;
+                    assert!(rt; has_its_runs(&rt, &image, at, value));
                 }
             }
         }
     }
-    Ok(())
+}
+
+/// What looking for the runs of an image answers where this call fails, and in how many calls.
+fn failed_at(rt: &(impl Abort + AllocGlobal), failing: u64) -> (Option<SalvageFault>, u64) {
+    let numbers = [Some(4), Some(5), None, Some(3)];
+    let image = image_of(rt, write_header(&FOUR), OPEN, &numbers);
+    let calls = calls_of(rt, &[failing]);
+    let mut deck = MemDeck::new(rt.alloc(), image, Vec::new(rt.alloc()), calls);
+    assert!(rt; deck.image().len() == 384);
+    let fault = runs(rt.alloc(), &mut deck, &FOUR).err();
+    (fault, deck.calls())
 }
 
 #[test]
-fn each_read_of_a_slot_may_fail(rt: HostRuntime) -> Result<(), Fail> {
-    let alloc = rt.alloc();
+fn each_read_of_a_slot_may_fail(rt: HostRuntime) {
     for failing in 0..4 {
-        let image = image_of(
-            alloc,
-            write_header(&FOUR),
-            OPEN,
-            &[Some(4), Some(5), None, Some(3)],
-        )?;
-        let mut deck = MemDeck::new(alloc, image, Vec::new(alloc), vec![in alloc; failing]?);
-        assert!(rt;
-            deck.image().len() == 384
-                && runs(alloc, &mut deck, &FOUR).err() == Some(SalvageFault::DiskFault)
-                && deck.calls() == failing + 1
-        );
+        assert!(rt; failed_at(&rt, failing) == (Some(SalvageFault::DiskFault), failing + 1));
     }
-    Ok(())
 }

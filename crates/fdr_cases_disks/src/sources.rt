@@ -1,7 +1,8 @@
 //! Sources, sinks and buffered output.
 
+use crate::disks::{calls_of, copied};
 use fdr_io::{Failed, MemSink, MemSource, NullSink, OutBuffer, Source, SureSource, write_whole};
-use std::test::Fail;
+use std::process::Abort;
 
 fn read_three<S: Source>(source: &mut S) -> Result<(usize, [u8; 3]), Failed> {
     let mut buf = [0; 3];
@@ -9,25 +10,43 @@ fn read_three<S: Source>(source: &mut S) -> Result<(usize, [u8; 3]), Failed> {
     Ok((n, buf))
 }
 
-#[test]
-fn listed_reads_fail_and_take_nothing(rt: HostRuntime) -> Result<(), Fail> {
-    let mut source = MemSource::new(vec![in rt.alloc(); 1, 2, 3, 4, 5]?, vec![in rt.alloc(); 1]?);
-    assert!(rt;
-        read_three(&mut source) == Ok((3, [1, 2, 3]))
-            && read_three(&mut source) == Err(Failed)
-            && read_three(&mut source) == Ok((2, [4, 5, 0]))
-            && read_three(&mut source) == Ok((0, [0, 0, 0]))
-    );
-    let mut sure = SureSource::new(vec![in rt.alloc(); 9]?);
-    assert!(rt;
-        read_three(&mut sure) == Ok((1, [9, 0, 0])) && read_three(&mut sure) == Ok((0, [0, 0, 0]))
-    );
-    Ok(())
+// Whether reads of three bytes give this, one after the other.
+fn gives<S: Source>(source: &mut S, expected: &[Result<(usize, [u8; 3]), Failed>]) -> bool {
+    for read in expected {
+        if read_three(source) != *read {
+            return false;
+        }
+    }
+    true
+}
+
+// A sink whose writes with these numbers fail.
+fn sink_of(rt: &(impl Abort + AllocGlobal), failing: &[u64]) -> MemSink {
+    MemSink::new(rt.alloc(), calls_of(rt, failing))
+}
+
+fn output_of(rt: &(impl Abort + AllocGlobal)) -> OutBuffer {
+    OutBuffer::new(rt.alloc()).expect(rt, "a buffer")
 }
 
 #[test]
-fn listed_writes_fail_and_keep_nothing(rt: HostRuntime) -> Result<(), Fail> {
-    let mut sink = MemSink::new(rt.alloc(), vec![in rt.alloc(); 1]?);
+fn listed_reads_fail_and_take_nothing(rt: HostRuntime) {
+    let mut source = MemSource::new(copied(&rt, &[1, 2, 3, 4, 5]), calls_of(&rt, &[1]));
+    let expected = [
+        Ok((3, [1, 2, 3])),
+        Err(Failed),
+        Ok((2, [4, 5, 0])),
+        Ok((0, [0, 0, 0])),
+    ];
+    let mut sure = SureSource::new(copied(&rt, &[9]));
+    assert!(rt;
+        gives(&mut source, &expected) && gives(&mut sure, &[Ok((1, [9, 0, 0])), Ok((0, [0, 0, 0]))])
+    );
+}
+
+#[test]
+fn listed_writes_fail_and_keep_nothing(rt: HostRuntime) {
+    let mut sink = sink_of(&rt, &[1]);
     assert!(rt;
         write_whole(&mut sink, b"ab") == Ok(())
             && write_whole(&mut sink, b"cd") == Err(Failed)
@@ -35,28 +54,27 @@ fn listed_writes_fail_and_keep_nothing(rt: HostRuntime) -> Result<(), Fail> {
             && sink.bytes() == b"abef".as_slice()
             && write_whole(&mut NullSink::new(), b"ab") == Ok(())
     );
-    Ok(())
 }
 
 #[test]
-fn buffered_output_goes_out_in_large_pieces(rt: HostRuntime) -> Result<(), Fail> {
-    let mut sink = MemSink::new(rt.alloc(), Vec::new(rt.alloc()));
-    let mut output = OutBuffer::new(rt.alloc())?;
-    assert!(rt; output.add(&mut sink, b"one ") == Ok(()) && sink.bytes().is_empty());
-    let large = vec![in rt.alloc(); 7u8; 65535]?;
+fn buffered_output_goes_out_in_large_pieces(rt: HostRuntime) {
+    let mut sink = sink_of(&rt, &[]);
+    let mut output = output_of(&rt);
+    let large = vec![in rt.alloc(); 7u8; 65535].expect(&rt, "the bytes");
     assert!(rt;
-        output.add(&mut sink, &large) == Ok(())
+        output.add(&mut sink, b"one ") == Ok(())
+            && sink.bytes().is_empty()
+            && output.add(&mut sink, &large) == Ok(())
             && sink.bytes() == b"one ".as_slice()
             && output.finish(&mut sink) == Ok(())
             && sink.bytes().len() == 65539
     );
-    Ok(())
 }
 
 #[test]
-fn texts_come_one_after_another(rt: HostRuntime) -> Result<(), Fail> {
-    let mut sink = MemSink::new(rt.alloc(), Vec::new(rt.alloc()));
-    let mut output = OutBuffer::new(rt.alloc())?;
+fn texts_come_one_after_another(rt: HostRuntime) {
+    let mut sink = sink_of(&rt, &[]);
+    let mut output = output_of(&rt);
     assert!(rt; output.make_room(&mut sink, 64) == Ok(()));
     output.put_three((b"one more", 3), (b", ", 2), (b"two and no more", 3));
     output.put_three((b"!", 0), (b"none", 0), (b"?", 1));
@@ -67,5 +85,4 @@ fn texts_come_one_after_another(rt: HostRuntime) -> Result<(), Fail> {
             && output.make_room(&mut sink, 65536) == Ok(())
             && sink.bytes() == b"one, two? three, four".as_slice()
     );
-    Ok(())
 }

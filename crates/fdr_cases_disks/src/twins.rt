@@ -1,10 +1,10 @@
 //! Twins of disks, one of which may fail or die.
 
+use crate::disks::{calls_of, copied};
 use fdr_deck::{Deck, Tear};
 use fdr_io::Failed;
 use fdr_twin::{MemTwin, Side, SureTwin, Twin};
-use std::alloc::{AllocError, Global};
-use std::test::Fail;
+use std::process::Abort;
 
 // The input of a twin and its calls that fail, and from which calls on each disk is dead. Both disks are 4 zeros.
 #[derive(Clone, Copy)]
@@ -23,16 +23,28 @@ const NOTHING: Given<'static> = Given {
     dead_second: None,
 };
 
-fn twin_of(alloc: Global, given: Given<'_>) -> Result<MemTwin, AllocError> {
-    Ok(MemTwin::new(
-        alloc,
-        [0; 4].to_vec(alloc)?,
-        [0; 4].to_vec(alloc)?,
-        given.input.to_vec(alloc)?,
-        given.failing.to_vec(alloc)?,
+fn twin_of(rt: &(impl Abort + AllocGlobal), given: Given<'_>) -> MemTwin {
+    MemTwin::new(
+        rt.alloc(),
+        copied(rt, &[0; 4]),
+        copied(rt, &[0; 4]),
+        copied(rt, given.input),
+        calls_of(rt, given.failing),
         given.dead_first,
         given.dead_second,
-    ))
+    )
+}
+
+// A twin of these disks with an input, none of whose calls fail.
+fn sure_twin_of(
+    rt: &(impl Abort + AllocGlobal),
+    first: &[u8],
+    second: &[u8],
+    input: &[u8],
+) -> SureTwin {
+    let (first, second) = (copied(rt, first), copied(rt, second));
+    assert!(rt; first.len() > 0 && second.len() > 0);
+    SureTwin::new(first, second, copied(rt, input))
 }
 
 // Writes the bytes from 1 on, on this side. It is two calls.
@@ -118,22 +130,19 @@ fn gives<T: Twin>(twin: &mut T, steps: &[(Step<'_>, Answer)]) -> bool {
 type Stop<'a> = (u64, Tear, &'a [u8], &'a [u8]);
 
 // Whether the twin had as many calls, and stops leave exactly these images.
-fn leaves(alloc: Global, twin: &MemTwin, calls: u64, stops: &[Stop<'_>]) -> Result<bool, Fail> {
+fn leaves(rt: &(impl Abort + AllocGlobal), twin: &MemTwin, calls: u64, stops: &[Stop<'_>]) -> bool {
+    let mut holds = twin.calls() == calls;
     for (call, tear, first, second) in stops {
-        if *call >= twin.calls() {
-            return Ok(false);
-        }
-        let (left_first, left_second) = twin.stop(alloc, *call, *tear)?;
-        if left_first.as_slice() != *first || left_second.as_slice() != *second {
-            return Ok(false);
-        }
+        assert!(rt; *call < twin.calls());
+        let (left_first, left_second) = twin.stop(rt.alloc(), *call, *tear).expect(rt, "a stop");
+        holds = holds && left_first.as_slice() == *first && left_second.as_slice() == *second;
     }
-    Ok(twin.calls() == calls)
+    holds
 }
 
 #[test]
-fn a_stop_tears_what_is_pending_on_each_side(rt: HostRuntime) -> Result<(), Fail> {
-    let mut twin = twin_of(rt.alloc(), NOTHING)?;
+fn a_stop_tears_what_is_pending_on_each_side(rt: HostRuntime) {
+    let mut twin = twin_of(&rt, NOTHING);
     let steps = [
         (Step::Put(Side::First, &[1, 2]), Answer::Done),
         (Step::Sync(Side::First), Answer::Done),
@@ -142,7 +151,6 @@ fn a_stop_tears_what_is_pending_on_each_side(rt: HostRuntime) -> Result<(), Fail
         (Step::Get(Side::First), Answer::Got([0, 1, 2, 0])),
         (Step::Get(Side::Second), Answer::Got([0, 3, 4, 5])),
     ];
-    assert!(rt; gives(&mut twin, &steps));
     let none = [0, 0, 0, 0];
     let settled = [0, 1, 2, 0];
     let stops: [Stop<'_>; 7] = [
@@ -154,14 +162,13 @@ fn a_stop_tears_what_is_pending_on_each_side(rt: HostRuntime) -> Result<(), Fail
         (4, Tear::Half, &settled, &[0, 3, 0, 0]),
         (9, Tear::Fill(9), &settled, &[0, 9, 9, 9]),
     ];
-    assert!(rt; leaves(rt.alloc(), &twin, 10, &stops)?);
-    Ok(())
+    assert!(rt; gives(&mut twin, &steps) && leaves(&rt, &twin, 10, &stops));
 }
 
 #[test]
-fn listed_calls_fail_on_the_side_that_they_are_of(rt: HostRuntime) -> Result<(), Fail> {
+fn listed_calls_fail_on_the_side_that_they_are_of(rt: HostRuntime) {
     let failing = &[1, 4];
-    let mut twin = twin_of(rt.alloc(), Given { failing, ..NOTHING })?;
+    let mut twin = twin_of(&rt, Given { failing, ..NOTHING });
     let steps = [
         (Step::Put(Side::First, &[1, 2, 3]), Answer::Failed),
         (Step::Put(Side::Second, &[4, 5, 6]), Answer::Done),
@@ -169,17 +176,15 @@ fn listed_calls_fail_on_the_side_that_they_are_of(rt: HostRuntime) -> Result<(),
         (Step::Get(Side::First), Answer::Got([0, 0, 0, 0])),
         (Step::Get(Side::Second), Answer::Got([0, 4, 5, 6])),
     ];
-    assert!(rt; gives(&mut twin, &steps));
     let stops: [Stop<'_>; 2] = [
         (8, Tear::New, &[0, 1, 2, 3], &[0, 4, 5, 6]),
         (8, Tear::Old, &[0, 0, 0, 0], &[0, 0, 0, 0]),
     ];
-    assert!(rt; leaves(rt.alloc(), &twin, 9, &stops)?);
-    Ok(())
+    assert!(rt; gives(&mut twin, &steps) && leaves(&rt, &twin, 9, &stops));
 }
 
 #[test]
-fn a_dead_disk_fails_from_its_call_on(rt: HostRuntime) -> Result<(), Fail> {
+fn a_dead_disk_fails_from_its_call_on(rt: HostRuntime) {
     let dies = Given {
         input: &[7, 8, 9],
         dead_second: Some(3),
@@ -193,7 +198,7 @@ fn a_dead_disk_fails_from_its_call_on(rt: HostRuntime) -> Result<(), Fail> {
         (Step::Pull(Side::Second), Answer::Pulled(2, [7, 8])),
         (Step::Put(Side::First, &[2]), Answer::Done),
     ];
-    let mut twin = twin_of(rt.alloc(), dies)?;
+    let mut twin = twin_of(&rt, dies);
     assert!(rt;
         gives(&mut twin, &steps)
             && twin.image(Side::First) == [0, 2, 0, 0].as_slice()
@@ -207,19 +212,18 @@ fn a_dead_disk_fails_from_its_call_on(rt: HostRuntime) -> Result<(), Fail> {
         (Step::Put(Side::First, &[1]), Answer::Failed),
         (Step::Put(Side::Second, &[1]), Answer::Done),
     ];
-    assert!(rt; gives(&mut twin_of(rt.alloc(), first_dies)?, &steps));
-    Ok(())
+    assert!(rt; gives(&mut twin_of(&rt, first_dies), &steps));
 }
 
 #[test]
-fn the_input_and_the_announced_number_are_of_no_side(rt: HostRuntime) -> Result<(), Fail> {
+fn the_input_and_the_announced_number_are_of_no_side(rt: HostRuntime) {
     let given = Given {
         input: &[7, 8, 9],
         failing: &[1],
         dead_first: Some(0),
         dead_second: Some(0),
     };
-    let mut twin = twin_of(rt.alloc(), given)?;
+    let mut twin = twin_of(&rt, given);
     assert!(rt;
         gives(
             &mut twin,
@@ -233,39 +237,47 @@ fn the_input_and_the_announced_number_are_of_no_side(rt: HostRuntime) -> Result<
         (Step::Pull(Side::First), Answer::Pulled(0, [0, 0])),
     ];
     assert!(rt; gives(&mut twin, &steps) && twin.told() == 5 && twin.calls() == 4);
-    Ok(())
 }
 
-#[test]
-fn an_empty_disk_is_provided(rt: HostRuntime) -> Result<(), Fail> {
+// A twin of two empty disks, whose second call fails.
+fn empty_twin(rt: &(impl Abort + AllocGlobal)) -> MemTwin {
     let alloc = rt.alloc();
-    let mut twin = MemTwin::new(
+    MemTwin::new(
         alloc,
         Vec::new(alloc),
         Vec::new(alloc),
         Vec::new(alloc),
-        [1].to_vec(alloc)?,
+        calls_of(rt, &[1]),
         None,
         None,
+    )
+}
+
+// Provides this many bytes on a side.
+fn provide<T: Twin>(twin: &mut T, side: Side, size: u64) -> Result<(), Failed> {
+    twin.turn(side);
+    twin.provide(size)
+}
+
+#[test]
+fn an_empty_disk_is_provided(rt: HostRuntime) {
+    let mut twin = empty_twin(&rt);
+    assert!(rt;
+        provide(&mut twin, Side::First, 4) == Ok(())
+            && provide(&mut twin, Side::Second, 2) == Err(Failed)
+            && twin.size() == Ok(0)
     );
-    assert!(rt; twin.provide(4) == Ok(()));
-    twin.turn(Side::Second);
-    assert!(rt; twin.provide(2) == Err(Failed) && twin.size() == Ok(0));
     let stops: [Stop<'_>; 3] = [
         (0, Tear::Half, &[0, 0], &[]),
         (1, Tear::Old, &[0, 0, 0, 0], &[]),
         (2, Tear::New, &[0, 0, 0, 0], &[0, 0]),
     ];
-    assert!(rt; leaves(alloc, &twin, 3, &stops)?);
-    Ok(())
+    assert!(rt; leaves(&rt, &twin, 3, &stops));
 }
 
 #[test]
-fn a_sure_twin_keeps_both_sides(rt: HostRuntime) -> Result<(), Fail> {
-    let alloc = rt.alloc();
-    let (first, second) = ([0; 4].to_vec(alloc)?, [9; 4].to_vec(alloc)?);
-    assert!(rt; first.len() > 0 && second.len() > 0);
-    let mut twin = SureTwin::new(first, second, [7, 8, 9].to_vec(alloc)?);
+fn a_sure_twin_keeps_both_sides(rt: HostRuntime) {
+    let mut twin = sure_twin_of(&rt, &[0; 4], &[9; 4], &[7, 8, 9]);
     let steps = [
         (Step::Put(Side::First, &[1, 2]), Answer::Done),
         (Step::Put(Side::Second, &[3]), Answer::Done),
@@ -277,5 +289,4 @@ fn a_sure_twin_keeps_both_sides(rt: HostRuntime) -> Result<(), Fail> {
         (Step::Pull(Side::Second), Answer::Pulled(0, [0, 0])),
     ];
     assert!(rt; gives(&mut twin, &steps));
-    Ok(())
 }

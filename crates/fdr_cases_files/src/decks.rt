@@ -7,7 +7,6 @@ use fdr_deck::Deck;
 use fdr_files::ImageFile;
 use fdr_io::Failed;
 use std::io::{Sink, sink};
-use std::test::Fail;
 
 fn write_some<S: fdr_io::Sink>(sink: &mut S) -> Result<usize, Failed> {
     sink.write(b"three")
@@ -56,15 +55,14 @@ fn deck_over<'a>(
 }
 
 #[test]
-fn a_writer_takes_bytes_or_faults(rt: HostRuntime) -> Result<(), Fail> {
+fn a_writer_takes_bytes_or_faults(rt: HostRuntime) {
     let mut room = [0u8; 4];
     let mut sink = OutSink::new(room.as_mut_slice());
     assert!(rt; write_some(&mut sink) == Ok(4) && write_some(&mut sink) == Err(Failed));
-    Ok(())
 }
 
 #[test]
-fn a_line_is_pulled_to_its_end(rt: HostRuntime) -> Result<(), Fail> {
+fn a_line_is_pulled_to_its_end(rt: HostRuntime) {
     let image = ImageFile::new(&rt, "", false);
     let mut deck = FileDeck::new(image, b"abc".as_slice(), sink());
     assert!(rt;
@@ -72,11 +70,10 @@ fn a_line_is_pulled_to_its_end(rt: HostRuntime) -> Result<(), Fail> {
             && pull_some(&mut deck) == Ok((1, *b"c\0"))
             && pull_some(&mut deck) == Ok((0, [0; 2]))
     );
-    Ok(())
 }
 
 #[test]
-fn an_announcement_is_one_line_in_one_write(rt: HostRuntime) -> Result<(), Fail> {
+fn an_announcement_is_one_line_in_one_write(rt: HostRuntime) {
     let mut kept = Vec::new(rt.alloc());
     {
         let image = ImageFile::new(&rt, "", false);
@@ -84,22 +81,20 @@ fn an_announcement_is_one_line_in_one_write(rt: HostRuntime) -> Result<(), Fail>
         announce_some(&mut deck);
     }
     assert!(rt; kept.as_slice() == b"ack 0\n|ack 281474976710656\n|".as_slice());
-    Ok(())
 }
 
 #[test]
-fn a_disk_is_a_file(rt: HostRuntime) -> Result<(), Fail> {
+fn a_disk_is_a_file(rt: HostRuntime) {
     let path = "image.bin";
     let mut deck = deck_over(&rt, path, true);
     assert!(rt;
         measure(&mut deck) == Ok(0)
             && make_some(&mut deck) == Ok(())
             && store_some(&mut deck) == Ok([0, 7, 8, 0])
-            && has_at(&rt, path, 50, &[0, 7, 8, 0])?
+            && has_at(&rt, path, 50, &[0, 7, 8, 0])
     );
     let mut other = deck_over(&rt, path, true);
     assert!(rt; measure(&mut other) == Err(Failed));
     deck.discard();
-    assert!(rt; !is_there(&rt, path)?);
-    Ok(())
+    assert!(rt; !is_there(&rt, path));
 }

@@ -6,8 +6,8 @@ use fdr_files::{ImageFile, Window};
 use std::fs::File;
 use std::io::ErrorKind;
 use std::os::unix::fs::{MetadataExt, symlink};
+use std::process::Abort;
 use std::rt::Files;
-use std::test::Fail;
 use std::{fs, io};
 
 const SIZE: u64 = 4100;
@@ -44,63 +44,86 @@ fn store_some<R: Files<File = File>>(image: &mut ImageFile<'_, R>) -> io::Result
     Ok(bytes)
 }
 
+/// The bytes of a file of numbers from this place on.
+fn numbers_from(at: u64) -> [u8; 8] {
+    let mut bytes = [0; 8];
+    for (number, byte) in (at..).zip(&mut bytes) {
+        *byte = (number % 251) as u8;
+    }
+    bytes
+}
+
+/// Puts a file of so many numbers.
+fn put_numbers(rt: &(impl Files + AllocGlobal + Abort), path: &str, count: usize) {
+    let mut bytes = vec![in rt.alloc(); 0u8; count].expect(rt, "the numbers");
+    for (number, byte) in bytes.iter_mut().enumerate() {
+        *byte = (number % 251) as u8;
+    }
+    put(rt, path, &bytes);
+}
+
+fn read_at(image: &mut ImageFile<'_, HostRuntime>, at: u64) -> Result<[u8; 8], ErrorKind> {
+    let mut bytes = [0; 8];
+    kind_of(image.read(at, &mut bytes))?;
+    Ok(bytes)
+}
+
 // The reads in a window, over its end, before it, far from it and near the read before, and at the end of the file.
 #[test]
-fn a_window_gives_the_bytes_of_the_file(rt: HostRuntime) -> Result<(), Fail> {
+fn a_window_gives_the_bytes_of_the_file(rt: HostRuntime) {
     let path = "window.bin";
-    let mut bytes = Vec::new(rt.alloc());
-    for number in 0..140_000u32 {
-        bytes.push((number % 251) as u8)?;
-    }
-    put(&rt, path, &bytes)?;
-    let mut image = ImageFile::new(&rt, path, false).seen_through(Window::new(rt.alloc())?);
-    let mut read = [0; 8];
+    put_numbers(&rt, path, 140_000);
+    let window = Window::new(rt.alloc()).expect(&rt, "a window");
+    let mut image = ImageFile::new(&rt, path, false).seen_through(window);
     for at in [0, 65_528, 65_530, 8, 70_000, 70_008, 70_400, 139_992] {
-        image.read(at, &mut read)?;
-        let held = bytes.get(at as usize..at as usize + 8).ok_or("held")?;
-        assert!(rt; read.as_slice() == held, "from byte {at} on");
+        assert!(rt;
+            read_at(&mut image, at) == Ok(numbers_from(at)),
+            "from byte {at} on"
+        );
     }
-    File::options().write(true).open(&rt, path)?.set_len(100)?;
-    let shorter = kind_of(image.read(70_000, &mut read));
+    put_numbers(&rt, path, 100);
     assert!(rt;
-        shorter == Err(ErrorKind::UnexpectedEof) && kind_of(image.read(92, &mut read)) == Ok(())
+        read_at(&mut image, 70_000) == Err(ErrorKind::UnexpectedEof)
+            && read_at(&mut image, 92) == Ok(numbers_from(92))
     );
-    remove(&rt, path)?;
-    Ok(())
+    remove(&rt, path);
+}
+
+/// How many blocks of the disk the file at the path takes.
+fn blocks_of(rt: &(impl Files + Abort), path: &str) -> u64 {
+    fs::metadata(rt, path).expect(rt, "a file").blocks()
 }
 
 #[test]
-fn the_room_of_an_image_is_taken(rt: HostRuntime) -> Result<(), Fail> {
+fn the_room_of_an_image_is_taken(rt: HostRuntime) {
     let path = "image.bin";
     let mut image = ImageFile::new(&rt, path, true);
-    assert!(rt; image.length()? == 0);
-    image.provide(SIZE)?;
     assert!(rt;
-        holds(&rt, path, &[0; 4100])?
-            && fs::metadata(&rt, path)?.blocks() >= 9
-            && store_some(&mut image)? == [0, 7, 8, 0]
-            && has_at(&rt, path, 4094, &[0, 7, 8, 0])?
+        kind_of(image.length()) == Ok(0)
+            && kind_of(image.provide(SIZE)) == Ok(())
+            && holds(&rt, path, &[0; 4100])
+            && blocks_of(&rt, path) >= 9
+            && kind_of(store_some(&mut image)) == Ok([0, 7, 8, 0])
+            && has_at(&rt, path, 4094, &[0, 7, 8, 0])
     );
-    remove(&rt, path)?;
-    Ok(())
+    remove(&rt, path);
 }
 
 #[test]
-fn a_file_that_has_bytes_stays(rt: HostRuntime) -> Result<(), Fail> {
+fn a_file_that_has_bytes_stays(rt: HostRuntime) {
     let path = "used.bin";
-    put(&rt, path, b"used")?;
+    put(&rt, path, b"used");
     assert!(rt;
         make_at(&rt, path, true) == Err(ErrorKind::AlreadyExists)
             && make_at(&rt, path, false) == Err(ErrorKind::AlreadyExists)
-            && holds(&rt, path, b"used")?
+            && holds(&rt, path, b"used")
     );
-    remove(&rt, path)?;
-    Ok(())
+    remove(&rt, path);
 }
 
 // A device has no length of its own, so that it would count as an empty file.
 #[test]
-fn what_is_no_file_is_refused(rt: HostRuntime) -> Result<(), Fail> {
+fn what_is_no_file_is_refused(rt: HostRuntime) {
     let refused = ErrorKind::InvalidInput;
     for path in ["/dev/null", "."] {
         assert!(rt;
@@ -110,90 +133,87 @@ fn what_is_no_file_is_refused(rt: HostRuntime) -> Result<(), Fail> {
             "{path}"
         );
     }
-    Ok(())
 }
 
 #[test]
-fn a_lock_that_another_holds_is_an_error(rt: HostRuntime) -> Result<(), Fail> {
+fn a_lock_that_another_holds_is_an_error(rt: HostRuntime) {
     let path = "locked.bin";
     let locked = ErrorKind::WouldBlock;
     {
         let mut image = ImageFile::new(&rt, path, true);
-        image.provide(SIZE)?;
         assert!(rt;
-            length_at(&rt, path, true) == Err(locked) && length_at(&rt, path, false) == Err(locked)
+            kind_of(image.provide(SIZE)) == Ok(())
+                && length_at(&rt, path, true) == Err(locked)
+                && length_at(&rt, path, false) == Err(locked)
         );
     }
     let mut reader = ImageFile::new(&rt, path, false);
     assert!(rt;
-        reader.length()? == SIZE
+        kind_of(reader.length()) == Ok(SIZE)
             && length_at(&rt, path, false) == Ok(SIZE)
             && length_at(&rt, path, true) == Err(locked)
     );
-    remove(&rt, path)?;
-    Ok(())
+    remove(&rt, path);
 }
 
 #[test]
-fn a_file_that_became_shorter_is_not_made_longer(rt: HostRuntime) -> Result<(), Fail> {
+fn a_file_that_became_shorter_is_not_made_longer(rt: HostRuntime) {
     let path = "short.bin";
     let mut image = ImageFile::new(&rt, path, true);
-    image.provide(SIZE)?;
-    put(&rt, path, b"abc")?;
+    let made = kind_of(image.provide(SIZE));
+    put(&rt, path, b"abc");
     let stored = kind_of(store_some(&mut image));
-    assert!(rt; stored == Err(ErrorKind::UnexpectedEof) && holds(&rt, path, b"abc")?);
-    remove(&rt, path)?;
-    Ok(())
+    assert!(rt;
+        made == Ok(()) && stored == Err(ErrorKind::UnexpectedEof) && holds(&rt, path, b"abc")
+    );
+    remove(&rt, path);
 }
 
 #[test]
-fn a_link_to_no_file_is_no_missing_image(rt: HostRuntime) -> Result<(), Fail> {
-    symlink(&rt, "target.bin", "link.bin")?;
+fn a_link_to_no_file_is_no_missing_image(rt: HostRuntime) {
+    symlink(&rt, "target.bin", "link.bin").expect(&rt, "a link");
     assert!(rt; length_at(&rt, "link.bin", true) == Err(ErrorKind::NotFound));
     let made = make_at(&rt, "link.bin", true);
-    assert!(rt; made == Err(ErrorKind::AlreadyExists) && !is_there(&rt, "target.bin")?);
-    remove(&rt, "link.bin")?;
-    Ok(())
+    assert!(rt; made == Err(ErrorKind::AlreadyExists) && !is_there(&rt, "target.bin"));
+    remove(&rt, "link.bin");
 }
 
 #[test]
-fn an_image_that_cannot_be_made_leaves_no_file(rt: HostRuntime) -> Result<(), Fail> {
+fn an_image_that_cannot_be_made_leaves_no_file(rt: HostRuntime) {
     let path = "new.bin";
     // A folder that can't be opened, and one that can't be synced.
     for folder in ["missing", "/dev/null"] {
         let files = OtherFolder::new(&rt, folder);
-        assert!(rt; make_at(&files, path, true).is_err() && !is_there(&rt, path)?);
+        assert!(rt; make_at(&files, path, true).is_err() && !is_there(&rt, path));
         // One that was there stays, and is empty.
-        put(&rt, path, b"")?;
-        assert!(rt; make_at(&files, path, true).is_err() && holds(&rt, path, b"")?);
-        remove(&rt, path)?;
+        put(&rt, path, b"");
+        assert!(rt; make_at(&files, path, true).is_err() && holds(&rt, path, b""));
+        remove(&rt, path);
     }
-    Ok(())
 }
 
 /// Makes an image, whose file then becomes shorter, and writes to it; discards it, and tells which of the two was done.
-fn make_and_fail<'a>(rt: &'a HostRuntime, path: &'a str) -> Result<(bool, bool), Fail> {
+fn make_and_fail<'a>(rt: &'a (impl Files<File = File> + Abort), path: &'a str) -> (bool, bool) {
     let mut image = ImageFile::new(rt, path, true);
     let is_made = image.provide(SIZE).is_ok();
-    put(rt, path, b"abc")?;
+    put(rt, path, b"abc");
     let is_written = store_some(&mut image).is_ok();
     image.discard();
-    Ok((is_made, is_written))
+    (is_made, is_written)
 }
 
 #[test]
-fn an_image_whose_header_cannot_be_written_is_discarded(rt: HostRuntime) -> Result<(), Fail> {
+fn an_image_whose_header_cannot_be_written_is_discarded(rt: HostRuntime) {
     let path = "undone.bin";
-    assert!(rt; make_and_fail(&rt, path)? == (true, false) && !is_there(&rt, path)?);
+    assert!(rt; make_and_fail(&rt, path) == (true, false) && !is_there(&rt, path));
     // One that was there stays, and is empty.
-    put(&rt, path, b"")?;
-    assert!(rt; make_and_fail(&rt, path)? == (true, false) && holds(&rt, path, b"")?);
+    put(&rt, path, b"");
+    assert!(rt; make_and_fail(&rt, path) == (true, false) && holds(&rt, path, b""));
     // One that is only looked at, or that had bytes, stays as it is.
-    put(&rt, path, b"used")?;
+    put(&rt, path, b"used");
     let mut image = ImageFile::new(&rt, path, true);
-    assert!(rt; image.length()? == 4);
+    assert!(rt; kind_of(image.length()) == Ok(4));
     image.discard();
-    assert!(rt; holds(&rt, path, b"used")?);
-    remove(&rt, path)?;
-    Ok(())
+    assert!(rt; holds(&rt, path, b"used"));
+    remove(&rt, path);
 }

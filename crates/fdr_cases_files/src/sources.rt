@@ -3,7 +3,6 @@
 use crate::on_disk::{put, remove};
 use fdr_files::FileSource;
 use fdr_io::{Failed, Source};
-use std::test::Fail;
 
 fn read_some<S: Source>(source: &mut S) -> Result<(usize, [u8; 8]), Failed> {
     let mut buf = [0; 8];
@@ -12,16 +11,15 @@ fn read_some<S: Source>(source: &mut S) -> Result<(usize, [u8; 8]), Failed> {
 }
 
 #[test]
-fn a_file_is_read_from_its_front(rt: HostRuntime) -> Result<(), Fail> {
+fn a_file_is_read_from_its_front(rt: HostRuntime) {
     let path = "source.bin";
-    put(&rt, path, b"table")?;
+    put(&rt, path, b"table");
     let mut source = FileSource::new(&rt, path);
     assert!(rt;
         read_some(&mut source) == Ok((5, *b"table\0\0\0"))
             && read_some(&mut source) == Ok((0, [0; 8]))
     );
-    remove(&rt, path)?;
+    remove(&rt, path);
     let mut missing = FileSource::new(&rt, path);
     assert!(rt; read_some(&mut missing) == Err(Failed));
-    Ok(())
 }

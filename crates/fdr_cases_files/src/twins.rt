@@ -7,7 +7,6 @@ use fdr_files::ImageFile;
 use fdr_io::Failed;
 use fdr_twin::{Side, Twin};
 use std::io::sink;
-use std::test::Fail;
 
 // The calls of a twin are in functions without clauses, so that the tests are proved without those of a twin.
 
@@ -39,36 +38,35 @@ fn pull_some<D: Deck>(deck: &mut D) -> Result<(usize, [u8; 2]), Failed> {
 }
 
 #[test]
-fn each_side_is_a_file(rt: HostRuntime) -> Result<(), Fail> {
-    put(&rt, "first.img", &[0; 100])?;
-    put(&rt, "second.img", &[0; 100])?;
+fn each_side_is_a_file(rt: HostRuntime) {
+    put(&rt, "first.img", &[0; 100]);
+    put(&rt, "second.img", &[0; 100]);
     let first = ImageFile::new(&rt, "first.img", true);
     let second = ImageFile::new(&rt, "second.img", true);
     let mut twin = FileTwin::new(first, second, b"ab".as_slice(), sink());
     assert!(rt;
         store(&mut twin, Side::First, 7) == Ok([0, 7, 0])
             && store(&mut twin, Side::Second, 8) == Ok([0, 8, 0])
-            && has_at(&rt, "first.img", 50, &[7])?
-            && has_at(&rt, "second.img", 50, &[8])?
+            && has_at(&rt, "first.img", 50, &[7])
+            && has_at(&rt, "second.img", 50, &[8])
             && pull_some(&mut twin) == Ok((2, *b"ab"))
     );
-    remove(&rt, "first.img")?;
-    remove(&rt, "second.img")?;
-    Ok(())
+    remove(&rt, "first.img");
+    remove(&rt, "second.img");
 }
 
 // The second image becomes shorter after its length was learned.
 #[test]
-fn a_side_goes_on_alone(rt: HostRuntime) -> Result<(), Fail> {
-    put(&rt, "whole.img", &[0; 100])?;
-    put(&rt, "short.img", &[0; 100])?;
+fn a_side_goes_on_alone(rt: HostRuntime) {
+    put(&rt, "whole.img", &[0; 100]);
+    put(&rt, "short.img", &[0; 100]);
     let mut lines = Vec::new(rt.alloc());
     {
         let first = ImageFile::new(&rt, "whole.img", true);
         let second = ImageFile::new(&rt, "short.img", true);
         let mut twin = FileTwin::new(first, second, b"".as_slice(), &mut lines);
         assert!(rt; store(&mut twin, Side::Second, 8).is_ok());
-        put(&rt, "short.img", b"abc")?;
+        put(&rt, "short.img", b"abc");
         assert!(rt;
             store(&mut twin, Side::Second, 9) == Err(Failed)
                 && store(&mut twin, Side::Second, 9) == Err(Failed)
@@ -77,13 +75,12 @@ fn a_side_goes_on_alone(rt: HostRuntime) -> Result<(), Fail> {
         announce_some(&mut twin);
     }
     assert!(rt; lines.as_slice() == b"fault second\nack 3\n".as_slice());
-    remove(&rt, "whole.img")?;
-    remove(&rt, "short.img")?;
-    Ok(())
+    remove(&rt, "whole.img");
+    remove(&rt, "short.img");
 }
 
 #[test]
-fn a_folder_is_no_image(rt: HostRuntime) -> Result<(), Fail> {
+fn a_folder_is_no_image(rt: HostRuntime) {
     let mut lines = Vec::new(rt.alloc());
     {
         let first = ImageFile::new(&rt, ".", true);
@@ -95,5 +92,4 @@ fn a_folder_is_no_image(rt: HostRuntime) -> Result<(), Fail> {
         );
     }
     assert!(rt; lines.as_slice() == b"fault first\n".as_slice());
-    Ok(())
 }

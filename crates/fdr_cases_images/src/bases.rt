@@ -1,22 +1,17 @@
 //! The commands that are stopped and whose calls fail, and what is promised of the rings that they record in.
 
-use crate::rings::{Standing, empty_ring, recorded_frame, trace_of_a_frame};
-use fdr_cases::{ALTITUDE, END_AT_4000000, Ran, deck_of, frame_with, run_words};
+use crate::images::{END_AT_0, RECORD, TRACE_OF_A_FRAME, copied, joined, record};
+use crate::rings::{Standing, empty_ring, recorded_frame, run_in};
+use fdr_cases::{END_AT_4000000, Ran, frame_with};
 use fdr_deck::MemDeck;
 use fdr_top::Outcome;
-use std::alloc::{AllocError, Global};
-use std::test::Fail;
-
-const RECORD: &[&str] = &["record", "t1.csv", "flight.img"];
+use std::process::Abort;
 
 const DRILL: &[&str] = &["drill", "t1.csv", "flight.img", "--seed=1", "--frames=1"];
 
 const LONG_DRILL: &[&str] = &["drill", "t1.csv", "flight.img", "--seed=1", "--frames=10"];
 
 const DRILL_OF_SEED_7: &[&str] = &["drill", "t1.csv", "flight.img", "--seed=7", "--frames=10"];
-
-/// An end at the start.
-const NO_WORDS: [u8; 16] = [2, 0, 0, 0, 0, 0, 0, 0, 0, 0, 0, 0, 0, 0, 0, 0];
 
 /// A command that records in a ring, and its ring.
 #[derive(Drop)]
@@ -37,10 +32,8 @@ pub struct Base {
 
 impl Base {
     /// Runs the command where the listed calls of the deck fail.
-    pub fn run(&self, alloc: Global, failing: &[u64]) -> Result<(Ran, MemDeck), Fail> {
-        let mut deck = deck_of(alloc, &self.image, &self.line, failing)?;
-        let ran = run_words(alloc, self.words, ALTITUDE, &mut deck, &[])?;
-        Ok((ran, deck))
+    pub fn run(&self, rt: &(impl Abort + AllocGlobal), failing: &[u64]) -> (Ran, MemDeck) {
+        run_in(rt, self.words, &self.image, &self.line, failing)
     }
 
     /// The number of the next block after the whole recording, whose last block may be shorter.
@@ -77,16 +70,13 @@ impl Base {
     }
 
     /// Which call pulls the line: a recording without words in this ring ends with its pull.
-    pub fn pull(&self, alloc: Global) -> Result<Option<u64>, Fail> {
+    pub fn pull(&self, rt: &(impl Abort + AllocGlobal)) -> Option<u64> {
         if self.words != RECORD {
-            return Ok(None);
+            return None;
         }
-        let mut deck = deck_of(alloc, &self.image, &NO_WORDS, &[])?;
-        let ran = run_words(alloc, RECORD, ALTITUDE, &mut deck, &[])?;
-        if ran.outcome != Outcome::Done {
-            return Err("the ring")?;
-        }
-        Ok(deck.calls().checked_sub(1))
+        let left = record(rt, &self.image, &[END_AT_0]);
+        assert!(rt; left.outcome == Outcome::Done);
+        left.calls.checked_sub(1)
     }
 
     /// Whether an image has the length and the header of the ring, and each open slot the session of its block's recording.
@@ -125,156 +115,170 @@ impl Base {
     /// them, and takes the places of the oldest.
     pub fn next_in(
         &self,
-        alloc: Global,
+        rt: &(impl Abort + AllocGlobal),
         standing: &Standing,
         announced: u64,
-    ) -> Result<Option<u64>, Fail> {
+    ) -> Option<u64> {
         let block = self.block.max(1);
-        let frame = recorded_frame();
-        let more = frame.len().div_ceil(block);
-        let next = standing.next_then.checked_sub(more as u64).ok_or("blocks")?;
-        let Some(blocks) = self.blocks_before(next, standing.held.len()) else {
-            return Ok(None);
-        };
-        let count = blocks.len().div_ceil(block);
+        let more = recorded_frame().len().div_ceil(block);
+        let next = standing
+            .next_then
+            .checked_sub(more as u64)
+            .expect(rt, "a number");
+        let blocks = self.blocks_before(next, standing.held.len())?;
         let least = self.slots.saturating_sub(2).min(next as usize);
         let known = announced.max(self.began);
-        if standing.held.as_slice() != blocks
-            || count < least
-            || next < known
-            || next > known.saturating_add(1)
-        {
-            return Ok(None);
-        }
-        let mut then = blocks.to_vec(alloc)?;
-        then.extend_from_slice(&frame)?;
+        let is_promised = standing.held.as_slice() == blocks
+            && blocks.len().div_ceil(block) >= least
+            && next >= known
+            && next <= known.saturating_add(1)
+            && self.holds_a_frame_more(rt, blocks, &standing.held_then);
+        if is_promised { Some(next) } else { None }
+    }
+
+    /// Whether these bytes are what the ring holds of the blocks and of a frame after them, without the oldest.
+    fn holds_a_frame_more(
+        &self,
+        rt: &(impl Abort + AllocGlobal),
+        blocks: &[u8],
+        held_then: &[u8],
+    ) -> bool {
+        let block = self.block.max(1);
+        let frame = recorded_frame();
+        let count = blocks.len().div_ceil(block);
+        let more = frame.len().div_ceil(block);
         let most = self.slots.saturating_sub(1);
         let oldest = count.saturating_add(more).saturating_sub(most);
-        let kept = then.get(oldest.saturating_mul(block)..).ok_or("blocks")?;
-        if standing.held_then.as_slice() != kept {
-            return Ok(None);
-        }
-        Ok(Some(next))
+        let then = joined(rt, blocks, &frame);
+        then.get(oldest.saturating_mul(block)..) == Some(held_then)
     }
 }
 
 /// Six blocks in four slots, which go round.
-pub fn round_four_slots(alloc: Global) -> Result<Base, AllocError> {
-    Ok(Base {
+pub fn round_four_slots(rt: &(impl Abort + AllocGlobal)) -> Base {
+    Base {
         words: RECORD,
-        image: empty_ring(alloc, 4, 64)?,
-        line: END_AT_4000000.to_vec(alloc)?,
+        image: empty_ring(rt, 4, 64),
+        line: copied(rt, &END_AT_4000000),
         slots: 4,
         block: 64,
         began: 0,
-        stream: frame_with(&[]).to_vec(alloc)?,
-        text: Vec::new(alloc),
-    })
+        stream: copied(rt, &frame_with(&[])),
+        text: Vec::new(rt.alloc()),
+    }
 }
 
 /// Six blocks in sixteen slots.
-pub fn in_sixteen_slots(alloc: Global) -> Result<Base, AllocError> {
-    Ok(Base {
+pub fn in_sixteen_slots(rt: &(impl Abort + AllocGlobal)) -> Base {
+    Base {
         words: RECORD,
-        image: empty_ring(alloc, 16, 64)?,
-        line: trace_of_a_frame(alloc)?,
+        image: empty_ring(rt, 16, 64),
+        line: copied(rt, &TRACE_OF_A_FRAME),
         slots: 16,
         block: 64,
         began: 0,
-        stream: recorded_frame().to_vec(alloc)?,
-        text: Vec::new(alloc),
-    })
+        stream: copied(rt, &recorded_frame()),
+        text: Vec::new(rt.alloc()),
+    }
 }
 
 /// The same recording again, after its six blocks.
-pub fn behind_another(alloc: Global) -> Result<Base, Fail> {
-    let mut base = in_sixteen_slots(alloc)?;
-    let (_, deck) = base.run(alloc, &[])?;
-    base.image = deck.image().to_vec(alloc)?;
+pub fn behind_another(rt: &(impl Abort + AllocGlobal)) -> Base {
+    let mut base = in_sixteen_slots(rt);
+    let (_, deck) = base.run(rt, &[]);
+    base.image = copied(rt, deck.image());
     base.began = 6;
-    base.stream.extend_from_slice(&recorded_frame())?;
-    Ok(base)
+    base.stream = joined(rt, &recorded_frame(), &recorded_frame());
+    base
 }
 
-/// The altitudes of a drill of this seed, frame by frame. Four words are drawn a frame, and the first is sampled.
-fn altitudes(alloc: Global, seed: u64, frames: u8) -> Result<Vec<u64>, AllocError> {
+/// The next state of the drawing of a drill.
+fn drawn_after(state: u64) -> u64 {
+    state
+        .wrapping_mul(6_364_136_223_846_793_005)
+        .wrapping_add(1_442_695_040_888_963_407)
+}
+
+/// The altitudes of ten frames of a drill of this seed. Four words are drawn a frame, and the first is sampled.
+fn altitudes(seed: u64) -> [u64; 10] {
     let mut state = seed;
-    let mut sampled = Vec::new(alloc);
-    for draw in 0..u32::from(frames) * 4 {
-        state = state
-            .wrapping_mul(6_364_136_223_846_793_005)
-            .wrapping_add(1_442_695_040_888_963_407);
-        if draw % 4 == 0 {
-            sampled.push((state >> 42) & 0xfff)?;
-        }
+    let mut sampled = [0; 10];
+    for altitude in sampled.iter_mut() {
+        let first = drawn_after(state);
+        *altitude = (first >> 42) & 0xfff;
+        state = drawn_after(drawn_after(drawn_after(first)));
     }
-    Ok(sampled)
+    sampled
+}
+
+/// The sum of altitudes.
+fn sum_of(altitudes: &[u64]) -> u64 {
+    let mut sum: u64 = 0;
+    for altitude in altitudes {
+        sum = sum.saturating_add(*altitude);
+    }
+    sum
 }
 
 /// The frames with these altitudes, one after the other. Their counters go from 0 to at most 15.
-fn frames_of(alloc: Global, altitudes: &[u64]) -> Result<Vec<u8>, AllocError> {
-    let mut stream = Vec::new(alloc);
+fn frames_of(rt: &(impl Abort + AllocGlobal), altitudes: &[u64]) -> Vec<u8> {
+    let mut stream = Vec::new(rt.alloc());
     for (counter, altitude) in altitudes.iter().enumerate() {
-        let put = [
+        let frame = frame_with(&[
             (1, 0x02 | (counter % 16) as u8 * 16),
             (13, (altitude % 16) as u8 * 16),
             (14, (altitude / 16 % 256) as u8),
-        ];
-        stream.extend_from_slice(&frame_with(&put))?;
+        ]);
+        stream.extend_from_slice(&frame).expect(rt, "room");
     }
-    Ok(stream)
+    stream
 }
 
 /// A drill of one frame in sixteen slots.
-pub fn drill_of_a_frame(alloc: Global) -> Result<Base, AllocError> {
-    Ok(Base {
+pub fn drill_of_a_frame(rt: &(impl Abort + AllocGlobal)) -> Base {
+    let [first, ..] = altitudes(1);
+    Base {
         words: DRILL,
-        image: empty_ring(alloc, 16, 64)?,
-        line: b"no trace".to_vec(alloc)?,
+        image: empty_ring(rt, 16, 64),
+        line: copied(rt, b"no trace"),
         slots: 16,
         block: 64,
         began: 0,
-        stream: frames_of(alloc, &altitudes(alloc, 1, 1)?)?,
-        text: b"drill,6,1,1,1499\n".to_vec(alloc)?,
-    })
+        stream: frames_of(rt, &[first]),
+        text: copied(rt, b"drill,6,1,1,1499\n"),
+    }
 }
 
 /// A drill of ten frames in four slots of 960 bytes. Its four blocks go round, and seven whole frames are at its end.
-pub fn drill_of_ten_frames(alloc: Global) -> Result<Base, Fail> {
-    let drawn = altitudes(alloc, 1, 10)?;
-    let mut sum: u64 = 0;
-    for altitude in drawn.get(3..).ok_or("frames")? {
-        sum = sum.saturating_add(*altitude);
-    }
-    let text = format!(in alloc; "drill,4,7,7,{sum}\n")?;
-    Ok(Base {
+pub fn drill_of_ten_frames(rt: &(impl Abort + AllocGlobal)) -> Base {
+    let drawn = altitudes(1);
+    let sum = sum_of(&drawn[3..]);
+    let text = format!(in rt.alloc(); "drill,4,7,7,{sum}\n").expect(rt, "a line");
+    Base {
         words: LONG_DRILL,
-        image: empty_ring(alloc, 4, 960)?,
-        line: b"no trace".to_vec(alloc)?,
+        image: empty_ring(rt, 4, 960),
+        line: copied(rt, b"no trace"),
         slots: 4,
         block: 960,
         began: 0,
-        stream: frames_of(alloc, &drawn)?,
-        text: text.as_bytes().to_vec(alloc)?,
-    })
+        stream: frames_of(rt, &drawn),
+        text: copied(rt, text.as_bytes()),
+    }
 }
 
 /// A drill of ten frames in a ring of `slots` slots of 4,096 bytes. They are one block of 3,840 bytes.
-pub fn drill_of_one_block(alloc: Global, slots: u16) -> Result<Base, AllocError> {
-    let drawn = altitudes(alloc, 7, 10)?;
-    let mut sum: u64 = 0;
-    for altitude in &drawn {
-        sum = sum.saturating_add(*altitude);
-    }
-    let text = format!(in alloc; "drill,1,10,10,{sum}\n")?;
-    Ok(Base {
+pub fn drill_of_one_block(rt: &(impl Abort + AllocGlobal), slots: u16) -> Base {
+    let drawn = altitudes(7);
+    let sum = sum_of(&drawn);
+    let text = format!(in rt.alloc(); "drill,1,10,10,{sum}\n").expect(rt, "a line");
+    Base {
         words: DRILL_OF_SEED_7,
-        image: empty_ring(alloc, slots, 4096)?,
-        line: b"no trace".to_vec(alloc)?,
+        image: empty_ring(rt, slots, 4096),
+        line: copied(rt, b"no trace"),
         slots: usize::from(slots),
         block: 4096,
         began: 0,
-        stream: frames_of(alloc, &drawn)?,
-        text: text.as_bytes().to_vec(alloc)?,
-    })
+        stream: frames_of(rt, &drawn),
+        text: copied(rt, text.as_bytes()),
+    }
 }

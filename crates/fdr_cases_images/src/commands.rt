@@ -1,10 +1,10 @@
 //! The commands whose sink and table fail, and what they write where nothing does.
 
+use crate::images::{TRACE_OF_A_FRAME, ran};
 use fdr_cases::{
-    ALTITUDE, END_AT_4000000, END_AT_4000001, Given, Left, ORDINARY, frame_with, ring_with, run_on,
+    ALTITUDE, END_AT_4000000, END_AT_4000001, Given, Left, ORDINARY, frame_with, ring_with,
 };
-use std::alloc::{AllocError, Global};
-use std::test::Fail;
+use std::process::Abort;
 
 /// Lines, images and streams of the commands.
 #[derive(Drop)]
@@ -24,12 +24,6 @@ pub struct Inputs {
     // The same blocks in a ring of version 1.
     old: Vec<u8>,
 }
-
-/// A trace of a frame with the altitude 5.
-const TRACE: [u8; 32] = [
-    1, 0, 0, 0, 0, 0, 0x14, 0xc1, 0, 0, 0, 0, 0, 0, 0, 0, 2, 0, 0, 0, 0, 0, 0, 0, 0, 0, 0, 0, 0,
-    0x3d, 0x09, 0,
-];
 
 /// Five zero bits, two frames with the altitude 5, and three zero bits.
 fn frames_behind_five_bits() -> [u8; 769] {
@@ -67,19 +61,18 @@ fn a_word_longer() -> [u8; 386] {
 }
 
 impl Inputs {
-    pub fn new(alloc: Global) -> Result<Inputs, Fail> {
-        let fresh = run_on(alloc, FORMAT, Given::by(ALTITUDE))?.image;
+    pub fn new(rt: &(impl Abort + AllocGlobal)) -> Inputs {
+        let fresh = ran(rt, FORMAT, Given::by(ALTITUDE)).image;
         let given = Given {
             image: &fresh,
-            line: &TRACE,
+            line: &TRACE_OF_A_FRAME,
             ..Given::by(ALTITUDE)
         };
-        let recorded = run_on(alloc, RECORD, given)?;
-        if recorded.told != 6 {
-            return Err("six blocks")?;
-        }
+        let recorded = ran(rt, RECORD, given);
+        assert!(rt; recorded.told == 6);
         let frame = frame_with(&[(13, 0x50)]);
-        Ok(Inputs {
+        let old = ring_with(rt.alloc(), 0, &[0; 6], &frame).expect(rt, "a ring");
+        Inputs {
             frames: frames_behind_five_bits(),
             frame,
             zero: frame_with(&[]),
@@ -87,8 +80,8 @@ impl Inputs {
             eleven: eleven_frames(),
             fresh,
             recorded: recorded.image,
-            old: ring_with(alloc, 0, &[0; 6], &frame)?,
-        })
+            old,
+        }
     }
 }
 
@@ -164,7 +157,7 @@ pub fn commands<'a>(inputs: &'a Inputs) -> [Command<'a>; 12] {
         upgrade,
         by_altitude(DRILL, &inputs.fresh, &[], b"drill,6,1,1,1499\n", 1),
         by_altitude(FORMAT, &[], &[], &[], 0),
-        by_altitude(RECORD, &inputs.fresh, &TRACE, &[], 0),
+        by_altitude(RECORD, &inputs.fresh, &TRACE_OF_A_FRAME, &[], 0),
     ]
 }
 
@@ -186,11 +179,11 @@ param,PIT,32,uneven
 
 /// Runs a command where the listed reads of the table and the listed writes fail.
 pub fn run_failing(
-    alloc: Global,
+    rt: &(impl Abort + AllocGlobal),
     command: &Command,
     reads: &[u64],
     writes: &[u64],
-) -> Result<Left, AllocError> {
+) -> Left {
     let given = Given {
         image: command.image,
         line: command.line,
@@ -198,5 +191,5 @@ pub fn run_failing(
         writes,
         ..Given::by(command.table)
     };
-    run_on(alloc, command.words, given)
+    ran(rt, command.words, given)
 }

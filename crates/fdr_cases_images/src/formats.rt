@@ -1,8 +1,8 @@
-use fdr_cases::{ALTITUDE, Given, Left, run_on};
+use crate::images::{copied, ran};
+use fdr_cases::{ALTITUDE, Given, Left};
 use fdr_table::TableFault;
 use fdr_top::Outcome;
-use std::alloc::{AllocError, Global};
-use std::test::Fail;
+use std::process::Abort;
 
 /// The header of an image of 4 slots of 64 bytes for subframes of 64 words, except the zeros at its end.
 pub const HEADER: [u8; 20] = [
@@ -10,54 +10,50 @@ pub const HEADER: [u8; 20] = [
 ];
 
 /// An image of 4 slots of 64 bytes without blocks.
-pub fn fresh_image(alloc: Global) -> Result<Vec<u8>, AllocError> {
-    let mut image = Vec::new(alloc);
-    image.extend_from_slice(&HEADER)?;
-    for _ in HEADER.len()..384 {
-        image.push(0)?;
-    }
-    Ok(image)
+pub fn fresh_image(rt: &(impl Abort + AllocGlobal)) -> Vec<u8> {
+    let mut image = copied(rt, &HEADER);
+    image.resize(384, 0).expect(rt, "room");
+    image
 }
 
 /// Makes an image on a disk with these bytes, where the listed calls fail.
 fn format(
-    alloc: Global,
+    rt: &(impl Abort + AllocGlobal),
     table: &str,
     slots: &str,
     disk: &[u8],
     calls: &[u64],
-) -> Result<Left, AllocError> {
+) -> Left {
     let words = ["format", "t1.csv", "flight.img", slots, "--payload", "64"];
     let given = Given {
         image: disk,
         calls,
         ..Given::by(table)
     };
-    run_on(alloc, &words, given)
+    ran(rt, &words, given)
 }
 
 #[test]
-fn makes_an_image_once(rt: HostRuntime) -> Result<(), Fail> {
-    let alloc = rt.alloc();
-    let image = fresh_image(alloc)?;
-    let made = format(alloc, ALTITUDE, "--slots=4", &[], &[])?;
+fn makes_an_image_once(rt: HostRuntime) {
+    let image = fresh_image(&rt);
+    let made = format(&rt, ALTITUDE, "--slots=4", &[], &[]);
+    let again = format(&rt, ALTITUDE, "--slots=4", &image, &[]);
+    let few = format(&rt, ALTITUDE, "--slots=3", &image, &[]);
     assert!(rt;
         made.outcome == Outcome::Done
             && made.written.is_empty()
             && made.told == 0
             && made.image == image
+            && again.outcome == Outcome::NotEmpty
+            && again.image == image
+            && few.outcome == Outcome::Usage
+            && few.image == image
     );
-    let again = format(alloc, ALTITUDE, "--slots=4", &image, &[])?;
-    assert!(rt; again.outcome == Outcome::NotEmpty && again.image == image);
-    let few = format(alloc, ALTITUDE, "--slots=3", &image, &[])?;
-    assert!(rt; few.outcome == Outcome::Usage && few.image == image);
-    Ok(())
 }
 
 // Sixteen slots of 80 bytes after the header.
 #[test]
-fn makes_an_image_of_options_in_other_spellings(rt: HostRuntime) -> Result<(), Fail> {
-    let alloc = rt.alloc();
+fn makes_an_image_of_options_in_other_spellings(rt: HostRuntime) {
     let words = [
         "format",
         "t1.csv",
@@ -66,37 +62,34 @@ fn makes_an_image_of_options_in_other_spellings(rt: HostRuntime) -> Result<(), F
         "--slots",
         "016",
     ];
-    let made = run_on(alloc, &words, Given::by(ALTITUDE))?;
-    let mut image = HEADER.to_vec(alloc)?;
-    *image.get_mut(11).ok_or("a byte")? = 16;
-    image.resize(64 + 16 * 80, 0)?;
+    let made = ran(&rt, &words, Given::by(ALTITUDE));
+    let mut image = copied(&rt, &HEADER);
+    *image.get_mut(11).expect(&rt, "a byte") = 16;
+    image.resize(64 + 16 * 80, 0).expect(&rt, "room");
     assert!(rt; made.outcome == Outcome::Done && made.image == image);
-    Ok(())
 }
 
 #[test]
-fn leaves_a_disk_that_it_does_not_make(rt: HostRuntime) -> Result<(), Fail> {
-    let alloc = rt.alloc();
-    let refused = format(alloc, "X,1\n", "--slots=4", &[], &[])?;
+fn leaves_a_disk_that_it_does_not_make(rt: HostRuntime) {
+    let faulty = format(&rt, "X,1\n", "--slots=4", &[], &[]);
     let fault = TableFault::Shape;
-    assert!(rt; refused.outcome == Outcome::TableRefused { row: 0, fault } && refused.calls == 0);
-    let refused = format(alloc, ALTITUDE, "--slots=4", b"x", &[])?;
+    let full = format(&rt, ALTITUDE, "--slots=4", b"x", &[]);
     assert!(rt;
-        refused.outcome == Outcome::NotEmpty && refused.image.as_slice() == b"x".as_slice()
+        faulty.outcome == Outcome::TableRefused { row: 0, fault }
+            && faulty.calls == 0
+            && full.outcome == Outcome::NotEmpty
+            && full.image.as_slice() == b"x".as_slice()
     );
-    Ok(())
 }
 
 // The calls are the size, the zeros, the header except its gate, a sync, the gate, and a sync.
 #[test]
-fn says_that_the_disk_failed(rt: HostRuntime) -> Result<(), Fail> {
-    let alloc = rt.alloc();
+fn says_that_the_disk_failed(rt: HostRuntime) {
     for call in 0..6 {
-        let failed = format(alloc, ALTITUDE, "--slots=4", &[], &[call])?;
+        let failed = format(&rt, ALTITUDE, "--slots=4", &[], &[call]);
         assert!(rt;
             failed.outcome == Outcome::DiskFault && failed.calls == call + 1,
-            "call {call}"
+            "{call}"
         );
     }
-    Ok(())
 }

@@ -1,11 +1,11 @@
 //! Images with damaged heads of slots: what is recovered and listed is computed from the heads alone.
 
+use crate::images::with_bytes;
 use crate::listings::list;
 use crate::recoveries::{image_of_a_frame, recover};
 use fdr_cases::ALTITUDE;
 use fdr_top::Outcome;
-use std::alloc::{AllocError, Global};
-use std::test::Fail;
+use std::process::Abort;
 
 /// How many bytes a slot has: 16 of its head and 64 of a block.
 const SLOT: usize = 80;
@@ -53,16 +53,21 @@ fn block_in(image: &[u8], slot: usize) -> Option<Held<'_>> {
     })
 }
 
-/// The blocks with consecutive numbers up to the greatest, the last one first.
-fn run_of<'a>(alloc: Global, image: &'a [u8]) -> Result<Vec<Held<'a>>, AllocError> {
+/// The greatest number of a block.
+fn greatest_in(image: &[u8]) -> Option<u64> {
     let mut greatest = None;
     for slot in 0..4 {
         if let Some(block) = block_in(image, slot) {
             greatest = greatest.max(Some(block.number));
         }
     }
-    let mut run = Vec::new(alloc);
-    let mut wanted = greatest;
+    greatest
+}
+
+/// The blocks with consecutive numbers up to the greatest, the last one first.
+fn run_of<'a>(rt: &(impl Abort + AllocGlobal), image: &'a [u8]) -> Vec<Held<'a>> {
+    let mut run = Vec::new(rt.alloc());
+    let mut wanted = greatest_in(image);
     for _ in 0..4 {
         let Some(number) = wanted else {
             break;
@@ -73,102 +78,91 @@ fn run_of<'a>(alloc: Global, image: &'a [u8]) -> Result<Vec<Held<'a>>, AllocErro
         if block.number != number {
             break;
         }
-        run.push(block)?;
+        run.push(block).expect(rt, "room");
         wanted = number.checked_sub(1);
     }
-    Ok(run)
+    run
 }
 
 /// The bytes that are recovered of an image.
-fn recovered(alloc: Global, image: &[u8]) -> Result<Vec<u8>, AllocError> {
-    let run = run_of(alloc, image)?;
-    let mut bytes = Vec::new(alloc);
+fn recovered(rt: &(impl Abort + AllocGlobal), image: &[u8]) -> Vec<u8> {
+    let run = run_of(rt, image);
+    let mut bytes = Vec::new(rt.alloc());
     for block in run.iter().rev() {
-        bytes.extend_from_slice(block.payload)?;
+        bytes.extend_from_slice(block.payload).expect(rt, "room");
     }
-    Ok(bytes)
+    bytes
 }
 
 /// A gap from the first bit on, where there are bits.
-fn add_gap(alloc: Global, lines: &mut Vec<u8>, bytes: usize) -> Result<(), Fail> {
+fn add_gap(rt: &(impl Abort + AllocGlobal), lines: &mut Vec<u8>, bytes: usize) {
     if bytes > 0 {
         let bits = bytes.saturating_mul(8);
-        let line = format!(in alloc; "gap,0,{bits}\n")?;
-        lines.extend_from_slice(line.as_bytes())?;
+        let line = format!(in rt.alloc(); "gap,0,{bits}\n").expect(rt, "a line");
+        lines.extend_from_slice(line.as_bytes()).expect(rt, "room");
     }
-    Ok(())
+}
+
+/// The line of a session that begins with this block.
+fn add_session(rt: &(impl Abort + AllocGlobal), lines: &mut Vec<u8>, block: &Held<'_>) {
+    let (session, number) = (block.session, block.number);
+    let line = format!(in rt.alloc(); "session,{session},{number}\n").expect(rt, "a line");
+    lines.extend_from_slice(line.as_bytes()).expect(rt, "room");
 }
 
 /// What is listed of an image, whose four blocks are less than a frame: all of it as a gap, and in version 2 each session.
-fn listing(alloc: Global, image: &[u8], version: u8) -> Result<Vec<u8>, Fail> {
-    let run = run_of(alloc, image)?;
-    let mut lines = Vec::new(alloc);
+fn listing(rt: &(impl Abort + AllocGlobal), image: &[u8], version: u8) -> Vec<u8> {
+    let run = run_of(rt, image);
+    let mut lines = Vec::new(rt.alloc());
     let mut bytes: usize = 0;
     let mut session = None;
     for block in run.iter().rev() {
         if version == VERSION_2 && session != Some(block.session) {
-            add_gap(alloc, &mut lines, bytes)?;
-            let line = format!(in alloc; "session,{},{}\n", block.session, block.number)?;
-            lines.extend_from_slice(line.as_bytes())?;
+            add_gap(rt, &mut lines, bytes);
+            add_session(rt, &mut lines, block);
             bytes = 0;
             session = Some(block.session);
         }
         bytes = bytes.saturating_add(block.payload.len());
     }
-    add_gap(alloc, &mut lines, bytes)?;
-    Ok(lines)
-}
-
-/// An image with another byte.
-fn damaged(alloc: Global, image: &[u8], at: usize, byte: u8) -> Result<Vec<u8>, Fail> {
-    let mut other = image.to_vec(alloc)?;
-    *other.get_mut(at).ok_or("a byte")? = byte;
-    Ok(other)
+    add_gap(rt, &mut lines, bytes);
+    lines
 }
 
 /// Whether what is recovered of an image is what its heads say.
-fn recovers(alloc: Global, image: &[u8]) -> Result<bool, Fail> {
-    let ran = recover(alloc, image, &[])?;
-    Ok(
-        ran.outcome == Outcome::Done
-            && ran.written == recovered(alloc, image)?
-            && ran.image.as_slice() == image,
-    )
+fn recovers(rt: &(impl Abort + AllocGlobal), image: &[u8]) -> bool {
+    let left = recover(rt, image, &[]);
+    left.outcome == Outcome::Done
+        && left.written == recovered(rt, image)
+        && left.image.as_slice() == image
 }
 
 /// Whether what is listed of an image is what its heads say.
-fn lists(alloc: Global, image: &[u8], version: u8) -> Result<bool, Fail> {
-    let ran = list(alloc, ALTITUDE, image, &[])?;
-    Ok(
-        ran.outcome == Outcome::Done
-            && ran.written == listing(alloc, image, version)?
-            && ran.image.as_slice() == image,
-    )
+fn lists(rt: &(impl Abort + AllocGlobal), image: &[u8], version: u8) -> bool {
+    let left = list(rt, ALTITUDE, image, &[]);
+    left.outcome == Outcome::Done
+        && left.written == listing(rt, image, version)
+        && left.image.as_slice() == image
 }
 
 #[test]
-fn recovers_what_the_heads_say(rt: HostRuntime) -> Result<(), Fail> {
-    let alloc = rt.alloc();
-    let image = image_of_a_frame(alloc)?;
+fn recovers_what_the_heads_say(rt: HostRuntime) {
+    let image = image_of_a_frame(&rt);
     for slot in 0..4 {
         for place in 0..16 {
+            let at = 64 + SLOT * slot + place;
             for byte in [0x00, 0x5a, 0xff] {
-                let other = damaged(alloc, &image, 64 + SLOT * slot + place, byte)?;
-                assert!(rt;
-                    recovers(alloc, &other)?,
-                    "byte {place} of slot {slot} is {byte}"
-                );
+                let other = with_bytes(&rt, &image, &[(at, byte)]);
+                assert!(rt; recovers(&rt, &other), "{at}, {byte}");
             }
         }
     }
-    Ok(())
 }
 
 // A gate that is closed and one that is open, sessions of 0 and others, and another number.
 #[test]
-fn lists_what_the_heads_say(rt: HostRuntime) -> Result<(), Fail> {
-    let alloc = rt.alloc();
-    let image = image_of_a_frame(alloc)?;
+fn lists_what_the_heads_say(rt: HostRuntime) {
+    let image = image_of_a_frame(&rt);
     let cases = [
         (VERSION_2, 0, 0x00),
         (VERSION_2, 0, 0x5a),
@@ -179,34 +173,28 @@ fn lists_what_the_heads_say(rt: HostRuntime) -> Result<(), Fail> {
         (VERSION_1, 7, 0x5a),
     ];
     for (version, place, byte) in cases {
-        let image = damaged(alloc, &image, 1, version)?;
         for slot in 0..4 {
-            let other = damaged(alloc, &image, 64 + SLOT * slot + place, byte)?;
-            assert!(rt;
-                lists(alloc, &other, version)?,
-                "byte {place} of slot {slot} is {byte}, by version {version}"
-            );
+            let at = 64 + SLOT * slot + place;
+            let other = with_bytes(&rt, &image, &[(1, version), (at, byte)]);
+            assert!(rt; lists(&rt, &other, version), "{at}, {byte}");
         }
     }
-    Ok(())
 }
 
 // Without the plain computation giving more than one answer, the tests above would show little.
 #[test]
-fn the_heads_say_different_things(rt: HostRuntime) -> Result<(), Fail> {
-    let alloc = rt.alloc();
-    let image = image_of_a_frame(alloc)?;
-    assert!(rt; recovered(alloc, &image)?.len() == 192);
-    let mut opened = image.to_vec(alloc)?;
-    *opened.get_mut(64 + 2 * SLOT).ok_or("a byte")? = 0x5a;
-    assert!(rt; recovered(alloc, &opened)?.len() == 256);
+fn the_heads_say_different_things(rt: HostRuntime) {
+    let image = image_of_a_frame(&rt);
+    let opened = with_bytes(&rt, &image, &[(64 + 2 * SLOT, 0x5a)]);
     // A byte of the session of block 4, which is in slot 0.
-    *opened.get_mut(64 + 7).ok_or("a byte")? = 9;
+    let parted = with_bytes(&rt, &opened, &[(64 + 7, 9)]);
+    let closed = with_bytes(&rt, &parted, &[(64, 0)]);
     let lines = "session,1,2\ngap,0,1024\nsession,9,4\ngap,0,512\nsession,1,5\ngap,0,512\n";
-    assert!(rt; listing(alloc, &opened, VERSION_2)?.as_slice() == lines.as_bytes());
-    let lines = "gap,0,2048\n";
-    assert!(rt; listing(alloc, &opened, VERSION_1)?.as_slice() == lines.as_bytes());
-    *opened.get_mut(64).ok_or("a byte")? = 0;
-    assert!(rt; recovered(alloc, &opened)?.len() == 64);
-    Ok(())
+    assert!(rt;
+        recovered(&rt, &image).len() == 192
+            && recovered(&rt, &opened).len() == 256
+            && listing(&rt, &parted, VERSION_2).as_slice() == lines.as_bytes()
+            && listing(&rt, &parted, VERSION_1).as_slice() == b"gap,0,2048\n".as_slice()
+            && recovered(&rt, &closed).len() == 64
+    );
 }

@@ -1,36 +1,34 @@
 use crate::formats::fresh_image;
-use fdr_cases::{ALTITUDE, END_AT_4000000, Given, Left, deck_of, frame_with, run_on};
+use crate::images::{altered, copied, joined, ran, with_bytes};
+use fdr_cases::{ALTITUDE, END_AT_4000000, Given, Left, deck_of, frame_with};
 use fdr_deck::MemDeck;
 use fdr_recover::{Found, RingFault, read_image_header, scan};
 use fdr_ring::Ring;
 use fdr_slot::{Header, ImageFault, OPEN, write_header, write_slot_head};
 use fdr_top::Outcome;
-use std::alloc::{AllocError, Global};
-use std::test::Fail;
+use std::process::Abort;
 
 /// Recovers an image, where the listed calls of the disk fail. The table isn't read.
-pub fn recover(alloc: Global, image: &[u8], calls: &[u64]) -> Result<Left, AllocError> {
+pub fn recover(rt: &(impl Abort + AllocGlobal), image: &[u8], calls: &[u64]) -> Left {
     let given = Given {
         image,
         calls,
         ..Given::by("")
     };
-    run_on(alloc, &["recover", "flight.img"], given)
+    ran(rt, &["recover", "flight.img"], given)
 }
 
 /// The image of 4 slots after the six blocks of a frame, which are of session 1.
-pub fn image_of_a_frame(alloc: Global) -> Result<Vec<u8>, Fail> {
-    let fresh = fresh_image(alloc)?;
+pub fn image_of_a_frame(rt: &(impl Abort + AllocGlobal)) -> Vec<u8> {
+    let fresh = fresh_image(rt);
     let given = Given {
         image: &fresh,
         line: &END_AT_4000000,
         ..Given::by(ALTITUDE)
     };
-    let recorded = run_on(alloc, &["record", "t1.csv", "flight.img"], given)?;
-    if recorded.outcome != Outcome::Done || recorded.told != 6 {
-        return Err("six blocks")?;
-    }
-    Ok(recorded.image)
+    let recorded = ran(rt, &["record", "t1.csv", "flight.img"], given);
+    assert!(rt; recorded.outcome == Outcome::Done && recorded.told == 6);
+    recorded.image
 }
 
 /// Adds a block of 64 bytes to the ring of an image that is opened first, and answers how many calls that takes.
@@ -46,52 +44,47 @@ fn calls_of_a_block(deck: &mut MemDeck, block: &[u8; 64]) -> Result<u64, RingFau
     Ok(deck.calls().saturating_sub(before))
 }
 
+/// A deck with an image, none of whose calls fails.
+fn deck_with(rt: &(impl Abort + AllocGlobal), image: &[u8]) -> MemDeck {
+    deck_of(rt.alloc(), image, &[], &[]).expect(rt, "a deck")
+}
+
 // Block 6 comes into the slot of block 2, and the gate of block 3 after it is open.
 #[test]
-fn a_block_takes_at_most_six_calls(rt: HostRuntime) -> Result<(), Fail> {
-    let alloc = rt.alloc();
-    let mut deck = deck_of(alloc, &image_of_a_frame(alloc)?, &[], &[])?;
-    let taken = calls_of_a_block(&mut deck, &[7; 64]).ok().ok_or("a block")?;
-    assert!(rt; taken <= 6, "{taken} calls");
-    let mut blocks = frame_with(&[]).get(256..).ok_or("blocks")?.to_vec(alloc)?;
-    blocks.extend_from_slice(&[7; 64])?;
-    let recovered = recover(alloc, deck.image(), &[])?;
-    assert!(rt; recovered.outcome == Outcome::Done && recovered.written == blocks);
-    Ok(())
+fn a_block_takes_at_most_six_calls(rt: HostRuntime) {
+    let mut deck = deck_with(&rt, &image_of_a_frame(&rt));
+    let taken = calls_of_a_block(&mut deck, &[7; 64]).expect(&rt, "a block");
+    let blocks = joined(&rt, &frame_with(&[])[256..], &[7; 64]);
+    let recovered = recover(&rt, deck.image(), &[]);
+    assert!(rt; taken <= 6 && recovered.outcome == Outcome::Done && recovered.written == blocks);
 }
 
 #[test]
-fn recovers_the_last_blocks_of_a_ring(rt: HostRuntime) -> Result<(), Fail> {
-    let alloc = rt.alloc();
-    let image = image_of_a_frame(alloc)?;
-    let recovered = recover(alloc, &image, &[])?;
+fn recovers_the_last_blocks_of_a_ring(rt: HostRuntime) {
+    let image = image_of_a_frame(&rt);
+    let recovered = recover(&rt, &image, &[]);
     let frame = frame_with(&[]);
-    let last = frame.get(192..).ok_or("three blocks")?;
+    let none = recover(&rt, &fresh_image(&rt), &[]);
     assert!(rt;
         recovered.outcome == Outcome::Done
             && recovered.image == image
-            && recovered.written.as_slice() == last
+            && recovered.written.as_slice() == &frame[192..]
+            && none.outcome == Outcome::Done
+            && none.written.is_empty()
     );
-    let recovered = recover(alloc, &fresh_image(alloc)?, &[])?;
-    assert!(rt; recovered.outcome == Outcome::Done && recovered.written.is_empty());
-    Ok(())
 }
 
-/// What is answered where a byte of a fresh image is another, or bytes are missing at its end.
-fn refused(alloc: Global, at: usize, byte: u8, length: usize) -> Result<Outcome, Fail> {
-    let mut image = fresh_image(alloc)?;
-    *image.get_mut(at).ok_or("a byte")? = byte;
-    image.resize(length, 0)?;
-    let recovered = recover(alloc, &image, &[])?;
-    if !recovered.written.is_empty() || recovered.image != image {
-        return Err("changed")?;
-    }
-    Ok(recovered.outcome)
+/// What is answered where a byte of a fresh image is another, or bytes are missing at its end. Nothing is written, and the
+/// image stays as it is.
+fn refused(rt: &(impl Abort + AllocGlobal), at: usize, byte: u8, length: usize) -> Outcome {
+    let image = altered(rt, &fresh_image(rt), &[(at, byte)], length);
+    let left = recover(rt, &image, &[]);
+    assert!(rt; left.written.is_empty() && left.image == image);
+    left.outcome
 }
 
 #[test]
-fn refuses_what_is_no_image(rt: HostRuntime) -> Result<(), Fail> {
-    let alloc = rt.alloc();
+fn refuses_what_is_no_image(rt: HostRuntime) {
     let cases = [
         (0, 0x5a, 0, Outcome::ImageRefused(ImageFault::Small)),
         (0, 0x5a, 63, Outcome::ImageRefused(ImageFault::Small)),
@@ -104,24 +97,20 @@ fn refuses_what_is_no_image(rt: HostRuntime) -> Result<(), Fail> {
         (0, 0x5a, 385, Outcome::Done),
     ];
     for (at, byte, length, outcome) in cases {
-        assert!(rt;
-            refused(alloc, at, byte, length)? == outcome,
-            "byte {at}, {length} bytes"
-        );
+        let answer = refused(&rt, at, byte, length);
+        assert!(rt; answer == outcome, "{at}, {length}");
     }
-    Ok(())
 }
 
 #[test]
-fn says_what_failed(rt: HostRuntime) -> Result<(), Fail> {
-    let alloc = rt.alloc();
-    let image = image_of_a_frame(alloc)?;
+fn says_what_failed(rt: HostRuntime) {
+    let image = image_of_a_frame(&rt);
     // The size, the header, the heads of four slots, those of four numbers downward, and three blocks in two reads each.
     for call in 0..16 {
-        let recovered = recover(alloc, &image, &[call])?;
+        let left = recover(&rt, &image, &[call]);
         assert!(rt;
-            recovered.outcome == Outcome::DiskFault && recovered.image == image,
-            "call {call}"
+            left.outcome == Outcome::DiskFault && left.image == image,
+            "{call}"
         );
     }
     let given = Given {
@@ -129,20 +118,19 @@ fn says_what_failed(rt: HostRuntime) -> Result<(), Fail> {
         writes: &[0],
         ..Given::by("")
     };
-    let unwritten = run_on(alloc, &["recover", "flight.img"], given)?;
+    let unwritten = ran(&rt, &["recover", "flight.img"], given);
     assert!(rt; unwritten.outcome == Outcome::WriteFault && unwritten.written.is_empty());
-    Ok(())
 }
 
 /// An image of eight slots with blocks 2, 3, 4, 7 and 8, each in its slot. A block's session and bytes are its number.
-fn broken_ring(alloc: Global) -> Result<Vec<u8>, AllocError> {
+fn broken_ring(rt: &(impl Abort + AllocGlobal)) -> Vec<u8> {
     let header = Header {
         slots: 8,
         payload: 64,
         words: 64,
         version: 2,
     };
-    let mut image = Vec::from_slice(alloc, &write_header(&header))?;
+    let mut image = copied(rt, &write_header(&header));
     for (open, number) in [
         (true, 8),
         (false, 1),
@@ -157,10 +145,10 @@ fn broken_ring(alloc: Global) -> Result<Vec<u8>, AllocError> {
         if open {
             head[0] = OPEN;
         }
-        image.extend_from_slice(&head)?;
-        image.extend_from_slice(&[number; 64])?;
+        image.extend_from_slice(&head).expect(rt, "room");
+        image.extend_from_slice(&[number; 64]).expect(rt, "room");
     }
-    Ok(image)
+    image
 }
 
 /// The run of the image that a deck holds.
@@ -173,22 +161,21 @@ fn found(deck: &mut MemDeck) -> Result<Found, RingFault> {
 }
 
 #[test]
-fn recovers_the_run_that_ends_at_the_greatest(rt: HostRuntime) -> Result<(), Fail> {
-    let alloc = rt.alloc();
-    let ring = broken_ring(alloc)?;
+fn recovers_the_run_that_ends_at_the_greatest(rt: HostRuntime) {
+    let ring = broken_ring(&rt);
+    let old = with_bytes(&rt, &ring, &[(1, 0)]);
     let run = Found {
         first: 7,
         next: 9,
         session: 8,
     };
-    assert!(rt; found(&mut deck_of(alloc, &ring, &[], &[])?).ok() == Some(run));
-    let mut old = ring.to_vec(alloc)?;
-    *old.get_mut(1).ok_or("a version")? = 0;
-    let run = Found { session: 0, ..run };
-    assert!(rt; found(&mut deck_of(alloc, &old, &[], &[])?).ok() == Some(run));
-    let recovered = recover(alloc, &ring, &[])?;
-    let mut blocks = vec![in alloc; 7; 64]?;
-    blocks.extend_from_slice(&[8; 64])?;
-    assert!(rt; recovered.outcome == Outcome::Done && recovered.written == blocks);
-    Ok(())
+    let run_of_old = Found { session: 0, ..run };
+    let recovered = recover(&rt, &ring, &[]);
+    let blocks = joined(&rt, &[7; 64], &[8; 64]);
+    assert!(rt;
+        found(&mut deck_with(&rt, &ring)).ok() == Some(run)
+            && found(&mut deck_with(&rt, &old)).ok() == Some(run_of_old)
+            && recovered.outcome == Outcome::Done
+            && recovered.written == blocks
+    );
 }

@@ -1,42 +1,32 @@
-use crate::images::{RECORD, fresh, line_of};
-use fdr_cases::{ALTITUDE, END_AT_4000000, Given, ORDINARY, run_on};
+use crate::images::{RECORD, altered, fresh, ran};
+use fdr_cases::{ALTITUDE, END_AT_4000000, Given, ORDINARY};
 use fdr_slot::ImageFault;
 use fdr_table::TableFault;
 use fdr_top::Outcome;
-use std::alloc::Global;
-use std::test::Fail;
+use std::process::Abort;
 
 /// What is answered where a byte of a fresh image of four slots is another, or bytes are missing at its end, and which
-/// number is announced. A refusal leaves the image.
+/// number is announced. A recording writes no text, and a refusal leaves the image.
 fn recorded_in(
-    alloc: Global,
+    rt: &(impl Abort + AllocGlobal),
     at: usize,
     byte: u8,
     length: usize,
     table: &str,
-) -> Result<(Outcome, u64), Fail> {
-    let mut image = fresh(alloc, "4")?;
-    *image.get_mut(at).ok_or("a byte")? = byte;
-    image.resize(length, 0)?;
-    let line = line_of(alloc, &[END_AT_4000000])?;
+) -> (Outcome, u64) {
+    let image = altered(rt, &fresh(rt, "4"), &[(at, byte)], length);
     let given = Given {
         image: &image,
-        line: &line,
+        line: &END_AT_4000000,
         ..Given::by(table)
     };
-    let left = run_on(alloc, RECORD, given)?;
-    if !left.written.is_empty() {
-        return Err("a recording writes no text")?;
-    }
-    if left.outcome != Outcome::Done && left.image != image {
-        return Err("a refusal leaves the image")?;
-    }
-    Ok((left.outcome, left.told))
+    let left = ran(rt, RECORD, given);
+    assert!(rt; left.written.is_empty() && (left.outcome == Outcome::Done || left.image == image));
+    (left.outcome, left.told)
 }
 
 #[test]
-fn refuses_what_is_no_image_for_the_table(rt: HostRuntime) -> Result<(), Fail> {
-    let alloc = rt.alloc();
+fn refuses_what_is_no_image_for_the_table(rt: HostRuntime) {
     let words_differ = Outcome::WordsDiffer {
         image: 64,
         table: 256,
@@ -93,15 +83,13 @@ fn refuses_what_is_no_image_for_the_table(rt: HostRuntime) -> Result<(), Fail> {
         (0, 0x5a, 385, ALTITUDE, Outcome::Done, 6),
     ];
     for (at, byte, length, table, outcome, announced) in cases {
-        let answer = recorded_in(alloc, at, byte, length, table)?;
-        assert!(rt; answer == (outcome, announced), "byte {at}, {length} bytes");
+        let answer = recorded_in(&rt, at, byte, length, table);
+        assert!(rt; answer == (outcome, announced), "{at}, {length}");
     }
-    Ok(())
 }
 
 #[test]
-fn leaves_the_disk_where_words_or_table_are_refused(rt: HostRuntime) -> Result<(), Fail> {
-    let alloc = rt.alloc();
+fn leaves_the_disk_where_words_or_table_are_refused(rt: HostRuntime) {
     let refused = Outcome::TableRefused {
         row: 0,
         fault: TableFault::Shape,
@@ -116,18 +104,17 @@ fn leaves_the_disk_where_words_or_table_are_refused(rt: HostRuntime) -> Result<(
         ),
         (RECORD, "X,1\n", refused),
     ];
-    let image = fresh(alloc, "4")?;
+    let image = fresh(&rt, "4");
     for (words, table, outcome) in cases {
         let given = Given {
             image: &image,
             line: &END_AT_4000000,
             ..Given::by(table)
         };
-        let left = run_on(alloc, words, given)?;
+        let left = ran(&rt, words, given);
         assert!(rt;
             left.outcome == outcome && left.calls == 0 && left.told == 0,
             "{words:?}"
         );
     }
-    Ok(())
 }

@@ -1,10 +1,12 @@
 //! Rings of a few slots: what is recovered of them, what a recording in them goes on with, and what a stop leaves.
 
-use fdr_cases::{ALTITUDE, END_AT_4000000, WORD_AT_0, deck_of, frame_with, run_words, stopped};
+use crate::images::{copied, record, recovered};
+use fdr_cases::{
+    ALTITUDE, END_AT_4000000, Ran, WORD_AT_0, deck_of, frame_with, run_words, stopped,
+};
 use fdr_deck::{MemDeck, Tear};
 use fdr_top::Outcome;
-use std::alloc::{AllocError, Global};
-use std::test::Fail;
+use std::process::Abort;
 
 /// What the bytes are that a stop finds pending.
 pub const TEARS: [Tear; 6] = [
@@ -17,37 +19,35 @@ pub const TEARS: [Tear; 6] = [
 ];
 
 /// A ring of `slots` slots of `payload` bytes without blocks, for subframes of 64 words.
-pub fn empty_ring(alloc: Global, slots: u16, payload: u16) -> Result<Vec<u8>, AllocError> {
-    let mut image = Vec::new(alloc);
-    image.extend_from_slice(&[0x5a, 0xa5, b'F', b'D', b'R', b'7', b'1', b'7'])?;
+pub fn empty_ring(rt: &(impl Abort + AllocGlobal), slots: u16, payload: u16) -> Vec<u8> {
+    let mut image = copied(rt, &[0x5a, 0xa5, b'F', b'D', b'R', b'7', b'1', b'7']);
     for number in [slots, payload, 64] {
         let [high, low] = number.to_be_bytes();
-        image.extend_from_slice(&[0, 0, high, low])?;
+        image
+            .extend_from_slice(&[0, 0, high, low])
+            .expect(rt, "room");
     }
-    image.resize(64 + usize::from(slots) * (16 + usize::from(payload)), 0)?;
-    Ok(image)
+    let length = 64 + usize::from(slots) * (16 + usize::from(payload));
+    image.resize(length, 0).expect(rt, "room");
+    image
 }
 
-/// A trace of one frame with the altitude 5.
-pub fn trace_of_a_frame(alloc: Global) -> Result<Vec<u8>, AllocError> {
-    let mut trace = WORD_AT_0.to_vec(alloc)?;
-    trace.extend_from_slice(&END_AT_4000000)?;
-    Ok(trace)
-}
-
-/// What this trace records.
+/// What a trace of one frame with the altitude 5 records.
 pub fn recorded_frame() -> [u8; 384] {
     frame_with(&[(13, 0x50)])
 }
 
-/// The bytes that are recovered of a ring, which stays as it is.
-fn blocks_in(alloc: Global, image: &[u8]) -> Result<Vec<u8>, Fail> {
-    let mut deck = deck_of(alloc, image, &[], &[])?;
-    let ran = run_words(alloc, &["recover", "flight.img"], "", &mut deck, &[])?;
-    if ran.outcome != Outcome::Done || deck.image() != image {
-        return Err("the ring can't be recovered")?;
-    }
-    Ok(ran.written)
+/// Runs a command by the table of the altitude, where the listed calls fail of a deck with this image and this line.
+pub fn run_in(
+    rt: &(impl Abort + AllocGlobal),
+    words: &[&str],
+    image: &[u8],
+    line: &[u8],
+    failing: &[u64],
+) -> (Ran, MemDeck) {
+    let mut deck = deck_of(rt.alloc(), image, line, failing).expect(rt, "a deck");
+    let ran = run_words(rt.alloc(), words, ALTITUDE, &mut deck, &[]).expect(rt, "a run");
+    (ran, deck)
 }
 
 /// What is in a ring: the blocks that are recovered, and after a frame more is recorded in it, the next number and the
@@ -59,20 +59,15 @@ pub struct Standing {
     pub held_then: Vec<u8>,
 }
 
-/// Recovers a ring by a new command, and records a frame in it by another.
-fn opened(alloc: Global, image: &[u8]) -> Result<Standing, Fail> {
-    let held = blocks_in(alloc, image)?;
-    let mut deck = deck_of(alloc, image, &trace_of_a_frame(alloc)?, &[])?;
-    let words = ["record", "t1.csv", "flight.img"];
-    let ran = run_words(alloc, &words, ALTITUDE, &mut deck, &[])?;
-    if ran.outcome != Outcome::Done {
-        return Err("nothing can be recorded")?;
+/// Recovers a ring by a new command, and records a frame in it by another. The first leaves the ring as it is.
+fn opened(rt: &(impl Abort + AllocGlobal), image: &[u8]) -> Standing {
+    let then = record(rt, image, &[WORD_AT_0, END_AT_4000000]);
+    assert!(rt; then.outcome == Outcome::Done);
+    Standing {
+        held: recovered(rt, image),
+        next_then: then.told,
+        held_then: recovered(rt, &then.image),
     }
-    Ok(Standing {
-        held,
-        next_then: deck.told(),
-        held_then: blocks_in(alloc, deck.image())?,
-    })
 }
 
 /// A ring that was opened.
@@ -89,9 +84,9 @@ pub struct Rings {
 }
 
 impl Rings {
-    pub fn new(alloc: Global) -> Rings {
+    pub fn new(rt: &impl AllocGlobal) -> Rings {
         Rings {
-            opened: Vec::new(alloc),
+            opened: Vec::new(rt.alloc()),
         }
     }
 
@@ -110,30 +105,38 @@ impl Rings {
     }
 
     /// What is in a ring.
-    pub fn open(&mut self, alloc: Global, image: &[u8]) -> Result<&Standing, Fail> {
+    pub fn open(&mut self, rt: &(impl Abort + AllocGlobal), image: &[u8]) -> &Standing {
         if self.standing(image).is_none() {
-            let standing = opened(alloc, image)?;
-            let image = image.to_vec(alloc)?;
-            self.opened.push(Ring { image, standing })?;
+            let ring = Ring {
+                image: copied(rt, image),
+                standing: opened(rt, image),
+            };
+            self.opened.push(ring).expect(rt, "room");
         }
-        Ok(self.standing(image).ok_or("a ring")?)
+        self.standing(image).expect(rt, "a ring")
     }
 }
 
 /// The image that a stop within a call leaves.
-pub fn left_by_stop(alloc: Global, deck: &MemDeck, call: u64, tear: Tear) -> Result<Vec<u8>, Fail> {
-    Ok(stopped(alloc, deck, call, tear)?.ok_or("no such call")?)
+pub fn left_by_stop(
+    rt: &(impl Abort + AllocGlobal),
+    deck: &MemDeck,
+    call: u64,
+    tear: Tear,
+) -> Vec<u8> {
+    let left = stopped(rt.alloc(), deck, call, tear).expect(rt, "a stop");
+    left.expect(rt, "such a call")
 }
 
 /// The bytes of one image with the gates of another, where a block has `payload` bytes. Where a stop may leave both, it may
 /// leave this one too.
 pub fn with_gates(
-    alloc: Global,
+    rt: &(impl Abort + AllocGlobal),
     image: &[u8],
     gates: &[u8],
     block: usize,
-) -> Result<Vec<u8>, AllocError> {
-    let mut mixed = image.to_vec(alloc)?;
+) -> Vec<u8> {
+    let mut mixed = copied(rt, image);
     let slot = block.saturating_add(16);
     let mut at: usize = 64;
     for _ in 0..16 {
@@ -142,13 +145,11 @@ pub fn with_gates(
         }
         at = at.saturating_add(slot);
     }
-    Ok(mixed)
+    mixed
 }
 
 /// The number that was announced as a call began.
-pub fn announced_at(deck: &MemDeck, call: u64) -> Result<u64, Fail> {
-    if call >= deck.calls() {
-        return Err("no such call")?;
-    }
-    Ok(deck.told_at(call))
+pub fn announced_at(rt: &impl Abort, deck: &MemDeck, call: u64) -> u64 {
+    assert!(rt; call < deck.calls());
+    deck.told_at(call)
 }

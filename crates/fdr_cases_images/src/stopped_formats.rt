@@ -1,17 +1,15 @@
 //! Images whose making is stopped within a call, or fails at one: none, or the whole empty one.
 
-use crate::rings::{TEARS, empty_ring, left_by_stop};
-use fdr_cases::{ALTITUDE, Ran, deck_of, run_words};
+use crate::recoveries::recover;
+use crate::rings::{TEARS, empty_ring, left_by_stop, run_in};
+use fdr_cases::Ran;
 use fdr_deck::MemDeck;
 use fdr_slot::ImageFault;
 use fdr_top::Outcome;
-use std::alloc::Global;
 use std::process::Abort;
-use std::test::Fail;
 
 /// Makes an image of four slots on an empty disk where the listed calls fail.
-fn format(alloc: Global, failing: &[u64]) -> Result<(Ran, MemDeck), Fail> {
-    let mut deck = deck_of(alloc, &[], &[], failing)?;
+fn format(rt: &(impl Abort + AllocGlobal), failing: &[u64]) -> (Ran, MemDeck) {
     let words = [
         "format",
         "t1.csv",
@@ -19,8 +17,7 @@ fn format(alloc: Global, failing: &[u64]) -> Result<(Ran, MemDeck), Fail> {
         "--slots=4",
         "--payload=64",
     ];
-    let ran = run_words(alloc, &words, ALTITUDE, &mut deck, &[])?;
-    Ok((ran, deck))
+    run_in(rt, &words, &[], &[], failing)
 }
 
 /// What is to be answered to what is left, by its bytes: there is no image yet, or the whole empty one. None is neither.
@@ -37,70 +34,63 @@ fn answer_to(image: &[u8], whole: &[u8]) -> Option<Outcome> {
 }
 
 /// How many images were too small, closed and whole.
-#[derive(Drop)]
+#[derive(Clone, Copy)]
 struct Seen {
     small: u32,
     closed: u32,
     whole: u32,
 }
 
+/// Before the first image.
+const NOTHING_SEEN: Seen = Seen {
+    small: 0,
+    closed: 0,
+    whole: 0,
+};
+
 /// Checks that an image is recovered as its bytes say, of which nothing is written, and counts it.
-fn check_image(rt: &impl Abort, alloc: Global, image: &[u8], seen: &mut Seen) -> Result<(), Fail> {
-    let answer = answer_to(image, &empty_ring(alloc, 4, 64)?).ok_or("another image")?;
-    let mut deck = deck_of(alloc, image, &[], &[])?;
-    let ran = run_words(alloc, &["recover", "flight.img"], "", &mut deck, &[])?;
-    assert!(rt; ran.outcome == answer && ran.written.is_empty());
-    match answer {
+fn check_image(rt: &(impl Abort + AllocGlobal), image: &[u8], seen: &mut Seen) {
+    let answer = answer_to(image, &empty_ring(rt, 4, 64));
+    let left = recover(rt, image, &[]);
+    assert!(rt; Some(left.outcome) == answer && left.written.is_empty());
+    match left.outcome {
         Outcome::Done => seen.whole = seen.whole.saturating_add(1),
         Outcome::ImageRefused(ImageFault::Small) => seen.small = seen.small.saturating_add(1),
         _ => seen.closed = seen.closed.saturating_add(1),
     }
-    Ok(())
 }
 
 // The calls are the size, the zeros, the header except its gate, a sync, the gate, and a sync. The disk is empty before
 // the zeros. The gate's one byte has no half, and opens where it is new or filled with its own value.
 #[test]
-fn a_stop_leaves_no_image_or_a_whole_one(rt: HostRuntime) -> Result<(), Fail> {
-    let alloc = rt.alloc();
-    let (ran, deck) = format(alloc, &[])?;
+fn a_stop_leaves_no_image_or_a_whole_one(rt: HostRuntime) {
+    let (ran, deck) = format(&rt, &[]);
     assert!(rt; ran.outcome == Outcome::Done && deck.calls() == 6);
-    let mut seen = Seen {
-        small: 0,
-        closed: 0,
-        whole: 0,
-    };
+    let mut seen = NOTHING_SEEN;
     for call in 0..deck.calls() {
         for tear in TEARS {
-            let image = left_by_stop(alloc, &deck, call, tear)?;
-            check_image(&rt, alloc, &image, &mut seen)?;
+            let image = left_by_stop(&rt, &deck, call, tear);
+            check_image(&rt, &image, &mut seen);
         }
     }
     assert!(rt; (seen.small, seen.closed, seen.whole) == (7, 25, 4));
-    Ok(())
 }
 
 // Of each failed call, what the disk holds and what stops within it leave.
 #[test]
-fn a_failed_call_leaves_no_image_or_a_whole_one(rt: HostRuntime) -> Result<(), Fail> {
-    let alloc = rt.alloc();
-    let mut seen = Seen {
-        small: 0,
-        closed: 0,
-        whole: 0,
-    };
+fn a_failed_call_leaves_no_image_or_a_whole_one(rt: HostRuntime) {
+    let mut seen = NOTHING_SEEN;
     for call in 0..6 {
-        let (ran, deck) = format(alloc, &[call])?;
+        let (ran, deck) = format(&rt, &[call]);
         assert!(rt;
             ran.outcome == Outcome::DiskFault && deck.calls() == call + 1 && deck.told() == 0,
-            "call {call}"
+            "{call}"
         );
-        check_image(&rt, alloc, deck.image(), &mut seen)?;
+        check_image(&rt, deck.image(), &mut seen);
         for tear in TEARS {
-            let image = left_by_stop(alloc, &deck, call, tear)?;
-            check_image(&rt, alloc, &image, &mut seen)?;
+            let image = left_by_stop(&rt, &deck, call, tear);
+            check_image(&rt, &image, &mut seen);
         }
     }
     assert!(rt; (seen.small, seen.closed, seen.whole) == (9, 28, 5));
-    Ok(())
 }

@@ -5,7 +5,6 @@ use crate::images::{Recording, fresh, goes_on_with, holds, record};
 use fdr_cases::{END_AT_4000000, WORD_AT_0, frame_with};
 use fdr_deck::Tear;
 use fdr_top::Outcome;
-use std::test::Fail;
 
 // A block's calls where the gate after it is open.
 const BODY: u64 = 0;
@@ -16,16 +15,15 @@ const GATE: u64 = 4;
 
 // Four slots hold blocks 1 to 3 and the closed block 0 as block 4 begins.
 #[test]
-fn a_stop_leaves_what_is_promised(rt: HostRuntime) -> Result<(), Fail> {
-    let alloc = rt.alloc();
+fn a_stop_leaves_what_is_promised(rt: HostRuntime) {
     let frame = frame_with(&[]);
-    let image = fresh(alloc, "4")?;
+    let image = fresh(&rt, "4");
     let recording = Recording {
         image: &image,
         trace: &[END_AT_4000000],
     };
-    assert!(rt; recording.done(alloc, &[])?.outcome == Outcome::Done);
-    let begins = recording.first_call_with(alloc, 4)?;
+    assert!(rt; recording.done(&rt, &[]).outcome == Outcome::Done);
+    let begins = recording.first_call_with(&rt, 4);
     let cases = [
         (BODY, Tear::Old, 1usize, 4usize),
         (BODY, Tear::New, 1, 4),
@@ -43,46 +41,37 @@ fn a_stop_leaves_what_is_promised(rt: HostRuntime) -> Result<(), Fail> {
         (GATE, Tear::Fill(0x00), 2, 4),
     ];
     for (step, tear, first, next) in cases {
-        let call = begins.saturating_add(step);
-        let stop = recording.stopped(alloc, &[], call, tear)?;
+        let stop = recording.stopped(&rt, &[], begins.saturating_add(step), tear);
         let bytes = first.saturating_mul(64)..next.saturating_mul(64);
-        let blocks = frame.get(bytes).ok_or("blocks")?;
-        assert!(rt;
-            holds(alloc, &stop, blocks, next as u64)?,
-            "call {step}, {tear:?}"
-        );
+        let blocks = frame.get(bytes).expect(&rt, "blocks");
+        assert!(rt; holds(&rt, &stop, blocks, next as u64), "{step}, {tear:?}");
     }
-    Ok(())
 }
 
 // A stop where nothing is written would show little.
 #[test]
-fn stops_are_within_writes(rt: HostRuntime) -> Result<(), Fail> {
-    let alloc = rt.alloc();
-    let image = fresh(alloc, "4")?;
+fn stops_are_within_writes(rt: HostRuntime) {
+    let image = fresh(&rt, "4");
     let recording = Recording {
         image: &image,
         trace: &[END_AT_4000000],
     };
-    let begins = recording.first_call_with(alloc, 4)?;
-    let ends = recording.first_call_with(alloc, 5)?;
+    let begins = recording.first_call_with(&rt, 4);
+    let ends = recording.first_call_with(&rt, 5);
     for step in [BODY, CLOSE, GATE] {
         let call = begins.saturating_add(step);
-        let before = recording.stopped(alloc, &[], call, Tear::Old)?;
-        let after = recording.stopped(alloc, &[], call, Tear::New)?;
-        assert!(rt; before != after && call < ends, "call {step}");
+        let before = recording.stopped(&rt, &[], call, Tear::Old);
+        let after = recording.stopped(&rt, &[], call, Tear::New);
+        assert!(rt; before != after && call < ends, "{step}");
     }
-    Ok(())
 }
 
 // The first stop closes the gate of block 3 before block 6 is there. From then on that gate is closed and isn't written
 // again, so the first gate that the later recordings write is that of block 6.
 #[test]
-fn stops_in_a_row_lose_no_more(rt: HostRuntime) -> Result<(), Fail> {
-    let alloc = rt.alloc();
+fn stops_in_a_row_lose_no_more(rt: HostRuntime) {
     let frame = frame_with(&[]);
-    let kept = frame.get(256..).ok_or("two blocks")?;
-    let mut image = record(alloc, &fresh(alloc, "4")?, &[END_AT_4000000])?.image;
+    let mut image = record(&rt, &fresh(&rt, "4"), &[END_AT_4000000]).image;
     // The first call as which 6 is announced is the pull, and the body's write comes after it.
     for (shows, step, next) in [
         ("within the close of block 3", 3, 6),
@@ -93,12 +82,13 @@ fn stops_in_a_row_lose_no_more(rt: HostRuntime) -> Result<(), Fail> {
             image: &image,
             trace: &[WORD_AT_0, END_AT_4000000],
         };
-        let call = recording.first_call_with(alloc, 6)?.saturating_add(step);
-        let written = recording.stopped(alloc, &[], call, Tear::New)?;
-        assert!(rt; goes_on_with(alloc, &written)? == next, "{shows}");
-        let torn = recording.stopped(alloc, &[], call, Tear::Fill(0x00))?;
-        assert!(rt; holds(alloc, &torn, kept, 6)?, "{shows}");
+        let call = recording.first_call_with(&rt, 6).saturating_add(step);
+        let written = recording.stopped(&rt, &[], call, Tear::New);
+        let torn = recording.stopped(&rt, &[], call, Tear::Fill(0x00));
+        assert!(rt;
+            goes_on_with(&rt, &written) == next && holds(&rt, &torn, &frame[256..], 6),
+            "{shows}"
+        );
         image = torn;
     }
-    Ok(())
 }

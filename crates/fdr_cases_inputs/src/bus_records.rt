@@ -11,9 +11,10 @@ fn reads_fields_of_words(rt: HostRuntime) {
         (0x8000_0113, 0o310, 1, true),
         (0x8000_0213, 0o310, 2, true),
     ] {
-        assert!(rt; label(word) == octal, "label of {word}");
-        assert!(rt; sdi(word) == source, "SDI of {word}");
-        assert!(rt; is_odd(word) == is_sound, "parity of {word}");
+        assert!(rt;
+            label(word) == octal && sdi(word) == source && is_odd(word) == is_sound,
+            "{word}"
+        );
     }
     assert!(rt;
         field(0x0000_14c1, 11, 12) == 5

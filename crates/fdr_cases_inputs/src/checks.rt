@@ -3,7 +3,6 @@
 use fdr_check::{check, report};
 use fdr_table::{Refusal, Table, TableError, TableFault};
 use std::alloc::Global;
-use std::test::Fail;
 
 /// The third place meets both places above it, the second of them at the lower bit.
 const TWICE_CROSSED: &[u8] =
@@ -42,8 +41,7 @@ fn refuses_the_first_fault(rt: HostRuntime) {
 }
 
 #[test]
-fn reports_on_a_sound_table(rt: HostRuntime) -> Result<(), Fail> {
-    let report = report_of(rt.alloc(), TWO_PLACES)?;
+fn reports_on_a_sound_table(rt: HostRuntime) {
+    let report = report_of(rt.alloc(), TWO_PLACES).expect(&rt, "a report");
     assert!(rt; report.as_slice() == b"frame,64,1,32\nparam,A,32,even\n".as_slice());
-    Ok(())
 }

@@ -1,15 +1,15 @@
 //! Worked command lines. Their words are parted by one space.
 
 use fdr_words::{Request, WordsFault, read_words};
-use std::alloc::Global;
-use std::test::Fail;
+use std::process::Abort;
 
-fn read(alloc: Global, line: &str) -> Result<Result<Request, WordsFault>, Fail> {
-    let mut args = Vec::new(alloc);
+fn read(rt: &(impl Abort + AllocGlobal), line: &str) -> Result<Request, WordsFault> {
+    let mut args = Vec::new(rt.alloc());
     for word in line.split(' ') {
-        args.push(word.to_string(alloc)?)?;
+        let arg = word.to_string(rt.alloc()).expect(rt, "a word");
+        args.push(arg).expect(rt, "room for a word");
     }
-    Ok(read_words(alloc, args.as_slice()))
+    read_words(rt.alloc(), args.as_slice())
 }
 
 /// The name of the command that is asked for.
@@ -45,7 +45,7 @@ fn numbers_of(request: &Request) -> (u64, u32) {
 }
 
 #[test]
-fn reads_each_command(rt: HostRuntime) -> Result<(), Fail> {
+fn reads_each_command(rt: HostRuntime) {
     let cases = [
         ("check t1.csv", Some("t1.csv"), None, false),
         ("stream t1.csv", Some("t1.csv"), None, false),
@@ -60,7 +60,7 @@ fn reads_each_command(rt: HostRuntime) -> Result<(), Fail> {
         ("exceed t1.csv a.img", Some("t1.csv"), Some("a.img"), false),
     ];
     for (line, table, image, writes) in cases {
-        let request = read(rt.alloc(), line)?.ok().ok_or(line)?;
+        let request = read(&rt, line).expect(&rt, line);
         let (command, _) = line.split_once(' ').unwrap_or((line, ""));
         assert!(rt;
             command_of(&request) == command
@@ -70,11 +70,10 @@ fn reads_each_command(rt: HostRuntime) -> Result<(), Fail> {
             "{line}"
         );
     }
-    Ok(())
 }
 
 #[test]
-fn reads_options_anywhere(rt: HostRuntime) -> Result<(), Fail> {
+fn reads_options_anywhere(rt: HostRuntime) {
     let cases = [
         ("format t i --payload=64 --slots 016", "format", (16, 64)),
         (
@@ -105,7 +104,7 @@ fn reads_options_anywhere(rt: HostRuntime) -> Result<(), Fail> {
         ),
     ];
     for (line, command, numbers) in cases {
-        let request = read(rt.alloc(), line)?.ok().ok_or(line)?;
+        let request = read(&rt, line).expect(&rt, line);
         assert!(rt;
             command_of(&request) == command
                 && (request.table(), request.image()) == (Some("t"), Some("i"))
@@ -114,11 +113,10 @@ fn reads_options_anywhere(rt: HostRuntime) -> Result<(), Fail> {
             "{line}"
         );
     }
-    Ok(())
 }
 
 #[test]
-fn refuses_other_words(rt: HostRuntime) -> Result<(), Fail> {
+fn refuses_other_words(rt: HostRuntime) {
     let lines = [
         "",
         "listbits",
@@ -180,21 +178,19 @@ fn refuses_other_words(rt: HostRuntime) -> Result<(), Fail> {
         "exceed t i --slots 16 --payload 64",
     ];
     for line in lines {
-        let answer = read(rt.alloc(), line)?;
-        assert!(rt; answer.err() == Some(WordsFault::Usage), "{line}");
+        assert!(rt; read(&rt, line).err() == Some(WordsFault::Usage), "{line}");
     }
     let none = read_words(rt.alloc(), &[]);
     assert!(rt; none.err() == Some(WordsFault::Usage));
-    Ok(())
 }
 
 #[test]
-fn refuses_any_number_of_words(rt: HostRuntime) -> Result<(), Fail> {
+fn refuses_any_number_of_words(rt: HostRuntime) {
     let mut args = Vec::new(rt.alloc());
     for _ in 0..20_000 {
-        args.push("check".to_string(rt.alloc())?)?;
+        let arg = "check".to_string(rt.alloc()).expect(&rt, "a word");
+        args.push(arg).expect(&rt, "room for a word");
     }
     let answer = read_words(rt.alloc(), args.as_slice());
     assert!(rt; answer.err() == Some(WordsFault::Usage));
-    Ok(())
 }

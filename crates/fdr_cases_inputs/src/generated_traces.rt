@@ -4,8 +4,7 @@ use fdr_bus::{BusRecord, RecordKind};
 use fdr_check::check;
 use fdr_gen::Gen;
 use fdr_table::Table;
-use std::alloc::Global;
-use std::test::Fail;
+use std::process::Abort;
 
 const ONE: &[u8] = b"F,64,2,1\nP,ALT,0,203,,11,12,U,1,1,0,0,16\nL,ALT,1,1,10,0,1,12,0,1\n";
 
@@ -14,11 +13,10 @@ const TWO: &[u8] =
 
 const NONE: &[u8] = b"F,64,2,1\n";
 
-fn generator_of(alloc: Global, table: &[u8], seed: u64) -> Result<Gen, Fail> {
-    let table = Table::read(alloc, table).ok().ok_or("table")?;
-    let sound = check(alloc, table).ok().ok_or("sound")?;
-    let generator = Gen::new(alloc, &sound, seed, 1).ok().ok_or("memory")?;
-    Ok(generator)
+fn generator_of(rt: &(impl Abort + AllocGlobal), table: &[u8], seed: u64) -> Gen {
+    let table = Table::read(rt.alloc(), table).expect(rt, "a table");
+    let sound = check(rt.alloc(), table).expect(rt, "a sound table");
+    Gen::new(rt.alloc(), &sound, seed, 1).expect(rt, "a generator")
 }
 
 fn word(bus: u8, word: u32, second: u8) -> Option<BusRecord> {
@@ -38,8 +36,8 @@ const END: Option<BusRecord> = Some(BusRecord {
 });
 
 #[test]
-fn gives_the_trace_of_seed_1(rt: HostRuntime) -> Result<(), Fail> {
-    let mut generator = generator_of(rt.alloc(), ONE, 1)?;
+fn gives_the_trace_of_seed_1(rt: HostRuntime) {
+    let mut generator = generator_of(&rt, ONE, 1);
     for (bits, second) in [
         (0xec57_6cc1, 0),
         (0x0268_84c1, 1),
@@ -49,12 +47,11 @@ fn gives_the_trace_of_seed_1(rt: HostRuntime) -> Result<(), Fail> {
         assert!(rt; generator.next() == word(0, bits, second));
     }
     assert!(rt; generator.next() == END && generator.next() == None && generator.next() == None);
-    Ok(())
 }
 
 #[test]
-fn gives_each_parameter_a_word_in_turn(rt: HostRuntime) -> Result<(), Fail> {
-    let mut generator = generator_of(rt.alloc(), TWO, 0xfedc_ba98_7654_3210)?;
+fn gives_each_parameter_a_word_in_turn(rt: HostRuntime) {
+    let mut generator = generator_of(&rt, TWO, 0xfedc_ba98_7654_3210);
     for (bus, bits, second) in [
         (0, 0xa2d5_d4c1, 0),
         (3, 0x8199_6613, 0),
@@ -68,12 +65,10 @@ fn gives_each_parameter_a_word_in_turn(rt: HostRuntime) -> Result<(), Fail> {
         assert!(rt; generator.next() == word(bus, bits, second));
     }
     assert!(rt; generator.next() == END && generator.next() == None);
-    Ok(())
 }
 
 #[test]
-fn gives_the_end_alone_without_parameters(rt: HostRuntime) -> Result<(), Fail> {
-    let mut generator = generator_of(rt.alloc(), NONE, 1)?;
+fn gives_the_end_alone_without_parameters(rt: HostRuntime) {
+    let mut generator = generator_of(&rt, NONE, 1);
     assert!(rt; generator.next() == END && generator.next() == None);
-    Ok(())
 }

@@ -3,8 +3,7 @@
 use fdr_bus::{BusRecord, RecordKind, TraceFault};
 use fdr_deck::MemDeck;
 use fdr_trace::{TraceLine, TraceStop};
-use std::alloc::Global;
-use std::test::Fail;
+use std::process::Abort;
 
 const WORD: &[u8] = &[1, 3, 0, 0, 0, 0, 0x14, 0xc1, 0, 0, 0, 0, 0, 0, 0x3d, 0x09];
 
@@ -14,39 +13,38 @@ const OTHER_KIND: &[u8] = &[3, 0, 0, 0, 0, 0, 0, 0, 0, 0, 0, 0, 0, 0, 0, 0];
 
 const TOO_LATE: &[u8] = &[2, 0, 0, 0, 0, 0, 0, 0, 0, 0, 1, 0x4f, 0x46, 0xb0, 0x40, 1];
 
+/// The first record of a line, with the numbers of the calls that fail.
 fn first_of(
-    alloc: Global,
+    rt: &(impl Abort + AllocGlobal),
     line: &[u8],
     failing: &[u64],
-) -> Result<Result<BusRecord, TraceStop>, Fail> {
-    let line = Vec::from_slice(alloc, line)?;
-    let failing = Vec::from_slice(alloc, failing)?;
-    let mut deck = MemDeck::new(alloc, Vec::new(alloc), line, failing);
-    let mut trace = TraceLine::new(alloc)?;
-    Ok(trace.next(&mut deck))
+) -> Result<BusRecord, TraceStop> {
+    let line = Vec::from_slice(rt.alloc(), line).expect(rt, "a line");
+    let failing = Vec::from_slice(rt.alloc(), failing).expect(rt, "the calls that fail");
+    let mut deck = MemDeck::new(rt.alloc(), Vec::new(rt.alloc()), line, failing);
+    let mut trace = TraceLine::new(rt.alloc()).expect(rt, "a trace");
+    trace.next(&mut deck)
 }
 
 #[test]
-fn reads_a_word_and_an_end(rt: HostRuntime) -> Result<(), Fail> {
+fn reads_a_word_and_an_end(rt: HostRuntime) {
     let word = BusRecord {
         kind: RecordKind::Word,
         bus: 3,
         word: 0x14c1,
         time: 15_625,
     };
-    assert!(rt; first_of(rt.alloc(), WORD, &[])? == Ok(word));
     let end = BusRecord {
         kind: RecordKind::End,
         bus: 0,
         word: 0,
         time: 4_000_000,
     };
-    assert!(rt; first_of(rt.alloc(), END, &[])? == Ok(end));
-    Ok(())
+    assert!(rt; first_of(&rt, WORD, &[]) == Ok(word) && first_of(&rt, END, &[]) == Ok(end));
 }
 
 #[test]
-fn refuses_what_is_not_a_record(rt: HostRuntime) -> Result<(), Fail> {
+fn refuses_what_is_not_a_record(rt: HostRuntime) {
     let cases: [(&[u8], TraceFault); 4] = [
         (OTHER_KIND, TraceFault::Kind),
         (TOO_LATE, TraceFault::Late),
@@ -54,10 +52,7 @@ fn refuses_what_is_not_a_record(rt: HostRuntime) -> Result<(), Fail> {
         (&WORD[..15], TraceFault::Truncated),
     ];
     for (line, fault) in cases {
-        assert!(rt;
-            first_of(rt.alloc(), line, &[])? == Err(TraceStop::Refused { index: 0, fault })
-        );
+        assert!(rt; first_of(&rt, line, &[]) == Err(TraceStop::Refused { index: 0, fault }));
     }
-    assert!(rt; first_of(rt.alloc(), WORD, &[0])? == Err(TraceStop::Failed));
-    Ok(())
+    assert!(rt; first_of(&rt, WORD, &[0]) == Err(TraceStop::Failed));
 }

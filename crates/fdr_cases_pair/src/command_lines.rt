@@ -1,19 +1,19 @@
 //! Worked command lines. Their words are parted by one space.
 
 use fdr_pair::{PairRequest, PairWordsFault, read_pair_words};
-use std::alloc::Global;
-use std::test::Fail;
+use std::process::Abort;
 
-fn read(alloc: Global, line: &str) -> Result<Result<PairRequest, PairWordsFault>, Fail> {
-    let mut words = Vec::new(alloc);
+fn read(rt: &(impl Abort + AllocGlobal), line: &str) -> Result<PairRequest, PairWordsFault> {
+    let mut words = Vec::new(rt.alloc());
     for word in line.split(' ') {
-        words.push(word.to_string(alloc)?)?;
+        let word = word.to_string(rt.alloc()).expect(rt, "a word");
+        words.push(word).expect(rt, "room");
     }
-    Ok(read_pair_words(alloc, words.as_slice()))
+    read_pair_words(rt.alloc(), words.as_slice())
 }
 
 #[test]
-fn reads_three_paths(rt: HostRuntime) -> Result<(), Fail> {
+fn reads_three_paths(rt: HostRuntime) {
     let cases = [
         ("record t1.csv a.img b.img", "t1.csv", "a.img", "b.img"),
         ("record t a a", "t", "a", "a"),
@@ -21,7 +21,7 @@ fn reads_three_paths(rt: HostRuntime) -> Result<(), Fail> {
         ("record t.csv disk/a=-1 b-", "t.csv", "disk/a=-1", "b-"),
     ];
     for (line, table, first, second) in cases {
-        let request = read(rt.alloc(), line)?.ok().ok_or(line)?;
+        let request = read(&rt, line).expect(&rt, line);
         assert!(rt;
             request.table.text() == table
                 && request.first.text() == first
@@ -29,11 +29,10 @@ fn reads_three_paths(rt: HostRuntime) -> Result<(), Fail> {
             "{line}"
         );
     }
-    Ok(())
 }
 
 #[test]
-fn refuses_other_words(rt: HostRuntime) -> Result<(), Fail> {
+fn refuses_other_words(rt: HostRuntime) {
     let lines = [
         "",
         "record",
@@ -60,10 +59,9 @@ fn refuses_other_words(rt: HostRuntime) -> Result<(), Fail> {
         "t a b record",
     ];
     for line in lines {
-        let answer = read(rt.alloc(), line)?;
+        let answer = read(&rt, line);
         assert!(rt; answer.err() == Some(PairWordsFault::Usage), "{line}");
     }
     let none = read_pair_words(rt.alloc(), &[]);
     assert!(rt; none.err() == Some(PairWordsFault::Usage));
-    Ok(())
 }

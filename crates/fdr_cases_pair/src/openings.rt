@@ -1,11 +1,10 @@
 //! Worked starts on two disks: what is answered of both headers.
 
-use crate::pairs::{ALIVE, Dead};
+use crate::pairs::{ALIVE, Dead, Given, twin_of};
 use fdr_pair::{LivingSides, Opened, PairOutcome, open_sides};
 use fdr_slot::{Header, ImageFault};
-use fdr_twin::{MemTwin, Side};
-use std::alloc::{AllocError, Global};
-use std::test::Fail;
+use fdr_twin::Side;
+use std::process::Abort;
 
 /// A ring of 4 slots of 64 bytes, in 384 bytes.
 const SMALL: Header = Header {
@@ -29,20 +28,27 @@ const LONGER_SLOTS: (usize, u8) = (15, 65);
 
 const MORE_WORDS: (usize, u8) = (19, 128);
 
-// An image of this many bytes, an empty ring with this byte of the header or after it changed.
-fn image(alloc: Global, length: usize, change: (usize, u8)) -> Result<Vec<u8>, AllocError> {
-    let mut image = SMALL_BYTES.to_vec(alloc)?;
-    image.resize(400, 0)?;
+// An empty ring in 1,000 bytes, with this byte of the header or after it changed.
+fn image(change: (usize, u8)) -> [u8; 1_000] {
+    let mut image = [0; 1_000];
+    for (place, byte) in image.iter_mut().zip(&SMALL_BYTES) {
+        *place = *byte;
+    }
     let (at, byte) = change;
     if let Some(place) = image.get_mut(at) {
         *place = byte;
     }
-    image.resize(length, 0)?;
-    Ok(image)
+    image
 }
 
-fn ring(alloc: Global) -> Result<Vec<u8>, AllocError> {
-    image(alloc, 400, (0, 0x5a))
+// An empty ring in 1,000 bytes.
+fn ring() -> [u8; 1_000] {
+    image((0, 0x5a))
+}
+
+// The first bytes of an image.
+fn front(image: &[u8; 1_000], count: usize) -> &[u8] {
+    image.get(..count).unwrap_or(image)
 }
 
 /// Both sides as they are opened for subframes of this many words, and from which calls on they are dead.
@@ -66,30 +72,27 @@ impl<'a> Opening<'a> {
     }
 
     // What opening both answers, and in how many calls. No byte of either changes.
-    fn answer(self, alloc: Global) -> Result<(Result<Opened, PairOutcome>, u64), Fail> {
-        let first = self.first.to_vec(alloc)?;
-        let second = self.second.to_vec(alloc)?;
-        let (line, failing) = (Vec::new(alloc), Vec::new(alloc));
-        let Dead {
-            first: one,
-            second: two,
-        } = self.dead;
-        let mut twin = MemTwin::new(alloc, first, second, line, failing, one, two);
+    fn answer(self, rt: &(impl Abort + AllocGlobal)) -> (Result<Opened, PairOutcome>, u64) {
+        let given = Given {
+            dead: self.dead,
+            ..Given::of(self.first, self.second, &[])
+        };
+        let mut twin = twin_of(rt, given);
         let answer = open_sides(&mut twin, self.words);
-        if twin.image(Side::First) != self.first || twin.image(Side::Second) != self.second {
-            return Err("a disk has changed")?;
-        }
-        Ok((answer, twin.calls()))
+        assert!(rt;
+            twin.image(Side::First) == self.first && twin.image(Side::Second) == self.second
+        );
+        (answer, twin.calls())
     }
 
     // Whether that is the answer.
-    fn gives(self, alloc: Global, expected: Result<Opened, PairOutcome>) -> Result<bool, Fail> {
-        Ok(self.answer(alloc)?.0 == expected)
+    fn gives(self, rt: &(impl Abort + AllocGlobal), expected: Result<Opened, PairOutcome>) -> bool {
+        self.answer(rt).0 == expected
     }
 
     // Whether this image is refused.
-    fn refuses(self, alloc: Global, side: Side, fault: ImageFault) -> Result<bool, Fail> {
-        self.gives(alloc, Err(PairOutcome::ImageRefused { side, fault }))
+    fn refuses(self, rt: &(impl Abort + AllocGlobal), side: Side, fault: ImageFault) -> bool {
+        self.gives(rt, Err(PairOutcome::ImageRefused { side, fault }))
     }
 }
 
@@ -106,30 +109,33 @@ fn opened(living: LivingSides) -> Result<Opened, PairOutcome> {
 }
 
 #[test]
-fn opens_two_good_sides(rt: HostRuntime) -> Result<(), Fail> {
-    let alloc = rt.alloc();
-    let ring = ring(alloc)?;
+fn opens_two_good_sides(rt: HostRuntime) {
+    let ring = ring();
+    let other = image((63, 1));
     let both = opened(LivingSides::Both);
-    assert!(rt; Opening::of(&ring, &ring).answer(alloc)? == (both, 4));
-    let exact = image(alloc, 384, (0, 0x5a))?;
-    assert!(rt; Opening::of(&ring, &exact).gives(alloc, both)?);
-    let other = image(alloc, 384, (63, 1))?;
-    assert!(rt; Opening::of(&other, &exact).gives(alloc, both)?);
+    let sides = Opening::of(front(&ring, 400), front(&ring, 400));
+    let exact = Opening::of(front(&ring, 400), front(&ring, 384));
+    let both_exact = Opening::of(front(&other, 384), front(&ring, 384));
     // A side that dies after its header is read isn't noticed yet.
     let late = Opening {
         dead: dead(Some(2), Some(4)),
-        ..Opening::of(&ring, &ring)
+        ..sides
     };
-    assert!(rt; late.gives(alloc, both)?);
-    Ok(())
+    assert!(rt;
+        sides.answer(&rt) == (both, 4)
+            && exact.gives(&rt, both)
+            && both_exact.gives(&rt, both)
+            && late.gives(&rt, both)
+    );
 }
 
 // The first of both images that is refused is named, whatever is wrong with the other, and for whatever words. The other
 // side's failure changes nothing.
-fn names_the_first(alloc: Global, bad: &[u8], fault: ImageFault) -> Result<bool, Fail> {
-    let ring = ring(alloc)?;
-    let open = image(alloc, 384, (0, 0))?;
-    let second_bad = Opening::of(&ring, bad);
+fn names_the_first(rt: &(impl Abort + AllocGlobal), bad: &[u8], fault: ImageFault) -> bool {
+    let ring = ring();
+    let closed = image((0, 0));
+    let (good, closed) = (front(&ring, 400), front(&closed, 384));
+    let second_bad = Opening::of(good, bad);
     let other_words = Opening {
         words: 128,
         ..second_bad
@@ -138,23 +144,21 @@ fn names_the_first(alloc: Global, bad: &[u8], fault: ImageFault) -> Result<bool,
         dead: dead(Some(0), None),
         ..second_bad
     };
-    let both_bad = Opening::of(bad, &open);
+    let both_bad = Opening::of(bad, closed);
     let second_dead = Opening {
         dead: dead(None, Some(0)),
         ..both_bad
     };
-    Ok(
-        Opening::of(bad, &ring).refuses(alloc, Side::First, fault)?
-            && other_words.refuses(alloc, Side::Second, fault)?
-            && first_dead.refuses(alloc, Side::Second, fault)?
-            && both_bad.refuses(alloc, Side::First, fault)?
-            && second_dead.refuses(alloc, Side::First, fault)?
-            && Opening::of(&open, bad).refuses(alloc, Side::First, ImageFault::Closed)?,
-    )
+    Opening::of(bad, good).refuses(rt, Side::First, fault)
+        && other_words.refuses(rt, Side::Second, fault)
+        && first_dead.refuses(rt, Side::Second, fault)
+        && both_bad.refuses(rt, Side::First, fault)
+        && second_dead.refuses(rt, Side::First, fault)
+        && Opening::of(closed, bad).refuses(rt, Side::First, ImageFault::Closed)
 }
 
 #[test]
-fn names_the_first_image_that_is_refused(rt: HostRuntime) -> Result<(), Fail> {
+fn names_the_first_image_that_is_refused(rt: HostRuntime) {
     // the length, a byte of the header with another value, and the fault
     let cases = [
         (0, (0, 0x5a), ImageFault::Small),
@@ -167,45 +171,42 @@ fn names_the_first_image_that_is_refused(rt: HostRuntime) -> Result<(), Fail> {
         (383, (0, 0x5a), ImageFault::Short),
     ];
     for (length, change, fault) in cases {
-        let bad = image(rt.alloc(), length, change)?;
-        assert!(rt;
-            names_the_first(rt.alloc(), &bad, fault)?,
-            "{length} {change:?}"
-        );
+        let image = image(change);
+        let bad = image.get(..length).expect(&rt, "a length");
+        assert!(rt; names_the_first(&rt, bad, fault), "{length} {change:?}");
     }
-    Ok(())
 }
 
-#[test]
-fn refuses_headers_that_differ(rt: HostRuntime) -> Result<(), Fail> {
-    let alloc = rt.alloc();
-    let ring = ring(alloc)?;
+// Whether both orders of a ring and this image are answered as headers that differ, for whatever words.
+fn differs(rt: &(impl Abort + AllocGlobal), other: &[u8]) -> bool {
+    let ring = ring();
     let differ = Err(PairOutcome::HeadersDiffer);
-    for change in [FIVE_SLOTS, LONGER_SLOTS, MORE_WORDS, VERSION_1] {
-        let other = image(alloc, 1_000, change)?;
-        for words in [64, 128, 256] {
-            let one = Opening {
-                words,
-                ..Opening::of(&ring, &other)
-            };
-            let two = Opening {
-                words,
-                ..Opening::of(&other, &ring)
-            };
-            assert!(rt;
-                one.gives(alloc, differ)? && two.gives(alloc, differ)?,
-                "{change:?}"
-            );
-        }
+    let mut is_refused = true;
+    for words in [64, 128, 256] {
+        let one = Opening {
+            words,
+            ..Opening::of(front(&ring, 400), other)
+        };
+        let two = Opening {
+            words,
+            ..Opening::of(other, front(&ring, 400))
+        };
+        is_refused = is_refused && one.gives(rt, differ) && two.gives(rt, differ);
     }
-    Ok(())
+    is_refused
 }
 
 #[test]
-fn refuses_other_words_before_an_old_version(rt: HostRuntime) -> Result<(), Fail> {
-    let alloc = rt.alloc();
-    let ring = ring(alloc)?;
-    let old = image(alloc, 400, VERSION_1)?;
+fn refuses_headers_that_differ(rt: HostRuntime) {
+    for change in [FIVE_SLOTS, LONGER_SLOTS, MORE_WORDS, VERSION_1] {
+        assert!(rt; differs(&rt, &image(change)), "{change:?}");
+    }
+}
+
+#[test]
+fn refuses_other_words_before_an_old_version(rt: HostRuntime) {
+    let (ring, old) = (ring(), image(VERSION_1));
+    let (ring, old) = (front(&ring, 400), front(&old, 400));
     let differ = Err(PairOutcome::WordsDiffer {
         image: 64,
         table: 128,
@@ -214,77 +215,89 @@ fn refuses_other_words_before_an_old_version(rt: HostRuntime) -> Result<(), Fail
     for (first, second) in [(None, None), (Some(0), None), (None, Some(0))] {
         let both_old = Opening {
             dead: dead(first, second),
-            ..Opening::of(&old, &old)
+            ..Opening::of(old, old)
         };
         let other_words = Opening {
             words: 128,
             ..both_old
         };
         let new_too = Opening {
-            first: &ring,
-            second: &ring,
+            first: ring,
+            second: ring,
             ..other_words
         };
-        assert!(rt; both_old.gives(alloc, is_old)?, "{first:?} {second:?}");
-        assert!(rt; other_words.gives(alloc, differ)? && new_too.gives(alloc, differ)?);
+        assert!(rt;
+            both_old.gives(&rt, is_old)
+                && other_words.gives(&rt, differ)
+                && new_too.gives(&rt, differ),
+            "{first:?} {second:?}"
+        );
     }
     // the version of a side that has failed doesn't count
     let second_dead = Opening {
         dead: dead(None, Some(0)),
-        ..Opening::of(&old, &ring)
+        ..Opening::of(old, ring)
     };
     let first_dead = Opening {
         dead: dead(Some(0), None),
-        ..Opening::of(&ring, &old)
+        ..Opening::of(ring, old)
     };
-    assert!(rt; second_dead.gives(alloc, is_old)? && first_dead.gives(alloc, is_old)?);
-    Ok(())
+    assert!(rt; second_dead.gives(&rt, is_old) && first_dead.gives(&rt, is_old));
+}
+
+// A ring beside an image that is dead from a call on, on this side.
+fn leaving<'a>(ring: &'a [u8], aside: &'a [u8], side: Side, call: u64) -> Opening<'a> {
+    match side {
+        Side::First => Opening {
+            dead: dead(Some(call), None),
+            ..Opening::of(aside, ring)
+        },
+        Side::Second => Opening {
+            dead: dead(None, Some(call)),
+            ..Opening::of(ring, aside)
+        },
+    }
 }
 
 // The first side's two calls are 0 and 1, the second's are 1 and 2 where the first fails at once, else 2 and 3.
 #[test]
-fn leaves_a_side_aside_that_fails(rt: HostRuntime) -> Result<(), Fail> {
-    let alloc = rt.alloc();
-    let ring = ring(alloc)?;
+fn leaves_a_side_aside_that_fails(rt: HostRuntime) {
+    let ring = ring();
     let first = opened(LivingSides::OnlyFirst);
     let second = opened(LivingSides::OnlySecond);
+    // which side is dead, from which call on, what is answered, and in how many calls
+    let cases = [
+        (Side::First, 0, second, 3),
+        (Side::First, 1, second, 4),
+        (Side::Second, 0, first, 3),
+        (Side::Second, 1, first, 3),
+        (Side::Second, 2, first, 3),
+        (Side::Second, 3, first, 4),
+    ];
     for change in [(0, 0x5a), LONGER_SLOTS, (0, 0)] {
-        let aside = image(alloc, 400, change)?;
-        for call in 0..2 {
-            let one = Opening {
-                dead: dead(Some(call), None),
-                ..Opening::of(&aside, &ring)
-            };
-            assert!(rt; one.answer(alloc)? == (second, call + 3), "{call}");
-        }
-        for call in 0..4 {
-            let two = Opening {
-                dead: dead(None, Some(call)),
-                ..Opening::of(&ring, &aside)
-            };
-            let calls = if call < 3 { 3 } else { 4 };
-            assert!(rt; two.answer(alloc)? == (first, calls), "{call}");
+        let aside = image(change);
+        for (side, call, answer, calls) in cases {
+            let one = leaving(front(&ring, 400), front(&aside, 400), side, call);
+            assert!(rt; one.answer(&rt) == (answer, calls), "{call}");
         }
     }
-    Ok(())
 }
 
 #[test]
-fn refuses_two_failed_sides(rt: HostRuntime) -> Result<(), Fail> {
-    let alloc = rt.alloc();
-    let ring = ring(alloc)?;
+fn refuses_two_failed_sides(rt: HostRuntime) {
+    let ring = ring();
     let fault = Err(PairOutcome::DiskFault);
     for (first, second) in [(0, 0), (1, 0), (1, 2), (1, 3), (0, 2)] {
         let failed = Opening {
             dead: dead(Some(first), Some(second)),
-            ..Opening::of(&ring, &ring)
+            ..Opening::of(front(&ring, 400), front(&ring, 400))
         };
         let other_words = Opening {
             words: 128,
             ..failed
         };
         assert!(rt;
-            failed.gives(alloc, fault)? && other_words.gives(alloc, fault)?,
+            failed.gives(&rt, fault) && other_words.gives(&rt, fault),
             "{first} {second}"
         );
     }
@@ -292,6 +305,5 @@ fn refuses_two_failed_sides(rt: HostRuntime) -> Result<(), Fail> {
         dead: dead(Some(0), Some(0)),
         ..Opening::of(&[], &[])
     };
-    assert!(rt; empty.gives(alloc, fault)?);
-    Ok(())
+    assert!(rt; empty.gives(&rt, fault));
 }

@@ -6,8 +6,7 @@ use fdr_pair::{PairOutcome, run_pair};
 use fdr_recover::{block, read_image_header, scan};
 use fdr_slot::{MAX_PAYLOAD, SEQUENCE_END};
 use fdr_twin::{MemTwin, Side};
-use std::alloc::{AllocError, Global};
-use std::test::Fail;
+use std::process::Abort;
 
 /// A table with an altitude in word 10 of the first subframe, and the counter in word 2 of it.
 const ALTITUDE: &str = "F,64,2,1\nP,ALT,0,203,,11,12,U,1,1,0,0,16\nL,ALT,1,1,10,0,1,12,0,1\n";
@@ -31,10 +30,17 @@ pub const NO_WORDS: [u8; 16] = [2, 0, 0, 0, 0, 0, 0, 0, 0, 0, 0, 0, 0, 0, 0, 0];
 pub const GATE_OF_SLOT_5: usize = 64 + 5 * 80;
 
 /// An image of 16 slots of 64 bytes without blocks.
-pub fn empty_image(alloc: Global) -> Result<Vec<u8>, AllocError> {
-    let mut image = SIXTEEN.to_vec(alloc)?;
-    image.resize(64 + 16 * 80, 0)?;
-    Ok(image)
+pub fn empty_image() -> [u8; 1344] {
+    let mut image = [0; 1344];
+    for (place, byte) in image.iter_mut().zip(&SIXTEEN) {
+        *place = *byte;
+    }
+    image
+}
+
+/// A copy of these bytes.
+pub fn copied(rt: &(impl Abort + AllocGlobal), bytes: &[u8]) -> Vec<u8> {
+    bytes.to_vec(rt.alloc()).expect(rt, "a copy")
 }
 
 /// From which call on each disk is dead, if it is.
@@ -86,52 +92,93 @@ pub struct Left {
 }
 
 /// What is left on a twin after an answer.
-pub fn left_on(alloc: Global, outcome: PairOutcome, twin: &MemTwin) -> Result<Left, AllocError> {
-    Ok(Left {
+pub fn left_on(rt: &(impl Abort + AllocGlobal), outcome: PairOutcome, twin: &MemTwin) -> Left {
+    Left {
         outcome,
-        first: twin.image(Side::First).to_vec(alloc)?,
-        second: twin.image(Side::Second).to_vec(alloc)?,
+        first: copied(rt, twin.image(Side::First)),
+        second: copied(rt, twin.image(Side::Second)),
         told: twin.told(),
         calls: twin.calls(),
-    })
+    }
 }
 
 /// The words of a recording.
-pub fn record_words(alloc: Global) -> Result<Vec<String>, AllocError> {
-    let mut words = Vec::new(alloc);
+pub fn record_words(rt: &(impl Abort + AllocGlobal)) -> Vec<String> {
+    let mut words = Vec::new(rt.alloc());
     for word in ["record", "t1.csv", "first.img", "second.img"] {
-        words.push(word.to_string(alloc)?)?;
+        let word = word.to_string(rt.alloc()).expect(rt, "a word");
+        words.push(word).expect(rt, "room");
     }
-    Ok(words)
+    words
 }
 
 /// The bytes of the table of the altitude.
-pub fn altitude_bytes(alloc: Global) -> Result<Vec<u8>, AllocError> {
-    ALTITUDE.as_bytes().to_vec(alloc)
+pub fn altitude_bytes(rt: &(impl Abort + AllocGlobal)) -> Vec<u8> {
+    copied(rt, ALTITUDE.as_bytes())
+}
+
+/// A twin of these images with this line, some of whose calls fail, without clauses.
+pub fn twin_of(rt: &(impl Abort + AllocGlobal), given: Given<'_>) -> MemTwin {
+    MemTwin::new(
+        rt.alloc(),
+        copied(rt, given.first),
+        copied(rt, given.second),
+        copied(rt, given.line),
+        given.failing.to_vec(rt.alloc()).expect(rt, "the calls"),
+        given.dead.first,
+        given.dead.second,
+    )
 }
 
 // What a recording by the table of the altitude answers, and its twin. Without clauses, so that tests are proved
 // without those of `run_pair`.
-fn recorded_on(alloc: Global, given: Given<'_>) -> Result<(PairOutcome, MemTwin), AllocError> {
-    let words = record_words(alloc)?;
-    let mut table = MemSource::new(altitude_bytes(alloc)?, Vec::new(alloc));
-    let mut twin = MemTwin::new(
-        alloc,
-        given.first.to_vec(alloc)?,
-        given.second.to_vec(alloc)?,
-        given.line.to_vec(alloc)?,
-        given.failing.to_vec(alloc)?,
-        given.dead.first,
-        given.dead.second,
-    );
-    let outcome = run_pair(alloc, &words, &mut table, &mut twin);
-    Ok((outcome, twin))
+fn recorded_on(rt: &(impl Abort + AllocGlobal), given: Given<'_>) -> (PairOutcome, MemTwin) {
+    let words = record_words(rt);
+    let mut table = MemSource::new(altitude_bytes(rt), Vec::new(rt.alloc()));
+    let mut twin = twin_of(rt, given);
+    let outcome = run_pair(rt.alloc(), &words, &mut table, &mut twin);
+    (outcome, twin)
 }
 
 /// Records by the table of the altitude.
-pub fn record(alloc: Global, given: Given<'_>) -> Result<Left, AllocError> {
-    let (outcome, twin) = recorded_on(alloc, given)?;
-    left_on(alloc, outcome, &twin)
+pub fn record(rt: &(impl Abort + AllocGlobal), given: Given<'_>) -> Left {
+    let (outcome, twin) = recorded_on(rt, given);
+    left_on(rt, outcome, &twin)
+}
+
+/// How many calls a recording makes.
+pub fn calls_of(rt: &(impl Abort + AllocGlobal), given: Given<'_>) -> u64 {
+    record(rt, given).calls
+}
+
+/// The run that an image holds: the number of its first block, the next one, and the session of its last block.
+pub type Run = (u64, u64, u32);
+
+/// How a recording ended: its answer, the number that was announced last, and the run of each image.
+#[derive(Clone, Copy)]
+pub struct Ending {
+    pub outcome: PairOutcome,
+    pub told: u64,
+    pub first: Run,
+    pub second: Run,
+}
+
+impl Ending {
+    /// The greater of the next numbers of both sides.
+    pub fn next(&self) -> u64 {
+        self.first.1.max(self.second.1)
+    }
+}
+
+/// How a recording ends.
+pub fn ended(rt: &(impl Abort + AllocGlobal), given: Given<'_>) -> Ending {
+    let left = record(rt, given);
+    Ending {
+        outcome: left.outcome,
+        told: left.told,
+        first: run_of(rt, &left.first),
+        second: run_of(rt, &left.second),
+    }
 }
 
 /// Two images.
@@ -149,84 +196,81 @@ impl Images {
 }
 
 /// The images that stops of a recording leave, one within each of its calls.
-pub fn stops(alloc: Global, given: Given<'_>, tear: Tear) -> Result<Vec<Images>, Fail> {
-    let (_, twin) = recorded_on(alloc, given)?;
-    let mut stops = Vec::new(alloc);
+pub fn stops(rt: &(impl Abort + AllocGlobal), given: Given<'_>, tear: Tear) -> Vec<Images> {
+    let (_, twin) = recorded_on(rt, given);
+    let mut stops = Vec::new(rt.alloc());
     for call in 0..twin.calls() {
-        stops.push(stopped(alloc, &twin, call, tear)?)?;
+        stops
+            .push(stopped(rt, &twin, call, tear))
+            .expect(rt, "room");
     }
-    Ok(stops)
+    stops
 }
 
-fn stopped(alloc: Global, twin: &MemTwin, call: u64, tear: Tear) -> Result<Images, Fail> {
-    if call >= twin.calls() {
-        return Err("no such call")?;
-    }
-    let (first, second) = twin.stop(alloc, call, tear)?;
-    Ok(Images { first, second })
+fn stopped(rt: &(impl Abort + AllocGlobal), twin: &MemTwin, call: u64, tear: Tear) -> Images {
+    assert!(rt; call < twin.calls());
+    let (first, second) = twin.stop(rt.alloc(), call, tear).expect(rt, "a stop");
+    Images { first, second }
+}
+
+/// The first side's image after one frame is recorded on two such images.
+pub fn recorded_over(rt: &(impl Abort + AllocGlobal), image: &[u8]) -> Vec<u8> {
+    let left = record(rt, Given::of(image, image, &ONE_FRAME));
+    assert!(rt; left.outcome == PairOutcome::Done);
+    left.first
 }
 
 /// The first side's image after one frame is recorded on two images without blocks.
-pub fn recorded_image(alloc: Global) -> Result<Vec<u8>, Fail> {
-    let empty = empty_image(alloc)?;
-    let left = record(alloc, Given::of(&empty, &empty, &ONE_FRAME))?;
-    if left.outcome != PairOutcome::Done {
-        return Err("no image")?;
-    }
-    Ok(left.first)
+pub fn recorded_image(rt: &(impl Abort + AllocGlobal)) -> Vec<u8> {
+    recorded_over(rt, &empty_image())
 }
 
 /// An image with another byte at this place.
-pub fn with_byte(alloc: Global, image: &[u8], at: usize, byte: u8) -> Result<Vec<u8>, Fail> {
-    let mut image = image.to_vec(alloc)?;
-    let place = image.get_mut(at).ok_or("no such place")?;
+pub fn with_byte(rt: &(impl Abort + AllocGlobal), image: &[u8], at: usize, byte: u8) -> Vec<u8> {
+    let mut image = copied(rt, image);
+    let place = image.get_mut(at).expect(rt, "a place");
     *place = byte;
-    Ok(image)
+    image
 }
 
 /// The first image has six blocks, and the second lacks the last of them.
-pub fn one_behind(alloc: Global) -> Result<Images, Fail> {
-    let first = recorded_image(alloc)?;
-    let second = with_byte(alloc, &first, GATE_OF_SLOT_5, 0)?;
-    Ok(Images { first, second })
+pub fn one_behind(rt: &(impl Abort + AllocGlobal)) -> Images {
+    let first = recorded_image(rt);
+    let second = with_byte(rt, &first, GATE_OF_SLOT_5, 0);
+    Images { first, second }
 }
 
-/// The run that an image holds: the number of its first block, the next one, and the session of its last block.
-pub fn run_of(alloc: Global, image: &[u8]) -> Result<(u64, u64, u32), Fail> {
-    let mut deck = MemDeck::new(
-        alloc,
-        image.to_vec(alloc)?,
-        Vec::new(alloc),
-        Vec::new(alloc),
-    );
-    let header = read_image_header(&mut deck)?;
-    let found = scan(&mut deck, &header)?;
-    Ok((found.first, found.next, found.session))
+// A disk with a copy of this image.
+fn deck_of(rt: &(impl Abort + AllocGlobal), image: &[u8]) -> MemDeck {
+    let alloc = rt.alloc();
+    MemDeck::new(alloc, copied(rt, image), Vec::new(alloc), Vec::new(alloc))
+}
+
+/// The run that an image holds.
+pub fn run_of(rt: &(impl Abort + AllocGlobal), image: &[u8]) -> Run {
+    let mut deck = deck_of(rt, image);
+    let header = read_image_header(&mut deck).expect(rt, "a header");
+    let found = scan(&mut deck, &header).expect(rt, "a run");
+    (found.first, found.next, found.session)
 }
 
 // The payload of the block with this number.
-fn payload_of(alloc: Global, image: &[u8], seq: u64) -> Result<Vec<u8>, Fail> {
-    let mut deck = MemDeck::new(
-        alloc,
-        image.to_vec(alloc)?,
-        Vec::new(alloc),
-        Vec::new(alloc),
-    );
-    let header = read_image_header(&mut deck)?;
+fn payload_of(rt: &(impl Abort + AllocGlobal), image: &[u8], seq: u64) -> Vec<u8> {
+    let mut deck = deck_of(rt, image);
+    let header = read_image_header(&mut deck).expect(rt, "a header");
     let mut payload = [0; MAX_PAYLOAD];
-    if seq >= SEQUENCE_END {
-        return Err("no such number")?;
-    }
-    let info = block(&mut deck, &header, seq, &mut payload)?;
-    Ok(payload[..info.len].to_vec(alloc)?)
+    assert!(rt; seq < SEQUENCE_END);
+    let info = block(&mut deck, &header, seq, &mut payload).expect(rt, "a block");
+    copied(rt, &payload[..info.len])
 }
 
 /// The payloads of the run that an image holds.
-pub fn recovered(alloc: Global, image: &[u8]) -> Result<Vec<u8>, Fail> {
-    let (first, next, _) = run_of(alloc, image)?;
-    let mut payloads = Vec::new(alloc);
+pub fn recovered(rt: &(impl Abort + AllocGlobal), image: &[u8]) -> Vec<u8> {
+    let (first, next, _) = run_of(rt, image);
+    let mut payloads = Vec::new(rt.alloc());
     for seq in first..next {
-        payloads.extend_from_slice(&payload_of(alloc, image, seq)?)?;
+        let payload = payload_of(rt, image, seq);
+        payloads.extend_from_slice(&payload).expect(rt, "room");
     }
-    Ok(payloads)
+    payloads
 }

@@ -6,8 +6,7 @@ use fdr_deck::{Deck, MemDeck, SureDeck, Tear};
 use fdr_recover::{Found, RingFault, read_image_header, scan};
 use fdr_ring::{Ring, format};
 use fdr_slot::{Header, ImageFault, OPEN, SEQUENCE_END, write_header, write_slot_head};
-use std::alloc::Global;
-use std::test::Fail;
+use std::process::Abort;
 
 const SMALL: Header = Header {
     slots: 4,
@@ -16,74 +15,114 @@ const SMALL: Header = Header {
     version: 2,
 };
 
-#[test]
-fn makes_an_image_and_adds_a_block(rt: HostRuntime) -> Result<(), Fail> {
+// An empty disk.
+fn empty_disk(rt: &(impl Abort + AllocGlobal), failing: &[u64]) -> MemDeck {
     let alloc = rt.alloc();
-    let mut deck = MemDeck::new(alloc, Vec::new(alloc), Vec::new(alloc), Vec::new(alloc));
-    let ring = format(&mut deck, &SMALL)?;
-    assert!(rt; deck.image().len() == 384 && deck.image().starts_with(&write_header(&SMALL)));
-    assert!(rt; deck.image()[64..].iter().all(|b| *b == 0));
-    assert!(rt; read_image_header(&mut deck) == Ok(SMALL));
+    let failing = failing.to_vec(alloc).expect(rt, "the calls");
+    MemDeck::new(alloc, Vec::new(alloc), Vec::new(alloc), failing)
+}
 
-    let ring = ring.prepare(&mut deck, 3, &[7; 9])?.commit(&mut deck)?;
-    assert!(rt; ring.next() == 1 && ring.session() == 3 && ring.header() == SMALL);
+// Whether that is an image without blocks.
+fn is_made(image: &[u8]) -> bool {
+    image.len() == 384
+        && image.starts_with(&write_header(&SMALL))
+        && image[64..].iter().all(|b| *b == 0)
+}
+
+// Whether the first slot of an image holds the block that is added to it.
+fn has_block(image: &[u8]) -> bool {
     let head = [OPEN, 0, 0, 9, 0, 0, 0, 3, 0, 0, 0, 0, 0, 0, 0, 0];
-    assert!(rt;
-        deck.image()[64..].starts_with(&head)
-            && deck.image()[80..].starts_with(&[7, 7, 7, 7, 7, 7, 7, 7, 7, 0])
-    );
+    image.len() == 384
+        && image[64..].starts_with(&head)
+        && image[80..].starts_with(&[7, 7, 7, 7, 7, 7, 7, 7, 7, 0])
+}
 
-    assert!(rt;
-        scan(&mut deck, &SMALL)
-            == Ok(Found {
-                first: 0,
-                next: 1,
-                session: 3
-            })
-    );
-    let again = Ring::attach(&mut deck, SMALL)?;
-    assert!(rt; again.next() == 1 && again.session() == 3);
-    assert!(rt; matches!(format(&mut deck, &SMALL), Err(RingFault::NotEmpty)));
+fn make(deck: &mut MemDeck) -> Result<(), RingFault> {
+    format(deck, &SMALL)?;
     Ok(())
 }
 
+fn make_and_prepare(deck: &mut MemDeck) -> Result<(), RingFault> {
+    format(deck, &SMALL)?.prepare(deck, 3, &[7; 9])?;
+    Ok(())
+}
+
+// Makes an image, and adds a block: whether the image was as it should be before, and the ring's next number, session and
+// header then.
+fn make_and_add(deck: &mut MemDeck) -> Result<(bool, u64, u32, Header), RingFault> {
+    let ring = format(deck, &SMALL)?;
+    let header = read_image_header(deck)?;
+    let as_made = is_made(deck.image()) && header == SMALL;
+    let ring = ring.prepare(deck, 3, &[7; 9])?.commit(deck)?;
+    Ok((as_made, ring.next(), ring.session(), ring.header()))
+}
+
+// The next number and the session of a ring that is attached to the image on the disk.
+fn attached(deck: &mut MemDeck) -> Result<(u64, u32), RingFault> {
+    let header = read_image_header(deck)?;
+    let ring = Ring::attach(deck, header)?;
+    Ok((ring.next(), ring.session()))
+}
+
+// What is found in the image on the disk.
+fn found_on(rt: &impl Abort, deck: &mut MemDeck) -> Found {
+    let header = read_image_header(deck).expect(rt, "a header");
+    scan(deck, &header).expect(rt, "a run")
+}
+
 #[test]
-fn a_prepared_block_is_not_found(rt: HostRuntime) -> Result<(), Fail> {
-    let alloc = rt.alloc();
-    let mut deck = MemDeck::new(alloc, Vec::new(alloc), Vec::new(alloc), Vec::new(alloc));
-    format(&mut deck, &SMALL)?.prepare(&mut deck, 3, &[7; 9])?;
+fn makes_an_image_and_adds_a_block(rt: HostRuntime) {
+    let mut deck = empty_disk(&rt, &[]);
+    let found = Found {
+        first: 0,
+        next: 1,
+        session: 3,
+    };
+    assert!(rt;
+        make_and_add(&mut deck) == Ok((true, 1, 3, SMALL))
+            && has_block(deck.image())
+            && found_on(&rt, &mut deck) == found
+            && attached(&mut deck) == Ok((1, 3))
+            && make(&mut deck) == Err(RingFault::NotEmpty)
+    );
+}
+
+#[test]
+fn a_prepared_block_is_not_found(rt: HostRuntime) {
+    let mut deck = empty_disk(&rt, &[]);
     let none = Found {
         first: 0,
         next: 0,
         session: 0,
     };
-    assert!(rt; scan(&mut deck, &SMALL) == Ok(none));
-    Ok(())
+    assert!(rt; make_and_prepare(&mut deck) == Ok(()) && found_on(&rt, &mut deck) == none);
 }
 
-#[test]
-fn refuses_the_block_after_the_last_number(rt: HostRuntime) -> Result<(), Fail> {
-    let alloc = rt.alloc();
-    let mut image = Vec::from_slice(alloc, &write_header(&SMALL))?;
-    image.extend_from_slice(&[0; 240])?;
+// An image whose last slot holds the block with the greatest number.
+fn image_of_the_last_number(rt: &(impl Abort + AllocGlobal)) -> Vec<u8> {
     let mut head = write_slot_head(1, 0, SEQUENCE_END - 1);
     head[0] = OPEN;
-    image.extend_from_slice(&head)?;
-    image.extend_from_slice(&[0; 64])?;
-    assert!(rt; image.len() == 384);
-    let mut deck = SureDeck::new(image, Vec::new(alloc));
-    let ring = Ring::attach(&mut deck, SMALL)?;
-    assert!(rt; ring.next() == SEQUENCE_END);
-    assert!(rt; matches!(ring.prepare(&mut deck, 1, &[1]), Err(RingFault::SeqEnd)));
-    Ok(())
+    let mut image = Vec::from_slice(rt.alloc(), &write_header(&SMALL)).expect(rt, "a header");
+    image.extend_from_slice(&[0; 240]).expect(rt, "room");
+    image.extend_from_slice(&head).expect(rt, "room");
+    image.extend_from_slice(&[0; 64]).expect(rt, "room");
+    image
 }
 
 #[test]
-fn names_what_is_no_image(rt: HostRuntime) -> Result<(), Fail> {
-    let alloc = rt.alloc();
-    let mut deck = MemDeck::new(alloc, Vec::new(alloc), Vec::new(alloc), Vec::new(alloc));
+fn refuses_the_block_after_the_last_number(rt: HostRuntime) {
+    let image = image_of_the_last_number(&rt);
+    assert!(rt; image.len() == 384);
+    let mut deck = SureDeck::new(image, Vec::new(rt.alloc()));
+    let ring = Ring::attach(&mut deck, SMALL).expect(&rt, "a ring");
+    assert!(rt; ring.next() == SEQUENCE_END);
+    assert!(rt; matches!(ring.prepare(&mut deck, 1, &[1]), Err(RingFault::SeqEnd)));
+}
+
+#[test]
+fn names_what_is_no_image(rt: HostRuntime) {
+    let mut deck = empty_disk(&rt, &[]);
     assert!(rt; read_image_header(&mut deck) == Err(RingFault::Image(ImageFault::Small)));
-    Ok(())
 }
 
 // The session that blocks are given: an image of version 1 has none.
@@ -102,54 +141,63 @@ fn add_block(deck: &mut MemDeck, byte: u8) -> Result<(), RingFault> {
     Ok(())
 }
 
-// Four slots with blocks 3 to 5, and the numbers of calls as block 6 began, once it was prepared, and
+// Adds a block of 64 bytes to the image on the disk, and gives the numbers of calls as it began, once it was prepared, and
 // once it was committed.
-fn seven_blocks(alloc: Global) -> Result<(MemDeck, [u64; 3]), Fail> {
-    let mut deck = MemDeck::new(alloc, Vec::new(alloc), Vec::new(alloc), Vec::new(alloc));
-    format(&mut deck, &SMALL)?;
-    for byte in 0..6 {
-        add_block(&mut deck, byte)?;
-    }
-    let header = read_image_header(&mut deck)?;
-    let ring = Ring::attach(&mut deck, header)?;
+fn add_in_steps(deck: &mut MemDeck) -> Result<[u64; 3], RingFault> {
+    let header = read_image_header(deck)?;
+    let ring = Ring::attach(deck, header)?;
     let before = deck.calls();
-    let prepared = ring.prepare(&mut deck, session_for(&header), &[6; 64])?;
+    let prepared = ring.prepare(deck, session_for(&header), &[6; 64])?;
     let between = deck.calls();
-    prepared.commit(&mut deck)?;
-    let calls = [before, between, deck.calls()];
-    Ok((deck, calls))
+    prepared.commit(deck)?;
+    Ok([before, between, deck.calls()])
+}
+
+// Four slots with blocks 3 to 5, to which block 6 is added, and the numbers of calls in it.
+fn seven_blocks(rt: &(impl Abort + AllocGlobal)) -> (MemDeck, [u64; 3]) {
+    let mut deck = empty_disk(rt, &[]);
+    make(&mut deck).expect(rt, "an image");
+    for byte in 0..6 {
+        add_block(&mut deck, byte).expect(rt, "a block");
+    }
+    let calls = add_in_steps(&mut deck).expect(rt, "the last block");
+    (deck, calls)
 }
 
 // The run of an image.
-fn run_in(alloc: Global, image: Vec<u8>) -> Result<(u64, u64), Fail> {
+fn run_in(rt: &(impl Abort + AllocGlobal), image: Vec<u8>) -> (u64, u64) {
+    let alloc = rt.alloc();
     let mut deck = MemDeck::new(alloc, image, Vec::new(alloc), Vec::new(alloc));
-    let header = read_image_header(&mut deck)?;
-    let found = scan(&mut deck, &header)?;
-    Ok((found.first, found.next))
+    let found = found_on(rt, &mut deck);
+    (found.first, found.next)
 }
 
 // The run that a stop within this call leaves.
-fn left_by(alloc: Global, deck: &MemDeck, call: u64, tear: Tear) -> Result<(u64, u64), Fail> {
-    if call >= deck.calls() {
-        return Err("no such call".into());
-    }
-    run_in(alloc, deck.stop(alloc, call, tear)?)
+fn left_by(rt: &(impl Abort + AllocGlobal), deck: &MemDeck, call: u64, tear: Tear) -> (u64, u64) {
+    assert!(rt; call < deck.calls());
+    let image = deck.stop(rt.alloc(), call, tear).expect(rt, "a stop");
+    run_in(rt, image)
+}
+
+// The run of the image on the disk, as it stands.
+fn run_on(rt: &(impl Abort + AllocGlobal), deck: &MemDeck) -> (u64, u64) {
+    let image = deck.image().to_vec(rt.alloc()).expect(rt, "a copy");
+    run_in(rt, image)
 }
 
 #[test]
-fn a_block_takes_six_calls(rt: HostRuntime) -> Result<(), Fail> {
-    let (deck, [before, between, after]) = seven_blocks(rt.alloc())?;
+fn a_block_takes_six_calls(rt: HostRuntime) {
+    let (deck, [before, between, after]) = seven_blocks(&rt);
     assert!(rt;
         between.checked_sub(before) == Some(4)
             && after.checked_sub(before) == Some(6)
-            && run_in(rt.alloc(), deck.image().to_vec(rt.alloc())?)? == (4, 7)
+            && run_on(&rt, &deck) == (4, 7)
     );
-    Ok(())
 }
 
 #[test]
-fn the_body_and_the_close_are_torn_together(rt: HostRuntime) -> Result<(), Fail> {
-    let (deck, [_, between, _]) = seven_blocks(rt.alloc())?;
+fn the_body_and_the_close_are_torn_together(rt: HostRuntime) {
+    let (deck, [_, between, _]) = seven_blocks(&rt);
     let sync = between.saturating_sub(1);
     for (tear, run) in [
         (Tear::Old, (3, 6)),
@@ -158,45 +206,42 @@ fn the_body_and_the_close_are_torn_together(rt: HostRuntime) -> Result<(), Fail>
         (Tear::Fill(OPEN), (3, 6)),
         (Tear::Fill(0xee), (4, 6)),
     ] {
-        assert!(rt; left_by(rt.alloc(), &deck, sync, tear)? == run);
+        assert!(rt; left_by(&rt, &deck, sync, tear) == run);
     }
-    Ok(())
 }
 
 #[test]
-fn a_gate_is_torn_alone(rt: HostRuntime) -> Result<(), Fail> {
-    let (deck, [_, _, after]) = seven_blocks(rt.alloc())?;
+fn a_gate_is_torn_alone(rt: HostRuntime) {
+    let (deck, [_, _, after]) = seven_blocks(&rt);
     let sync = after.saturating_sub(1);
     assert!(rt;
-        left_by(rt.alloc(), &deck, sync, Tear::Old)? == (4, 6)
-            && left_by(rt.alloc(), &deck, sync, Tear::New)? == (4, 7)
+        left_by(&rt, &deck, sync, Tear::Old) == (4, 6)
+            && left_by(&rt, &deck, sync, Tear::New) == (4, 7)
     );
-    Ok(())
 }
 
-// A block whose last sync, that of its gate, failed, and the number of calls then.
-fn unsettled_block(alloc: Global) -> Result<(MemDeck, u64), Fail> {
-    let mut deck = MemDeck::new(alloc, Vec::new(alloc), Vec::new(alloc), vec![in alloc; 10]?);
-    let prepared = format(&mut deck, &SMALL)?.prepare(&mut deck, 1, &[7; 9])?;
-    match prepared.commit(&mut deck) {
-        Err(RingFault::DiskFault) => {
-            let calls = deck.calls();
-            Ok((deck, calls))
-        }
-        _ => Err("the sync didn't fail".into()),
-    }
+// Makes an image and prepares a block: whether the disk then failed as it was committed.
+fn fails_to_commit(deck: &mut MemDeck) -> Result<bool, RingFault> {
+    let prepared = format(deck, &SMALL)?.prepare(deck, 1, &[7; 9])?;
+    Ok(matches!(prepared.commit(deck), Err(RingFault::DiskFault)))
+}
+
+// A block whose last sync, that of its gate, failed.
+fn unsettled_block(rt: &(impl Abort + AllocGlobal)) -> MemDeck {
+    let mut deck = empty_disk(rt, &[10]);
+    assert!(rt; fails_to_commit(&mut deck) == Ok(true));
+    deck
 }
 
 #[test]
-fn a_block_that_is_found_again_is_durable(rt: HostRuntime) -> Result<(), Fail> {
-    let (mut deck, before) = unsettled_block(rt.alloc())?;
-    let header = read_image_header(&mut deck)?;
-    assert!(rt;
-        left_by(rt.alloc(), &deck, before, Tear::Old)? == (0, 0)
-            && Ring::attach(&mut deck, header)?.next() == 1
-    );
+fn a_block_that_is_found_again_is_durable(rt: HostRuntime) {
+    let mut deck = unsettled_block(&rt);
+    let before = deck.calls();
+    assert!(rt; attached(&mut deck) == Ok((1, 1)));
     let after = deck.calls();
-    deck.size()?;
-    assert!(rt; left_by(rt.alloc(), &deck, after, Tear::Old)? == (0, 1));
-    Ok(())
+    assert!(rt;
+        deck.size() == Ok(384)
+            && left_by(&rt, &deck, before, Tear::Old) == (0, 0)
+            && left_by(&rt, &deck, after, Tear::Old) == (0, 1)
+    );
 }

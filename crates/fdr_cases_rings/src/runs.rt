@@ -1,11 +1,10 @@
 //! Worked images, what is found in them, and what is given of them.
 
-use fdr_deck::{Deck, SureDeck};
+use fdr_deck::SureDeck;
 use fdr_io::{Failed, NullSink, Sink};
-use fdr_recover::{BlockInfo, BlockTaker, Found, block, scan, walk_between};
-use fdr_slot::{Header, OPEN, write_header, write_slot_head};
-use std::alloc::{AllocError, Global};
-use std::test::Fail;
+use fdr_recover::{BlockInfo, BlockTaker, BlocksFault, Found, block, scan, walk_between};
+use fdr_slot::{Header, OPEN, SEQUENCE_END, image_size, in_limits, write_header, write_slot_head};
+use std::process::Abort;
 
 const SMALL: Header = Header {
     slots: 4,
@@ -23,22 +22,41 @@ const SMALL_FIRST: Header = Header {
 /// What is in a slot: whether its gate is open, its length, its session and its number.
 type Slot = (bool, u16, u32, u64);
 
+/// Blocks 3 to 5, and one that isn't open.
+const THREE_BLOCKS: [Slot; 4] = [
+    (true, 64, 6, 4),
+    (true, 3, 7, 5),
+    (false, 64, 5, 2),
+    (true, 64, 5, 3),
+];
+
 /// An image of four slots. Each payload byte is the slot's number.
-fn image_of(alloc: Global, slots: [Slot; 4]) -> Result<Vec<u8>, AllocError> {
-    let mut image = Vec::from_slice(alloc, &write_header(&SMALL))?;
+fn image_of(rt: &(impl Abort + AllocGlobal), slots: [Slot; 4]) -> Vec<u8> {
+    let mut image = Vec::from_slice(rt.alloc(), &write_header(&SMALL)).expect(rt, "a header");
     for (open, len, session, seq) in slots {
         let mut head = write_slot_head(len, session, seq);
         if open {
             head[0] = OPEN;
         }
-        image.extend_from_slice(&head)?;
-        image.extend_from_slice(&[(seq % 256) as u8; 64])?;
+        image.extend_from_slice(&head).expect(rt, "room");
+        image
+            .extend_from_slice(&[(seq % 256) as u8; 64])
+            .expect(rt, "room");
     }
-    Ok(image)
+    image
+}
+
+/// What is found in an image of these slots, in version 2 and in version 1.
+fn found_in(rt: &(impl Abort + AllocGlobal), slots: [Slot; 4]) -> [Result<Found, Failed>; 2] {
+    let image = image_of(rt, slots);
+    assert!(rt; image.len() == 384);
+    let mut deck = SureDeck::new(image, Vec::new(rt.alloc()));
+    let found = scan(&mut deck, &SMALL);
+    [found, scan(&mut deck, &SMALL_FIRST)]
 }
 
 #[test]
-fn finds_the_run(rt: HostRuntime) -> Result<(), Fail> {
+fn finds_the_run(rt: HostRuntime) {
     let held = (true, 64, 3, 0);
     let free = (false, 64, 1, 0);
     // what is in the slots, the run, and the session of its last block
@@ -104,58 +122,57 @@ fn finds_the_run(rt: HostRuntime) -> Result<(), Fail> {
         ),
         ([(true, 64, 1, 0), free, free, free], 0, 1, 1),
     ] {
-        let image = image_of(rt.alloc(), slots)?;
-        assert!(rt; image.len() == 384);
-        let mut deck = SureDeck::new(image, Vec::new(rt.alloc()));
         let found = Found {
             first,
             next,
             session,
         };
-        assert!(rt; scan(&mut deck, &SMALL) == Ok(found));
-        let found = Found {
+        let found_first = Found {
             session: 0,
             ..found
         };
-        assert!(rt; scan(&mut deck, &SMALL_FIRST) == Ok(found));
+        assert!(rt; found_in(&rt, slots) == [Ok(found), Ok(found_first)]);
     }
-    Ok(())
+}
+
+/// What is given of the block with this number of an image, and its payload before zeros.
+fn given_of(
+    rt: &(impl Abort + AllocGlobal),
+    h: &Header,
+    number: u64,
+) -> (Result<BlockInfo, Failed>, [u8; 64]) {
+    let image = image_of(rt, THREE_BLOCKS);
+    assert!(rt;
+        in_limits(h)
+            && image.len() as u64 >= image_size(h)
+            && h.payload <= 64
+            && number < SEQUENCE_END
+    );
+    let mut deck = SureDeck::new(image, Vec::new(rt.alloc()));
+    let mut buf = [0; 64];
+    let info = block(&mut deck, h, number, &mut buf);
+    (info, buf)
+}
+
+fn info_of(len: usize, session: u32) -> BlockInfo {
+    BlockInfo { len, session }
 }
 
 #[test]
-fn gives_the_payload_of_a_block(rt: HostRuntime) -> Result<(), Fail> {
-    let slots = [
-        (true, 64, 6, 4),
-        (true, 3, 7, 5),
-        (false, 64, 5, 2),
-        (true, 64, 5, 3),
+fn gives_the_payload_of_a_block(rt: HostRuntime) {
+    // the header, the number of the block, what is given of it, and how its payload begins
+    let cases: [(Header, u64, BlockInfo, &[u8]); 6] = [
+        (SMALL, 5, info_of(3, 7), &[5, 5, 5, 0]),
+        (SMALL, 4, info_of(64, 6), &[4; 64]),
+        (SMALL_FIRST, 4, info_of(64, 0), &[4; 64]),
+        (SMALL, 2, info_of(0, 0), &[]),
+        (SMALL, 0, info_of(0, 0), &[]),
+        (SMALL, 9, info_of(0, 0), &[]),
     ];
-    let image = image_of(rt.alloc(), slots)?;
-    assert!(rt; image.len() == 384);
-    let mut deck = SureDeck::new(image, Vec::new(rt.alloc()));
-    let mut buf = [0; 64];
-    let info = BlockInfo { len: 3, session: 7 };
-    assert!(rt;
-        block(&mut deck, &SMALL, 5, &mut buf) == Ok(info) && buf.starts_with(&[5, 5, 5, 0])
-    );
-    let info = BlockInfo {
-        len: 64,
-        session: 6,
-    };
-    assert!(rt; block(&mut deck, &SMALL, 4, &mut buf) == Ok(info));
-    assert!(rt; buf.iter().all(|b| *b == 4));
-    let info = BlockInfo {
-        len: 64,
-        session: 0,
-    };
-    assert!(rt; block(&mut deck, &SMALL_FIRST, 4, &mut buf) == Ok(info));
-    let none = BlockInfo { len: 0, session: 0 };
-    assert!(rt;
-        block(&mut deck, &SMALL, 2, &mut buf) == Ok(none)
-            && block(&mut deck, &SMALL, 0, &mut buf) == Ok(none)
-            && block(&mut deck, &SMALL, 9, &mut buf) == Ok(none)
-    );
-    Ok(())
+    for (header, number, info, payload) in cases {
+        let (given, buf) = given_of(&rt, &header, number);
+        assert!(rt; given == Ok(info) && buf.starts_with(payload), "{number}");
+    }
 }
 
 /// What was handed on: of each block its number, its session and how many bytes its payload has.
@@ -187,8 +204,26 @@ impl<O: Sink> BlockTaker<O> for Handed {
     }
 }
 
+/// What a walk over the blocks between these numbers answers, and the blocks that it hands on.
+fn walked(
+    rt: &(impl Abort + AllocGlobal),
+    first: u64,
+    next: u64,
+) -> (Result<(), BlocksFault>, [(u64, u32, usize); 4]) {
+    let image = image_of(rt, THREE_BLOCKS);
+    assert!(rt; image.len() == 384 && first <= 8 && next <= SEQUENCE_END && next <= first + 4);
+    let mut deck = SureDeck::new(image, Vec::new(rt.alloc()));
+    let mut handed = Handed {
+        blocks: [(0, 0, 0); 4],
+        count: 0,
+    };
+    let mut out = NullSink::new();
+    let answer = walk_between(&mut deck, &SMALL, first, next, &mut handed, &mut out);
+    (answer, handed.blocks)
+}
+
 #[test]
-fn walks_over_what_is_there(rt: HostRuntime) -> Result<(), Fail> {
+fn walks_over_what_is_there(rt: HostRuntime) {
     let none = (0, 0, 0);
     // the numbers between which blocks are handed on, and these blocks
     for (first, next, blocks) in [
@@ -198,22 +233,6 @@ fn walks_over_what_is_there(rt: HostRuntime) -> Result<(), Fail> {
         (5, 5, [none; 4]),
         (6, 5, [none; 4]),
     ] {
-        let slots = [
-            (true, 64, 6, 4),
-            (true, 3, 7, 5),
-            (false, 64, 5, 2),
-            (true, 64, 5, 3),
-        ];
-        let image = image_of(rt.alloc(), slots)?;
-        assert!(rt; image.len() == 384);
-        let mut deck = SureDeck::new(image, Vec::new(rt.alloc()));
-        let mut handed = Handed {
-            blocks: [none; 4],
-            count: 0,
-        };
-        let mut out = NullSink::new();
-        let walked = walk_between(&mut deck, &SMALL, first, next, &mut handed, &mut out);
-        assert!(rt; walked == Ok(()) && handed.blocks == blocks);
+        assert!(rt; walked(&rt, first, next) == (Ok(()), blocks));
     }
-    Ok(())
 }

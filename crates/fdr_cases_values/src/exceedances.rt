@@ -1,12 +1,12 @@
 //! Worked rules and exceedances.
 
-ghost use Rattle.std.specs.Prelude.{◌≡◌, ◌+◌, ◌≤◌, ◌<◌, ◌^◌, [], IfOk, length};
+ghost use Rattle.std.specs.Prelude.{◌≡◌, ◌+◌, ◌≤◌, ◌<◌, ◌^◌, [], length};
 
 use fdr_exceed::{RuleFault, Rules, RulesError, Watch, rule_fault_text};
 use fdr_recon::Row;
 use fdr_table::Table;
-use std::alloc::{AllocError, Global};
-use std::test::Fail;
+use std::alloc::Global;
+use std::process::Abort;
 
 /// Two parameters of 12 bits: ALT in word 10 of each first subframe, and SPD in word 11 with one decimal.
 const TABLE: &[u8] =
@@ -21,21 +21,20 @@ enum Step {
 }
 
 /// Adds the lines that are decided.
-fn drain(watch: &mut Watch, lines: &mut Vec<u8>) -> Result<(), AllocError>
-    ensures drained { IfOk result (λ _. watch.new.due ≡ []) }
+fn drain(rt: &impl Abort, watch: &mut Watch, lines: &mut Vec<u8>)
+    ensures drained { watch.new.due ≡ [] }
     ensures rows { watch.new.rows ≡ watch.old.rows }
 {
     while let Some(line) = watch.take() {
-        lines.extend_from_slice(line.bytes())?;
+        lines.extend_from_slice(line.bytes()).expect(rt, "memory");
     }
-    Ok(())
 }
 
 /// Gives a step, and adds the lines that it decides.
-fn give(watch: &mut Watch, step: &Step, lines: &mut Vec<u8>) -> Result<(), AllocError>
+fn give(rt: &impl Abort, watch: &mut Watch, step: &Step, lines: &mut Vec<u8>)
     requires drained { watch.old.due ≡ [] }
     requires few_rows { watch.old.rows < 2 ^ 62 }
-    ensures drained { IfOk result (λ _. watch.new.due ≡ []) }
+    ensures drained { watch.new.due ≡ [] }
     ensures rows { watch.new.rows ≤ watch.old.rows + 1 }
 {
     match step {
@@ -48,21 +47,29 @@ fn give(watch: &mut Watch, step: &Step, lines: &mut Vec<u8>) -> Result<(), Alloc
         }),
         Step::Reset => watch.reset(),
     }
-    drain(watch, lines)
+    drain(rt, watch, lines);
+}
+
+/// A watch by rules for the table.
+fn watch_by(rt: &impl Abort, alloc: Global, rules: &[u8]) -> Watch
+    ensures drained { result.due ≡ [] }
+    ensures rows { result.rows ≡ 0 }
+{
+    let table = Table::read(alloc, TABLE).expect(rt, "a table");
+    let rules = Rules::read(alloc, rules, &table).expect(rt, "the rules");
+    Watch::new(alloc, rules).expect(rt, "memory")
 }
 
 /// The lines of these steps.
-fn lines_of(alloc: Global, rules: &[u8], steps: &[Step]) -> Result<Vec<u8>, Fail>
+fn lines_of(rt: &impl Abort, alloc: Global, rules: &[u8], steps: &[Step]) -> Vec<u8>
     requires { length steps.now < 100 }
 {
-    let table = Table::read(alloc, TABLE)?;
-    let rules = Rules::read(alloc, rules, &table)?;
-    let mut watch = Watch::new(alloc, rules)?;
+    let mut watch = watch_by(rt, alloc, rules);
     let mut lines = Vec::new(alloc);
     for step in steps {
-        give(&mut watch, step, &mut lines)?;
+        give(rt, &mut watch, step, &mut lines);
     }
-    Ok(lines)
+    lines
 }
 
 /// The values 5, 7, 9, 3 and 8 of ALT in frames 0 to 4, and their end.
@@ -76,29 +83,30 @@ const FLIGHT: [Step; 6] = [
 ];
 
 #[test]
-fn lists_exceedances_of_each_kind(rt: HostRuntime) -> Result<(), Fail> {
+fn lists_exceedances_of_each_kind(rt: HostRuntime) {
     let rules = b"HI,ALT,above,4,2\nLO,ALT,below,4,1\nSTEP,ALT,change,4,2\n";
-    let lines = lines_of(rt.alloc(), rules, &FLIGHT)?;
+    let lines = lines_of(&rt, rt.alloc(), rules, &FLIGHT);
     assert!(rt;
         lines.as_slice()
             == b"exceed,HI,0,1,10,3,9\nexceed,LO,3,1,10,1,3\nexceed,STEP,3,1,10,2,6\n".as_slice()
     );
-    Ok(())
 }
 
 #[test]
-fn lists_the_change_within_a_window(rt: HostRuntime) -> Result<(), Fail> {
-    let lines = lines_of(rt.alloc(), b"STEP,ALT,change,4,3\n", &FLIGHT)?;
-    assert!(rt; lines.as_slice() == b"exceed,STEP,3,1,10,2,6\n".as_slice());
-    let lines = lines_of(rt.alloc(), b"STEP,ALT,change,3,3\n", &FLIGHT)?;
-    assert!(rt; lines.as_slice() == b"exceed,STEP,2,1,10,3,6\n".as_slice());
-    let lines = lines_of(rt.alloc(), b"STEP,ALT,change,0,1\n", &FLIGHT)?;
-    assert!(rt; lines.as_slice() == b"".as_slice());
-    Ok(())
+fn lists_the_change_within_a_window(rt: HostRuntime) {
+    let cases = [
+        ("STEP,ALT,change,4,3\n", "exceed,STEP,3,1,10,2,6\n"),
+        ("STEP,ALT,change,3,3\n", "exceed,STEP,2,1,10,3,6\n"),
+        ("STEP,ALT,change,0,1\n", ""),
+    ];
+    for (rules, expected) in cases {
+        let lines = lines_of(&rt, rt.alloc(), rules.as_bytes(), &FLIGHT);
+        assert!(rt; lines.as_slice() == expected.as_bytes(), "{rules}");
+    }
 }
 
 #[test]
-fn a_stretch_ends_a_list(rt: HostRuntime) -> Result<(), Fail> {
+fn a_stretch_ends_a_list(rt: HostRuntime) {
     let steps = [
         Step::Row(0, 0, 5),
         Step::Row(0, 1, 7),
@@ -107,15 +115,14 @@ fn a_stretch_ends_a_list(rt: HostRuntime) -> Result<(), Fail> {
         Step::Row(9, 1, -7),
         Step::Reset,
     ];
-    let lines = lines_of(rt.alloc(), b"HI,ALT,above,4,2\n", &steps)?;
-    assert!(rt; lines.as_slice() == b"".as_slice());
+    let none = lines_of(&rt, rt.alloc(), b"HI,ALT,above,4,2\n", &steps);
     let rules = b"LO,SPD,below,0,1\nHI,ALT,above,4,1\nSPD,SPD,above,6,1\n";
-    let lines = lines_of(rt.alloc(), rules, &steps)?;
+    let lines = lines_of(&rt, rt.alloc(), rules, &steps);
     assert!(rt;
-        lines.as_slice()
-            == b"exceed,HI,0,1,10,1,5\nexceed,SPD,0,1,10,1,0.7\nexceed,LO,9,1,10,1,-0.7\nexceed,HI,9,1,10,1,5\n".as_slice()
+        none.as_slice() == b"".as_slice()
+            && lines.as_slice()
+                == b"exceed,HI,0,1,10,1,5\nexceed,SPD,0,1,10,1,0.7\nexceed,LO,9,1,10,1,-0.7\nexceed,HI,9,1,10,1,5\n".as_slice()
     );
-    Ok(())
 }
 
 #[test]
@@ -127,10 +134,8 @@ fn names_faults(rt: HostRuntime) {
 }
 
 /// Whether the rules are refused so.
-fn is_refused(alloc: Global, rules: &[u8], row: u32, fault: RuleFault) -> bool {
-    let Ok(table) = Table::read(alloc, TABLE) else {
-        return false;
-    };
+fn is_refused(rt: &impl Abort, alloc: Global, rules: &[u8], row: u32, fault: RuleFault) -> bool {
+    let table = Table::read(alloc, TABLE).expect(rt, "a table");
     Rules::read(alloc, rules, &table).err() == Some(RulesError::Refused { row, fault })
 }
 
@@ -154,22 +159,28 @@ fn refuses_rules(rt: HostRuntime) {
         (b"HI,ALT,above,4,1\nHI,SPD,below,4,1\n", 1, RuleFault::Twice),
     ];
     for (rules, row, fault) in cases {
-        assert!(rt; is_refused(rt.alloc(), rules, row, fault));
+        assert!(rt; is_refused(&rt, rt.alloc(), rules, row, fault));
     }
 }
 
-#[test]
-fn refuses_too_many_rules(rt: HostRuntime) -> Result<(), Fail> {
-    let bytes = vec![in rt.alloc(); b'X'; 65_537]?;
-    assert!(rt;
-        is_refused(rt.alloc(), bytes.as_slice(), 0, RuleFault::Size)
-            && is_refused(rt.alloc(), &bytes[..65_536], 0, RuleFault::Shape)
-    );
-    let mut text = String::new(rt.alloc());
-    for i in 0..257_u32 {
-        let rule = format!(in rt.alloc(); "R{i},ALT,above,4,1\n")?;
-        text.push_str(rule.as_str())?;
+/// This many records, each with a name of its own.
+fn many_rules(rt: &impl Abort, alloc: Global, count: u32) -> String {
+    let mut text = String::new(alloc);
+    for i in 0..count {
+        let rule = format!(in alloc; "R{i},ALT,above,4,1\n").expect(rt, "memory");
+        text.push_str(rule.as_str()).expect(rt, "memory");
     }
-    assert!(rt; is_refused(rt.alloc(), text.as_bytes(), 256, RuleFault::Size));
-    Ok(())
+    text
+}
+
+#[test]
+fn refuses_too_many_rules(rt: HostRuntime) {
+    let alloc = rt.alloc();
+    let bytes = vec![in alloc; b'X'; 65_537].expect(&rt, "memory");
+    let text = many_rules(&rt, alloc, 257);
+    assert!(rt;
+        is_refused(&rt, alloc, &bytes, 0, RuleFault::Size)
+            && is_refused(&rt, alloc, &bytes[..65_536], 0, RuleFault::Shape)
+            && is_refused(&rt, alloc, text.as_bytes(), 256, RuleFault::Size)
+    );
 }

@@ -4,9 +4,8 @@ ghost use Rattle.std.specs.Prelude.{◌≤◌, IfOk, length};
 
 use fdr_check::check;
 use fdr_layout::{Layout, Part, Sample};
-use fdr_table::Table;
+use fdr_table::{Table, TableError};
 use std::alloc::Global;
-use std::test::Fail;
 
 /// A position of two parts, one in each of two frames, and an altitude in every frame.
 const TWO_FRAMES: &[u8] =
@@ -17,21 +16,21 @@ const SHARED_SLOT: &[u8] =
     b"F,64,2,1\nP,A,0,1,,11,8,U,1,1,0,0,1\nL,A,1,1,10,0,5,8,0,16\nP,B,0,2,,11,4,U,1,1,0,0,1\nL,B,1,1,10,0,1,4,0,16\n";
 
 /// The layout of a table. The shortest superframe has 4,096 word slots.
-fn layout_of(alloc: Global, text: &[u8]) -> Result<Layout, Fail>
+fn layout_of(alloc: Global, text: &[u8]) -> Result<Layout, TableError>
     ensures { IfOk result (λ l. 4096 ≤ length l.slots) }
 {
-    let table = Table::read(alloc, text).ok().ok_or("table")?;
-    let sound = check(alloc, table).ok().ok_or("sound")?;
+    let table = Table::read(alloc, text)?;
+    let sound = check(alloc, table)?;
     sound.holds();
     let Ok(layout) = Layout::make(alloc, &sound) else {
-        return Err("memory")?;
+        return Err(TableError::NoMemory);
     };
     Ok(layout)
 }
 
 #[test]
-fn a_sample_ends_in_the_cycle_of_its_last_part(rt: HostRuntime) -> Result<(), Fail> {
-    let layout = layout_of(rt.alloc(), TWO_FRAMES)?;
+fn a_sample_ends_in_the_cycle_of_its_last_part(rt: HostRuntime) {
+    let layout = layout_of(rt.alloc(), TWO_FRAMES).expect(&rt, "a layout");
 
     let altitude = Sample {
         number: 2,
@@ -47,13 +46,6 @@ fn a_sample_ends_in_the_cycle_of_its_last_part(rt: HostRuntime) -> Result<(), Fa
         first: 19,
         last: 275,
     };
-    assert!(rt;
-        layout.ending_in(1) == [altitude, position].as_slice()
-            && layout.ending_in(0).len() == 1
-            && layout.ending_in(15).len() == 1
-            && layout.samples() == 17
-    );
-
     let low = Part {
         slot: 19,
         lsb: 1,
@@ -68,21 +60,22 @@ fn a_sample_ends_in_the_cycle_of_its_last_part(rt: HostRuntime) -> Result<(), Fa
         shift: 12,
         sample: 0,
     };
-    if 0 < layout.samples() {
-        assert!(rt; layout.parts(0) == [low, high].as_slice());
-    }
     assert!(rt;
-        layout.at_slot(19) == [low].as_slice()
+        layout.ending_in(1) == [altitude, position].as_slice()
+            && layout.ending_in(0).len() == 1
+            && layout.ending_in(15).len() == 1
+            && layout.samples() == 17
+            && layout.parts(0) == [low, high].as_slice()
+            && layout.at_slot(19) == [low].as_slice()
             && layout.at_slot(275) == [high].as_slice()
             && layout.at_slot(20).is_empty()
     );
-    Ok(())
 }
 
 /// The parts of a slot come by their lowest bits, whatever the order of their parameters.
 #[test]
-fn parts_of_a_slot_come_by_lowest_bit(rt: HostRuntime) -> Result<(), Fail> {
-    let layout = layout_of(rt.alloc(), SHARED_SLOT)?;
+fn parts_of_a_slot_come_by_lowest_bit(rt: HostRuntime) {
+    let layout = layout_of(rt.alloc(), SHARED_SLOT).expect(&rt, "a layout");
     let low = Part {
         slot: 9,
         lsb: 1,
@@ -98,5 +91,4 @@ fn parts_of_a_slot_come_by_lowest_bit(rt: HostRuntime) -> Result<(), Fail> {
         sample: 0,
     };
     assert!(rt; layout.at_slot(9) == [low, high].as_slice());
-    Ok(())
 }

@@ -5,7 +5,7 @@ use fdr_listing::{Line, NumberTexts, ShortText, gap_line, put_row, row_line, val
 use fdr_recon::Row;
 use fdr_table::Name;
 use std::alloc::Global;
-use std::test::Fail;
+use std::process::Abort;
 
 #[test]
 fn writes_values(rt: HostRuntime) {
@@ -19,18 +19,17 @@ fn writes_values(rt: HostRuntime) {
         (i64::MIN, 9, b"-9223372036.854775808"),
     ];
     for (value, decimals, text) in cases {
-        assert!(rt; decimals <= 9);
         assert!(rt;
-            value_text(value, decimals).bytes() == text,
-            "{value} with {decimals} decimals"
+            decimals <= 9 && value_text(value, decimals).bytes() == text,
+            "{value}, {decimals}"
         );
     }
 }
 
 #[tactic(auto, using(fdr_line::proofs::Lengths::numbers))]
 #[test]
-fn writes_lines(rt: HostRuntime) -> Result<(), Fail> {
-    let name = Name::new(b"VRTG").ok_or("name")?;
+fn writes_lines(rt: HostRuntime) {
+    let name = Name::new(b"VRTG").expect(&rt, "a name");
     let row = Row {
         counter: 4095,
         subframe: 4,
@@ -38,34 +37,37 @@ fn writes_lines(rt: HostRuntime) -> Result<(), Fail> {
         param: 0,
         value: -1,
     };
-    assert!(rt;
-        row_line(&row, &name, 3).bytes() == b"row,4095,4,1024,VRTG,-0.001\n".as_slice()
-            && gap_line(0, 3072).bytes() == b"gap,0,3072\n".as_slice()
-    );
     let mut line = Line::new();
     line.add(b"frames ");
     line.add_number(0);
-    assert!(rt; line.bytes() == b"frames 0".as_slice());
-    Ok(())
+    assert!(rt;
+        row_line(&row, &name, 3).bytes() == b"row,4095,4,1024,VRTG,-0.001\n".as_slice()
+            && gap_line(0, 3072).bytes() == b"gap,0,3072\n".as_slice()
+            && line.bytes() == b"frames 0".as_slice()
+    );
 }
 
 /// The line of a row out of texts that are ready.
-fn put_together(alloc: Global, row: &Row, name: &Name, decimals: u8) -> Result<Vec<u8>, Fail> {
-    if row.counter >= 4096 || row.subframe > 4 || row.word > 1024 || decimals > 9 {
-        return Err("a row")?;
-    }
-    let mut buffer = OutBuffer::new(alloc)?;
-    let numbers = NumberTexts::new(alloc).ok().ok_or("numbers")?;
+fn put_together(rt: &impl Abort, alloc: Global, row: &Row, name: &Name, decimals: u8) -> Vec<u8> {
+    assert!(rt; row.counter < 4096 && row.subframe <= 4 && row.word <= 1024 && decimals <= 9);
+    let mut buffer = OutBuffer::new(alloc).expect(rt, "memory");
+    let numbers = NumberTexts::new(alloc).expect(rt, "memory");
     let start = ShortText::row_start(row.counter);
     let place = ShortText::row_place(row.subframe, row.word);
     put_row(&mut buffer, &numbers, &start, &place, name, row, decimals);
     let mut sink = MemSink::new(alloc, Vec::new(alloc));
-    buffer.finish(&mut sink).ok().ok_or("write")?;
-    Ok(Vec::from_slice(alloc, sink.bytes())?)
+    buffer.finish(&mut sink).expect(rt, "a write");
+    Vec::from_slice(alloc, sink.bytes()).expect(rt, "memory")
+}
+
+/// Whether these are a row's line.
+fn is_line_of(rt: &impl Abort, line: &[u8], row: &Row, name: &Name, decimals: u8) -> bool {
+    assert!(rt; row.counter < 4096 && row.subframe <= 4 && row.word <= 1024 && decimals <= 9);
+    line == row_line(row, name, decimals).bytes()
 }
 
 #[test]
-fn puts_together_the_line_of_a_row(rt: HostRuntime) -> Result<(), Fail> {
+fn puts_together_the_line_of_a_row(rt: HostRuntime) {
     let names: [&[u8]; 2] = [b"A", b"SIXTEEN_LETTERS_"];
     let cases = [
         (0, 1, 1, 0, 0),
@@ -82,7 +84,7 @@ fn puts_together_the_line_of_a_row(rt: HostRuntime) -> Result<(), Fail> {
         (1, 1, 2, 10001, 4),
     ];
     for name in names {
-        let name = Name::new(name).ok_or("name")?;
+        let name = Name::new(name).expect(&rt, "a name");
         for (counter, subframe, word, value, decimals) in cases {
             let row = Row {
                 counter,
@@ -91,13 +93,11 @@ fn puts_together_the_line_of_a_row(rt: HostRuntime) -> Result<(), Fail> {
                 param: 0,
                 value,
             };
-            let line = put_together(rt.alloc(), &row, &name, decimals)?;
-            assert!(rt; decimals <= 9 && counter < 4096 && subframe <= 4 && word <= 1024);
+            let line = put_together(&rt, rt.alloc(), &row, &name, decimals);
             assert!(rt;
-                line.as_slice() == row_line(&row, &name, decimals).bytes(),
+                is_line_of(&rt, &line, &row, &name, decimals),
                 "{counter}, {value}"
             );
         }
     }
-    Ok(())
 }

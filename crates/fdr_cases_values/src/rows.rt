@@ -1,6 +1,6 @@
 //! Rows of worked tables.
 
-ghost use Rattle.std.specs.Prelude.{◌≡◌, ◌<◌, All, IfOk};
+ghost use Rattle.std.specs.Prelude.{◌≡◌, ◌<◌, All};
 
 use crate::frames::frame_of;
 use fdr_check::check;
@@ -8,7 +8,7 @@ use fdr_layout::Layout;
 use fdr_recon::{Rebuild, Row};
 use fdr_table::Table;
 use std::alloc::Global;
-use std::test::Fail;
+use std::process::Abort;
 
 /// An altitude in each frame.
 const ALTITUDE: &[u8] = b"F,64,2,1\nP,ALT,0,203,,11,12,U,1,1,0,0,16\nL,ALT,1,1,10,0,1,12,0,1\n";
@@ -22,21 +22,14 @@ P,ALT,0,203,,11,12,U,1,1,0,0,16
 L,ALT,1,1,10,0,1,12,0,1
 ";
 
-fn rebuild_by(alloc: Global, table: &[u8]) -> Result<Rebuild, Fail>
-    ensures { IfOk result (λ r. r.frame.words ≡ 64) }
+fn rebuild_by(rt: &impl Abort, alloc: Global, table: &[u8]) -> Rebuild
+    ensures { result.frame.words ≡ 64 }
 {
-    let table = Table::read(alloc, table).ok().ok_or("table")?;
-    let sound = check(alloc, table).ok().ok_or("sound")?;
-    if sound.table().frame().words != 64 {
-        return Err("words")?;
-    }
-    let Ok(layout) = Layout::make(alloc, &sound) else {
-        return Err("memory")?;
-    };
-    let Ok(rebuild) = Rebuild::new(alloc, layout, &sound) else {
-        return Err("memory")?;
-    };
-    Ok(rebuild)
+    let table = Table::read(alloc, table).expect(rt, "a table");
+    let sound = check(alloc, table).expect(rt, "a sound table");
+    assert!(rt; sound.table().frame().words == 64);
+    let layout = Layout::make(alloc, &sound).expect(rt, "memory");
+    Rebuild::new(alloc, layout, &sound).expect(rt, "memory")
 }
 
 fn altitude(param: u32, counter: u16, value: i64) -> Option<Row> {
@@ -61,19 +54,42 @@ fn position(counter: u16, value: i64) -> Option<Row> {
 
 // The counter counts from 4095 to 0.
 #[test]
-fn lists_an_altitude_of_each_frame(rt: HostRuntime) -> Result<(), Fail> {
-    let mut rebuild = rebuild_by(rt.alloc(), ALTITUDE)?;
+fn lists_an_altitude_of_each_frame(rt: HostRuntime) {
+    let mut rebuild = rebuild_by(&rt, rt.alloc(), ALTITUDE);
     assert!(rt; rebuild.rows() == 0);
     rebuild.frame(true, &frame_of(4095, 5, 0));
     assert!(rt; rebuild.rows() == 1 && rebuild.row(0) == altitude(0, 4095, 5));
     rebuild.frame(true, &frame_of(0, 5, 0));
     assert!(rt; rebuild.rows() == 1 && rebuild.row(0) == altitude(0, 0, 5));
-    Ok(())
+}
+
+/// A table with an altitude of this scale in each frame.
+fn table_with(rt: &impl Abort, alloc: Global, scale: &str) -> String {
+    format!(in alloc; "F,64,2,1\nP,ALT,0,203,,11,12,{scale},16\nL,ALT,1,1,10,0,1,12,0,1\n").expect(
+        rt, "memory",
+    )
+}
+
+/// The value of a raw number by a table.
+fn value_by(rt: &impl Abort, alloc: Global, table: &[u8], raw: u16) -> i64 {
+    let table = Table::read(alloc, table).expect(rt, "a table");
+    let param = table.params().first().expect(rt, "a parameter");
+    assert!(rt; param.width == 12 && raw < 4096);
+    param.value(u32::from(raw))
+}
+
+/// The only row of a frame with this raw number.
+fn row_by(rt: &impl Abort, alloc: Global, table: &[u8], raw: u16) -> Option<Row> {
+    assert!(rt; raw < 4096);
+    let mut rebuild = rebuild_by(rt, alloc, table);
+    rebuild.frame(false, &frame_of(0, raw, 0));
+    assert!(rt; rebuild.rows() == 1);
+    rebuild.row(0)
 }
 
 // Scales that are small on the way, that fall with the raw number, and that are larger.
 #[test]
-fn values_are_those_of_the_table(rt: HostRuntime) -> Result<(), Fail> {
+fn values_are_those_of_the_table(rt: HostRuntime) {
     let alloc = rt.alloc();
     let scales = [
         "U,1,1,0,0",
@@ -89,28 +105,22 @@ fn values_are_those_of_the_table(rt: HostRuntime) -> Result<(), Fail> {
         "S,1,1000000000,-1000000000000000,9",
     ];
     for scale in scales {
-        let text = format!(in alloc;
-            "F,64,2,1\nP,ALT,0,203,,11,12,{scale},16\nL,ALT,1,1,10,0,1,12,0,1\n"
-        )?;
-        let table = Table::read(alloc, text.as_bytes()).ok().ok_or(scale)?;
-        let param = table.params().first().ok_or(scale)?;
-        assert!(rt; param.width == 12, "{scale}");
+        let table = table_with(&rt, alloc, scale);
+        let table = table.as_bytes();
         for raw in [0, 1, 7, 0x7ff, 0x800, 0xffe, 0xfff] {
-            let words = frame_of(0, raw, 0);
-            let value = param.value(u32::from(raw));
-            let mut rebuild = rebuild_by(alloc, text.as_bytes())?;
-            rebuild.frame(false, &words);
-            assert!(rt; rebuild.rows() == 1);
-            assert!(rt; rebuild.row(0) == altitude(0, 0, value), "{raw} by {scale}");
+            let value = value_by(&rt, alloc, table, raw);
+            assert!(rt;
+                row_by(&rt, alloc, table, raw) == altitude(0, 0, value),
+                "{raw} by {scale}"
+            );
         }
     }
-    Ok(())
 }
 
 // The low twelve bits of the position are in a frame of cycle 0, the high eight in the next one.
 #[test]
-fn joins_the_parts_of_a_position(rt: HostRuntime) -> Result<(), Fail> {
-    let mut rebuild = rebuild_by(rt.alloc(), POSITION)?;
+fn joins_the_parts_of_a_position(rt: HostRuntime) {
+    let mut rebuild = rebuild_by(&rt, rt.alloc(), POSITION);
     rebuild.frame(false, &frame_of(0, 5, 0xcde));
     assert!(rt; rebuild.rows() == 1 && rebuild.row(0) == altitude(1, 0, 5));
     rebuild.frame(true, &frame_of(1, 5, 0xab));
@@ -119,16 +129,15 @@ fn joins_the_parts_of_a_position(rt: HostRuntime) -> Result<(), Fail> {
             && rebuild.row(0) == altitude(1, 1, 5)
             && rebuild.row(1) == position(0, 703_710)
     );
-    Ok(())
 }
 
 // A frame that is apart, or whose counter isn't the next, is joined with none before it.
 #[test]
-fn joins_no_parts_over_a_gap(rt: HostRuntime) -> Result<(), Fail> {
+fn joins_no_parts_over_a_gap(rt: HostRuntime) {
     for (before, adjacent, counter) in [(0, false, 1), (0, true, 17), (2, true, 1)] {
         let first = frame_of(before, 5, 0xcde);
         let second = frame_of(counter, 5, 0xab);
-        let mut rebuild = rebuild_by(rt.alloc(), POSITION)?;
+        let mut rebuild = rebuild_by(&rt, rt.alloc(), POSITION);
         rebuild.frame(false, &first);
         rebuild.frame(adjacent, &second);
         assert!(rt;
@@ -137,5 +146,4 @@ fn joins_no_parts_over_a_gap(rt: HostRuntime) -> Result<(), Fail> {
                 && rebuild.row(1) == None
         );
     }
-    Ok(())
 }

@@ -2,7 +2,7 @@ use Rattle.std.proofs.Common.{◌≡◌, length}
 use Rattle.fdr_cases_values.proofs.exceedances.drain.Given as goal
 
 abbrev pub invariant-loop-line : goal.invariant-loop-line
-invariant-loop-line l = l.watch.rows ≡ l.initial.watch.rows
+invariant-loop-line g l = l.watch.rows ≡ l.initial.watch.rows
 
 abbrev pub decreases-loop-line : goal.decreases-loop-line
-decreases-loop-line l = length l.watch.due
+decreases-loop-line g l = length l.watch.due
