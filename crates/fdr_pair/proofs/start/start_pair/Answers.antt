@@ -1,5 +1,5 @@
 use Rattle.std.proofs.Common.{◌≡◌, ℕ, ◌+◌, ◌%◌, ◌^◌, Result, Err, refl, sym, ◌∙◌, ap, subst}
-use Rattle.std.specs.Prelude.{IfErr}
+use Rattle.std.specs.Prelude.{IfErr, IfOk}
 use Rattle.std.proofs.lemmas.Result.{err_from_is_err_and}
 use Rattle.fdr_slot.specs.declared.image.Header.{Header}
 use Rattle.fdr_table.specs.Rows.{FrameRow, TableRows}
@@ -18,6 +18,10 @@ use Rattle.fdr_pair.proofs.start.start_pair.Goals as goal
 -- what is so of the answer that is handed on
 answered : (r : Result PairStart PairOutcome) (P : PairOutcome → Type 0) (handed why : PairOutcome) → r ≡ Err handed → handed ≡ why → P why → IfErr r P
 answered r P handed why is same holds = subst (λ (x : Result PairStart PairOutcome). IfErr x P) (sym is) (subst P (sym same) holds)
+
+-- an answer that is a fault started nothing
+unstarted : (r : Result PairStart PairOutcome) (P : PairStart → Type 0) (handed : PairOutcome) → r ≡ Err handed → IfOk r P
+unstarted r P handed is = subst (λ (x : Result PairStart PairOutcome). IfOk x P) (sym is) tt
 
 -- the table's words in a subframe
 words_of : (g : Over) (c : After-open_sides g) → c.words.inside.words ≡ c.args.sound.now.frame.words
@@ -147,3 +151,34 @@ returns-clause-started g c =
     p0 p1 p2 p3 p5 opened found joins gone c.in-Ok-new.ensures c.new-session.ensures.rings (c.new-session.ensures.stands t room) refl
     (keeps_going g.T.Deck.tells t.frame.words o p0 p1 opened p2 p3 (g.met.T.Twin.sound_pair c.args.twin.now) p5
     (g.met.T.Twin.sound_pair c.join_sides.new.twin) c.in_ok-runs.runs j found joins rings gone)
+
+-- ---- nothing else was answered
+
+pub returns-in_err-opened-clause-started : goal.returns-in_err-opened-clause-started
+returns-in_err-opened-clause-started g c =
+    let p = err_from_is_err_and c.from_residual.result c.from_residual.ensures.1 in
+    unstarted c.from_residual.result _ p.0 p.1
+
+pub returns-in_default-clause-started : goal.returns-in_default-clause-started
+returns-in_default-clause-started g c = tt
+
+pub returns-in_default-new-clause-started : goal.returns-in_default-new-clause-started
+returns-in_default-new-clause-started g c = tt
+
+pub returns-in_err-runs-clause-started : goal.returns-in_err-runs-clause-started
+returns-in_err-runs-clause-started g c =
+    let p = err_from_is_err_and c.from_residual-in_err-runs.result c.from_residual-in_err-runs.ensures.1 in
+    unstarted c.from_residual-in_err-runs.result _ p.0 p.1
+
+pub returns-in_err-joined-clause-started : goal.returns-in_err-joined-clause-started
+returns-in_err-joined-clause-started g c =
+    let p = err_from_is_err_and c.from_residual-in_err-joined.result c.from_residual-in_err-joined.ensures.1 in
+    unstarted c.from_residual-in_err-joined.result _ p.0 p.1
+
+pub returns-in_err-rings-clause-started : goal.returns-in_err-rings-clause-started
+returns-in_err-rings-clause-started g c =
+    let p = err_from_is_err_and c.from_residual-in_err-rings.result c.from_residual-in_err-rings.ensures.1 in
+    unstarted c.from_residual-in_err-rings.result _ p.0 p.1
+
+pub returns-clause-refused : goal.returns-clause-refused
+returns-clause-refused g c = tt

@@ -1,13 +1,11 @@
 use Rattle.std.proofs.Common.{rules, ◌≡◌, ◌∙◌, sym, codes, string_bytes, Global}
 use Rattle.fdr_pair.proofs.FourWords.{four_words}
-use Rattle.fdr_pair.proofs.words.read_pair_words.Goals as goal
+use Rattle.fdr_pair.proofs.words.paths_of.Goals as goal
 
 pub returns-clause-form : goal.returns-clause-form
 returns-clause-form c =
     let record_word : string_bytes {Z = Global} c.command-item.result ≡ codes "record" = search rules in
     four_words (string_bytes {Z = Global}) c.args.words.now c.command-item.result c.table-item.result c.first-item.result c.second-item.result
-    (codes "record") c.in_ok-new.field-0 c.in_ok-new-2.field-0 c.in_ok-new-3.field-0
+    (codes "record") _ _ _
     c.in-len4.len_at_least c.in-len4.len_below c.command-item.is c.table-item.is c.first-item.is c.second-item.is record_word
-    (sym c.as_str-table.ensures.value ∙ sym c.in_ok-new.ensures)
-    (sym c.as_str-first.ensures.value ∙ sym c.in_ok-new-2.ensures)
-    (sym c.as_str-second.ensures.value ∙ sym c.in_ok-new-3.ensures)
+    (sym c.as_str-table.ensures.value) (sym c.as_str-first.ensures.value) (sym c.as_str-second.ensures.value)
