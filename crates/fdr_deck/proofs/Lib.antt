@@ -7,3 +7,4 @@ pub mod MemoryPass
 pub mod MemoryWrite
 pub mod MemoryStops
 pub mod Quiet
+pub mod MemorySteps

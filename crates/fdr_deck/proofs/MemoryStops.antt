@@ -109,6 +109,23 @@ IsLeft-more es first i now image next_now next e h is all so_far replayed stoppe
       long = omega (arith, long, ap (λ (l : List ℕ). length l) now_held, ap (λ (l : List ℕ). length l) replayed);
     }
 
+-- after all calls
+IsLeft-whole : (es : List Entry) (first : List ℕ) (i : ℕ) (now image : List ℕ) → i ≡ length es → IsLeft es first i now image
+    → IsLeft es first (length es) now image
+IsLeft-whole es first i now image all so_far = subst (λ (k : ℕ). IsLeft es first k now image) all so_far
+
+pub IsLeft-left : (es : List Entry) (first : List ℕ) (i : ℕ) (now image : List ℕ) → i ≡ length es → IsLeft es first i now image
+    → left_after es first (λ c. c ≡ first) image
+IsLeft-left es first i now image all so_far =
+    subst (λ (l : List Entry). left_after l first (λ c. c ≡ first) image) (take_all (length es) es (omega arith))
+    (IsLeft-whole es first i now image all so_far).left
+
+pub IsLeft-long : (es : List Entry) (first : List ℕ) (i : ℕ) (now image : List ℕ) → i ≡ length es → IsLeft es first i now image
+    → length (held_after es first) ≤ length image
+IsLeft-long es first i now image all so_far =
+    subst (λ (l : List Entry). length (held_after l first) ≤ length image) (take_all (length es) es (omega arith))
+    (IsLeft-whole es first i now image all so_far).long
+
 -- one call more
 image_at-push : (tear : Tear) (es : List Entry) (e : Entry) (held image : List ℕ)
     → image_at tear (es ++ e ∷ []) (suc (length es)) held image ≡ image_after tear e.call (held_after es held) (image_at tear es (length es) held image)

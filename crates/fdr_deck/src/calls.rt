@@ -1,5 +1,7 @@
 //! The calls that the deck in memory has seen.
 
+ghost use Rattle.std.specs.Prelude.{◌≡◌, ◌<◌};
+
 use crate::Announced;
 
 /// What a call did to the disk.
@@ -32,4 +34,13 @@ pub struct Numbers {
 pub struct Entry {
     pub call: Call,
     pub numbers: Numbers,
+}
+
+/// The number of bytes pulled as it was when the last pull that gave bytes began: after one of `count` bytes that began at `at`,
+/// where it was `before`.
+pub fn pull_began(count: usize, at: usize, before: usize) -> usize
+    ensures some { 0 < count → result ≡ at }
+    ensures none { count ≡ 0 → result ≡ before }
+{
+    if count > 0 { at } else { before }
 }

@@ -16,7 +16,7 @@ ghost use Rattle.fdr_deck.specs.Stops.{stopped_image};
 ghost use Rattle.fdr_deck.specs.declared.calls.Entry.{Entry};
 ghost use Rattle.fdr_deck.specs.declared.calls.Call.TheVariants.{Pass, Write, FailedWrite, Sync, Provide, FailedProvide};
 
-use crate::calls::{Call, Entry, Numbers};
+use crate::calls::{Call, Entry, Numbers, pull_began};
 use crate::image::{copy_from, copy_of, patch, zeros_of};
 use crate::stops::{Tear, stop_at};
 use crate::{Announced, Deck, NoMemory};
@@ -161,10 +161,33 @@ impl MemDeck {
         match self.entries.push(entry) {
             Ok(()) => {
                 self.numbers.announced.begin_anew();
-                Ok(())
+                return Ok(());
             }
-            Err(_) => Err(NoMemory),
+            Err(_) => return Err(NoMemory),
         }
+    }
+
+    /// Counts a fault of the disk.
+    fn count_fault(&mut self) -> Failed
+        ensures unentered { IsUnentered self.old self.new }
+        ensures pulled { KeepsPulled self.old self.new }
+        ensures disk_faults { self.new.disk_faults ≡ next_count self.old.disk_faults }
+        ensures monotone { self.old.disk_faults ≤ self.new.disk_faults }
+    {
+        self.disk_faults = self.disk_faults.saturating_add(1);
+        Failed
+    }
+
+    /// Counts a fault of the input.
+    fn count_input_fault(&mut self) -> Failed
+        ensures unentered { IsUnentered self.old self.new }
+        ensures input_faults { self.new.input_faults ≡ next_count self.old.input_faults }
+        ensures monotone { self.old.input_faults ≤ self.new.input_faults }
+        ensures input { self.new.input ≡ self.old.input }
+        ensures disk_faults { self.new.disk_faults ≡ self.old.disk_faults }
+    {
+        self.input_faults = self.input_faults.saturating_add(1);
+        Failed
     }
 
     // Counts a fault of the disk, and enters the call that failed where there is memory for it.
@@ -176,10 +199,9 @@ impl MemDeck {
         ensures disk_faults { self.new.disk_faults ≡ next_count self.old.disk_faults }
         ensures monotone { self.old.disk_faults ≤ self.new.disk_faults }
     {
-        self.disk_faults = self.disk_faults.saturating_add(1);
         match self.enter(call) {
-            Ok(()) => Failed,
-            Err(NoMemory) => Failed,
+            Ok(()) => self.count_fault(),
+            Err(NoMemory) => self.count_fault(),
         }
     }
 
@@ -195,10 +217,7 @@ impl MemDeck {
     {
         match self.enter_write(at, bytes) {
             Ok(()) => Ok(()),
-            Err(NoMemory) => {
-                self.disk_faults = self.disk_faults.saturating_add(1);
-                Err(Failed)
-            }
+            Err(NoMemory) => Err(self.count_fault()),
         }
     }
 
@@ -214,10 +233,7 @@ impl MemDeck {
     {
         match self.enter_provide(size) {
             Ok(()) => Ok(()),
-            Err(NoMemory) => {
-                self.disk_faults = self.disk_faults.saturating_add(1);
-                Err(Failed)
-            }
+            Err(NoMemory) => Err(self.count_fault()),
         }
     }
 
@@ -232,10 +248,7 @@ impl MemDeck {
     {
         match copy_of(self.alloc, bytes) {
             Ok(copy) => self.fail(Call::FailedWrite { at, bytes: copy }),
-            Err(NoMemory) => {
-                self.disk_faults = self.disk_faults.saturating_add(1);
-                Failed
-            }
+            Err(NoMemory) => self.count_fault(),
         }
     }
 
@@ -255,12 +268,15 @@ impl MemDeck {
         ensures numbered { OnOk result (HasOneCallMore self.old self.new) }
     {
         let fails = self.fails();
-        let entered = self.enter(Call::Pass).is_ok();
-        if fails || !entered {
-            self.input_faults = self.input_faults.saturating_add(1);
-            return Err(Failed);
+        match self.enter(Call::Pass) {
+            Ok(()) => {
+                if fails {
+                    return Err(self.count_input_fault());
+                }
+                Ok(())
+            }
+            Err(NoMemory) => Err(self.count_input_fault()),
         }
-        Ok(())
     }
 
     // Announces this number.
@@ -295,9 +311,7 @@ impl MemDeck {
         ensures input_faults { self.new.input_faults ≡ self.old.input_faults }
     {
         let n = copy_next(&self.input, self.numbers.taken, buf);
-        if n > 0 {
-            self.numbers.pulled_before = self.numbers.taken;
-        }
+        self.numbers.pulled_before = pull_began(n, self.numbers.taken, self.numbers.pulled_before);
         self.numbers.taken += n;
         n
     }
@@ -321,10 +335,7 @@ impl MemDeck {
         }
         match self.enter(call) {
             Ok(()) => Ok(()),
-            Err(NoMemory) => {
-                self.disk_faults = self.disk_faults.saturating_add(1);
-                Err(Failed)
-            }
+            Err(NoMemory) => Err(self.count_fault()),
         }
     }
 

@@ -9,6 +9,7 @@ ghost use Rattle.fdr_deck.specs.Announced.{least_announced, greatest_announced};
 ghost use Rattle.fdr_deck.specs.Sure.{sure_state, sure_tells, sure_is_sound};
 ghost use Rattle.fdr_io.specs.Faults.{Rose};
 
+use crate::calls::pull_began;
 use crate::image::{copy_from, patch};
 use crate::{Announced, Deck};
 use fdr_io::{Failed, copy_next};
@@ -182,9 +183,7 @@ impl Deck for SureDeck {
     {
         self.announced.begin_anew();
         let n = copy_next(&self.input, self.at, buf);
-        if n > 0 {
-            self.pulled_before = self.at;
-        }
+        self.pulled_before = pull_began(n, self.at, self.pulled_before);
         self.at += n;
         Ok(n)
     }

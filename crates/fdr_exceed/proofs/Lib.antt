@@ -4,6 +4,7 @@ pub mod Greatests
 pub mod Falling
 pub mod Windows
 pub mod HitLists
+pub mod Nexts
 pub mod Stepping
 pub mod Standing
 pub mod LineLengths

@@ -6,12 +6,14 @@ use Rattle.std.specs.Option.{option_to_list}
 use Rattle.std.proofs.Math.Seq.{drop-append_seam}
 use Rattle.std.proofs.lemmas.List.{drop-drop}
 use Rattle.std.proofs.lemmas.Option.{get_or_from_slice_get, slice_get_within}
+use Rattle.std.proofs.lemmas.List.Elements.{All-drop}
+use Rattle.circular_buffer.specs.Buffer.{Buffer, buffer}
 use Rattle.circular_buffer.proofs.Places.{slice_get-drop}
 use Rattle.fdr_exceed.specs.declared.rule.Rule.{Rule}
 use Rattle.fdr_exceed.specs.declared.hits.Hits.{Hits}
 use Rattle.fdr_exceed.specs.declared.watch.Exceedance.{Exceedance}
 use Rattle.fdr_exceed.specs.Exceedances.{WatchStep, exceedances}
-use Rattle.fdr_exceed.specs.Watching.{AreHits, RepresentsWatch, WatchKept, line_due, due_to}
+use Rattle.fdr_exceed.specs.Watching.{AreHits, IsWatchKept, RepresentsWatch, WatchKept, line_due, due_to}
 use Rattle.fdr_exceed.proofs.Stepping.{due-lines, exceedances-push, lines_of_step}
 
 kept_hits : (w next : WatchKept) (steps : List WatchStep) → next.rules ≡ w.rules → next.hits ≡ w.hits → AreHits w.rules steps w.hits
@@ -115,3 +117,30 @@ stands-given w next rules hits later due steps s taken stands nothing rules_is h
     stands-step w next steps s taken stands nothing next_rules
     (subst (AreHits w.rules (steps ++ s ∷ [])) (sym next_hits) (subst (λ (rs : List Rule). AreHits rs (steps ++ s ∷ []) later) rules_is (goes are)))
     (next_due ∙ ends are ∙ ap (λ (rs : List Rule). due_to rs steps s (length rs)) rules_is)
+
+-- nothing was due, and nothing is
+pub due-empty : (due : List Exceedance) → slice_get due 0 ≡ None → due ≡ []
+due-empty [] none = refl
+due-empty (e ∷ due) none = absurd (cc)
+
+pub due-none : (due left : List Exceedance) → slice_get due 0 ≡ None → left ≡ drop 1 due → left ≡ []
+due-none due left none is = is ∙ ap (drop 1) (due-empty due none)
+
+-- the first of those that are due was taken
+pub due-one-less : (due left : List Exceedance) (e : Exceedance) → slice_get due 0 ≡ Some e → left ≡ drop 1 due → length left + 1 ≡ length due
+due-one-less due left e first is = omega (arith, slice_get_within due 0 e first, ap (length {A = Exceedance}) is, length-drop 1 due)
+
+-- what holds of a watch still holds with fewer due
+pub kept-less : (w : WatchKept) (capacity : ℕ) (first_of next_of : List ℕ) (due : Buffer Exceedance) → IsWatchKept w capacity first_of next_of
+    → due ≡ buffer (drop 1 w.due) capacity
+    → IsWatchKept (record { rules = w.rules; hits = w.hits; due = due.items; rows = w.rows }) due.capacity first_of next_of
+kept-less w capacity first_of next_of due kept is = record {
+  rules = kept.rules;
+  hits = kept.hits;
+  first = kept.first;
+  next = kept.next;
+  room = ap (λ (b : Buffer Exceedance). b.capacity) is ∙ kept.room;
+  due = subst (All (λ (e : Exceedance). e.rule < length w.rules)) (sym (ap (λ (b : Buffer Exceedance). b.items) is))
+      (All-drop (λ (e : Exceedance). e.rule < length w.rules) 1 w.due kept.due);
+  short = kept.short;
+}

@@ -1,7 +1,7 @@
 -- A step given to the rules one after another.
 use Rattle.std.proofs.Common.{◌≡◌, ◌≢◌, ◌∙◌, ap, sym, refl, subst, ℕ, zero, suc, ◌+◌, ◌-◌, ◌<◌, ◌≤◌, ⊎_elim, Bool, true, false, ◌==◌}
 use Rattle.std.proofs.Common.{List, [], ◌∷◌}
-use Rattle.std.proofs.Common.{◌++◌, length, map, take, get_or, set, Option, Some, None, arith, add-zero, zero-add, append_assoc}
+use Rattle.std.proofs.Common.{◌++◌, length, map, take, drop, get_or, set, Option, Some, None, arith, add-zero, zero-add, append_assoc}
 use Rattle.std.proofs.Common.{length-append, get_or-set_same, get_or-set_other}
 use Rattle.std.specs.Prelude.{option_map, filter_map, if◌then◌else◌, All, IfSome}
 use Rattle.std.specs.List.{cons_option, flat_map, range_with_len}
@@ -13,6 +13,7 @@ use Rattle.std.proofs.lemmas.List.Elements.{All-append, All-cons, All-nil, filte
 use Rattle.std.proofs.lemmas.Option.{get_or_from_slice_get, slice_get-get_or}
 use Rattle.std.proofs.lemmas.List.Sums.{fold_push}
 use Rattle.std.proofs.Math.Seq.{take-append_seam, get_or-append_seam}
+use Rattle.circular_buffer.specs.Buffer.{Buffer, buffer, keep_last}
 use Rattle.fdr_lists.proofs.Ranges.{range_suc, range_more}
 use Rattle.fdr_recon.specs.declared.Row.{Row}
 use Rattle.fdr_exceed.specs.declared.hits.HitList.{HitList}
@@ -259,6 +260,14 @@ pub row-ends : (rule : Rule) (r : Row) (old : Hits) (ended : Option HitList) →
     → (rows : List Row) → IsHits rule rows old → ended ≡ ended_by rule rows (RowStep r)
 row-ends rule r old ended same ends rows at =
     ends rows at ∙ sym (cond-true _ (ended_before rule rows r) None (own_param r.param rule.param same))
+
+-- the exceedance that was added, where there was room
+pub due-pushed : (due new : Buffer Exceedance) (k : ℕ) (ended : Option HitList) (list : HitList) → ended ≡ Some list → length due.items < due.capacity
+    → new ≡ buffer (keep_last due.capacity (due.items ++ record { rule = k; list = list } ∷ [])) due.capacity → new.items ≡ with_ended due.items k ended
+due-pushed due new k ended list is room pushed =
+    let all : List Exceedance = due.items ++ record { rule = k; list = list } ∷ [] in
+    let none : length all - due.capacity ≡ 0 = omega (arith, room, length-append due.items (record { rule = k; list = list } ∷ [])) in
+    ap (λ (b : Buffer Exceedance). b.items) pushed ∙ ap (λ n. drop n all) none ∙ ap (with_ended due.items k) (sym is)
 
 ended_few : (due : List Exceedance) (o : Option Exceedance) (n : ℕ) → length due ≤ n → length (due ++ cons_option o []) ≤ n + 1
 ended_few due None n few = omega (arith, length-append due [])

@@ -1,15 +1,17 @@
-ghost use Rattle.std.specs.Prelude.{◌≡◌, ◌<◌, ℕ, true, IfOk, Err, Some, None, length};
+ghost use Rattle.std.specs.Prelude.{◌≡◌, ◌<◌, ◌≤◌, ◌++◌, ◌∷◌, [], ℕ, true, IfOk, OnOk, Err, Some, None, length, map};
 ghost use Rattle.csv.specs.Reading.{error_kind, stops_reader};
+ghost use Rattle.csv.specs.Records.{fields_of};
 ghost use Rattle.fdr_table.specs.Reading.{records_of};
-ghost use Rattle.fdr_exceed.specs.Rules.{AreRulesInRange, most_rule_bytes};
+ghost use Rattle.fdr_exceed.specs.Rules.{AreRulesInRange, IsRuleInRange, most_rule_bytes, most_rules};
 ghost use Rattle.fdr_exceed.specs.RuleAnswers.{rule_refused};
-ghost use Rattle.fdr_exceed.specs.RuleFaults.{first_rule_fault, rules_fault, rules_of};
+ghost use Rattle.fdr_exceed.specs.RuleFaults.{first_rule_fault, rule_fault, rule_of, rules_fault, rules_of};
 ghost use Rattle.fdr_exceed.specs.declared.fault.RuleFault.{RuleFault};
 ghost use Rattle.fdr_exceed.specs.declared.fault.RuleFault.TheVariants as fault;
+ghost use Rattle.fdr_exceed.specs.declared.rule.Rule.{Rule};
 
 use crate::fault::{RuleFault, RulesError, refused};
 use crate::rule::{Rule, read_rule};
-use csv::{Error, ErrorKind, ReaderBuilder};
+use csv::{ByteRecord, Error, ErrorKind, ReaderBuilder};
 use fdr_table::{NoMemory, Table};
 use std::alloc::Global;
 use std::marker::Model;
@@ -88,18 +90,31 @@ fn read_rules(alloc: Global, bytes: &[u8], table: &Table) -> Result<Vec<Rule>, R
         .from_reader(alloc, bytes);
     let mut rules = Vec::new(alloc);
     for row in reader.into_byte_records() {
-        let row = match row {
-            Ok(row) => row,
+        match row {
+            Ok(row) => add_rule(&mut rules, table, &row)?,
             Err(error) => return Err(want_of_memory(&error).into()),
-        };
-        match read_rule(&row, table, &rules) {
-            Ok(rule) => {
-                if rules.push(rule).is_err() {
-                    return Err(RulesError::NoMemory);
-                }
-            }
-            Err(fault) => return Err(refused(rules.len() as u32, fault)),
         }
     }
     Ok(rules)
+}
+
+/// Adds the rule of a record below those of the rules above it.
+fn add_rule(rules: &mut Vec<Rule>, table: &Table, row: &ByteRecord) -> Result<(), RulesError>
+    requires { length rules.old.items ≤ most_rules }
+    ensures rule { OnOk result (rules.new.items ≡ rules.old.items ++ rule_of table.now (fields_of row.now) ∷ []) }
+    ensures no_fault { OnOk result (rule_fault table.now (map (λ (a : Rule). a.name) rules.old.items) (fields_of row.now) ≡ None) }
+    ensures range { OnOk result (IsRuleInRange (length table.now.params) (rule_of table.now (fields_of row.now))) }
+    ensures few { OnOk result (length rules.old.items < most_rules) }
+    ensures refused { (i : ℕ) (f : RuleFault) → result ≡ Err (rule_refused i f) → (i ≡ length rules.old.items)
+        × (rule_fault table.now (map (λ (a : Rule). a.name) rules.old.items) (fields_of row.now) ≡ Some f) }
+{
+    match read_rule(row, table, rules) {
+        Ok(rule) => {
+            if rules.push(rule).is_err() {
+                return Err(RulesError::NoMemory);
+            }
+            Ok(())
+        }
+        Err(fault) => Err(refused(rules.len() as u32, fault)),
+    }
 }

@@ -1,2 +1,3 @@
+pub mod LineParts
 pub mod RowLines
 pub mod Sizes

@@ -8,7 +8,8 @@ use Rattle.fdr_deck.specs.State.{State, Tells}
 use Rattle.fdr_deck.specs.Pull.{GivesPiece, TakesInput}
 use Rattle.fdr_deck.proofs.Line.{TakesInput-then}
 use Rattle.fdr_io.specs.Limits.{piece_bytes}
-use Rattle.fdr_pieces.specs.Pieces.{PullsPieces, before_last, last_piece}
+use Rattle.fdr_pieces.specs.Pieces.{PullsPieces, EndsInput, before_last, last_piece}
+use Rattle.fdr_pieces.specs.declared.pieces.InputEnd.TheVariants as input_end
 
 -- a pull takes its bytes of the input
 pulls_line : (tells : Tells) (old new : State) (buffer : List ℕ) (n : ℕ) → n ≤ length buffer → GivesPiece tells old new buffer n
@@ -60,6 +61,67 @@ pieces_stay limit tells first old new bytes before taken began line = record {
   begun_within_limit = λ any. omega (arith, before.begun_within_limit any, began);
   bounded = before.bounded;
 }
+
+-- a pull that finds the end
+pub pieces_ended : (limit : ℕ) (tells : Tells) (first old new : State) (bytes buffer : List ℕ) (n : ℕ) → PullsPieces limit tells first old bytes → n ≡ 0
+    → GivesPiece tells old new buffer n → PullsPieces limit tells first new bytes
+pieces_ended limit tells first old new bytes buffer n before none pulls =
+    pieces_stay limit tells first old new bytes before (omega (arith, pulls.taken, none)) (pulls.ended none)
+    (λ told. pulls.left told ∙ ap (λ (k : ℕ). drop k old.input) none)
+
+-- the end of the input, of which no more was left than is taken
+pub ends_at_end : (limit : ℕ) (tells : Tells) (old new : State) (bytes buffer : List ℕ) (n : ℕ) → length bytes ≤ limit → n ≡ 0
+    → GivesPiece tells old new buffer n → EndsInput limit tells new bytes input_end.End
+ends_at_end limit tells old new bytes buffer n few none pulls = record {
+  end_within_limit = λ end. few;
+  fault_within_limit = λ end. few;
+  many = λ end. absurd (cc);
+  empty = λ end told. pulls.left told ∙ ap (λ (k : ℕ). drop k old.input) none ∙ (pulls.given told).end.0 none;
+}
+
+-- a pull that failed
+pub ends_at_fault : (limit : ℕ) (tells : Tells) (new : State) (bytes : List ℕ) → length bytes ≤ limit → EndsInput limit tells new bytes input_end.Fault
+ends_at_fault limit tells new bytes few = record {
+  end_within_limit = λ end. few;
+  fault_within_limit = λ end. few;
+  many = λ end. absurd (cc);
+  empty = λ end told. absurd (cc);
+}
+
+-- more bytes than are taken
+pub ends_too_long : (limit : ℕ) (tells : Tells) (new : State) (bytes : List ℕ) → limit < length bytes → EndsInput limit tells new bytes input_end.TooLong
+ends_too_long limit tells new bytes more = record {
+  end_within_limit = λ end. absurd (cc);
+  fault_within_limit = λ end. absurd (cc);
+  many = λ end. more;
+  empty = λ end told. absurd (cc);
+}
+
+-- what is taken and what is left are the limit together
+pub within_limit : (limit left : ℕ) (bytes : List ℕ) → length bytes + left ≡ limit → length bytes ≤ limit
+within_limit limit left bytes room = omega (arith, room)
+
+-- a piece more, of which as much is taken as is left, is within the most that is taken
+pub taken_within : (most limit left n k : ℕ) (bytes buffer : List ℕ) → limit ≤ most → length bytes + left ≡ limit → k ≡ min n left
+    → length bytes + length (take k buffer) ≤ most
+taken_within most limit left n k bytes buffer few room is = omega (arith, few, room, is, length-take k buffer)
+
+-- where less is taken than came, more came than the limit
+pub more_than_limit : (limit left n k : ℕ) (bytes buffer : List ℕ) → length bytes + left ≡ limit → n ≤ length buffer → k ≡ min n left → k < n
+    → limit < length (bytes ++ take n buffer)
+more_than_limit limit left n k bytes buffer room within is less =
+    omega (arith, room, within, is, less, length-append bytes (take n buffer), length-take n buffer)
+
+-- what is left after a piece that was taken whole
+pub left_after : (limit left n k : ℕ) (bytes buffer : List ℕ) → length bytes + left ≡ limit → n ≤ length buffer → k ≡ min n left → n ≤ k
+    → length (bytes ++ take n buffer) + (left - k) ≡ limit
+left_after limit left n k bytes buffer room within is all =
+    omega (arith, room, within, is, all, length-append bytes (take n buffer), length-take n buffer)
+
+-- at most a piece more than the limit was pulled
+pub taken_bounded : (limit : ℕ) (tells : Tells) (old new : State) (bytes : List ℕ) → PullsPieces limit tells old new bytes
+    → new.taken ≤ old.taken + limit + piece_bytes
+taken_bounded limit tells old new bytes pulls = omega (arith, pulls.takes.taken, pulls.bounded)
 
 -- of a piece as much is taken as is left
 pub taken_of_piece : (limit : ℕ) (bytes buffer : List ℕ) (left n : ℕ) → length bytes + left ≡ limit

@@ -6,9 +6,7 @@ use Rattle.fdr_recover.specs.declared.error.RingFault.TheVariants as ring
 use Rattle.fdr_recorder.specs.declared.error.SessionFault.{SessionFault}
 use Rattle.fdr_recorder.specs.declared.error.SessionFault.TheVariants as fault
 use Rattle.fdr_recorder.specs.Faults.{session_fault}
-
-err_same : {T E : Type 0} (x y : E) → ◌≡◌ {A = Result T E} (Err x) (Err y) → x ≡ y
-err_same x y e = cc
+use Rattle.fdr_recorder.proofs.Refused.{err_same}
 
 is_seq_end : (e : RingFault) → session_fault e ≡ fault.SeqEnd → e ≡ ring.SeqEnd
 is_seq_end ring.NotEmpty is = absurd (cc)

@@ -4,6 +4,7 @@ pub mod Adding
 pub mod Feeding
 pub mod Starting
 pub mod Closing
+pub mod Refused
 pub mod Ended
 pub mod Joined
 pub mod ReadRecords

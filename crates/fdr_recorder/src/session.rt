@@ -4,11 +4,12 @@ ghost use Rattle.std.specs.Prelude.{◌≡◌, ◌≢◌, ◌⊎◌, ◌↔◌, 
 ghost use Rattle.fdr_io.specs.Faults.{Rose};
 ghost use Rattle.fdr_deck.specs.Disk.{KeepsDisk, LearnsExtent};
 ghost use Rattle.fdr_deck.specs.Calls.{KeepsAnnounced};
-ghost use Rattle.fdr_slot.specs.Limits.{sequence_end};
+ghost use Rattle.fdr_slot.specs.Limits.{least_payload_bytes, most_payload_bytes, sequence_end};
 ghost use Rattle.fdr_slot.specs.declared.image.ImageFault.{ImageFault};
 ghost use Rattle.fdr_slot.specs.declared.image.ImageFault.TheVariants as image_fault;
 ghost use Rattle.fdr_recover.specs.ImageHeader.{IsFor, image_fault_of, header_in};
 ghost use Rattle.fdr_ring.specs.Rings.{IsRing, IsSureRing};
+ghost use Rattle.fdr_stream.specs.Past.{RepresentsStream, stream_made};
 ghost use Rattle.fdr_recorder.specs.Recording.{RecordsFirstOf, RecordsAllOf, HasEnded};
 
 use crate::SessionFault;
@@ -82,17 +83,15 @@ impl Session {
         if header.version == 1 {
             return Err(SessionFault::OldVersion);
         }
-        let stream = Stream::new(alloc, sound, header.payload)?;
-        let stream = boxed(alloc, stream)?;
-        let block = boxed(alloc, [0; MAX_PAYLOAD])?;
+        let memory = memory_of(alloc, sound, header.payload)?;
         let ring = Ring::attach(deck, header)?;
         let session = ring.session().wrapping_add(1);
         deck.announce(ring.next());
         Ok(Session {
             ring,
             session,
-            stream,
-            block,
+            stream: memory.stream,
+            block: memory.block,
         })
     }
 
@@ -196,6 +195,26 @@ fn boxed<T: Drop>(alloc: Global, value: T) -> Result<Box<T>, NoMemory>
         Ok(boxed) => Ok(boxed),
         Err(_) => Err(NoMemory),
     }
+}
+
+/// The memory of a recording.
+#[derive(Drop)]
+struct Memory {
+    stream: Box<Stream>,
+    block: Box<[u8; MAX_PAYLOAD]>,
+}
+
+/// Takes all memory of a recording by a table, in blocks of `payload` bytes.
+fn memory_of(alloc: Global, sound: &Sound, payload: u32) -> Result<Memory, NoMemory>
+    requires low { least_payload_bytes ≤ payload }
+    requires high { payload ≤ most_payload_bytes }
+    ensures stream { IfOk result (λ m. RepresentsStream m.stream.value (stream_made sound.now payload)) }
+    ensures block { IfOk result (λ m. length m.block.value ≡ 4096) }
+{
+    let stream = Stream::new(alloc, sound, payload)?;
+    let stream = boxed(alloc, stream)?;
+    let block = boxed(alloc, [0; MAX_PAYLOAD])?;
+    Ok(Memory { stream, block })
 }
 
 /// Adds a block of a session and announces it. The call stays one: at most records no block is due.

@@ -10,4 +10,5 @@ pub mod Stretching
 pub mod Sessions
 pub mod Between
 pub mod Handing
+pub mod Refused
 pub mod Contents

@@ -1,5 +1,9 @@
 -- Bounds of the numbers that a value is computed by.
-use Rattle.std.proofs.Common.{◌≡◌, sym, ap, subst, ℕ, ◌*◌, ◌%◌, ◌^◌, ◌<◌, ◌≤◌, ℤ, pos, negsuc, ◌-ℤ◌, ◌*ℤ◌, ◌≤ℤ◌, neg_ℤ, unsigned_abs}
+use Rattle.std.proofs.Common.{◌≡◌, refl, sym, ap, subst, ℕ, ◌*◌, ◌%◌, ◌^◌, ◌<◌, ◌≤◌, ℤ, pos, negsuc, true, nat_le, ◌-◌, ◌-ℤ◌, ◌*ℤ◌, ◌≤ℤ◌, neg_ℤ, unsigned_abs}
+use lib.Signed.{le_z}
+use Rattle.std.proofs.lemmas.Bool.{le-leb}
+use Rattle.fdr_table.specs.Rows.{ParamRow}
+use Rattle.fdr_table.specs.Value.{signed_of}
 use Rattle.std.proofs.Common.{arith, mul-le-mul, div-le_self, FitsSigned, w64, to_z, of_z}
 use Rattle.std.specs.Int.{int_div_euclid}
 use Rattle.std.proofs.Math.Nat.{pow-le-pow_right}
@@ -68,3 +72,26 @@ turned-within z raw width is below narrow =
     let within = below-zero raw width below narrow in
     let fits : FitsSigned w64 (pos raw -ℤ pos (2 ^ width)) = omega (arith, ints, within.0, within.1) in
     rw (is, turned raw width below narrow, to_z-of_z w64 (pos raw -ℤ pos (2 ^ width)) fits) within
+
+-- the code computes the number below 0
+pub turned-is : (z : ℤ) (raw width : ℕ) → z ≡ pos raw → raw < 2 ^ width → width ≤ 32
+    → to_z w64 (of_z w64 (to_z w64 (of_z w64 z) -ℤ to_z w64 (1 * 2 ^ width % 2 ^ 64))) ≡ pos raw -ℤ pos (2 ^ width)
+turned-is z raw width is below narrow =
+    let within = below-zero raw width below narrow in
+    let fits : FitsSigned w64 (pos raw -ℤ pos (2 ^ width)) = omega (arith, ints, within.0, within.1) in
+    rw (is, turned raw width below narrow, to_z-of_z w64 (pos raw -ℤ pos (2 ^ width)) fits) refl
+
+-- the code's test says that the highest bit of a field is set
+pub highest-set : (z : ℤ) (raw width : ℕ) → z ≡ pos raw → raw < 2 ^ width → width ≤ 32
+    → le_z (to_z w64 (1 * 2 ^ (width - 1) % 2 ^ 64)) (to_z w64 (of_z w64 z)) ≡ true → 2 ^ (width - 1) ≤ raw
+highest-set z raw width is below narrow test =
+    let most : 2 ^ width ≤ 2 ^ 32 = pow-le-pow_right (omega arith) narrow in
+    let lower : width - 1 ≤ 32 = omega (arith, narrow) in
+    let half : 2 ^ (width - 1) ≤ 2 ^ 32 = pow-le-pow_right (omega arith) lower in
+    grind (arith, ints)
+
+-- a signed field with its highest bit set is below 0
+pub signed-below : (p : ParamRow) (raw : ℕ) → p.signed ≡ true → 2 ^ (p.width - 1) ≤ raw → pos raw -ℤ pos (2 ^ p.width) ≡ signed_of p raw
+signed-below p raw is high =
+    let set : nat_le (2 ^ (p.width - 1)) raw ≡ true = le-leb (2 ^ (p.width - 1)) raw high in
+    rw (is, set) refl

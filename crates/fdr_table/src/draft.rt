@@ -64,22 +64,44 @@ impl Draft {
         ensures refused { (row : ℕ) (f : TableFault) → result ≡ Err (refused row f)
             → first_fault (records_of bytes.now) ≡ Some (row, f) }
     {
+        let mut draft = Draft::new(alloc);
+        draft.take_rows(alloc, bytes)?;
+        Ok(draft)
+    }
+
+    /// Adds the rows of these bytes to a draft of no rows.
+    fn take_rows(&mut self, alloc: Global, bytes: &[u8]) -> Result<(), TableError>
+        requires size { length bytes.now ≤ most_table_bytes }
+        requires empty { IsDraft [] self.old }
+        ensures draft { IfOk result (λ _. IsDraft (records_of bytes.now) self.new) }
+        ensures refused { (row : ℕ) (f : TableFault) → result ≡ Err (refused row f)
+            → first_fault (records_of bytes.now) ≡ Some (row, f) }
+    {
         let reader = ReaderBuilder::new()
             .has_headers(false)
             .flexible(true)
             .from_reader(alloc, bytes);
-        let mut draft = Draft::new(alloc);
         for row in reader.into_byte_records() {
-            let row = match row {
-                Ok(row) => row,
+            match row {
+                Ok(row) => self.take_row(alloc, &row)?,
                 Err(error) => return Err(want_of_memory(&error).into()),
-            };
-            match draft.read_row(&row) {
-                Ok(entry) => draft.add(alloc, entry)?,
-                Err(fault) => return Err(refused(draft.rows, fault)),
             }
         }
-        Ok(draft)
+        Ok(())
+    }
+
+    /// Adds the next row, or tells its first fault.
+    fn take_row(&mut self, alloc: Global, row: &ByteRecord) -> Result<(), TableError>
+        requires room { self.old.rows < 4294967295 }
+        ensures draft { IfOk result (λ _. IsNextDraft self.old (fields_of row.now) self.new) }
+        ensures refused { (number : ℕ) (f : TableFault) → result ≡ Err (refused number f)
+            → (number ≡ self.old.rows) × IsNextFault self.old (fields_of row.now) f }
+    {
+        match self.read_row(row) {
+            Ok(entry) => self.add(alloc, entry)?,
+            Err(fault) => return Err(refused(self.rows, fault)),
+        }
+        Ok(())
     }
 
     /// The draft of no rows.

@@ -122,5 +122,13 @@ fn scaled(raw: i64, num: i64, den: i64) -> i64
     if den == 1 {
         return product;
     }
+    quotient(product, den)
+}
+
+/// `product / den`, rounded down.
+fn quotient(product: i64, den: i64) -> i64
+    requires { pos 1 ≤ℤ den }
+    ensures { result ≡ int_div_euclid product den }
+{
     product.div_euclid(den)
 }

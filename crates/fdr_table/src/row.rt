@@ -15,7 +15,7 @@ use crate::sign::Sign;
 use csv::ByteRecord;
 
 /// What a row is for.
-#[derive(Clone, Copy, Debug, PartialEq, Eq)]
+#[derive(Clone, Copy)]
 pub(crate) enum RowKind {
     Frame,
     Param,

@@ -2,7 +2,7 @@ ghost use Rattle.std.specs.Prelude.{◌≡◌, IfSome, IsTrue, false};
 ghost use Rattle.fdr_table.specs.Fields.{sign_of, is_signed, is_telling};
 
 /// How a parameter's field is read.
-#[derive(Clone, Copy, Debug, PartialEq, Eq)]
+#[derive(Clone, Copy)]
 pub(crate) enum Sign {
     /// `U`: the bits are a number without a sign.
     Unsigned,

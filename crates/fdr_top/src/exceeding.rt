@@ -363,15 +363,15 @@ fn write_exceedances<D: Deck, O: Sink>(
     }
 }
 
-/// Makes what watches for the exceedances of rules.
-fn watching(alloc: Global, rules: Rules, buffer: OutBuffer) -> Result<ExceedanceWriter, NoMemory>
+/// Makes what watches for the exceedances of rules, with no line that waits.
+fn watching(alloc: Global, rules: Rules) -> Result<ExceedanceWriter, NoMemory>
     ensures stands { IfOk result (λ w. RepresentsWatch w.watch [] 0) }
     ensures rules { IfOk result (λ w. w.watch.rules ≡ rules) }
     ensures rows { IfOk result (λ w. w.watch.rows ≡ 0) }
-    ensures waits { IfOk result (λ w. w.waits ≡ buffer) }
+    ensures waits { IfOk result (λ w. w.waits ≡ []) }
 {
     let watch = Watch::new(alloc, rules)?;
-    Ok(ExceedanceWriter::new(watch, buffer))
+    Ok(ExceedanceWriter::new(watch, OutBuffer::new(alloc)?))
 }
 
 /// Lists the exceedances of the rules on the deck's input in the blocks that its image holds.
@@ -403,14 +403,11 @@ fn list_exceedances<D: Deck, O: Sink>(
         Ok(reader) => reader,
         Err(answer) => return answer,
     };
-    let Ok(buffer) = OutBuffer::new(alloc) else {
-        return Outcome::NoMemory;
-    };
     let rules = match pull_rules(alloc, sound.table(), deck) {
         Ok(rules) => rules,
         Err(answer) => return answer,
     };
-    let Ok(taker) = watching(alloc, rules, buffer) else {
+    let Ok(taker) = watching(alloc, rules) else {
         return Outcome::NoMemory;
     };
     let ImageReader { header, events } = reader;

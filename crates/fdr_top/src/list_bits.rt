@@ -20,7 +20,7 @@ use fdr_deck::Deck;
 use fdr_io::{Failed, Sink};
 use fdr_pieces::{InputEnd, MAX_INPUT_BYTES, PieceTaker, take_pieces};
 use fdr_readout::{EventReader, LineWriter, take_piece, take_rest};
-use fdr_table::Table;
+use fdr_table::{NoMemory, Table};
 use std::alloc::Global;
 
 /// Lists the pieces of an input by a table. The lines of all that they decide are written before the next piece.
@@ -29,6 +29,24 @@ struct LineListing<'t> {
     table: &'t Table,
     reader: EventReader,
     lines: LineWriter,
+}
+
+impl<'t> LineListing<'t> {
+    ghost use Rattle.std.specs.Prelude.{◌≡◌, [], IfOk};
+    ghost use Rattle.fdr_readout.specs.Reading.{ReadsEvents, decided_past};
+
+    /// A listing of no pieces.
+    fn new(alloc: Global, sound: &'t Sound) -> Result<LineListing<'t>, NoMemory>
+        ensures table { IfOk result (λ l. l.table.now ≡ sound.now) }
+        ensures fresh { IfOk result (λ l. ReadsEvents sound.now l.reader (decided_past sound.now.frame.words [])) }
+        ensures empty { IfOk result (λ l. l.lines ≡ []) }
+    {
+        Ok(LineListing {
+            table: sound.table(),
+            reader: EventReader::new(alloc, sound)?,
+            lines: LineWriter::new(alloc)?,
+        })
+    }
 }
 
 impl<'t, O: Sink> PieceTaker<O> for LineListing<'t> {
@@ -97,16 +115,8 @@ pub fn list_line<D: Deck, O: Sink>(
     ensures announced { (D.state deck.new).announced ≡ (D.state deck.old).announced }
     ensures bounded { (D.state deck.new).taken ≤ (D.state deck.old).taken + most_input_bytes + piece_bytes }
 {
-    let Ok(reader) = EventReader::new(alloc, sound) else {
+    let Ok(mut listing) = LineListing::new(alloc, sound) else {
         return Outcome::NoMemory;
-    };
-    let Ok(lines) = LineWriter::new(alloc) else {
-        return Outcome::NoMemory;
-    };
-    let mut listing = LineListing {
-        table: sound.table(),
-        reader,
-        lines,
     };
     match write_line(&mut listing, deck, out) {
         Ok(end) => answer_of(end),

@@ -1,7 +1,8 @@
 use Rattle.std.proofs.Common.{◌≡◌, List, ℕ, subst, arith}
 use Rattle.fdr_deck.specs.Memory.{IsStoppedAfter}
 use Rattle.fdr_deck.specs.Stops.{image_after}
-use Rattle.fdr_deck.proofs.MemoryStops.{IsLeft-start, IsLeft-inside, IsLeft-fits, IsLeft-more, image_before-start, image_before-more, image_before-all}
+use Rattle.fdr_deck.proofs.MemoryStops.{IsLeft-start, IsLeft-inside, IsLeft-fits, IsLeft-more, IsLeft-left, IsLeft-long}
+use Rattle.fdr_deck.proofs.MemoryStops.{image_before-start, image_before-more, image_before-all}
 use Rattle.fdr_deck.proofs.stops.stop_before.Goals as goal
 
 pub loop-entry-init : goal.loop-entry-init
@@ -38,3 +39,11 @@ loop-entry-preserved c = record {
 pub returns-clause-image : goal.returns-clause-image
 returns-clause-image c = image_before-all c.args.tear c.args.entries.now c.args.first.now c.loop-entry.left.items
     c.loop-entry.entry-index (omega arith) c.loop-entry.invariant.image
+
+pub returns-clause-left : goal.returns-clause-left
+returns-clause-left c = IsLeft-left c.args.entries.now c.args.first.now c.loop-entry.entry-index c.loop-entry.held.items c.loop-entry.left.items
+    (omega arith) c.loop-entry.invariant.left
+
+pub returns-clause-long : goal.returns-clause-long
+returns-clause-long c = IsLeft-long c.args.entries.now c.args.first.now c.loop-entry.entry-index c.loop-entry.held.items c.loop-entry.left.items
+    (omega arith) c.loop-entry.invariant.left

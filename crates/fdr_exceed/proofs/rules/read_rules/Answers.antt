@@ -1,15 +1,13 @@
-use Rattle.std.proofs.Common.{Bor, List, ℕ, ◌∙◌, sym, ap, subst, refl, inl, inr, Option, Some, Err, [], ◌∷◌, ◌++◌, append_assoc, arith, rules, length}
-use Rattle.std.proofs.Common.{◌≡◌, ◌<◌}
+use Rattle.std.proofs.Common.{Bor, List, ℕ, ◌∙◌, sym, ap, subst, refl, inl, inr, Option, Some, [], ◌∷◌, ◌++◌, append_assoc}
+use Rattle.std.proofs.lemmas.Result.{err_from_is_err_and}
 use Rattle.csv.specs.Reading.{Reached, default_config, strip_bom}
 use Rattle.csv.specs.Records.{fields_of}
 use Rattle.csv.specs.declared.parser.State.TheVariants as st
 use Rattle.csv.proofs.ReadFacts.{rows-end, rows-more}
 use Rattle.fdr_table.specs.Reading.{records_of}
 use Rattle.fdr_table.proofs.RecordFacts.{records-are, records-front}
-use Rattle.fdr_exceed.specs.RuleFaults.{first_rule_fault, rule_fault, rules_of}
-use Rattle.fdr_exceed.specs.Rules.{most_rules}
-use Rattle.fdr_exceed.specs.declared.rule.Rule.{Rule}
-use Rattle.fdr_exceed.proofs.RuleRecords.{AreRead, names_of_rules, at_rule, none-read, none-refused, one-read, refused-here, same-rule}
+use Rattle.fdr_exceed.specs.RuleFaults.{first_rule_fault, rules_of}
+use Rattle.fdr_exceed.proofs.RuleRecords.{AreRead, at_rule, none-read, none-refused, one-read, refused-here}
 use Rattle.fdr_exceed.proofs.rules.read_rules.Goals as goal
 
 -- the bytes of a source in memory
@@ -38,8 +36,8 @@ loop-row-init c =
       none-read c.args.table.now,
     )
 
-pub returns-in-Err-read_rule-clause-refused : goal.returns-in-Err-read_rule-clause-refused
-returns-in-Err-read_rule-clause-refused c row f same =
+pub returns-in_err-add_rule-in-Ok-clause-refused : goal.returns-in_err-add_rule-in-Ok-clause-refused
+returns-in_err-add_rule-in-Ok-clause-refused c row f same =
     let inv = c.loop-row.invariant in
     let above = inv.7 in
     let here = fields_of c.in-Ok.row in
@@ -48,12 +46,12 @@ returns-in-Err-read_rule-clause-refused c row f same =
     (strip_bom c.args.bytes.now) inv.5 above inv.3 inv.6 inv.8 s.0 in
     let front = records-front c.args.bytes.now (above ++ here ∷ []) c.next.new.self.rdr.state more.0 more.2 in
     let all = front.1 ∙ append_assoc above (here ∷ []) front.0 in
-    let wrong = ap (λ (rs : List Rule). rule_fault c.args.table.now (names_of_rules rs) here) (sym c.deref.ensures.value)
-    ∙ c.in-Err-read_rule.ensures.fault in
-    let first = refused-here c.args.table.now above c.loop-row.rules.items here front.0 c.in-Err-read_rule.fault inv.9 wrong in
-    let number : length c.loop-row.rules.items ≡ c.len.result = search rules in
-    let announced = same-rule c.len.result row c.in-Err-read_rule.fault f (Err c.refused.result) (ap Err c.refused.ensures) same in
-    ap (first_rule_fault c.args.table.now) all ∙ first ∙ ap (λ (n : ℕ). at_rule n c.in-Err-read_rule.fault) number ∙ announced
+    let told = err_from_is_err_and c.from_residual.result c.from_residual.ensures.1 in
+    let is = told.1 in
+    let given = told.2 in
+    let wrong = c.in_err-add_rule-in-Ok.ensures.refused row f (cc) in
+    let first = refused-here c.args.table.now above c.loop-row.rules.items here front.0 f inv.9 wrong.1 in
+    ap (first_rule_fault c.args.table.now) all ∙ first ∙ ap (λ (n : ℕ). at_rule n f) (sym wrong.0)
 
 pub loop-row-preserved : goal.loop-row-preserved
 loop-row-preserved c =
@@ -65,14 +63,9 @@ loop-row-preserved c =
     let flexible = rw (c.in-Some.is, c.in-Ok.is) at steps.3 in
     let more = rows-more in-memory c.loop-row.row-iterator.rdr c.next.new.self.rdr here default_config st.StartRecord
     (strip_bom c.args.bytes.now) inv.5 above inv.3 inv.6 inv.8 s.0 in
-    let rule = c.in-Ok-read_rule.rule in
-    let items = c.loop-row.rules.items in
-    let pushed : c.push.new.self.items ≡ items ++ rule ∷ [] = search rules in
-    let right = ap (λ (rs : List Rule). rule_fault c.args.table.now (names_of_rules rs) here) (sym c.deref.ensures.value)
-    ∙ c.in-Ok-read_rule.ensures.no_fault in
-    let few : length items < most_rules = omega (arith, ap (length {A = Rule}) c.deref.ensures.value, c.in-Ok-read_rule.ensures.few) in
-    let read = subst (AreRead c.args.table.now (above ++ here ∷ [])) (sym pushed)
-    (one-read c.args.table.now above items here rule inv.9 c.in-Ok-read_rule.ensures.rule right c.in-Ok-read_rule.ensures.range few) in
+    let added = c.in_ok-add_rule-in-Ok.ensures in
+    let read = subst (AreRead c.args.table.now (above ++ here ∷ [])) (sym added.rule)
+    (one-read c.args.table.now above c.loop-row.rules.items here _ inv.9 refl added.no_fault added.range added.few) in
     (s.0.3 ∙ inv.0, inl s.1, s.2, s.0.2 ∙ inv.3, flexible ∙ inv.4, more.0, more.1, above ++ here ∷ [], more.2, read)
 
 pub returns-clause-rules : goal.returns-clause-rules

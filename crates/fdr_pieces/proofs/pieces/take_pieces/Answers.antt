@@ -1,11 +1,14 @@
-use Rattle.std.proofs.Common.{rules, ◌≡◌, ◌≤◌, ◌<◌, ◌+◌, [], ◌++◌, length, take, drop, ap, sym, refl, subst, ◌∙◌, arith, length-append}
-use Rattle.std.specs.Prelude.{List, ℕ}
+use Rattle.std.proofs.Common.{rules, ◌≡◌, ◌++◌, take, refl, subst, ◌∙◌, arith}
+use Rattle.std.specs.Prelude.{ℕ}
 use Rattle.std.proofs.lemmas.List.{length-take, take-append-drop, take_all}
 use Rattle.std.proofs.lemmas.Result.{err_from_is_err_and}
+use Rattle.fdr_io.specs.Faults.{Rose}
+use Rattle.fdr_pieces.specs.Limits.{most_input_bytes}
 use Rattle.fdr_pieces.specs.Pieces.{PullsPieces, before_last, last_piece}
-use Rattle.fdr_pieces.proofs.Pulling.{before_piece, piece_at_last, pieces_then, taken_of_piece}
+use Rattle.fdr_pieces.proofs.Pulling.{before_piece, piece_at_last, pieces_then, pieces_stay, pieces_ended, taken_of_piece}
+use Rattle.fdr_pieces.proofs.Pulling.{ends_at_end, ends_at_fault, ends_too_long, within_limit, taken_within, more_than_limit, left_after, taken_bounded}
 use Rattle.fdr_pieces.proofs.pieces.take_pieces.Given.{Over}
-use Rattle.fdr_pieces.proofs.pieces.take_pieces.Goals.{In-Ok, After-take}
+use Rattle.fdr_pieces.proofs.pieces.take_pieces.Goals.{In-Ok, In-Ok-eq0, In-Err, After-take}
 use Rattle.fdr_pieces.proofs.pieces.take_pieces.Goals as goal
 
 -- with the piece that came
@@ -14,8 +17,23 @@ pieces : (g : Over) (c : In-Ok g) → PullsPieces c.args.limit g.D.Deck.tells (g
 pieces g c =
     let inv = c.loop-count.invariant.taken in
     let bound = c.in-Ok.ensures.bound in
-    pieces_then c.args.limit _ _ _ _ inv.0 c.pull.new.buf c.in-Ok.count inv.1 (omega (arith, inv.3)) bound (omega (arith, bound, c.pull.auto.buf))
-    (omega (arith, c.in-Ok.count-test)) c.in-Ok.ensures.pulls
+    pieces_then c.args.limit _ _ _ _ inv.0 c.pull.new.buf c.in-Ok.count inv.1 (within_limit c.args.limit c.loop-count.left inv.0 inv.3) bound
+    (omega (arith, bound, c.pull.auto.buf)) (omega (arith, c.in-Ok.count-test)) c.in-Ok.ensures.pulls
+
+-- with none, at the end
+pieces_at_end : (g : Over) (c : In-Ok-eq0 g) → PullsPieces c.args.limit g.D.Deck.tells (g.D.Deck.state c.args.deck.now) (g.D.Deck.state c.pull.new.self)
+    c.loop-count.invariant.taken.0
+pieces_at_end g c =
+    let inv = c.loop-count.invariant.taken in
+    pieces_ended c.args.limit _ _ _ _ inv.0 c.pull.new.buf c.in-Ok-eq0.field-0 inv.1 (omega (arith, c.in-Ok-eq0.field-0-test)) c.in-Ok-eq0.ensures.pulls
+
+-- with none, after a pull that failed
+pieces_at_fault : (g : Over) (c : In-Err g) → PullsPieces c.args.limit g.D.Deck.tells (g.D.Deck.state c.args.deck.now) (g.D.Deck.state c.pull.new.self)
+    c.loop-count.invariant.taken.0
+pieces_at_fault g c =
+    let inv = c.loop-count.invariant.taken in
+    let kept = c.in-Err.ensures.kept in
+    pieces_stay c.args.limit _ _ _ _ inv.0 inv.1 kept.taken kept.pulled_before (λ told. kept.input)
 
 -- what was pulled before it, as far as it is taken, is all that had been taken
 all_before : (g : Over) (c : In-Ok g) → let inv = c.loop-count.invariant.taken in
@@ -23,7 +41,7 @@ all_before : (g : Over) (c : In-Ok g) → let inv = c.loop-count.invariant.taken
     ++ last_piece c.args.limit (g.D.Deck.state c.args.deck.now) (g.D.Deck.state c.loop-count.deck) inv.0 ≡ inv.0
 all_before g c =
     let inv = c.loop-count.invariant.taken in
-    take-append-drop _ (take c.args.limit inv.0) ∙ take_all c.args.limit inv.0 (omega (arith, inv.3))
+    take-append-drop _ (take c.args.limit inv.0) ∙ take_all c.args.limit inv.0 (within_limit c.args.limit c.loop-count.left inv.0 inv.3)
 
 -- what is taken of all
 front : (g : Over) (c : After-take g) → take c.args.limit (c.loop-count.invariant.taken.0 ++ take c.in-Ok.count c.pull.new.buf)
@@ -46,6 +64,62 @@ is_last g c =
     piece_at_last c.args.limit (g.D.Deck.state c.args.deck.now) (g.D.Deck.state c.loop-count.deck) (g.D.Deck.state c.pull.new.self) inv.0
     (take c.min-taken.result c.pull.new.buf) _ inv.1.takes.taken (c.in-Ok.ensures.pulls.began (omega (arith, c.in-Ok.count-test))) (front g c)
 
+pub returns-in-Ok-eq0-clause-all : goal.returns-in-Ok-eq0-clause-all
+returns-in-Ok-eq0-clause-all g c =
+    let inv = c.loop-count.invariant.taken in
+    let none : c.in-Ok-eq0.field-0 ≡ 0 = omega (arith, c.in-Ok-eq0.field-0-test) in
+    let pulls = c.in-Ok-eq0.ensures.pulls in (
+      inv.0,
+      pieces_at_end g c,
+      ends_at_end c.args.limit g.D.Deck.tells (g.D.Deck.state c.loop-count.deck) (g.D.Deck.state c.pull.new.self) inv.0 c.pull.new.buf
+          c.in-Ok-eq0.field-0 (within_limit c.args.limit c.loop-count.left inv.0 inv.3) none pulls,
+      rw (pulls.ended none) inv.2,
+    )
+
+pub returns-in-Ok-eq0-clause-no_fault : goal.returns-in-Ok-eq0-clause-no_fault
+returns-in-Ok-eq0-clause-no_fault g c = λ other. c.in-Ok-eq0.ensures.pulls.faults ∙ c.loop-count.invariant.no_fault
+
+pub returns-in-Ok-eq0-clause-bounded : goal.returns-in-Ok-eq0-clause-bounded
+returns-in-Ok-eq0-clause-bounded g c = taken_bounded c.args.limit _ _ _ _ (pieces_at_end g c)
+
+pub returns-in-Err-clause-all : goal.returns-in-Err-clause-all
+returns-in-Err-clause-all g c =
+    let inv = c.loop-count.invariant.taken in (
+      inv.0,
+      pieces_at_fault g c,
+      ends_at_fault c.args.limit g.D.Deck.tells (g.D.Deck.state c.pull.new.self) inv.0 (within_limit c.args.limit c.loop-count.left inv.0 inv.3),
+      rw c.in-Err.ensures.kept.pulled_before inv.2,
+    )
+
+pub returns-in-Err-clause-fault : goal.returns-in-Err-clause-fault
+returns-in-Err-clause-fault g c = λ fault. subst (λ (n : ℕ). Rose n (g.D.Deck.state c.pull.new.self).input_faults)
+    c.loop-count.invariant.no_fault c.in-Err.ensures.cause
+
+pub returns-in-Err-clause-no_fault : goal.returns-in-Err-clause-no_fault
+returns-in-Err-clause-no_fault g c = λ other. absurd (other refl)
+
+pub returns-in-Err-clause-bounded : goal.returns-in-Err-clause-bounded
+returns-in-Err-clause-bounded g c = taken_bounded c.args.limit _ _ _ _ (pieces_at_fault g c)
+
+pub take-requires-clause-piece : goal.take-requires-clause-piece
+take-requires-clause-piece g c = omega (arith, length-take c.min-taken.result c.pull.new.buf, c.min-taken.ensures, c.in-Ok.ensures.bound, c.pull.auto.buf)
+
+pub take-requires-clause-taking : goal.take-requires-clause-taking
+take-requires-clause-taking g c =
+    let at = goal.at.take-requires-clause-taking g c in
+    let inv = c.loop-count.invariant.taken in (
+      c.args.taker.now,
+      c.args.out.now,
+      before_last c.args.limit (g.D.Deck.state c.args.deck.now) (g.D.Deck.state c.loop-count.deck) inv.0,
+      last_piece c.args.limit (g.D.Deck.state c.args.deck.now) (g.D.Deck.state c.loop-count.deck) inv.0,
+      inv.2,
+      rw (all_before g at.In-Ok) (taken_within most_input_bytes c.args.limit c.loop-count.left c.in-Ok.count c.min-taken.result inv.0 c.pull.new.buf
+          c.requires.limit inv.3 c.min-taken.ensures),
+    )
+
+pub overflow_sub-left : goal.overflow_sub-left
+overflow_sub-left g c = omega (arith, c.min-taken.ensures)
+
 pub returns-in_err-take-clause-part : goal.returns-in_err-take-clause-part
 returns-in_err-take-clause-part g c =
     let at = goal.at.returns-in_err-take-clause-part g c in
@@ -58,27 +132,31 @@ returns-in_err-take-clause-part g c =
       rw (is_before g at.After-take, is_last g at.After-take, p.2) (rw (all_before g at.In-Ok) at failed),
     )
 
+pub returns-in_err-take-clause-bounded : goal.returns-in_err-take-clause-bounded
+returns-in_err-take-clause-bounded g c = taken_bounded c.args.limit _ _ _ _ (pieces g (goal.at.returns-in_err-take-clause-bounded g c).In-Ok)
+
 pub returns-then-taken-count-clause-all : goal.returns-then-taken-count-clause-all
 returns-then-taken-count-clause-all g c =
     let at = goal.at.returns-then-taken-count-clause-all g c in
     let inv = c.loop-count.invariant.taken in
     let bytes = inv.0 ++ take c.in-Ok.count c.pull.new.buf in
-    let taken = c.in_ok-take.ensures.all c.args.taker.now c.args.out.now _ _ inv.2 in
-    let many : c.args.limit < length bytes =
-    omega (
-      arith,
-      length-append inv.0 (take c.in-Ok.count c.pull.new.buf),
-      length-take c.in-Ok.count c.pull.new.buf,
-      c.in-Ok.ensures.bound,
-      inv.3,
-      c.if-taken-count.true,
-      c.min-taken.ensures,
-    ) in (
+    let taken = c.in_ok-take.ensures.all c.args.taker.now c.args.out.now _ _ inv.2 in (
       bytes,
       pieces g at.In-Ok,
-      record { end_within_limit = λ e. absurd (cc); fault_within_limit = λ e. absurd (cc); many = λ e. many; empty = λ e told. absurd (cc) },
+      ends_too_long c.args.limit g.D.Deck.tells (g.D.Deck.state c.pull.new.self) bytes
+          (more_than_limit c.args.limit c.loop-count.left c.in-Ok.count c.min-taken.result inv.0 c.pull.new.buf inv.3 c.in-Ok.ensures.bound
+          c.min-taken.ensures c.if-taken-count.true),
       rw (is_before g at.After-take, is_last g at.After-take) (rw (all_before g at.In-Ok) at taken),
     )
+
+pub returns-then-taken-count-clause-no_fault : goal.returns-then-taken-count-clause-no_fault
+returns-then-taken-count-clause-no_fault g c = λ other. c.in-Ok.ensures.pulls.faults ∙ c.loop-count.invariant.no_fault
+
+pub returns-then-taken-count-clause-bounded : goal.returns-then-taken-count-clause-bounded
+returns-then-taken-count-clause-bounded g c = taken_bounded c.args.limit _ _ _ _ (pieces g (goal.at.returns-then-taken-count-clause-bounded g c).In-Ok)
+
+pub loop-count-smaller : goal.loop-count-smaller
+loop-count-smaller g c = omega (arith, c.min-taken.ensures, c.if-taken-count.false, c.in-Ok.count-test)
 
 pub loop-count-preserved : goal.loop-count-preserved
 loop-count-preserved g c =
@@ -92,7 +170,7 @@ loop-count-preserved g c =
         inv.0 ++ take count buf,
         pieces g at.In-Ok,
         rw (is_before g at.After-take, is_last g at.After-take) (rw (all_before g at.In-Ok) at taken),
-        omega (arith, length-append inv.0 (take count buf), length-take count buf, c.in-Ok.ensures.bound, inv.3, c.min-taken.ensures, c.if-taken-count.false),
+        left_after c.args.limit c.loop-count.left count c.min-taken.result inv.0 buf inv.3 c.in-Ok.ensures.bound c.min-taken.ensures c.if-taken-count.false,
       );
       disk = search rules;
       announced = c.in-Ok.ensures.announced.announced ∙ c.loop-count.invariant.announced;

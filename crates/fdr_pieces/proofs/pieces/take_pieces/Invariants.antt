@@ -1,4 +1,4 @@
-use Rattle.std.proofs.Common.{◌≡◌, ◌+◌, ◌≤◌, List, [], ℕ, length}
+use Rattle.std.proofs.Common.{◌≡◌, ◌+◌, List, ℕ, length}
 use Rattle.fdr_deck.specs.Calls.{LeavesDisk}
 use Rattle.fdr_pieces.specs.Pieces.{PullsPieces, before_last, last_piece}
 use Rattle.fdr_pieces.proofs.pieces.take_pieces.Given as goal

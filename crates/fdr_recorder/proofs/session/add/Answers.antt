@@ -1,14 +1,20 @@
-use Rattle.std.proofs.Common.{◌≡◌, ◌+◌, ◌∙◌, ℕ, List, [], ◌∷◌, length, ap, sym, subst, Some}
+use Rattle.std.proofs.Common.{◌≡◌, ◌+◌, ◌∙◌, ℕ, List, [], ◌∷◌, length, ap, sym, subst, Some, inl, inr, ⊎_elim}
+use Rattle.std.proofs.lemmas.Result.{err_from_is_err_and}
+use Rattle.fdr_io.specs.Faults.{Rose}
+use Rattle.fdr_io.proofs.OutputSteps.{failed_or_not}
 use Rattle.fdr_deck.specs.State.{State, Tells}
 use Rattle.fdr_deck.specs.Calls.{IsDiskWork, Announces}
 use Rattle.fdr_slot.specs.declared.image.Header.{Header}
 use Rattle.fdr_slot.proofs.HeaderLemmas.{in_limits-is}
 use Rattle.fdr_recover.specs.Blocks.{Block}
+use Rattle.fdr_recover.specs.declared.error.RingFault.TheVariants as ring
+use Rattle.fdr_ring.specs.declared.ring.Ring.{Ring}
 use Rattle.fdr_ring.specs.Gates.{waiting_block}
 use Rattle.fdr_ring.specs.Runs.{HasAdded}
 use Rattle.fdr_ring.specs.Rings.{IsSureRing, IsCommitting, OfSettled}
 use Rattle.fdr_recorder.specs.Recording.{RecordsFirstOf, RecordsAllOf}
 use Rattle.fdr_recorder.proofs.Adding.{IsRing-told, RecordsFirstOf-unprepared, RecordsFirstOf-prepared, recorded-added}
+use Rattle.fdr_recorder.proofs.Refused.{above, below, no_ok, not_current, ok_not_err, ring_not_both}
 use Rattle.fdr_recorder.proofs.session.add.Given.{Over}
 use Rattle.fdr_recorder.proofs.session.add.Goals.{After-announce}
 use Rattle.fdr_recorder.proofs.session.add.Goals as goal
@@ -88,3 +94,103 @@ returns-clause-rest g c =
     let l = g.met.D.Deck in
     l.rest_then c.args.deck.now c.commit.new.deck c.announce.new.self
     (l.rest_then c.args.deck.now c.prepare.new.deck c.commit.new.deck c.prepare.ensures.rest c.commit.ensures.rest) c.announce.ensures.rest
+
+-- the block's body wasn't written
+pub returns-in_err-prepared-clause-seq_end : goal.returns-in_err-prepared-clause-seq_end
+returns-in_err-prepared-clause-seq_end g c =
+    let p = err_from_is_err_and c.from_residual.result c.from_residual.ensures.1 in
+    let ends = c.in_err-prepared.ensures.seq_end in
+    (λ e. ends.0 (below c.from_residual.result _ _ ring.SeqEnd p.1 p.2 e), λ e. above c.from_residual.result _ _ ring.SeqEnd p.1 p.2 (ends.1 e))
+
+pub returns-in_err-prepared-clause-untouched : goal.returns-in_err-prepared-clause-untouched
+returns-in_err-prepared-clause-untouched g c = λ e.
+    let p = err_from_is_err_and c.from_residual.result c.from_residual.ensures.1 in
+    c.in_err-prepared.ensures.untouched (below c.from_residual.result _ _ ring.SeqEnd p.1 p.2 e)
+
+pub returns-in_err-prepared-clause-only : goal.returns-in_err-prepared-clause-only
+returns-in_err-prepared-clause-only g c =
+    let r = c.from_residual.result in
+    let p = err_from_is_err_and r c.from_residual.ensures.1 in
+    failed_or_not r (⊎_elim (λ e. inl (above r _ _ ring.SeqEnd p.1 p.2 e)) (λ e. inr (above r _ _ ring.DiskFault p.1 p.2 e)) c.in_err-prepared.ensures.only)
+
+pub returns-in_err-prepared-clause-ring : goal.returns-in_err-prepared-clause-ring
+returns-in_err-prepared-clause-ring g c = no_ok _ c.from_residual.result _ (err_from_is_err_and c.from_residual.result c.from_residual.ensures.1).1
+
+pub returns-in_err-prepared-clause-fact : goal.returns-in_err-prepared-clause-fact
+returns-in_err-prepared-clause-fact g c = no_ok _ c.from_residual.result _ (err_from_is_err_and c.from_residual.result c.from_residual.ensures.1).1
+
+pub returns-in_err-prepared-clause-recorded : goal.returns-in_err-prepared-clause-recorded
+returns-in_err-prepared-clause-recorded g c = no_ok _ c.from_residual.result _ (err_from_is_err_and c.from_residual.result c.from_residual.ensures.1).1
+
+pub returns-in_err-prepared-clause-cause : goal.returns-in_err-prepared-clause-cause
+returns-in_err-prepared-clause-cause g c = λ e.
+    let p = err_from_is_err_and c.from_residual.result c.from_residual.ensures.1 in
+    c.in_err-prepared.ensures.cause (below c.from_residual.result _ _ ring.DiskFault p.1 p.2 e)
+
+pub returns-in_err-prepared-clause-rest : goal.returns-in_err-prepared-clause-rest
+returns-in_err-prepared-clause-rest g c = c.prepare.ensures.rest
+
+-- its gate wasn't opened
+pub returns-in_err-ring-clause-seq_end : goal.returns-in_err-ring-clause-seq_end
+returns-in_err-ring-clause-seq_end g c =
+    let r = c.from_residual-in_err-ring.result in
+    let p = err_from_is_err_and r c.from_residual-in_err-ring.ensures.1 in
+    let failed = above {U = Ring} r p.0 c.in_err-ring.field-0.0 ring.DiskFault p.1 p.2 c.in_err-ring.ensures.only in
+    (λ e. absurd (ring_not_both r failed e), λ e. absurd (ok_not_err _ ring.SeqEnd (c.in_ok-prepared.ensures.seq_end.1 e)))
+
+pub returns-in_err-ring-clause-untouched : goal.returns-in_err-ring-clause-untouched
+returns-in_err-ring-clause-untouched g c = λ e.
+    let r = c.from_residual-in_err-ring.result in
+    let p = err_from_is_err_and r c.from_residual-in_err-ring.ensures.1 in
+    absurd (ring_not_both r (above {U = Ring} r p.0 c.in_err-ring.field-0.0 ring.DiskFault p.1 p.2 c.in_err-ring.ensures.only) e)
+
+pub returns-in_err-ring-clause-only : goal.returns-in_err-ring-clause-only
+returns-in_err-ring-clause-only g c =
+    let r = c.from_residual-in_err-ring.result in
+    let p = err_from_is_err_and r c.from_residual-in_err-ring.ensures.1 in
+    failed_or_not r (inr (above {U = Ring} r p.0 c.in_err-ring.field-0.0 ring.DiskFault p.1 p.2 c.in_err-ring.ensures.only))
+
+pub returns-in_err-ring-clause-ring : goal.returns-in_err-ring-clause-ring
+returns-in_err-ring-clause-ring g c =
+    no_ok _ c.from_residual-in_err-ring.result _
+    (err_from_is_err_and c.from_residual-in_err-ring.result c.from_residual-in_err-ring.ensures.1).1
+
+pub returns-in_err-ring-clause-fact : goal.returns-in_err-ring-clause-fact
+returns-in_err-ring-clause-fact g c =
+    no_ok _ c.from_residual-in_err-ring.result _
+    (err_from_is_err_and c.from_residual-in_err-ring.result c.from_residual-in_err-ring.ensures.1).1
+
+pub returns-in_err-ring-clause-recorded : goal.returns-in_err-ring-clause-recorded
+returns-in_err-ring-clause-recorded g c =
+    no_ok _ c.from_residual-in_err-ring.result _
+    (err_from_is_err_and c.from_residual-in_err-ring.result c.from_residual-in_err-ring.ensures.1).1
+
+pub returns-in_err-ring-clause-cause : goal.returns-in_err-ring-clause-cause
+returns-in_err-ring-clause-cause g c = λ e.
+    subst (λ (n : ℕ). Rose n (g.D.Deck.state c.commit.new.deck).disk_faults) c.in_ok-prepared.ensures.placed.succeeds.disk_faults c.in_err-ring.ensures.cause
+
+pub returns-in_err-ring-clause-rest : goal.returns-in_err-ring-clause-rest
+returns-in_err-ring-clause-rest g c =
+    g.met.D.Deck.rest_then c.args.deck.now c.prepare.new.deck c.commit.new.deck c.prepare.ensures.rest c.commit.ensures.rest
+
+pub returns-clause-seq_end : goal.returns-clause-seq_end
+returns-clause-seq_end g c =
+    (λ e. absurd (ok_not_err _ ring.SeqEnd e), λ e. absurd (ok_not_err _ ring.SeqEnd (c.in_ok-prepared.ensures.seq_end.1 e)))
+
+pub returns-clause-untouched : goal.returns-clause-untouched
+returns-clause-untouched g c = λ e. absurd (ok_not_err _ ring.SeqEnd e)
+
+pub returns-clause-ring : goal.returns-clause-ring
+returns-clause-ring g c =
+    let ok = c.in_ok-prepared.ensures in
+    let done = c.in_ok-ring.ensures.ring in
+    (done.0 ∙ ok.prepared.0, done.1 ∙ ap (λ (n : ℕ). n + 1) ok.prepared.1)
+
+pub returns-clause-cause : goal.returns-clause-cause
+returns-clause-cause g c = λ e. absurd (ok_not_err _ ring.DiskFault e)
+
+pub prepare-requires-clause-session : goal.prepare-requires-clause-session
+prepare-requires-clause-session g c = λ old. absurd (not_current _ c.requires.current old)
+
+pub commit-requires : goal.commit-requires
+commit-requires g c = c.in_ok-prepared.ensures.fact

@@ -1,6 +1,8 @@
-use Rattle.std.proofs.Common.{◌≡◌, ⊎_elim, ◌-◌, ◌<◌, ◌∙◌, Some, None, refl, sym, ap, subst, arith}
+use Rattle.std.proofs.Common.{◌≡◌, ⊎_elim, ℕ, ◌-◌, ◌<◌, ◌∙◌, Some, None, refl, sym, ap, subst, arith}
 use Rattle.std.specs.Prelude.{IsSome, IsTrue, option_map}
 use Rattle.std.proofs.lemmas.Bool.{cases_lt}
+use Rattle.std.proofs.lemmas.Result.{err_from_is_err_and}
+use Rattle.fdr_io.specs.Faults.{Rose}
 use Rattle.fdr_slot.specs.Places.{slot_number_of}
 use Rattle.fdr_slot.proofs.HeadLemmas.{session_in-first}
 use Rattle.fdr_recover.specs.Blocks.{standing_block}
@@ -8,6 +10,7 @@ use Rattle.fdr_recover.specs.Images.{block_of, block_in, block_numbered, blocks_
 use Rattle.fdr_recover.proofs.Looking.{Looks-then}
 use Rattle.fdr_recover.proofs.Walking.{AllStand-more, walked_down, stops_at, stops_below}
 use Rattle.fdr_recover.proofs.Sessions.{last_session-at, last_session-none}
+use Rattle.fdr_recover.proofs.Refused.{no_ok, on_err}
 use Rattle.fdr_recover.proofs.run.run_below.Goals.{then-first-next, else-first-next}
 use Rattle.fdr_recover.proofs.run.run_below.Goals as goal
 
@@ -109,3 +112,121 @@ returns-clause-session g c told =
     let none : next ≡ 0 = omega arith in
     inv.unread same ∙ sym (last_session-none h held next none))
     (cases_lt first next)
+
+-- no head was read
+pub returns-in_err-head-clause-first : goal.returns-in_err-head-clause-first
+returns-in_err-head-clause-first g c = λ told.
+    let r = c.from_residual.result in
+    let p = err_from_is_err_and r c.from_residual.ensures.1 in
+    no_ok _ r p.0 p.1
+
+pub returns-in_err-head-clause-session : goal.returns-in_err-head-clause-session
+returns-in_err-head-clause-session g c = λ told.
+    let r = c.from_residual.result in
+    let p = err_from_is_err_and r c.from_residual.ensures.1 in
+    no_ok _ r p.0 p.1
+
+pub returns-in_err-head-clause-next : goal.returns-in_err-head-clause-next
+returns-in_err-head-clause-next g c =
+    let r = c.from_residual.result in
+    let p = err_from_is_err_and r c.from_residual.ensures.1 in
+    no_ok _ r p.0 p.1
+
+pub returns-in_err-head-clause-order : goal.returns-in_err-head-clause-order
+returns-in_err-head-clause-order g c =
+    let r = c.from_residual.result in
+    let p = err_from_is_err_and r c.from_residual.ensures.1 in
+    no_ok _ r p.0 p.1
+
+pub returns-in_err-head-clause-bound : goal.returns-in_err-head-clause-bound
+returns-in_err-head-clause-bound g c =
+    let r = c.from_residual.result in
+    let p = err_from_is_err_and r c.from_residual.ensures.1 in
+    no_ok _ r p.0 p.1
+
+pub returns-in_err-head-clause-room : goal.returns-in_err-head-clause-room
+returns-in_err-head-clause-room g c =
+    let r = c.from_residual.result in
+    let p = err_from_is_err_and r c.from_residual.ensures.1 in
+    no_ok _ r p.0 p.1
+
+pub returns-in_err-head-clause-fresh : goal.returns-in_err-head-clause-fresh
+returns-in_err-head-clause-fresh g c =
+    let r = c.from_residual.result in
+    let p = err_from_is_err_and r c.from_residual.ensures.1 in
+    no_ok _ r p.0 p.1
+
+pub returns-in_err-head-clause-faults : goal.returns-in_err-head-clause-faults
+returns-in_err-head-clause-faults g c =
+    let r = c.from_residual.result in
+    let p = err_from_is_err_and r c.from_residual.ensures.1 in
+    no_ok _ r p.0 p.1
+
+pub returns-in_err-head-clause-old_version : goal.returns-in_err-head-clause-old_version
+returns-in_err-head-clause-old_version g c = λ old.
+    let r = c.from_residual.result in
+    let p = err_from_is_err_and r c.from_residual.ensures.1 in
+    no_ok _ r p.0 p.1
+
+pub returns-in_err-head-clause-cause : goal.returns-in_err-head-clause-cause
+returns-in_err-head-clause-cause g c =
+    on_err c.from_residual.result (subst (λ (n : ℕ). Rose n (g.D.Deck.state c.head_numbered.new.deck).disk_faults) c.loop-first.invariant.faults
+    c.in_err-head.ensures.cause)
+
+pub returns-in_err-head-clause-rest : goal.returns-in_err-head-clause-rest
+returns-in_err-head-clause-rest g c =
+    g.met.D.Deck.rest_then _ _ _ c.loop-first.invariant.rest c.head_numbered.ensures.rest
+
+-- a slot has another number
+pub returns-in_default-clause-next : goal.returns-in_default-clause-next
+returns-in_default-clause-next g c = refl
+
+pub returns-in_default-clause-old_version : goal.returns-in_default-clause-old_version
+returns-in_default-clause-old_version g c = λ old. c.loop-first.invariant.old_version old
+
+pub returns-in_default-clause-order : goal.returns-in_default-clause-order
+returns-in_default-clause-order g c = c.loop-first.invariant.order
+
+pub returns-in_default-clause-bound : goal.returns-in_default-clause-bound
+returns-in_default-clause-bound g c = c.requires.fits
+
+pub returns-in_default-clause-fresh : goal.returns-in_default-clause-fresh
+returns-in_default-clause-fresh g c = λ was. c.in_ok-head.ensures.succeeds.fresh
+
+pub returns-in_default-clause-faults : goal.returns-in_default-clause-faults
+returns-in_default-clause-faults g c = c.in_ok-head.ensures.succeeds.disk_faults ∙ c.loop-first.invariant.faults
+
+pub returns-in_default-clause-cause : goal.returns-in_default-clause-cause
+returns-in_default-clause-cause g c = tt
+
+pub returns-in_default-clause-rest : goal.returns-in_default-clause-rest
+returns-in_default-clause-rest g c =
+    g.met.D.Deck.rest_then _ _ _ c.loop-first.invariant.rest c.head_numbered.ensures.rest
+
+-- all slots were looked at
+pub returns-clause-next : goal.returns-clause-next
+returns-clause-next g c = refl
+
+pub returns-clause-old_version : goal.returns-clause-old_version
+returns-clause-old_version g c = λ old. c.loop-first.invariant.old_version old
+
+pub returns-clause-order : goal.returns-clause-order
+returns-clause-order g c = c.loop-first.invariant.order
+
+pub returns-clause-bound : goal.returns-clause-bound
+returns-clause-bound g c = c.requires.fits
+
+pub returns-clause-fresh : goal.returns-clause-fresh
+returns-clause-fresh g c = c.loop-first.invariant.fresh
+
+pub returns-clause-faults : goal.returns-clause-faults
+returns-clause-faults g c = c.loop-first.invariant.faults
+
+pub returns-clause-cause : goal.returns-clause-cause
+returns-clause-cause g c = tt
+
+pub returns-clause-rest : goal.returns-clause-rest
+returns-clause-rest g c = c.loop-first.invariant.rest
+
+pub returns-clause-looks : goal.returns-clause-looks
+returns-clause-looks g c = c.loop-first.invariant.looks

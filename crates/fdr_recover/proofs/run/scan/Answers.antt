@@ -1,11 +1,13 @@
 use Rattle.std.proofs.Common.{◌≡◌, ◌+◌, ◌∙◌, length, subst}
 use Rattle.std.specs.Prelude.{IfOk, OnErr}
+use Rattle.std.proofs.lemmas.Result.{err_from_is_err_and}
 use Rattle.fdr_io.specs.Faults.{Rose}
 use Rattle.fdr_recover.specs.Images.{blocks_below, next_of}
 use Rattle.fdr_recover.specs.Stretches.{last_session}
 use Rattle.fdr_recover.proofs.Handing.{ok_both}
 use Rattle.fdr_recover.proofs.Looking.{Looks-then}
-use Rattle.fdr_recover.proofs.BlockLemmas.{recovered_run-is_recovered}
+use Rattle.fdr_recover.proofs.BlockLemmas.{next_of-is_next, recovered_run-is_recovered, recovered_run-one}
+use Rattle.fdr_recover.proofs.Refused.{no_ok, on_err}
 use Rattle.fdr_recover.proofs.run.scan.Goals as goal
 
 pub returns-in_err-next-clause-recovered : goal.returns-in_err-next-clause-recovered
@@ -57,3 +59,86 @@ returns-clause-cause g c =
 pub returns-clause-rest : goal.returns-clause-rest
 returns-clause-rest g c =
     g.met.D.Deck.rest_then c.args.deck.now _ _ c.next_number.ensures.rest c.run_below.ensures.rest
+
+-- no number was read
+pub returns-in_err-next-clause-next : goal.returns-in_err-next-clause-next
+returns-in_err-next-clause-next g c = λ told.
+    let r = c.from_residual.result in
+    let p = err_from_is_err_and r c.from_residual.ensures.1 in
+    no_ok _ r p.0 p.1
+
+pub returns-in_err-next-clause-first : goal.returns-in_err-next-clause-first
+returns-in_err-next-clause-first g c = λ told.
+    let r = c.from_residual.result in
+    let p = err_from_is_err_and r c.from_residual.ensures.1 in
+    no_ok _ r p.0 p.1
+
+pub returns-in_err-next-clause-session : goal.returns-in_err-next-clause-session
+returns-in_err-next-clause-session g c = λ told.
+    let r = c.from_residual.result in
+    let p = err_from_is_err_and r c.from_residual.ensures.1 in
+    no_ok _ r p.0 p.1
+
+pub returns-in_err-next-clause-order : goal.returns-in_err-next-clause-order
+returns-in_err-next-clause-order g c =
+    let r = c.from_residual.result in
+    let p = err_from_is_err_and r c.from_residual.ensures.1 in
+    no_ok _ r p.0 p.1
+
+pub returns-in_err-next-clause-bound : goal.returns-in_err-next-clause-bound
+returns-in_err-next-clause-bound g c =
+    let r = c.from_residual.result in
+    let p = err_from_is_err_and r c.from_residual.ensures.1 in
+    no_ok _ r p.0 p.1
+
+pub returns-in_err-next-clause-room : goal.returns-in_err-next-clause-room
+returns-in_err-next-clause-room g c =
+    let r = c.from_residual.result in
+    let p = err_from_is_err_and r c.from_residual.ensures.1 in
+    no_ok _ r p.0 p.1
+
+pub returns-in_err-next-clause-succeeds : goal.returns-in_err-next-clause-succeeds
+returns-in_err-next-clause-succeeds g c =
+    let r = c.from_residual.result in
+    let p = err_from_is_err_and r c.from_residual.ensures.1 in
+    no_ok _ r p.0 p.1
+
+pub returns-in_err-next-clause-old_version : goal.returns-in_err-next-clause-old_version
+returns-in_err-next-clause-old_version g c = λ old.
+    let r = c.from_residual.result in
+    let p = err_from_is_err_and r c.from_residual.ensures.1 in
+    no_ok _ r p.0 p.1
+
+pub returns-in_err-next-clause-greatest : goal.returns-in_err-next-clause-greatest
+returns-in_err-next-clause-greatest g c = λ image. next_of-is_next c.args.h.now image c.requires.limits
+
+pub returns-in_err-next-clause-only : goal.returns-in_err-next-clause-only
+returns-in_err-next-clause-only g c = λ image run is. recovered_run-one c.args.h.now image run c.requires.limits is
+
+pub returns-in_err-next-clause-looks : goal.returns-in_err-next-clause-looks
+returns-in_err-next-clause-looks g c = c.next_number.ensures.looks
+
+pub returns-in_err-next-clause-cause : goal.returns-in_err-next-clause-cause
+returns-in_err-next-clause-cause g c = on_err c.from_residual.result c.in_err-next.ensures.cause
+
+pub returns-in_err-next-clause-rest : goal.returns-in_err-next-clause-rest
+returns-in_err-next-clause-rest g c = c.next_number.ensures.rest
+
+-- the run was looked for
+pub returns-clause-greatest : goal.returns-clause-greatest
+returns-clause-greatest g c = λ image. next_of-is_next c.args.h.now image c.requires.limits
+
+pub returns-clause-only : goal.returns-clause-only
+returns-clause-only g c = λ image run is. recovered_run-one c.args.h.now image run c.requires.limits is
+
+pub returns-clause-order : goal.returns-clause-order
+returns-clause-order g c = c.run_below.ensures.order
+
+pub returns-clause-bound : goal.returns-clause-bound
+returns-clause-bound g c = c.run_below.ensures.bound
+
+pub returns-clause-room : goal.returns-clause-room
+returns-clause-room g c = c.run_below.ensures.room
+
+pub returns-clause-old_version : goal.returns-clause-old_version
+returns-clause-old_version g c = c.run_below.ensures.old_version

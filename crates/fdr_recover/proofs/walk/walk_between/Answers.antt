@@ -1,10 +1,13 @@
-use Rattle.std.proofs.Common.{◌≡◌, ◌++◌, ◌+◌, ◌-◌, [], Result, Err, refl, sym, ap, ◌∙◌, arith}
+use Rattle.std.proofs.Common.{◌≡◌, ◌++◌, ◌+◌, ◌-◌, ℕ, [], Result, Err, refl, sym, ap, subst, ◌∙◌, arith}
 use Rattle.std.specs.Prelude.{IsTrue}
 use Rattle.std.specs.List.{cons_option}
 use Rattle.std.proofs.lemmas.Result.{err_from_is_err_and}
+use Rattle.fdr_io.specs.Faults.{Rose}
 use Rattle.fdr_recover.specs.Images.{block_numbered, blocks_between}
 use Rattle.fdr_recover.proofs.Looking.{Looks-here, Looks-then}
 use Rattle.fdr_recover.specs.declared.walk.BlocksFault.{BlocksFault}
+use Rattle.fdr_recover.specs.declared.walk.BlocksFault.TheVariants as fault
+use Rattle.fdr_recover.proofs.Refused.{no_ok, ok_not_err}
 use Rattle.fdr_recover.proofs.Between.{between_none, between_count, between_more, between_split, length-payloads-append}
 use Rattle.fdr_recover.proofs.walk.walk_between.Goals as goal
 
@@ -12,6 +15,10 @@ use Rattle.fdr_recover.proofs.walk.walk_between.Goals as goal
 same_fault : (r : Result (Unit {0}) BlocksFault) (fault handed wanted : BlocksFault) → r ≡ Err handed → handed ≡ fault → r ≡ Err wanted
     → ◌≡◌ {A = Result (Unit {0}) BlocksFault} (Err fault) (Err wanted)
 same_fault r fault handed wanted is same wants = ap Err (sym same) ∙ sym is ∙ wants
+
+handed_on : (r : Result (Unit {0}) BlocksFault) (handed fault wanted : BlocksFault) → r ≡ Err handed → handed ≡ fault
+    → ◌≡◌ {A = Result (Unit {0}) BlocksFault} (Err fault) (Err wanted) → r ≡ Err wanted
+handed_on r handed fault wanted is same wants = is ∙ ap Err same ∙ wants
 
 pub loop-number-init : goal.loop-number-init
 loop-number-init g c = record {
@@ -131,3 +138,63 @@ returns-clause-all g c =
       omega (arith, inv.2, c.requires.room, end, c.requires.limits.most_slots),
       λ told. inv.3 told ∙ between_count h held first c.loop-number.number c.args.next (omega (arith, end, c.loop-number-test.false)),
     )
+
+-- a block was not handed on
+pub returns-in_err-walk_block-clause-all : goal.returns-in_err-walk_block-clause-all
+returns-in_err-walk_block-clause-all g c =
+    let r = c.from_residual.result in
+    let p = err_from_is_err_and r c.from_residual.ensures.1 in
+    no_ok _ r p.0 p.1
+
+pub returns-in_err-walk_block-clause-disk_fault : goal.returns-in_err-walk_block-clause-disk_fault
+returns-in_err-walk_block-clause-disk_fault g c = λ is.
+    let r = c.from_residual.result in
+    let p = err_from_is_err_and r c.from_residual.ensures.1 in
+    subst (λ (n : ℕ). Rose n (g.D.Deck.state c.walk_block.new.deck).disk_faults) c.loop-number.invariant.no_disk_fault
+    (c.in_err-walk_block.ensures.disk_fault (same_fault _ _ _ _ p.1 p.2 is))
+
+pub returns-in_err-walk_block-clause-disk_unfailed : goal.returns-in_err-walk_block-clause-disk_unfailed
+returns-in_err-walk_block-clause-disk_unfailed g c = λ other.
+    let r = c.from_residual.result in
+    let p = err_from_is_err_and r c.from_residual.ensures.1 in
+    c.in_err-walk_block.ensures.disk_unfailed (λ is. other (handed_on r p.0 c.in_err-walk_block.field-0.0 fault.Disk p.1 p.2 is))
+    ∙ c.loop-number.invariant.no_disk_fault
+
+pub returns-in_err-walk_block-clause-write_fault : goal.returns-in_err-walk_block-clause-write_fault
+returns-in_err-walk_block-clause-write_fault g c = λ is.
+    let r = c.from_residual.result in
+    let p = err_from_is_err_and r c.from_residual.ensures.1 in
+    subst (λ (n : ℕ). Rose n (g.O.Sink.faults c.walk_block.new.out)) c.loop-number.invariant.disk_work
+    (c.in_err-walk_block.ensures.write_fault (same_fault _ _ _ _ p.1 p.2 is))
+
+pub returns-in_err-walk_block-clause-write_unfailed : goal.returns-in_err-walk_block-clause-write_unfailed
+returns-in_err-walk_block-clause-write_unfailed g c = λ other.
+    let r = c.from_residual.result in
+    let p = err_from_is_err_and r c.from_residual.ensures.1 in
+    c.in_err-walk_block.ensures.write_unfailed (λ is. other (handed_on r p.0 c.in_err-walk_block.field-0.0 fault.Taker p.1 p.2 is))
+    ∙ c.loop-number.invariant.disk_work
+
+-- all were handed on
+pub returns-clause-part : goal.returns-clause-part
+returns-clause-part g c = λ is told. absurd (ok_not_err _ fault.Taker is)
+
+pub returns-clause-front : goal.returns-clause-front
+returns-clause-front g c = λ is. absurd (ok_not_err _ fault.Disk is)
+
+pub returns-clause-disk_fault : goal.returns-clause-disk_fault
+returns-clause-disk_fault g c = λ is. absurd (ok_not_err _ fault.Disk is)
+
+pub returns-clause-disk_unfailed : goal.returns-clause-disk_unfailed
+returns-clause-disk_unfailed g c = λ other. c.loop-number.invariant.no_disk_fault
+
+pub returns-clause-write_fault : goal.returns-clause-write_fault
+returns-clause-write_fault g c = λ is. absurd (ok_not_err _ fault.Taker is)
+
+pub returns-clause-write_unfailed : goal.returns-clause-write_unfailed
+returns-clause-write_unfailed g c = λ other. c.loop-number.invariant.disk_work
+
+pub returns-clause-looks : goal.returns-clause-looks
+returns-clause-looks g c = c.loop-number.invariant.looks
+
+pub returns-clause-rest : goal.returns-clause-rest
+returns-clause-rest g c = c.loop-number.invariant.rest

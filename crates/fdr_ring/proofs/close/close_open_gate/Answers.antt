@@ -1,11 +1,14 @@
 use Rattle.std.proofs.Common.{◌≡◌, ◌∙◌, List, ℕ, [], ◌∷◌, sym, ap, subst, arith}
-use Rattle.std.specs.Prelude.{slice_index, IsTrue}
+use Rattle.std.specs.Prelude.{slice_index, IsTrue, OnErr}
+use Rattle.std.proofs.lemmas.Result.{err_from_is_err_and}
+use Rattle.fdr_io.specs.Faults.{Rose}
+use Rattle.fdr_io.proofs.OutputSteps.{failed_or_not}
 use Rattle.fdr_deck.specs.Disk.{Torn, Writes, patched}
 use Rattle.fdr_deck.specs.Calls.{Succeeds}
 use Rattle.fdr_deck.proofs.Moments.{IsDiskWork-write}
 use Rattle.fdr_deck.proofs.Quiet.{IsDiskWork-look}
 use Rattle.fdr_ring.specs.Closing.{HasClosedGate}
-use Rattle.fdr_ring.proofs.Results.{map_both}
+use Rattle.fdr_ring.proofs.Results.{map_both, no_ok}
 use Rattle.fdr_ring.proofs.Bytes.{IsTurned-here, Closing-here, Closing-more, byte_read, shut_open, shut_closed}
 use Rattle.fdr_ring.proofs.close.close_open_gate.Goals as goal
 
@@ -73,3 +76,33 @@ returns-clause-closed g c =
       succeeds = record { fresh = done.fresh; disk_faults = done.disk_faults ∙ c.in_ok-read.ensures.succeeds.disk_faults };
     })
     c.write.ensures.writes c.write.ensures.succeeds
+
+-- the gate was not read
+pub returns-in_err-read-clause-closed : goal.returns-in_err-read-clause-closed
+returns-in_err-read-clause-closed g c =
+    let r = c.from_residual.result in
+    let p = err_from_is_err_and r c.from_residual.ensures.1 in
+    no_ok _ r p.0 p.1
+
+pub returns-in_err-read-clause-cause : goal.returns-in_err-read-clause-cause
+returns-in_err-read-clause-cause g c = failed_or_not c.from_residual.result c.in_err-read.ensures.cause
+
+pub returns-in_err-read-clause-rest : goal.returns-in_err-read-clause-rest
+returns-in_err-read-clause-rest g c = c.read.ensures.rest
+
+-- it is closed
+pub returns-then-gate-ne-OPEN-clause-cause : goal.returns-then-gate-ne-OPEN-clause-cause
+returns-then-gate-ne-OPEN-clause-cause g c = tt
+
+pub returns-then-gate-ne-OPEN-clause-rest : goal.returns-then-gate-ne-OPEN-clause-rest
+returns-then-gate-ne-OPEN-clause-rest g c = c.read.ensures.rest
+
+-- it was written
+pub returns-clause-cause : goal.returns-clause-cause
+returns-clause-cause g c =
+    subst (λ (n : ℕ). OnErr c.write.result (Rose n (g.D.Deck.state c.write.new.self).disk_faults)) c.in_ok-read.ensures.succeeds.disk_faults
+    c.write.ensures.cause
+
+pub returns-clause-rest : goal.returns-clause-rest
+returns-clause-rest g c =
+    g.met.D.Deck.rest_then c.args.deck.now c.read.new.self c.write.new.self c.read.ensures.rest c.write.ensures.rest

@@ -1,13 +1,16 @@
-use Rattle.std.proofs.Common.{◌≡◌, ◌∙◌, List, ℕ, length, take, drop, ap, arith, length-take}
-use Rattle.std.specs.Prelude.{[], ◌∷◌, IsTrue, replicate}
+use Rattle.std.proofs.Common.{◌≡◌, ◌∙◌, subst, List, ℕ, length, take, drop, ap, arith, length-take}
+use Rattle.std.specs.Prelude.{[], ◌∷◌, IsTrue, OnErr, replicate}
+use Rattle.std.proofs.lemmas.Result.{err_from_is_err_and}
+use Rattle.fdr_io.specs.Faults.{Rose}
+use Rattle.fdr_io.proofs.OutputSteps.{failed_or_not}
 use Rattle.fdr_deck.specs.Disk.{Torn, patched}
-use Rattle.fdr_deck.specs.Calls.{IsDiskWork}
+use Rattle.fdr_deck.specs.Calls.{IsDiskWork, Succeeds}
 use Rattle.fdr_deck.proofs.Moments.{IsDiskWork-keep}
 use Rattle.fdr_slot.specs.Places.{image_size}
 use Rattle.fdr_slot.specs.Headers.{header_bytes}
 use Rattle.fdr_ring.specs.Formatting.{fresh_image}
 use Rattle.fdr_deck.proofs.Quiet.{IsDiskWork-weaken, IsDiskWork-then}
-use Rattle.fdr_ring.proofs.Results.{map_ok}
+use Rattle.fdr_ring.proofs.Results.{map_ok, no_ok}
 use Rattle.fdr_ring.proofs.Made.{lays_tail, torn_stop, gate_stop, opened_fresh}
 use Rattle.fdr_ring.proofs.make.lay_header.Given.{Over}
 use Rattle.fdr_ring.proofs.make.lay_header.Goals.{After-write, After-sync, After-open_gate}
@@ -66,3 +69,90 @@ returns-clause-held g c =
     let End : Type 0 = IsTrue g.D.Deck.tells.bytes → (g.D.Deck.state c.open_gate.new.deck).held ≡ fresh_image c.args.h.now in
     map_ok c.open_gate.result Mid End
     (λ written told. written told ∙ ap (patched 0 (0x5a ∷ [])) (header_held g at told) ∙ opened_fresh c.args.h.now) c.open_gate.ensures.written
+
+-- the header was not written
+pub returns-in_err-write-clause-held : goal.returns-in_err-write-clause-held
+returns-in_err-write-clause-held g c =
+    let r = c.from_residual.result in
+    let p = err_from_is_err_and r c.from_residual.ensures.1 in
+    no_ok _ r p.0 p.1
+
+pub returns-in_err-write-clause-settled : goal.returns-in_err-write-clause-settled
+returns-in_err-write-clause-settled g c =
+    let r = c.from_residual.result in
+    let p = err_from_is_err_and r c.from_residual.ensures.1 in
+    no_ok _ r p.0 p.1
+
+pub returns-in_err-write-clause-succeeds : goal.returns-in_err-write-clause-succeeds
+returns-in_err-write-clause-succeeds g c =
+    let r = c.from_residual.result in
+    let p = err_from_is_err_and r c.from_residual.ensures.1 in
+    no_ok _ r p.0 p.1
+
+pub returns-in_err-write-clause-extent : goal.returns-in_err-write-clause-extent
+returns-in_err-write-clause-extent g c = c.write.ensures.extent
+
+pub returns-in_err-write-clause-cause : goal.returns-in_err-write-clause-cause
+returns-in_err-write-clause-cause g c = failed_or_not c.from_residual.result c.in_err-write.ensures.cause
+
+pub returns-in_err-write-clause-rest : goal.returns-in_err-write-clause-rest
+returns-in_err-write-clause-rest g c = c.write.ensures.rest
+
+-- it was not synced
+pub returns-in_err-sync-clause-held : goal.returns-in_err-sync-clause-held
+returns-in_err-sync-clause-held g c =
+    let r = c.from_residual-in_err-sync.result in
+    let p = err_from_is_err_and r c.from_residual-in_err-sync.ensures.1 in
+    no_ok _ r p.0 p.1
+
+pub returns-in_err-sync-clause-settled : goal.returns-in_err-sync-clause-settled
+returns-in_err-sync-clause-settled g c =
+    let r = c.from_residual-in_err-sync.result in
+    let p = err_from_is_err_and r c.from_residual-in_err-sync.ensures.1 in
+    no_ok _ r p.0 p.1
+
+pub returns-in_err-sync-clause-succeeds : goal.returns-in_err-sync-clause-succeeds
+returns-in_err-sync-clause-succeeds g c =
+    let r = c.from_residual-in_err-sync.result in
+    let p = err_from_is_err_and r c.from_residual-in_err-sync.ensures.1 in
+    no_ok _ r p.0 p.1
+
+pub returns-in_err-sync-clause-extent : goal.returns-in_err-sync-clause-extent
+returns-in_err-sync-clause-extent g c = c.sync.ensures.extent ∙ c.write.ensures.extent
+
+pub returns-in_err-sync-clause-cause : goal.returns-in_err-sync-clause-cause
+returns-in_err-sync-clause-cause g c =
+    failed_or_not c.from_residual-in_err-sync.result (subst (λ (n : ℕ). Rose n (g.D.Deck.state c.sync.new.self).disk_faults)
+    c.in_ok-write.ensures.succeeds.disk_faults c.in_err-sync.ensures.cause)
+
+pub returns-in_err-sync-clause-rest : goal.returns-in_err-sync-clause-rest
+returns-in_err-sync-clause-rest g c =
+    g.met.D.Deck.rest_then c.args.deck.now c.write.new.self c.sync.new.self c.write.ensures.rest c.sync.ensures.rest
+
+-- its gate was opened
+pub returns-clause-settled : goal.returns-clause-settled
+returns-clause-settled g c = c.open_gate.ensures.settled
+
+pub returns-clause-extent : goal.returns-clause-extent
+returns-clause-extent g c = c.open_gate.ensures.changes.extent ∙ c.sync.ensures.extent ∙ c.write.ensures.extent
+
+pub returns-clause-succeeds : goal.returns-clause-succeeds
+returns-clause-succeeds g c =
+    map_ok c.open_gate.result (Succeeds (g.D.Deck.state c.sync.new.self) (g.D.Deck.state c.open_gate.new.deck))
+    (Succeeds (g.D.Deck.state c.args.deck.now) (g.D.Deck.state c.open_gate.new.deck))
+    (λ done. record {
+      fresh = done.fresh;
+      disk_faults = done.disk_faults ∙ c.in_ok-sync.ensures.succeeds.disk_faults ∙ c.in_ok-write.ensures.succeeds.disk_faults;
+    })
+    c.open_gate.ensures.succeeds
+
+pub returns-clause-cause : goal.returns-clause-cause
+returns-clause-cause g c =
+    subst (λ (n : ℕ). OnErr c.open_gate.result (Rose n (g.D.Deck.state c.open_gate.new.deck).disk_faults))
+    (c.in_ok-sync.ensures.succeeds.disk_faults ∙ c.in_ok-write.ensures.succeeds.disk_faults)
+    c.open_gate.ensures.cause
+
+pub returns-clause-rest : goal.returns-clause-rest
+returns-clause-rest g c =
+    g.met.D.Deck.rest_then c.args.deck.now c.sync.new.self c.open_gate.new.deck
+    (g.met.D.Deck.rest_then c.args.deck.now c.write.new.self c.sync.new.self c.write.ensures.rest c.sync.ensures.rest) c.open_gate.ensures.rest

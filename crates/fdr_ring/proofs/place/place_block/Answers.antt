@@ -1,11 +1,14 @@
-use Rattle.std.proofs.Common.{◌≡◌, ◌∙◌, length, sym, subst, arith}
-use Rattle.std.specs.Prelude.{IsTrue}
+use Rattle.std.proofs.Common.{◌≡◌, ◌∙◌, ℕ, length, sym, subst, arith}
+use Rattle.std.specs.Prelude.{IsTrue, OnErr}
+use Rattle.std.proofs.lemmas.Result.{err_from_is_err_and}
+use Rattle.fdr_io.specs.Faults.{Rose}
+use Rattle.fdr_io.proofs.OutputSteps.{failed_or_not}
 use Rattle.fdr_deck.specs.Disk.{IsSettled}
 use Rattle.fdr_deck.specs.Calls.{Succeeds}
 use Rattle.fdr_deck.proofs.Moments.{IsDiskWork-keep}
 use Rattle.fdr_ring.specs.Bodies.{image_to_commit}
 use Rattle.fdr_ring.specs.Rings.{IsPrepared, IsPreparing, ChangesImage, HasPlaced}
-use Rattle.fdr_ring.proofs.Results.{always_ok, map_both}
+use Rattle.fdr_ring.proofs.Results.{always_ok, map_both, no_ok}
 use Rattle.fdr_ring.proofs.Placing.{IsReady, IsReady-deck, body_image, body_quiet, placing_image, placing_quiet, prepared_held}
 use Rattle.fdr_ring.proofs.Placing.{prepared_block, prepared_run, prepared_ring}
 use Rattle.fdr_ring.proofs.place.place_block.Given.{Over}
@@ -96,3 +99,57 @@ returns-clause-fact g c =
     (ready g at.After-write_body) c.requires.number (omega arith) c.requires.session c.requires.some_bytes
     (omega (arith, c.requires.fact.extent, c.write_body.ensures.changes.extent, c.close_open_gate.ensures.closes.extent, c.sync.ensures.extent))
     (held g at.After-sync))
+
+-- the body was not written
+pub returns-in_err-write_body-clause-fact : goal.returns-in_err-write_body-clause-fact
+returns-in_err-write_body-clause-fact g c =
+    let r = c.from_residual.result in
+    let p = err_from_is_err_and r c.from_residual.ensures.1 in
+    no_ok _ r p.0 p.1
+
+pub returns-in_err-write_body-clause-placed : goal.returns-in_err-write_body-clause-placed
+returns-in_err-write_body-clause-placed g c =
+    let r = c.from_residual.result in
+    let p = err_from_is_err_and r c.from_residual.ensures.1 in
+    no_ok _ r p.0 p.1
+
+pub returns-in_err-write_body-clause-cause : goal.returns-in_err-write_body-clause-cause
+returns-in_err-write_body-clause-cause g c = failed_or_not c.from_residual.result c.in_err-write_body.ensures.cause
+
+pub returns-in_err-write_body-clause-rest : goal.returns-in_err-write_body-clause-rest
+returns-in_err-write_body-clause-rest g c = c.write_body.ensures.rest
+
+-- the following gate was not closed
+pub returns-in_err-close_open_gate-clause-fact : goal.returns-in_err-close_open_gate-clause-fact
+returns-in_err-close_open_gate-clause-fact g c =
+    let r = c.from_residual-in_err-close_open_gate.result in
+    let p = err_from_is_err_and r c.from_residual-in_err-close_open_gate.ensures.1 in
+    no_ok _ r p.0 p.1
+
+pub returns-in_err-close_open_gate-clause-placed : goal.returns-in_err-close_open_gate-clause-placed
+returns-in_err-close_open_gate-clause-placed g c =
+    let r = c.from_residual-in_err-close_open_gate.result in
+    let p = err_from_is_err_and r c.from_residual-in_err-close_open_gate.ensures.1 in
+    no_ok _ r p.0 p.1
+
+pub returns-in_err-close_open_gate-clause-cause : goal.returns-in_err-close_open_gate-clause-cause
+returns-in_err-close_open_gate-clause-cause g c =
+    failed_or_not c.from_residual-in_err-close_open_gate.result (subst (λ (n : ℕ). Rose n (g.D.Deck.state c.close_open_gate.new.deck).disk_faults)
+    c.in_ok-write_body.ensures.succeeds.disk_faults c.in_err-close_open_gate.ensures.cause)
+
+pub returns-in_err-close_open_gate-clause-rest : goal.returns-in_err-close_open_gate-clause-rest
+returns-in_err-close_open_gate-clause-rest g c =
+    g.met.D.Deck.rest_then c.args.deck.now c.write_body.new.deck c.close_open_gate.new.deck c.write_body.ensures.rest c.close_open_gate.ensures.rest
+
+-- both were synced
+pub returns-clause-cause : goal.returns-clause-cause
+returns-clause-cause g c =
+    subst (λ (n : ℕ). OnErr c.sync.result (Rose n (g.D.Deck.state c.sync.new.self).disk_faults))
+    (c.in_ok-close_open_gate.ensures.closed.succeeds.disk_faults ∙ c.in_ok-write_body.ensures.succeeds.disk_faults)
+    c.sync.ensures.cause
+
+pub returns-clause-rest : goal.returns-clause-rest
+returns-clause-rest g c =
+    g.met.D.Deck.rest_then c.args.deck.now c.close_open_gate.new.deck c.sync.new.self
+    (g.met.D.Deck.rest_then c.args.deck.now c.write_body.new.deck c.close_open_gate.new.deck c.write_body.ensures.rest c.close_open_gate.ensures.rest)
+    c.sync.ensures.rest

@@ -36,3 +36,12 @@ returns-clause-written g c =
     (λ wrote told. wrote.held told ∙ ap (λ (l : List ℕ). patched (c.gate_at.result + 1) l old) c.body_of-body.ensures
     ∙ ap (λ k. patched (k + 1) (body_bytes c.args.seq c.args.session c.args.bytes.now) old) c.gate_at.ensures.at)
     c.write.ensures.writes
+
+pub returns-clause-succeeds : goal.returns-clause-succeeds
+returns-clause-succeeds g c = c.write.ensures.succeeds
+
+pub returns-clause-cause : goal.returns-clause-cause
+returns-clause-cause g c = c.write.ensures.cause
+
+pub returns-clause-rest : goal.returns-clause-rest
+returns-clause-rest g c = c.write.ensures.rest

@@ -44,7 +44,11 @@ pub returns-clause-exactly : goal.returns-clause-exactly
 returns-clause-exactly c =
     let within = product c.args.raw c.args.num (c.requires.raw_low, c.requires.raw_high) (c.requires.num_low, c.requires.num_high) in
     let is = is-product c.args.raw c.args.num c.ranges.raw c.ranges.num within in
-    grind (arith, to_z-of_z)
+    let den = to_z-of_z w64 c.args.den c.ranges.den in
+    let rounded = rw (is, den) at c.quotient.ensures in
+    let quotient = int_div_euclid (c.args.raw *ℤ c.args.num) c.args.den in
+    let size = quotient-within (c.args.raw *ℤ c.args.num) c.args.den 4294967296000000000 within c.requires.den_low in
+    ap (λ (z : ℤ). to_z w64 (of_z w64 z)) rounded ∙ to_z-of_z w64 quotient (fits quotient size)
 
 pub returns-clause-low : goal.returns-clause-low
 returns-clause-low c =

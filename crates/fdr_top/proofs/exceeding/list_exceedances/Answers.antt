@@ -20,10 +20,6 @@ pub returns-in-Err-clause-lists : goal.returns-in-Err-clause-lists
 returns-in-Err-clause-lists g c =
     unopened c.args.sound.now _ _ _ _ c.in-Err.answer c.open_image.ensures.looks c.in-Err.ensures.shut c.in-Err.ensures.refused
 
-pub returns-in_default-clause-lists : goal.returns-in_default-clause-lists
-returns-in_default-clause-lists g c =
-    unopened c.args.sound.now _ _ _ _ outcome.NoMemory c.open_image.ensures.looks tt (refuses_nothing _ _ _ _ outcome.NoMemory (λ past. past))
-
 pub returns-in-Err-pull_rules-clause-lists : goal.returns-in-Err-pull_rules-clause-lists
 returns-in-Err-pull_rules-clause-lists g c =
     let opened = c.in-Ok.ensures.opened in
@@ -32,8 +28,8 @@ returns-in-Err-pull_rules-clause-lists g c =
     (long_image c.in-Ok.reader.header _ opened.whole) opened.image
     c.pull_rules.ensures.disk refused.1
 
-pub returns-in_default-watching-clause-lists : goal.returns-in_default-watching-clause-lists
-returns-in_default-watching-clause-lists g c =
+pub returns-in_default-clause-lists : goal.returns-in_default-clause-lists
+returns-in_default-clause-lists g c =
     let read = rw c.table.ensures at c.in-Ok-pull_rules.ensures.rules in
     no_room_to_watch c.args.sound.now _ _ _ _ _ read.0 c.open_image.ensures.looks c.pull_rules.ensures.disk read.2
 
@@ -81,8 +77,8 @@ returns-clause-bounded g c =
 
 -- ---- what was counted
 
-pub returns-in_default-watching-clause-no_input_fault : goal.returns-in_default-watching-clause-no_input_fault
-returns-in_default-watching-clause-no_input_fault g c = λ other.
+pub returns-in_default-clause-no_input_fault : goal.returns-in_default-clause-no_input_fault
+returns-in_default-clause-no_input_fault g c = λ other.
     c.in-Ok-pull_rules.ensures.no_input_fault (ok_not_err _ _) ∙ c.open_image.ensures.looks.disk_work.passes.input_faults
 
 pub returns-clause-input_fault : goal.returns-clause-input_fault
@@ -95,8 +91,8 @@ returns-clause-no_input_fault g c = λ other.
     c.write_exceedances.ensures.looks.disk_work.passes.input_faults ∙ c.in-Ok-pull_rules.ensures.no_input_fault (ok_not_err _ _)
     ∙ c.open_image.ensures.looks.disk_work.passes.input_faults
 
-pub returns-in_default-watching-clause-no_disk_fault : goal.returns-in_default-watching-clause-no_disk_fault
-returns-in_default-watching-clause-no_disk_fault g c = λ other.
+pub returns-in_default-clause-no_disk_fault : goal.returns-in_default-clause-no_disk_fault
+returns-in_default-clause-no_disk_fault g c = λ other.
     c.pull_rules.ensures.disk.disk_faults ∙ c.in-Ok.ensures.no_disk_fault (ok_not_err _ _)
 
 pub returns-clause-disk_fault : goal.returns-clause-disk_fault
@@ -112,11 +108,6 @@ returns-clause-no_disk_fault g c = λ other.
 
 pub returns-in_default-clause-memory : goal.returns-in_default-clause-memory
 returns-in_default-clause-memory g c = λ e.
-    let opened = c.in-Ok.ensures.opened in
-    record { long = omega (arith, opened.whole); good = λ told. (opened.image told).no_fault }
-
-pub returns-in_default-watching-clause-memory : goal.returns-in_default-watching-clause-memory
-returns-in_default-watching-clause-memory g c = λ e.
     let opened = c.in-Ok.ensures.opened in
     record { long = omega (arith, opened.whole, c.pull_rules.ensures.disk.extent); good = λ told. (opened.image told).no_fault }
 
@@ -151,35 +142,6 @@ returns-in-Err-clause-no_disk_fault g c = λ other. c.in-Err.ensures.no_disk_fau
 
 pub returns-in-Err-clause-memory : goal.returns-in-Err-clause-memory
 returns-in-Err-clause-memory g c = c.in-Err.ensures.memory
-
--- ---- where there is no room for what waits to be written
-
-pub returns-in_default-clause-answer : goal.returns-in_default-clause-answer
-returns-in_default-clause-answer g c = λ path image. inl refl
-
-pub returns-in_default-clause-before_input : goal.returns-in_default-clause-before_input
-returns-in_default-clause-before_input g c = λ before. absurd before
-
-pub returns-in_default-clause-announced : goal.returns-in_default-clause-announced
-returns-in_default-clause-announced g c = c.open_image.ensures.looks.disk_work.passes.announced.announced
-
-pub returns-in_default-clause-bounded : goal.returns-in_default-clause-bounded
-returns-in_default-clause-bounded g c = kept_bounded _ _ _ _ c.open_image.ensures.looks.disk_work.passes.input.taken
-
-pub returns-in_default-clause-input_fault : goal.returns-in_default-clause-input_fault
-returns-in_default-clause-input_fault g c = λ e. absurd (memory_not_input e)
-
-pub returns-in_default-clause-no_input_fault : goal.returns-in_default-clause-no_input_fault
-returns-in_default-clause-no_input_fault g c = λ other. c.open_image.ensures.looks.disk_work.passes.input_faults
-
-pub returns-in_default-clause-disk_fault : goal.returns-in_default-clause-disk_fault
-returns-in_default-clause-disk_fault g c = λ e. absurd (memory_not_disk e)
-
-pub returns-in_default-clause-write_fault : goal.returns-in_default-clause-write_fault
-returns-in_default-clause-write_fault g c = λ e. absurd (memory_not_write e)
-
-pub returns-in_default-clause-no_disk_fault : goal.returns-in_default-clause-no_disk_fault
-returns-in_default-clause-no_disk_fault g c = λ other. c.in-Ok.ensures.no_disk_fault (ok_not_err _ _)
 
 -- ---- where the rules aren't read
 
@@ -216,27 +178,27 @@ returns-in-Err-pull_rules-clause-memory g c = λ e.
 
 -- ---- where there is no room to watch
 
-pub returns-in_default-watching-clause-answer : goal.returns-in_default-watching-clause-answer
-returns-in_default-watching-clause-answer g c = λ path image. inl refl
+pub returns-in_default-clause-answer : goal.returns-in_default-clause-answer
+returns-in_default-clause-answer g c = λ path image. inl refl
 
-pub returns-in_default-watching-clause-before_input : goal.returns-in_default-watching-clause-before_input
-returns-in_default-watching-clause-before_input g c = λ before. absurd before
+pub returns-in_default-clause-before_input : goal.returns-in_default-clause-before_input
+returns-in_default-clause-before_input g c = λ before. absurd before
 
-pub returns-in_default-watching-clause-announced : goal.returns-in_default-watching-clause-announced
-returns-in_default-watching-clause-announced g c = c.pull_rules.ensures.announced ∙ c.open_image.ensures.looks.disk_work.passes.announced.announced
+pub returns-in_default-clause-announced : goal.returns-in_default-clause-announced
+returns-in_default-clause-announced g c = c.pull_rules.ensures.announced ∙ c.open_image.ensures.looks.disk_work.passes.announced.announced
 
-pub returns-in_default-watching-clause-bounded : goal.returns-in_default-watching-clause-bounded
-returns-in_default-watching-clause-bounded g c =
+pub returns-in_default-clause-bounded : goal.returns-in_default-clause-bounded
+returns-in_default-clause-bounded g c =
     bounded_between _ _ _ _ _ _ c.open_image.ensures.looks.disk_work.passes.input.taken c.pull_rules.ensures.bounded refl
 
-pub returns-in_default-watching-clause-input_fault : goal.returns-in_default-watching-clause-input_fault
-returns-in_default-watching-clause-input_fault g c = λ e. absurd (memory_not_input e)
+pub returns-in_default-clause-input_fault : goal.returns-in_default-clause-input_fault
+returns-in_default-clause-input_fault g c = λ e. absurd (memory_not_input e)
 
-pub returns-in_default-watching-clause-disk_fault : goal.returns-in_default-watching-clause-disk_fault
-returns-in_default-watching-clause-disk_fault g c = λ e. absurd (memory_not_disk e)
+pub returns-in_default-clause-disk_fault : goal.returns-in_default-clause-disk_fault
+returns-in_default-clause-disk_fault g c = λ e. absurd (memory_not_disk e)
 
-pub returns-in_default-watching-clause-write_fault : goal.returns-in_default-watching-clause-write_fault
-returns-in_default-watching-clause-write_fault g c = λ e. absurd (memory_not_write e)
+pub returns-in_default-clause-write_fault : goal.returns-in_default-clause-write_fault
+returns-in_default-clause-write_fault g c = λ e. absurd (memory_not_write e)
 
 -- ---- where the blocks are read
 

@@ -16,7 +16,7 @@ returns-in-Ok-write_line-clause-answer g c =
     λ path. inr (subst (IsOwn (list_bits path)) (sym c.answer_of.ensures) (end_own (list_bits path) c.in-Ok-write_line.end tt tt))
 
 pub returns-in-Ok-write_line-clause-lists : goal.returns-in-Ok-write_line-clause-lists
-returns-in-Ok-write_line-clause-lists g c = λ not. rw (← c.table.ensures, c.answer_of.ensures) c.in-Ok-write_line.ensures.all
+returns-in-Ok-write_line-clause-lists g c = λ not. rw (← c.in-Ok.ensures.table, c.answer_of.ensures) c.in-Ok-write_line.ensures.all
 
 pub returns-in-Ok-write_line-clause-input_fault : goal.returns-in-Ok-write_line-clause-input_fault
 returns-in-Ok-write_line-clause-input_fault g c = λ fails.
@@ -41,21 +41,22 @@ returns-in-Ok-write_line-clause-no_memory_input g c = λ memory.
     absurd (end_not_memory c.in-Ok-write_line.end (sym c.answer_of.ensures ∙ memory))
 
 pub returns-clause-lists : goal.returns-clause-lists
-returns-clause-lists g c = λ not. rw (← c.table.ensures) c.in-Err.ensures.part
+returns-clause-lists g c = λ not. rw (← c.in-Ok.ensures.table) c.in-Err.ensures.part
 
 pub write_line-requires : goal.write_line-requires
 write_line-requires g c =
-    let fresh : ReadsEvents c.table.result.now c.in-Ok.reader (decided_past c.table.result.now.frame.words []) = rw c.table.ensures c.in-Ok.ensures in
+    let l = c.in-Ok.listing in
+    let fresh : ReadsEvents l.table.now l.reader (decided_past l.table.now.frame.words []) = rw c.in-Ok.ensures.table c.in-Ok.ensures.fresh in
     record {
       fresh = record {
         table = refl;
-        taken = taken_nothing _ _ (text_laws g.O.Sink.written) c.table.result.now c.in-Ok.reader [] c.args.out.now fresh;
-        empty = c.in-Ok-new.ensures;
-        in_time = in_time_none c.table.result.now (g.O.Sink.written c.args.out.now) fresh.count;
+        taken = taken_nothing _ _ (text_laws g.O.Sink.written) l.table.now l.reader [] c.args.out.now fresh;
+        empty = c.in-Ok.ensures.empty;
+        in_time = in_time_none l.table.now (g.O.Sink.written c.args.out.now) fresh.count;
       };
     }
 
--- ---- where there is no room for reading or for lines
+-- ---- where there is no room for a listing
 
 pub returns-in_default-clause-answer : goal.returns-in_default-clause-answer
 returns-in_default-clause-answer g c = λ path. inl refl
@@ -77,27 +78,6 @@ returns-in_default-clause-disk g c = LeavesDisk-here _
 
 pub returns-in_default-clause-bounded : goal.returns-in_default-clause-bounded
 returns-in_default-clause-bounded g c = kept_bounded _ _ _ _ refl
-
-pub returns-in_default-new-clause-answer : goal.returns-in_default-new-clause-answer
-returns-in_default-new-clause-answer g c = λ path. inl refl
-
-pub returns-in_default-new-clause-lists : goal.returns-in_default-new-clause-lists
-returns-in_default-new-clause-lists g c = λ not. absurd (not refl)
-
-pub returns-in_default-new-clause-input_fault : goal.returns-in_default-new-clause-input_fault
-returns-in_default-new-clause-input_fault g c = λ e. absurd (memory_not_input e)
-
-pub returns-in_default-new-clause-write_fault : goal.returns-in_default-new-clause-write_fault
-returns-in_default-new-clause-write_fault g c = λ e. absurd (memory_not_write e)
-
-pub returns-in_default-new-clause-no_memory_input : goal.returns-in_default-new-clause-no_memory_input
-returns-in_default-new-clause-no_memory_input g c = λ memory. record { input = refl; taken = refl; pulled_before = refl; faults = refl }
-
-pub returns-in_default-new-clause-disk : goal.returns-in_default-new-clause-disk
-returns-in_default-new-clause-disk g c = LeavesDisk-here _
-
-pub returns-in_default-new-clause-bounded : goal.returns-in_default-new-clause-bounded
-returns-in_default-new-clause-bounded g c = kept_bounded _ _ _ _ refl
 
 -- ---- where all was pulled
 

@@ -1,4 +1,4 @@
-use Rattle.std.proofs.Common.{ap, subst, sym, ◌∙◌, List}
+use Rattle.std.proofs.Common.{ap, subst, sym, ◌∙◌, List, [], ◌∷◌, ◌++◌}
 use Rattle.fdr_deck.specs.Memory.{Memory, AreInside, held_after, held_in, FitsDisk}
 use Rattle.fdr_deck.specs.declared.calls.Entry.{Entry}
 use Rattle.fdr_deck.proofs.MemoryCalls.{held_push}
@@ -16,3 +16,24 @@ invariant_of-self c =
           (AreInside-push entries entry first c.self.invariant.2
           (subst (λ (m : Memory). FitsDisk c.args.call (held_in m)) (sym c.self.view_is) c.requires.inside)),
     )
+
+pub returns-in-Ok-clause-entered : goal.returns-in-Ok-clause-entered
+returns-in-Ok-clause-entered c = record {
+  entries = c.in-Ok.ensures.items ∙ ap (λ (m : Memory). m.entries ++ record { call = c.args.call; numbers = m.numbers } ∷ []) c.self.view_is;
+  announced = c.begin_anew.ensures.number ∙ ap (λ (m : Memory). m.numbers.announced.number) c.self.view_is;
+  least = c.begin_anew.ensures.least ∙ ap (λ (m : Memory). m.numbers.announced.number) c.self.view_is;
+  greatest = c.begin_anew.ensures.greatest ∙ ap (λ (m : Memory). m.numbers.announced.number) c.self.view_is;
+  first = ap (λ (m : Memory). m.first) c.self.view_is;
+  failing = ap (λ (m : Memory). m.failing) c.self.view_is;
+}
+
+pub returns-in-Ok-clause-pulled : goal.returns-in-Ok-clause-pulled
+returns-in-Ok-clause-pulled c = record {
+  input = ap (λ (m : Memory). m.input) c.self.view_is;
+  taken = ap (λ (m : Memory). m.numbers.taken) c.self.view_is;
+  pulled_before = ap (λ (m : Memory). m.numbers.pulled_before) c.self.view_is;
+  input_faults = ap (λ (m : Memory). m.input_faults) c.self.view_is;
+}
+
+pub returns-in-Ok-clause-disk_faults : goal.returns-in-Ok-clause-disk_faults
+returns-in-Ok-clause-disk_faults c = ap (λ (m : Memory). m.disk_faults) c.self.view_is

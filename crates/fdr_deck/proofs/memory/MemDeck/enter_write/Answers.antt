@@ -1,4 +1,4 @@
-use Rattle.std.proofs.Common.{◌≡◌, ℕ, ◌+◌, ◌≤◌, subst, List, length, sym, ap, ◌∙◌, arith, rules}
+use Rattle.std.proofs.Common.{◌≡◌, ℕ, ◌+◌, ◌≤◌, subst, List, length, sym, ap, ◌∙◌, arith, [], ◌∷◌, ◌++◌}
 use Rattle.std.proofs.lemmas.List.{with_items_is}
 use Rattle.fdr_deck.specs.Disk.{patched}
 use Rattle.fdr_deck.specs.Memory.{Memory, AreInside, held_after, held_in, current}
@@ -28,4 +28,27 @@ invariant_of-self-in-Ok c =
     )
 
 pub returns-in-Ok-clause-entered : goal.returns-in-Ok-clause-entered
-returns-in-Ok-clause-entered c = (c.in_ok-copy.copy, c.in_ok-copy.ensures, search rules)
+returns-in-Ok-clause-entered c = (
+  c.in_ok-copy.copy,
+  c.in_ok-copy.ensures,
+  record {
+    entries = c.in-Ok.ensures.items
+        ∙ ap (λ (m : Memory). m.entries ++ record { call = Write c.args.at c.in_ok-copy.copy; numbers = m.numbers } ∷ []) c.self.view_is;
+    announced = c.begin_anew.ensures.number ∙ ap (λ (m : Memory). m.numbers.announced.number) c.self.view_is;
+    least = c.begin_anew.ensures.least ∙ ap (λ (m : Memory). m.numbers.announced.number) c.self.view_is;
+    greatest = c.begin_anew.ensures.greatest ∙ ap (λ (m : Memory). m.numbers.announced.number) c.self.view_is;
+    first = ap (λ (m : Memory). m.first) c.self.view_is;
+    failing = ap (λ (m : Memory). m.failing) c.self.view_is;
+  },
+)
+
+pub returns-in-Ok-clause-pulled : goal.returns-in-Ok-clause-pulled
+returns-in-Ok-clause-pulled c = record {
+  input = ap (λ (m : Memory). m.input) c.self.view_is;
+  taken = ap (λ (m : Memory). m.numbers.taken) c.self.view_is;
+  pulled_before = ap (λ (m : Memory). m.numbers.pulled_before) c.self.view_is;
+  input_faults = ap (λ (m : Memory). m.input_faults) c.self.view_is;
+}
+
+pub returns-in-Ok-clause-disk_faults : goal.returns-in-Ok-clause-disk_faults
+returns-in-Ok-clause-disk_faults c = ap (λ (m : Memory). m.disk_faults) c.self.view_is

@@ -9,6 +9,8 @@ use Rattle.fdr_io.proofs.OutputSteps.{failed_or_not}
 use Rattle.fdr_recorder.proofs.Ended.{ring_seq_end, ring_disk_fault, ring_only}
 use Rattle.fdr_recorder.proofs.Closing.{rest-none, rest-one, HasEnded-rest}
 use Rattle.fdr_recorder.proofs.Feeding.{in_box}
+use Rattle.fdr_recorder.specs.declared.error.SessionFault.TheVariants as fault
+use Rattle.fdr_recorder.proofs.Refused.{no_ok, ok_not_err}
 use Rattle.fdr_recorder.proofs.Joined.{all_blocks-rest}
 use Rattle.fdr_recorder.proofs.session.Session.close.Given.{Over}
 use Rattle.fdr_recorder.proofs.session.Session.close.Goals.{After-add}
@@ -116,3 +118,45 @@ returns-in_err-ring-clause-cause g c fails =
     let a = c.in_err-ring.ensures in
     let p = err_from_is_err_and c.from_residual.result c.from_residual.ensures.1 in
     a.cause (ring_disk_fault c.from_residual.result c.in_err-ring.field-0.0 p.0 p.1 p.2 fails a.only)
+
+pub returns-then-count-eq0-clause-only : goal.returns-then-count-eq0-clause-only
+returns-then-count-eq0-clause-only g c = tt
+
+pub returns-then-count-eq0-clause-seq_end : goal.returns-then-count-eq0-clause-seq_end
+returns-then-count-eq0-clause-seq_end g c = λ past stands ends. absurd (ok_not_err _ fault.SeqEnd ends)
+
+pub returns-then-count-eq0-clause-room : goal.returns-then-count-eq0-clause-room
+returns-then-count-eq0-clause-room g c = c.next.ensures.bound
+
+pub returns-then-count-eq0-clause-cause : goal.returns-then-count-eq0-clause-cause
+returns-then-count-eq0-clause-cause g c = λ fails. absurd (ok_not_err _ fault.DiskFault fails)
+
+pub returns-in_err-ring-clause-next : goal.returns-in_err-ring-clause-next
+returns-in_err-ring-clause-next g c = λ past stands.
+    no_ok _ c.from_residual.result _ (err_from_is_err_and c.from_residual.result c.from_residual.ensures.1).1
+
+pub returns-in_err-ring-clause-recorded : goal.returns-in_err-ring-clause-recorded
+returns-in_err-ring-clause-recorded g c = λ past stands.
+    no_ok _ c.from_residual.result _ (err_from_is_err_and c.from_residual.result c.from_residual.ensures.1).1
+
+pub returns-in_err-ring-clause-room : goal.returns-in_err-ring-clause-room
+returns-in_err-ring-clause-room g c =
+    no_ok _ c.from_residual.result _ (err_from_is_err_and c.from_residual.result c.from_residual.ensures.1).1
+
+pub returns-in_err-ring-clause-rest : goal.returns-in_err-ring-clause-rest
+returns-in_err-ring-clause-rest g c = c.add.ensures.rest
+
+pub returns-clause-only : goal.returns-clause-only
+returns-clause-only g c = tt
+
+pub returns-clause-seq_end : goal.returns-clause-seq_end
+returns-clause-seq_end g c = λ past stands ends. absurd (ok_not_err _ fault.SeqEnd ends)
+
+pub returns-clause-room : goal.returns-clause-room
+returns-clause-room g c = c.next-2.ensures.bound
+
+pub returns-clause-cause : goal.returns-clause-cause
+returns-clause-cause g c = λ fails. absurd (ok_not_err _ fault.DiskFault fails)
+
+pub returns-clause-rest : goal.returns-clause-rest
+returns-clause-rest g c = c.add.ensures.rest

@@ -8,6 +8,8 @@ use Rattle.fdr_recorder.specs.Recording.{RecordsFirstOf, RecordsAllOf, HasEnded}
 use Rattle.fdr_recorder.specs.Past.{due_count, blocks_due_at, recorded_bytes, recording_with_record}
 use Rattle.fdr_recorder.specs.Past.{numbered_block, RecordingPast, MayFeedRecording, RepresentsRecording}
 use Rattle.fdr_io.proofs.OutputSteps.{failed_or_not}
+use Rattle.fdr_recorder.specs.declared.error.SessionFault.TheVariants as fault
+use Rattle.fdr_recorder.proofs.Refused.{no_ok, ok_not_err}
 use Rattle.fdr_recorder.proofs.Ended.{ring_seq_end, ring_disk_fault, ring_only}
 use Rattle.fdr_recorder.proofs.Feeding.{IsFeeding-first, IsFeeding-step, MayStream-giving, RecordsFirstOf-step, RecordsFirstOf-due_count, block_is}
 use Rattle.fdr_recorder.proofs.Feeding.{in_box, stream-taken, number-taken, next-taken, RecordsFirstOf-taken, RecordsAllOf-taken, HasEnded-due_count}
@@ -164,3 +166,45 @@ loop-ring-preserved g c = record {
   room = omega (arith, c.feed.auto.out, c.loop-ring.invariant.room, ap (λ (l : List ℕ). length l) c.deref_mut-in-loop-ring.ensures.value);
   rest = g.met.D.Deck.rest_then c.args.deck.now c.loop-ring.deck c.add.new.deck c.loop-ring.invariant.rest c.add.ensures.rest;
 }
+
+pub returns-in-Taken-clause-only : goal.returns-in-Taken-clause-only
+returns-in-Taken-clause-only g c = tt
+
+pub returns-in-Taken-clause-header : goal.returns-in-Taken-clause-header
+returns-in-Taken-clause-header g c = c.loop-ring.invariant.header
+
+pub returns-in-Taken-clause-fact : goal.returns-in-Taken-clause-fact
+returns-in-Taken-clause-fact g c = c.loop-ring.invariant.fact
+
+pub returns-in-Taken-clause-seq_end : goal.returns-in-Taken-clause-seq_end
+returns-in-Taken-clause-seq_end g c = λ past stands may ends. absurd (ok_not_err _ fault.SeqEnd ends)
+
+pub returns-in-Taken-clause-cause : goal.returns-in-Taken-clause-cause
+returns-in-Taken-clause-cause g c = λ fails. absurd (ok_not_err _ fault.DiskFault fails)
+
+pub returns-in-Taken-clause-rest : goal.returns-in-Taken-clause-rest
+returns-in-Taken-clause-rest g c = c.loop-ring.invariant.rest
+
+pub returns-in_err-ring-in-Block-clause-stands : goal.returns-in_err-ring-in-Block-clause-stands
+returns-in_err-ring-in-Block-clause-stands g c = λ past stands may.
+    no_ok _ c.from_residual.result _ (err_from_is_err_and c.from_residual.result c.from_residual.ensures.1).1
+
+pub returns-in_err-ring-in-Block-clause-header : goal.returns-in_err-ring-in-Block-clause-header
+returns-in_err-ring-in-Block-clause-header g c =
+    no_ok _ c.from_residual.result _ (err_from_is_err_and c.from_residual.result c.from_residual.ensures.1).1
+
+pub returns-in_err-ring-in-Block-clause-next : goal.returns-in_err-ring-in-Block-clause-next
+returns-in_err-ring-in-Block-clause-next g c = λ past stands may.
+    no_ok _ c.from_residual.result _ (err_from_is_err_and c.from_residual.result c.from_residual.ensures.1).1
+
+pub returns-in_err-ring-in-Block-clause-fact : goal.returns-in_err-ring-in-Block-clause-fact
+returns-in_err-ring-in-Block-clause-fact g c =
+    no_ok _ c.from_residual.result _ (err_from_is_err_and c.from_residual.result c.from_residual.ensures.1).1
+
+pub returns-in_err-ring-in-Block-clause-recorded : goal.returns-in_err-ring-in-Block-clause-recorded
+returns-in_err-ring-in-Block-clause-recorded g c = λ past stands may.
+    no_ok _ c.from_residual.result _ (err_from_is_err_and c.from_residual.result c.from_residual.ensures.1).1
+
+pub returns-in_err-ring-in-Block-clause-room : goal.returns-in_err-ring-in-Block-clause-room
+returns-in_err-ring-in-Block-clause-room g c = λ past stands may.
+    no_ok _ c.from_residual.result _ (err_from_is_err_and c.from_residual.result c.from_residual.ensures.1).1

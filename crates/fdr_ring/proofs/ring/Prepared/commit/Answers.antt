@@ -1,7 +1,10 @@
-use Rattle.std.proofs.Common.{◌∙◌, [], ◌∷◌, ℕ, ap, arith}
+use Rattle.std.proofs.Common.{◌∙◌, Err, [], ◌∷◌, ℕ, ap, arith, refl}
+use Rattle.std.proofs.lemmas.Result.{err_from_is_err_and}
+use Rattle.fdr_io.proofs.OutputSteps.{failed_or_not}
 use Rattle.fdr_deck.specs.Disk.{patched}
 use Rattle.fdr_slot.proofs.HeaderLemmas.{in_limits-is}
 use Rattle.fdr_ring.specs.Rings.{IsCommitting, ChangesImage}
+use Rattle.fdr_ring.proofs.Results.{no_ok}
 use Rattle.fdr_ring.proofs.Committed.{committing_deck, committing_quiet, committed, committed_ring}
 use Rattle.fdr_ring.proofs.ring.Prepared.commit.Given.{Over}
 use Rattle.fdr_ring.proofs.ring.Prepared.commit.Goals.{After-open_gate}
@@ -41,3 +44,71 @@ returns-clause-fact g c =
     committed_ring _ c.args.self.header c.args.self.next _ _ (in_limits-is c.args.self.header c.args.self.limits)
     (g.met.D.Deck.sound c.args.deck.now)
     c.requires c.open_gate.ensures.changes.extent (returns-clause-held g c) c.in_ok-open_gate.ensures.settled
+
+-- the gate was not opened
+pub returns-in_err-open_gate-clause-only : goal.returns-in_err-open_gate-clause-only
+returns-in_err-open_gate-clause-only g c =
+    let r = c.from_residual.result in
+    let p = err_from_is_err_and r c.from_residual.ensures.1 in
+    failed_or_not r (p.1 ∙ ap Err p.2)
+
+pub returns-in_err-open_gate-clause-ring : goal.returns-in_err-open_gate-clause-ring
+returns-in_err-open_gate-clause-ring g c =
+    let r = c.from_residual.result in
+    let p = err_from_is_err_and r c.from_residual.ensures.1 in
+    no_ok _ r p.0 p.1
+
+pub returns-in_err-open_gate-clause-held : goal.returns-in_err-open_gate-clause-held
+returns-in_err-open_gate-clause-held g c =
+    let r = c.from_residual.result in
+    let p = err_from_is_err_and r c.from_residual.ensures.1 in
+    no_ok _ r p.0 p.1
+
+pub returns-in_err-open_gate-clause-fact : goal.returns-in_err-open_gate-clause-fact
+returns-in_err-open_gate-clause-fact g c =
+    let r = c.from_residual.result in
+    let p = err_from_is_err_and r c.from_residual.ensures.1 in
+    no_ok _ r p.0 p.1
+
+pub returns-in_err-open_gate-clause-added : goal.returns-in_err-open_gate-clause-added
+returns-in_err-open_gate-clause-added g c =
+    let r = c.from_residual.result in
+    let p = err_from_is_err_and r c.from_residual.ensures.1 in
+    no_ok _ r p.0 p.1
+
+pub returns-in_err-open_gate-clause-settled : goal.returns-in_err-open_gate-clause-settled
+returns-in_err-open_gate-clause-settled g c =
+    let r = c.from_residual.result in
+    let p = err_from_is_err_and r c.from_residual.ensures.1 in
+    no_ok _ r p.0 p.1
+
+pub returns-in_err-open_gate-clause-succeeds : goal.returns-in_err-open_gate-clause-succeeds
+returns-in_err-open_gate-clause-succeeds g c =
+    let r = c.from_residual.result in
+    let p = err_from_is_err_and r c.from_residual.ensures.1 in
+    no_ok _ r p.0 p.1
+
+pub returns-in_err-open_gate-clause-cause : goal.returns-in_err-open_gate-clause-cause
+returns-in_err-open_gate-clause-cause g c = failed_or_not c.from_residual.result c.in_err-open_gate.ensures.cause
+
+pub returns-in_err-open_gate-clause-rest : goal.returns-in_err-open_gate-clause-rest
+returns-in_err-open_gate-clause-rest g c = c.open_gate.ensures.rest
+
+-- it was opened
+pub returns-clause-only : goal.returns-clause-only
+returns-clause-only g c = tt
+
+pub returns-clause-ring : goal.returns-clause-ring
+returns-clause-ring g c = (refl, refl, refl)
+
+pub returns-clause-settled : goal.returns-clause-settled
+returns-clause-settled g c = c.in_ok-open_gate.ensures.settled
+
+pub returns-clause-succeeds : goal.returns-clause-succeeds
+returns-clause-succeeds g c = c.in_ok-open_gate.ensures.succeeds
+
+pub returns-clause-cause : goal.returns-clause-cause
+returns-clause-cause g c = tt
+
+pub returns-clause-rest : goal.returns-clause-rest
+returns-clause-rest g c = c.open_gate.ensures.rest
