@@ -100,3 +100,6 @@ pub record_of_end : (bytes : List ℕ) (word time : ℕ) → slice_index bytes 0
     → (record_with End (slice_index bytes 1) word time ≡ record_of bytes) × (has_kind bytes ≡ true)
 unfolding record_of
 record_of_end bytes word time two word_is time_is = (rw (word_is, time_is, two) refl, rw two refl)
+
+-- whether a record is good, and its fault
+pub ruleset record_tests = (is_good_yes, is_good_unnamed, is_good_early, is_good_late, record_fault_unnamed, record_fault_early, record_fault_late)

@@ -78,7 +78,7 @@ fn record_in(bytes: &[u8; 16]) -> Option<BusRecord>
 /// Reads a record that follows one of time `before`, which is 0 at the first.
 ///
 /// `Truncated` and `Many` are faults of a whole trace, and never of one record.
-#[tactic(auto, using(crate::proofs::ParseLemmas::is_good_yes, crate::proofs::ParseLemmas::is_good_unnamed, crate::proofs::ParseLemmas::is_good_early, crate::proofs::ParseLemmas::is_good_late, crate::proofs::ParseLemmas::record_fault_unnamed, crate::proofs::ParseLemmas::record_fault_early, crate::proofs::ParseLemmas::record_fault_late))]
+#[tactic(auto, using(crate::proofs::ParseLemmas::record_tests))]
 pub fn parse(bytes: &[u8; 16], before: u64) -> Result<BusRecord, TraceFault>
     ensures read { IfOk result (λ r. r ≡ record_of bytes.now) }
     ensures good { IsOk result ↔ (is_good before bytes.now ≡ true) }

@@ -2,6 +2,7 @@ use Rattle.std.proofs.Common.{◌≤◌, ◌<◌, ◌++◌, ◌∷◌, [], refl,
 use Rattle.fdr_bus.specs.Records.{IsGoodPrefix, good_prefix, last_time, record_of}
 use Rattle.fdr_bus.proofs.NextRecord.{with_record, without_record, fault_of_record}
 use Rattle.fdr_bus.proofs.ParseLemmas.{is_good_yes, is_good_unnamed, is_good_early, is_good_late, record_fault_unnamed, record_fault_early, record_fault_late}
+use Rattle.fdr_bus.proofs.ParseLemmas.{record_tests}
 use Rattle.fdr_bus.proofs.parse.Goals as goal
 
 pub returns-in_default-clause-next : goal.returns-in_default-clause-next
@@ -50,3 +51,15 @@ returns-clause-next c = λ earlier awaits.
     subst (λ r. IsGoodPrefix (earlier ++ c.args.bytes.now) (good_prefix earlier ++ r ∷ [])) (sym read.0)
     (with_record earlier c.args.bytes.now c.args.before awaits c.told-bytes
     (is_good_yes c.args.before c.args.bytes.now read.1 order in_time))
+
+pub returns-then-record-before-clause-good : goal.returns-then-record-before-clause-good
+returns-then-record-before-clause-good c = grind (arith, record_tests)
+
+pub returns-then-record-before-clause-back : goal.returns-then-record-before-clause-back
+returns-then-record-before-clause-back c = grind (arith, record_tests)
+
+pub returns-then-record-before-clause-late : goal.returns-then-record-before-clause-late
+returns-then-record-before-clause-late c = grind (arith, record_tests)
+
+pub returns-then-record-before-clause-first_fault : goal.returns-then-record-before-clause-first_fault
+returns-then-record-before-clause-first_fault c = grind (arith, record_tests)

@@ -1,4 +1,4 @@
-use Rattle.std.proofs.Common.{◌≡◌, arith, drop}
+use Rattle.std.proofs.Common.{◌≡◌, arith, drop, rules}
 use Rattle.std.proofs.lemmas.Grind.{common_steps}
 use Rattle.byteorder.specs.Endian.{big_number}
 use Rattle.fdr_bus.proofs.ParseLemmas.{record_of_word, record_of_end}
@@ -13,3 +13,6 @@ returns-clause-read c =
       | in-1 w ↦ rw w.kind-is (record_of_word c.args.bytes.now c.read_u32.result c.read_u64.result w.in-1.is word time)
       | in-2 w ↦ rw w.kind-is (record_of_end c.args.bytes.now c.read_u32.result c.read_u64.result w.in-2.is word time)
     ]
+
+pub returns-clause-none : goal.returns-clause-none
+returns-clause-none c = search rules

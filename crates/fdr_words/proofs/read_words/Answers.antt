@@ -9,3 +9,6 @@ returns-then-args-gt-MAX_ARGS-clause-usage c =
     let args = map (string_bytes {Z = Global}) c.args.args.now in
     let many : most_form_args < length args = omega (arith, length-map c.args.args.now (string_bytes {Z = Global})) in
     ((λ e. too_many_words args many), (λ e. refl))
+
+pub uses_in_words-requires : goal.uses_in_words-requires
+uses_in_words-requires c = omega arith

@@ -1,4 +1,5 @@
-use Rattle.std.proofs.Common.{sym, ap, ◌∙◌}
+use Rattle.std.proofs.Common.{sym, ap, ◌∙◌, arith}
+use Rattle.std.proofs.lemmas.Grind.{common_steps}
 use Rattle.fdr_table.specs.Rows.{PlaceRow}
 use Rattle.fdr_check.proofs.Overlapping.{overlap_with_no_place, overlap_not_yet, overlap_found, shared_by_marks}
 use Rattle.fdr_check.proofs.overlap.overlap_above.Goals as goal
@@ -22,3 +23,6 @@ loop-other-preserved c =
     let q = c.args.place.now in
     overlap_not_yet w c.args.above.now q c.loop-other.other-index p c.loop-other-test.true c.other-item.is c.loop-other.invariant
     (sym (c.in_default.ensures ∙ shared_by_marks w p q c.args.marks.now c.requires.marks))
+
+pub returns : goal.returns
+returns c = grind (arith, common_steps) steps 2000000

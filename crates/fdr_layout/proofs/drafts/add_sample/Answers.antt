@@ -1,4 +1,5 @@
 use Rattle.std.proofs.Common.{◌≡◌, ◌+◌, ◌-◌, ◌++◌, ◌∷◌, [], List, length, take, drop, ap, ◌∙◌, arith}
+use Rattle.std.proofs.lemmas.Grind.{common_steps}
 use Rattle.std.specs.List.{filter_map}
 use Rattle.std.proofs.lemmas.List.{take_all, length-drop}
 use Rattle.fdr_layout.specs.Samples.{Part, Sample, part_at, last_at}
@@ -38,3 +39,12 @@ returns-clause-parts c =
     let more = added_few c.len-number.result (part_at c.args.index) c.args.carriers.now _ _ c.in_ok-add_parts.ensures in
     let count : length c.push.new.items.items ≡ length c.args.draft.now.list.items + 1 = push_long _ _ _ c.in_ok-push.ensures in
     omega (arith, more, count, c.requires.parts, c.requires.four)
+
+pub slice_bounds-own-count : goal.slice_bounds-own-count
+slice_bounds-own-count c = grind (arith, common_steps) steps 2000000
+
+pub slice_bounds-own-start : goal.slice_bounds-own-start
+slice_bounds-own-start c = grind (arith, common_steps) steps 2000000
+
+pub returns-clause-count : goal.returns-clause-count
+returns-clause-count c = grind (arith, common_steps) steps 2000000

@@ -1,5 +1,5 @@
 use Rattle.fdr_recover.specs.Images.{blocks_between}
-use Rattle.std.proofs.Common.{◌≡◌, ◌+◌, [], ◌∷◌, take, sym, subst}
+use Rattle.std.proofs.Common.{◌≡◌, ◌+◌, [], ◌∷◌, take, sym, subst, rules}
 use Rattle.std.specs.Prelude.{IsTrue}
 use Rattle.fdr_twin.specs.Pair.{disk_on, seen, other_side}
 use Rattle.fdr_pair.specs.SidePuts.{next_block}
@@ -66,3 +66,6 @@ returns-clause-brought g c =
     c.in-Ok-put_on.ensures.put c.in-Ok-put_on.ensures.exact (record { sure = c.in-Ok-put_on.ensures.fact; settled = c.in-Ok-put_on.ensures.settled })
     c.in-Ok-put_on.ensures.no_fault
     c.in-Ok.ensures.no_fault
+
+pub returns-in_default-put_on-clause-follower_failed : goal.returns-in_default-put_on-clause-follower_failed
+returns-in_default-put_on-clause-follower_failed c = search rules

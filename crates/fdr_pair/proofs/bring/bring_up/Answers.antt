@@ -1,4 +1,5 @@
 use Rattle.std.proofs.Common.{◌≡◌, Result, Err, sym, ◌∙◌, ap, arith}
+use Rattle.std.proofs.lemmas.Grind.{elements}
 use Rattle.std.proofs.lemmas.Result.{err_from_is_err_and}
 use Rattle.fdr_ring.specs.declared.ring.Ring.{Ring}
 use Rattle.fdr_recover.proofs.Between.{between_none}
@@ -73,3 +74,6 @@ pub returns-clause-work : goal.returns-clause-work
 returns-clause-work g c =
     brings_all _ _ c.args.ring _ _ _ _ (g.met.T.Twin.sound_pair c.loop-seq.twin) (omega (arith, c.loop-seq.invariant.end, c.loop-seq-test.false)) c.requires.end
     c.requires.near c.requires.ring.sure.ring.next c.loop-seq.invariant.work
+
+pub returns-in_err-level-clause-lead : goal.returns-in_err-level-clause-lead
+returns-in_err-level-clause-lead c = grind (arith, elements) steps 2000000

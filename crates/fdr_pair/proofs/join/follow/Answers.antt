@@ -1,3 +1,4 @@
+use Rattle.std.proofs.Common.{rules}
 use Rattle.std.proofs.lemmas.Result.{IfOk-weaker}
 use Rattle.fdr_pair.proofs.PairWorks.{content_then}
 use Rattle.fdr_pair.proofs.Joins.{lead_attached, joins_attached, joins_brought, joined_brought, refused_brought}
@@ -31,3 +32,6 @@ returns-in-Ok-clause-refused g c =
     refused_brought _ _ _ _ _ _ c.other_side.ensures c.attach_on.ensures.serves (g.met.T.Twin.sound_pair c.args.twin.now) c.requires.near c.in-Ok.ring
     c.in-Ok.ensures.header c.attach_on.ensures.keeps c.args.end (g.T.Twin.pair c.bring.new.twin) c.in-Ok.ensures.no_fault c.bring.result
     c.bring.ensures.refused c.bring.ensures.not_far
+
+pub returns-in-Err-clause-joined : goal.returns-in-Err-clause-joined
+returns-in-Err-clause-joined c = search rules

@@ -1,4 +1,5 @@
-use Rattle.std.proofs.Common.{rules, ◌≡◌, ◌∙◌, sym, codes, string_bytes, Global}
+use Rattle.std.proofs.Common.{rules, ◌≡◌, ◌∙◌, sym, codes, string_bytes, Global, arith}
+use Rattle.std.proofs.lemmas.Grind.{common_steps}
 use Rattle.fdr_pair.proofs.FourWords.{four_words}
 use Rattle.fdr_pair.proofs.words.paths_of.Goals as goal
 
@@ -9,3 +10,12 @@ returns-clause-form c =
     (codes "record") _ _ _
     c.in-len4.len_at_least c.in-len4.len_below c.command-item.is c.table-item.is c.first-item.is c.second-item.is record_word
     (sym c.as_str-table.ensures.value) (sym c.as_str-first.ensures.value) (sym c.as_str-second.ensures.value)
+
+pub returns-in_default-clause-none : goal.returns-in_default-clause-none
+returns-in_default-clause-none c = grind (arith, common_steps)
+
+pub returns-then-ne-clause-none : goal.returns-then-ne-clause-none
+returns-then-ne-clause-none c = grind (arith, common_steps) steps 2000000
+
+pub returns-clause-none : goal.returns-clause-none
+returns-clause-none c = grind (arith, common_steps) steps 2000000

@@ -1,4 +1,5 @@
 use Rattle.std.proofs.Common.{◌≡◌, ◌++◌, List, [], length, map, sym, ap, ◌∙◌, subst, arith}
+use Rattle.std.proofs.lemmas.Grind.{common_steps}
 use Rattle.std.specs.List.{All, slice_index_or}
 use Rattle.std.proofs.lemmas.List.{length-map, take_all}
 use Rattle.std.proofs.lemmas.Option.{get_or_from_slice_get}
@@ -36,3 +37,6 @@ returns-clause-countable c =
     let same : slice_index_or l.cycles c.args.cycle [] ≡ map (sample_in l) items =
     get_or_from_slice_get l.cycles c.args.cycle (map (sample_in l) items) [] c.ending_in-sample-items.ensures.samples in
     omega (arith, ap (λ (xs : List Sample). length xs) same, length-map items (sample_in l), c.ending_in-sample-items.ensures.countable)
+
+pub loop-sample-preserved : goal.loop-sample-preserved
+loop-sample-preserved c = grind (arith, common_steps) steps 2000000

@@ -1,4 +1,5 @@
 use Rattle.std.proofs.Common.{◌≡◌, ℕ, ◌+◌, ◌-◌, ◌/◌, ◌%◌, ◌<◌, ◌≤◌, List, [], ◌∷◌, ◌++◌, length, length-set, map, take, refl, sym, ap, ◌∙◌, subst, arith}
+use Rattle.std.proofs.lemmas.Grind.{elements}
 use Rattle.std.specs.Prelude.{slice_set}
 use Rattle.std.specs.List.{All}
 use Rattle.std.proofs.lemmas.List.{get_or-map, length-map, take_all, take_more, take_more_set, map_push}
@@ -74,3 +75,6 @@ returns c =
     ∙ ap (λ n. Plan (reach w s.parts) (first_at s.parts / 12 / w % 4 + 1) n (take c.loop-part.count c.loop-part.fields))
     (c.word_of.ensures ∙ ap (λ k. k % w + 1) slot)
     ∙ ap (Plan (reach w s.parts) (first_at s.parts / 12 / w % 4 + 1) (first_at s.parts / 12 % w + 1)) fields
+
+pub parts-part-items-requires : goal.parts-part-items-requires
+parts-part-items-requires c = grind (arith, elements) steps 2000000

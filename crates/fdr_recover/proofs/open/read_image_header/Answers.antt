@@ -1,4 +1,5 @@
 use Rattle.std.proofs.Common.{◌≡◌, ◌∙◌, ◌<◌, ◌≤◌, ℕ, Some, Err, ap, refl, subst, sym, arith}
+use Rattle.std.proofs.lemmas.Grind.{common_steps}
 use Rattle.std.proofs.lemmas.Result.{err_from_is_err_and}
 use Rattle.fdr_io.specs.Faults.{Rose}
 use Rattle.fdr_slot.specs.Places.{image_size}
@@ -328,3 +329,9 @@ returns-clause-disk g c =
 pub returns-clause-rest : goal.returns-clause-rest
 returns-clause-rest g c =
     g.met.D.Deck.rest_then c.args.deck.now c.size.new.self c.read.new.self c.size.ensures.rest c.read.ensures.rest
+
+pub returns-clause-read : goal.returns-clause-read
+returns-clause-read c = grind (arith, common_steps) steps 2000000
+
+pub returns-clause-good : goal.returns-clause-good
+returns-clause-good c = grind (arith, common_steps) steps 2000000

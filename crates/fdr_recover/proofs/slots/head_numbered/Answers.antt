@@ -1,5 +1,7 @@
+use Rattle.std.proofs.Common.{arith}
 use Rattle.std.proofs.lemmas.Result.{err_from_is_err_and}
 use Rattle.fdr_recover.proofs.Refused.{no_ok, on_err}
+use Rattle.fdr_recover.proofs.BlockLemmas.{blocks_at}
 use Rattle.fdr_recover.proofs.slots.head_numbered.Goals as goal
 
 -- no head was read
@@ -42,3 +44,9 @@ returns-clause-cause g c = tt
 
 pub returns-clause-rest : goal.returns-clause-rest
 returns-clause-rest g c = c.head_in.ensures.rest
+
+pub returns-clause-held : goal.returns-clause-held
+returns-clause-held c = grind (arith, blocks_at)
+
+pub returns-then-not-is_valid-clause-held : goal.returns-then-not-is_valid-clause-held
+returns-then-not-is_valid-clause-held c = grind (arith, blocks_at)

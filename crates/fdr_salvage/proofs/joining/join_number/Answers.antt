@@ -1,4 +1,5 @@
-use Rattle.std.proofs.Common.{◌++◌, ◌+◌, [], ◌∷◌, sym, ap, ◌∙◌, subst}
+use Rattle.std.proofs.Common.{◌++◌, ◌+◌, [], ◌∷◌, sym, ap, ◌∙◌, subst, arith}
+use Rattle.std.proofs.lemmas.Grind.{common_steps}
 use Rattle.std.specs.Prelude.{All, vec_len, option_to_list}
 use Rattle.fdr_recover.proofs.Handing.{ok_then}
 use Rattle.fdr_salvage.specs.Runs.{HasBlockNumbers}
@@ -46,3 +47,9 @@ returns-clause-joined c = λ blocks b number is.
     ∙ ap (λ n. (rest ++ last ∷ []) ++ run_of n (n + 1) ∷ []) (sym number)
     ∙ sym (join_apart blocks b rest last (sym is ∙ c.in-Some.ensures.items) (λ same. c.if-last-number.false (same ∙ number))))
     c.begin_run-2.ensures.begun
+
+pub returns-then-last-number-clause-more : goal.returns-then-last-number-clause-more
+returns-then-last-number-clause-more c = grind (arith, common_steps) steps 2000000
+
+pub returns-then-last-number-clause-only : goal.returns-then-last-number-clause-only
+returns-then-last-number-clause-only c = omega arith

@@ -1,4 +1,4 @@
-use Rattle.std.proofs.Common.{◌<◌, length, refl, sym, ap, ◌∙◌, subst, arith}
+use Rattle.std.proofs.Common.{◌<◌, length, refl, sym, ap, ◌∙◌, subst, arith, rules}
 use Rattle.std.specs.Prelude.{All}
 use Rattle.std.proofs.lemmas.List.Elements.{All-nil}
 use Rattle.fdr_slot.specs.Limits.{sequence_end}
@@ -37,3 +37,6 @@ loop-slot-preserved g c =
           numbers_more c.args.h.now (g.D.Deck.state c.args.deck.now).held (g.D.Deck.state c.loop-slot.deck).held c.loop-slot.numbers.items
           c.read_number.new.numbers.items c.loop-slot.slot (c.in_ok-read_number.ensures.numbers told) inv.looks.disk.held (inv.numbers told);
     }
+
+pub returns-clause-numbers : goal.returns-clause-numbers
+returns-clause-numbers c = search rules

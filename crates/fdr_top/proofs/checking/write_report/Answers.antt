@@ -1,4 +1,5 @@
-use Rattle.std.proofs.Common.{inl, inr, refl}
+use Rattle.std.proofs.Common.{inl, inr, refl, arith}
+use Rattle.std.proofs.lemmas.Grind.{common_steps}
 use Rattle.fdr_top.proofs.Commands.{nothing_reported}
 use Rattle.fdr_top.proofs.Results.{done_not_memory, done_not_write, memory_not_write, write_not_memory}
 use Rattle.fdr_top.proofs.checking.write_report.Goals as goal
@@ -39,3 +40,6 @@ returns-clause-no_write_fault g c = λ other. absurd (other refl)
 
 pub returns-clause-no_memory : goal.returns-clause-no_memory
 returns-clause-no_memory g c = λ e. absurd (write_not_memory e)
+
+pub returns-in-Ok-write_whole-clause-reports : goal.returns-in-Ok-write_whole-clause-reports
+returns-in-Ok-write_whole-clause-reports c = grind (arith, common_steps) steps 2000000

@@ -1,4 +1,5 @@
 use Rattle.std.proofs.Common.{◌≡◌, ◌∙◌, refl, arith}
+use Rattle.std.proofs.lemmas.Grind.{common_steps}
 use Rattle.fdr_slot.specs.declared.image.ImageFault.TheVariants as fault
 use Rattle.fdr_recover.proofs.Looking.{Looks-call}
 use Rattle.fdr_top.specs.Recover.{OnlyLooks}
@@ -104,3 +105,6 @@ returns-clause-disk_fault g c = λ e. absurd (ok_not_err _ _ e)
 
 pub returns-clause-no_disk_fault : goal.returns-clause-no_disk_fault
 returns-clause-no_disk_fault g c = λ other. c.in-Ok-read.ensures.succeeds.disk_faults ∙ c.in-Ok.ensures.succeeds.disk_faults
+
+pub returns-clause-header : goal.returns-clause-header
+returns-clause-header c = grind (arith, common_steps) steps 2000000

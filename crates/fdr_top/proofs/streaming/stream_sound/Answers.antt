@@ -1,4 +1,5 @@
-use Rattle.std.proofs.Common.{[], inr}
+use Rattle.std.proofs.Common.{[], inr, arith}
+use Rattle.std.proofs.lemmas.Grind.{moves}
 use Rattle.fdr_words.specs.Forms.{stream_line}
 use Rattle.fdr_top.proofs.Commands.{own_not_memory}
 use Rattle.fdr_top.proofs.streaming.stream_sound.Goals as goal
@@ -20,3 +21,9 @@ returns-in-Ok-clause-streams g c = λ some. c.stream_trace.ensures.streams c.arg
 
 pub returns-in-Ok-clause-part_of_whole : goal.returns-in-Ok-clause-part_of_whole
 returns-in-Ok-clause-part_of_whole g c = λ some. c.stream_trace.ensures.part_of_whole c.args.sound.now c.in-Ok.ensures
+
+pub returns-in-Ok-clause-input_fault : goal.returns-in-Ok-clause-input_fault
+returns-in-Ok-clause-input_fault c = grind (arith, moves) steps 2000000
+
+pub returns-in-Ok-clause-write_fault : goal.returns-in-Ok-clause-write_fault
+returns-in-Ok-clause-write_fault c = grind (arith, moves) steps 2000000

@@ -1,4 +1,5 @@
-use Rattle.std.proofs.Common.{[], ◌∙◌, refl}
+use Rattle.std.proofs.Common.{[], ◌∙◌, refl, arith}
+use Rattle.std.proofs.lemmas.Grind.{common_steps}
 use Rattle.fdr_io.proofs.OutputSteps.{whole_is_part}
 use Rattle.fdr_top.proofs.TraceAnswers.{streamed_part}
 use Rattle.fdr_top.proofs.Records.{Streams-part, Streams-failed, Streams-all}
@@ -84,3 +85,6 @@ returns-in-Err-write_rest-clause-disk g c = c.stream_records.ensures.disk
 
 pub returns-in-Err-write_rest-clause-announced : goal.returns-in-Err-write_rest-clause-announced
 returns-in-Err-write_rest-clause-announced g c = c.stream_records.ensures.announced
+
+pub write_rest-requires-clause-fed : goal.write_rest-requires-clause-fed
+write_rest-requires-clause-fed c = grind (arith, common_steps) steps 2000000

@@ -1,4 +1,4 @@
-use Rattle.std.proofs.Common.{refl, [], None, ap, inr, Err}
+use Rattle.std.proofs.Common.{refl, [], None, ap, inr, Err, rules}
 use Rattle.fdr_words.specs.Forms.{decode_levels, encode_bytes, recover_image, upgrade_image}
 use Rattle.fdr_words.specs.Request.{form_of_request}
 use Rattle.fdr_top.proofs.Carrying.{carried, carried_alone, table_refused}
@@ -56,3 +56,12 @@ returns-in-Decode-clause-deck_untouched g c = λ early.
 
 pub returns-in-RecoverImage-clause-memory : goal.returns-in-RecoverImage-clause-memory
 returns-in-RecoverImage-clause-memory g c = rw c.in-RecoverImage.is (λ reads memory. inr (c.recover.ensures.memory memory))
+
+pub returns-in-Err-clause-deck_untouched : goal.returns-in-Err-clause-deck_untouched
+returns-in-Err-clause-deck_untouched c = search rules
+
+pub returns-in-Err-clause-deck_unused : goal.returns-in-Err-clause-deck_unused
+returns-in-Err-clause-deck_unused c = search rules
+
+pub returns-in-Err-clause-memory : goal.returns-in-Err-clause-memory
+returns-in-Err-clause-memory c = search rules

@@ -1,7 +1,8 @@
-use Rattle.std.proofs.Common.{refl}
+use Rattle.std.proofs.Common.{refl, arith}
 use Rattle.fdr_readout.proofs.ListedEvents.{lists_events}
 use Rattle.fdr_top.proofs.Carrying.{nothing_done}
 use Rattle.fdr_top.proofs.Commands.{of_form}
+use Rattle.fdr_top.proofs.OneRun.{one_run}
 use Rattle.fdr_top.proofs.top.run.Goals as goal
 
 pub returns-in-Err-NoMemory-clause-runs : goal.returns-in-Err-NoMemory-clause-runs
@@ -19,3 +20,12 @@ returns-in-Err-Usage-clause-one_listing g c = λ t b. lists_events t b
 
 pub returns-in-Err-NoMemory-clause-one_listing : goal.returns-in-Err-NoMemory-clause-one_listing
 returns-in-Err-NoMemory-clause-one_listing g c = λ t b. lists_events t b
+
+pub returns-in-Ok-clause-one_run : goal.returns-in-Ok-clause-one_run
+returns-in-Ok-clause-one_run c = grind (arith, one_run)
+
+pub returns-in-Err-Usage-clause-one_run : goal.returns-in-Err-Usage-clause-one_run
+returns-in-Err-Usage-clause-one_run c = grind (arith, one_run)
+
+pub returns-in-Err-NoMemory-clause-one_run : goal.returns-in-Err-NoMemory-clause-one_run
+returns-in-Err-NoMemory-clause-one_run c = grind (arith, one_run)

@@ -1,4 +1,4 @@
-use Rattle.std.proofs.Common.{arith}
+use Rattle.std.proofs.Common.{arith, rules}
 use Rattle.fdr_deck.specs.Calls.{IsDiskWork}
 use Rattle.fdr_ring.specs.Rings.{OfSettled}
 use Rattle.fdr_top.specs.Upgrade.{VersionStop}
@@ -19,3 +19,21 @@ returns-clause-disk_work g c =
     ] in
     version_synced version _ old _ _ (sound c.args.deck.now) (sound c.if-header-eq1.deck) before c.sync.ensures.passes c.sync.ensures.moments
     c.sync.ensures.no_more
+
+pub returns-in_err-write-clause-part : goal.returns-in_err-write-clause-part
+returns-in_err-write-clause-part c = search rules
+
+pub returns-in_err-write-clause-disk_work : goal.returns-in_err-write-clause-disk_work
+returns-in_err-write-clause-disk_work c = search rules
+
+pub returns-clause-written : goal.returns-clause-written
+returns-clause-written c = search rules
+
+pub returns-clause-settled : goal.returns-clause-settled
+returns-clause-settled c = search rules
+
+pub returns-clause-part : goal.returns-clause-part
+returns-clause-part c = search rules
+
+pub returns-clause-no_disk_fault : goal.returns-clause-no_disk_fault
+returns-clause-no_disk_fault c = search rules

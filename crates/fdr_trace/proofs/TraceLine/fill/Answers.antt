@@ -1,4 +1,5 @@
-use Rattle.std.proofs.Common.{◌≡◌, ◌<◌, ◌≤◌, ℕ, List, [], ◌++◌, length, ◌∙◌, refl, arith}
+use Rattle.std.proofs.Common.{◌≡◌, ◌<◌, ◌≤◌, ℕ, List, [], ◌++◌, length, ◌∙◌, refl, arith, rules}
+use Rattle.std.proofs.lemmas.Grind.{common_steps}
 use Rattle.std.proofs.lemmas.List.{append-nil}
 use Rattle.fdr_trace.proofs.Pulling.{PullsUntilDecided-none, PullsUntilDecided-kept}
 use Rattle.fdr_trace.proofs.PullMoments.{KeepsDeck-here, KeepsDeck-then, KeepsDeck-kept}
@@ -129,3 +130,9 @@ returns-clause-filled g c = λ bytes records reads few.
       },
       inv.3,
     )
+
+pub returns-in-Err-clause-no_fault : goal.returns-in-Err-clause-no_fault
+returns-in-Err-clause-no_fault c = search rules
+
+pub loop-self-smaller : goal.loop-self-smaller
+loop-self-smaller c = grind (arith, common_steps) steps 2000000

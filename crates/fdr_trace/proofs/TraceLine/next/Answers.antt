@@ -88,3 +88,9 @@ returns-in-Ok-clause-next g c = λ bytes records reads.
           filled.2.reads few c.read.ensures.good c.read.ensures.bad,
       filled.3,
     )
+
+pub returns-then-count-eq-MAX_RECORDS-clause-no_fault : goal.returns-then-count-eq-MAX_RECORDS-clause-no_fault
+returns-then-count-eq-MAX_RECORDS-clause-no_fault c = omega arith
+
+pub returns-then-count-eq-MAX_RECORDS-clause-fresh : goal.returns-then-count-eq-MAX_RECORDS-clause-fresh
+returns-then-count-eq-MAX_RECORDS-clause-fresh c = omega arith

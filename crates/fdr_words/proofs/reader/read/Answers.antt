@@ -33,3 +33,6 @@ returns c =
           (λ among. refused_uses args (kind_of c.in-Err.error) (same (goal.at.returns c).After-are_known ∙ answer) among) c.in-Err.ensures.faults;
       uses = tt;
     }
+
+pub returns-in-OutOfMemory-clause-usage : goal.returns-in-OutOfMemory-clause-usage
+returns-in-OutOfMemory-clause-usage c = search rules

@@ -1,4 +1,4 @@
-use Rattle.std.proofs.Common.{[], false, true, refl}
+use Rattle.std.proofs.Common.{[], false, true, refl, arith, rules}
 use Rattle.fdr_biphase.specs.declared.decoder.Fitting.TheVariants.{Both, One}
 use Rattle.fdr_biphase.proofs.Standing.{comes, none_missing, all_but_one, after_first, after_turn, after_first_failure}
 use Rattle.fdr_biphase.proofs.Standing.{after_middle, after_begin, after_missing}
@@ -69,3 +69,12 @@ pub returns-in-One-3-clause-all_answered : goal.returns-in-One-3-clause-all_answ
 returns-in-One-3-clause-all_answered c = λ past more st.
     (after_missing c.args.self.now past c.args.level c.in-One.phase more
     (comes c.args.self.now past c.args.level false (One c.in-One.phase) st c.if-at-eq0.false c.if-turns-2.false c.in-One.is) c.if-at-phase.false).1
+
+pub returns-in-One-3-clause-stands : goal.returns-in-One-3-clause-stands
+returns-in-One-3-clause-stands c = omega arith
+
+pub returns-in-One-3-clause-answered : goal.returns-in-One-3-clause-answered
+returns-in-One-3-clause-answered c = omega arith
+
+pub returns-in-One-3-clause-open : goal.returns-in-One-3-clause-open
+returns-in-One-3-clause-open c = search rules

@@ -1,3 +1,4 @@
+use Rattle.std.proofs.Common.{rules}
 use Rattle.fdr_biphase.proofs.Packers.{finished_none, finished_some}
 use Rattle.fdr_biphase.proofs.packer.BitPacker.finish.Goals as goal
 
@@ -6,3 +7,6 @@ returns-then-self-eq0-clause-all c = λ bits bytes st. finished_none c.args.self
 
 pub returns-clause-all : goal.returns-clause-all
 returns-clause-all c = λ bits bytes st. finished_some c.args.self.now bits bytes st c.if-self-eq0.false
+
+pub returns-then-self-eq0-clause-none : goal.returns-then-self-eq0-clause-none
+returns-then-self-eq0-clause-none c = search rules

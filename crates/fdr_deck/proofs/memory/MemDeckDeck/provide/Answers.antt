@@ -1,4 +1,5 @@
-use Rattle.std.proofs.Common.{◌≡◌, List, ℕ, length, inl, rules}
+use Rattle.std.proofs.Common.{◌≡◌, List, ℕ, length, inl, rules, arith}
+use Rattle.std.proofs.lemmas.Grind.{common_steps}
 use Rattle.fdr_deck.specs.Memory.{held_in, left_in, HasOneCallMore, memory_state, memory_tells}
 use Rattle.fdr_deck.specs.Disk.{Begins, IsZeros}
 use Rattle.fdr_deck.specs.declared.calls.Call.TheVariants.{Provide}
@@ -77,3 +78,9 @@ returns-in_err-make-clause-zeros c =
     let zeros : HasOneCallMore c.args.self.now c.make.new.self → length (held_in c.args.self.now) ≡ 0 → (image : List ℕ)
     → IsZeros c.args.size image → left_in c.make.new.self image =
     zeros_unentered c.args.size c.args.self.now c.make.new.self c.in_err-make.ensures.unentered in search rules
+
+pub returns-then-fails-clause-unlisted : goal.returns-then-fails-clause-unlisted
+returns-then-fails-clause-unlisted c = grind (arith, common_steps) steps 2000000
+
+pub returns-clause-numbered : goal.returns-clause-numbered
+returns-clause-numbered c = grind (arith, common_steps) steps 2000000

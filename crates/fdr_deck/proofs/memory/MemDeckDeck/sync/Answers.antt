@@ -43,3 +43,6 @@ returns-clause-passes c = passes_entered Sync c.args.self.now c.pass.new.self c.
 
 pub returns-clause-moments : goal.returns-clause-moments
 returns-clause-moments c = within_sync c.args.self.now c.pass.new.self c.in_ok-pass.ensures.entered
+
+pub returns-clause-entered : goal.returns-clause-entered
+returns-clause-entered c = search rules

@@ -1,4 +1,5 @@
-use Rattle.std.proofs.Common.{List, ℕ, length, rules}
+use Rattle.std.proofs.Common.{List, ℕ, length, rules, arith}
+use Rattle.std.proofs.lemmas.Grind.{common_steps}
 use Rattle.fdr_deck.specs.Disk.{Torn}
 use Rattle.fdr_deck.specs.Memory.{left_in, HasOneCallMore}
 use Rattle.fdr_deck.proofs.MemoryDisk.{passes_unentered, within_unentered}
@@ -54,3 +55,9 @@ returns-in_err-put-clause-torn c =
     → Torn c.args.at (length c.args.bytes.now) from image → left_in c.put.new.self image =
     pending_unentered c.args.at (length c.args.bytes.now) c.args.self.now c.put.new.self
     c.in_err-put.ensures.unentered in search rules
+
+pub returns-then-fails-clause-unlisted : goal.returns-then-fails-clause-unlisted
+returns-then-fails-clause-unlisted c = grind (arith, common_steps) steps 2000000
+
+pub returns-clause-numbered : goal.returns-clause-numbered
+returns-clause-numbered c = grind (arith, common_steps) steps 2000000

@@ -1,4 +1,5 @@
 use Rattle.std.proofs.Common.{◌≡◌, ◌<◌, ℕ, List, [], ap, ◌∙◌, sym, subst, arith}
+use Rattle.std.proofs.lemmas.Grind.{moves, pieces}
 use Rattle.std.specs.List.{All, slice_index_or}
 use Rattle.fdr_layout.specs.SlotParts.{Laid}
 use Rattle.fdr_recon.specs.Plans.{Planned}
@@ -24,3 +25,15 @@ invariant_of-result c =
       params = subst (λ (l : Laid). All (λ (samples : List Sample). All (IsSampleOf c.in_ok-scales.scales.items) samples) l.cycles) (sym laid)
           (subst P (sym c.in_ok-scales.ensures) c.requires.params);
     }
+
+pub returns-in_err-scales : goal.returns-in_err-scales
+returns-in_err-scales c = grind (arith, moves) steps 2000000
+
+pub returns-in_err-words : goal.returns-in_err-words
+returns-in_err-words c = grind (arith, moves) steps 2000000
+
+pub of-requires-clause-ends : goal.of-requires-clause-ends
+of-requires-clause-ends c = search (pieces, arith) depth 5 fits 300
+
+pub returns-in_err-plans : goal.returns-in_err-plans
+returns-in_err-plans c = grind (arith, moves) steps 2000000

@@ -1,4 +1,5 @@
 use Rattle.std.proofs.Common.{◌≡◌, ◌+◌, ◌<◌, ◌^◌, [], length, map, ◌∙◌, subst, below_more, arith}
+use Rattle.std.proofs.lemmas.Grind.{moves}
 use Rattle.std.specs.List.{flat_map, range_with_len, slice_index_or}
 use Rattle.fdr_layout.proofs.Flats.{ends}
 use Rattle.fdr_recon.specs.Plans.{cycle_plans}
@@ -32,3 +33,9 @@ invariant_of-result c =
       begins = subst (λ n. c.loop-cycle.starts.items ≡ map (ends (cycle_plans l w)) (range_with_len 0 (n + 1))) all inv.starts;
       countable = λ cycle within. inv.countable cycle (omega (arith, within, all));
     }
+
+pub returns-in_err-starts : goal.returns-in_err-starts
+returns-in_err-starts c = grind (arith, moves) steps 2000000
+
+pub returns-in_err-rows : goal.returns-in_err-rows
+returns-in_err-rows c = grind (arith, moves) steps 2000000

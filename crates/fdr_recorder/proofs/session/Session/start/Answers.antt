@@ -1,4 +1,4 @@
-use Rattle.std.proofs.Common.{◌≡◌, ◌∙◌, ◌<◌, ◌+◌, ◌-◌, ◌%◌, ◌^◌, ℕ, List, Result, Ok, Err, length, ap, arith, refl, sym, subst, inr}
+use Rattle.std.proofs.Common.{◌≡◌, ◌∙◌, ◌<◌, ◌+◌, ◌-◌, ◌%◌, ◌^◌, ℕ, List, Result, Ok, Err, length, ap, arith, refl, sym, subst, inr, rules}
 use Rattle.std.proofs.lemmas.Result.{err_from_is_err_and}
 use Rattle.std.specs.Prelude.{IsTrue, OnErr}
 use Rattle.fdr_io.specs.Faults.{Rose}
@@ -594,3 +594,6 @@ returns-clause-untouched g c = λ other. tt
 
 pub returns-clause-cause : goal.returns-clause-cause
 returns-clause-cause g c = λ is. absurd (ok_not_err _ fault.DiskFault is)
+
+pub invariant_of-result : goal.invariant_of-result
+invariant_of-result c = search rules

@@ -1,4 +1,5 @@
 use Rattle.std.proofs.Common.{◌≡◌, ◌+◌, ap, ◌∙◌, subst, length, None, arith}
+use Rattle.std.proofs.lemmas.Grind.{common_steps, elements}
 use Rattle.std.specs.Prelude.{slice_get, slice_index, slice_index_or, slice_set}
 use Rattle.std.proofs.lemmas.Bool.{both_ways}
 use Rattle.std.proofs.lemmas.List.{get_or_default}
@@ -37,3 +38,12 @@ returns-clause-words c = λ n s got.
     (holds held starts inside.words.items r new c.if-is_odd.start c.from.result
     (subst (AreHeldWords held starts) len c.self.invariant) begin c.requires (odd_kept r)
     (omega (arith, sdi, c.sdi.ensures.two_bits)) sdi n s (ap (λ (h : HeldBySource). slice_get h.sources n) c.self.view_is ∙ got))
+
+pub index_mut-requires : goal.index_mut-requires
+index_mut-requires c = grind (arith, elements) steps 2000000
+
+pub index_mut-requires-2 : goal.index_mut-requires-2
+index_mut-requires-2 c = grind (arith, elements) steps 2000000
+
+pub returns-clause-long : goal.returns-clause-long
+returns-clause-long c = grind (arith, common_steps) steps 2000000

@@ -1,4 +1,5 @@
 use Rattle.std.proofs.Common.{◌≡◌, ℕ, List, length, refl, sym, ap, subst, arith}
+use Rattle.std.proofs.lemmas.Grind.{elements}
 use Rattle.std.proofs.lemmas.List.{with_items_is}
 use Rattle.fdr_sampler.specs.Kept.{SamplerKept, raw_number_at, slot_parts, HaveValues, IsDrawnWord}
 use Rattle.fdr_sampler.specs.View.{sampler_kept}
@@ -38,3 +39,6 @@ returns-clause-stands c = λ past st.
     let len : length c.data_word-plain.new.raws ≡ inside.raws.len = omega (arith, c.data_word-plain.auto.raws, c.deref_mut.ensures.len) in
     Stands-next (sampler_kept inside) _ past c.slot_within-slot.result c.data_word-plain.new.raws c.data_word-plain.result stood (draws c)
     (with_items_is inside.raws c.data_word-plain.new.raws len) refl refl refl refl refl
+
+pub invariant_of-self : goal.invariant_of-self
+invariant_of-self c = grind (arith, elements) steps 2000000

@@ -1,4 +1,5 @@
 use Rattle.std.proofs.Common.{◌≡◌, ◌*◌, ◌<◌, ◌∙◌, length, None, sym, ap, subst, arith}
+use Rattle.std.proofs.lemmas.Grind.{moves}
 use Rattle.std.specs.List.{All}
 use Rattle.std.proofs.lemmas.List.{length-map, length-replicate}
 use Rattle.fdr_layout.specs.Samples.{Sample}
@@ -29,3 +30,9 @@ invariant_of-result c =
       subst (λ (l : Laid). AreEmptyRuns c.args.frame l c.in_ok-empty_runs.empty_runs.items) laid c.in_ok-empty_runs.ensures,
       run_first c.args.frame c.in_ok-schedule.schedule (slot_within c.args.frame.words 0) (zero-mod (64 * c.args.frame.words)),
     )
+
+pub returns-in_err-held : goal.returns-in_err-held
+returns-in_err-held c = grind (arith, moves) steps 2000000
+
+pub returns-in_err-empty_runs : goal.returns-in_err-empty_runs
+returns-in_err-empty_runs c = grind (arith, moves) steps 2000000

@@ -1,4 +1,5 @@
 use Rattle.std.proofs.Common.{◌≡◌, ◌+◌, ◌<◌, ℕ, List, length, map, ap, ◌∙◌, subst, below_more, arith}
+use Rattle.std.proofs.lemmas.Grind.{common_steps, moves}
 use Rattle.std.specs.List.{All, flat_map, range_with_len}
 use Rattle.fdr_layout.specs.Samples.{Sample}
 use Rattle.fdr_layout.specs.SlotParts.{SlotPart}
@@ -35,3 +36,18 @@ invariant_of-result c =
       starts = subst (λ n. c.loop-slot.starts.items ≡ map (ends (slot_steps l)) (range_with_len 0 (n + 1))) all inv.starts;
       numbers = λ k below. inv.numbers k (omega (arith, below, all));
     }
+
+pub returns-in_err-owners : goal.returns-in_err-owners
+returns-in_err-owners c = grind (arith, moves) steps 2000000
+
+pub returns-in_err-firsts : goal.returns-in_err-firsts
+returns-in_err-firsts c = grind (arith, moves) steps 2000000
+
+pub returns-in_err-starts : goal.returns-in_err-starts
+returns-in_err-starts c = grind (arith, moves) steps 2000000
+
+pub add_steps-requires-clause-owners : goal.add_steps-requires-clause-owners
+add_steps-requires-clause-owners c = grind (arith, common_steps) steps 2000000
+
+pub add_steps-requires-clause-firsts : goal.add_steps-requires-clause-firsts
+add_steps-requires-clause-firsts c = grind (arith, common_steps) steps 2000000

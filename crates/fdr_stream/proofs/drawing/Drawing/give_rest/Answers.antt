@@ -1,4 +1,5 @@
-use Rattle.std.proofs.Common.{◌≡◌, ◌≤◌, ℕ, List, ◌++◌, length, ap, ◌∙◌, arith, length-append}
+use Rattle.std.proofs.Common.{◌≡◌, ◌≤◌, ℕ, List, ◌++◌, length, ap, ◌∙◌, arith, length-append, rules}
+use Rattle.std.proofs.lemmas.Grind.{common_steps}
 use Rattle.fdr_stream.specs.Packing.{last_byte}
 use Rattle.fdr_stream.specs.Kept.{StreamKept}
 use Rattle.fdr_stream.proofs.PackingLemmas.{length-last_byte}
@@ -24,3 +25,12 @@ give-requires-clause-room c =
 
 pub give-requires-clause-fits : goal.give-requires-clause-fits
 give-requires-clause-fits c = omega (arith, few c, c.requires.room)
+
+pub returns-clause-count : goal.returns-clause-count
+returns-clause-count c = search rules
+
+pub returns-clause-rest : goal.returns-clause-rest
+returns-clause-rest c = grind (arith, common_steps) steps 2000000
+
+pub returns-clause-left : goal.returns-clause-left
+returns-clause-left c = grind (arith, common_steps) steps 2000000

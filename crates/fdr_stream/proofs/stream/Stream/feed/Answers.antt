@@ -1,4 +1,4 @@
-use Rattle.std.proofs.Common.{◌≡◌, ℕ, ◌<◌, ◌≤◌, ⊎_elim, Bool, false, length, take, drop, refl, sym, ap, ◌∙◌, subst, arith}
+use Rattle.std.proofs.Common.{◌≡◌, ℕ, ◌<◌, ◌≤◌, ⊎_elim, Bool, false, length, take, drop, refl, sym, ap, ◌∙◌, subst, arith, rules}
 use Rattle.std.specs.Prelude.{◌↔◌, IsTrue}
 use Rattle.std.proofs.lemmas.Bool.{cases_lt, iff_false}
 use Rattle.std.proofs.lemmas.List.{length-drop}
@@ -241,3 +241,9 @@ returns-clause-taken c past st may given =
     let found = finds_later c past st may in
     Stands-taken c.args.self.now (with_late_slots k time) (with_late_slots c.take-2.new.self time) past c.args.next.now st may found.at found.all found.few
     (HasSampled-with_late_slots k c.take-2.new.self time c.args.next.now c.take-2.ensures)
+
+pub returns-then-is_full-clause-taken : goal.returns-then-is_full-clause-taken
+returns-then-is_full-clause-taken c = search rules
+
+pub returns-then-is_full-clause-untouched : goal.returns-then-is_full-clause-untouched
+returns-then-is_full-clause-untouched c = search rules

@@ -1,4 +1,5 @@
 use Rattle.std.proofs.Common.{◌≡◌, ℕ, ◌+◌, ◌*◌, ◌<◌, List, [], ◌++◌, None, length, take, drop, min, refl, sym, subst, ap, ◌∙◌, arith}
+use Rattle.std.proofs.lemmas.Grind.{common_steps}
 use Rattle.std.proofs.lemmas.List.{take-append-le, take_all, length-drop}
 use Rattle.fdr_sampler.specs.Stream.{stream_of}
 use Rattle.fdr_stream.specs.Packing.{last_byte}
@@ -86,3 +87,9 @@ returns-clause-finished c past st none =
       bytes = refl;
       sampler = st.sampler;
     })
+
+pub returns-clause-within : goal.returns-clause-within
+returns-clause-within c = grind (arith, common_steps) steps 2000000
+
+pub returns-clause-beyond : goal.returns-clause-beyond
+returns-clause-beyond c = grind (arith, common_steps) steps 2000000

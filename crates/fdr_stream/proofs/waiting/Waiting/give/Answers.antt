@@ -1,6 +1,6 @@
 use Rattle.std.proofs.Common.{rules, ◌≡◌, ◌+◌, ◌≤◌, length, replicate, sym, subst, ap, ◌∙◌, arith}
 use Rattle.std.specs.Vec.{vec_len}
-use Rattle.std.proofs.lemmas.Grind.{get_or_default_zero}
+use Rattle.std.proofs.lemmas.Grind.{get_or_default_zero, common_steps}
 use Rattle.fdr_stream.specs.Waiting.{WaitingBytes, IsZeroFrom}
 use Rattle.fdr_stream.proofs.Rooms.{IsWaiting-moved, length_whole, zeros_only}
 use Rattle.fdr_stream.proofs.waiting.Waiting.give.Goals as goal
@@ -20,3 +20,9 @@ invariant_of-self c =
     (subst (λ xs. IsZeroFrom xs 0) (sym filled) (zeros_only (vec_len c.self.inside.room)))
     (c.index-next.ensures ∙ get_or_default_zero room n c.index-next.result.now (omega (arith, inside)))
     (c.index-last.ensures ∙ get_or_default_zero room (n + 1) c.index-last.result.now (omega (arith, inside)))
+
+pub returns-clause-given : goal.returns-clause-given
+returns-clause-given c = grind (arith, common_steps) steps 2000000
+
+pub returns-clause-rest : goal.returns-clause-rest
+returns-clause-rest c = grind (arith, common_steps) steps 2000000

@@ -1,4 +1,4 @@
-use Rattle.std.proofs.Common.{◌≡◌, ◌<◌, ◌≤◌, ◌∙◌, ap, subst, false, true, length, arith}
+use Rattle.std.proofs.Common.{◌≡◌, ◌<◌, ◌≤◌, ◌∙◌, ap, subst, false, true, length, arith, rules}
 use Rattle.std.specs.Prelude.{is_some}
 use Rattle.csv.specs.Records.{fields_of}
 use Rattle.fdr_table.specs.DraftRows.{DraftRows}
@@ -62,3 +62,12 @@ returns-clause-fits c =
     let few : length c.self.inside.params < most_params = grind arith in
     subst (λ (d : DraftRows). Fits d (entry.Param c.in-Some.param)) c.self.view_is
     (none-from c.find.result (index_named c.self.inside.params c.in-Some.param.name) (index ∙ ap (index_named c.self.inside.params) name) found, few)
+
+pub returns-in_err-named-clause-fault : goal.returns-in_err-named-clause-fault
+returns-in_err-named-clause-fault c = search rules
+
+pub returns-in_err-named-clause-param : goal.returns-in_err-named-clause-param
+returns-in_err-named-clause-param c = search rules
+
+pub returns-in_err-named-clause-fits : goal.returns-in_err-named-clause-fits
+returns-in_err-named-clause-fits c = search rules

@@ -1,4 +1,4 @@
-use Rattle.std.proofs.Common.{◌<◌, ◌≤◌, ◌^◌, ◌∙◌, sym, ap, subst, arith}
+use Rattle.std.proofs.Common.{◌<◌, ◌≤◌, ◌^◌, ◌∙◌, sym, ap, subst, arith, rules}
 use Rattle.fdr_table.specs.Rows.{ParamRow}
 use Rattle.fdr_table.proofs.ValueFacts.{highest-set, signed-below, turned-fits, turned-is, turned-within}
 use Rattle.fdr_table.specs.Value.{signed_of}
@@ -35,3 +35,6 @@ returns-then-self-raw-clause-exactly c =
     turned-is c.from-raw.result c.args.raw width c.from-raw.ensures below narrow
     ∙ signed-below (param_view c.self.inside) c.args.raw c.if-self.true high
     ∙ ap (λ (p : ParamRow). signed_of p c.args.raw) c.self.view_is
+
+pub returns-else-self-clause-exactly : goal.returns-else-self-clause-exactly
+returns-else-self-clause-exactly c = search rules

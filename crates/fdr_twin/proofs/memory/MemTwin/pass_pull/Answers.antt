@@ -1,4 +1,5 @@
-use Rattle.std.proofs.Common.{inl}
+use Rattle.std.proofs.Common.{inl, arith}
+use Rattle.std.proofs.lemmas.Grind.{common_steps}
 use Rattle.fdr_twin.proofs.TwinSides.{side_entered, entered_twin_rest, entered_line, line_rest_from}
 use Rattle.fdr_twin.proofs.memory.MemTwin.pass_pull.Goals as goal
 
@@ -13,3 +14,6 @@ returns-in-Ok-clause-rest c = entered_twin_rest _ _ _ c.in-Ok.ensures.entered
 
 pub returns-in-Err-clause-rest : goal.returns-in-Err-clause-rest
 returns-in-Err-clause-rest c = line_rest_from _ _ _ _ c.in-Err.ensures.unentered c.count_input-in-Err.ensures.raised
+
+pub returns-then-fails-clause-unlisted : goal.returns-then-fails-clause-unlisted
+returns-then-fails-clause-unlisted c = grind (arith, common_steps) steps 2000000

@@ -1,4 +1,4 @@
-use Rattle.std.proofs.Common.{subst}
+use Rattle.std.proofs.Common.{subst, rules}
 use Rattle.fdr_deck.specs.Memory.{MayStopWithin}
 use Rattle.fdr_twin.specs.declared.side.Side.TheVariants.{First, Second}
 use Rattle.fdr_twin.specs.TwinMemory.{TwinMemory, memory_on}
@@ -13,3 +13,6 @@ pub returns-clause-second_left : goal.returns-clause-second_left
 returns-clause-second_left c =
     subst (λ (m : TwinMemory). MayStopWithin (memory_on Second m) c.args.call c.in_ok-second.second.items) c.self.view_is
     (rw (c.deref-3.ensures.value, c.deref-4.ensures.value) at c.in_ok-second.ensures.left)
+
+pub returns-clause-second_image : goal.returns-clause-second_image
+returns-clause-second_image c = search rules

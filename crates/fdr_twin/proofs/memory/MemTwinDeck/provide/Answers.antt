@@ -1,4 +1,5 @@
-use Rattle.std.proofs.Common.{◌≡◌, length, inl, rules}
+use Rattle.std.proofs.Common.{◌≡◌, length, inl, rules, arith}
+use Rattle.std.proofs.lemmas.Grind.{common_steps}
 use Rattle.fdr_deck.specs.Memory.{held_in, memory_state, memory_tells}
 use Rattle.fdr_deck.specs.Disk.{Begins}
 use Rattle.fdr_deck.specs.declared.calls.Call.TheVariants.{Provide}
@@ -79,3 +80,6 @@ returns-clause-moments c = let empty : length (held_in (side_memory c.args.self.
 pub returns-then-fails-clause-zeros : goal.returns-then-fails-clause-zeros
 returns-then-fails-clause-zeros c = λ numbered empty. zeros_failed c.args.size (side_memory c.args.self.now) (side_memory c.fail.new.self)
     c.fail.ensures.entered (side_numbered c.args.self.now c.fail.new.self numbered)
+
+pub returns-then-fails-clause-unlisted : goal.returns-then-fails-clause-unlisted
+returns-then-fails-clause-unlisted c = grind (arith, common_steps) steps 2000000

@@ -1,4 +1,5 @@
-use Rattle.std.proofs.Common.{length}
+use Rattle.std.proofs.Common.{length, arith}
+use Rattle.std.proofs.lemmas.Grind.{common_steps}
 use Rattle.fdr_deck.proofs.MemoryDisk.{passes_unentered, within_unentered}
 use Rattle.fdr_deck.proofs.MemoryWrite.{tears_unentered, writes_put, tears_put, extent_put, passes_put, within_put, tears_failed}
 use Rattle.fdr_deck.proofs.MemoryWrite.{pending_failed, extent_failed, passes_failed, within_failed}
@@ -55,3 +56,6 @@ returns-clause-moments c = within_put c.args.at c.args.bytes.now (side_memory c.
 pub returns-then-fails-clause-torn : goal.returns-then-fails-clause-torn
 returns-then-fails-clause-torn c = λ numbered. pending_failed c.args.at c.args.bytes.now (side_memory c.args.self.now) (side_memory c.fail_write.new.self)
     c.fail_write.ensures.entered (side_numbered c.args.self.now c.fail_write.new.self numbered)
+
+pub returns-then-fails-clause-unlisted : goal.returns-then-fails-clause-unlisted
+returns-then-fails-clause-unlisted c = grind (arith, common_steps) steps 2000000
