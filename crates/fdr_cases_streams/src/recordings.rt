@@ -1,14 +1,13 @@
 //! Worked recordings in an image.
 
 use fdr_bus::{BusRecord, RecordKind};
-use fdr_check::check;
+use fdr_check::{Sound, check};
 use fdr_deck::{Deck, MemDeck};
 use fdr_recorder::{Session, SessionFault};
 use fdr_ring::format;
 use fdr_slot::{Header, ImageFault};
 use fdr_table::Table;
-use std::alloc::Global;
-use std::test::Fail;
+use std::process::Abort;
 
 const TABLE: &[u8] = b"F,64,2,1\nP,A,0,1,,11,12,U,1,1,0,0,16\nL,A,1,1,20,0,1,12,0,1\n";
 
@@ -57,65 +56,72 @@ const END: BusRecord = BusRecord {
     time: 1_000_000,
 };
 
+fn sound_table(rt: &(impl Abort + AllocGlobal)) -> Sound {
+    let table = Table::read(rt.alloc(), TABLE).expect(rt, "a table");
+    check(rt.alloc(), table).expect(rt, "a sound table")
+}
+
+fn empty_deck(rt: &impl AllocGlobal) -> MemDeck {
+    let alloc = rt.alloc();
+    MemDeck::new(alloc, Vec::new(alloc), Vec::new(alloc), Vec::new(alloc))
+}
+
 /// Records these, and answers the next number after each call.
-fn numbers<D: Deck>(alloc: Global, deck: &mut D) -> Result<[u64; 5], Fail> {
-    let sound = check(alloc, Table::read(alloc, TABLE)?)?;
-    let none = Session::start(alloc, &sound, deck)?;
+fn numbers<D: Deck>(rt: &(impl Abort + AllocGlobal), deck: &mut D) -> [u64; 5] {
+    let sound = sound_table(rt);
+    let none = Session::start(rt.alloc(), &sound, deck).expect(rt, "a recording");
     let at_start = none.next();
-    let one = none.feed(deck, &FIRST)?;
+    let one = none.feed(deck, &FIRST).expect(rt, "the first word");
     let at_first = one.next();
-    let two = one.feed(deck, &SECOND)?;
+    let two = one.feed(deck, &SECOND).expect(rt, "the second word");
     let at_second = two.next();
-    let three = two.feed(deck, &END)?;
+    let three = two.feed(deck, &END).expect(rt, "the end");
     let at_end = three.next();
-    let at_close = three.close(deck)?;
-    Ok([at_start, at_first, at_second, at_end, at_close])
+    let at_close = three.close(deck).expect(rt, "the rest");
+    [at_start, at_first, at_second, at_end, at_close]
 }
 
 #[test]
-fn records_a_trace(rt: HostRuntime) -> Result<(), Fail> {
-    let alloc = rt.alloc();
-    let mut deck = MemDeck::new(alloc, Vec::new(alloc), Vec::new(alloc), Vec::new(alloc));
-    format(&mut deck, &IMAGE)?;
-    assert!(rt; numbers(alloc, &mut deck)? == [0, 0, 1, 1, 2] && deck.told() == 2);
-    assert!(rt; deck.image().len() == 384);
+fn records_a_trace(rt: HostRuntime) {
+    let mut deck = empty_deck(&rt);
+    format(&mut deck, &IMAGE).expect(&rt, "an image");
+    assert!(rt; numbers(&rt, &mut deck) == [0, 0, 1, 1, 2] && deck.told() == 2);
+    let image = deck.image();
     let first = [
         0x5a, 0, 0, 64, 0, 0, 0, 1, 0, 0, 0, 0, 0, 0, 0, 0, 0x47, 0x02, 0x00,
     ];
-    assert!(rt; deck.image()[64..].starts_with(&first));
     let last = [0x5a, 0, 0, 32, 0, 0, 0, 1, 0, 0, 0, 0, 0, 0, 0, 1];
-    assert!(rt; deck.image()[144..].starts_with(&last));
-    Ok(())
+    assert!(rt;
+        image.len() == 384 && image[64..].starts_with(&first) && image[144..].starts_with(&last)
+    );
 }
 
 #[test]
-fn refuses_what_is_no_image_for_the_table(rt: HostRuntime) -> Result<(), Fail> {
-    let alloc = rt.alloc();
-    let sound = check(alloc, Table::read(alloc, TABLE)?)?;
-    let mut deck = MemDeck::new(alloc, Vec::new(alloc), Vec::new(alloc), Vec::new(alloc));
+fn refuses_what_is_no_image_for_the_table(rt: HostRuntime) {
+    let sound = sound_table(&rt);
+    let mut deck = empty_deck(&rt);
     assert!(rt;
         matches!(
-            Session::start(alloc, &sound, &mut deck),
+            Session::start(rt.alloc(), &sound, &mut deck),
             Err(SessionFault::Image(ImageFault::Small))
         )
     );
-    format(&mut deck, &WIDE)?;
+    format(&mut deck, &WIDE).expect(&rt, "an image");
     assert!(rt;
         matches!(
-            Session::start(alloc, &sound, &mut deck),
+            Session::start(rt.alloc(), &sound, &mut deck),
             Err(SessionFault::WordsDiffer {
                 image: 256,
                 table: 64
             })
         )
     );
-    let mut old = MemDeck::new(alloc, Vec::new(alloc), Vec::new(alloc), Vec::new(alloc));
-    format(&mut old, &OLD)?;
+    let mut old = empty_deck(&rt);
+    format(&mut old, &OLD).expect(&rt, "an old image");
     assert!(rt;
         matches!(
-            Session::start(alloc, &sound, &mut old),
+            Session::start(rt.alloc(), &sound, &mut old),
             Err(SessionFault::OldVersion)
         )
     );
-    Ok(())
 }

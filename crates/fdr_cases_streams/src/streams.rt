@@ -1,6 +1,6 @@
 //! Worked recordings.
 
-ghost use Rattle.std.specs.Prelude.{◌≡◌, ◌<◌, ◌≤◌, ℕ, None, IfOk, OnOk};
+ghost use Rattle.std.specs.Prelude.{◌≡◌, ◌<◌, ◌≤◌, ℕ, None, OnOk};
 ghost use Rattle.fdr_bus.specs.Records.{last_time};
 ghost use Rattle.fdr_table.specs.Rows.{TableRows};
 ghost use Rattle.fdr_stream.specs.Past.{StreamPast, stream_made, stream_with_record, MayFeedStream, RepresentsStream};
@@ -25,15 +25,12 @@ const PAYLOAD: usize = 64;
 /// More blocks than any of the recordings has.
 const MANY: usize = 16;
 
-fn stream_by(alloc: Global, table: &[u8]) -> Result<Stream, Fail>
-    ensures { IfOk result (λ s. (t : TableRows) × RepresentsStream s (stream_made t 64)) }
+fn stream_by(rt: &(impl Abort + AllocGlobal), table: &[u8]) -> Stream
+    ensures { (t : TableRows) × RepresentsStream result (stream_made t 64) }
 {
-    let table = Table::read(alloc, table).ok().ok_or("table")?;
-    let sound = check(alloc, table).ok().ok_or("sound")?;
-    let Ok(stream) = Stream::new(alloc, &sound, 64) else {
-        return Err("memory")?;
-    };
-    Ok(stream)
+    let table = Table::read(rt.alloc(), table).expect(rt, "a table");
+    let sound = check(rt.alloc(), table).expect(rt, "a sound table");
+    Stream::new(rt.alloc(), &sound, 64).expect(rt, "a stream")
 }
 
 /// Feeds a record until it is taken, appends the blocks that come of it, and answers their number.
@@ -54,11 +51,16 @@ fn feed(stream: &mut Stream, next: &BusRecord, bytes: &mut Vec<u8>) -> Result<us
 
 /// The recording of a bus word at its start and of an end, by this table: how many blocks were given before the rest, and
 /// all bytes.
-fn recording(alloc: Global, table: &[u8], word: u32, end: u64) -> Result<(usize, Vec<u8>), Fail>
+fn recording(
+    rt: &(impl Abort + AllocGlobal),
+    table: &[u8],
+    word: u32,
+    end: u64,
+) -> Result<(usize, Vec<u8>), Fail>
     requires { end ≤ last_time }
 {
-    let mut stream = stream_by(alloc, table)?;
-    let mut bytes = Vec::new(alloc);
+    let mut stream = stream_by(rt, table);
+    let mut bytes = Vec::new(rt.alloc());
     let first = BusRecord {
         kind: RecordKind::Word,
         bus: 0,
@@ -90,7 +92,7 @@ fn gives_a_block_as_soon_as_it_is_whole(rt: HostRuntime) -> Result<(), Fail> {
         (4_000_000, 6, 384),
         (4_000_001, 6, 386),
     ] {
-        let (given, bytes) = recording(rt.alloc(), TABLE, 0, end)?;
+        let (given, bytes) = recording(&rt, TABLE, 0, end)?;
         assert!(rt; given == blocks, "blocks up to {end}");
         assert!(rt; bytes.len() == len, "bytes up to {end}");
     }
@@ -100,7 +102,7 @@ fn gives_a_block_as_soon_as_it_is_whole(rt: HostRuntime) -> Result<(), Fail> {
 // Word 10 of each subframe 1 has the altitude.
 #[test]
 fn packs_the_words_of_a_frame(rt: HostRuntime) -> Result<(), Fail> {
-    let (_, bytes) = recording(rt.alloc(), TABLE, 0x14c1, 4_000_001)?;
+    let (_, bytes) = recording(&rt, TABLE, 0x14c1, 4_000_001)?;
     for (at, value) in [
         (0, 0x47),
         (1, 0x02),
@@ -150,11 +152,11 @@ fn packed_words(alloc: Global, count: usize) -> Result<Vec<u8>, AllocError> {
 }
 
 /// The same words are recorded up to this time, and packed.
-fn expect_packed(rt: &impl Abort, alloc: Global, count: usize, end: u64) -> Result<(), Fail>
+fn expect_packed(rt: &(impl Abort + AllocGlobal), count: usize, end: u64) -> Result<(), Fail>
     requires { end ≤ last_time }
 {
-    let (_, bytes) = recording(alloc, DOUBLED, 0x802a_f0c1, end)?;
-    let expected = packed_words(alloc, count)?;
+    let (_, bytes) = recording(rt, DOUBLED, 0x802a_f0c1, end)?;
+    let expected = packed_words(rt.alloc(), count)?;
     assert!(rt; bytes.as_slice() == expected.as_slice(), "{count} words");
     Ok(())
 }
@@ -169,7 +171,7 @@ fn packs_the_words_of_a_block_as_their_pairs(rt: HostRuntime) -> Result<(), Fail
         (11, 171_875),
         (42, 656_250),
     ] {
-        expect_packed(&rt, rt.alloc(), count, end)?;
+        expect_packed(&rt, count, end)?;
     }
     Ok(())
 }
@@ -183,7 +185,7 @@ fn packs_the_words_of_further_blocks_as_their_pairs(rt: HostRuntime) -> Result<(
         (267, 4_171_875),
         (300, 4_687_500),
     ] {
-        expect_packed(&rt, rt.alloc(), count, end)?;
+        expect_packed(&rt, count, end)?;
     }
     Ok(())
 }

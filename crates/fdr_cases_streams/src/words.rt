@@ -1,6 +1,6 @@
 //! Words of worked recordings.
 
-ghost use Rattle.std.specs.Prelude.{◌≡◌, ◌+◌, ◌<◌, ◌≤◌, IfOk, IsTrue};
+ghost use Rattle.std.specs.Prelude.{◌≡◌, ◌+◌, ◌<◌, ◌≤◌, IsTrue};
 ghost use Rattle.fdr_bus.specs.Records.{last_time};
 ghost use Rattle.fdr_bus.specs.declared.RecordKind.TheVariants.{Word};
 ghost use Rattle.fdr_table.specs.Rows.{TableRows};
@@ -12,6 +12,7 @@ use fdr_layout::Layout;
 use fdr_sampler::Sampler;
 use fdr_table::Table;
 use std::alloc::Global;
+use std::process::Abort;
 use std::test::Fail;
 
 const COUNTER_SECOND: &[u8] =
@@ -36,18 +37,13 @@ const AGED: &[u8] =
 const AGED_LESS: &[u8] =
     b"F,64,2,1\nP,ALT,0,203,,11,12,U,1,1,0,0,64,2140624\nL,ALT,1,1234,10,0,1,12,0,1\nP,OK,0,203,,11,1,V,1,1,0,0,64,2000000\nL,OK,1,1234,11,0,1,1,0,1\n";
 
-fn sampler_of(alloc: Global, table: &[u8]) -> Result<Sampler, Fail>
-    ensures { IfOk result (λ s. (t : TableRows) × RepresentsSampler s (sampler_made t)) }
+fn sampler_of(rt: &(impl Abort + AllocGlobal), table: &[u8]) -> Sampler
+    ensures { (t : TableRows) × RepresentsSampler result (sampler_made t) }
 {
-    let table = Table::read(alloc, table).ok().ok_or("table")?;
-    let sound = check(alloc, table).ok().ok_or("sound")?;
-    let Ok(layout) = Layout::make(alloc, &sound) else {
-        return Err("memory")?;
-    };
-    let Ok(sampler) = Sampler::new(alloc, layout, &sound) else {
-        return Err("memory")?;
-    };
-    Ok(sampler)
+    let table = Table::read(rt.alloc(), table).expect(rt, "a table");
+    let sound = check(rt.alloc(), table).expect(rt, "a sound table");
+    let layout = Layout::make(rt.alloc(), &sound).expect(rt, "a layout");
+    Sampler::new(rt.alloc(), layout, &sound).expect(rt, "a sampler")
 }
 
 fn word(bus: u8, word: u32, time: u64) -> BusRecord
@@ -103,7 +99,7 @@ fn drawn_words(alloc: Global, sampler: Sampler, count: u32) -> Result<Vec<(u32, 
 // The word is of even parity, so it isn't held.
 #[test]
 fn begins_each_subframe_by_its_sync_word(rt: HostRuntime) -> Result<(), Fail> {
-    let sampler = sampler_of(rt.alloc(), COUNTER_SECOND)?;
+    let sampler = sampler_of(&rt, COUNTER_SECOND);
     let words = words_of(rt.alloc(), sampler, &word(0, 0x8000_14c1, 0), 512)?;
     for (k, value) in [
         (0, 0x247),
@@ -132,7 +128,7 @@ fn holds_a_word_at_the_time_of_a_slot(rt: HostRuntime) -> Result<(), Fail> {
         (0x14c1, 15_626, 0),
         (0x8000_14c1, 15_625, 0),
     ] {
-        let sampler = sampler_of(rt.alloc(), COUNTER_LAST)?;
+        let sampler = sampler_of(&rt, COUNTER_LAST);
         let words = words_of(rt.alloc(), sampler, &word(0, bits, time), 512)?;
         assert!(rt; words.get(1).copied() == Some(altitude), "at {time}");
         assert!(rt; words.get(255).copied() == Some(0) && words.get(511).copied() == Some(1));
@@ -150,7 +146,7 @@ fn holds_words_by_bus_and_sdi(rt: HostRuntime) -> Result<(), Fail> {
         (1, 0x14c1, 0, 0, 0),
         (0, 0x15c1, 0, 0, 0),
     ] {
-        let sampler = sampler_of(rt.alloc(), ONE_LABEL)?;
+        let sampler = sampler_of(&rt, ONE_LABEL);
         let words = words_of(rt.alloc(), sampler, &word(bus, bits, 0), 64)?;
         assert!(rt; words.get(9).copied() == Some(one), "one SDI of {bits}");
         assert!(rt; words.get(10).copied() == Some(any), "any SDI of {bits}");
@@ -170,7 +166,7 @@ fn takes_a_word_that_is_fresh(rt: HostRuntime) -> Result<(), Fail> {
         (AGED_LESS, 0x14c1, 4095, 5, 1),
         (AGED, 0x8000_14c1, 4095, 4095, 0),
     ] {
-        let sampler = sampler_of(rt.alloc(), table)?;
+        let sampler = sampler_of(&rt, table);
         let words = words_of(rt.alloc(), sampler, &word(0, bits, 0), 256)?;
         for (slot, value) in [
             (9, first),
@@ -192,7 +188,7 @@ fn takes_a_word_that_is_fresh(rt: HostRuntime) -> Result<(), Fail> {
 #[test]
 fn takes_a_value_at_its_first_part(rt: HostRuntime) -> Result<(), Fail> {
     for (time, low, high) in [(0, 0xcde, 0xab), (296_875, 0xcde, 0xab), (1_000_000, 0, 0)] {
-        let sampler = sampler_of(rt.alloc(), POSITION)?;
+        let sampler = sampler_of(&rt, POSITION);
         let words = words_of(rt.alloc(), sampler, &word(1, 0x8abc_de13, time), 512)?;
         assert!(rt;
             words.get(19).copied() == Some(low) && words.get(275).copied() == Some(high),
@@ -205,7 +201,7 @@ fn takes_a_value_at_its_first_part(rt: HostRuntime) -> Result<(), Fail> {
 // The parameter's word is in word 10 of subframe 1, and the counter in word 2.
 #[test]
 fn draws_empty_slots_at_once(rt: HostRuntime) -> Result<(), Fail> {
-    let words = drawn_words(rt.alloc(), sampler_of(rt.alloc(), COUNTER_SECOND)?, 300)?;
+    let words = drawn_words(rt.alloc(), sampler_of(&rt, COUNTER_SECOND), 300)?;
     let wanted = [
         (0, 0x247),
         (1, 0),

@@ -1,4 +1,5 @@
 use Rattle.std.proofs.Common.{ℕ, refl, arith}
+use Rattle.std.proofs.lemmas.Result.{IfOk-at_ok}
 use Rattle.fdr_bus.specs.declared.BusRecord.{BusRecord}
 use Rattle.fdr_bus.specs.declared.RecordKind.TheVariants.{Word, End}
 use Rattle.fdr_slot.specs.declared.image.Header.{Header}
@@ -27,24 +28,28 @@ third t h n m = record { order = omega arith; in_time = omega arith; unended = r
 
 pub feed-requires-clause-stands : goal.feed-requires-clause-stands
 unfolding word
-feed-requires-clause-stands g c = (_, c.in_ok-none.ensures.started.stands, first _ _ _ _)
+feed-requires-clause-stands g c = (_, (IfOk-at_ok _ c.expect-none.ensures c.start.ensures.started).stands, first _ _ _ _)
 
 pub feed-requires-clause-fact : goal.feed-requires-clause-fact
-feed-requires-clause-fact g c = c.in_ok-none.ensures.started.fact.ring
+feed-requires-clause-fact g c = (IfOk-at_ok _ c.expect-none.ensures c.start.ensures.started).fact.ring
 
 pub feed-requires-2-clause-stands : goal.feed-requires-2-clause-stands
 unfolding word
-feed-requires-2-clause-stands g c = (_, c.in_ok-one.ensures.stands _ c.in_ok-none.ensures.started.stands (first _ _ _ _), second _ _ _ _)
+feed-requires-2-clause-stands g c =
+    let none = (IfOk-at_ok _ c.expect-none.ensures c.start.ensures.started).stands in
+    (_, IfOk-at_ok _ c.expect-one.ensures (c.feed.ensures.stands _ none (first _ _ _ _)), second _ _ _ _)
 
 pub feed-requires-3-clause-stands : goal.feed-requires-3-clause-stands
 unfolding word end
 feed-requires-3-clause-stands g c =
-    (_, c.in_ok-two.ensures.stands _ (c.in_ok-one.ensures.stands _ c.in_ok-none.ensures.started.stands (first _ _ _ _)) (second _ _ _ _), third _ _ _ _)
+    let none = (IfOk-at_ok _ c.expect-none.ensures c.start.ensures.started).stands in
+    let one = IfOk-at_ok _ c.expect-one.ensures (c.feed.ensures.stands _ none (first _ _ _ _)) in
+    (_, IfOk-at_ok _ c.expect-two.ensures (c.feed-2.ensures.stands _ one (second _ _ _ _)), third _ _ _ _)
 
 pub close-requires-clause-stands : goal.close-requires-clause-stands
 unfolding word end
-close-requires-clause-stands g c = (
-  _,
-  c.in_ok-three.ensures.stands _ (c.in_ok-two.ensures.stands _ (c.in_ok-one.ensures.stands _ c.in_ok-none.ensures.started.stands
-      (first _ _ _ _)) (second _ _ _ _)) (third _ _ _ _),
-)
+close-requires-clause-stands g c =
+    let none = (IfOk-at_ok _ c.expect-none.ensures c.start.ensures.started).stands in
+    let one = IfOk-at_ok _ c.expect-one.ensures (c.feed.ensures.stands _ none (first _ _ _ _)) in
+    let two = IfOk-at_ok _ c.expect-two.ensures (c.feed-2.ensures.stands _ one (second _ _ _ _)) in
+    (_, IfOk-at_ok _ c.expect-three.ensures (c.feed-3.ensures.stands _ two (third _ _ _ _)))

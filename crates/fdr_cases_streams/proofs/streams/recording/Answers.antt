@@ -25,15 +25,15 @@ last-MayFeed t blocks word time in_time = record { order = omega arith; in_time 
 
 pub feed-requires-2 : goal.feed-requires-2
 unfolding first last after_first
-feed-requires-2 c =
-    let stream_made = c.in_ok-stream.ensures in
+feed-requires-2 g c =
+    let stream_made = c.stream_by-stream.ensures in
     let fed = c.in_ok-feed.ensures _ stream_made.1 (first-MayFeed stream_made.0 c.args.word) refl in
     (after_first stream_made.0 fed.0 c.args.word, fed.1, last-MayFeed stream_made.0 fed.0 c.args.word c.args.end c.requires, refl, refl)
 
 pub finish-rest-requires : goal.finish-rest-requires
 unfolding first last after_first
-finish-rest-requires c =
-    let stream_made = c.in_ok-stream.ensures in
+finish-rest-requires g c =
+    let stream_made = c.stream_by-stream.ensures in
     let fed = c.in_ok-feed.ensures _ stream_made.1 (first-MayFeed stream_made.0 c.args.word) refl in
     let ended = c.in_ok-blocks.ensures (after_first stream_made.0 fed.0 c.args.word) fed.1 (last-MayFeed stream_made.0 fed.0 c.args.word c.args.end c.requires)
     refl in

@@ -1,4 +1,5 @@
+use Rattle.std.proofs.lemmas.Result.{IfOk-at_ok}
 use Rattle.fdr_cases_streams.proofs.words.sampler_of.Goals as goal
 
 pub returns : goal.returns
-returns c = (c.in_ok-sound.sound, c.in-Ok-new.ensures)
+returns g c = (_, IfOk-at_ok _ c.expect.ensures c.new.ensures)
