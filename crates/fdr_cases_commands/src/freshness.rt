@@ -95,20 +95,22 @@ fn none_is_fresh_where_none_came(rt: HostRuntime) {
     assert!(rt; lists_stream(&rt, rt.alloc(), TWO_SECONDS, &[END_AT_4000000], rows));
 }
 
+/// Traces, and the rows of their streams.
+const WITHOUT_AN_AGE: &[(&[[u8; 16]], &str)] = &[
+    (
+        &[WORD_AT_0, END_AT_4000000],
+        "row,0,3,10,ALT,5\nrow,0,3,11,OK,1\nrow,0,3,12,NEG,-1\n",
+    ),
+    (
+        &[END_AT_4000000],
+        "row,0,3,10,ALT,0\nrow,0,3,11,OK,0\nrow,0,3,12,NEG,-1\n",
+    ),
+];
+
 // The number with an age of a microsecond is all ones, which is -1. The others' words don't grow old.
 #[test]
 fn a_word_without_an_age_stays_fresh(rt: HostRuntime) {
-    let cases: [(&[[u8; 16]], &str); 2] = [
-        (
-            &[WORD_AT_0, END_AT_4000000],
-            "row,0,3,10,ALT,5\nrow,0,3,11,OK,1\nrow,0,3,12,NEG,-1\n",
-        ),
-        (
-            &[END_AT_4000000],
-            "row,0,3,10,ALT,0\nrow,0,3,11,OK,0\nrow,0,3,12,NEG,-1\n",
-        ),
-    ];
-    for (trace, rows) in cases {
+    for &(trace, rows) in WITHOUT_AN_AGE {
         assert!(rt;
             lists_stream(&rt, rt.alloc(), OTHERS, trace, rows),
             "{rows}"
@@ -116,27 +118,29 @@ fn a_word_without_an_age_stays_fresh(rt: HostRuntime) {
     }
 }
 
+/// Traces, and the rows of their streams.
+const OF_OTHERS: &[(&[[u8; 16]], &str)] = &[
+    (
+        &[SDI_1_AT_0, SDI_1, END_AT_4000000],
+        "row,0,3,10,ALT,5\nrow,0,3,11,OK,1\n",
+    ),
+    (
+        &[SDI_1_AT_0, SDI_0, END_AT_4000000],
+        "row,0,3,10,ALT,4095\nrow,0,3,11,OK,0\n",
+    ),
+    (
+        &[SDI_1_AT_0, EVEN, END_AT_4000000],
+        "row,0,3,10,ALT,4095\nrow,0,3,11,OK,0\n",
+    ),
+    (
+        &[SDI_1_AT_0, END_AT_4000000],
+        "row,0,3,10,ALT,4095\nrow,0,3,11,OK,0\n",
+    ),
+];
+
 #[test]
 fn only_a_word_of_the_parameter_makes_fresh(rt: HostRuntime) {
-    let cases: [(&[[u8; 16]], &str); 4] = [
-        (
-            &[SDI_1_AT_0, SDI_1, END_AT_4000000],
-            "row,0,3,10,ALT,5\nrow,0,3,11,OK,1\n",
-        ),
-        (
-            &[SDI_1_AT_0, SDI_0, END_AT_4000000],
-            "row,0,3,10,ALT,4095\nrow,0,3,11,OK,0\n",
-        ),
-        (
-            &[SDI_1_AT_0, EVEN, END_AT_4000000],
-            "row,0,3,10,ALT,4095\nrow,0,3,11,OK,0\n",
-        ),
-        (
-            &[SDI_1_AT_0, END_AT_4000000],
-            "row,0,3,10,ALT,4095\nrow,0,3,11,OK,0\n",
-        ),
-    ];
-    for (trace, rows) in cases {
+    for &(trace, rows) in OF_OTHERS {
         assert!(rt;
             lists_stream(&rt, rt.alloc(), OF_SDI_1, trace, rows),
             "{rows}"

@@ -23,21 +23,23 @@ fn is_written(value: i64, text: &[u8]) -> bool {
     value_text(value, 1).bytes() == text
 }
 
+/// Raw numbers, the bytes that hold them, and their values, texts and rows.
+const HALVES_OF_ONE: &[(u32, &[(usize, u8)], i64, &[u8], &[u8])] = &[
+    (
+        0xfff,
+        &[(13, 0xf0), (14, 0xff)],
+        -1,
+        b"-0.1",
+        b"row,0,1,10,ALT,-0.1\n",
+    ),
+    (0, &[], 0, b"0.0", b"row,0,1,10,ALT,0.0\n"),
+];
+
 // Half of -1 is rounded down. A value counts tenths.
 #[test]
 fn writes_half_of_minus_one_with_a_decimal(rt: HostRuntime) {
     let alloc = rt.alloc();
-    let cases: [(u32, &[(usize, u8)], i64, &[u8], &[u8]); 2] = [
-        (
-            0xfff,
-            &[(13, 0xf0), (14, 0xff)],
-            -1,
-            b"-0.1",
-            b"row,0,1,10,ALT,-0.1\n",
-        ),
-        (0, &[], 0, b"0.0", b"row,0,1,10,ALT,0.0\n"),
-    ];
-    for (raw, put, value, text, row) in cases {
+    for &(raw, put, value, text, row) in HALVES_OF_ONE {
         assert!(rt;
             value_by_table(&rt, alloc, raw) == (value, 1)
                 && is_written(value, text)
