@@ -105,15 +105,38 @@ pub struct Left {
     pub calls: u64,
 }
 
-// The deck that a command leaves, with what the command answered and wrote.
-fn ran_on(alloc: Global, words: &[&str], given: Given<'_>) -> Result<(Ran, MemDeck), AllocError> {
+// What a command answers and writes over these objects, where the listed writes fail. The objects are made in other
+// functions: where memory is wanting, all that is alive is dropped, and the proof goes through each drop.
+fn ran_over(
+    alloc: Global,
+    words: &[String],
+    table: &mut MemSource,
+    deck: &mut MemDeck,
+    writes: &[u64],
+) -> Result<Ran, AllocError> {
+    let mut out = MemSink::new(alloc, writes.to_vec(alloc)?);
+    let outcome = answer(alloc, words, table, deck, &mut out);
+    let written = out.bytes().to_vec(alloc)?;
+    Ok(Ran { outcome, written })
+}
+
+// What a command answers and writes over a deck.
+fn ran_with(
+    alloc: Global,
+    words: &[&str],
+    given: Given<'_>,
+    deck: &mut MemDeck,
+) -> Result<Ran, AllocError> {
     let words = words_of(alloc, words)?;
     let mut table = MemSource::new(given.table.to_vec(alloc)?, given.reads.to_vec(alloc)?);
+    ran_over(alloc, &words, &mut table, deck, given.writes)
+}
+
+// The deck that a command leaves, with what the command answered and wrote.
+fn ran_on(alloc: Global, words: &[&str], given: Given<'_>) -> Result<(Ran, MemDeck), AllocError> {
     let mut deck = deck_of(alloc, given.image, given.line, given.calls)?;
-    let mut out = MemSink::new(alloc, given.writes.to_vec(alloc)?);
-    let outcome = answer(alloc, &words, &mut table, &mut deck, &mut out);
-    let written = out.bytes().to_vec(alloc)?;
-    Ok((Ran { outcome, written }, deck))
+    let ran = ran_with(alloc, words, given, &mut deck)?;
+    Ok((ran, deck))
 }
 
 /// Runs a command on what is given.
@@ -164,12 +187,9 @@ pub fn run_words(
     deck: &mut MemDeck,
     writes: &[u64],
 ) -> Result<Ran, AllocError> {
-    let words = words_of(alloc, words)?;
-    let mut table = MemSource::new(table.as_bytes().to_vec(alloc)?, Vec::new(alloc));
-    let mut out = MemSink::new(alloc, writes.to_vec(alloc)?);
-    let outcome = answer(alloc, &words, &mut table, deck, &mut out);
-    Ok(Ran {
-        outcome,
-        written: out.bytes().to_vec(alloc)?,
-    })
+    let given = Given {
+        writes,
+        ..Given::by(table)
+    };
+    ran_with(alloc, words, given, deck)
 }

@@ -63,23 +63,25 @@ fn lists_stream(
     lists(rt, alloc, table, &line, rows.as_bytes())
 }
 
+/// Tables, and the rows of the stream of a word at 0.
+const AGES: &[(&str, &str)] = &[
+    (
+        TWO_SECONDS,
+        "row,0,1,10,ALT,5\nrow,0,1,11,OK,1\nrow,0,2,10,ALT,5\nrow,0,2,11,OK,1\nrow,0,3,10,ALT,4095\nrow,0,3,11,OK,0\nrow,0,4,10,ALT,4095\nrow,0,4,11,OK,0\n",
+    ),
+    (
+        TO_SLOT_137,
+        "row,0,1,10,ALT,5\nrow,0,1,11,OK,1\nrow,0,2,10,ALT,5\nrow,0,2,11,OK,1\nrow,0,3,10,ALT,5\nrow,0,3,11,OK,0\nrow,0,4,10,ALT,4095\nrow,0,4,11,OK,0\n",
+    ),
+    (
+        BEFORE_SLOT_137,
+        "row,0,1,10,ALT,5\nrow,0,1,11,OK,1\nrow,0,2,10,ALT,5\nrow,0,2,11,OK,1\nrow,0,3,10,ALT,4095\nrow,0,3,11,OK,0\nrow,0,4,10,ALT,4095\nrow,0,4,11,OK,0\n",
+    ),
+];
+
 #[test]
 fn a_word_is_fresh_up_to_its_age(rt: HostRuntime) {
-    let cases = [
-        (
-            TWO_SECONDS,
-            "row,0,1,10,ALT,5\nrow,0,1,11,OK,1\nrow,0,2,10,ALT,5\nrow,0,2,11,OK,1\nrow,0,3,10,ALT,4095\nrow,0,3,11,OK,0\nrow,0,4,10,ALT,4095\nrow,0,4,11,OK,0\n",
-        ),
-        (
-            TO_SLOT_137,
-            "row,0,1,10,ALT,5\nrow,0,1,11,OK,1\nrow,0,2,10,ALT,5\nrow,0,2,11,OK,1\nrow,0,3,10,ALT,5\nrow,0,3,11,OK,0\nrow,0,4,10,ALT,4095\nrow,0,4,11,OK,0\n",
-        ),
-        (
-            BEFORE_SLOT_137,
-            "row,0,1,10,ALT,5\nrow,0,1,11,OK,1\nrow,0,2,10,ALT,5\nrow,0,2,11,OK,1\nrow,0,3,10,ALT,4095\nrow,0,3,11,OK,0\nrow,0,4,10,ALT,4095\nrow,0,4,11,OK,0\n",
-        ),
-    ];
-    for (table, rows) in cases {
+    for &(table, rows) in AGES {
         let trace = [WORD_AT_0, END_AT_4000000];
         assert!(rt;
             lists_stream(&rt, rt.alloc(), table, &trace, rows),

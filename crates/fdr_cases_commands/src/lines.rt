@@ -39,17 +39,19 @@ pub fn frame(counter: u16, altitude: u16) -> [u8; 384] {
     bytes
 }
 
+/// The words of a frame with the altitude 5, all except the first a bit earlier.
+const STRUCK_OUT: &[(u32, u16)] = &[
+    (0, 0x247),
+    (107, 5),
+    (767, 0x5b8),
+    (1535, 0xa47),
+    (2303, 0xdb8),
+];
+
 /// A frame whose bit 48 is struck out, so that all that follows is a bit earlier, and a zero bit at its end.
 pub fn frame_with_a_bit_struck_out() -> [u8; 384] {
     let mut bytes = [0; 384];
-    let words = [
-        (0, 0x247),
-        (107, 5),
-        (767, 0x5b8),
-        (1535, 0xa47),
-        (2303, 0xdb8),
-    ];
-    put_words(&mut bytes, &words);
+    put_words(&mut bytes, STRUCK_OUT);
     bytes
 }
 
@@ -61,19 +63,21 @@ pub fn frames_behind_five_bits() -> [u8; 769] {
     bytes
 }
 
+/// The first sync word of a false frame, and words that spell the other three.
+const FALSE_FRAME: &[(u32, u16)] = &[
+    (0, 0x247),
+    (760, 0x800),
+    (772, 0x05b),
+    (1528, 0x700),
+    (1540, 0x0a4),
+    (2296, 0x800),
+    (2308, 0x0db),
+];
+
 /// A frame at bit 100, words of which spell three of the sync words of a false frame at bit 0, and the frame after it.
 pub fn frame_behind_a_false_one() -> [u8; 781] {
     let mut bytes = [0; 781];
-    let words = [
-        (0, 0x247),
-        (760, 0x800),
-        (772, 0x05b),
-        (1528, 0x700),
-        (1540, 0x0a4),
-        (2296, 0x800),
-        (2308, 0x0db),
-    ];
-    put_words(&mut bytes, &words);
+    put_words(&mut bytes, FALSE_FRAME);
     put_frame(&mut bytes, 100, 0, 0);
     put_frame(&mut bytes, 3172, 1, 7);
     bytes

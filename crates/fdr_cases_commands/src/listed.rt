@@ -97,40 +97,42 @@ struct Cut<'a> {
     sessions: &'a [u32],
 }
 
+/// What cuts an exceedance of two frames in two.
+const CUTS: &[Cut<'static>] = &[
+    Cut {
+        shows: "a gap",
+        version: 0xa5,
+        last: 1,
+        between: &[0xff; 64],
+        sessions: &[1; 13],
+    },
+    Cut {
+        shows: "a gap in version 1",
+        version: 0,
+        last: 1,
+        between: &[0xff; 64],
+        sessions: &[0; 13],
+    },
+    Cut {
+        shows: "a counter that is left out",
+        version: 0xa5,
+        last: 2,
+        between: &[],
+        sessions: &[1; 12],
+    },
+    Cut {
+        shows: "a session",
+        version: 0xa5,
+        last: 1,
+        between: &[],
+        sessions: &[1, 1, 1, 1, 1, 1, 2, 2, 2, 2, 2, 2],
+    },
+];
+
 #[test]
 fn stretches_end_an_exceedance(rt: HostRuntime) {
     let alloc = rt.alloc();
-    let cuts = [
-        Cut {
-            shows: "a gap",
-            version: 0xa5,
-            last: 1,
-            between: &[0xff; 64],
-            sessions: &[1; 13],
-        },
-        Cut {
-            shows: "a gap in version 1",
-            version: 0,
-            last: 1,
-            between: &[0xff; 64],
-            sessions: &[0; 13],
-        },
-        Cut {
-            shows: "a counter that is left out",
-            version: 0xa5,
-            last: 2,
-            between: &[],
-            sessions: &[1; 12],
-        },
-        Cut {
-            shows: "a session",
-            version: 0xa5,
-            last: 1,
-            between: &[],
-            sessions: &[1, 1, 1, 1, 1, 1, 2, 2, 2, 2, 2, 2],
-        },
-    ];
-    for cut in cuts {
+    for &cut in CUTS {
         let shows = cut.shows;
         let image = two_frames(&rt, alloc, cut.version, cut.last, cut.between, cut.sessions);
         let both: &[u8] = if cut.last == 1 {

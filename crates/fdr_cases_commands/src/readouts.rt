@@ -40,13 +40,47 @@ fn with_bit_turned(line: &[u8; 1152], bit: usize) -> [u8; 1152] {
     turned
 }
 
-/// Pieces of a line, one after the other.
-fn joined(rt: &impl Abort, alloc: Global, pieces: &[&[u8]]) -> Vec<u8> {
-    let mut line = Vec::new(alloc);
-    for piece in pieces {
-        line.extend_from_slice(piece).expect(rt, "memory");
+/// What is done to a line.
+#[derive(Clone, Copy)]
+enum Change {
+    /// A bit is struck out.
+    Strike(usize),
+    /// A bit is turned.
+    Turn(usize),
+    /// A byte is put in before another.
+    PutIn(usize, u8),
+    /// The bytes between these places are left, in this order.
+    Keep(&'static [(usize, usize)]),
+}
+
+impl Change {
+    /// A line to which this is done.
+    fn done(self, rt: &impl Abort, alloc: Global, line: &[u8; 1152]) -> Vec<u8> {
+        let mut changed = Vec::new(alloc);
+        match self {
+            Change::Strike(bit) => {
+                let struck = without_bit(line, bit);
+                changed.extend_from_slice(&struck).expect(rt, "memory");
+            }
+            Change::Turn(bit) => {
+                let turned = with_bit_turned(line, bit);
+                changed.extend_from_slice(&turned).expect(rt, "memory");
+            }
+            Change::PutIn(at, byte) => {
+                let (front, rest) = line.split_at_checked(at).expect(rt, "a place");
+                changed.extend_from_slice(front).expect(rt, "memory");
+                changed.push(byte).expect(rt, "memory");
+                changed.extend_from_slice(rest).expect(rt, "memory");
+            }
+            Change::Keep(pieces) => {
+                for &(from, to) in pieces {
+                    let piece = line.get(from..to).expect(rt, "a piece");
+                    changed.extend_from_slice(piece).expect(rt, "memory");
+                }
+            }
+        }
+        changed
     }
-    line
 }
 
 /// Whether a line has this listing.
@@ -61,53 +95,49 @@ fn lists(rt: &impl Abort, alloc: Global, line: &[u8], listing: &str) -> bool {
 
 const CLEAN: &str = "row,0,1,10,ALT,5\nrow,1,1,10,ALT,6\nrow,2,1,10,ALT,7\n";
 
+/// What is done to the line of three frames, and what is listed of it then.
+const CHANGES: &[(&str, Change, &str)] = &[
+    (
+        "a bit of the second frame is struck out",
+        Change::Strike(5000),
+        "row,0,1,10,ALT,5\ngap,3072,3071\nrow,2,1,10,ALT,7\ngap,9215,1\n",
+    ),
+    (
+        "the first bit of the second frame is turned",
+        Change::Turn(3072),
+        "row,0,1,10,ALT,5\ngap,3072,3072\nrow,2,1,10,ALT,7\n",
+    ),
+    (
+        "the first 100 bytes are struck out",
+        Change::Keep(&[(100, 1152)]),
+        "gap,0,2272\nrow,1,1,10,ALT,6\nrow,2,1,10,ALT,7\n",
+    ),
+    (
+        "the second frame is struck out",
+        Change::Keep(&[(0, 384), (768, 1152)]),
+        "row,0,1,10,ALT,5\nrow,2,1,10,ALT,7\n",
+    ),
+    (
+        "the second frame is doubled",
+        Change::Keep(&[(0, 768), (384, 1152)]),
+        "row,0,1,10,ALT,5\nrow,1,1,10,ALT,6\nrow,1,1,10,ALT,6\nrow,2,1,10,ALT,7\n",
+    ),
+    (
+        "a byte is put in before the second frame",
+        Change::PutIn(384, 0xff),
+        "row,0,1,10,ALT,5\ngap,3072,8\nrow,1,1,10,ALT,6\nrow,2,1,10,ALT,7\n",
+    ),
+];
+
 #[test]
 fn lists_the_frames_that_survive(rt: HostRuntime) {
     let alloc = rt.alloc();
     let line = three_frames();
     assert!(rt; lists(&rt, alloc, &line, CLEAN));
-    let (first, second, last) = (&line[..384], &line[384..768], &line[768..]);
-    let struck = without_bit(&line, 5000);
-    let turned = with_bit_turned(&line, 3072);
-    let without_second = joined(&rt, alloc, &[first, last]);
-    let doubled = joined(&rt, alloc, &[first, second, second, last]);
-    let extra: &[u8] = &[0xff];
-    let longer = joined(&rt, alloc, &[first, extra, second, last]);
-    let cases: [(&str, &[u8], &str); 6] = [
-        (
-            "a bit of the second frame is struck out",
-            &struck,
-            "row,0,1,10,ALT,5\ngap,3072,3071\nrow,2,1,10,ALT,7\ngap,9215,1\n",
-        ),
-        (
-            "the first bit of the second frame is turned",
-            &turned,
-            "row,0,1,10,ALT,5\ngap,3072,3072\nrow,2,1,10,ALT,7\n",
-        ),
-        (
-            "the first 100 bytes are struck out",
-            &line[100..],
-            "gap,0,2272\nrow,1,1,10,ALT,6\nrow,2,1,10,ALT,7\n",
-        ),
-        (
-            "the second frame is struck out",
-            &without_second,
-            "row,0,1,10,ALT,5\nrow,2,1,10,ALT,7\n",
-        ),
-        (
-            "the second frame is doubled",
-            &doubled,
-            "row,0,1,10,ALT,5\nrow,1,1,10,ALT,6\nrow,1,1,10,ALT,6\nrow,2,1,10,ALT,7\n",
-        ),
-        (
-            "a byte is put in before the second frame",
-            &longer,
-            "row,0,1,10,ALT,5\ngap,3072,8\nrow,1,1,10,ALT,6\nrow,2,1,10,ALT,7\n",
-        ),
-    ];
-    for (shows, altered, listing) in cases {
+    for &(shows, change, listing) in CHANGES {
+        let changed = change.done(&rt, alloc, &line);
         assert!(rt;
-            lists(&rt, alloc, altered, listing) && listing.as_bytes() != CLEAN.as_bytes(),
+            lists(&rt, alloc, &changed, listing) && listing.as_bytes() != CLEAN.as_bytes(),
             "{shows}"
         );
     }

@@ -74,26 +74,28 @@ fn with_a_bit_before(frames: &[u8; 768], bit: usize) -> [u8; 769] {
     longer
 }
 
+/// Traces of one altitude and two positions.
+const TRACES: &[[[u8; 16]; 4]] = &[
+    [
+        WORD_AT_0,
+        POSITION_AT_0,
+        POSITION_AT_1000000,
+        END_AT_8000000,
+    ],
+    // Words of other buses at one time may come in either order.
+    [
+        POSITION_AT_0,
+        WORD_AT_0,
+        POSITION_AT_1000000,
+        END_AT_8000000,
+    ],
+];
+
 #[test]
 fn streams_pieces_of_one_value(rt: HostRuntime) {
     let expected = two_frames();
-    let traces = [
-        [
-            WORD_AT_0,
-            POSITION_AT_0,
-            POSITION_AT_1000000,
-            END_AT_8000000,
-        ],
-        // Words of other buses at one time may come in either order.
-        [
-            POSITION_AT_0,
-            WORD_AT_0,
-            POSITION_AT_1000000,
-            END_AT_8000000,
-        ],
-    ];
-    for trace in traces {
-        let line = streamed(&rt, rt.alloc(), TWO_PARTS, &trace);
+    for trace in TRACES {
+        let line = streamed(&rt, rt.alloc(), TWO_PARTS, trace);
         assert!(rt; line.as_slice() == expected.as_slice());
     }
 }

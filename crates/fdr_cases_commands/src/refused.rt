@@ -25,22 +25,24 @@ fn refuses(
     watches(rt, alloc, image, rules, answer, b"")
 }
 
+/// Rules, the row that is refused, and its fault.
+const REFUSED: &[(&str, u32, RuleFault)] = &[
+    ("HI,ALT,above,4\n", 0, RuleFault::Shape),
+    ("HI,ALT,above,4,1\n\n,,,,,\n", 1, RuleFault::Shape),
+    ("HI,ALT,over,4,1\n", 0, RuleFault::Number { field: 2 }),
+    ("HI,ALT,above,4.5,1\n", 0, RuleFault::Number { field: 3 }),
+    ("HI,ALT,above,4,0\n", 0, RuleFault::Number { field: 4 }),
+    ("HI,ALT,above,4,1025\n", 0, RuleFault::Number { field: 4 }),
+    (",ALT,above,4,1\n", 0, RuleFault::Name),
+    ("HI,SPD,above,4,2\n", 0, RuleFault::Unknown),
+    ("HI,ALT,above,4,2\nHI,ALT,below,4,2\n", 1, RuleFault::Twice),
+];
+
 #[test]
 fn refuses_rules_for_each_fault(rt: HostRuntime) {
     let alloc = rt.alloc();
     let image = one_frame(&rt, alloc);
-    let cases = [
-        ("HI,ALT,above,4\n", 0, RuleFault::Shape),
-        ("HI,ALT,above,4,1\n\n,,,,,\n", 1, RuleFault::Shape),
-        ("HI,ALT,over,4,1\n", 0, RuleFault::Number { field: 2 }),
-        ("HI,ALT,above,4.5,1\n", 0, RuleFault::Number { field: 3 }),
-        ("HI,ALT,above,4,0\n", 0, RuleFault::Number { field: 4 }),
-        ("HI,ALT,above,4,1025\n", 0, RuleFault::Number { field: 4 }),
-        (",ALT,above,4,1\n", 0, RuleFault::Name),
-        ("HI,SPD,above,4,2\n", 0, RuleFault::Unknown),
-        ("HI,ALT,above,4,2\nHI,ALT,below,4,2\n", 1, RuleFault::Twice),
-    ];
-    for (rules, row, fault) in cases {
+    for &(rules, row, fault) in REFUSED {
         assert!(rt;
             refuses(&rt, alloc, &image, rules.as_bytes(), row, fault),
             "{rules}"

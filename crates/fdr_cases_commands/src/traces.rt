@@ -13,11 +13,6 @@ const COUNTER_LAST: &str = "F,64,64,4\nP,ALT,0,203,,11,12,U,1,1,0,0,16\nL,ALT,1,
 
 const STREAM: &[&str] = &["stream", "t1.csv"];
 
-// Where the altitude 5 is in a frame by the first table, and where it does in one by the second.
-const FIVE: &[(usize, u8)] = &[(13, 0x50)];
-
-const FIVE_SECOND: &[(usize, u8)] = &[(1, 0x52)];
-
 // Words of label 203 with the value 5, of odd parity except the one before the last, and ends.
 const WORD_AT_15625: [u8; 16] = [1, 0, 0, 0, 0, 0, 0x14, 0xc1, 0, 0, 0, 0, 0, 0, 0x3d, 0x09];
 
@@ -38,112 +33,156 @@ fn streams(
     table: &str,
     trace: &[[u8; 16]],
     answer: Outcome,
-    written: &[u8],
+    streamed: Streamed<'_>,
 ) -> bool {
     let line = trace_of(rt, alloc, trace);
     let given = Given {
         line: &line,
         ..Given::by(table)
     };
-    gives(rt, alloc, STREAM, given, answer, written)
+    let bytes = streamed.bytes(rt, alloc);
+    gives(rt, alloc, STREAM, given, answer, &bytes)
 }
+
+/// What is streamed: at most one frame, by its bytes that no sync word has, and the bytes after it.
+#[derive(Clone, Copy)]
+struct Streamed<'a> {
+    frame: Option<&'a [(usize, u8)]>,
+    rest: &'a [u8],
+}
+
+impl Streamed<'_> {
+    fn bytes(self, rt: &impl Abort, alloc: Global) -> Vec<u8> {
+        let mut bytes = Vec::new(alloc);
+        if let Some(put) = self.frame {
+            let frame = frame_with(put);
+            bytes.extend_from_slice(&frame).expect(rt, "memory");
+        }
+        bytes.extend_from_slice(self.rest).expect(rt, "memory");
+        bytes
+    }
+}
+
+const NOTHING: Streamed<'static> = Streamed {
+    frame: None,
+    rest: &[],
+};
+
+const ZEROS: Streamed<'static> = Streamed {
+    frame: Some(&[]),
+    rest: &[],
+};
 
 /// A frame of zeros and the first word of the next.
-fn a_word_more(rt: &impl Abort, alloc: Global) -> Vec<u8> {
-    let mut bytes = frame_with(&[]).to_vec(alloc).expect(rt, "memory");
-    bytes.extend_from_slice(&[0x47, 0x02]).expect(rt, "memory");
-    bytes
-}
+const ZEROS_AND_A_WORD: Streamed<'static> = Streamed {
+    rest: &[0x47, 0x02],
+    ..ZEROS
+};
 
-/// The answer to a trace that is refused at a record.
-fn refused(index: u64, fault: TraceFault) -> Outcome {
-    Outcome::TraceRefused { index, fault }
-}
+/// The altitude 5 in a frame by the first table, and in one by the second.
+const FIVE: Streamed<'static> = Streamed {
+    frame: Some(&[(13, 0x50)]),
+    ..ZEROS
+};
+
+const FIVE_SECOND: Streamed<'static> = Streamed {
+    frame: Some(&[(1, 0x52)]),
+    ..ZEROS
+};
+
+/// Tables and traces, with what is answered and streamed.
+const WORKED: &[(&str, &str, &[[u8; 16]], Outcome, Streamed<'static>)] = &[
+    ("an end", ALTITUDE, &[END_AT_4000000], Outcome::Done, ZEROS),
+    (
+        "an end a slot later",
+        ALTITUDE,
+        &[END_AT_4000001],
+        Outcome::Done,
+        ZEROS_AND_A_WORD,
+    ),
+    (
+        "a word at a slot's time",
+        COUNTER_LAST,
+        &[WORD_AT_15625, END_AT_4000000],
+        Outcome::Done,
+        FIVE_SECOND,
+    ),
+    (
+        "a word after it",
+        COUNTER_LAST,
+        &[WORD_AT_15626, END_AT_4000000],
+        Outcome::Done,
+        ZEROS,
+    ),
+    (
+        "even parity",
+        COUNTER_LAST,
+        &[EVEN_AT_15625, END_AT_4000000],
+        Outcome::Done,
+        ZEROS,
+    ),
+    (
+        "nothing counts behind an end",
+        ALTITUDE,
+        &[WORD_AT_0, END_AT_4000000, OTHER_KIND],
+        Outcome::Done,
+        FIVE,
+    ),
+    (
+        "another kind",
+        ALTITUDE,
+        &[OTHER_KIND],
+        Outcome::TraceRefused {
+            index: 0,
+            fault: TraceFault::Kind,
+        },
+        NOTHING,
+    ),
+    (
+        "too late",
+        ALTITUDE,
+        &[TOO_LATE],
+        Outcome::TraceRefused {
+            index: 0,
+            fault: TraceFault::Late,
+        },
+        NOTHING,
+    ),
+    (
+        "nothing",
+        ALTITUDE,
+        &[],
+        Outcome::TraceRefused {
+            index: 0,
+            fault: TraceFault::Truncated,
+        },
+        NOTHING,
+    ),
+    (
+        "time goes back",
+        ALTITUDE,
+        &[WORD_AT_0, WORD_AT_4000000, WORD_AT_15625],
+        Outcome::TraceRefused {
+            index: 2,
+            fault: TraceFault::Back,
+        },
+        FIVE,
+    ),
+];
 
 #[test]
 fn streams_worked_traces(rt: HostRuntime) {
     let alloc = rt.alloc();
-    let done = Outcome::Done;
-    let zero = frame_with(&[]);
-    let five = frame_with(FIVE);
-    let second = frame_with(FIVE_SECOND);
-    let more = a_word_more(&rt, alloc);
-    let cases: [(&str, &str, &[[u8; 16]], Outcome, &[u8]); 10] = [
-        ("an end", ALTITUDE, &[END_AT_4000000], done, &zero),
-        (
-            "an end a slot later",
-            ALTITUDE,
-            &[END_AT_4000001],
-            done,
-            &more,
-        ),
-        (
-            "a word at a slot's time",
-            COUNTER_LAST,
-            &[WORD_AT_15625, END_AT_4000000],
-            done,
-            &second,
-        ),
-        (
-            "a word after it",
-            COUNTER_LAST,
-            &[WORD_AT_15626, END_AT_4000000],
-            done,
-            &zero,
-        ),
-        (
-            "even parity",
-            COUNTER_LAST,
-            &[EVEN_AT_15625, END_AT_4000000],
-            done,
-            &zero,
-        ),
-        (
-            "nothing counts behind an end",
-            ALTITUDE,
-            &[WORD_AT_0, END_AT_4000000, OTHER_KIND],
-            done,
-            &five,
-        ),
-        (
-            "another kind",
-            ALTITUDE,
-            &[OTHER_KIND],
-            refused(0, TraceFault::Kind),
-            &[],
-        ),
-        (
-            "too late",
-            ALTITUDE,
-            &[TOO_LATE],
-            refused(0, TraceFault::Late),
-            &[],
-        ),
-        (
-            "nothing",
-            ALTITUDE,
-            &[],
-            refused(0, TraceFault::Truncated),
-            &[],
-        ),
-        (
-            "time goes back",
-            ALTITUDE,
-            &[WORD_AT_0, WORD_AT_4000000, WORD_AT_15625],
-            refused(2, TraceFault::Back),
-            &five,
-        ),
-    ];
-    for (shows, table, trace, answer, written) in cases {
+    for &(shows, table, trace, answer, streamed) in WORKED {
         assert!(rt;
-            streams(&rt, alloc, table, trace, answer, written),
+            streams(&rt, alloc, table, trace, answer, streamed),
             "{shows}"
         );
     }
 }
 
 /// A trace of which bytes at its end are left out, the calls of the deck and of the sink that fail, and what is answered
-/// and written.
+/// and streamed.
 #[derive(Clone, Copy)]
 struct Fault<'a> {
     shows: &'a str,
@@ -152,7 +191,7 @@ struct Fault<'a> {
     pulls: &'a [u64],
     writes: &'a [u64],
     answer: Outcome,
-    written: &'a [u8],
+    streamed: Streamed<'a>,
 }
 
 /// Whether a fault is answered as it says.
@@ -165,44 +204,49 @@ fn is_as_said(rt: &impl Abort, alloc: Global, case: &Fault) -> bool {
         writes: case.writes,
         ..Given::by(ALTITUDE)
     };
-    gives(rt, alloc, STREAM, given, case.answer, case.written)
+    let bytes = case.streamed.bytes(rt, alloc);
+    gives(rt, alloc, STREAM, given, case.answer, &bytes)
 }
+
+/// Faults of a line, of the input and of the sink.
+const FAULTS: &[Fault<'static>] = &[
+    Fault {
+        shows: "a word and 15 bytes",
+        trace: &[WORD_AT_0, END_AT_4000000],
+        cut: 1,
+        pulls: &[],
+        writes: &[],
+        answer: Outcome::TraceRefused {
+            index: 1,
+            fault: TraceFault::Truncated,
+        },
+        streamed: NOTHING,
+    },
+    Fault {
+        shows: "the second pull fails",
+        trace: &[WORD_AT_0, WORD_AT_4000000],
+        cut: 0,
+        pulls: &[1],
+        writes: &[],
+        answer: Outcome::ReadFault(Input::Line),
+        streamed: FIVE,
+    },
+    Fault {
+        shows: "the first write fails",
+        trace: &[END_AT_4000000],
+        cut: 0,
+        pulls: &[],
+        writes: &[0],
+        answer: Outcome::WriteFault,
+        streamed: NOTHING,
+    },
+];
 
 #[test]
 fn streams_what_was_pulled_before_a_fault(rt: HostRuntime) {
-    let five = frame_with(FIVE);
-    let cases = [
-        Fault {
-            shows: "a word and 15 bytes",
-            trace: &[WORD_AT_0, END_AT_4000000],
-            cut: 1,
-            pulls: &[],
-            writes: &[],
-            answer: refused(1, TraceFault::Truncated),
-            written: &[],
-        },
-        Fault {
-            shows: "the second pull fails",
-            trace: &[WORD_AT_0, WORD_AT_4000000],
-            cut: 0,
-            pulls: &[1],
-            writes: &[],
-            answer: Outcome::ReadFault(Input::Line),
-            written: &five,
-        },
-        Fault {
-            shows: "the first write fails",
-            trace: &[END_AT_4000000],
-            cut: 0,
-            pulls: &[],
-            writes: &[0],
-            answer: Outcome::WriteFault,
-            written: &[],
-        },
-    ];
-    for case in cases {
+    for case in FAULTS {
         let shows = case.shows;
-        assert!(rt; is_as_said(&rt, rt.alloc(), &case), "{shows}");
+        assert!(rt; is_as_said(&rt, rt.alloc(), case), "{shows}");
     }
 }
 

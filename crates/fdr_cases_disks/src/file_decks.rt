@@ -6,7 +6,9 @@ use fdr_adapters::{FileDeck, OutSink};
 use fdr_deck::Deck;
 use fdr_files::ImageFile;
 use fdr_io::Failed;
-use std::io::{Sink, sink};
+use std::fs::File;
+use std::io::{Sink, Write, sink};
+use std::rt::Files;
 
 fn write_some<S: fdr_io::Sink>(sink: &mut S) -> Result<usize, Failed> {
     sink.write(b"three")
@@ -46,11 +48,11 @@ fn store_some<D: Deck>(deck: &mut D) -> Result<[u8; 4], Failed> {
 }
 
 // Without an input, and with announcements that nobody reads.
-fn deck_over<'a>(
-    rt: &'a HostRuntime,
+fn deck_over<'a, R: Files<File = File>>(
+    rt: &'a R,
     path: &'a str,
     writes: bool,
-) -> FileDeck<'a, HostRuntime, &'static [u8], Sink> {
+) -> FileDeck<'a, R, &'static [u8], Sink> {
     FileDeck::new(ImageFile::new(rt, path, writes), b"".as_slice(), sink())
 }
 
@@ -61,26 +63,43 @@ fn a_writer_takes_bytes_or_faults(rt: HostRuntime) {
     assert!(rt; write_some(&mut sink) == Ok(4) && write_some(&mut sink) == Err(Failed));
 }
 
+// Whether a line of three bytes is pulled to its end.
+fn pulls_to_the_end<D: Deck>(deck: &mut D) -> bool {
+    pull_some(deck) == Ok((2, *b"ab"))
+        && pull_some(deck) == Ok((1, *b"c\0"))
+        && pull_some(deck) == Ok((0, [0; 2]))
+}
+
 #[test]
 fn a_line_is_pulled_to_its_end(rt: HostRuntime) {
     let image = ImageFile::new(&rt, "", false);
     let mut deck = FileDeck::new(image, b"abc".as_slice(), sink());
-    assert!(rt;
-        pull_some(&mut deck) == Ok((2, *b"ab"))
-            && pull_some(&mut deck) == Ok((1, *b"c\0"))
-            && pull_some(&mut deck) == Ok((0, [0; 2]))
-    );
+    assert!(rt; pulls_to_the_end(&mut deck));
+}
+
+// Announces on a writer.
+fn announce_on(rt: &impl Files<File = File>, acknowledgements: impl Write + Drop) {
+    let image = ImageFile::new(rt, "", false);
+    let mut deck = FileDeck::new(image, b"".as_slice(), acknowledgements);
+    announce_some(&mut deck);
 }
 
 #[test]
 fn an_announcement_is_one_line_in_one_write(rt: HostRuntime) {
     let mut kept = Vec::new(rt.alloc());
-    {
-        let image = ImageFile::new(&rt, "", false);
-        let mut deck = FileDeck::new(image, b"".as_slice(), Marked::new(&mut kept));
-        announce_some(&mut deck);
-    }
+    announce_on(&rt, Marked::new(&mut kept));
     assert!(rt; kept.as_slice() == b"ack 0\n|ack 281474976710656\n|".as_slice());
+}
+
+// Whether an empty disk is made, and keeps two bytes.
+fn makes_and_keeps<D: Deck>(deck: &mut D) -> bool {
+    measure(deck) == Ok(0) && make_some(deck) == Ok(()) && store_some(deck) == Ok([0, 7, 8, 0])
+}
+
+// Whether a disk fails at once, which another deck holds.
+fn is_held(rt: &impl Files<File = File>, path: &str) -> bool {
+    let mut deck = deck_over(rt, path, true);
+    measure(&mut deck) == Err(Failed)
 }
 
 #[test]
@@ -88,13 +107,8 @@ fn a_disk_is_a_file(rt: HostRuntime) {
     let path = "image.bin";
     let mut deck = deck_over(&rt, path, true);
     assert!(rt;
-        measure(&mut deck) == Ok(0)
-            && make_some(&mut deck) == Ok(())
-            && store_some(&mut deck) == Ok([0, 7, 8, 0])
-            && has_at(&rt, path, 50, &[0, 7, 8, 0])
+        makes_and_keeps(&mut deck) && has_at(&rt, path, 50, &[0, 7, 8, 0]) && is_held(&rt, path)
     );
-    let mut other = deck_over(&rt, path, true);
-    assert!(rt; measure(&mut other) == Err(Failed));
     deck.discard();
     assert!(rt; !is_there(&rt, path));
 }

@@ -6,7 +6,10 @@ use fdr_deck::Deck;
 use fdr_files::ImageFile;
 use fdr_io::Failed;
 use fdr_twin::{Side, Twin};
-use std::io::sink;
+use std::fs::File;
+use std::io::{Write, sink};
+use std::process::Abort;
+use std::rt::Files;
 
 // The calls of a twin are in functions without clauses, so that the tests are proved without those of a twin.
 
@@ -37,59 +40,95 @@ fn pull_some<D: Deck>(deck: &mut D) -> Result<(usize, [u8; 2]), Failed> {
     Ok((n, buf))
 }
 
-#[test]
-fn each_side_is_a_file(rt: HostRuntime) {
-    put(&rt, "first.img", &[0; 100]);
-    put(&rt, "second.img", &[0; 100]);
-    let first = ImageFile::new(&rt, "first.img", true);
-    let second = ImageFile::new(&rt, "second.img", true);
-    let mut twin = FileTwin::new(first, second, b"ab".as_slice(), sink());
-    assert!(rt;
-        store(&mut twin, Side::First, 7) == Ok([0, 7, 0])
-            && store(&mut twin, Side::Second, 8) == Ok([0, 8, 0])
-            && has_at(&rt, "first.img", 50, &[7])
-            && has_at(&rt, "second.img", 50, &[8])
-            && pull_some(&mut twin) == Ok((2, *b"ab"))
-    );
-    remove(&rt, "first.img");
-    remove(&rt, "second.img");
+// Whether each side keeps a byte of its own, and the line is pulled.
+fn keeps_both<T: Twin>(twin: &mut T) -> bool {
+    store(twin, Side::First, 7) == Ok([0, 7, 0])
+        && store(twin, Side::Second, 8) == Ok([0, 8, 0])
+        && pull_some(twin) == Ok((2, *b"ab"))
 }
 
-// The second image becomes shorter after its length was learned.
+// Whether the second side fails from now on, and the first goes on.
+fn goes_on_with_the_first<T: Twin>(twin: &mut T) -> bool {
+    store(twin, Side::Second, 9) == Err(Failed)
+        && store(twin, Side::Second, 9) == Err(Failed)
+        && store(twin, Side::First, 9) == Ok([0, 9, 0])
+}
+
+// Whether two syncs of the first side fail.
+fn fails_to_sync<T: Twin>(twin: &mut T) -> bool {
+    sync(twin, Side::First) == Err(Failed) && sync(twin, Side::First) == Err(Failed)
+}
+
+// The twin over two files, with a line.
+fn twin_over<'a, R: Files<File = File>, A: Write + Drop>(
+    rt: &'a R,
+    first: &'a str,
+    second: &'a str,
+    line: &'static [u8],
+    acknowledgements: A,
+) -> FileTwin<'a, R, &'static [u8], A> {
+    let first = ImageFile::new(rt, first, true);
+    let second = ImageFile::new(rt, second, true);
+    FileTwin::new(first, second, line, acknowledgements)
+}
+
+// Puts 100 zeros into each of two files.
+fn put_zeros(rt: &(impl Files + Abort), first: &str, second: &str) {
+    put(rt, first, &[0; 100]);
+    put(rt, second, &[0; 100]);
+}
+
+fn remove_both(rt: &(impl Files + Abort), first: &str, second: &str) {
+    remove(rt, first);
+    remove(rt, second);
+}
+
+// Records on both files.
+fn record_on_both(rt: &(impl Files<File = File> + Abort), first: &str, second: &str) {
+    let mut twin = twin_over(rt, first, second, b"ab", sink());
+    assert!(rt; keeps_both(&mut twin));
+}
+
+#[test]
+fn each_side_is_a_file(rt: HostRuntime) {
+    put_zeros(&rt, "first.img", "second.img");
+    record_on_both(&rt, "first.img", "second.img");
+    assert!(rt; has_at(&rt, "first.img", 50, &[7]) && has_at(&rt, "second.img", 50, &[8]));
+    remove_both(&rt, "first.img", "second.img");
+}
+
+// Records on two files, of which the second becomes shorter after its length was learned.
+fn record_on_the_first(
+    rt: &(impl Files<File = File> + Abort),
+    first: &str,
+    second: &str,
+    lines: &mut Vec<u8>,
+) {
+    let mut twin = twin_over(rt, first, second, b"", lines);
+    assert!(rt; store(&mut twin, Side::Second, 8).is_ok());
+    put(rt, second, b"abc");
+    assert!(rt; goes_on_with_the_first(&mut twin));
+    announce_some(&mut twin);
+}
+
 #[test]
 fn a_side_goes_on_alone(rt: HostRuntime) {
-    put(&rt, "whole.img", &[0; 100]);
-    put(&rt, "short.img", &[0; 100]);
+    put_zeros(&rt, "whole.img", "short.img");
     let mut lines = Vec::new(rt.alloc());
-    {
-        let first = ImageFile::new(&rt, "whole.img", true);
-        let second = ImageFile::new(&rt, "short.img", true);
-        let mut twin = FileTwin::new(first, second, b"".as_slice(), &mut lines);
-        assert!(rt; store(&mut twin, Side::Second, 8).is_ok());
-        put(&rt, "short.img", b"abc");
-        assert!(rt;
-            store(&mut twin, Side::Second, 9) == Err(Failed)
-                && store(&mut twin, Side::Second, 9) == Err(Failed)
-                && store(&mut twin, Side::First, 9) == Ok([0, 9, 0])
-        );
-        announce_some(&mut twin);
-    }
+    record_on_the_first(&rt, "whole.img", "short.img", &mut lines);
     assert!(rt; lines.as_slice() == b"fault second\nack 3\n".as_slice());
-    remove(&rt, "whole.img");
-    remove(&rt, "short.img");
+    remove_both(&rt, "whole.img", "short.img");
+}
+
+// Syncs a folder in place of an image.
+fn sync_a_folder(rt: &(impl Files<File = File> + Abort), lines: &mut Vec<u8>) {
+    let mut twin = twin_over(rt, ".", "missing.img", b"", lines);
+    assert!(rt; fails_to_sync(&mut twin));
 }
 
 #[test]
 fn a_folder_is_no_image(rt: HostRuntime) {
     let mut lines = Vec::new(rt.alloc());
-    {
-        let first = ImageFile::new(&rt, ".", true);
-        let second = ImageFile::new(&rt, "missing.img", true);
-        let mut twin = FileTwin::new(first, second, b"".as_slice(), &mut lines);
-        assert!(rt;
-            sync(&mut twin, Side::First) == Err(Failed)
-                && sync(&mut twin, Side::First) == Err(Failed)
-        );
-    }
+    sync_a_folder(&rt, &mut lines);
     assert!(rt; lines.as_slice() == b"fault first\n".as_slice());
 }

@@ -57,19 +57,21 @@ fn writes_and_reads_a_header_of_version_2(rt: HostRuntime) {
     );
 }
 
+/// Bytes of the header, another value for each, and the fault.
+const FAULTS: &[(usize, u8, ImageFault)] = &[
+    (0, 0, ImageFault::Closed),
+    (7, b'8', ImageFault::Magic),
+    (11, 3, ImageFault::Geometry),
+    (15, 63, ImageFault::Geometry),
+    (19, 65, ImageFault::Geometry),
+    (11, 5, ImageFault::Short),
+];
+
 #[test]
 fn names_the_first_fault(rt: HostRuntime) {
-    // a byte of the header, another value for it, and the fault
-    for (at, value, fault) in [
-        (0, 0, ImageFault::Closed),
-        (7, b'8', ImageFault::Magic),
-        (11, 3, ImageFault::Geometry),
-        (15, 63, ImageFault::Geometry),
-        (19, 65, ImageFault::Geometry),
-        (11, 5, ImageFault::Short),
-    ] {
+    for &(at, value, fault) in FAULTS {
         let mut bytes = write_header(&SMALL);
-        bytes[at] = value;
+        *bytes.get_mut(at).expect(&rt, "a byte") = value;
         assert!(rt; read_header(&bytes, 384) == Err(fault), "byte {at}");
     }
     let mut bytes = write_header(&SMALL);

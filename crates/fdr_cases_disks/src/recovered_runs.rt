@@ -23,7 +23,7 @@ const SMALL_FIRST: Header = Header {
 type Slot = (bool, u16, u32, u64);
 
 /// Blocks 3 to 5, and one that isn't open.
-const THREE_BLOCKS: [Slot; 4] = [
+const THREE_BLOCKS: &[Slot] = &[
     (true, 64, 6, 4),
     (true, 3, 7, 5),
     (false, 64, 5, 2),
@@ -31,9 +31,9 @@ const THREE_BLOCKS: [Slot; 4] = [
 ];
 
 /// An image of four slots. Each payload byte is the slot's number.
-fn image_of(rt: &(impl Abort + AllocGlobal), slots: [Slot; 4]) -> Vec<u8> {
+fn image_of(rt: &(impl Abort + AllocGlobal), slots: &[Slot]) -> Vec<u8> {
     let mut image = Vec::from_slice(rt.alloc(), &write_header(&SMALL)).expect(rt, "a header");
-    for (open, len, session, seq) in slots {
+    for &(open, len, session, seq) in slots {
         let mut head = write_slot_head(len, session, seq);
         if open {
             head[0] = OPEN;
@@ -47,7 +47,7 @@ fn image_of(rt: &(impl Abort + AllocGlobal), slots: [Slot; 4]) -> Vec<u8> {
 }
 
 /// What is found in an image of these slots, in version 2 and in version 1.
-fn found_in(rt: &(impl Abort + AllocGlobal), slots: [Slot; 4]) -> [Result<Found, Failed>; 2] {
+fn found_in(rt: &(impl Abort + AllocGlobal), slots: &[Slot]) -> [Result<Found, Failed>; 2] {
     let image = image_of(rt, slots);
     assert!(rt; image.len() == 384);
     let mut deck = SureDeck::new(image, Vec::new(rt.alloc()));
@@ -55,73 +55,78 @@ fn found_in(rt: &(impl Abort + AllocGlobal), slots: [Slot; 4]) -> [Result<Found,
     [found, scan(&mut deck, &SMALL_FIRST)]
 }
 
+/// A block of number 0, and a slot without one.
+const HELD: Slot = (true, 64, 3, 0);
+
+const FREE: Slot = (false, 64, 1, 0);
+
+/// What is in the slots, the run, and the session of its last block.
+const RUNS: &[(&[Slot], u64, u64, u32)] = &[
+    (&[(false, 0, 0, 0); 4], 0, 0, 0),
+    (
+        &[
+            (true, 64, 2, 4),
+            (true, 64, 3, 5),
+            (false, 64, 1, 2),
+            (true, 64, 1, 3),
+        ],
+        3,
+        6,
+        3,
+    ),
+    (
+        &[
+            (true, 64, 1, 8),
+            (true, 64, 1, 9),
+            (true, 64, 1, 10),
+            (true, 64, 1, 7),
+        ],
+        7,
+        11,
+        1,
+    ),
+    // the numbers 0 to 2 end below the greatest
+    (
+        &[
+            (true, 64, 4, 0),
+            (true, 64, 4, 1),
+            (true, 64, 4, 2),
+            (true, 64, 0, 7),
+        ],
+        7,
+        8,
+        0,
+    ),
+    // 6 doesn't belong into slot 1, and lengths are 1 to 64
+    (
+        &[
+            (true, 64, u32::MAX, 0),
+            (true, 64, 2, 6),
+            (true, 65, 2, 2),
+            (true, 0, 2, 3),
+        ],
+        0,
+        1,
+        u32::MAX,
+    ),
+    // the greatest number there can be, and one above it
+    (
+        &[
+            (true, 1, 5, 1 << 48),
+            HELD,
+            HELD,
+            (true, 1, 9, (1 << 48) - 1),
+        ],
+        (1 << 48) - 1,
+        1 << 48,
+        9,
+    ),
+    (&[(true, 64, 1, 0), FREE, FREE, FREE], 0, 1, 1),
+];
+
 #[test]
 fn finds_the_run(rt: HostRuntime) {
-    let held = (true, 64, 3, 0);
-    let free = (false, 64, 1, 0);
-    // what is in the slots, the run, and the session of its last block
-    for (slots, first, next, session) in [
-        ([(false, 0, 0, 0); 4], 0, 0, 0),
-        (
-            [
-                (true, 64, 2, 4),
-                (true, 64, 3, 5),
-                (false, 64, 1, 2),
-                (true, 64, 1, 3),
-            ],
-            3,
-            6,
-            3,
-        ),
-        (
-            [
-                (true, 64, 1, 8),
-                (true, 64, 1, 9),
-                (true, 64, 1, 10),
-                (true, 64, 1, 7),
-            ],
-            7,
-            11,
-            1,
-        ),
-        // the numbers 0 to 2 end below the greatest
-        (
-            [
-                (true, 64, 4, 0),
-                (true, 64, 4, 1),
-                (true, 64, 4, 2),
-                (true, 64, 0, 7),
-            ],
-            7,
-            8,
-            0,
-        ),
-        // 6 doesn't belong into slot 1, and lengths are 1 to 64
-        (
-            [
-                (true, 64, u32::MAX, 0),
-                (true, 64, 2, 6),
-                (true, 65, 2, 2),
-                (true, 0, 2, 3),
-            ],
-            0,
-            1,
-            u32::MAX,
-        ),
-        // the greatest number there can be, and one above it
-        (
-            [
-                (true, 1, 5, 1 << 48),
-                held,
-                held,
-                (true, 1, 9, (1 << 48) - 1),
-            ],
-            (1 << 48) - 1,
-            1 << 48,
-            9,
-        ),
-        ([(true, 64, 1, 0), free, free, free], 0, 1, 1),
-    ] {
+    for &(slots, first, next, session) in RUNS {
         let found = Found {
             first,
             next,
@@ -154,23 +159,21 @@ fn given_of(
     (info, buf)
 }
 
-fn info_of(len: usize, session: u32) -> BlockInfo {
-    BlockInfo { len, session }
-}
+/// The header, the number of a block, the length and the session that are given of it, and how its payload begins.
+const GIVEN: &[(Header, u64, (usize, u32), &[u8])] = &[
+    (SMALL, 5, (3, 7), &[5, 5, 5, 0]),
+    (SMALL, 4, (64, 6), &[4; 64]),
+    (SMALL_FIRST, 4, (64, 0), &[4; 64]),
+    (SMALL, 2, (0, 0), &[]),
+    (SMALL, 0, (0, 0), &[]),
+    (SMALL, 9, (0, 0), &[]),
+];
 
 #[test]
 fn gives_the_payload_of_a_block(rt: HostRuntime) {
-    // the header, the number of the block, what is given of it, and how its payload begins
-    let cases: [(Header, u64, BlockInfo, &[u8]); 6] = [
-        (SMALL, 5, info_of(3, 7), &[5, 5, 5, 0]),
-        (SMALL, 4, info_of(64, 6), &[4; 64]),
-        (SMALL_FIRST, 4, info_of(64, 0), &[4; 64]),
-        (SMALL, 2, info_of(0, 0), &[]),
-        (SMALL, 0, info_of(0, 0), &[]),
-        (SMALL, 9, info_of(0, 0), &[]),
-    ];
-    for (header, number, info, payload) in cases {
+    for &(header, number, (len, session), payload) in GIVEN {
         let (given, buf) = given_of(&rt, &header, number);
+        let info = BlockInfo { len, session };
         assert!(rt; given == Ok(info) && buf.starts_with(payload), "{number}");
     }
 }
@@ -222,17 +225,21 @@ fn walked(
     (answer, handed.blocks)
 }
 
+const NO_BLOCK: (u64, u32, usize) = (0, 0, 0);
+
+/// The numbers between which blocks are handed on, and these blocks.
+const WALKS: &[(u64, u64, &[(u64, u32, usize)])] = &[
+    (2, 6, &[(3, 5, 64), (4, 6, 64), (5, 7, 3), NO_BLOCK]),
+    (2, 3, &[NO_BLOCK; 4]),
+    (3, 4, &[(3, 5, 64), NO_BLOCK, NO_BLOCK, NO_BLOCK]),
+    (5, 5, &[NO_BLOCK; 4]),
+    (6, 5, &[NO_BLOCK; 4]),
+];
+
 #[test]
 fn walks_over_what_is_there(rt: HostRuntime) {
-    let none = (0, 0, 0);
-    // the numbers between which blocks are handed on, and these blocks
-    for (first, next, blocks) in [
-        (2, 6, [(3, 5, 64), (4, 6, 64), (5, 7, 3), none]),
-        (2, 3, [none; 4]),
-        (3, 4, [(3, 5, 64), none, none, none]),
-        (5, 5, [none; 4]),
-        (6, 5, [none; 4]),
-    ] {
-        assert!(rt; walked(&rt, first, next) == (Ok(()), blocks));
+    for &(first, next, blocks) in WALKS {
+        let (answer, handed) = walked(&rt, first, next);
+        assert!(rt; answer == Ok(()) && handed.as_slice() == blocks);
     }
 }

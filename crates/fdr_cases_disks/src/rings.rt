@@ -195,17 +195,20 @@ fn a_block_takes_six_calls(rt: HostRuntime) {
     );
 }
 
+/// How what is pending is torn, and the run that is left.
+const TORN: &[(Tear, (u64, u64))] = &[
+    (Tear::Old, (3, 6)),
+    (Tear::New, (4, 6)),
+    (Tear::Half, (3, 6)),
+    (Tear::Fill(OPEN), (3, 6)),
+    (Tear::Fill(0xee), (4, 6)),
+];
+
 #[test]
 fn the_body_and_the_close_are_torn_together(rt: HostRuntime) {
     let (deck, [_, between, _]) = seven_blocks(&rt);
     let sync = between.saturating_sub(1);
-    for (tear, run) in [
-        (Tear::Old, (3, 6)),
-        (Tear::New, (4, 6)),
-        (Tear::Half, (3, 6)),
-        (Tear::Fill(OPEN), (3, 6)),
-        (Tear::Fill(0xee), (4, 6)),
-    ] {
+    for &(tear, run) in TORN {
         assert!(rt; left_by(&rt, &deck, sync, tear) == run);
     }
 }

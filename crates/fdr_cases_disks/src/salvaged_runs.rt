@@ -2,7 +2,7 @@
 
 use crate::disks::{calls_of, copied};
 use fdr_deck::{MemDeck, SureDeck};
-use fdr_salvage::{Run, SalvageFault, runs};
+use fdr_salvage::{SalvageFault, runs};
 use fdr_slot::{Header, OPEN, image_size, in_limits, write_header, write_slot_head};
 use std::process::Abort;
 
@@ -43,65 +43,69 @@ fn image_of(
     image
 }
 
+/// The number of a run's first block, and the one after its last block.
+type Numbers = (u64, u64);
+
 /// Whether these are the runs of the image.
-fn has_runs(rt: &(impl Abort + AllocGlobal), h: &Header, image: Vec<u8>, wanted: &[Run]) -> bool {
+fn has_runs(
+    rt: &(impl Abort + AllocGlobal),
+    h: &Header,
+    image: Vec<u8>,
+    wanted: &[Numbers],
+) -> bool {
     assert!(rt; in_limits(h) && image.len() as u64 >= image_size(h));
     let mut deck = SureDeck::new(image, Vec::new(rt.alloc()));
     let found = runs(rt.alloc(), &mut deck, h).expect(rt, "the runs");
-    found.as_slice() == wanted
-}
-
-fn run_of(first: u64, next: u64) -> Run {
-    Run { first, next }
+    found.len() == wanted.len()
+        && found
+            .iter()
+            .zip(wanted)
+            .all(|(run, numbers)| (run.first, run.next) == *numbers)
 }
 
 #[test]
 fn a_ring_with_lost_blocks_has_two_runs(rt: HostRuntime) {
     let numbers = [Some(8), Some(9), None, None, None, Some(5), None, None];
-    let wanted = [run_of(5, 6), run_of(8, 10)];
+    let wanted = [(5, 6), (8, 10)];
     for gate in [OPEN, 0] {
         let image = image_of(&rt, write_header(&EIGHT), gate, &numbers);
         assert!(rt; image.len() == 704 && has_runs(&rt, &EIGHT, image, &wanted));
     }
 }
 
+/// The greatest number of a block.
+const LAST: u64 = (1 << 48) - 1;
+
+/// What is in four slots, and the runs.
+const RINGS: &[([Option<u64>; 4], &[Numbers])] = &[
+    ([None; 4], &[]),
+    // a full ring, of the first lap and of a later one
+    ([Some(0), Some(1), Some(2), Some(3)], &[(0, 4)]),
+    ([Some(8), Some(9), Some(10), Some(7)], &[(7, 11)]),
+    // a lost block in the middle
+    ([Some(8), None, Some(10), Some(7)], &[(7, 9), (10, 11)]),
+    // four blocks of four laps, of which none goes on
+    (
+        [Some(4), Some(1), Some(14), Some(11)],
+        &[(1, 2), (4, 5), (11, 12), (14, 15)],
+    ),
+    // an earlier lap before the last blocks
+    ([Some(4), Some(5), Some(2), Some(3)], &[(2, 6)]),
+    ([Some(8), Some(9), Some(2), Some(3)], &[(2, 4), (8, 10)]),
+    // a number that isn't the slot's own, and one that is too great
+    (
+        [Some(0), Some(2), Some(6), Some(LAST + 4)],
+        &[(0, 1), (6, 7)],
+    ),
+    (
+        [Some(0), None, None, Some(LAST)],
+        &[(0, 1), (LAST, LAST + 1)],
+    ),
+];
+
 #[test]
 fn rings_of_four(rt: HostRuntime) {
-    let last = (1 << 48) - 1;
-    // what is in the slots, and the runs
-    let none: [Run; 0] = [];
-    let cases: [([Option<u64>; 4], &[Run]); 9] = [
-        ([None; 4], &none),
-        // a full ring, of the first lap and of a later one
-        ([Some(0), Some(1), Some(2), Some(3)], &[run_of(0, 4)]),
-        ([Some(8), Some(9), Some(10), Some(7)], &[run_of(7, 11)]),
-        // a lost block in the middle
-        (
-            [Some(8), None, Some(10), Some(7)],
-            &[run_of(7, 9), run_of(10, 11)],
-        ),
-        // four blocks of four laps, of which none goes on
-        (
-            [Some(4), Some(1), Some(14), Some(11)],
-            &[run_of(1, 2), run_of(4, 5), run_of(11, 12), run_of(14, 15)],
-        ),
-        // an earlier lap before the last blocks
-        ([Some(4), Some(5), Some(2), Some(3)], &[run_of(2, 6)]),
-        (
-            [Some(8), Some(9), Some(2), Some(3)],
-            &[run_of(2, 4), run_of(8, 10)],
-        ),
-        // a number that isn't the slot's own, and one that is too great
-        (
-            [Some(0), Some(2), Some(6), Some(last + 4)],
-            &[run_of(0, 1), run_of(6, 7)],
-        ),
-        (
-            [Some(0), None, None, Some(last)],
-            &[run_of(0, 1), run_of(last, last + 1)],
-        ),
-    ];
-    for (numbers, wanted) in cases {
+    for &(numbers, wanted) in RINGS {
         let image = image_of(&rt, write_header(&FOUR), OPEN, &numbers);
         assert!(rt; has_runs(&rt, &FOUR, image, wanted));
     }
@@ -141,7 +145,7 @@ fn holds(image: &[u8], number: u64) -> bool {
 
 /// The run that begins in a slot of an image of four, by its meaning: at a number that is held without the one before, and it
 /// ends before the first that isn't held.
-fn run_from(image: &[u8], slot: usize) -> Option<Run> {
+fn run_from(image: &[u8], slot: usize) -> Option<Numbers> {
     let first = number_in(image, slot)?;
     if first > 0 && holds(image, first - 1) {
         return None;
@@ -152,18 +156,18 @@ fn run_from(image: &[u8], slot: usize) -> Option<Run> {
             next = next.saturating_add(1);
         }
     }
-    Some(run_of(first, next))
+    Some((first, next))
 }
 
 /// The runs of an image of four slots by their meaning.
-fn runs_by_meaning(rt: &(impl Abort + AllocGlobal), image: &[u8]) -> Vec<Run> {
+fn runs_by_meaning(rt: &(impl Abort + AllocGlobal), image: &[u8]) -> Vec<Numbers> {
     let mut found = Vec::new(rt.alloc());
     for slot in 0..4 {
         if let Some(run) = run_from(image, slot) {
             found.push(run).expect(rt, "room");
         }
     }
-    found.sort_unstable_by_key(|run| run.first);
+    found.sort_unstable();
     found
 }
 
@@ -176,13 +180,16 @@ fn has_its_runs(rt: &(impl Abort + AllocGlobal), image: &[u8], at: usize, value:
     has_runs(rt, &FOUR, altered, &wanted)
 }
 
+/// What is in four slots.
+const WHOLE_RINGS: &[[Option<u64>; 4]] = &[
+    [Some(4), Some(5), Some(2), Some(3)],
+    [Some(8), Some(5), Some(6), Some(3)],
+    [Some(0), Some(1), None, Some(0x5A03)],
+];
+
 #[test]
 fn each_byte_of_a_head_altered(rt: HostRuntime) {
-    for numbers in [
-        [Some(4), Some(5), Some(2), Some(3)],
-        [Some(8), Some(5), Some(6), Some(3)],
-        [Some(0), Some(1), None, Some(0x5A03)],
-    ] {
+    for &numbers in WHOLE_RINGS {
         let image = image_of(&rt, write_header(&FOUR), OPEN, &numbers);
         assert!(rt; image.len() == HEADER + 4 * SLOT);
         for slot in 0..4 {

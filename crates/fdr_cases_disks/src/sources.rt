@@ -4,14 +4,17 @@ use crate::disks::{calls_of, copied};
 use fdr_io::{Failed, MemSink, MemSource, NullSink, OutBuffer, Source, SureSource, write_whole};
 use std::process::Abort;
 
-fn read_three<S: Source>(source: &mut S) -> Result<(usize, [u8; 3]), Failed> {
+/// What a read of three bytes gives.
+type ReadThree = Result<(usize, [u8; 3]), Failed>;
+
+fn read_three<S: Source>(source: &mut S) -> ReadThree {
     let mut buf = [0; 3];
     let n = source.read(&mut buf)?;
     Ok((n, buf))
 }
 
 // Whether reads of three bytes give this, one after the other.
-fn gives<S: Source>(source: &mut S, expected: &[Result<(usize, [u8; 3]), Failed>]) -> bool {
+fn gives<S: Source>(source: &mut S, expected: &[ReadThree]) -> bool {
     for read in expected {
         if read_three(source) != *read {
             return false;
@@ -29,19 +32,22 @@ fn output_of(rt: &(impl Abort + AllocGlobal)) -> OutBuffer {
     OutBuffer::new(rt.alloc()).expect(rt, "a buffer")
 }
 
+/// What reads of five bytes give, of which the second fails.
+const FAILING_READS: &[ReadThree] = &[
+    Ok((3, [1, 2, 3])),
+    Err(Failed),
+    Ok((2, [4, 5, 0])),
+    Ok((0, [0, 0, 0])),
+];
+
+/// What reads of one byte give.
+const SURE_READS: &[ReadThree] = &[Ok((1, [9, 0, 0])), Ok((0, [0, 0, 0]))];
+
 #[test]
 fn listed_reads_fail_and_take_nothing(rt: HostRuntime) {
     let mut source = MemSource::new(copied(&rt, &[1, 2, 3, 4, 5]), calls_of(&rt, &[1]));
-    let expected = [
-        Ok((3, [1, 2, 3])),
-        Err(Failed),
-        Ok((2, [4, 5, 0])),
-        Ok((0, [0, 0, 0])),
-    ];
     let mut sure = SureSource::new(copied(&rt, &[9]));
-    assert!(rt;
-        gives(&mut source, &expected) && gives(&mut sure, &[Ok((1, [9, 0, 0])), Ok((0, [0, 0, 0]))])
-    );
+    assert!(rt; gives(&mut source, FAILING_READS) && gives(&mut sure, SURE_READS));
 }
 
 #[test]

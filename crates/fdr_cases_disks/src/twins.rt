@@ -140,48 +140,76 @@ fn leaves(rt: &(impl Abort + AllocGlobal), twin: &MemTwin, calls: u64, stops: &[
     holds
 }
 
+/// Steps on each side of a twin of zeros, with their answers.
+const STEPS_ON_EACH_SIDE: &[(Step<'static>, Answer)] = &[
+    (Step::Put(Side::First, &[1, 2]), Answer::Done),
+    (Step::Sync(Side::First), Answer::Done),
+    (Step::Put(Side::Second, &[3, 4, 5]), Answer::Done),
+    (Step::Sync(Side::First), Answer::Done),
+    (Step::Get(Side::First), Answer::Got([0, 1, 2, 0])),
+    (Step::Get(Side::Second), Answer::Got([0, 3, 4, 5])),
+];
+
+/// The first image after its write is durable.
+const SETTLED: &[u8] = &[0, 1, 2, 0];
+
+/// An image before a write.
+const NONE: &[u8] = &[0, 0, 0, 0];
+
+/// Stops within the calls of these steps.
+const STOPS_ON_EACH_SIDE: &[Stop<'static>] = &[
+    (1, Tear::New, SETTLED, NONE),
+    (1, Tear::Fill(9), &[0, 9, 9, 0], NONE),
+    (2, Tear::Half, &[0, 1, 0, 0], NONE),
+    (4, Tear::Old, SETTLED, NONE),
+    (4, Tear::New, SETTLED, &[0, 3, 4, 5]),
+    (4, Tear::Half, SETTLED, &[0, 3, 0, 0]),
+    (9, Tear::Fill(9), SETTLED, &[0, 9, 9, 9]),
+];
+
 #[test]
 fn a_stop_tears_what_is_pending_on_each_side(rt: HostRuntime) {
     let mut twin = twin_of(&rt, NOTHING);
-    let steps = [
-        (Step::Put(Side::First, &[1, 2]), Answer::Done),
-        (Step::Sync(Side::First), Answer::Done),
-        (Step::Put(Side::Second, &[3, 4, 5]), Answer::Done),
-        (Step::Sync(Side::First), Answer::Done),
-        (Step::Get(Side::First), Answer::Got([0, 1, 2, 0])),
-        (Step::Get(Side::Second), Answer::Got([0, 3, 4, 5])),
-    ];
-    let none = [0, 0, 0, 0];
-    let settled = [0, 1, 2, 0];
-    let stops: [Stop<'_>; 7] = [
-        (1, Tear::New, &settled, &none),
-        (1, Tear::Fill(9), &[0, 9, 9, 0], &none),
-        (2, Tear::Half, &[0, 1, 0, 0], &none),
-        (4, Tear::Old, &settled, &none),
-        (4, Tear::New, &settled, &[0, 3, 4, 5]),
-        (4, Tear::Half, &settled, &[0, 3, 0, 0]),
-        (9, Tear::Fill(9), &settled, &[0, 9, 9, 9]),
-    ];
-    assert!(rt; gives(&mut twin, &steps) && leaves(&rt, &twin, 10, &stops));
+    assert!(rt; gives(&mut twin, STEPS_ON_EACH_SIDE) && leaves(&rt, &twin, 10, STOPS_ON_EACH_SIDE));
 }
+
+/// Steps of which the second call and the fifth one fail, with their answers.
+const FAILING_STEPS: &[(Step<'static>, Answer)] = &[
+    (Step::Put(Side::First, &[1, 2, 3]), Answer::Failed),
+    (Step::Put(Side::Second, &[4, 5, 6]), Answer::Done),
+    (Step::Sync(Side::Second), Answer::Failed),
+    (Step::Get(Side::First), Answer::Got([0, 0, 0, 0])),
+    (Step::Get(Side::Second), Answer::Got([0, 4, 5, 6])),
+];
+
+/// Stops after them.
+const STOPS_OF_FAILED: &[Stop<'static>] = &[
+    (8, Tear::New, &[0, 1, 2, 3], &[0, 4, 5, 6]),
+    (8, Tear::Old, &[0, 0, 0, 0], &[0, 0, 0, 0]),
+];
 
 #[test]
 fn listed_calls_fail_on_the_side_that_they_are_of(rt: HostRuntime) {
     let failing = &[1, 4];
     let mut twin = twin_of(&rt, Given { failing, ..NOTHING });
-    let steps = [
-        (Step::Put(Side::First, &[1, 2, 3]), Answer::Failed),
-        (Step::Put(Side::Second, &[4, 5, 6]), Answer::Done),
-        (Step::Sync(Side::Second), Answer::Failed),
-        (Step::Get(Side::First), Answer::Got([0, 0, 0, 0])),
-        (Step::Get(Side::Second), Answer::Got([0, 4, 5, 6])),
-    ];
-    let stops: [Stop<'_>; 2] = [
-        (8, Tear::New, &[0, 1, 2, 3], &[0, 4, 5, 6]),
-        (8, Tear::Old, &[0, 0, 0, 0], &[0, 0, 0, 0]),
-    ];
-    assert!(rt; gives(&mut twin, &steps) && leaves(&rt, &twin, 9, &stops));
+    assert!(rt; gives(&mut twin, FAILING_STEPS) && leaves(&rt, &twin, 9, STOPS_OF_FAILED));
 }
+
+/// Steps where the second disk is dead from call 3 on, with their answers.
+const STEPS_BY_A_DEAD_SECOND: &[(Step<'static>, Answer)] = &[
+    (Step::Put(Side::Second, &[1]), Answer::Done),
+    (Step::Sync(Side::Second), Answer::Done),
+    (Step::Sync(Side::Second), Answer::Failed),
+    (Step::Get(Side::Second), Answer::Failed),
+    (Step::Pull(Side::Second), Answer::Pulled(2, [7, 8])),
+    (Step::Put(Side::First, &[2]), Answer::Done),
+];
+
+/// Steps where the first disk is dead from call 1 on, with their answers.
+const STEPS_BY_A_DEAD_FIRST: &[(Step<'static>, Answer)] = &[
+    (Step::Put(Side::First, &[1]), Answer::Failed),
+    (Step::Put(Side::Second, &[1]), Answer::Done),
+];
 
 #[test]
 fn a_dead_disk_fails_from_its_call_on(rt: HostRuntime) {
@@ -190,17 +218,9 @@ fn a_dead_disk_fails_from_its_call_on(rt: HostRuntime) {
         dead_second: Some(3),
         ..NOTHING
     };
-    let steps = [
-        (Step::Put(Side::Second, &[1]), Answer::Done),
-        (Step::Sync(Side::Second), Answer::Done),
-        (Step::Sync(Side::Second), Answer::Failed),
-        (Step::Get(Side::Second), Answer::Failed),
-        (Step::Pull(Side::Second), Answer::Pulled(2, [7, 8])),
-        (Step::Put(Side::First, &[2]), Answer::Done),
-    ];
     let mut twin = twin_of(&rt, dies);
     assert!(rt;
-        gives(&mut twin, &steps)
+        gives(&mut twin, STEPS_BY_A_DEAD_SECOND)
             && twin.image(Side::First) == [0, 2, 0, 0].as_slice()
             && twin.image(Side::Second) == [0, 1, 0, 0].as_slice()
     );
@@ -208,12 +228,15 @@ fn a_dead_disk_fails_from_its_call_on(rt: HostRuntime) {
         dead_first: Some(1),
         ..NOTHING
     };
-    let steps = [
-        (Step::Put(Side::First, &[1]), Answer::Failed),
-        (Step::Put(Side::Second, &[1]), Answer::Done),
-    ];
-    assert!(rt; gives(&mut twin_of(&rt, first_dies), &steps));
+    assert!(rt; gives(&mut twin_of(&rt, first_dies), STEPS_BY_A_DEAD_FIRST));
 }
+
+/// Pulls of three bytes after the first two, of which one fails, with their answers.
+const PULLS: &[(Step<'static>, Answer)] = &[
+    (Step::Pull(Side::First), Answer::Failed),
+    (Step::Pull(Side::Second), Answer::Pulled(1, [9, 0])),
+    (Step::Pull(Side::First), Answer::Pulled(0, [0, 0])),
+];
 
 #[test]
 fn the_input_and_the_announced_number_are_of_no_side(rt: HostRuntime) {
@@ -231,12 +254,7 @@ fn the_input_and_the_announced_number_are_of_no_side(rt: HostRuntime) {
         )
     );
     twin.announce(5);
-    let steps = [
-        (Step::Pull(Side::First), Answer::Failed),
-        (Step::Pull(Side::Second), Answer::Pulled(1, [9, 0])),
-        (Step::Pull(Side::First), Answer::Pulled(0, [0, 0])),
-    ];
-    assert!(rt; gives(&mut twin, &steps) && twin.told() == 5 && twin.calls() == 4);
+    assert!(rt; gives(&mut twin, PULLS) && twin.told() == 5 && twin.calls() == 4);
 }
 
 // A twin of two empty disks, whose second call fails.
@@ -259,6 +277,13 @@ fn provide<T: Twin>(twin: &mut T, side: Side, size: u64) -> Result<(), Failed> {
     twin.provide(size)
 }
 
+/// Stops within the calls that provide both disks.
+const STOPS_OF_PROVIDED: &[Stop<'static>] = &[
+    (0, Tear::Half, &[0, 0], &[]),
+    (1, Tear::Old, &[0, 0, 0, 0], &[]),
+    (2, Tear::New, &[0, 0, 0, 0], &[0, 0]),
+];
+
 #[test]
 fn an_empty_disk_is_provided(rt: HostRuntime) {
     let mut twin = empty_twin(&rt);
@@ -267,26 +292,23 @@ fn an_empty_disk_is_provided(rt: HostRuntime) {
             && provide(&mut twin, Side::Second, 2) == Err(Failed)
             && twin.size() == Ok(0)
     );
-    let stops: [Stop<'_>; 3] = [
-        (0, Tear::Half, &[0, 0], &[]),
-        (1, Tear::Old, &[0, 0, 0, 0], &[]),
-        (2, Tear::New, &[0, 0, 0, 0], &[0, 0]),
-    ];
-    assert!(rt; leaves(&rt, &twin, 3, &stops));
+    assert!(rt; leaves(&rt, &twin, 3, STOPS_OF_PROVIDED));
 }
+
+/// Steps on a twin that never fails, with their answers.
+const SURE_STEPS: &[(Step<'static>, Answer)] = &[
+    (Step::Put(Side::First, &[1, 2]), Answer::Done),
+    (Step::Put(Side::Second, &[3]), Answer::Done),
+    (Step::Sync(Side::Second), Answer::Done),
+    (Step::Get(Side::First), Answer::Got([0, 1, 2, 0])),
+    (Step::Get(Side::Second), Answer::Got([9, 3, 9, 9])),
+    (Step::Pull(Side::First), Answer::Pulled(2, [7, 8])),
+    (Step::Pull(Side::Second), Answer::Pulled(1, [9, 0])),
+    (Step::Pull(Side::Second), Answer::Pulled(0, [0, 0])),
+];
 
 #[test]
 fn a_sure_twin_keeps_both_sides(rt: HostRuntime) {
     let mut twin = sure_twin_of(&rt, &[0; 4], &[9; 4], &[7, 8, 9]);
-    let steps = [
-        (Step::Put(Side::First, &[1, 2]), Answer::Done),
-        (Step::Put(Side::Second, &[3]), Answer::Done),
-        (Step::Sync(Side::Second), Answer::Done),
-        (Step::Get(Side::First), Answer::Got([0, 1, 2, 0])),
-        (Step::Get(Side::Second), Answer::Got([9, 3, 9, 9])),
-        (Step::Pull(Side::First), Answer::Pulled(2, [7, 8])),
-        (Step::Pull(Side::Second), Answer::Pulled(1, [9, 0])),
-        (Step::Pull(Side::Second), Answer::Pulled(0, [0, 0])),
-    ];
-    assert!(rt; gives(&mut twin, &steps));
+    assert!(rt; gives(&mut twin, SURE_STEPS));
 }

@@ -24,31 +24,25 @@ struct Held<'a> {
 }
 
 /// The number that these bytes are, the highest first.
-fn number_of(bytes: &[u8]) -> Option<u64> {
+fn number_of(bytes: &[u8]) -> u64 {
     let mut value: u64 = 0;
     for byte in bytes {
-        value = value.checked_mul(256)?.checked_add(u64::from(*byte))?;
+        value = value.wrapping_mul(256).wrapping_add(u64::from(*byte));
     }
-    Some(value)
+    value
 }
 
 /// The block in a slot, where the slot holds one.
 fn block_in(image: &[u8], slot: usize) -> Option<Held<'_>> {
-    let from = slot.checked_mul(SLOT)?.checked_add(64)?;
-    let bytes = image.get(from..from.checked_add(SLOT)?)?;
+    let bytes = image.get(64..)?.chunks(SLOT).nth(slot)?;
     let (head, payload) = bytes.split_at_checked(16)?;
-    let number = number_of(head.get(8..)?)?;
-    let length = number_of(head.get(2..4)?)?;
-    if head.first() != Some(&0x5a)
-        || number >= 1 << 48
-        || number % 4 != slot as u64
-        || length == 0
-    {
+    let (length, number) = (number_of(&head[2..4]), number_of(&head[8..]));
+    if head[0] != 0x5a || length == 0 || number >= 1 << 48 || number % 4 != slot as u64 {
         return None;
     }
     Some(Held {
         number,
-        session: number_of(head.get(4..8)?)?,
+        session: number_of(&head[4..8]),
         payload: payload.get(..length as usize)?,
     })
 }
@@ -159,22 +153,24 @@ fn recovers_what_the_heads_say(rt: HostRuntime) {
     }
 }
 
-// A gate that is closed and one that is open, sessions of 0 and others, and another number.
+/// Version bytes, places in a slot's head, and the bytes there: a gate that is closed and one that is open, sessions of 0 and
+/// others, and another number.
+const HEADS: &[(u8, u8, u8)] = &[
+    (VERSION_2, 0, 0x00),
+    (VERSION_2, 0, 0x5a),
+    (VERSION_2, 4, 0xff),
+    (VERSION_2, 7, 0x00),
+    (VERSION_2, 7, 0x5a),
+    (VERSION_2, 15, 0x00),
+    (VERSION_1, 7, 0x5a),
+];
+
 #[test]
 fn lists_what_the_heads_say(rt: HostRuntime) {
     let image = image_of_a_frame(&rt);
-    let cases = [
-        (VERSION_2, 0, 0x00),
-        (VERSION_2, 0, 0x5a),
-        (VERSION_2, 4, 0xff),
-        (VERSION_2, 7, 0x00),
-        (VERSION_2, 7, 0x5a),
-        (VERSION_2, 15, 0x00),
-        (VERSION_1, 7, 0x5a),
-    ];
-    for (version, place, byte) in cases {
+    for &(version, place, byte) in HEADS {
         for slot in 0..4 {
-            let at = 64 + SLOT * slot + place;
+            let at = 64 + SLOT * slot + usize::from(place);
             let other = with_bytes(&rt, &image, &[(1, version), (at, byte)]);
             assert!(rt; lists(&rt, &other, version), "{at}, {byte}");
         }

@@ -2,6 +2,7 @@
 
 use fdr_cases::{ALTITUDE, Given, Left, first_call_with, run_on, stop_of};
 use fdr_deck::Tear;
+use fdr_slot::ImageFault;
 use fdr_top::Outcome;
 use std::process::Abort;
 
@@ -16,6 +17,17 @@ pub const TRACE_OF_A_FRAME: [u8; 32] = [
     1, 0, 0, 0, 0, 0, 0x14, 0xc1, 0, 0, 0, 0, 0, 0, 0, 0, 2, 0, 0, 0, 0, 0, 0, 0, 0, 0, 0, 0, 0,
     0x3d, 0x09, 0,
 ];
+
+/// The answers to an image that is refused, by its fault.
+pub const SMALL: Outcome = Outcome::ImageRefused(ImageFault::Small);
+
+pub const CLOSED: Outcome = Outcome::ImageRefused(ImageFault::Closed);
+
+pub const MAGIC: Outcome = Outcome::ImageRefused(ImageFault::Magic);
+
+pub const GEOMETRY: Outcome = Outcome::ImageRefused(ImageFault::Geometry);
+
+pub const SHORT: Outcome = Outcome::ImageRefused(ImageFault::Short);
 
 /// Runs a command on what is given.
 pub fn ran(rt: &(impl Abort + AllocGlobal), words: &[&str], given: Given<'_>) -> Left {

@@ -1,8 +1,7 @@
 use crate::formats::fresh_image;
-use crate::images::{RECORD, TRACE_OF_A_FRAME, fresh, ran, with_bytes};
+use crate::images::{CLOSED, RECORD, SMALL, TRACE_OF_A_FRAME, fresh, ran, with_bytes};
 use crate::recoveries::image_of_a_frame;
 use fdr_cases::{ALTITUDE, Given, Left};
-use fdr_slot::ImageFault;
 use fdr_top::Outcome;
 use std::process::Abort;
 
@@ -94,8 +93,8 @@ fn refuses_an_image_for_other_words(rt: HostRuntime) {
     let closed = with_bytes(&rt, &image, &[(0, 0)]);
     assert!(rt;
         refused(&rt, &image) == differ
-            && refused(&rt, &closed) == Outcome::ImageRefused(ImageFault::Closed)
-            && refused(&rt, &[]) == Outcome::ImageRefused(ImageFault::Small)
+            && refused(&rt, &closed) == CLOSED
+            && refused(&rt, &[]) == SMALL
     );
 }
 

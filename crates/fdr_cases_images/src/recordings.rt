@@ -115,6 +115,9 @@ fn records_worked_traces(rt: HostRuntime) {
     }
 }
 
+/// Of each slot its gate, its block's number, and where the block begins in the frame.
+const ROUND: &[(u8, u8, usize)] = &[(0x5a, 4, 256), (0x5a, 5, 320), (0, 2, 128), (0x5a, 3, 192)];
+
 // The slots hold blocks 4, 5, 2 and 3. The gate of block 2 is closed since block 6 comes next.
 #[test]
 fn lays_blocks_round_a_ring(rt: HostRuntime) {
@@ -122,9 +125,9 @@ fn lays_blocks_round_a_ring(rt: HostRuntime) {
     let left = record(&rt, &image, &[END_AT_4000000]);
     let frame = frame_with(&[]);
     let mut expected = copied(&rt, image.get(..64).expect(&rt, "a header"));
-    for (gate, number, at) in [(0x5a, 4, 256), (0x5a, 5, 320), (0, 2, 128), (0x5a, 3, 192)] {
+    for &(gate, number, at) in ROUND {
         let head = [gate, 0, 0, 64, 0, 0, 0, 1, 0, 0, 0, 0, 0, 0, 0, number];
-        let block = frame.get(at..at + 64).expect(&rt, "a block");
+        let block = frame.get(at..at.saturating_add(64)).expect(&rt, "a block");
         expected.extend_from_slice(&head).expect(&rt, "room");
         expected.extend_from_slice(block).expect(&rt, "room");
     }

@@ -1,10 +1,12 @@
 use crate::formats::fresh_image;
-use crate::images::{altered, copied, joined, ran, with_bytes};
+use crate::images::{
+    CLOSED, GEOMETRY, MAGIC, SHORT, SMALL, altered, copied, joined, ran, with_bytes,
+};
 use fdr_cases::{ALTITUDE, END_AT_4000000, Given, Left, deck_of, frame_with};
 use fdr_deck::MemDeck;
 use fdr_recover::{Found, RingFault, read_image_header, scan};
 use fdr_ring::Ring;
-use fdr_slot::{Header, ImageFault, OPEN, write_header, write_slot_head};
+use fdr_slot::{Header, OPEN, write_header, write_slot_head};
 use fdr_top::Outcome;
 use std::process::Abort;
 
@@ -83,20 +85,22 @@ fn refused(rt: &(impl Abort + AllocGlobal), at: usize, byte: u8, length: usize) 
     left.outcome
 }
 
+/// Places of a byte, the byte, the image's length, and the answer.
+const FILES: &[(usize, u8, usize, Outcome)] = &[
+    (0, 0x5a, 0, SMALL),
+    (0, 0x5a, 63, SMALL),
+    (0, 0x00, 384, CLOSED),
+    (2, 0x00, 384, MAGIC),
+    (11, 3, 384, GEOMETRY),
+    (1, 0x00, 384, Outcome::Done),
+    (1, 0x17, 384, Outcome::Done),
+    (0, 0x5a, 383, SHORT),
+    (0, 0x5a, 385, Outcome::Done),
+];
+
 #[test]
 fn refuses_what_is_no_image(rt: HostRuntime) {
-    let cases = [
-        (0, 0x5a, 0, Outcome::ImageRefused(ImageFault::Small)),
-        (0, 0x5a, 63, Outcome::ImageRefused(ImageFault::Small)),
-        (0, 0x00, 384, Outcome::ImageRefused(ImageFault::Closed)),
-        (2, 0x00, 384, Outcome::ImageRefused(ImageFault::Magic)),
-        (11, 3, 384, Outcome::ImageRefused(ImageFault::Geometry)),
-        (1, 0x00, 384, Outcome::Done),
-        (1, 0x17, 384, Outcome::Done),
-        (0, 0x5a, 383, Outcome::ImageRefused(ImageFault::Short)),
-        (0, 0x5a, 385, Outcome::Done),
-    ];
-    for (at, byte, length, outcome) in cases {
+    for &(at, byte, length, outcome) in FILES {
         let answer = refused(&rt, at, byte, length);
         assert!(rt; answer == outcome, "{at}, {length}");
     }
@@ -122,6 +126,18 @@ fn says_what_failed(rt: HostRuntime) {
     assert!(rt; unwritten.outcome == Outcome::WriteFault && unwritten.written.is_empty());
 }
 
+/// Of each slot whether it is open, and its block's number.
+const BROKEN: &[(bool, u8)] = &[
+    (true, 8),
+    (false, 1),
+    (true, 2),
+    (true, 3),
+    (true, 4),
+    (false, 5),
+    (false, 6),
+    (true, 7),
+];
+
 /// An image of eight slots with blocks 2, 3, 4, 7 and 8, each in its slot. A block's session and bytes are its number.
 fn broken_ring(rt: &(impl Abort + AllocGlobal)) -> Vec<u8> {
     let header = Header {
@@ -131,16 +147,7 @@ fn broken_ring(rt: &(impl Abort + AllocGlobal)) -> Vec<u8> {
         version: 2,
     };
     let mut image = copied(rt, &write_header(&header));
-    for (open, number) in [
-        (true, 8),
-        (false, 1),
-        (true, 2),
-        (true, 3),
-        (true, 4),
-        (false, 5),
-        (false, 6),
-        (true, 7),
-    ] {
+    for &(open, number) in BROKEN {
         let mut head = write_slot_head(64, u32::from(number), u64::from(number));
         if open {
             head[0] = OPEN;

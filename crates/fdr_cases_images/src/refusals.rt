@@ -1,6 +1,5 @@
-use crate::images::{RECORD, altered, fresh, ran};
+use crate::images::{CLOSED, GEOMETRY, MAGIC, RECORD, SHORT, SMALL, altered, fresh, ran};
 use fdr_cases::{ALTITUDE, END_AT_4000000, Given, ORDINARY};
-use fdr_slot::ImageFault;
 use fdr_table::TableFault;
 use fdr_top::Outcome;
 use std::process::Abort;
@@ -25,87 +24,59 @@ fn recorded_in(
     (left.outcome, left.told)
 }
 
+const WORDS_DIFFER: Outcome = Outcome::WordsDiffer {
+    image: 64,
+    table: 256,
+};
+
+/// Places of a byte, the byte, the image's length, the table, the answer, and the number that is announced.
+const IMAGES: &[(usize, u8, usize, &str, Outcome, u64)] = &[
+    (0, 0x5a, 0, ALTITUDE, SMALL, 0),
+    (0, 0x5a, 63, ALTITUDE, SMALL, 0),
+    (0, 0x00, 384, ALTITUDE, CLOSED, 0),
+    (2, 0x00, 384, ALTITUDE, MAGIC, 0),
+    (11, 3, 384, ALTITUDE, GEOMETRY, 0),
+    (0, 0x5a, 383, ALTITUDE, SHORT, 0),
+    (0, 0x5a, 384, ORDINARY, WORDS_DIFFER, 0),
+    (0, 0x5a, 383, ORDINARY, SHORT, 0),
+    (1, 0x00, 383, ALTITUDE, SHORT, 0),
+    (1, 0x00, 384, ORDINARY, WORDS_DIFFER, 0),
+    (1, 0x00, 384, ALTITUDE, Outcome::OldVersion, 0),
+    (1, 0x5a, 384, ALTITUDE, Outcome::OldVersion, 0),
+    (0, 0x5a, 385, ALTITUDE, Outcome::Done, 6),
+];
+
 #[test]
 fn refuses_what_is_no_image_for_the_table(rt: HostRuntime) {
-    let words_differ = Outcome::WordsDiffer {
-        image: 64,
-        table: 256,
-    };
-    let short = Outcome::ImageRefused(ImageFault::Short);
-    let cases = [
-        (
-            0,
-            0x5a,
-            0,
-            ALTITUDE,
-            Outcome::ImageRefused(ImageFault::Small),
-            0,
-        ),
-        (
-            0,
-            0x5a,
-            63,
-            ALTITUDE,
-            Outcome::ImageRefused(ImageFault::Small),
-            0,
-        ),
-        (
-            0,
-            0x00,
-            384,
-            ALTITUDE,
-            Outcome::ImageRefused(ImageFault::Closed),
-            0,
-        ),
-        (
-            2,
-            0x00,
-            384,
-            ALTITUDE,
-            Outcome::ImageRefused(ImageFault::Magic),
-            0,
-        ),
-        (
-            11,
-            3,
-            384,
-            ALTITUDE,
-            Outcome::ImageRefused(ImageFault::Geometry),
-            0,
-        ),
-        (0, 0x5a, 383, ALTITUDE, short, 0),
-        (0, 0x5a, 384, ORDINARY, words_differ, 0),
-        (0, 0x5a, 383, ORDINARY, short, 0),
-        (1, 0x00, 383, ALTITUDE, short, 0),
-        (1, 0x00, 384, ORDINARY, words_differ, 0),
-        (1, 0x00, 384, ALTITUDE, Outcome::OldVersion, 0),
-        (1, 0x5a, 384, ALTITUDE, Outcome::OldVersion, 0),
-        (0, 0x5a, 385, ALTITUDE, Outcome::Done, 6),
-    ];
-    for (at, byte, length, table, outcome, announced) in cases {
+    for &(at, byte, length, table, outcome, announced) in IMAGES {
         let answer = recorded_in(&rt, at, byte, length, table);
         assert!(rt; answer == (outcome, announced), "{at}, {length}");
     }
 }
 
+/// Words and tables that are refused, with their answers.
+const REFUSED: &[(&[&str], &str, Outcome)] = &[
+    (&["record", "t1.csv"], ALTITUDE, Outcome::Usage),
+    (&["record", "t1.csv", ""], ALTITUDE, Outcome::Usage),
+    (
+        &["record", "t1.csv", "flight.img", "--slots=4"],
+        ALTITUDE,
+        Outcome::Usage,
+    ),
+    (
+        RECORD,
+        "X,1\n",
+        Outcome::TableRefused {
+            row: 0,
+            fault: TableFault::Shape,
+        },
+    ),
+];
+
 #[test]
 fn leaves_the_disk_where_words_or_table_are_refused(rt: HostRuntime) {
-    let refused = Outcome::TableRefused {
-        row: 0,
-        fault: TableFault::Shape,
-    };
-    let cases: [(&[&str], &str, Outcome); 4] = [
-        (&["record", "t1.csv"], ALTITUDE, Outcome::Usage),
-        (&["record", "t1.csv", ""], ALTITUDE, Outcome::Usage),
-        (
-            &["record", "t1.csv", "flight.img", "--slots=4"],
-            ALTITUDE,
-            Outcome::Usage,
-        ),
-        (RECORD, "X,1\n", refused),
-    ];
     let image = fresh(&rt, "4");
-    for (words, table, outcome) in cases {
+    for &(words, table, outcome) in REFUSED {
         let given = Given {
             image: &image,
             line: &END_AT_4000000,

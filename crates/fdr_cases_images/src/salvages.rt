@@ -1,8 +1,7 @@
 //! Images that are damaged: every run of blocks that is still there is listed.
 
-use crate::images::{altered, copied, ran, with_bytes};
+use crate::images::{CLOSED, SHORT, SMALL, altered, copied, ran, with_bytes};
 use fdr_cases::{ALTITUDE, Given, Left, frame_with, ring_with};
-use fdr_slot::ImageFault;
 use fdr_top::Outcome;
 use std::process::Abort;
 
@@ -98,29 +97,31 @@ fn refused(rt: &(impl Abort + AllocGlobal), words: &[&str], image: &[u8]) -> Out
     left.outcome
 }
 
+/// Numbers and sessions of blocks, and what is listed of them.
+const RUNS: &[(&[(u8, u8)], &str)] = &[
+    (&[], ""),
+    (&[(5, 1), (8, 1), (9, 1)], TWO_RUNS),
+    (&[(9, 1), (8, 1), (5, 1)], TWO_RUNS),
+    // A session that goes on after a hole has a line in each run.
+    (
+        &[(2, 1), (4, 1), (5, 2), (6, 2)],
+        "run,2,1\nsession,1,2\ngap,0,512\nrun,4,3\nsession,1,4\ngap,0,512\nsession,2,5\ngap,0,1024\n",
+    ),
+    // So has one that comes back.
+    (
+        &[(0, 7), (1, 0), (2, 7)],
+        "run,0,3\nsession,7,0\ngap,0,512\nsession,0,1\ngap,0,512\nsession,7,2\ngap,0,512\n",
+    ),
+    // Numbers that follow one another are one run also where it goes on in the first slot.
+    (
+        &[(6, 1), (7, 1), (8, 1), (9, 1)],
+        "run,6,4\nsession,1,6\ngap,0,2048\n",
+    ),
+];
+
 #[test]
 fn lists_each_run(rt: HostRuntime) {
-    let cases: [(&[(u8, u8)], &str); 6] = [
-        (&[], ""),
-        (&[(5, 1), (8, 1), (9, 1)], TWO_RUNS),
-        (&[(9, 1), (8, 1), (5, 1)], TWO_RUNS),
-        // A session that goes on after a hole has a line in each run.
-        (
-            &[(2, 1), (4, 1), (5, 2), (6, 2)],
-            "run,2,1\nsession,1,2\ngap,0,512\nrun,4,3\nsession,1,4\ngap,0,512\nsession,2,5\ngap,0,1024\n",
-        ),
-        // So has one that comes back.
-        (
-            &[(0, 7), (1, 0), (2, 7)],
-            "run,0,3\nsession,7,0\ngap,0,512\nsession,0,1\ngap,0,512\nsession,7,2\ngap,0,512\n",
-        ),
-        // Numbers that follow one another are one run also where it goes on in the first slot.
-        (
-            &[(6, 1), (7, 1), (8, 1), (9, 1)],
-            "run,6,4\nsession,1,6\ngap,0,2048\n",
-        ),
-    ];
-    for (blocks, lines) in cases {
+    for &(blocks, lines) in RUNS {
         let image = image_of(&rt, blocks);
         assert!(rt;
             lists(&rt, SALVAGE, &image, lines) && lists(&rt, BY_EIGHT, &image, lines),
@@ -141,28 +142,29 @@ const SECOND: usize = 64 + 2 * 80;
 
 const NINTH: usize = 64 + 9 * 80;
 
+/// Bytes of a ring with a frame in its first six slots, and what is listed of it then.
+const PARTED: &[(&[(usize, u8)], &str)] = &[
+    (&[], "run,0,6\nsession,1,0\nrow,0,1,10,ALT,5\n"),
+    // Block 9 is one more: the last run is block 9 alone.
+    (
+        &[
+            (NINTH, 0x5a),
+            (NINTH + 3, 64),
+            (NINTH + 7, 2),
+            (NINTH + 15, 9),
+        ],
+        "run,0,6\nsession,1,0\nrow,0,1,10,ALT,5\nrun,9,1\nsession,2,9\ngap,0,512\n",
+    ),
+    // Without block 2 no frame is whole, and no row joins the two runs.
+    (
+        &[(SECOND, 0)],
+        "run,0,2\nsession,1,0\ngap,0,1024\nrun,3,3\nsession,1,3\ngap,0,1536\n",
+    ),
+];
+
 #[test]
 fn lists_rows_that_the_last_run_has_not(rt: HostRuntime) {
-    // Block 9 is one more: the last run is block 9 alone.
-    let later = [
-        (NINTH, 0x5a),
-        (NINTH + 3, 64),
-        (NINTH + 7, 2),
-        (NINTH + 15, 9),
-    ];
-    let cases: [(&[(usize, u8)], &str); 3] = [
-        (&[], "run,0,6\nsession,1,0\nrow,0,1,10,ALT,5\n"),
-        (
-            &later,
-            "run,0,6\nsession,1,0\nrow,0,1,10,ALT,5\nrun,9,1\nsession,2,9\ngap,0,512\n",
-        ),
-        // Without block 2 no frame is whole, and no row joins the two runs.
-        (
-            &[(SECOND, 0)],
-            "run,0,2\nsession,1,0\ngap,0,1024\nrun,3,3\nsession,1,3\ngap,0,1536\n",
-        ),
-    ];
-    for (put, lines) in cases {
+    for &(put, lines) in PARTED {
         let image = frame_in_a_ring(&rt, put);
         assert!(rt; lists(&rt, SALVAGE, &image, lines), "{put:?}");
     }
@@ -173,9 +175,8 @@ fn lists_rows_that_the_last_run_has_not(rt: HostRuntime) {
 fn reads_slots_and_payload_from_the_words(rt: HostRuntime) {
     let closed = three_blocks(&rt, 704, &[(0, 0)]);
     let open = three_blocks(&rt, 704, &[]);
-    let fault = ImageFault::Closed;
     assert!(rt;
-        refused(&rt, SALVAGE, &closed) == Outcome::ImageRefused(fault)
+        refused(&rt, SALVAGE, &closed) == CLOSED
             && lists(&rt, BY_EIGHT, &closed, TWO_RUNS)
             && lists(&rt, BY_FOUR, &open, "run,8,2\nsession,1,8\ngap,0,1024\n")
     );
@@ -193,30 +194,33 @@ fn lists_an_image_without_a_header(rt: HostRuntime) {
     assert!(rt; lists(&rt, BY_EIGHT, &gone, lines) && lists(&rt, BY_EIGHT, &second, TWO_RUNS));
 }
 
+/// Words, lengths and bytes of an image of eight slots, with their answers.
+const REFUSED: &[(&[&str], usize, &[(usize, u8)], Outcome)] = &[
+    (SALVAGE, 703, &[], SHORT),
+    (SALVAGE, 64, &[], SHORT),
+    (SALVAGE, 63, &[], SMALL),
+    (SALVAGE, 0, &[], SMALL),
+    (BY_EIGHT, 703, &[], SHORT),
+    (BY_EIGHT, 64, &[], SHORT),
+    (BY_EIGHT, 63, &[], SMALL),
+    (BY_EIGHT, 0, &[], SMALL),
+    (BY_NINE, 704, &[], SHORT),
+    (BY_NINE, 783, &[], SHORT),
+    // The words in a subframe are the table's where slots and payload are given.
+    (
+        SALVAGE,
+        704,
+        &[(18, 1), (19, 0)],
+        Outcome::WordsDiffer {
+            image: 256,
+            table: 64,
+        },
+    ),
+];
+
 #[test]
 fn refuses_by_the_header_or_by_the_length(rt: HostRuntime) {
-    let short = Outcome::ImageRefused(ImageFault::Short);
-    let small = Outcome::ImageRefused(ImageFault::Small);
-    // The words in a subframe are the table's where slots and payload are given.
-    let more_words: &[(usize, u8)] = &[(18, 1), (19, 0)];
-    let differ = Outcome::WordsDiffer {
-        image: 256,
-        table: 64,
-    };
-    let cases: [(&[&str], usize, &[(usize, u8)], Outcome); 11] = [
-        (SALVAGE, 703, &[], short),
-        (SALVAGE, 64, &[], short),
-        (SALVAGE, 63, &[], small),
-        (SALVAGE, 0, &[], small),
-        (BY_EIGHT, 703, &[], short),
-        (BY_EIGHT, 64, &[], short),
-        (BY_EIGHT, 63, &[], small),
-        (BY_EIGHT, 0, &[], small),
-        (BY_NINE, 704, &[], short),
-        (BY_NINE, 783, &[], short),
-        (SALVAGE, 704, more_words, differ),
-    ];
-    for (words, length, put, answer) in cases {
+    for &(words, length, put, answer) in REFUSED {
         let image = three_blocks(&rt, length, put);
         assert!(rt;
             refused(&rt, words, &image) == answer,

@@ -25,35 +25,37 @@ fn lists(
     listed(rt, table, &image).as_slice() == lines.as_bytes()
 }
 
+/// The sessions of twelve blocks, and what is listed of their two frames.
+const SESSIONS: &[(&str, &[u32], &str)] = &[
+    (
+        "one session",
+        &[7; 12],
+        "session,7,0\nrow,0,1,10,ALT,5\nrow,1,1,10,ALT,5\n",
+    ),
+    (
+        "a session for each frame",
+        &[1, 1, 1, 1, 1, 1, 2, 2, 2, 2, 2, 2],
+        "session,1,0\nrow,0,1,10,ALT,5\nsession,2,6\nrow,1,1,10,ALT,5\n",
+    ),
+    (
+        "a session that comes again",
+        &[1, 1, 1, 1, 1, 1, 2, 2, 2, 1, 1, 1],
+        "session,1,0\nrow,0,1,10,ALT,5\nsession,2,6\ngap,0,1536\nsession,1,9\ngap,0,1536\n",
+    ),
+    (
+        "a frame in two sessions",
+        &[0, 0, 0, u32::MAX, u32::MAX, u32::MAX, 0, 0, 0, 0, 0, 0],
+        "session,0,0\ngap,0,1536\nsession,4294967295,3\ngap,0,1536\nsession,0,6\nrow,1,1,10,ALT,5\n",
+    ),
+];
+
 #[test]
 fn lists_each_session_by_itself(rt: HostRuntime) {
-    let cases = [
-        (
-            "one session",
-            [7; 12],
-            "session,7,0\nrow,0,1,10,ALT,5\nrow,1,1,10,ALT,5\n",
-        ),
-        (
-            "a session for each frame",
-            [1, 1, 1, 1, 1, 1, 2, 2, 2, 2, 2, 2],
-            "session,1,0\nrow,0,1,10,ALT,5\nsession,2,6\nrow,1,1,10,ALT,5\n",
-        ),
-        (
-            "a session that comes again",
-            [1, 1, 1, 1, 1, 1, 2, 2, 2, 1, 1, 1],
-            "session,1,0\nrow,0,1,10,ALT,5\nsession,2,6\ngap,0,1536\nsession,1,9\ngap,0,1536\n",
-        ),
-        (
-            "a frame in two sessions",
-            [0, 0, 0, u32::MAX, u32::MAX, u32::MAX, 0, 0, 0, 0, 0, 0],
-            "session,0,0\ngap,0,1536\nsession,4294967295,3\ngap,0,1536\nsession,0,6\nrow,1,1,10,ALT,5\n",
-        ),
-    ];
     let rows = "row,0,1,10,ALT,5\nrow,1,1,10,ALT,5\n";
-    for (shows, sessions, listing) in cases {
+    for &(shows, sessions, listing) in SESSIONS {
         assert!(rt;
-            lists(&rt, ALTITUDE, 0xa5, &sessions, listing)
-                && lists(&rt, ALTITUDE, 0x00, &sessions, rows),
+            lists(&rt, ALTITUDE, 0xa5, sessions, listing)
+                && lists(&rt, ALTITUDE, 0x00, sessions, rows),
             "{shows}"
         );
     }

@@ -1,5 +1,6 @@
 //! Images whose making is stopped within a call, or fails at one: none, or the whole empty one.
 
+use crate::images::{CLOSED, SMALL};
 use crate::recoveries::recover;
 use crate::rings::{TEARS, empty_ring, left_by_stop, run_in};
 use fdr_cases::Ran;
@@ -23,9 +24,9 @@ fn format(rt: &(impl Abort + AllocGlobal), failing: &[u64]) -> (Ran, MemDeck) {
 /// What is to be answered to what is left, by its bytes: there is no image yet, or the whole empty one. None is neither.
 fn answer_to(image: &[u8], whole: &[u8]) -> Option<Outcome> {
     if image.len() < 64 {
-        Some(Outcome::ImageRefused(ImageFault::Small))
+        Some(SMALL)
     } else if image.first() != Some(&0x5a) {
-        Some(Outcome::ImageRefused(ImageFault::Closed))
+        Some(CLOSED)
     } else if image == whole {
         Some(Outcome::Done)
     } else {

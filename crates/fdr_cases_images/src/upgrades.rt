@@ -1,12 +1,13 @@
 //! Images of version 1: what is refused and listed of them, and what an upgrade does.
 
 use crate::formats::fresh_image;
-use crate::images::{TRACE_OF_A_FRAME, altered, left_by, ran, with_bytes};
+use crate::images::{
+    CLOSED, GEOMETRY, MAGIC, SHORT, SMALL, TRACE_OF_A_FRAME, altered, left_by, ran, with_bytes,
+};
 use crate::listings::listed;
 use crate::recoveries::recover;
 use fdr_cases::{ALTITUDE, Given, Left, frame_with, ring_with};
 use fdr_deck::Tear;
-use fdr_slot::ImageFault;
 use fdr_top::Outcome;
 use std::process::Abort;
 
@@ -125,18 +126,20 @@ fn leaves(rt: &(impl Abort + AllocGlobal), old: &[u8], call: u64, tear: Tear, ve
         && left_by(rt, UPGRADE, failing, call, tear) == left
 }
 
+/// How a write is torn, and the version byte that it leaves.
+const TORN: &[(Tear, u8)] = &[
+    (Tear::Old, 0x00),
+    (Tear::New, 0xa5),
+    (Tear::Fill(0x17), 0x17),
+    (Tear::Fill(0xa5), 0xa5),
+];
+
 #[test]
 fn a_stop_leaves_one_version_or_the_other(rt: HostRuntime) {
     let old = old_ring(&rt);
     assert!(rt; upgrade(&rt, &old).calls == WRITE + 2);
-    let tears = [
-        (Tear::Old, 0x00),
-        (Tear::New, 0xa5),
-        (Tear::Fill(0x17), 0x17),
-        (Tear::Fill(0xa5), 0xa5),
-    ];
     for call in 0..WRITE + 2 {
-        for (tear, version) in tears {
+        for &(tear, version) in TORN {
             // Nothing is pending before the write.
             let version = if call < WRITE { 0x00 } else { version };
             assert!(rt; leaves(&rt, &old, call, tear, version), "{call}, {tear:?}");
@@ -161,15 +164,18 @@ fn each_call_of_an_upgrade_fails(rt: HostRuntime) {
     }
 }
 
+/// Version bytes, and what is listed of a frame in a ring with each.
+const VERSIONS: &[(u8, &str)] = &[
+    (0x00, "row,0,1,10,ALT,5\n"),
+    (0x17, "row,0,1,10,ALT,5\n"),
+    (0xa5, "session,0,0\nrow,0,1,10,ALT,5\n"),
+];
+
 // The version byte counts as 2 where it is hexadecimal A5, and else as 1.
 #[test]
 fn lists_each_version_byte_that_a_stop_leaves(rt: HostRuntime) {
     let old = old_ring(&rt);
-    for (version, lines) in [
-        (0x00, "row,0,1,10,ALT,5\n"),
-        (0x17, "row,0,1,10,ALT,5\n"),
-        (0xa5, "session,0,0\nrow,0,1,10,ALT,5\n"),
-    ] {
+    for &(version, lines) in VERSIONS {
         let image = with_version(&rt, &old, version);
         assert!(rt; lists(&rt, &image, lines), "{version}");
     }
@@ -184,17 +190,19 @@ fn upgraded(rt: &(impl Abort + AllocGlobal), at: usize, byte: u8, length: usize)
     left.outcome
 }
 
+/// Places of a byte, the byte, the image's length, and the answer.
+const OTHER_FILES: &[(usize, u8, usize, Outcome)] = &[
+    (0, 0x5a, 63, SMALL),
+    (0, 0x00, 384, CLOSED),
+    (2, 0x00, 384, MAGIC),
+    (11, 3, 384, GEOMETRY),
+    (0, 0x5a, 383, SHORT),
+    (1, 0xa5, 384, Outcome::Done),
+];
+
 #[test]
 fn upgrades_no_other_file(rt: HostRuntime) {
-    let cases = [
-        (0, 0x5a, 63, Outcome::ImageRefused(ImageFault::Small)),
-        (0, 0x00, 384, Outcome::ImageRefused(ImageFault::Closed)),
-        (2, 0x00, 384, Outcome::ImageRefused(ImageFault::Magic)),
-        (11, 3, 384, Outcome::ImageRefused(ImageFault::Geometry)),
-        (0, 0x5a, 383, Outcome::ImageRefused(ImageFault::Short)),
-        (1, 0xa5, 384, Outcome::Done),
-    ];
-    for (at, byte, length, outcome) in cases {
+    for &(at, byte, length, outcome) in OTHER_FILES {
         let answer = upgraded(&rt, at, byte, length);
         assert!(rt; answer == outcome, "{at}, {length}");
     }

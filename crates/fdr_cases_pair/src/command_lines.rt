@@ -12,15 +12,17 @@ fn read(rt: &(impl Abort + AllocGlobal), line: &str) -> Result<PairRequest, Pair
     read_pair_words(rt.alloc(), words.as_slice())
 }
 
+/// Lines, and the paths that they name.
+const PATHS: &[(&str, &str, &str, &str)] = &[
+    ("record t1.csv a.img b.img", "t1.csv", "a.img", "b.img"),
+    ("record t a a", "t", "a", "a"),
+    ("record record record record", "record", "record", "record"),
+    ("record t.csv disk/a=-1 b-", "t.csv", "disk/a=-1", "b-"),
+];
+
 #[test]
 fn reads_three_paths(rt: HostRuntime) {
-    let cases = [
-        ("record t1.csv a.img b.img", "t1.csv", "a.img", "b.img"),
-        ("record t a a", "t", "a", "a"),
-        ("record record record record", "record", "record", "record"),
-        ("record t.csv disk/a=-1 b-", "t.csv", "disk/a=-1", "b-"),
-    ];
-    for (line, table, first, second) in cases {
+    for &(line, table, first, second) in PATHS {
         let request = read(&rt, line).expect(&rt, line);
         assert!(rt;
             request.table.text() == table
@@ -31,34 +33,36 @@ fn reads_three_paths(rt: HostRuntime) {
     }
 }
 
+/// Lines that are refused.
+const REFUSED: &[&str] = &[
+    "",
+    "record",
+    "record t",
+    "record t a",
+    "record t a b more",
+    "record t a b ",
+    " record t a b",
+    "record  a b",
+    "record t  b",
+    "record t a ",
+    "record - a b",
+    "record t -a b",
+    "record t a --",
+    "record t a --slots",
+    "record t a b --slots 16",
+    "record -- t a b",
+    "-record t a b",
+    "--seed=1 t a b",
+    "Record t a b",
+    "records t a b",
+    "recor t a b",
+    "list t a b",
+    "t a b record",
+];
+
 #[test]
 fn refuses_other_words(rt: HostRuntime) {
-    let lines = [
-        "",
-        "record",
-        "record t",
-        "record t a",
-        "record t a b more",
-        "record t a b ",
-        " record t a b",
-        "record  a b",
-        "record t  b",
-        "record t a ",
-        "record - a b",
-        "record t -a b",
-        "record t a --",
-        "record t a --slots",
-        "record t a b --slots 16",
-        "record -- t a b",
-        "-record t a b",
-        "--seed=1 t a b",
-        "Record t a b",
-        "records t a b",
-        "recor t a b",
-        "list t a b",
-        "t a b record",
-    ];
-    for line in lines {
+    for &line in REFUSED {
         let answer = read(&rt, line);
         assert!(rt; answer.err() == Some(PairWordsFault::Usage), "{line}");
     }

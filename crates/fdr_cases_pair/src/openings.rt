@@ -157,20 +157,21 @@ fn names_the_first(rt: &(impl Abort + AllocGlobal), bad: &[u8], fault: ImageFaul
         && Opening::of(closed, bad).refuses(rt, Side::First, ImageFault::Closed)
 }
 
+/// The length, a byte of the header with another value, and the fault.
+const BAD_IMAGES: &[(usize, (usize, u8), ImageFault)] = &[
+    (0, (0, 0x5a), ImageFault::Small),
+    (63, (0, 0), ImageFault::Small),
+    (384, (0, 0), ImageFault::Closed),
+    (384, (7, b'8'), ImageFault::Magic),
+    (384, (11, 3), ImageFault::Geometry),
+    (384, (15, 63), ImageFault::Geometry),
+    (384, (19, 65), ImageFault::Geometry),
+    (383, (0, 0x5a), ImageFault::Short),
+];
+
 #[test]
 fn names_the_first_image_that_is_refused(rt: HostRuntime) {
-    // the length, a byte of the header with another value, and the fault
-    let cases = [
-        (0, (0, 0x5a), ImageFault::Small),
-        (63, (0, 0), ImageFault::Small),
-        (384, (0, 0), ImageFault::Closed),
-        (384, (7, b'8'), ImageFault::Magic),
-        (384, (11, 3), ImageFault::Geometry),
-        (384, (15, 63), ImageFault::Geometry),
-        (384, (19, 65), ImageFault::Geometry),
-        (383, (0, 0x5a), ImageFault::Short),
-    ];
-    for (length, change, fault) in cases {
+    for &(length, change, fault) in BAD_IMAGES {
         let image = image(change);
         let bad = image.get(..length).expect(&rt, "a length");
         assert!(rt; names_the_first(&rt, bad, fault), "{length} {change:?}");
@@ -203,6 +204,9 @@ fn refuses_headers_that_differ(rt: HostRuntime) {
     }
 }
 
+/// From which calls on each disk is dead: at most one of them is.
+const ONE_DEAD: &[(Option<u64>, Option<u64>)] = &[(None, None), (Some(0), None), (None, Some(0))];
+
 #[test]
 fn refuses_other_words_before_an_old_version(rt: HostRuntime) {
     let (ring, old) = (ring(), image(VERSION_1));
@@ -212,7 +216,7 @@ fn refuses_other_words_before_an_old_version(rt: HostRuntime) {
         table: 128,
     });
     let is_old = Err(PairOutcome::OldVersion);
-    for (first, second) in [(None, None), (Some(0), None), (None, Some(0))] {
+    for &(first, second) in ONE_DEAD {
         let both_old = Opening {
             dead: dead(first, second),
             ..Opening::of(old, old)
@@ -259,35 +263,37 @@ fn leaving<'a>(ring: &'a [u8], aside: &'a [u8], side: Side, call: u64) -> Openin
     }
 }
 
+/// Which side is dead, from which call on, which is left, and in how many calls that is answered.
+const FAILING_SIDES: &[(Side, u64, LivingSides, u64)] = &[
+    (Side::First, 0, LivingSides::OnlySecond, 3),
+    (Side::First, 1, LivingSides::OnlySecond, 4),
+    (Side::Second, 0, LivingSides::OnlyFirst, 3),
+    (Side::Second, 1, LivingSides::OnlyFirst, 3),
+    (Side::Second, 2, LivingSides::OnlyFirst, 3),
+    (Side::Second, 3, LivingSides::OnlyFirst, 4),
+];
+
 // The first side's two calls are 0 and 1, the second's are 1 and 2 where the first fails at once, else 2 and 3.
 #[test]
 fn leaves_a_side_aside_that_fails(rt: HostRuntime) {
     let ring = ring();
-    let first = opened(LivingSides::OnlyFirst);
-    let second = opened(LivingSides::OnlySecond);
-    // which side is dead, from which call on, what is answered, and in how many calls
-    let cases = [
-        (Side::First, 0, second, 3),
-        (Side::First, 1, second, 4),
-        (Side::Second, 0, first, 3),
-        (Side::Second, 1, first, 3),
-        (Side::Second, 2, first, 3),
-        (Side::Second, 3, first, 4),
-    ];
     for change in [(0, 0x5a), LONGER_SLOTS, (0, 0)] {
         let aside = image(change);
-        for (side, call, answer, calls) in cases {
+        for &(side, call, left, calls) in FAILING_SIDES {
             let one = leaving(front(&ring, 400), front(&aside, 400), side, call);
-            assert!(rt; one.answer(&rt) == (answer, calls), "{call}");
+            assert!(rt; one.answer(&rt) == (opened(left), calls), "{call}");
         }
     }
 }
+
+/// From which calls on each disk is dead.
+const BOTH_DEAD: &[(u64, u64)] = &[(0, 0), (1, 0), (1, 2), (1, 3), (0, 2)];
 
 #[test]
 fn refuses_two_failed_sides(rt: HostRuntime) {
     let ring = ring();
     let fault = Err(PairOutcome::DiskFault);
-    for (first, second) in [(0, 0), (1, 0), (1, 2), (1, 3), (0, 2)] {
+    for &(first, second) in BOTH_DEAD {
         let failed = Opening {
             dead: dead(Some(first), Some(second)),
             ..Opening::of(front(&ring, 400), front(&ring, 400))

@@ -2,15 +2,18 @@
 
 use fdr_bus::{BusRecord, RecordKind, TraceFault, field, is_odd, label, parse, sdi};
 
+/// Words with their labels, their SDIs, and whether their parity is odd.
+const WORDS: &[(u32, u8, u8, bool)] = &[
+    (0x0000_14c1, 0o203, 0, true),
+    (0x8000_14c1, 0o203, 0, false),
+    (0x8abc_de13, 0o310, 2, true),
+    (0x8000_0113, 0o310, 1, true),
+    (0x8000_0213, 0o310, 2, true),
+];
+
 #[test]
 fn reads_fields_of_words(rt: HostRuntime) {
-    for (word, octal, source, is_sound) in [
-        (0x0000_14c1, 0o203, 0, true),
-        (0x8000_14c1, 0o203, 0, false),
-        (0x8abc_de13, 0o310, 2, true),
-        (0x8000_0113, 0o310, 1, true),
-        (0x8000_0213, 0o310, 2, true),
-    ] {
+    for &(word, octal, source, is_sound) in WORDS {
         assert!(rt;
             label(word) == octal && sdi(word) == source && is_odd(word) == is_sound,
             "{word}"

@@ -44,22 +44,24 @@ fn numbers_of(request: &Request) -> (u64, u32) {
     }
 }
 
+/// Lines, the table and the image that they name, and whether the image is written.
+const COMMANDS: &[(&str, Option<&str>, Option<&str>, bool)] = &[
+    ("check t1.csv", Some("t1.csv"), None, false),
+    ("stream t1.csv", Some("t1.csv"), None, false),
+    ("listbits t1.csv", Some("t1.csv"), None, false),
+    ("encode", None, None, false),
+    ("decode", None, None, false),
+    ("record t1.csv a.img", Some("t1.csv"), Some("a.img"), true),
+    ("recover a.img", None, Some("a.img"), false),
+    ("list t1.csv a.img", Some("t1.csv"), Some("a.img"), false),
+    ("upgrade a.img", None, Some("a.img"), true),
+    ("salvage t1.csv a.img", Some("t1.csv"), Some("a.img"), false),
+    ("exceed t1.csv a.img", Some("t1.csv"), Some("a.img"), false),
+];
+
 #[test]
 fn reads_each_command(rt: HostRuntime) {
-    let cases = [
-        ("check t1.csv", Some("t1.csv"), None, false),
-        ("stream t1.csv", Some("t1.csv"), None, false),
-        ("listbits t1.csv", Some("t1.csv"), None, false),
-        ("encode", None, None, false),
-        ("decode", None, None, false),
-        ("record t1.csv a.img", Some("t1.csv"), Some("a.img"), true),
-        ("recover a.img", None, Some("a.img"), false),
-        ("list t1.csv a.img", Some("t1.csv"), Some("a.img"), false),
-        ("upgrade a.img", None, Some("a.img"), true),
-        ("salvage t1.csv a.img", Some("t1.csv"), Some("a.img"), false),
-        ("exceed t1.csv a.img", Some("t1.csv"), Some("a.img"), false),
-    ];
-    for (line, table, image, writes) in cases {
+    for &(line, table, image, writes) in COMMANDS {
         let request = read(&rt, line).expect(&rt, line);
         let (command, _) = line.split_once(' ').unwrap_or((line, ""));
         assert!(rt;
@@ -72,38 +74,40 @@ fn reads_each_command(rt: HostRuntime) {
     }
 }
 
+/// Lines, their commands, and the numbers of their two options.
+const OPTIONS: &[(&str, &str, (u64, u32))] = &[
+    ("format t i --payload=64 --slots 016", "format", (16, 64)),
+    (
+        "--slots=16 format --payload 0000000064 t i",
+        "format",
+        (16, 64),
+    ),
+    (
+        "format --slots 65536 t --payload 4096 i",
+        "format",
+        (65_536, 4096),
+    ),
+    ("format t i --slots 4 --payload 64", "format", (4, 64)),
+    ("drill t i --seed 1 --frames 10", "drill", (1, 10)),
+    ("drill t i --frames=10 --seed=1", "drill", (1, 10)),
+    ("--frames 0000000010 drill --seed=01 t i", "drill", (1, 10)),
+    ("drill t i --seed=0 --frames=1", "drill", (0, 1)),
+    (
+        "drill t --seed=4294967295 i --frames=100000",
+        "drill",
+        (4_294_967_295, 100_000),
+    ),
+    ("salvage t i --slots 16 --payload 64", "salvage", (16, 64)),
+    (
+        "--payload=4096 salvage t --slots=65536 i",
+        "salvage",
+        (65_536, 4096),
+    ),
+];
+
 #[test]
 fn reads_options_anywhere(rt: HostRuntime) {
-    let cases = [
-        ("format t i --payload=64 --slots 016", "format", (16, 64)),
-        (
-            "--slots=16 format --payload 0000000064 t i",
-            "format",
-            (16, 64),
-        ),
-        (
-            "format --slots 65536 t --payload 4096 i",
-            "format",
-            (65_536, 4096),
-        ),
-        ("format t i --slots 4 --payload 64", "format", (4, 64)),
-        ("drill t i --seed 1 --frames 10", "drill", (1, 10)),
-        ("drill t i --frames=10 --seed=1", "drill", (1, 10)),
-        ("--frames 0000000010 drill --seed=01 t i", "drill", (1, 10)),
-        ("drill t i --seed=0 --frames=1", "drill", (0, 1)),
-        (
-            "drill t --seed=4294967295 i --frames=100000",
-            "drill",
-            (4_294_967_295, 100_000),
-        ),
-        ("salvage t i --slots 16 --payload 64", "salvage", (16, 64)),
-        (
-            "--payload=4096 salvage t --slots=65536 i",
-            "salvage",
-            (65_536, 4096),
-        ),
-    ];
-    for (line, command, numbers) in cases {
+    for &(line, command, numbers) in OPTIONS {
         let request = read(&rt, line).expect(&rt, line);
         assert!(rt;
             command_of(&request) == command
@@ -115,69 +119,71 @@ fn reads_options_anywhere(rt: HostRuntime) {
     }
 }
 
+/// Lines that are refused.
+const REFUSED: &[&str] = &[
+    "",
+    "listbits",
+    "listbits t more",
+    "listbits ",
+    "check -",
+    "check --",
+    "--help t",
+    "--version",
+    "stream",
+    "encode t",
+    "decode --slots 16",
+    "encodes",
+    "record t",
+    "record t i --slots 16",
+    "record t i --seed 1",
+    "record t i more",
+    "list t",
+    "list t i --slots 16",
+    "list t i more",
+    "lists t i",
+    "recover i --slots 16",
+    "recover t i",
+    "format t i",
+    "format t i --slots 16",
+    "format t i --slots 16 --slots 16 --payload 64",
+    "format t i --slots=16 --payload=",
+    "format t i --slots=16 --payload",
+    "format t i --payload --slots=16 64",
+    "format t i --slots 3 --payload 64",
+    "format t i --slots 65537 --payload 64",
+    "format t i --slots 4 --payload 63",
+    "format t i --slots 4 --payload 4097",
+    "format t i --slots 00000000004 --payload 64",
+    "format t i --slots +4 --payload 64",
+    "format t i --seed=1 --frames=1",
+    "drill t i",
+    "drill t i --seed 1",
+    "drill t i --frames 1",
+    "drill t --seed=1 --frames=1",
+    "drill t i --seed=1 --frames=0",
+    "drill t i --seed=1 --frames=100001",
+    "drill t i --seed=4294967296 --frames=1",
+    "drill t i --seed=1 --seed=1",
+    "drill t i --slots=16 --payload=64",
+    "upgrade",
+    "upgrade t i",
+    "upgrade i --slots 16",
+    "salvage",
+    "salvage t",
+    "salvage t i more",
+    "salvage t i --slots 16",
+    "salvage t i --payload 64",
+    "salvage t i --slots 3 --payload 64",
+    "salvage t i --slots 16 --payload 4097",
+    "salvage t i --seed=1 --frames=1",
+    "exceed t",
+    "exceed t i more",
+    "exceed t i --slots 16 --payload 64",
+];
+
 #[test]
 fn refuses_other_words(rt: HostRuntime) {
-    let lines = [
-        "",
-        "listbits",
-        "listbits t more",
-        "listbits ",
-        "check -",
-        "check --",
-        "--help t",
-        "--version",
-        "stream",
-        "encode t",
-        "decode --slots 16",
-        "encodes",
-        "record t",
-        "record t i --slots 16",
-        "record t i --seed 1",
-        "record t i more",
-        "list t",
-        "list t i --slots 16",
-        "list t i more",
-        "lists t i",
-        "recover i --slots 16",
-        "recover t i",
-        "format t i",
-        "format t i --slots 16",
-        "format t i --slots 16 --slots 16 --payload 64",
-        "format t i --slots=16 --payload=",
-        "format t i --slots=16 --payload",
-        "format t i --payload --slots=16 64",
-        "format t i --slots 3 --payload 64",
-        "format t i --slots 65537 --payload 64",
-        "format t i --slots 4 --payload 63",
-        "format t i --slots 4 --payload 4097",
-        "format t i --slots 00000000004 --payload 64",
-        "format t i --slots +4 --payload 64",
-        "format t i --seed=1 --frames=1",
-        "drill t i",
-        "drill t i --seed 1",
-        "drill t i --frames 1",
-        "drill t --seed=1 --frames=1",
-        "drill t i --seed=1 --frames=0",
-        "drill t i --seed=1 --frames=100001",
-        "drill t i --seed=4294967296 --frames=1",
-        "drill t i --seed=1 --seed=1",
-        "drill t i --slots=16 --payload=64",
-        "upgrade",
-        "upgrade t i",
-        "upgrade i --slots 16",
-        "salvage",
-        "salvage t",
-        "salvage t i more",
-        "salvage t i --slots 16",
-        "salvage t i --payload 64",
-        "salvage t i --slots 3 --payload 64",
-        "salvage t i --slots 16 --payload 4097",
-        "salvage t i --seed=1 --frames=1",
-        "exceed t",
-        "exceed t i more",
-        "exceed t i --slots 16 --payload 64",
-    ];
-    for line in lines {
+    for &line in REFUSED {
         assert!(rt; read(&rt, line).err() == Some(WordsFault::Usage), "{line}");
     }
     let none = read_words(rt.alloc(), &[]);

@@ -81,44 +81,50 @@ fn recording(
     Ok((blocks, bytes))
 }
 
+/// Ends of a recording, how many blocks are given by then, and how many bytes it has.
+const BLOCKS: &[(u32, usize, usize)] = &[
+    (0, 0, 0),
+    (1, 0, 2),
+    (656_250, 0, 63),
+    (671_875, 1, 65),
+    (4_000_000, 6, 384),
+    (4_000_001, 6, 386),
+];
+
 // The 43rd word ends amid a byte, and the byte before is the 64th.
 #[test]
 fn gives_a_block_as_soon_as_it_is_whole(rt: HostRuntime) -> Result<(), Fail> {
-    for (end, blocks, len) in [
-        (0, 0, 0),
-        (1, 0, 2),
-        (656_250, 0, 63),
-        (671_875, 1, 65),
-        (4_000_000, 6, 384),
-        (4_000_001, 6, 386),
-    ] {
-        let (given, bytes) = recording(&rt, TABLE, 0, end)?;
+    for &(end, blocks, len) in BLOCKS {
+        let (given, bytes) = recording(&rt, TABLE, 0, u64::from(end))?;
         assert!(rt; given == blocks, "blocks up to {end}");
         assert!(rt; bytes.len() == len, "bytes up to {end}");
     }
     Ok(())
 }
 
+/// Places in a recording, and the bytes there.
+const BYTES: &[(usize, u8)] = &[
+    (0, 0x47),
+    (1, 0x02),
+    (2, 0x00),
+    (13, 0x50),
+    (14, 0x00),
+    (96, 0xb8),
+    (97, 0x05),
+    (192, 0x47),
+    (193, 0x0a),
+    (288, 0xb8),
+    (289, 0x0d),
+    (383, 0x00),
+    (384, 0x47),
+    (385, 0x02),
+];
+
 // Word 10 of each subframe 1 has the altitude.
 #[test]
 fn packs_the_words_of_a_frame(rt: HostRuntime) -> Result<(), Fail> {
     let (_, bytes) = recording(&rt, TABLE, 0x14c1, 4_000_001)?;
-    for (at, value) in [
-        (0, 0x47),
-        (1, 0x02),
-        (2, 0x00),
-        (13, 0x50),
-        (14, 0x00),
-        (96, 0xb8),
-        (97, 0x05),
-        (192, 0x47),
-        (193, 0x0a),
-        (288, 0xb8),
-        (289, 0x0d),
-        (383, 0x00),
-        (384, 0x47),
-        (385, 0x02),
-    ] {
+    for &(at, value) in BYTES {
         assert!(rt; bytes.get(at).copied() == Some(value), "byte {at}");
     }
     Ok(())
@@ -161,31 +167,37 @@ fn expect_packed(rt: &(impl Abort + AllocGlobal), count: usize, end: u64) -> Res
     Ok(())
 }
 
+/// Numbers of words, and when so many are recorded.
+const FIRST_WORDS: &[(usize, u32)] = &[
+    (1, 15_625),
+    (2, 31_250),
+    (10, 156_250),
+    (11, 171_875),
+    (42, 656_250),
+];
+
 // A word slot lasts 15,625 microseconds.
 #[test]
 fn packs_the_words_of_a_block_as_their_pairs(rt: HostRuntime) -> Result<(), Fail> {
-    for (count, end) in [
-        (1, 15_625),
-        (2, 31_250),
-        (10, 156_250),
-        (11, 171_875),
-        (42, 656_250),
-    ] {
-        expect_packed(&rt, count, end)?;
+    for &(count, end) in FIRST_WORDS {
+        expect_packed(&rt, count, u64::from(end))?;
     }
     Ok(())
 }
 
+/// The same of further blocks.
+const FURTHER_WORDS: &[(usize, u32)] = &[
+    (43, 671_875),
+    (85, 1_328_125),
+    (86, 1_343_750),
+    (267, 4_171_875),
+    (300, 4_687_500),
+];
+
 #[test]
 fn packs_the_words_of_further_blocks_as_their_pairs(rt: HostRuntime) -> Result<(), Fail> {
-    for (count, end) in [
-        (43, 671_875),
-        (85, 1_328_125),
-        (86, 1_343_750),
-        (267, 4_171_875),
-        (300, 4_687_500),
-    ] {
-        expect_packed(&rt, count, end)?;
+    for &(count, end) in FURTHER_WORDS {
+        expect_packed(&rt, count, u64::from(end))?;
     }
     Ok(())
 }

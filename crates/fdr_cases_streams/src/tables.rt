@@ -85,17 +85,19 @@ fn with_param(rt: &(impl Abort + AllocGlobal), width: &str, sign: &str, rest: &s
     text.expect(rt, "a text")
 }
 
+/// Widths, signs and the fields after the rate, and what is read of them: whether it is signed, its age, and whether it tells.
+const SIGNS: &[(&str, &str, &str, bool, Option<u64>, bool)] = &[
+    ("12", "U", "", false, None, false),
+    ("12", "S", ",", true, None, false),
+    ("1", "U", ",1", false, Some(1), false),
+    ("1", "S", ",064000000", true, Some(64_000_000), false),
+    ("1", "V", "", false, None, true),
+    ("1", "V", ",2000000", false, Some(2_000_000), true),
+];
+
 #[test]
 fn reads_signs_and_ages(rt: HostRuntime) {
-    let cases = [
-        ("12", "U", "", false, None, false),
-        ("12", "S", ",", true, None, false),
-        ("1", "U", ",1", false, Some(1), false),
-        ("1", "S", ",064000000", true, Some(64_000_000), false),
-        ("1", "V", "", false, None, true),
-        ("1", "V", ",2000000", false, Some(2_000_000), true),
-    ];
-    for (width, sign, rest, signed, age, tells) in cases {
+    for &(width, sign, rest, signed, age, tells) in SIGNS {
         let text = with_param(&rt, width, sign, rest);
         let table = Table::read(rt.alloc(), text.as_bytes()).expect(&rt, "a table");
         let param = table.params().first().expect(&rt, "a parameter");
@@ -122,18 +124,20 @@ fn is_alt(alloc: Global, text: &[u8]) -> bool {
         && (place.word, place.period, place.row) == (10, 1, 2)
 }
 
+/// Other texts of the table `ALT`.
+const TEXTS: &[&[u8]] = &[
+    b"F,64,2,1\nP,ALT,0,203,,11,12,U,1,1,0,0,16\nL,ALT,1,1,10,0,1,12,0,1",
+    b"F,64,2,1\rP,ALT,0,203,,11,12,U,1,1,0,0,16\rL,ALT,1,1,10,0,1,12,0,1\r",
+    b"F,64,2,1\r\nP,ALT,0,203,,11,12,U,1,1,0,0,16\r\nL,ALT,1,1,10,0,1,12,0,1\r\n",
+    b"\xEF\xBB\xBFF,64,2,1\nP,ALT,0,203,,11,12,U,1,1,0,0,16\nL,ALT,1,1,10,0,1,12,0,1\n",
+    b"\n\nF,64,2,1\n\r\n\nP,ALT,0,203,,11,12,U,1,1,0,0,16\nL,ALT,1,1,10,0,1,12,0,1\n\n",
+    b"\"F\",64,\"2\",1\nP,\"A\"LT,0,203,\"\",11,12,U,1,1,0,0,16\nL,ALT,1,1,10,0,1,12,0,\"1",
+    b"F,0064,02,1\nP,ALT,000,203,,11,0012,U,1,1,-0,0,16\nL,ALT,1,1,10,0,1,12,0,01\n",
+];
+
 #[test]
 fn reads_other_texts_of_the_same_table(rt: HostRuntime) {
-    let texts: [&[u8]; 7] = [
-        b"F,64,2,1\nP,ALT,0,203,,11,12,U,1,1,0,0,16\nL,ALT,1,1,10,0,1,12,0,1",
-        b"F,64,2,1\rP,ALT,0,203,,11,12,U,1,1,0,0,16\rL,ALT,1,1,10,0,1,12,0,1\r",
-        b"F,64,2,1\r\nP,ALT,0,203,,11,12,U,1,1,0,0,16\r\nL,ALT,1,1,10,0,1,12,0,1\r\n",
-        b"\xEF\xBB\xBFF,64,2,1\nP,ALT,0,203,,11,12,U,1,1,0,0,16\nL,ALT,1,1,10,0,1,12,0,1\n",
-        b"\n\nF,64,2,1\n\r\n\nP,ALT,0,203,,11,12,U,1,1,0,0,16\nL,ALT,1,1,10,0,1,12,0,1\n\n",
-        b"\"F\",64,\"2\",1\nP,\"A\"LT,0,203,\"\",11,12,U,1,1,0,0,16\nL,ALT,1,1,10,0,1,12,0,\"1",
-        b"F,0064,02,1\nP,ALT,000,203,,11,0012,U,1,1,-0,0,16\nL,ALT,1,1,10,0,1,12,0,01\n",
-    ];
-    for text in texts {
+    for &text in TEXTS {
         assert!(rt; is_alt(rt.alloc(), text));
     }
 }
@@ -143,43 +147,45 @@ fn is_refused(alloc: Global, text: &[u8], row: u32, fault: TableFault) -> bool {
     Table::read(alloc, text).err() == Some(TableError::Refused(Refusal { row, fault }))
 }
 
+/// Texts, the row that is refused, and its first fault.
+const FAULTS: &[(&str, u32, TableFault)] = &[
+    ("P,A B,0,203,,11,12,U,1,1,0,0,16\n", 0, TableFault::NoFrame),
+    ("F,64,1025,5\n", 0, TableFault::Number { field: 2 }),
+    (
+        "F,64,2,1\nP,A B,0,400,,11,12,U,1,1,0,0,0\n",
+        1,
+        TableFault::Number { field: 3 },
+    ),
+    (
+        "F,64,2,1\nP,A B,0,203,,11,12,U,1,1,0,0,0\n",
+        1,
+        TableFault::Number { field: 12 },
+    ),
+    (
+        "F,64,2,1\nL,A,1,1, 10,0,1,12,0,1\n",
+        1,
+        TableFault::Number { field: 4 },
+    ),
+    (
+        "F,64,2,1\nL,A,1,1,10,0,1,12,5,3\n",
+        1,
+        TableFault::Number { field: 9 },
+    ),
+    (
+        "F,64,2,1\nL,A,1,1,10,0,1,12,16,3\n",
+        1,
+        TableFault::Number { field: 8 },
+    ),
+    (
+        "F,64,2,1\nL,A,1,1,10,0,1,12,4,4\n",
+        1,
+        TableFault::Number { field: 8 },
+    ),
+];
+
 #[test]
 fn refuses_the_first_fault_of_a_row(rt: HostRuntime) {
-    let cases = [
-        ("P,A B,0,203,,11,12,U,1,1,0,0,16\n", 0, TableFault::NoFrame),
-        ("F,64,1025,5\n", 0, TableFault::Number { field: 2 }),
-        (
-            "F,64,2,1\nP,A B,0,400,,11,12,U,1,1,0,0,0\n",
-            1,
-            TableFault::Number { field: 3 },
-        ),
-        (
-            "F,64,2,1\nP,A B,0,203,,11,12,U,1,1,0,0,0\n",
-            1,
-            TableFault::Number { field: 12 },
-        ),
-        (
-            "F,64,2,1\nL,A,1,1, 10,0,1,12,0,1\n",
-            1,
-            TableFault::Number { field: 4 },
-        ),
-        (
-            "F,64,2,1\nL,A,1,1,10,0,1,12,5,3\n",
-            1,
-            TableFault::Number { field: 9 },
-        ),
-        (
-            "F,64,2,1\nL,A,1,1,10,0,1,12,16,3\n",
-            1,
-            TableFault::Number { field: 8 },
-        ),
-        (
-            "F,64,2,1\nL,A,1,1,10,0,1,12,4,4\n",
-            1,
-            TableFault::Number { field: 8 },
-        ),
-    ];
-    for (text, row, fault) in cases {
+    for &(text, row, fault) in FAULTS {
         assert!(rt;
             is_refused(rt.alloc(), text.as_bytes(), row, fault),
             "{text}"
@@ -187,15 +193,17 @@ fn refuses_the_first_fault_of_a_row(rt: HostRuntime) {
     }
 }
 
+/// Widths, signs and the fields after the rate, and the field that is refused.
+const REFUSED_SIGNS: &[(&str, &str, &str, u8)] = &[
+    ("33", "V", "", 6),
+    ("1", "v", "", 7),
+    ("1", "U", ",-1", 13),
+    ("1", "U", ", ", 13),
+];
+
 #[test]
 fn refuses_signs_and_ages(rt: HostRuntime) {
-    let cases = [
-        ("33", "V", "", 6),
-        ("1", "v", "", 7),
-        ("1", "U", ",-1", 13),
-        ("1", "U", ", ", 13),
-    ];
-    for (width, sign, rest, field) in cases {
+    for &(width, sign, rest, field) in REFUSED_SIGNS {
         let text = with_param(&rt, width, sign, rest);
         let fault = TableFault::Number { field };
         assert!(rt; is_refused(rt.alloc(), text.as_bytes(), 1, fault), "{text}");

@@ -7,6 +7,9 @@ use std::process::Abort;
 
 const WORD: &[u8] = &[1, 3, 0, 0, 0, 0, 0x14, 0xc1, 0, 0, 0, 0, 0, 0, 0x3d, 0x09];
 
+/// The same without its last byte.
+const WORD_CUT: &[u8] = &[1, 3, 0, 0, 0, 0, 0x14, 0xc1, 0, 0, 0, 0, 0, 0, 0x3d];
+
 const END: &[u8] = &[2, 0, 0, 0, 0, 0, 0, 0, 0, 0, 0, 0, 0, 0x3d, 0x09, 0];
 
 const OTHER_KIND: &[u8] = &[3, 0, 0, 0, 0, 0, 0, 0, 0, 0, 0, 0, 0, 0, 0, 0];
@@ -43,15 +46,17 @@ fn reads_a_word_and_an_end(rt: HostRuntime) {
     assert!(rt; first_of(&rt, WORD, &[]) == Ok(word) && first_of(&rt, END, &[]) == Ok(end));
 }
 
+/// Lines whose first record is refused.
+const REFUSED: &[(&[u8], TraceFault)] = &[
+    (OTHER_KIND, TraceFault::Kind),
+    (TOO_LATE, TraceFault::Late),
+    (&[], TraceFault::Truncated),
+    (WORD_CUT, TraceFault::Truncated),
+];
+
 #[test]
 fn refuses_what_is_not_a_record(rt: HostRuntime) {
-    let cases: [(&[u8], TraceFault); 4] = [
-        (OTHER_KIND, TraceFault::Kind),
-        (TOO_LATE, TraceFault::Late),
-        (&[], TraceFault::Truncated),
-        (&WORD[..15], TraceFault::Truncated),
-    ];
-    for (line, fault) in cases {
+    for &(line, fault) in REFUSED {
         assert!(rt; first_of(&rt, line, &[]) == Err(TraceStop::Refused { index: 0, fault }));
     }
     assert!(rt; first_of(&rt, WORD, &[0]) == Err(TraceStop::Failed));

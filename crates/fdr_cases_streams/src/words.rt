@@ -96,56 +96,65 @@ fn drawn_words(alloc: Global, sampler: Sampler, count: u32) -> Result<Vec<(u32, 
     Ok(words)
 }
 
+/// Slots of a frame without words, and what they hold.
+const SLOTS: &[(usize, u16)] = &[
+    (0, 0x247),
+    (1, 0),
+    (2, 0),
+    (9, 0),
+    (63, 0),
+    (64, 0x5b8),
+    (65, 0),
+    (128, 0xa47),
+    (192, 0xdb8),
+    (255, 0),
+    (256, 0x247),
+    (257, 1),
+];
+
 // The word is of even parity, so it isn't held.
 #[test]
 fn begins_each_subframe_by_its_sync_word(rt: HostRuntime) -> Result<(), Fail> {
     let sampler = sampler_of(&rt, COUNTER_SECOND);
     let words = words_of(rt.alloc(), sampler, &word(0, 0x8000_14c1, 0), 512)?;
-    for (k, value) in [
-        (0, 0x247),
-        (1, 0),
-        (2, 0),
-        (9, 0),
-        (63, 0),
-        (64, 0x5b8),
-        (65, 0),
-        (128, 0xa47),
-        (192, 0xdb8),
-        (255, 0),
-        (256, 0x247),
-        (257, 1),
-    ] {
+    for &(k, value) in SLOTS {
         assert!(rt; words.get(k).copied() == Some(value), "slot {k}");
     }
     Ok(())
 }
 
+/// Words with their times, and what slot 1 holds.
+const ALTITUDES: &[(u32, u32, u16)] = &[
+    (0x14c1, 15_625, 5),
+    (0x14c1, 15_626, 0),
+    (0x8000_14c1, 15_625, 0),
+];
+
 // Slot 1 is sampled at 15,625 microseconds.
 #[test]
 fn holds_a_word_at_the_time_of_a_slot(rt: HostRuntime) -> Result<(), Fail> {
-    for (bits, time, altitude) in [
-        (0x14c1, 15_625, 5),
-        (0x14c1, 15_626, 0),
-        (0x8000_14c1, 15_625, 0),
-    ] {
+    for &(bits, time, altitude) in ALTITUDES {
         let sampler = sampler_of(&rt, COUNTER_LAST);
-        let words = words_of(rt.alloc(), sampler, &word(0, bits, time), 512)?;
+        let words = words_of(rt.alloc(), sampler, &word(0, bits, u64::from(time)), 512)?;
         assert!(rt; words.get(1).copied() == Some(altitude), "at {time}");
         assert!(rt; words.get(255).copied() == Some(0) && words.get(511).copied() == Some(1));
     }
     Ok(())
 }
 
+/// Buses and words, and what the parameters of one SDI, of any, and of another bus hold.
+const BY_SDI: &[(u8, u32, u16, u16, u16)] = &[
+    (0, 0x14c1, 0, 5, 0),
+    (0, 0x8000_15c1, 5, 5, 0),
+    (0, 0x8000_16c1, 0, 5, 0),
+    (1, 0x8000_16c1, 0, 0, 5),
+    (1, 0x14c1, 0, 0, 0),
+    (0, 0x15c1, 0, 0, 0),
+];
+
 #[test]
 fn holds_words_by_bus_and_sdi(rt: HostRuntime) -> Result<(), Fail> {
-    for (bus, bits, one, any, other) in [
-        (0, 0x14c1, 0, 5, 0),
-        (0, 0x8000_15c1, 5, 5, 0),
-        (0, 0x8000_16c1, 0, 5, 0),
-        (1, 0x8000_16c1, 0, 0, 5),
-        (1, 0x14c1, 0, 0, 0),
-        (0, 0x15c1, 0, 0, 0),
-    ] {
+    for &(bus, bits, one, any, other) in BY_SDI {
         let sampler = sampler_of(&rt, ONE_LABEL);
         let words = words_of(rt.alloc(), sampler, &word(bus, bits, 0), 64)?;
         assert!(rt; words.get(9).copied() == Some(one), "one SDI of {bits}");
@@ -158,14 +167,17 @@ fn holds_words_by_bus_and_sdi(rt: HostRuntime) -> Result<(), Fail> {
     Ok(())
 }
 
+/// Tables and words, what the third and the first altitude are, and whether the first is fresh.
+const FRESH: &[(&[u8], u32, u16, u16, u16)] = &[
+    (AGED, 0x14c1, 5, 5, 1),
+    (AGED_LESS, 0x14c1, 4095, 5, 1),
+    (AGED, 0x8000_14c1, 4095, 4095, 0),
+];
+
 // Slot 137 is sampled at 2,140,625 microseconds. A word of even parity isn't held, so nothing is ever fresh.
 #[test]
 fn takes_a_word_that_is_fresh(rt: HostRuntime) -> Result<(), Fail> {
-    for (table, bits, third, first, fresh) in [
-        (AGED, 0x14c1, 5, 5, 1),
-        (AGED_LESS, 0x14c1, 4095, 5, 1),
-        (AGED, 0x8000_14c1, 4095, 4095, 0),
-    ] {
+    for &(table, bits, third, first, fresh) in FRESH {
         let sampler = sampler_of(&rt, table);
         let words = words_of(rt.alloc(), sampler, &word(0, bits, 0), 256)?;
         for (slot, value) in [
@@ -184,12 +196,20 @@ fn takes_a_word_that_is_fresh(rt: HostRuntime) -> Result<(), Fail> {
     Ok(())
 }
 
+/// Times of a position, and its parts.
+const PARTS: &[(u32, u16, u16)] = &[(0, 0xcde, 0xab), (296_875, 0xcde, 0xab), (1_000_000, 0, 0)];
+
 // Both parts have pieces of the value at the first part's slot, which is sampled at 296,875 microseconds.
 #[test]
 fn takes_a_value_at_its_first_part(rt: HostRuntime) -> Result<(), Fail> {
-    for (time, low, high) in [(0, 0xcde, 0xab), (296_875, 0xcde, 0xab), (1_000_000, 0, 0)] {
+    for &(time, low, high) in PARTS {
         let sampler = sampler_of(&rt, POSITION);
-        let words = words_of(rt.alloc(), sampler, &word(1, 0x8abc_de13, time), 512)?;
+        let words = words_of(
+            rt.alloc(),
+            sampler,
+            &word(1, 0x8abc_de13, u64::from(time)),
+            512,
+        )?;
         assert!(rt;
             words.get(19).copied() == Some(low) && words.get(275).copied() == Some(high),
             "at {time}"
@@ -198,21 +218,23 @@ fn takes_a_value_at_its_first_part(rt: HostRuntime) -> Result<(), Fail> {
     Ok(())
 }
 
+/// Slots that are drawn, and what they hold.
+const DRAWN: &[(u32, u16)] = &[
+    (0, 0x247),
+    (1, 0),
+    (9, 0),
+    (64, 0x5b8),
+    (128, 0xa47),
+    (192, 0xdb8),
+    (256, 0x247),
+    (257, 1),
+    (265, 0),
+];
+
 // The parameter's word is in word 10 of subframe 1, and the counter in word 2.
 #[test]
 fn draws_empty_slots_at_once(rt: HostRuntime) -> Result<(), Fail> {
     let words = drawn_words(rt.alloc(), sampler_of(&rt, COUNTER_SECOND), 300)?;
-    let wanted = [
-        (0, 0x247),
-        (1, 0),
-        (9, 0),
-        (64, 0x5b8),
-        (128, 0xa47),
-        (192, 0xdb8),
-        (256, 0x247),
-        (257, 1),
-        (265, 0),
-    ];
-    assert!(rt; words.as_slice() == wanted.as_slice());
+    assert!(rt; words.as_slice() == DRAWN);
     Ok(())
 }

@@ -92,14 +92,16 @@ fn lists_exceedances_of_each_kind(rt: HostRuntime) {
     );
 }
 
+/// Rules of changes, and what is listed of the flight by them.
+const CHANGES: &[(&str, &str)] = &[
+    ("STEP,ALT,change,4,3\n", "exceed,STEP,3,1,10,2,6\n"),
+    ("STEP,ALT,change,3,3\n", "exceed,STEP,2,1,10,3,6\n"),
+    ("STEP,ALT,change,0,1\n", ""),
+];
+
 #[test]
 fn lists_the_change_within_a_window(rt: HostRuntime) {
-    let cases = [
-        ("STEP,ALT,change,4,3\n", "exceed,STEP,3,1,10,2,6\n"),
-        ("STEP,ALT,change,3,3\n", "exceed,STEP,2,1,10,3,6\n"),
-        ("STEP,ALT,change,0,1\n", ""),
-    ];
-    for (rules, expected) in cases {
+    for &(rules, expected) in CHANGES {
         let lines = lines_of(&rt, rt.alloc(), rules.as_bytes(), &FLIGHT);
         assert!(rt; lines.as_slice() == expected.as_bytes(), "{rules}");
     }
@@ -139,26 +141,28 @@ fn is_refused(rt: &impl Abort, alloc: Global, rules: &[u8], row: u32, fault: Rul
     Rules::read(alloc, rules, &table).err() == Some(RulesError::Refused { row, fault })
 }
 
+/// Rules, and the row and the fault for which they are refused.
+const REFUSED_RULES: &[(&[u8], u32, RuleFault)] = &[
+    (b"HI,ALT,above,4\n", 0, RuleFault::Shape),
+    (b"HI,ALT,over,4,2\n", 0, RuleFault::Number { field: 2 }),
+    (
+        b"HI,ALT,above,9000000000000000001,2\n",
+        0,
+        RuleFault::Number { field: 3 },
+    ),
+    (
+        b"HI,ALT,above,-9000000000000000000,1025\n",
+        0,
+        RuleFault::Number { field: 4 },
+    ),
+    (b"H I,NO,above,4,1\n", 0, RuleFault::Name),
+    (b"HI,NO,above,4,1\n", 0, RuleFault::Unknown),
+    (b"HI,ALT,above,4,1\nHI,SPD,below,4,1\n", 1, RuleFault::Twice),
+];
+
 #[test]
 fn refuses_rules(rt: HostRuntime) {
-    let cases: [(&[u8], u32, RuleFault); 7] = [
-        (b"HI,ALT,above,4\n", 0, RuleFault::Shape),
-        (b"HI,ALT,over,4,2\n", 0, RuleFault::Number { field: 2 }),
-        (
-            b"HI,ALT,above,9000000000000000001,2\n",
-            0,
-            RuleFault::Number { field: 3 },
-        ),
-        (
-            b"HI,ALT,above,-9000000000000000000,1025\n",
-            0,
-            RuleFault::Number { field: 4 },
-        ),
-        (b"H I,NO,above,4,1\n", 0, RuleFault::Name),
-        (b"HI,NO,above,4,1\n", 0, RuleFault::Unknown),
-        (b"HI,ALT,above,4,1\nHI,SPD,below,4,1\n", 1, RuleFault::Twice),
-    ];
-    for (rules, row, fault) in cases {
+    for &(rules, row, fault) in REFUSED_RULES {
         assert!(rt; is_refused(&rt, rt.alloc(), rules, row, fault));
     }
 }

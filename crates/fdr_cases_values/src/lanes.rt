@@ -18,11 +18,19 @@ fn plain_first_sync(bytes: &[u8], from: u64) -> Option<u64>
     None
 }
 
+/// Bits, and the first sync word from each on.
+const SYNC_WORDS: &[(u64, Option<u64>)] = &[
+    (0, Some(0)),
+    (1, Some(20)),
+    (21, None),
+    (u64::MAX, None),
+];
+
 #[test]
 fn finds_the_first_sync_word(rt: HostRuntime) {
     // The word is at bits 0 and 20, and its first eight bits at bit 32.
     let bytes = [0x47, 0x02, 0x70, 0x24, 0x47];
-    for (from, found) in [(0, Some(0)), (1, Some(20)), (21, None), (u64::MAX, None)] {
+    for &(from, found) in SYNC_WORDS {
         assert!(rt; first_sync(&bytes, from) == found, "{from}");
     }
 }

@@ -7,18 +7,20 @@ use fdr_table::Name;
 use std::alloc::Global;
 use std::process::Abort;
 
+/// Values, their decimals and their texts.
+const VALUES: &[(i64, u8, &[u8])] = &[
+    (0, 0, b"0"),
+    (0, 1, b"0.0"),
+    (-1, 1, b"-0.1"),
+    (12345, 0, b"12345"),
+    (12345, 2, b"123.45"),
+    (5, 9, b"0.000000005"),
+    (i64::MIN, 9, b"-9223372036.854775808"),
+];
+
 #[test]
 fn writes_values(rt: HostRuntime) {
-    let cases: [(i64, u8, &[u8]); 7] = [
-        (0, 0, b"0"),
-        (0, 1, b"0.0"),
-        (-1, 1, b"-0.1"),
-        (12345, 0, b"12345"),
-        (12345, 2, b"123.45"),
-        (5, 9, b"0.000000005"),
-        (i64::MIN, 9, b"-9223372036.854775808"),
-    ];
-    for (value, decimals, text) in cases {
+    for &(value, decimals, text) in VALUES {
         assert!(rt;
             decimals <= 9 && value_text(value, decimals).bytes() == text,
             "{value}, {decimals}"
@@ -66,26 +68,30 @@ fn is_line_of(rt: &impl Abort, line: &[u8], row: &Row, name: &Name, decimals: u8
     line == row_line(row, name, decimals).bytes()
 }
 
+/// Counters, subframes, words, values, and their decimals.
+const ROWS: &[(u16, u8, u32, i64, u8)] = &[
+    (0, 1, 1, 0, 0),
+    (7, 2, 10, -1, 0),
+    (89, 3, 999, -1, 1),
+    (4095, 4, 1024, i64::MIN, 9),
+    (512, 4, 64, i64::MAX, 2),
+    (1, 1, 2, 4095, 0),
+    (1, 1, 2, 4096, 0),
+    (1, 1, 2, -40959, 1),
+    (1, 1, 2, 409605, 2),
+    (1, 1, 2, 5, 3),
+    (1, 1, 2, -4096099, 3),
+    (1, 1, 2, 10001, 4),
+];
+
+/// The shortest name and a longest one.
+const NAMES: &[&[u8]] = &[b"A", b"SIXTEEN_LETTERS_"];
+
 #[test]
 fn puts_together_the_line_of_a_row(rt: HostRuntime) {
-    let names: [&[u8]; 2] = [b"A", b"SIXTEEN_LETTERS_"];
-    let cases = [
-        (0, 1, 1, 0, 0),
-        (7, 2, 10, -1, 0),
-        (89, 3, 999, -1, 1),
-        (4095, 4, 1024, i64::MIN, 9),
-        (512, 4, 64, i64::MAX, 2),
-        (1, 1, 2, 4095, 0),
-        (1, 1, 2, 4096, 0),
-        (1, 1, 2, -40959, 1),
-        (1, 1, 2, 409605, 2),
-        (1, 1, 2, 5, 3),
-        (1, 1, 2, -4096099, 3),
-        (1, 1, 2, 10001, 4),
-    ];
-    for name in names {
+    for &name in NAMES {
         let name = Name::new(name).expect(&rt, "a name");
-        for (counter, subframe, word, value, decimals) in cases {
+        for &(counter, subframe, word, value, decimals) in ROWS {
             let row = Row {
                 counter,
                 subframe,

@@ -87,24 +87,25 @@ fn row_by(rt: &impl Abort, alloc: Global, table: &[u8], raw: u16) -> Option<Row>
     rebuild.row(0)
 }
 
-// Scales that are small on the way, that fall with the raw number, and that are larger.
+/// Scales that are small on the way, that fall with the raw number, and that are larger.
+const SCALES: &[&str] = &[
+    "U,1,1,0,0",
+    "S,1,2,0,1",
+    "S,3,7,-100,1",
+    "U,-1,3,7,2",
+    "S,0,1,5,0",
+    "U,2048,1,0,0",
+    "U,2049,1,0,0",
+    "U,268501,1000,0,0",
+    "U,268502,1000,0,0",
+    "S,1000000000,1,0,0",
+    "S,1,1000000000,-1000000000000000,9",
+];
+
 #[test]
 fn values_are_those_of_the_table(rt: HostRuntime) {
     let alloc = rt.alloc();
-    let scales = [
-        "U,1,1,0,0",
-        "S,1,2,0,1",
-        "S,3,7,-100,1",
-        "U,-1,3,7,2",
-        "S,0,1,5,0",
-        "U,2048,1,0,0",
-        "U,2049,1,0,0",
-        "U,268501,1000,0,0",
-        "U,268502,1000,0,0",
-        "S,1000000000,1,0,0",
-        "S,1,1000000000,-1000000000000000,9",
-    ];
-    for scale in scales {
+    for &scale in SCALES {
         let table = table_with(&rt, alloc, scale);
         let table = table.as_bytes();
         for raw in [0, 1, 7, 0x7ff, 0x800, 0xffe, 0xfff] {
@@ -131,11 +132,15 @@ fn joins_the_parts_of_a_position(rt: HostRuntime) {
     );
 }
 
+/// The counter of a frame, whether the next one is adjacent, and its counter.
+const APART: &[(u8, bool, u8)] = &[(0, false, 1), (0, true, 17), (2, true, 1)];
+
 // A frame that is apart, or whose counter isn't the next, is joined with none before it.
 #[test]
 fn joins_no_parts_over_a_gap(rt: HostRuntime) {
-    for (before, adjacent, counter) in [(0, false, 1), (0, true, 17), (2, true, 1)] {
-        let first = frame_of(before, 5, 0xcde);
+    for &(before, adjacent, counter) in APART {
+        let counter = u16::from(counter);
+        let first = frame_of(u16::from(before), 5, 0xcde);
         let second = frame_of(counter, 5, 0xab);
         let mut rebuild = rebuild_by(&rt, rt.alloc(), POSITION);
         rebuild.frame(false, &first);

@@ -131,14 +131,13 @@ fn list_image<D: Deck, O: Sink>(alloc: Global, sound: &Sound, deck: &mut D, out:
     ensures memory { result ≡ Outcome.NoMemory → HasHeader D.tells (D.state deck.old) (D.state deck.new) }
     ensures unwritten { WritesNothing result → out.new ≡ out.old }
 {
-    let reader = match open_image(alloc, sound, deck) {
+    let ImageReader { header, events } = match open_image(alloc, sound, deck) {
         Ok(reader) => reader,
         Err(answer) => return answer,
     };
     let Ok(lines) = LineWriter::new(alloc) else {
         return Outcome::NoMemory;
     };
-    let ImageReader { header, events } = reader;
     let mut blocks = BlockReader {
         events,
         table: sound.table(),
