@@ -44,6 +44,23 @@ fn numbers_of(request: &Request) -> (u64, u32) {
     }
 }
 
+/// Whether this is what a line asks for: the command, the table and the image that it names, its numbers, and whether it writes.
+fn asks_for(
+    rt: &(impl Abort + AllocGlobal),
+    line: &str,
+    command: &str,
+    (table, image): (Option<&str>, Option<&str>),
+    numbers: (u64, u32),
+    writes: bool,
+) -> bool {
+    let request = read(rt, line).expect(rt, line);
+    command_of(&request) == command
+        && request.table() == table
+        && request.image() == image
+        && numbers_of(&request) == numbers
+        && request.writes() == writes
+}
+
 /// Lines, the table and the image that they name, and whether the image is written.
 const COMMANDS: &[(&str, Option<&str>, Option<&str>, bool)] = &[
     ("check t1.csv", Some("t1.csv"), None, false),
@@ -62,13 +79,9 @@ const COMMANDS: &[(&str, Option<&str>, Option<&str>, bool)] = &[
 #[test]
 fn reads_each_command(rt: HostRuntime) {
     for &(line, table, image, writes) in COMMANDS {
-        let request = read(&rt, line).expect(&rt, line);
         let (command, _) = line.split_once(' ').unwrap_or((line, ""));
         assert!(rt;
-            command_of(&request) == command
-                && numbers_of(&request) == (0, 0)
-                && (request.table(), request.image()) == (table, image)
-                && request.writes() == writes,
+            asks_for(&rt, line, command, (table, image), (0, 0), writes),
             "{line}"
         );
     }
@@ -108,12 +121,9 @@ const OPTIONS: &[(&str, &str, (u64, u32))] = &[
 #[test]
 fn reads_options_anywhere(rt: HostRuntime) {
     for &(line, command, numbers) in OPTIONS {
-        let request = read(&rt, line).expect(&rt, line);
+        let writes = command != "salvage";
         assert!(rt;
-            command_of(&request) == command
-                && (request.table(), request.image()) == (Some("t"), Some("i"))
-                && numbers_of(&request) == numbers
-                && request.writes() == (command != "salvage"),
+            asks_for(&rt, line, command, (Some("t"), Some("i")), numbers, writes),
             "{line}"
         );
     }

@@ -96,21 +96,22 @@ fn records_a_trace(rt: HostRuntime) {
     );
 }
 
+/// Why a recording by the table isn't started.
+fn refusal<D: Deck>(rt: &(impl Abort + AllocGlobal), deck: &mut D) -> Option<SessionFault> {
+    Session::start(rt.alloc(), &sound_table(rt), deck).err()
+}
+
 #[test]
 fn refuses_what_is_no_image_for_the_table(rt: HostRuntime) {
-    let sound = sound_table(&rt);
     let mut deck = empty_deck(&rt);
-    assert!(rt;
-        matches!(
-            Session::start(rt.alloc(), &sound, &mut deck),
-            Err(SessionFault::Image(ImageFault::Small))
-        )
-    );
+    let small = refusal(&rt, &mut deck);
+    assert!(rt; matches!(small, Some(SessionFault::Image(ImageFault::Small))));
     format(&mut deck, &WIDE).expect(&rt, "an image");
+    let differ = refusal(&rt, &mut deck);
     assert!(rt;
         matches!(
-            Session::start(rt.alloc(), &sound, &mut deck),
-            Err(SessionFault::WordsDiffer {
+            differ,
+            Some(SessionFault::WordsDiffer {
                 image: 256,
                 table: 64
             })
@@ -118,10 +119,5 @@ fn refuses_what_is_no_image_for_the_table(rt: HostRuntime) {
     );
     let mut old = empty_deck(&rt);
     format(&mut old, &OLD).expect(&rt, "an old image");
-    assert!(rt;
-        matches!(
-            Session::start(rt.alloc(), &sound, &mut old),
-            Err(SessionFault::OldVersion)
-        )
-    );
+    assert!(rt; matches!(refusal(&rt, &mut old), Some(SessionFault::OldVersion)));
 }

@@ -1,6 +1,6 @@
 //! Worked recordings.
 
-ghost use Rattle.std.specs.Prelude.{◌≡◌, ◌<◌, ◌≤◌, ℕ, None, OnOk};
+ghost use Rattle.std.specs.Prelude.{◌≡◌, ◌<◌, ◌≤◌, ℕ, None};
 ghost use Rattle.fdr_bus.specs.Records.{last_time};
 ghost use Rattle.fdr_table.specs.Rows.{TableRows};
 ghost use Rattle.fdr_stream.specs.Past.{StreamPast, stream_made, stream_with_record, MayFeedStream, RepresentsStream};
@@ -10,9 +10,7 @@ use fdr_bus::{BusRecord, RecordKind};
 use fdr_check::check;
 use fdr_stream::{Fed, Stream};
 use fdr_table::Table;
-use std::alloc::{AllocError, Global};
 use std::process::Abort;
-use std::test::Fail;
 
 const TABLE: &[u8] = b"F,64,2,1\nP,ALT,0,203,,11,12,U,1,1,0,0,16\nL,ALT,1,1,10,0,1,12,0,1\n";
 
@@ -34,29 +32,24 @@ fn stream_by(rt: &(impl Abort + AllocGlobal), table: &[u8]) -> Stream
 }
 
 /// Feeds a record until it is taken, appends the blocks that come of it, and answers their number.
-fn feed(stream: &mut Stream, next: &BusRecord, bytes: &mut Vec<u8>) -> Result<usize, Fail>
+fn feed(rt: &impl Abort, stream: &mut Stream, next: &BusRecord, bytes: &mut Vec<u8>) -> usize
     requires { (past : StreamPast) × RepresentsStream stream.old past × MayFeedStream past next.now × (past.begun ≡ None) × (past.payload ≡ 64) }
-    ensures { OnOk result ((past : StreamPast) → RepresentsStream stream.old past → MayFeedStream past next.now → past.begun ≡ None
-        → (blocks : ℕ) × RepresentsStream stream.new (stream_with_record (record past { blocks = blocks }) next.now)) }
+    ensures { (past : StreamPast) → RepresentsStream stream.old past → MayFeedStream past next.now → past.begun ≡ None
+        → (blocks : ℕ) × RepresentsStream stream.new (stream_with_record (record past { blocks = blocks }) next.now) }
 {
     for blocks in 0..MANY {
         let mut out = [0; PAYLOAD];
         match stream.feed(next, &mut out) {
-            Fed::Taken => return Ok(blocks),
-            Fed::Block => bytes.extend_from_slice(&out)?,
+            Fed::Taken => return blocks,
+            Fed::Block => bytes.extend_from_slice(&out).expect(rt, "room"),
         }
     }
-    Err("too many blocks")?
+    None.expect(rt, "fewer blocks")
 }
 
 /// The recording of a bus word at its start and of an end, by this table: how many blocks were given before the rest, and
 /// all bytes.
-fn recording(
-    rt: &(impl Abort + AllocGlobal),
-    table: &[u8],
-    word: u32,
-    end: u64,
-) -> Result<(usize, Vec<u8>), Fail>
+fn recording(rt: &(impl Abort + AllocGlobal), table: &[u8], word: u32, end: u64) -> (usize, Vec<u8>)
     requires { end ≤ last_time }
 {
     let mut stream = stream_by(rt, table);
@@ -67,18 +60,18 @@ fn recording(
         word,
         time: 0,
     };
-    feed(&mut stream, &first, &mut bytes)?;
+    feed(rt, &mut stream, &first, &mut bytes);
     let last = BusRecord {
         kind: RecordKind::End,
         bus: 0,
         word: 0,
         time: end,
     };
-    let blocks = feed(&mut stream, &last, &mut bytes)?;
+    let blocks = feed(rt, &mut stream, &last, &mut bytes);
     let mut out = [0; PAYLOAD];
     let rest = stream.finish(&mut out);
-    bytes.extend_from_slice(&out[..rest])?;
-    Ok((blocks, bytes))
+    bytes.extend_from_slice(&out[..rest]).expect(rt, "room");
+    (blocks, bytes)
 }
 
 /// Ends of a recording, how many blocks are given by then, and how many bytes it has.
@@ -93,13 +86,12 @@ const BLOCKS: &[(u32, usize, usize)] = &[
 
 // The 43rd word ends amid a byte, and the byte before is the 64th.
 #[test]
-fn gives_a_block_as_soon_as_it_is_whole(rt: HostRuntime) -> Result<(), Fail> {
+fn gives_a_block_as_soon_as_it_is_whole(rt: HostRuntime) {
     for &(end, blocks, len) in BLOCKS {
-        let (given, bytes) = recording(&rt, TABLE, 0, u64::from(end))?;
+        let (given, bytes) = recording(&rt, TABLE, 0, u64::from(end));
         assert!(rt; given == blocks, "blocks up to {end}");
         assert!(rt; bytes.len() == len, "bytes up to {end}");
     }
-    Ok(())
 }
 
 /// Places in a recording, and the bytes there.
@@ -122,12 +114,11 @@ const BYTES: &[(usize, u8)] = &[
 
 // Word 10 of each subframe 1 has the altitude.
 #[test]
-fn packs_the_words_of_a_frame(rt: HostRuntime) -> Result<(), Fail> {
-    let (_, bytes) = recording(&rt, TABLE, 0x14c1, 4_000_001)?;
+fn packs_the_words_of_a_frame(rt: HostRuntime) {
+    let (_, bytes) = recording(&rt, TABLE, 0x14c1, 4_000_001);
     for &(at, value) in BYTES {
         assert!(rt; bytes.get(at).copied() == Some(value), "byte {at}");
     }
-    Ok(())
 }
 
 /// The words of a recording by the table of the altitude in two words, where it is 0xabc.
@@ -146,25 +137,26 @@ fn doubled_word(slot: usize) -> u16
 }
 
 /// The first of these words, packed in pairs. Four zero bits follow an odd number of them.
-fn packed_words(alloc: Global, count: usize) -> Result<Vec<u8>, AllocError> {
-    let mut bytes = Vec::new(alloc);
+fn packed_words(rt: &(impl Abort + AllocGlobal), count: usize) -> Vec<u8> {
+    let mut bytes = Vec::new(rt.alloc());
     for pair in 0..count / 2 {
-        bytes.extend_from_slice(&pack_pair(doubled_word(2 * pair), doubled_word(2 * pair + 1)))?;
+        let words = pack_pair(doubled_word(2 * pair), doubled_word(2 * pair + 1));
+        bytes.extend_from_slice(&words).expect(rt, "room");
     }
     if count % 2 == 1 {
-        bytes.extend_from_slice(&pack_pair(doubled_word(count - 1), 0)[..2])?;
+        let last = pack_pair(doubled_word(count - 1), 0);
+        bytes.extend_from_slice(&last[..2]).expect(rt, "room");
     }
-    Ok(bytes)
+    bytes
 }
 
 /// The same words are recorded up to this time, and packed.
-fn expect_packed(rt: &(impl Abort + AllocGlobal), count: usize, end: u64) -> Result<(), Fail>
+fn expect_packed(rt: &(impl Abort + AllocGlobal), count: usize, end: u64)
     requires { end ≤ last_time }
 {
-    let (_, bytes) = recording(rt, DOUBLED, 0x802a_f0c1, end)?;
-    let expected = packed_words(rt.alloc(), count)?;
+    let (_, bytes) = recording(rt, DOUBLED, 0x802a_f0c1, end);
+    let expected = packed_words(rt, count);
     assert!(rt; bytes.as_slice() == expected.as_slice(), "{count} words");
-    Ok(())
 }
 
 /// Numbers of words, and when so many are recorded.
@@ -178,11 +170,10 @@ const FIRST_WORDS: &[(usize, u32)] = &[
 
 // A word slot lasts 15,625 microseconds.
 #[test]
-fn packs_the_words_of_a_block_as_their_pairs(rt: HostRuntime) -> Result<(), Fail> {
+fn packs_the_words_of_a_block_as_their_pairs(rt: HostRuntime) {
     for &(count, end) in FIRST_WORDS {
-        expect_packed(&rt, count, u64::from(end))?;
+        expect_packed(&rt, count, u64::from(end));
     }
-    Ok(())
 }
 
 /// The same of further blocks.
@@ -195,9 +186,8 @@ const FURTHER_WORDS: &[(usize, u32)] = &[
 ];
 
 #[test]
-fn packs_the_words_of_further_blocks_as_their_pairs(rt: HostRuntime) -> Result<(), Fail> {
+fn packs_the_words_of_further_blocks_as_their_pairs(rt: HostRuntime) {
     for &(count, end) in FURTHER_WORDS {
-        expect_packed(&rt, count, u64::from(end))?;
+        expect_packed(&rt, count, u64::from(end));
     }
-    Ok(())
 }

@@ -11,9 +11,7 @@ use fdr_check::check;
 use fdr_layout::Layout;
 use fdr_sampler::Sampler;
 use fdr_table::Table;
-use std::alloc::Global;
 use std::process::Abort;
-use std::test::Fail;
 
 const COUNTER_SECOND: &[u8] =
     b"F,64,2,1\nP,ALT,0,203,,11,12,U,1,1,0,0,16\nL,ALT,1,1,10,0,1,12,0,1\n";
@@ -59,41 +57,44 @@ fn word(bus: u8, word: u32, time: u64) -> BusRecord
 }
 
 /// The first words of the recording of one bus word.
-fn words_of(alloc: Global, sampler: Sampler, r: &BusRecord, count: usize) -> Result<Vec<u16>, Fail>
+fn words_of(
+    rt: &(impl Abort + AllocGlobal),
+    sampler: Sampler,
+    r: &BusRecord,
+    count: usize,
+) -> Vec<u16>
     requires stands { (t : TableRows) × RepresentsSampler sampler (sampler_made t) }
     requires kind { r.now.kind ≡ Word }
     requires in_time { r.now.time ≤ last_time }
     requires within_frame { count ≤ 4096 }
 {
     let mut sampler = sampler;
-    let mut words = Vec::new(alloc);
+    let mut words = Vec::new(rt.alloc());
     while sampler.due(r.time) {
-        if words.len() >= count {
-            return Err("too many words")?;
-        }
-        words.push(sampler.next_word())?;
+        assert!(rt; words.len() < count, "too many words");
+        words.push(sampler.next_word()).expect(rt, "room");
     }
     sampler.bus(r);
     while words.len() < count {
-        words.push(sampler.next_word())?;
+        words.push(sampler.next_word()).expect(rt, "room");
     }
-    Ok(words)
+    words
 }
 
 /// The words that aren't empty slots' of a recording of no bus words, with their slots.
-fn drawn_words(alloc: Global, sampler: Sampler, count: u32) -> Result<Vec<(u32, u16)>, Fail>
+fn drawn_words(rt: &(impl Abort + AllocGlobal), sampler: Sampler, count: u32) -> Vec<(u32, u16)>
     requires stands { (t : TableRows) × RepresentsSampler sampler (sampler_made t) }
     requires within_frame { count ≤ 4096 }
 {
     let mut sampler = sampler;
-    let mut words = Vec::new(alloc);
+    let mut words = Vec::new(rt.alloc());
     let mut slot = 0;
     while slot < count {
-        words.push((slot, sampler.next_word()))?;
+        words.push((slot, sampler.next_word())).expect(rt, "room");
         slot += 1;
         slot += sampler.draw_empty_slots(count - slot);
     }
-    Ok(words)
+    words
 }
 
 /// Slots of a frame without words, and what they hold.
@@ -114,13 +115,12 @@ const SLOTS: &[(usize, u16)] = &[
 
 // The word is of even parity, so it isn't held.
 #[test]
-fn begins_each_subframe_by_its_sync_word(rt: HostRuntime) -> Result<(), Fail> {
+fn begins_each_subframe_by_its_sync_word(rt: HostRuntime) {
     let sampler = sampler_of(&rt, COUNTER_SECOND);
-    let words = words_of(rt.alloc(), sampler, &word(0, 0x8000_14c1, 0), 512)?;
+    let words = words_of(&rt, sampler, &word(0, 0x8000_14c1, 0), 512);
     for &(k, value) in SLOTS {
         assert!(rt; words.get(k).copied() == Some(value), "slot {k}");
     }
-    Ok(())
 }
 
 /// Words with their times, and what slot 1 holds.
@@ -132,14 +132,13 @@ const ALTITUDES: &[(u32, u32, u16)] = &[
 
 // Slot 1 is sampled at 15,625 microseconds.
 #[test]
-fn holds_a_word_at_the_time_of_a_slot(rt: HostRuntime) -> Result<(), Fail> {
+fn holds_a_word_at_the_time_of_a_slot(rt: HostRuntime) {
     for &(bits, time, altitude) in ALTITUDES {
         let sampler = sampler_of(&rt, COUNTER_LAST);
-        let words = words_of(rt.alloc(), sampler, &word(0, bits, u64::from(time)), 512)?;
+        let words = words_of(&rt, sampler, &word(0, bits, u64::from(time)), 512);
         assert!(rt; words.get(1).copied() == Some(altitude), "at {time}");
         assert!(rt; words.get(255).copied() == Some(0) && words.get(511).copied() == Some(1));
     }
-    Ok(())
 }
 
 /// Buses and words, and what the parameters of one SDI, of any, and of another bus hold.
@@ -153,10 +152,10 @@ const BY_SDI: &[(u8, u32, u16, u16, u16)] = &[
 ];
 
 #[test]
-fn holds_words_by_bus_and_sdi(rt: HostRuntime) -> Result<(), Fail> {
+fn holds_words_by_bus_and_sdi(rt: HostRuntime) {
     for &(bus, bits, one, any, other) in BY_SDI {
         let sampler = sampler_of(&rt, ONE_LABEL);
-        let words = words_of(rt.alloc(), sampler, &word(bus, bits, 0), 64)?;
+        let words = words_of(&rt, sampler, &word(bus, bits, 0), 64);
         assert!(rt; words.get(9).copied() == Some(one), "one SDI of {bits}");
         assert!(rt; words.get(10).copied() == Some(any), "any SDI of {bits}");
         assert!(rt;
@@ -164,7 +163,6 @@ fn holds_words_by_bus_and_sdi(rt: HostRuntime) -> Result<(), Fail> {
             "another bus of {bits}"
         );
     }
-    Ok(())
 }
 
 /// Tables and words, what the third and the first altitude are, and whether the first is fresh.
@@ -176,10 +174,10 @@ const FRESH: &[(&[u8], u32, u16, u16, u16)] = &[
 
 // Slot 137 is sampled at 2,140,625 microseconds. A word of even parity isn't held, so nothing is ever fresh.
 #[test]
-fn takes_a_word_that_is_fresh(rt: HostRuntime) -> Result<(), Fail> {
+fn takes_a_word_that_is_fresh(rt: HostRuntime) {
     for &(table, bits, third, first, fresh) in FRESH {
         let sampler = sampler_of(&rt, table);
-        let words = words_of(rt.alloc(), sampler, &word(0, bits, 0), 256)?;
+        let words = words_of(&rt, sampler, &word(0, bits, 0), 256);
         for (slot, value) in [
             (9, first),
             (10, fresh),
@@ -193,7 +191,6 @@ fn takes_a_word_that_is_fresh(rt: HostRuntime) -> Result<(), Fail> {
             assert!(rt; words.get(slot).copied() == Some(value), "slot {slot}");
         }
     }
-    Ok(())
 }
 
 /// Times of a position, and its parts.
@@ -201,21 +198,15 @@ const PARTS: &[(u32, u16, u16)] = &[(0, 0xcde, 0xab), (296_875, 0xcde, 0xab), (1
 
 // Both parts have pieces of the value at the first part's slot, which is sampled at 296,875 microseconds.
 #[test]
-fn takes_a_value_at_its_first_part(rt: HostRuntime) -> Result<(), Fail> {
+fn takes_a_value_at_its_first_part(rt: HostRuntime) {
     for &(time, low, high) in PARTS {
         let sampler = sampler_of(&rt, POSITION);
-        let words = words_of(
-            rt.alloc(),
-            sampler,
-            &word(1, 0x8abc_de13, u64::from(time)),
-            512,
-        )?;
+        let words = words_of(&rt, sampler, &word(1, 0x8abc_de13, u64::from(time)), 512);
         assert!(rt;
             words.get(19).copied() == Some(low) && words.get(275).copied() == Some(high),
             "at {time}"
         );
     }
-    Ok(())
 }
 
 /// Slots that are drawn, and what they hold.
@@ -233,8 +224,7 @@ const DRAWN: &[(u32, u16)] = &[
 
 // The parameter's word is in word 10 of subframe 1, and the counter in word 2.
 #[test]
-fn draws_empty_slots_at_once(rt: HostRuntime) -> Result<(), Fail> {
-    let words = drawn_words(rt.alloc(), sampler_of(&rt, COUNTER_SECOND), 300)?;
+fn draws_empty_slots_at_once(rt: HostRuntime) {
+    let words = drawn_words(&rt, sampler_of(&rt, COUNTER_SECOND), 300);
     assert!(rt; words.as_slice() == DRAWN);
-    Ok(())
 }

@@ -23,18 +23,18 @@ last-MayFeed : (t : TableRows) (blocks word time : ℕ) → time ≤ last_time �
 unfolding first last after_first
 last-MayFeed t blocks word time in_time = record { order = omega arith; in_time = in_time; unended = refl; same = inl refl }
 
-pub feed-requires-2 : goal.feed-requires-2
+pub feed-blocks-requires : goal.feed-blocks-requires
 unfolding first last after_first
-feed-requires-2 g c =
+feed-blocks-requires g c =
     let stream_made = c.stream_by-stream.ensures in
-    let fed = c.in_ok-feed.ensures _ stream_made.1 (first-MayFeed stream_made.0 c.args.word) refl in
+    let fed = c.feed.ensures _ stream_made.1 (first-MayFeed stream_made.0 c.args.word) refl in
     (after_first stream_made.0 fed.0 c.args.word, fed.1, last-MayFeed stream_made.0 fed.0 c.args.word c.args.end c.requires, refl, refl)
 
 pub finish-rest-requires : goal.finish-rest-requires
 unfolding first last after_first
 finish-rest-requires g c =
     let stream_made = c.stream_by-stream.ensures in
-    let fed = c.in_ok-feed.ensures _ stream_made.1 (first-MayFeed stream_made.0 c.args.word) refl in
-    let ended = c.in_ok-blocks.ensures (after_first stream_made.0 fed.0 c.args.word) fed.1 (last-MayFeed stream_made.0 fed.0 c.args.word c.args.end c.requires)
+    let fed = c.feed.ensures _ stream_made.1 (first-MayFeed stream_made.0 c.args.word) refl in
+    let ended = c.feed-blocks.ensures (after_first stream_made.0 fed.0 c.args.word) fed.1 (last-MayFeed stream_made.0 fed.0 c.args.word c.args.end c.requires)
     refl in
     (stream_with_record (record (after_first stream_made.0 fed.0 c.args.word) { blocks = ended.0 }) (last c.args.end), ended.1, refl, omega arith)

@@ -3,13 +3,13 @@ use Rattle.fdr_sampler.specs.Past.{sampler_with_word, sampler_with_words}
 use Rattle.fdr_cases_streams.proofs.words.drawn_words.Goals as goal
 
 pub draw_empty_slots-slot-requires : goal.draw_empty_slots-slot-requires
-draw_empty_slots-slot-requires c =
+draw_empty_slots-slot-requires g c =
     let inv = c.loop-slot.invariant.0 in
     let drawn = (c.next_word.ensures.stands inv.0 inv.1).slots_drawn in
     omega (arith, drawn, inv.2, c.requires.within_frame, c.loop-slot-test.true)
 
 pub loop-slot-preserved : goal.loop-slot-preserved
-loop-slot-preserved c =
+loop-slot-preserved g c =
     let inv = c.loop-slot.invariant.0 in
     let past = sampler_with_word inv.0 in (
       (
