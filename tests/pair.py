@@ -146,23 +146,26 @@ def change(pair, chance, counts):
 class Loss:
     """An image that is made shorter while it is recorded in."""
 
-    def __init__(self, image, slots, chance):
-        self.image, self.whole = image, image.path.stat().st_size
-        self.size = chance.randrange(self.whole)
+    def __init__(self, pair, chance):
+        self.image = chance.choice([pair.first, pair.second])
+        self.other, self.whole = pair.other(self.image), self.image.path.stat().st_size
+        self.size, self.following = chance.randrange(self.whole), None
 
     def __call__(self, recording):
         os.truncate(self.image.path, self.size)
+        self.following = next_number(self.other.path.read_bytes())
 
-    def has_to_be_said(self, told, count):
-        """Whether a later block met it. A write that was on its way may have made the file as long again."""
-        return self.image.path.stat().st_size < self.whole and told[-1] >= told[0] + count + 1
+    def has_to_be_said(self, told):
+        """Whether a block that was begun afterwards met it. The first one that the other image lacked then may have been begun
+        before, and a write that was on its way may have made the file as long again."""
+        return self.image.path.stat().st_size < self.whole and told[-1] > self.following + 1
 
 
 def acts_of(pair, coming, missing, chance, pace):
     """What happens while a trace is recorded: how many acknowledgements are waited for, and what is done then."""
     acts, loss, count = [], None, 0
     if pace and chance.random() < 0.2:
-        loss = Loss(chance.choice([pair.first, pair.second]), pair.slots, chance)
+        loss = Loss(pair, chance)
         count = chance.randrange(1, min(40, len(coming)) + 1)
         acts.append((count, loss))
     if pace and chance.random() < (0.5 if loss else 0.9):
@@ -175,12 +178,12 @@ def acts_of(pair, coming, missing, chance, pace):
     return acts, loss
 
 
-def lines_differ(pair, ended, loss, acts):
+def lines_differ(pair, ended, loss):
     """What is wrong with the lines that aren't acknowledgements, if anything."""
     wanted = [f"fault {pair.name_of(loss.image)}"] if loss else []
     if ended.others not in ([], wanted):
         return f"said {ended.others} and not {wanted}"
-    if loss and ended.others != wanted and ended.told and loss.has_to_be_said(ended.told, acts[0][0]):
+    if loss and ended.others != wanted and ended.told and loss.has_to_be_said(ended.told):
         return f"the {pair.name_of(loss.image)} image was lost, and that wasn't said"
     return None
 
@@ -204,7 +207,7 @@ def record_and_look(pair, chance, pace, counts):
         raise Mismatch(f"acknowledged were {told}, and {first} was the next number")
     if status == 0 and len(told) != len(coming) + 1:
         raise Mismatch(f"acknowledged were {len(told)} numbers of a whole recording of {len(coming)} blocks")
-    if wrong := lines_differ(pair, ended, loss, acts):
+    if wrong := lines_differ(pair, ended, loss):
         raise Mismatch(wrong)
 
     lost = loss.image if loss else None
