@@ -56,7 +56,7 @@ pub fn frame_with_a_bit_struck_out() -> [u8; 384] {
 }
 
 /// Five zero bits, two frames one after the other, and three zero bits.
-pub fn frames_behind_five_bits() -> [u8; 769] {
+pub fn frames_after_five_bits() -> [u8; 769] {
     let mut bytes = [0; 769];
     put_frame(&mut bytes, 5, 0, 5);
     put_frame(&mut bytes, 3077, 1, 5);
@@ -75,7 +75,7 @@ const FALSE_FRAME: &[(u32, u16)] = &[
 ];
 
 /// A frame at bit 100, words of which spell three of the sync words of a false frame at bit 0, and the frame after it.
-pub fn frame_behind_a_false_one() -> [u8; 781] {
+pub fn frame_after_a_false_one() -> [u8; 781] {
     let mut bytes = [0; 781];
     put_words(&mut bytes, FALSE_FRAME);
     put_frame(&mut bytes, 100, 0, 0);

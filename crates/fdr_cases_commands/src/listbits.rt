@@ -1,6 +1,6 @@
 use crate::commands::{gives, sure_answer};
 use crate::lines::{
-    frame, frame_behind_a_false_one, frame_with_a_bit_struck_out, frames_behind_five_bits,
+    frame, frame_after_a_false_one, frame_with_a_bit_struck_out, frames_after_five_bits,
     frames_far_apart, thirty_frames,
 };
 use fdr_cases::{ALTITUDE, Given, Ran, answer, deck_of, run_words, words_of};
@@ -20,16 +20,16 @@ const LISTBITS: &[&str] = &["listbits", "t1.csv"];
 fn lists_worked_lines(rt: HostRuntime) {
     let clean = frame(0, 5);
     let struck = frame_with_a_bit_struck_out();
-    let behind = frames_behind_five_bits();
-    let false_one = frame_behind_a_false_one();
+    let shifted = frames_after_five_bits();
+    let false_one = frame_after_a_false_one();
     let apart = frames_far_apart();
     let cases: [(&str, &[u8], &[u8]); 7] = [
         ("one clean frame", &clean, b"row,0,1,10,ALT,5\n"),
         ("an empty line", &[], b""),
         ("a bit struck out", &struck, b"gap,0,3072\n"),
         (
-            "two frames behind five bits",
-            &behind,
+            "two frames after five bits",
+            &shifted,
             b"gap,0,5\nrow,0,1,10,ALT,5\nrow,1,1,10,ALT,5\ngap,6149,3\n",
         ),
         (
@@ -156,7 +156,7 @@ fn answers_faults_and_refusals(rt: HostRuntime) {
 
 #[test]
 fn writes_nothing_where_the_first_write_fails(rt: HostRuntime) {
-    let line = frames_behind_five_bits();
+    let line = frames_after_five_bits();
     let given = Given {
         line: &line,
         writes: &[0],

@@ -144,7 +144,7 @@ fn answer_where_fails(rt: &impl Abort, alloc: Global, image: &[u8], call: u64) -
     left.outcome
 }
 
-// Each call of the deck fails once. Those before the pull ask for the image's length and read its header, and those behind it read
+// Each call of the deck fails once. Those before the pull ask for the image's length and read its header, and those after it read
 // its slots.
 #[test]
 fn tells_faults_of_the_input_and_the_disk(rt: HostRuntime) {

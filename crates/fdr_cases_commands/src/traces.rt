@@ -122,7 +122,7 @@ const WORKED: &[(&str, &str, &[[u8; 16]], Outcome, Streamed<'static>)] = &[
         ZEROS,
     ),
     (
-        "nothing counts behind an end",
+        "nothing counts after an end",
         ALTITUDE,
         &[WORD_AT_0, END_AT_4000000, OTHER_KIND],
         Outcome::Done,
