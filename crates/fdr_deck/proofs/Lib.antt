@@ -8,3 +8,4 @@ pub mod MemoryWrite
 pub mod MemoryStops
 pub mod Quiet
 pub mod MemorySteps
+pub mod Composing

@@ -67,11 +67,10 @@ pub KeepsAnnounced-greatest : (tells : Tells) (old new : State) → IsSoundDeck 
 KeepsAnnounced-greatest tells old new sound keeps =
     ⊎_elim (λ fresh. omega (arith, fresh.1, keeps.announced, sound.greatest)) (λ kept. omega (arith, kept.1)) keeps.numbers
 
-KeepsInput-then : (old mid new : State) → KeepsInput old mid → KeepsInput mid new → KeepsInput old new
+pub KeepsInput-then : (old mid new : State) → KeepsInput old mid → KeepsInput mid new → KeepsInput old new
 KeepsInput-then old mid new first second = record {
   input = second.input ∙ first.input;
-  taken = second.taken
-      ∙ first.taken;
+  taken = second.taken ∙ first.taken;
   pulled_before = second.pulled_before ∙ first.pulled_before;
 }
 
@@ -112,8 +111,8 @@ IsDiskWork-now tells P old new sound quiet told image leaves =
     (quiet.moments told m (quiet.passes.time.added told old.clock m (omega arith)
     (sound.falls told old.clock new.clock m quiet.passes.time.later (omega arith) since))).image
 
-pulled_before : (old mid : State) (m : Moment) → KeepsInput old mid → HasSamePulls mid m → HasSamePulls old m
-pulled_before old mid m input pulled = record { taken = pulled.taken ∙ input.taken; pulled_before = pulled.pulled_before ∙ input.pulled_before }
+pub HasSamePulls-before : (old mid : State) (m : Moment) → KeepsInput old mid → HasSamePulls mid m → HasSamePulls old m
+HasSamePulls-before old mid m input pulled = record { taken = pulled.taken ∙ input.taken; pulled_before = pulled.pulled_before ∙ input.pulled_before }
 
 -- One call more, after which each image that a stop may leave has the property.
 pub IsDiskWork-call : (tells : Tells) (P : List ℕ → Type 0) (old mid new : State) → IsSoundDeck tells old → IsSoundDeck tells mid → IsDiskWork tells P old mid
@@ -139,7 +138,7 @@ IsDiskWork-call tells P old mid new sound sound_mid quiet call moments after = r
       image = before told m.image now.image;
       least = omega (arith, least, now.least);
       greatest = omega (arith, greatest, now.greatest);
-      pulled = pulled_before old mid m quiet.passes.input now.pulled;
+      pulled = HasSamePulls-before old mid m quiet.passes.input now.pulled;
     }
 
     amid : IsTrue tells.stops → (m : Moment) → IsInsideCall mid new m → IsDiskMoment P old m
@@ -147,8 +146,8 @@ IsDiskWork-call tells P old mid new sound sound_mid quiet call moments after = r
       image = ⊎_elim (before told m.image) (after told m.image) inside.image;
       least = omega (arith, inside.announced, quiet.passes.announced.announced, sound.least);
       greatest = omega (arith, inside.announced, quiet.passes.announced.announced, sound.greatest);
-      pulled = ⊎_elim (pulled_before old mid m quiet.passes.input) (λ p. pulled_before old mid m quiet.passes.input (pulled_before mid new m call.input p))
-          inside.pulled;
+      pulled = let then = HasSamePulls-before old mid m quiet.passes.input in
+          ⊎_elim then (λ p. then (HasSamePulls-before mid new m call.input p)) inside.pulled;
     }
 
 -- One call more, after which a stop leaves no image that it couldn't leave before: a size, a read or a sync.
@@ -176,5 +175,5 @@ Within-provide size old new m no_more input (inl now) = inl now
 Within-provide size old new m no_more input (inr inside) = inr (record {
   image = inl (⊎_elim (λ was. was) (λ left. no_more m.image left) inside.image);
   announced = inside.announced;
-  pulled = ⊎_elim (λ p. p) (pulled_before old new m input) inside.pulled;
+  pulled = ⊎_elim (λ p. p) (HasSamePulls-before old new m input) inside.pulled;
 })

@@ -1,11 +1,12 @@
 -- Quiet calls, one after another.
-use Rattle.std.proofs.Common.{◌⊎◌, inl, inr, ⊎_elim, ℕ, ◌≤◌, List, ◌∙◌, arith}
+use Rattle.std.proofs.Common.{◌⊎◌, inl, inr, ⊎_elim, ℕ, ◌≤◌, List, arith}
 use Rattle.std.specs.Prelude.{IsTrue}
 use Rattle.fdr_deck.specs.State.{State, Tells, Moment}
 use Rattle.fdr_deck.specs.Disk.{KeepsDisk, IsZeros}
 use Rattle.fdr_deck.specs.Moments.{IsSoundDeck, EachMoment, Within, WithinProvide}
 use Rattle.fdr_deck.specs.Calls.{Passes, IsDiskWork, IsDiskMoment}
-use Rattle.fdr_deck.proofs.Moments.{KeepsAnnounced-least, KeepsAnnounced-greatest, Passes-then, EachMoment-then, IsDiskWork-here, IsDiskWork-keep}
+use Rattle.fdr_deck.proofs.Moments.{KeepsAnnounced-least, KeepsAnnounced-greatest, Passes-then, EachMoment-then, HasSamePulls-before, IsDiskWork-here}
+use Rattle.fdr_deck.proofs.Moments.{IsDiskWork-keep}
 
 -- the property is weakened
 pub IsDiskWork-weaken : (tells : Tells) (P Q : List ℕ → Type 0) (old new : State) → IsDiskWork tells P old new
@@ -37,10 +38,7 @@ IsDiskWork-then tells P Q R old mid new sound first second one two = record {
       image = two told m.image quiet.image;
       least = omega (arith, least, quiet.least);
       greatest = omega (arith, greatest, quiet.greatest);
-      pulled = record {
-        taken = quiet.pulled.taken ∙ first.passes.input.taken;
-        pulled_before = quiet.pulled.pulled_before ∙ first.passes.input.pulled_before;
-      };
+      pulled = HasSamePulls-before old mid m first.passes.input quiet.pulled;
     }
 
 -- one call that leaves the disk

@@ -6,7 +6,8 @@ use Rattle.fdr_deck.specs.Disk.{IsSettled}
 use Rattle.fdr_deck.specs.Pull.{KeepsInput}
 use Rattle.fdr_deck.specs.Moments.{HasSamePulls, IsNow, Elapses, EachMoment, IsSoundDeck}
 use Rattle.fdr_deck.specs.Calls.{IsDiskWork, Succeeds, Announces, LeavesDisk}
-use Rattle.fdr_deck.proofs.Moments.{EachMoment-then, Elapses-then, KeepsAnnounced-least, KeepsAnnounced-greatest, KeepsAnnounced-then}
+use Rattle.fdr_deck.proofs.Moments.{EachMoment-then, Elapses-then, HasSamePulls-before, KeepsInput-then}
+use Rattle.fdr_deck.proofs.Moments.{KeepsAnnounced-least, KeepsAnnounced-greatest, KeepsAnnounced-then}
 use Rattle.fdr_slot.specs.declared.image.Header.{Header}
 use Rattle.fdr_slot.specs.Limits.{IsInLimits}
 use Rattle.fdr_recover.specs.Blocks.{Block}
@@ -89,7 +90,7 @@ module _ (tells : Tells) (h : Header) (next size : ℕ) (d0 d1 : State) (sound :
 
         committing_pulled : EachMoment tells d1 d2 (HasSamePulls d0)
         committing_pulled stops m since = let q = quiet2.moments stops m since in
-            record { taken = q.pulled.taken ∙ quiet.passes.input.taken; pulled_before = q.pulled.pulled_before ∙ quiet.passes.input.pulled_before }
+            HasSamePulls-before d0 d1 m quiet.passes.input q.pulled
 
         committing : IsReady next d0 → EachMoment tells d1 d2 (IsRecordingMoment h d0 (b ∷ []))
         committing ready stops m since = let q = quiet2.moments stops m since in record {
@@ -139,11 +140,7 @@ module _ (tells : Tells) (h : Header) (next size : ℕ) (d0 d1 : State) (sound :
           close = λ mark ready near. EachMoment-then tells d0 d1 d2 (IsClose h mark) quiet.passes.time quiet2.passes.time
               (preparing_close mark ready near) (committing_close mark near);
           pulled = EachMoment-then tells d0 d1 d2 (HasSamePulls d0) quiet.passes.time quiet2.passes.time preparing_pulled committing_pulled;
-          input = record {
-            input = quiet2.passes.input.input ∙ quiet.passes.input.input;
-            taken = quiet2.passes.input.taken ∙ quiet.passes.input.taken;
-            pulled_before = quiet2.passes.input.pulled_before ∙ quiet.passes.input.pulled_before;
-          };
+          input = KeepsInput-then d0 d1 d2 quiet.passes.input quiet2.passes.input;
           input_faults = quiet2.passes.input_faults ∙ quiet.passes.input_faults;
           disk_faults = omega (arith, quiet.passes.disk_faults, quiet2.passes.disk_faults);
           extent = extent2 ∙ extent;
@@ -160,11 +157,8 @@ module _ (tells : Tells) (h : Header) (next size : ℕ) (d0 d1 : State) (sound :
 
             announcing_pulled : KeepsInput d2 d3 → EachMoment tells d2 d3 (IsNow d3) → EachMoment tells d2 d3 (HasSamePulls d0)
             announcing_pulled line3 moments stops m since =
-                let now = moments stops m since in
-                record {
-                  taken = now.pulled.taken ∙ line3.taken ∙ quiet2.passes.input.taken ∙ quiet.passes.input.taken;
-                  pulled_before = now.pulled.pulled_before ∙ line3.pulled_before ∙ quiet2.passes.input.pulled_before ∙ quiet.passes.input.pulled_before;
-                }
+                let still = KeepsInput-then d0 d2 d3 (KeepsInput-then d0 d1 d2 quiet.passes.input quiet2.passes.input) line3 in
+                HasSamePulls-before d0 d3 m still (moments stops m since).pulled
 
             announcing : (line3 : KeepsInput d2 d3) → EachMoment tells d2 d3 (IsNow d3) → IsReady next d0 → EachMoment tells d2 d3
                 (IsRecordingMoment h d0 (b ∷ []))
@@ -213,12 +207,7 @@ module _ (tells : Tells) (h : Header) (next size : ℕ) (d0 d1 : State) (sound :
               close = λ mark ready near. EachMoment-then tells d0 d2 d3 (IsClose h mark) was.time time3 (was.close mark ready near)
                   (announcing_close moments mark near);
               pulled = EachMoment-then tells d0 d2 d3 (HasSamePulls d0) was.time time3 was.pulled (announcing_pulled line3 moments);
-              input = record {
-                input = line3.input ∙ was.input.input;
-                taken = line3.taken ∙ was.input.taken;
-                pulled_before = line3.pulled_before
-                    ∙ was.input.pulled_before;
-              };
+              input = KeepsInput-then d0 d2 d3 was.input line3;
               input_faults = line_faults3 ∙ was.input_faults;
               disk_faults = omega (arith, was.disk_faults, leaves.disk_faults);
               extent = leaves.extent ∙ was.extent;

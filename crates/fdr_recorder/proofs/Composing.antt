@@ -3,7 +3,7 @@ use Rattle.std.proofs.Common.{◌≡◌, ℕ, ◌+◌, ◌-◌, List, [], ◌++�
 use Rattle.std.specs.Prelude.{IsTrue}
 use Rattle.fdr_deck.specs.State.{State, Tells}
 use Rattle.fdr_deck.specs.Moments.{HasSamePulls, IsSoundDeck}
-use Rattle.fdr_deck.proofs.Moments.{EachMoment-then, Elapses-here, Elapses-then}
+use Rattle.fdr_deck.proofs.Moments.{EachMoment-then, Elapses-here, Elapses-then, HasSamePulls-before, KeepsInput-then}
 use Rattle.fdr_slot.specs.declared.image.Header.{Header}
 use Rattle.fdr_recover.specs.Blocks.{Block}
 use Rattle.fdr_recover.specs.Images.{recovered_run, next_of}
@@ -93,20 +93,14 @@ module _ (tells : Tells) (h : Header) (next : ℕ) (new more : List Block) (d0 d
         (λ stops m since. let at = second.moments (ready_on stops ready) stops m since in record {
           image = keeps_on h d0.held d1.held m.image (recovered_run h d0.held) new more m.announced (has.keeps (sound.stops_need_bytes stops)) at.image;
           least = omega (arith, at.least, has.least ready.greatest);
-          pulled = record { taken = at.pulled.taken ∙ first.input.taken; pulled_before = at.pulled.pulled_before ∙ first.input.pulled_before };
+          pulled = HasSamePulls-before d0 d1 m first.input at.pulled;
         });
     pulled = EachMoment-then tells d0 d1 d2 (HasSamePulls d0) first.time second.time first.pulled
-        (λ stops m since. let at = second.pulled stops m since in
-        record { taken = at.taken ∙ first.input.taken; pulled_before = at.pulled_before ∙ first.input.pulled_before });
+        (λ stops m since. HasSamePulls-before d0 d1 m first.input (second.pulled stops m since));
     close = λ mark ready near. EachMoment-then tells d0 d1 d2 (IsClose h mark) first.time second.time
         (first.close mark ready near)
         (λ stops m since. second.close mark (ready_on stops ready) (has.near mark near) stops m since);
-    input = record {
-      input = second.input.input ∙ first.input.input;
-      taken = second.input.taken
-          ∙ first.input.taken;
-      pulled_before = second.input.pulled_before ∙ first.input.pulled_before;
-    };
+    input = KeepsInput-then d0 d1 d2 first.input second.input;
     input_faults = second.input_faults ∙ first.input_faults;
     disk_faults = omega (arith, first.disk_faults, second.disk_faults);
     extent = second.extent ∙ first.extent;

@@ -8,7 +8,7 @@ use Rattle.fdr_bus.specs.declared.BusRecord.{BusRecord}
 use Rattle.fdr_deck.specs.State.{Moment, State, Tells}
 use Rattle.fdr_deck.specs.Pull.{KeepsInput}
 use Rattle.fdr_deck.specs.Moments.{EachMoment, HasSamePulls, IsSoundDeck}
-use Rattle.fdr_deck.proofs.Moments.{EachMoment-then, EachMoment-weaken, Elapses-then, IsDiskWork-here}
+use Rattle.fdr_deck.proofs.Moments.{EachMoment-then, EachMoment-weaken, Elapses-then, HasSamePulls-before, IsDiskWork-here}
 use Rattle.fdr_slot.specs.Headers.{header_of}
 use Rattle.fdr_slot.specs.declared.image.Header.{Header}
 use Rattle.fdr_slot.specs.declared.image.ImageFault.{ImageFault}
@@ -87,7 +87,7 @@ module _ (tells : Tells) (t : TableRows) (s : Session) (d0 d1 : State) (sound1 :
         }
 
     line_same : (m : Moment) → HasSamePulls d1 m → HasSamePulls d0 m
-    line_same m at = record { taken = at.taken ∙ starts.input.taken; pulled_before = at.pulled_before ∙ starts.input.pulled_before }
+    line_same m = HasSamePulls-before d0 d1 m starts.input
 
     lag_before : (owed_of : List BusRecord → ℕ) (pulled : List ℕ) (m : Moment) → IsLagMoment owed_of d1 pulled m
         → IsLagMoment owed_of d0 pulled m

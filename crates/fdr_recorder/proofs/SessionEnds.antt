@@ -13,7 +13,7 @@ use Rattle.fdr_deck.specs.State.{State, Tells}
 use Rattle.fdr_deck.specs.Calls.{LeavesDisk}
 use Rattle.fdr_deck.specs.Pull.{KeepsInput}
 use Rattle.fdr_deck.specs.Moments.{EachMoment, Elapses, IsSoundDeck}
-use Rattle.fdr_deck.proofs.Moments.{EachMoment-weaken}
+use Rattle.fdr_deck.proofs.Moments.{EachMoment-weaken, KeepsInput-then}
 use Rattle.fdr_slot.specs.Limits.{IsInLimits}
 use Rattle.fdr_slot.proofs.HeaderLemmas.{in_limits-is}
 use Rattle.fdr_slot.specs.declared.image.Header.{Header}
@@ -53,14 +53,8 @@ keeps_input a = (record { input = refl; taken = refl; pulled_before = refl }, re
 -- a call that does nothing, and then one that leaves the input
 pub keeps_input_then : (a b c d : State) → KeepsInput a b × (b.input_faults ≡ a.input_faults) → c ≡ b → KeepsInput c d → d.input_faults ≡ c.input_faults
     → KeepsInput a d × (d.input_faults ≡ a.input_faults)
-keeps_input_then a b c d kept same line faults = (
-  record {
-    input = line.input ∙ ap (λ (x : State). x.input) same ∙ kept.0.input;
-    taken = line.taken ∙ ap (λ (x : State). x.taken) same ∙ kept.0.taken;
-    pulled_before = line.pulled_before ∙ ap (λ (x : State). x.pulled_before) same ∙ kept.0.pulled_before;
-  },
-  faults ∙ ap (λ (x : State). x.input_faults) same ∙ kept.1,
-)
+keeps_input_then a b c d kept same line faults =
+    (KeepsInput-then a c d (subst (KeepsInput a) (sym same) kept.0) line, faults ∙ ap (λ (x : State). x.input_faults) same ∙ kept.1)
 
 -- ---- how it begins
 

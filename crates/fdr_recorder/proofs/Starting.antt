@@ -6,7 +6,7 @@ use Rattle.fdr_deck.specs.Disk.{IsSettled, KeepsDisk}
 use Rattle.fdr_deck.specs.Pull.{KeepsInput}
 use Rattle.fdr_deck.specs.Moments.{HasSamePulls, IsNow, Elapses, EachMoment, IsSoundDeck}
 use Rattle.fdr_deck.specs.Calls.{HasOneAnnounced, IsDiskWork, Passes, Announces, LeavesDisk}
-use Rattle.fdr_deck.proofs.Moments.{EachMoment-then, Elapses-then}
+use Rattle.fdr_deck.proofs.Moments.{EachMoment-then, Elapses-then, HasSamePulls-before, KeepsInput-then}
 use Rattle.fdr_slot.specs.declared.image.Header.{Header}
 use Rattle.fdr_recover.specs.Blocks.{Block}
 use Rattle.fdr_recover.specs.Stretches.{last_session}
@@ -70,7 +70,7 @@ module _ (tells : Tells) (h : Header) (d0 d1 : State) (sound : IsSoundDeck tells
 
     attaching_pulled : EachMoment tells d1 d2 (HasSamePulls d0)
     attaching_pulled stops m since = let q = (quiet2 stops).moments stops m since in
-        record { taken = q.pulled.taken ∙ quiet.passes.input.taken; pulled_before = q.pulled.pulled_before ∙ quiet.passes.input.pulled_before }
+        HasSamePulls-before d0 d1 m quiet.passes.input q.pulled
 
     attaching : IsReady (next_of h d0.held) d0 → EachMoment tells d1 d2 (IsStarting h d0)
     attaching ready stops m since =
@@ -87,11 +87,7 @@ module _ (tells : Tells) (h : Header) (d0 d1 : State) (sound : IsSoundDeck tells
       time = Elapses-then tells d0 d1 d2 quiet.passes.time passes2.time;
       moments = λ ready. EachMoment-then tells d0 d1 d2 (IsStarting h d0) quiet.passes.time passes2.time (looking ready) (attaching ready);
       pulled = EachMoment-then tells d0 d1 d2 (HasSamePulls d0) quiet.passes.time passes2.time looking_pulled attaching_pulled;
-      input = record {
-        input = passes2.input.input ∙ quiet.passes.input.input;
-        taken = passes2.input.taken ∙ quiet.passes.input.taken;
-        pulled_before = passes2.input.pulled_before ∙ quiet.passes.input.pulled_before;
-      };
+      input = KeepsInput-then d0 d1 d2 quiet.passes.input passes2.input;
       input_faults = passes2.input_faults ∙ quiet.passes.input_faults;
       disk_faults = omega (arith, quiet.passes.disk_faults, passes2.disk_faults);
     }
@@ -111,12 +107,8 @@ module _ (tells : Tells) (h : Header) (d0 d1 : State) (sound : IsSoundDeck tells
           d3.input_faults ≡ d2.input_faults → Elapses tells d2 d3 → EachMoment tells d2 d3 (IsNow d3) → Starts tells h d0 d3
       Starts-announced settled2 keeps number leaves line3 line_faults3 time3 moments =
           let was = Starts-attached in
-          let announced_pulled : EachMoment tells d2 d3 (HasSamePulls d0) = λ stops m since. let now = moments stops m since in
-          record {
-            taken = now.pulled.taken ∙ line3.taken ∙ was.input.taken;
-            pulled_before = now.pulled.pulled_before ∙ line3.pulled_before
-                ∙ was.input.pulled_before;
-          } in
+          let announced_pulled : EachMoment tells d2 d3 (HasSamePulls d0) = λ stops m since.
+          HasSamePulls-before d0 d3 m (KeepsInput-then d0 d2 d3 was.input line3) (moments stops m since).pulled in
           record {
             time = Elapses-then tells d0 d2 d3 was.time time3;
             moments = λ ready. EachMoment-then tells d0 d2 d3 (IsStarting h d0) was.time time3 (was.moments ready) (λ stops m since.
@@ -129,12 +121,7 @@ module _ (tells : Tells) (h : Header) (d0 d1 : State) (sound : IsSoundDeck tells
                 (omega (arith, now.least, announces.least, fresh2.least, told2, sound.least, sound.greatest, ready.greatest, at))
                 (announced_pulled stops m since));
             pulled = EachMoment-then tells d0 d2 d3 (HasSamePulls d0) was.time time3 was.pulled announced_pulled;
-            input = record {
-              input = line3.input ∙ was.input.input;
-              taken = line3.taken ∙ was.input.taken;
-              pulled_before = line3.pulled_before
-                  ∙ was.input.pulled_before;
-            };
+            input = KeepsInput-then d0 d2 d3 was.input line3;
             input_faults = line_faults3 ∙ was.input_faults;
             disk_faults = omega (arith, was.disk_faults, leaves.disk_faults);
           }

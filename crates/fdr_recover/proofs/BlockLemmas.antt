@@ -125,4 +125,4 @@ pub ruleset numbers_after = (number_after-valid, number_after-invalid, number_af
 
 pub ruleset blocks_at = (block_at-invalid, block_at-other, block_at-some)
 
-pub ruleset recovered = (next_of-is_next, recovered_run-one)
+pub ruleset recovered = (next_of-is_next, recovered_run-is_recovered, recovered_run-one)

@@ -37,3 +37,5 @@ Looks-then tells old mid new sound first second = record {
   disk_work = IsDiskWork-then tells old.may_leave mid.may_leave old.may_leave old mid new sound first.disk_work second.disk_work (λ told image leaves. leaves)
       (λ told image. first.disk.no_more image);
 }
+
+pub ruleset looks = (Looks-then, Looks-call)

@@ -1,6 +1,7 @@
 pub mod Results
 pub mod Slots
 pub mod Bytes
+pub mod Changing
 pub mod Places
 pub mod Made
 pub mod Turning

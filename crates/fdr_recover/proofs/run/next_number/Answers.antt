@@ -1,16 +1,16 @@
-use Rattle.std.proofs.Common.{◌≡◌, ◌∙◌, ℕ, ap, subst, arith}
-use Rattle.std.proofs.lemmas.Result.{err_from_is_err_and}
-use Rattle.fdr_io.specs.Faults.{Rose}
+use Rattle.std.proofs.Common.{◌≡◌, ◌∙◌, ap, arith, rules}
+use Rattle.std.specs.Prelude.{IsTrue}
+use Rattle.fdr_deck.proofs.Composing.{refusal}
 use Rattle.fdr_recover.specs.Blocks.{number_after, next_among}
 use Rattle.fdr_recover.specs.Images.{block_in, next_of}
-use Rattle.fdr_recover.proofs.Looking.{Looks-then}
+use Rattle.fdr_recover.proofs.Looking.{Looks-then, looks}
 use Rattle.fdr_recover.proofs.Nexts.{next_more}
-use Rattle.fdr_recover.proofs.Refused.{no_ok, on_err}
 use Rattle.fdr_recover.proofs.run.next_number.Goals as goal
 
-pub returns-in_err-number_after-clause-looks : goal.returns-in_err-number_after-clause-looks
-returns-in_err-number_after-clause-looks g c =
-    Looks-then _ _ _ _ (g.met.D.Deck.sound c.args.deck.now) c.loop-slot.invariant.looks c.number_after.ensures.looks
+pub returns-in_err-number_after : goal.returns-in_err-number_after
+returns-in_err-number_after g c =
+    rw (refusal _ _ c.from_residual.ensures.1, ← c.loop-slot.invariant.faults)
+    (search (rules, looks, g.met.D.Deck.sound, g.met.D.Deck.rest_then, c.in_err-number_after.ensures, c.loop-slot.invariant))
 
 pub loop-slot-preserved : goal.loop-slot-preserved
 loop-slot-preserved g c = record {
@@ -26,49 +26,10 @@ loop-slot-preserved g c = record {
       (c.loop-slot.invariant.next told);
 }
 
-pub returns-clause-next : goal.returns-clause-next
+pub returns : goal.returns
 unfolding next_of
-returns-clause-next g c told =
+returns g c =
     let all : c.loop-slot.slot ≡ c.args.h.now.slots = omega arith in
-    c.loop-slot.invariant.next told ∙ ap (λ k. next_among k (block_in c.args.h.now (g.D.Deck.state c.args.deck.now).held)) all
-
--- no number was read
-pub returns-in_err-number_after-clause-next : goal.returns-in_err-number_after-clause-next
-returns-in_err-number_after-clause-next g c = λ told.
-    let r = c.from_residual.result in
-    let p = err_from_is_err_and r c.from_residual.ensures.1 in
-    no_ok _ r p.0 p.1
-
-pub returns-in_err-number_after-clause-bound : goal.returns-in_err-number_after-clause-bound
-returns-in_err-number_after-clause-bound g c =
-    let r = c.from_residual.result in
-    let p = err_from_is_err_and r c.from_residual.ensures.1 in
-    no_ok _ r p.0 p.1
-
-pub returns-in_err-number_after-clause-succeeds : goal.returns-in_err-number_after-clause-succeeds
-returns-in_err-number_after-clause-succeeds g c =
-    let r = c.from_residual.result in
-    let p = err_from_is_err_and r c.from_residual.ensures.1 in
-    no_ok _ r p.0 p.1
-
-pub returns-in_err-number_after-clause-cause : goal.returns-in_err-number_after-clause-cause
-returns-in_err-number_after-clause-cause g c =
-    on_err c.from_residual.result (subst (λ (n : ℕ). Rose n (g.D.Deck.state c.number_after.new.deck).disk_faults) c.loop-slot.invariant.faults
-    c.in_err-number_after.ensures.cause)
-
-pub returns-in_err-number_after-clause-rest : goal.returns-in_err-number_after-clause-rest
-returns-in_err-number_after-clause-rest g c =
-    g.met.D.Deck.rest_then _ _ _ c.loop-slot.invariant.rest c.number_after.ensures.rest
-
--- all slots were looked at
-pub returns-clause-bound : goal.returns-clause-bound
-returns-clause-bound g c = c.loop-slot.invariant.bound
-
-pub returns-clause-looks : goal.returns-clause-looks
-returns-clause-looks g c = c.loop-slot.invariant.looks
-
-pub returns-clause-cause : goal.returns-clause-cause
-returns-clause-cause g c = tt
-
-pub returns-clause-rest : goal.returns-clause-rest
-returns-clause-rest g c = c.loop-slot.invariant.rest
+    let next : IsTrue g.D.Deck.tells.bytes → c.loop-slot.next ≡ next_of c.args.h.now (g.D.Deck.state c.args.deck.now).held =
+    λ told. c.loop-slot.invariant.next told ∙ ap (λ k. next_among k (block_in c.args.h.now (g.D.Deck.state c.args.deck.now).held)) all in
+    search (rules, next, c.loop-slot.invariant.fresh, c.loop-slot.invariant)

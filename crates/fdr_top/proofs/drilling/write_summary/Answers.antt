@@ -1,4 +1,4 @@
-use Rattle.std.proofs.Common.{◌≡◌, ap, inl, inr, refl, Err}
+use Rattle.std.proofs.Common.{◌≡◌, ap, inl, inr, refl, Err, rules}
 use Rattle.std.specs.Prelude.{IsTrue}
 use Rattle.fdr_recover.specs.Images.{recovered_run}
 use Rattle.fdr_readout.specs.Summary.{Tallies, no_summary}
@@ -20,87 +20,48 @@ summary g c told =
     rw (c.requires.table, c.requires.nothing, c.requires.version) at c.in-Ok.ensures.all told in
     summary_of_blocks_is t version run c.take_blocks.new.blocks.taker c.holds.ensures.sound (c.in-Ok.ensures.bounded told) tallied
 
-pub returns-in-Ok-write_whole-clause-text : goal.returns-in-Ok-write_whole-clause-text
-returns-in-Ok-write_whole-clause-text g c = λ done told.
-    let is = summary g (goal.at.returns-in-Ok-write_whole-clause-text g c).In-Ok told in
-    rw (c.bytes.ensures.content, c.drill_line.ensures, is) at c.in-Ok-write_whole.ensures.whole
+-- where the line is written
+pub returns-in-Ok-write_whole : goal.returns-in-Ok-write_whole
+returns-in-Ok-write_whole g c = record {
+  answer = inl refl;
+  text = λ done told.
+      let is = summary g (goal.at.returns-in-Ok-write_whole g c).In-Ok told in
+      rw (c.bytes.ensures.content, c.drill_line.ensures, is) at c.in-Ok-write_whole.ensures.whole;
+  part = λ failed told. absurd (done_not_write failed);
+  looks = c.take_blocks.ensures.looks;
+  unread = λ fails. absurd (done_not_disk fails);
+  disk_fault = λ fails. absurd (done_not_disk fails);
+  write_fault = λ failed. absurd (done_not_write failed);
+  no_disk_fault = λ other. c.in-Ok.ensures.disk_unfailed (ok_not_err _ _);
+  no_write_fault = λ other. c.in-Ok-write_whole.ensures.no_fault;
+}
 
-pub returns-in-Err-clause-part : goal.returns-in-Err-clause-part
-returns-in-Err-clause-part g c = λ failed told.
-    let is = summary g (goal.at.returns-in-Err-clause-part g c).In-Ok told in
-    rw (c.bytes.ensures.content, c.drill_line.ensures, is) at c.in-Err.ensures.part
+-- where it isn't
+pub returns-in-Err : goal.returns-in-Err
+returns-in-Err g c = record {
+  answer = inr (inl refl);
+  text = λ done told. absurd (write_not_done done);
+  part = λ failed told.
+      let is = summary g (goal.at.returns-in-Err g c).In-Ok told in
+      rw (c.bytes.ensures.content, c.drill_line.ensures, is) at c.in-Err.ensures.part;
+  looks = c.take_blocks.ensures.looks;
+  unread = λ fails. absurd (write_not_disk fails);
+  disk_fault = λ fails. absurd (write_not_disk fails);
+  write_fault = λ failed. c.in-Err.ensures.cause;
+  no_disk_fault = λ other. c.in-Ok.ensures.disk_unfailed (ok_not_err _ _);
+  no_write_fault = λ other. absurd (other refl);
+}
 
--- ---- where the disk fails
-
-pub returns-in-Err-Disk-clause-answer : goal.returns-in-Err-Disk-clause-answer
-returns-in-Err-Disk-clause-answer g c = inr (inr refl)
-
-pub returns-in-Err-Disk-clause-text : goal.returns-in-Err-Disk-clause-text
-returns-in-Err-Disk-clause-text g c = λ done told. absurd (disk_not_done done)
-
-pub returns-in-Err-Disk-clause-part : goal.returns-in-Err-Disk-clause-part
-returns-in-Err-Disk-clause-part g c = λ failed told. absurd (disk_not_write failed)
-
-pub returns-in-Err-Disk-clause-looks : goal.returns-in-Err-Disk-clause-looks
-returns-in-Err-Disk-clause-looks g c = c.take_blocks.ensures.looks
-
-pub returns-in-Err-Disk-clause-disk_fault : goal.returns-in-Err-Disk-clause-disk_fault
-returns-in-Err-Disk-clause-disk_fault g c = λ e. c.in-Err-Disk.ensures.disk_fault (ap Err c.in-Err-Disk.field-0-is)
-
-pub returns-in-Err-Disk-clause-write_fault : goal.returns-in-Err-Disk-clause-write_fault
-returns-in-Err-Disk-clause-write_fault g c = λ failed. absurd (disk_not_write failed)
-
-pub returns-in-Err-Disk-clause-no_disk_fault : goal.returns-in-Err-Disk-clause-no_disk_fault
-returns-in-Err-Disk-clause-no_disk_fault g c = λ other. absurd (other refl)
-
--- ---- where the line is written
-
-pub returns-in-Ok-write_whole-clause-answer : goal.returns-in-Ok-write_whole-clause-answer
-returns-in-Ok-write_whole-clause-answer g c = inl refl
-
-pub returns-in-Ok-write_whole-clause-part : goal.returns-in-Ok-write_whole-clause-part
-returns-in-Ok-write_whole-clause-part g c = λ failed told. absurd (done_not_write failed)
-
-pub returns-in-Ok-write_whole-clause-looks : goal.returns-in-Ok-write_whole-clause-looks
-returns-in-Ok-write_whole-clause-looks g c = c.take_blocks.ensures.looks
-
-pub returns-in-Ok-write_whole-clause-unread : goal.returns-in-Ok-write_whole-clause-unread
-returns-in-Ok-write_whole-clause-unread g c = λ fails. absurd (done_not_disk fails)
-
-pub returns-in-Ok-write_whole-clause-disk_fault : goal.returns-in-Ok-write_whole-clause-disk_fault
-returns-in-Ok-write_whole-clause-disk_fault g c = λ fails. absurd (done_not_disk fails)
-
-pub returns-in-Ok-write_whole-clause-write_fault : goal.returns-in-Ok-write_whole-clause-write_fault
-returns-in-Ok-write_whole-clause-write_fault g c = λ failed. absurd (done_not_write failed)
-
-pub returns-in-Ok-write_whole-clause-no_disk_fault : goal.returns-in-Ok-write_whole-clause-no_disk_fault
-returns-in-Ok-write_whole-clause-no_disk_fault g c = λ other. c.in-Ok.ensures.disk_unfailed (ok_not_err _ _)
-
-pub returns-in-Ok-write_whole-clause-no_write_fault : goal.returns-in-Ok-write_whole-clause-no_write_fault
-returns-in-Ok-write_whole-clause-no_write_fault g c = λ other. c.in-Ok-write_whole.ensures.no_fault
-
--- ---- where it isn't
-
-pub returns-in-Err-clause-answer : goal.returns-in-Err-clause-answer
-returns-in-Err-clause-answer g c = inr (inl refl)
-
-pub returns-in-Err-clause-text : goal.returns-in-Err-clause-text
-returns-in-Err-clause-text g c = λ done told. absurd (write_not_done done)
-
-pub returns-in-Err-clause-looks : goal.returns-in-Err-clause-looks
-returns-in-Err-clause-looks g c = c.take_blocks.ensures.looks
-
-pub returns-in-Err-clause-unread : goal.returns-in-Err-clause-unread
-returns-in-Err-clause-unread g c = λ fails. absurd (write_not_disk fails)
-
-pub returns-in-Err-clause-disk_fault : goal.returns-in-Err-clause-disk_fault
-returns-in-Err-clause-disk_fault g c = λ fails. absurd (write_not_disk fails)
-
-pub returns-in-Err-clause-write_fault : goal.returns-in-Err-clause-write_fault
-returns-in-Err-clause-write_fault g c = λ failed. c.in-Err.ensures.cause
-
-pub returns-in-Err-clause-no_disk_fault : goal.returns-in-Err-clause-no_disk_fault
-returns-in-Err-clause-no_disk_fault g c = λ other. c.in-Ok.ensures.disk_unfailed (ok_not_err _ _)
-
-pub returns-in-Err-clause-no_write_fault : goal.returns-in-Err-clause-no_write_fault
-returns-in-Err-clause-no_write_fault g c = λ other. absurd (other refl)
+-- where the disk fails
+pub returns-in-Err-Disk : goal.returns-in-Err-Disk
+returns-in-Err-Disk g c = record {
+  answer = inr (inr refl);
+  text = λ done told. absurd (disk_not_done done);
+  part = λ failed told. absurd (disk_not_write failed);
+  looks = c.take_blocks.ensures.looks;
+  unread = search rules;
+  disk_fault = λ e. c.in-Err-Disk.ensures.disk_fault (ap Err c.in-Err-Disk.field-0-is);
+  write_fault = λ failed. absurd (disk_not_write failed);
+  no_disk_fault = λ other. absurd (other refl);
+  no_write_fault = search rules;
+}

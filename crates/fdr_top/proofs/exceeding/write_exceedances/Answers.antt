@@ -33,132 +33,80 @@ written g c told =
     let wrote = c.in-Ok-finish.ensures.all (steps_of_entries (entries_of_blocks t version run)) given.all in
     all_written o before t version run c.requires.empty c.requires.no_rows c.requires.watching c.requires.sound short p now took _ wrote.0 wrote.1 wrote.2
 
-pub returns-in-Ok-finish-clause-text : goal.returns-in-Ok-finish-clause-text
-returns-in-Ok-finish-clause-text g c = λ done told. written g (goal.at.returns-in-Ok-finish-clause-text g c).In-Ok-finish told
+-- where all was written
+pub returns-in-Ok-finish : goal.returns-in-Ok-finish
+returns-in-Ok-finish g c = record {
+  answer = inl refl;
+  text = λ done told. written g (goal.at.returns-in-Ok-finish g c).In-Ok-finish told;
+  part = λ told. whole_is_part _ _ _ (written g (goal.at.returns-in-Ok-finish g c).In-Ok-finish told);
+  looks = c.take_blocks.ensures.looks;
+  disk_fault = λ e. absurd (done_not_disk e);
+  write_fault = λ e. absurd (done_not_write e);
+  no_disk_fault = λ other. c.in-Ok.ensures.disk_unfailed (ok_not_err _ _);
+  no_write_fault = λ other more. c.in-Ok-finish.ensures.no_fault ∙ c.in-Ok.ensures.no_fault;
+}
 
-pub returns-in-Ok-finish-clause-part : goal.returns-in-Ok-finish-clause-part
-returns-in-Ok-finish-clause-part g c = λ told. whole_is_part _ _ _ (written g (goal.at.returns-in-Ok-finish-clause-part g c).In-Ok-finish told)
+-- where the last of it wasn't
+pub returns-in-Err : goal.returns-in-Err
+returns-in-Err g c = record {
+  answer = inr (inl refl);
+  text = λ done told. absurd (write_not_done done);
+  part = λ told.
+      let t = c.args.blocks.now.table.now in
+      let version = c.args.header.now.version in
+      let run = recovered_run c.args.header.now (g.D.Deck.state c.args.deck.now).held in
+      let short = run_short c.args.header.now (g.D.Deck.state c.args.deck.now).held c.requires.limits in
+      let before = c.args.blocks.now.taker in
+      let o = g.O.Sink.written c.args.out.now in
+      let p = g.O.Sink.written c.take_blocks.new.out in
+      let now = c.take_blocks.new.blocks.taker in
+      let took : TakesEntries o p before now (entries_of_blocks t version run) = rw c.requires.version at c.in-Ok.ensures.all told in
+      let given = gave o before t version run c.requires.empty c.requires.no_rows c.requires.watching c.requires.sound short p now took in
+      end_failed o before t version run c.requires.empty c.requires.no_rows c.requires.watching c.requires.sound short p now took _
+      (c.in-Err.ensures.part (steps_of_entries (entries_of_blocks t version run)) given.all);
+  looks = c.take_blocks.ensures.looks;
+  disk_fault = λ e. absurd (write_not_disk e);
+  write_fault = λ e. rose_after _ _ _ c.in-Ok.ensures.no_fault c.in-Err.ensures.cause;
+  no_disk_fault = λ other. c.in-Ok.ensures.disk_unfailed (ok_not_err _ _);
+  no_write_fault = λ other more. absurd (other refl);
+}
 
-pub returns-in-Err-clause-part : goal.returns-in-Err-clause-part
-returns-in-Err-clause-part g c = λ told.
-    let t = c.args.blocks.now.table.now in
-    let version = c.args.header.now.version in
-    let run = recovered_run c.args.header.now (g.D.Deck.state c.args.deck.now).held in
-    let short = run_short c.args.header.now (g.D.Deck.state c.args.deck.now).held c.requires.limits in
-    let before = c.args.blocks.now.taker in
-    let o = g.O.Sink.written c.args.out.now in
-    let p = g.O.Sink.written c.take_blocks.new.out in
-    let now = c.take_blocks.new.blocks.taker in
-    let took : TakesEntries o p before now (entries_of_blocks t version run) = rw c.requires.version at c.in-Ok.ensures.all told in
-    let given = gave o before t version run c.requires.empty c.requires.no_rows c.requires.watching c.requires.sound short p now took in
-    end_failed o before t version run c.requires.empty c.requires.no_rows c.requires.watching c.requires.sound short p now took _
-    (c.in-Err.ensures.part (steps_of_entries (entries_of_blocks t version run)) given.all)
+-- where the disk fails
+pub returns-in-Err-Disk : goal.returns-in-Err-Disk
+returns-in-Err-Disk g c = record {
+  answer = inr (inr refl);
+  text = λ done told. absurd (disk_not_done done);
+  part = λ told.
+      let t = c.args.blocks.now.table.now in
+      let version = c.args.header.now.version in
+      let run = recovered_run c.args.header.now (g.D.Deck.state c.args.deck.now).held in
+      let short = run_short c.args.header.now (g.D.Deck.state c.args.deck.now).held c.requires.limits in
+      let front = c.in-Err-Disk.ensures.front told (ap Err c.in-Err-Disk.field-0-is) in
+      first_part (g.O.Sink.written c.args.out.now) c.args.blocks.now.taker t version run c.requires.empty c.requires.no_rows c.requires.watching
+      c.requires.sound short (g.O.Sink.written c.take_blocks.new.out) _ c.take_blocks.new.blocks.taker front.0 front.1 c.flush.result front.2
+      (rw c.requires.version at front.3) c.flush.ensures.all c.flush.ensures.part;
+  looks = c.take_blocks.ensures.looks;
+  disk_fault = λ e. c.in-Err-Disk.ensures.disk_fault (ap Err c.in-Err-Disk.field-0-is);
+  write_fault = λ e. absurd (disk_not_write e);
+  no_disk_fault = λ other. absurd (other refl);
+  no_write_fault = λ other more. absurd (more refl);
+}
 
-pub returns-in-Err-Disk-clause-part : goal.returns-in-Err-Disk-clause-part
-returns-in-Err-Disk-clause-part g c = λ told.
-    let t = c.args.blocks.now.table.now in
-    let version = c.args.header.now.version in
-    let run = recovered_run c.args.header.now (g.D.Deck.state c.args.deck.now).held in
-    let short = run_short c.args.header.now (g.D.Deck.state c.args.deck.now).held c.requires.limits in
-    let front = c.in-Err-Disk.ensures.front told (ap Err c.in-Err-Disk.field-0-is) in
-    first_part (g.O.Sink.written c.args.out.now) c.args.blocks.now.taker t version run c.requires.empty c.requires.no_rows c.requires.watching
-    c.requires.sound short (g.O.Sink.written c.take_blocks.new.out) _ c.take_blocks.new.blocks.taker front.0 front.1 c.flush.result front.2
-    (rw c.requires.version at front.3) c.flush.ensures.all c.flush.ensures.part
-
-pub returns-in-Err-Taker-clause-part : goal.returns-in-Err-Taker-clause-part
-returns-in-Err-Taker-clause-part g c = λ told.
-    let t = c.args.blocks.now.table.now in
-    let version = c.args.header.now.version in
-    let run = recovered_run c.args.header.now (g.D.Deck.state c.args.deck.now).held in
-    let short = run_short c.args.header.now (g.D.Deck.state c.args.deck.now).held c.requires.limits in
-    blocks_failed_part (g.O.Sink.written c.args.out.now) c.args.blocks.now.taker t version run c.requires.empty c.requires.no_rows c.requires.watching
-    c.requires.sound short _ (rw c.requires.version at (c.in-Err-Taker.ensures.part told (ap Err c.in-Err-Taker.field-0-is)))
-
--- ---- where all was written
-
-pub returns-in-Ok-finish-clause-answer : goal.returns-in-Ok-finish-clause-answer
-returns-in-Ok-finish-clause-answer g c = inl refl
-
-pub returns-in-Ok-finish-clause-looks : goal.returns-in-Ok-finish-clause-looks
-returns-in-Ok-finish-clause-looks g c = c.take_blocks.ensures.looks
-
-pub returns-in-Ok-finish-clause-disk_fault : goal.returns-in-Ok-finish-clause-disk_fault
-returns-in-Ok-finish-clause-disk_fault g c = λ e. absurd (done_not_disk e)
-
-pub returns-in-Ok-finish-clause-write_fault : goal.returns-in-Ok-finish-clause-write_fault
-returns-in-Ok-finish-clause-write_fault g c = λ e. absurd (done_not_write e)
-
-pub returns-in-Ok-finish-clause-no_disk_fault : goal.returns-in-Ok-finish-clause-no_disk_fault
-returns-in-Ok-finish-clause-no_disk_fault g c = λ other. c.in-Ok.ensures.disk_unfailed (ok_not_err _ _)
-
-pub returns-in-Ok-finish-clause-no_write_fault : goal.returns-in-Ok-finish-clause-no_write_fault
-returns-in-Ok-finish-clause-no_write_fault g c = λ other more. c.in-Ok-finish.ensures.no_fault ∙ c.in-Ok.ensures.no_fault
-
--- ---- where the last of it wasn't
-
-pub returns-in-Err-clause-answer : goal.returns-in-Err-clause-answer
-returns-in-Err-clause-answer g c = inr (inl refl)
-
-pub returns-in-Err-clause-text : goal.returns-in-Err-clause-text
-returns-in-Err-clause-text g c = λ done told. absurd (write_not_done done)
-
-pub returns-in-Err-clause-looks : goal.returns-in-Err-clause-looks
-returns-in-Err-clause-looks g c = c.take_blocks.ensures.looks
-
-pub returns-in-Err-clause-disk_fault : goal.returns-in-Err-clause-disk_fault
-returns-in-Err-clause-disk_fault g c = λ e. absurd (write_not_disk e)
-
-pub returns-in-Err-clause-write_fault : goal.returns-in-Err-clause-write_fault
-returns-in-Err-clause-write_fault g c = λ e. rose_after _ _ _ c.in-Ok.ensures.no_fault c.in-Err.ensures.cause
-
-pub returns-in-Err-clause-no_disk_fault : goal.returns-in-Err-clause-no_disk_fault
-returns-in-Err-clause-no_disk_fault g c = λ other. c.in-Ok.ensures.disk_unfailed (ok_not_err _ _)
-
-pub returns-in-Err-clause-no_write_fault : goal.returns-in-Err-clause-no_write_fault
-returns-in-Err-clause-no_write_fault g c = λ other more. absurd (other refl)
-
--- ---- where the disk fails
-
-pub returns-in-Err-Disk-clause-answer : goal.returns-in-Err-Disk-clause-answer
-returns-in-Err-Disk-clause-answer g c = inr (inr refl)
-
-pub returns-in-Err-Disk-clause-text : goal.returns-in-Err-Disk-clause-text
-returns-in-Err-Disk-clause-text g c = λ done told. absurd (disk_not_done done)
-
-pub returns-in-Err-Disk-clause-looks : goal.returns-in-Err-Disk-clause-looks
-returns-in-Err-Disk-clause-looks g c = c.take_blocks.ensures.looks
-
-pub returns-in-Err-Disk-clause-disk_fault : goal.returns-in-Err-Disk-clause-disk_fault
-returns-in-Err-Disk-clause-disk_fault g c = λ e. c.in-Err-Disk.ensures.disk_fault (ap Err c.in-Err-Disk.field-0-is)
-
-pub returns-in-Err-Disk-clause-write_fault : goal.returns-in-Err-Disk-clause-write_fault
-returns-in-Err-Disk-clause-write_fault g c = λ e. absurd (disk_not_write e)
-
-pub returns-in-Err-Disk-clause-no_disk_fault : goal.returns-in-Err-Disk-clause-no_disk_fault
-returns-in-Err-Disk-clause-no_disk_fault g c = λ other. absurd (other refl)
-
-pub returns-in-Err-Disk-clause-no_write_fault : goal.returns-in-Err-Disk-clause-no_write_fault
-returns-in-Err-Disk-clause-no_write_fault g c = λ other more. absurd (more refl)
-
--- ---- where the sink fails in between
-
-pub returns-in-Err-Taker-clause-answer : goal.returns-in-Err-Taker-clause-answer
-returns-in-Err-Taker-clause-answer g c = inr (inl refl)
-
-pub returns-in-Err-Taker-clause-text : goal.returns-in-Err-Taker-clause-text
-returns-in-Err-Taker-clause-text g c = λ done told. absurd (write_not_done done)
-
-pub returns-in-Err-Taker-clause-looks : goal.returns-in-Err-Taker-clause-looks
-returns-in-Err-Taker-clause-looks g c = c.take_blocks.ensures.looks
-
-pub returns-in-Err-Taker-clause-disk_fault : goal.returns-in-Err-Taker-clause-disk_fault
-returns-in-Err-Taker-clause-disk_fault g c = λ e. absurd (write_not_disk e)
-
-pub returns-in-Err-Taker-clause-write_fault : goal.returns-in-Err-Taker-clause-write_fault
-returns-in-Err-Taker-clause-write_fault g c = λ e. c.in-Err-Taker.ensures.write_fault (ap Err c.in-Err-Taker.field-0-is)
-
-pub returns-in-Err-Taker-clause-no_disk_fault : goal.returns-in-Err-Taker-clause-no_disk_fault
-returns-in-Err-Taker-clause-no_disk_fault g c = λ other. c.in-Err-Taker.ensures.disk_unfailed (taker_not_disk _ c.in-Err-Taker.field-0-is)
-
-pub returns-in-Err-Taker-clause-no_write_fault : goal.returns-in-Err-Taker-clause-no_write_fault
-returns-in-Err-Taker-clause-no_write_fault g c = λ other more. absurd (other refl)
+-- where the sink fails in between
+pub returns-in-Err-Taker : goal.returns-in-Err-Taker
+returns-in-Err-Taker g c = record {
+  answer = inr (inl refl);
+  text = λ done told. absurd (write_not_done done);
+  part = λ told.
+      let t = c.args.blocks.now.table.now in
+      let version = c.args.header.now.version in
+      let run = recovered_run c.args.header.now (g.D.Deck.state c.args.deck.now).held in
+      let short = run_short c.args.header.now (g.D.Deck.state c.args.deck.now).held c.requires.limits in
+      blocks_failed_part (g.O.Sink.written c.args.out.now) c.args.blocks.now.taker t version run c.requires.empty c.requires.no_rows c.requires.watching
+      c.requires.sound short _ (rw c.requires.version at (c.in-Err-Taker.ensures.part told (ap Err c.in-Err-Taker.field-0-is)));
+  looks = c.take_blocks.ensures.looks;
+  disk_fault = λ e. absurd (write_not_disk e);
+  write_fault = λ e. c.in-Err-Taker.ensures.write_fault (ap Err c.in-Err-Taker.field-0-is);
+  no_disk_fault = λ other. c.in-Err-Taker.ensures.disk_unfailed (taker_not_disk _ c.in-Err-Taker.field-0-is);
+  no_write_fault = λ other more. absurd (other refl);
+}

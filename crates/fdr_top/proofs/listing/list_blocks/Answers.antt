@@ -18,124 +18,69 @@ emits : (g : Over) (c : In-Ok g) → IsTrue g.D.Deck.tells.bytes
     (listing_of_blocks c.args.blocks.now.table.now c.args.header.now.version (recovered_run c.args.header.now (g.D.Deck.state c.args.deck.now).held))
 emits g c told = rw (c.requires.empty, c.requires.version, lines_of_blocks) at c.in-Ok.ensures.all told
 
-pub returns-in-Ok-finish-clause-text : goal.returns-in-Ok-finish-clause-text
-returns-in-Ok-finish-clause-text g c = λ done told.
-    written_at_end _ _ _ _ _ (emits g (goal.at.returns-in-Ok-finish-clause-text g c).In-Ok told) c.in-Ok-finish.ensures.all
+-- where all was written
+pub returns-in-Ok-finish : goal.returns-in-Ok-finish
+returns-in-Ok-finish g c = record {
+  answer = inl refl;
+  text = λ done told. written_at_end _ _ _ _ _ (emits g (goal.at.returns-in-Ok-finish g c).In-Ok told) c.in-Ok-finish.ensures.all;
+  part = λ told. whole_is_part _ _ _ (written_at_end _ _ _ _ _ (emits g (goal.at.returns-in-Ok-finish g c).In-Ok told) c.in-Ok-finish.ensures.all);
+  looks = c.take_blocks.ensures.looks;
+  disk_fault = λ e. absurd (done_not_disk e);
+  write_fault = λ e. absurd (done_not_write e);
+  no_disk_fault = λ other. c.in-Ok.ensures.disk_unfailed (ok_not_err _ _);
+  no_write_fault = λ other more. c.in-Ok-finish.ensures.no_fault ∙ c.in-Ok.ensures.no_fault;
+}
 
-pub returns-in-Ok-finish-clause-part : goal.returns-in-Ok-finish-clause-part
-returns-in-Ok-finish-clause-part g c = λ told.
-    whole_is_part _ _ _ (written_at_end _ _ _ _ _ (emits g (goal.at.returns-in-Ok-finish-clause-part g c).In-Ok told) c.in-Ok-finish.ensures.all)
+-- where the last of it wasn't
+pub returns-in-Err : goal.returns-in-Err
+returns-in-Err g c = record {
+  answer = inr (inl refl);
+  text = λ done told. absurd (write_not_done done);
+  part = λ told. part_at_end _ _ _ _ _ c.in-Err.ensures.part.0 (emits g (goal.at.returns-in-Err g c).In-Ok told) c.in-Err.ensures.part.1;
+  looks = c.take_blocks.ensures.looks;
+  disk_fault = λ e. absurd (write_not_disk e);
+  write_fault = λ e. rose_after _ _ _ c.in-Ok.ensures.no_fault c.in-Err.ensures.cause;
+  no_disk_fault = λ other. c.in-Ok.ensures.disk_unfailed (ok_not_err _ _);
+  no_write_fault = λ other more. absurd (other refl);
+}
 
-pub returns-in-Err-clause-part : goal.returns-in-Err-clause-part
-returns-in-Err-clause-part g c = λ told.
-    part_at_end _ _ _ _ _ c.in-Err.ensures.part.0 (emits g (goal.at.returns-in-Err-clause-part g c).In-Ok told) c.in-Err.ensures.part.1
+-- where the disk fails
+pub returns-in-Err-Disk : goal.returns-in-Err-Disk
+returns-in-Err-Disk g c = record {
+  answer = inr (inr refl);
+  text = λ done told. absurd (disk_not_done done);
+  part = λ told.
+      let t = c.args.blocks.now.table.now in
+      let version = c.args.header.now.version in
+      let run = recovered_run c.args.header.now (g.D.Deck.state c.args.deck.now).held in
+      let front = c.in-Err-Disk.ensures.front told (ap Err c.in-Err-Disk.field-0-is) in
+      let emits = rw c.requires.empty at front.2 in
+      part_of_first t (entries_of_blocks t version run) (listing_of_blocks t version run) (g.O.Sink.written c.args.out.now)
+      (g.O.Sink.written c.take_blocks.new.out) (g.O.Sink.written c.finish-in-Err-Disk.new.out) c.take_blocks.new.blocks.taker front.0 front.1
+      c.finish-in-Err-Disk.result (lines_of_blocks t version run) (rw c.requires.version at front.3) emits c.finish-in-Err-Disk.ensures.all
+      c.finish-in-Err-Disk.ensures.part;
+  looks = c.take_blocks.ensures.looks;
+  disk_fault = λ e. c.in-Err-Disk.ensures.disk_fault (ap Err c.in-Err-Disk.field-0-is);
+  write_fault = λ e. absurd (disk_not_write e);
+  no_disk_fault = λ other. absurd (other refl);
+  no_write_fault = λ other more. absurd (more refl);
+}
 
-pub returns-in-Err-Disk-clause-part : goal.returns-in-Err-Disk-clause-part
-returns-in-Err-Disk-clause-part g c = λ told.
-    let t = c.args.blocks.now.table.now in
-    let version = c.args.header.now.version in
-    let run = recovered_run c.args.header.now (g.D.Deck.state c.args.deck.now).held in
-    let front = c.in-Err-Disk.ensures.front told (ap Err c.in-Err-Disk.field-0-is) in
-    let emits = rw c.requires.empty at front.2 in
-    part_of_first t (entries_of_blocks t version run) (listing_of_blocks t version run) (g.O.Sink.written c.args.out.now)
-    (g.O.Sink.written c.take_blocks.new.out) (g.O.Sink.written c.finish-in-Err-Disk.new.out) c.take_blocks.new.blocks.taker front.0 front.1
-    c.finish-in-Err-Disk.result (lines_of_blocks t version run) (rw c.requires.version at front.3) emits c.finish-in-Err-Disk.ensures.all
-    c.finish-in-Err-Disk.ensures.part
-
-pub returns-in-Err-Taker-clause-part : goal.returns-in-Err-Taker-clause-part
-returns-in-Err-Taker-clause-part g c = λ told.
-    let t = c.args.blocks.now.table.now in
-    let version = c.args.header.now.version in
-    let run = recovered_run c.args.header.now (g.D.Deck.state c.args.deck.now).held in
-    part_of_entries t (entries_of_blocks t version run) (listing_of_blocks t version run) (g.O.Sink.written c.args.out.now)
-    (g.O.Sink.written c.take_blocks.new.out) (lines_of_blocks t version run)
-    (rw (c.requires.empty, c.requires.version) at (c.in-Err-Taker.ensures.part told (ap Err c.in-Err-Taker.field-0-is)))
-
--- ---- where all was written
-
-pub returns-in-Ok-finish-clause-answer : goal.returns-in-Ok-finish-clause-answer
-returns-in-Ok-finish-clause-answer g c = inl refl
-
-pub returns-in-Ok-finish-clause-looks : goal.returns-in-Ok-finish-clause-looks
-returns-in-Ok-finish-clause-looks g c = c.take_blocks.ensures.looks
-
-pub returns-in-Ok-finish-clause-disk_fault : goal.returns-in-Ok-finish-clause-disk_fault
-returns-in-Ok-finish-clause-disk_fault g c = λ e. absurd (done_not_disk e)
-
-pub returns-in-Ok-finish-clause-write_fault : goal.returns-in-Ok-finish-clause-write_fault
-returns-in-Ok-finish-clause-write_fault g c = λ e. absurd (done_not_write e)
-
-pub returns-in-Ok-finish-clause-no_disk_fault : goal.returns-in-Ok-finish-clause-no_disk_fault
-returns-in-Ok-finish-clause-no_disk_fault g c = λ other. c.in-Ok.ensures.disk_unfailed (ok_not_err _ _)
-
-pub returns-in-Ok-finish-clause-no_write_fault : goal.returns-in-Ok-finish-clause-no_write_fault
-returns-in-Ok-finish-clause-no_write_fault g c = λ other more. c.in-Ok-finish.ensures.no_fault ∙ c.in-Ok.ensures.no_fault
-
--- ---- where the last of it wasn't
-
-pub returns-in-Err-clause-answer : goal.returns-in-Err-clause-answer
-returns-in-Err-clause-answer g c = inr (inl refl)
-
-pub returns-in-Err-clause-text : goal.returns-in-Err-clause-text
-returns-in-Err-clause-text g c = λ done told. absurd (write_not_done done)
-
-pub returns-in-Err-clause-looks : goal.returns-in-Err-clause-looks
-returns-in-Err-clause-looks g c = c.take_blocks.ensures.looks
-
-pub returns-in-Err-clause-disk_fault : goal.returns-in-Err-clause-disk_fault
-returns-in-Err-clause-disk_fault g c = λ e. absurd (write_not_disk e)
-
-pub returns-in-Err-clause-write_fault : goal.returns-in-Err-clause-write_fault
-returns-in-Err-clause-write_fault g c = λ e. rose_after _ _ _ c.in-Ok.ensures.no_fault c.in-Err.ensures.cause
-
-pub returns-in-Err-clause-no_disk_fault : goal.returns-in-Err-clause-no_disk_fault
-returns-in-Err-clause-no_disk_fault g c = λ other. c.in-Ok.ensures.disk_unfailed (ok_not_err _ _)
-
-pub returns-in-Err-clause-no_write_fault : goal.returns-in-Err-clause-no_write_fault
-returns-in-Err-clause-no_write_fault g c = λ other more. absurd (other refl)
-
--- ---- where the disk fails
-
-pub returns-in-Err-Disk-clause-answer : goal.returns-in-Err-Disk-clause-answer
-returns-in-Err-Disk-clause-answer g c = inr (inr refl)
-
-pub returns-in-Err-Disk-clause-text : goal.returns-in-Err-Disk-clause-text
-returns-in-Err-Disk-clause-text g c = λ done told. absurd (disk_not_done done)
-
-pub returns-in-Err-Disk-clause-looks : goal.returns-in-Err-Disk-clause-looks
-returns-in-Err-Disk-clause-looks g c = c.take_blocks.ensures.looks
-
-pub returns-in-Err-Disk-clause-disk_fault : goal.returns-in-Err-Disk-clause-disk_fault
-returns-in-Err-Disk-clause-disk_fault g c = λ e. c.in-Err-Disk.ensures.disk_fault (ap Err c.in-Err-Disk.field-0-is)
-
-pub returns-in-Err-Disk-clause-write_fault : goal.returns-in-Err-Disk-clause-write_fault
-returns-in-Err-Disk-clause-write_fault g c = λ e. absurd (disk_not_write e)
-
-pub returns-in-Err-Disk-clause-no_disk_fault : goal.returns-in-Err-Disk-clause-no_disk_fault
-returns-in-Err-Disk-clause-no_disk_fault g c = λ other. absurd (other refl)
-
-pub returns-in-Err-Disk-clause-no_write_fault : goal.returns-in-Err-Disk-clause-no_write_fault
-returns-in-Err-Disk-clause-no_write_fault g c = λ other more. absurd (more refl)
-
--- ---- where the sink fails in between
-
-pub returns-in-Err-Taker-clause-answer : goal.returns-in-Err-Taker-clause-answer
-returns-in-Err-Taker-clause-answer g c = inr (inl refl)
-
-pub returns-in-Err-Taker-clause-text : goal.returns-in-Err-Taker-clause-text
-returns-in-Err-Taker-clause-text g c = λ done told. absurd (write_not_done done)
-
-pub returns-in-Err-Taker-clause-looks : goal.returns-in-Err-Taker-clause-looks
-returns-in-Err-Taker-clause-looks g c = c.take_blocks.ensures.looks
-
-pub returns-in-Err-Taker-clause-disk_fault : goal.returns-in-Err-Taker-clause-disk_fault
-returns-in-Err-Taker-clause-disk_fault g c = λ e. absurd (write_not_disk e)
-
-pub returns-in-Err-Taker-clause-write_fault : goal.returns-in-Err-Taker-clause-write_fault
-returns-in-Err-Taker-clause-write_fault g c = λ e. c.in-Err-Taker.ensures.write_fault (ap Err c.in-Err-Taker.field-0-is)
-
-pub returns-in-Err-Taker-clause-no_disk_fault : goal.returns-in-Err-Taker-clause-no_disk_fault
-returns-in-Err-Taker-clause-no_disk_fault g c = λ other. c.in-Err-Taker.ensures.disk_unfailed (taker_not_disk _ c.in-Err-Taker.field-0-is)
-
-pub returns-in-Err-Taker-clause-no_write_fault : goal.returns-in-Err-Taker-clause-no_write_fault
-returns-in-Err-Taker-clause-no_write_fault g c = λ other more. absurd (other refl)
+-- where the sink fails in between
+pub returns-in-Err-Taker : goal.returns-in-Err-Taker
+returns-in-Err-Taker g c = record {
+  answer = inr (inl refl);
+  text = λ done told. absurd (write_not_done done);
+  part = λ told.
+      let t = c.args.blocks.now.table.now in
+      let version = c.args.header.now.version in
+      let run = recovered_run c.args.header.now (g.D.Deck.state c.args.deck.now).held in
+      part_of_entries t (entries_of_blocks t version run) (listing_of_blocks t version run) (g.O.Sink.written c.args.out.now)
+      (g.O.Sink.written c.take_blocks.new.out) (lines_of_blocks t version run)
+      (rw (c.requires.empty, c.requires.version) at (c.in-Err-Taker.ensures.part told (ap Err c.in-Err-Taker.field-0-is)));
+  looks = c.take_blocks.ensures.looks;
+  disk_fault = λ e. absurd (write_not_disk e);
+  write_fault = λ e. c.in-Err-Taker.ensures.write_fault (ap Err c.in-Err-Taker.field-0-is);
+  no_disk_fault = λ other. c.in-Err-Taker.ensures.disk_unfailed (taker_not_disk _ c.in-Err-Taker.field-0-is);
+  no_write_fault = λ other more. absurd (other refl);
+}

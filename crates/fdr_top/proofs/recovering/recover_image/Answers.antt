@@ -1,4 +1,4 @@
-use Rattle.std.proofs.Common.{◌≡◌, ◌⊎◌, ◌∙◌, ℕ, List, ⊎_elim, ap, inl, inr, refl, subst, sym, Err, arith}
+use Rattle.std.proofs.Common.{◌≡◌, ◌⊎◌, ◌∙◌, ℕ, List, ⊎_elim, ap, inl, inr, refl, subst, sym, Err, arith, rules}
 use Rattle.fdr_deck.specs.State.{State, Tells}
 use Rattle.fdr_deck.specs.Calls.{IsDiskWork}
 use Rattle.fdr_deck.specs.Disk.{KeepsDisk, LearnsExtent}
@@ -53,102 +53,71 @@ header_not_write ring.NotEmpty e = cc
 header_not_write ring.DiskFault e = cc
 header_not_write ring.SeqEnd e = cc
 
-pub returns-in-Err-clause-recovers : goal.returns-in-Err-clause-recovers
-returns-in-Err-clause-recovers g c =
-    let looks = only_looks _ _ _ c.read_image_header.ensures.learns c.read_image_header.ensures.disk c.read_image_header.ensures.disk_work in
-    rw c.refusal.ensures (header_unread _ _ _ _ c.in-Err.fault looks
-    (λ e. c.in-Err.ensures.only.0 (ap Err e)) (λ e. c.in-Err.ensures.only.1 (ap Err e))
-    (λ told why e. c.in-Err.ensures.first_fault told why (ap Err e))
-    (λ why e. c.in-Err.ensures.small why (ap Err e))
-    (λ e. c.in-Err.ensures.cause (ap Err e)))
+pub returns-in-Err : goal.returns-in-Err
+returns-in-Err g c = record {
+  answer = λ image. rw c.refusal.ensures (header_own image c.in-Err.fault);
+  recovers =
+      let looks = only_looks _ _ _ c.read_image_header.ensures.learns c.read_image_header.ensures.disk c.read_image_header.ensures.disk_work in
+      rw c.refusal.ensures (header_unread _ _ _ _ c.in-Err.fault looks
+      (λ e. c.in-Err.ensures.only.0 (ap Err e)) (λ e. c.in-Err.ensures.only.1 (ap Err e))
+      (λ told why e. c.in-Err.ensures.first_fault told why (ap Err e))
+      (λ why e. c.in-Err.ensures.small why (ap Err e))
+      (λ e. c.in-Err.ensures.cause (ap Err e)));
+  write_fault = λ e. absurd (header_not_write c.in-Err.fault (sym c.refusal.ensures ∙ e));
+  no_disk_fault = λ other. (c.in-Err.ensures.succeeds (λ e. other (c.refusal.ensures ∙ ap header_refusal (err_same _ _ e)))).disk_faults;
+  no_write_fault = search rules;
+  memory = λ e. absurd (header_not_memory c.in-Err.fault (sym c.refusal.ensures ∙ e));
+  unwritten = search rules;
+}
 
-pub returns-in_default-clause-recovers : goal.returns-in_default-clause-recovers
-returns-in_default-clause-recovers g c =
-    let looks = only_looks _ _ _ c.read_image_header.ensures.learns c.read_image_header.ensures.disk c.read_image_header.ensures.disk_work in
-    nothing_recovered _ _ _ _ _ looks memory_not_done (λ no_fault read told. c.in-Ok.ensures.good told) (λ why e told. absurd (memory_unrefused why e))
-    (λ why e. absurd (memory_unrefused why e)) (λ no_fault read. omega (arith, c.in-Ok.ensures.whole)) (λ e. absurd (memory_not_disk e))
+pub returns-in_default : goal.returns-in_default
+returns-in_default g c = record {
+  answer = λ image. inl refl;
+  recovers =
+      let looks = only_looks _ _ _ c.read_image_header.ensures.learns c.read_image_header.ensures.disk c.read_image_header.ensures.disk_work in
+      nothing_recovered _ _ _ _ _ looks memory_not_done (λ no_fault read told. c.in-Ok.ensures.good told) (λ why e told. absurd (memory_unrefused why e))
+      (λ why e. absurd (memory_unrefused why e)) (λ no_fault read. omega (arith, c.in-Ok.ensures.whole)) (λ e. absurd (memory_not_disk e));
+  write_fault = λ e. absurd (memory_not_write e);
+  no_disk_fault = λ other. (c.in-Ok.ensures.succeeds (ok_not_err _ _)).disk_faults;
+  no_write_fault = search rules;
+  memory = λ e. record { long = omega (arith, c.in-Ok.ensures.whole); good = c.in-Ok.ensures.good };
+  unwritten = search rules;
+}
 
-pub returns-in-Ok-write_run-clause-recovers : goal.returns-in-Ok-write_run-clause-recovers
-returns-in-Ok-write_run-clause-recovers g c =
-    let looks = only_looks _ _ _ c.read_image_header.ensures.learns c.read_image_header.ensures.disk c.read_image_header.ensures.disk_work in
-    run_recovered _ _ _ _ c.in-Ok.header _ _ _ (g.met.D.Deck.sound c.args.deck.now) looks c.write_run.ensures.looks
-    c.in-Ok.ensures.read c.in-Ok.ensures.good
-    (λ done told. c.in-Ok-write_run.ensures.all told) (λ told. c.write_run.ensures.part told) c.in-Ok.ensures.whole
-    done_unrefused (c.in-Ok.ensures.succeeds (ok_not_err _ _)).disk_faults (λ e. absurd (done_not_disk e))
+pub returns-in-Ok-write_run : goal.returns-in-Ok-write_run
+returns-in-Ok-write_run g c = record {
+  answer = λ image. inr tt;
+  recovers =
+      let looks = only_looks _ _ _ c.read_image_header.ensures.learns c.read_image_header.ensures.disk c.read_image_header.ensures.disk_work in
+      run_recovered _ _ _ _ c.in-Ok.header _ _ _ (g.met.D.Deck.sound c.args.deck.now) looks c.write_run.ensures.looks
+      c.in-Ok.ensures.read c.in-Ok.ensures.good
+      (λ done told. c.in-Ok-write_run.ensures.all told) (λ told. c.write_run.ensures.part told) c.in-Ok.ensures.whole
+      done_unrefused (c.in-Ok.ensures.succeeds (ok_not_err _ _)).disk_faults (λ e. absurd (done_not_disk e));
+  write_fault = λ e. absurd (done_not_write e);
+  no_disk_fault = λ other. c.in-Ok-write_run.ensures.disk_unfailed (ok_not_err _ _) ∙ (c.in-Ok.ensures.succeeds (ok_not_err _ _)).disk_faults;
+  no_write_fault = λ other. c.in-Ok-write_run.ensures.sink_unfailed (ok_not_err _ _);
+  memory = λ e. absurd (done_not_memory e);
+  unwritten = search rules;
+}
 
-pub returns-clause-recovers : goal.returns-clause-recovers
-returns-clause-recovers g c =
-    let looks = only_looks _ _ _ c.read_image_header.ensures.learns c.read_image_header.ensures.disk c.read_image_header.ensures.disk_work in
-    let cut = λ (P : Outcome → Type 0). cut_not P c.in-Err-write_run.answer c.in-Err-write_run.ensures.answer in
-    run_recovered _ _ _ _ c.in-Ok.header _ _ c.in-Err-write_run.answer (g.met.D.Deck.sound c.args.deck.now) looks c.write_run.ensures.looks
-    c.in-Ok.ensures.read c.in-Ok.ensures.good
-    (λ done told. absurd (cut (λ (a : Outcome). a ≡ outcome.Done → ⊥) disk_not_done write_not_done done))
-    (λ told. c.write_run.ensures.part told) c.in-Ok.ensures.whole
-    (λ why. cut (λ (a : Outcome). a ≡ outcome.ImageRefused why → ⊥) (disk_unrefused why) (write_unrefused why))
-    (c.in-Ok.ensures.succeeds (ok_not_err _ _)).disk_faults
-    (λ e. c.write_run.ensures.disk_fault (c.in-Err-write_run.is ∙ ap Err e))
-
-pub returns-in_default-clause-memory : goal.returns-in_default-clause-memory
-returns-in_default-clause-memory g c = λ e. record { long = omega (arith, c.in-Ok.ensures.whole); good = c.in-Ok.ensures.good }
-
-pub returns-in-Err-clause-memory : goal.returns-in-Err-clause-memory
-returns-in-Err-clause-memory g c = λ e. absurd (header_not_memory c.in-Err.fault (sym c.refusal.ensures ∙ e))
-
-pub returns-clause-memory : goal.returns-clause-memory
-returns-clause-memory g c = λ is. absurd (cut_not (λ (a : Outcome). a ≡ outcome.NoMemory → ⊥) c.in-Err-write_run.answer c.in-Err-write_run.ensures.answer
-    disk_not_memory write_not_memory is)
-
--- ---- which answers there are
-
-pub returns-in-Err-clause-answer : goal.returns-in-Err-clause-answer
-returns-in-Err-clause-answer g c = λ image. rw c.refusal.ensures (header_own image c.in-Err.fault)
-
-pub returns-in_default-clause-answer : goal.returns-in_default-clause-answer
-returns-in_default-clause-answer g c = λ image. inl refl
-
-pub returns-in-Ok-write_run-clause-answer : goal.returns-in-Ok-write_run-clause-answer
-returns-in-Ok-write_run-clause-answer g c = λ image. inr tt
-
-pub returns-clause-answer : goal.returns-clause-answer
-returns-clause-answer g c = λ image. inr (cut_not (IsOwn (recover_image image)) c.in-Err-write_run.answer c.in-Err-write_run.ensures.answer tt tt)
-
--- ---- what was counted
-
-pub returns-in-Err-clause-write_fault : goal.returns-in-Err-clause-write_fault
-returns-in-Err-clause-write_fault g c = λ e. absurd (header_not_write c.in-Err.fault (sym c.refusal.ensures ∙ e))
-
-pub returns-in-Err-clause-no_disk_fault : goal.returns-in-Err-clause-no_disk_fault
-returns-in-Err-clause-no_disk_fault g c = λ other.
-    (c.in-Err.ensures.succeeds (λ e. other (c.refusal.ensures ∙ ap header_refusal (err_same _ _ e)))).disk_faults
-
-pub returns-in_default-clause-write_fault : goal.returns-in_default-clause-write_fault
-returns-in_default-clause-write_fault g c = λ e. absurd (memory_not_write e)
-
-pub returns-in_default-clause-no_disk_fault : goal.returns-in_default-clause-no_disk_fault
-returns-in_default-clause-no_disk_fault g c = λ other. (c.in-Ok.ensures.succeeds (ok_not_err _ _)).disk_faults
-
-pub returns-in-Ok-write_run-clause-write_fault : goal.returns-in-Ok-write_run-clause-write_fault
-returns-in-Ok-write_run-clause-write_fault g c = λ e. absurd (done_not_write e)
-
-pub returns-in-Ok-write_run-clause-no_disk_fault : goal.returns-in-Ok-write_run-clause-no_disk_fault
-returns-in-Ok-write_run-clause-no_disk_fault g c = λ other.
-    c.in-Ok-write_run.ensures.disk_unfailed (ok_not_err _ _) ∙ (c.in-Ok.ensures.succeeds (ok_not_err _ _)).disk_faults
-
-pub returns-in-Ok-write_run-clause-no_write_fault : goal.returns-in-Ok-write_run-clause-no_write_fault
-returns-in-Ok-write_run-clause-no_write_fault g c = λ other. c.in-Ok-write_run.ensures.sink_unfailed (ok_not_err _ _)
-
-pub returns-in-Ok-write_run-clause-memory : goal.returns-in-Ok-write_run-clause-memory
-returns-in-Ok-write_run-clause-memory g c = λ e. absurd (done_not_memory e)
-
-pub returns-clause-write_fault : goal.returns-clause-write_fault
-returns-clause-write_fault g c = λ e. c.write_run.ensures.write_fault (c.in-Err-write_run.is ∙ ap Err e)
-
-pub returns-clause-no_disk_fault : goal.returns-clause-no_disk_fault
-returns-clause-no_disk_fault g c = λ other.
-    c.write_run.ensures.disk_unfailed (λ e. other (err_same _ _ (sym c.in-Err-write_run.is ∙ e))) ∙ (c.in-Ok.ensures.succeeds (ok_not_err _ _)).disk_faults
-
-pub returns-clause-no_write_fault : goal.returns-clause-no_write_fault
-returns-clause-no_write_fault g c = λ other. c.write_run.ensures.sink_unfailed (λ e. other (err_same _ _ (sym c.in-Err-write_run.is ∙ e)))
-
-pub returns-clause-unwritten : goal.returns-clause-unwritten
-returns-clause-unwritten g c = λ done sink disk. absurd (⊎_elim disk sink c.in-Err-write_run.ensures.answer)
+pub returns : goal.returns
+returns g c = record {
+  answer = λ image. inr (cut_not (IsOwn (recover_image image)) c.in-Err-write_run.answer c.in-Err-write_run.ensures.answer tt tt);
+  recovers =
+      let looks = only_looks _ _ _ c.read_image_header.ensures.learns c.read_image_header.ensures.disk c.read_image_header.ensures.disk_work in
+      let cut = λ (P : Outcome → Type 0). cut_not P c.in-Err-write_run.answer c.in-Err-write_run.ensures.answer in
+      run_recovered _ _ _ _ c.in-Ok.header _ _ c.in-Err-write_run.answer (g.met.D.Deck.sound c.args.deck.now) looks c.write_run.ensures.looks
+      c.in-Ok.ensures.read c.in-Ok.ensures.good
+      (λ done told. absurd (cut (λ (a : Outcome). a ≡ outcome.Done → ⊥) disk_not_done write_not_done done))
+      (λ told. c.write_run.ensures.part told) c.in-Ok.ensures.whole
+      (λ why. cut (λ (a : Outcome). a ≡ outcome.ImageRefused why → ⊥) (disk_unrefused why) (write_unrefused why))
+      (c.in-Ok.ensures.succeeds (ok_not_err _ _)).disk_faults
+      (λ e. c.write_run.ensures.disk_fault (c.in-Err-write_run.is ∙ ap Err e));
+  write_fault = λ e. c.write_run.ensures.write_fault (c.in-Err-write_run.is ∙ ap Err e);
+  no_disk_fault = λ other.
+      c.write_run.ensures.disk_unfailed (λ e. other (err_same _ _ (sym c.in-Err-write_run.is ∙ e))) ∙ (c.in-Ok.ensures.succeeds (ok_not_err _ _)).disk_faults;
+  no_write_fault = λ other. c.write_run.ensures.sink_unfailed (λ e. other (err_same _ _ (sym c.in-Err-write_run.is ∙ e)));
+  memory = λ is. absurd (cut_not (λ (a : Outcome). a ≡ outcome.NoMemory → ⊥) c.in-Err-write_run.answer c.in-Err-write_run.ensures.answer
+      disk_not_memory write_not_memory is);
+  unwritten = λ done sink disk. absurd (⊎_elim disk sink c.in-Err-write_run.ensures.answer);
+}

@@ -1,4 +1,4 @@
-use Rattle.std.proofs.Common.{◌≡◌, ◌⊎◌, ⊎_elim, ℕ, List, [], Option, take, ◌∙◌, ap, inl, inr, refl, subst, sym, Err}
+use Rattle.std.proofs.Common.{◌≡◌, ◌⊎◌, ⊎_elim, ℕ, List, [], Option, take, ◌∙◌, ap, inl, inr, refl, subst, sym, Err, rules}
 use Rattle.std.specs.Prelude.{IsTrue}
 use Rattle.fdr_io.specs.Told.{followed_by}
 use Rattle.fdr_deck.specs.Moments.{IsSoundDeck}
@@ -20,8 +20,6 @@ use Rattle.fdr_top.proofs.Results.{err_same, memory_not_disk, memory_not_write, 
 use Rattle.fdr_top.proofs.Salvages.{opening_own, readable_kept, refuses_by_nothing, runs_salvaged, unsalvaged}
 use Rattle.fdr_top.proofs.salvaging.salvage_image.Goals as goal
 
--- ---- where the runs are looked for
-
 -- they are listed, or memory ended before
 found_salvaged : (t : TableRows) (ring : Option (ℕ × ℕ)) (tells : Tells) (old mid new : State) (r : ImageReader) (before now : Option (List ℕ))
     (answer : Outcome) → IsSoundDeck tells old → OnlyLooks tells old mid → Looks tells mid new → IsOpenedBy ring t tells old mid r
@@ -40,80 +38,51 @@ pub list_found-requires-clause-reads : goal.list_found-requires-clause-reads
 list_found-requires-clause-reads g c =
     rw c.table.ensures (decided_past c.args.sound.now.frame.words [], c.in-Ok.ensures.opened.fresh)
 
-pub returns-clause-answer : goal.returns-clause-answer
-returns-clause-answer g c = λ path image. ⊎_elim
-    (λ none. inl none)
-    (λ of. inr (of_blocks_salvage path image c.args.ring c.list_found.result of))
-    c.list_found.ensures.answer
+pub returns : goal.returns
+returns g c = record {
+  answer = λ path image. ⊎_elim
+      (λ none. inl none)
+      (λ of. inr (of_blocks_salvage path image c.args.ring c.list_found.result of))
+      c.list_found.ensures.answer;
+  salvages = found_salvaged c.args.sound.now c.args.ring _ _ _ _ c.in-Ok.reader _ _ c.list_found.result
+      (g.met.D.Deck.sound c.args.deck.now) c.open_by.ensures.looks c.list_found.ensures.looks c.in-Ok.ensures.opened c.list_found.ensures.answer
+      (rw c.table.ensures at c.list_found.ensures.text) (rw c.table.ensures at c.list_found.ensures.part)
+      (λ none. ap g.O.Sink.written (c.list_found.ensures.no_memory none));
+  disk_fault = λ fails. rose_later _ _ _ c.open_by.ensures.looks.disk_work.passes.disk_faults (c.list_found.ensures.disk_fault fails);
+  write_fault = c.list_found.ensures.write_fault;
+  no_disk_fault = λ other. c.list_found.ensures.no_disk_fault other ∙ c.in-Ok.ensures.no_disk_fault (ok_not_err _ _);
+  no_write_fault = c.list_found.ensures.no_write_fault;
+  memory = λ e. readable_kept c.args.ring _ _ _ _ c.list_found.ensures.looks.extent c.in-Ok.ensures.opened.readable;
+  unwritten = λ nothing. ⊎_elim
+      (λ none. c.list_found.ensures.no_memory none)
+      (λ of. absurd (of_blocks_begun c.list_found.result of nothing))
+      c.list_found.ensures.answer;
+}
 
-pub returns-clause-salvages : goal.returns-clause-salvages
-returns-clause-salvages g c = found_salvaged c.args.sound.now c.args.ring _ _ _ _ c.in-Ok.reader _ _ c.list_found.result
-    (g.met.D.Deck.sound c.args.deck.now) c.open_by.ensures.looks c.list_found.ensures.looks c.in-Ok.ensures.opened c.list_found.ensures.answer
-    (rw c.table.ensures at c.list_found.ensures.text) (rw c.table.ensures at c.list_found.ensures.part)
-    (λ none. ap g.O.Sink.written (c.list_found.ensures.no_memory none))
+-- where the image isn't opened
+pub returns-in-Err : goal.returns-in-Err
+returns-in-Err g c = record {
+  answer = λ path image. opening_own path image c.args.ring c.args.sound.now _ _ _ c.in-Err.answer c.in-Err.ensures.shut c.in-Err.ensures.refused;
+  salvages = unsalvaged c.args.sound.now c.args.ring _ _ _ _ c.in-Err.answer c.open_by.ensures.looks c.in-Err.ensures.shut c.in-Err.ensures.refused;
+  disk_fault = λ e. c.in-Err.ensures.disk_fault (ap Err e);
+  write_fault = λ e. absurd (shut_unwritten c.in-Err.answer c.in-Err.ensures.shut e);
+  no_disk_fault = λ other. c.in-Err.ensures.no_disk_fault (λ e. other (err_same _ _ e));
+  no_write_fault = search rules;
+  memory = c.in-Err.ensures.memory;
+  unwritten = search rules;
+}
 
-pub returns-clause-disk_fault : goal.returns-clause-disk_fault
-returns-clause-disk_fault g c = λ fails.
-    rose_later _ _ _ c.open_by.ensures.looks.disk_work.passes.disk_faults (c.list_found.ensures.disk_fault fails)
-
-pub returns-clause-write_fault : goal.returns-clause-write_fault
-returns-clause-write_fault g c = c.list_found.ensures.write_fault
-
-pub returns-clause-no_disk_fault : goal.returns-clause-no_disk_fault
-returns-clause-no_disk_fault g c = λ other. c.list_found.ensures.no_disk_fault other ∙ c.in-Ok.ensures.no_disk_fault (ok_not_err _ _)
-
-pub returns-clause-no_write_fault : goal.returns-clause-no_write_fault
-returns-clause-no_write_fault g c = c.list_found.ensures.no_write_fault
-
-pub returns-clause-memory : goal.returns-clause-memory
-returns-clause-memory g c = λ e. readable_kept c.args.ring _ _ _ _ c.list_found.ensures.looks.extent c.in-Ok.ensures.opened.readable
-
-pub returns-clause-unwritten : goal.returns-clause-unwritten
-returns-clause-unwritten g c = λ nothing. ⊎_elim
-    (λ none. c.list_found.ensures.no_memory none)
-    (λ of. absurd (of_blocks_begun c.list_found.result of nothing))
-    c.list_found.ensures.answer
-
--- ---- where the image isn't opened
-
-pub returns-in-Err-clause-answer : goal.returns-in-Err-clause-answer
-returns-in-Err-clause-answer g c = λ path image.
-    opening_own path image c.args.ring c.args.sound.now _ _ _ c.in-Err.answer c.in-Err.ensures.shut c.in-Err.ensures.refused
-
-pub returns-in-Err-clause-salvages : goal.returns-in-Err-clause-salvages
-returns-in-Err-clause-salvages g c =
-    unsalvaged c.args.sound.now c.args.ring _ _ _ _ c.in-Err.answer c.open_by.ensures.looks c.in-Err.ensures.shut c.in-Err.ensures.refused
-
-pub returns-in-Err-clause-disk_fault : goal.returns-in-Err-clause-disk_fault
-returns-in-Err-clause-disk_fault g c = λ e. c.in-Err.ensures.disk_fault (ap Err e)
-
-pub returns-in-Err-clause-write_fault : goal.returns-in-Err-clause-write_fault
-returns-in-Err-clause-write_fault g c = λ e. absurd (shut_unwritten c.in-Err.answer c.in-Err.ensures.shut e)
-
-pub returns-in-Err-clause-no_disk_fault : goal.returns-in-Err-clause-no_disk_fault
-returns-in-Err-clause-no_disk_fault g c = λ other. c.in-Err.ensures.no_disk_fault (λ e. other (err_same _ _ e))
-
-pub returns-in-Err-clause-memory : goal.returns-in-Err-clause-memory
-returns-in-Err-clause-memory g c = c.in-Err.ensures.memory
-
--- ---- where there is no room for lines
-
-pub returns-in_default-clause-answer : goal.returns-in_default-clause-answer
-returns-in_default-clause-answer g c = λ path image. inl refl
-
-pub returns-in_default-clause-salvages : goal.returns-in_default-clause-salvages
-returns-in_default-clause-salvages g c =
-    unsalvaged c.args.sound.now c.args.ring _ _ _ _ outcome.NoMemory c.open_by.ensures.looks tt
-    (refuses_by_nothing c.args.ring _ _ _ _ outcome.NoMemory (λ past. past))
-
-pub returns-in_default-clause-disk_fault : goal.returns-in_default-clause-disk_fault
-returns-in_default-clause-disk_fault g c = λ e. absurd (memory_not_disk e)
-
-pub returns-in_default-clause-write_fault : goal.returns-in_default-clause-write_fault
-returns-in_default-clause-write_fault g c = λ e. absurd (memory_not_write e)
-
-pub returns-in_default-clause-no_disk_fault : goal.returns-in_default-clause-no_disk_fault
-returns-in_default-clause-no_disk_fault g c = λ other. c.in-Ok.ensures.no_disk_fault (ok_not_err _ _)
-
-pub returns-in_default-clause-memory : goal.returns-in_default-clause-memory
-returns-in_default-clause-memory g c = λ e. c.in-Ok.ensures.opened.readable
+-- where there is no room for lines
+pub returns-in_default : goal.returns-in_default
+returns-in_default g c = record {
+  answer = λ path image. inl refl;
+  salvages =
+      unsalvaged c.args.sound.now c.args.ring _ _ _ _ outcome.NoMemory c.open_by.ensures.looks tt
+      (refuses_by_nothing c.args.ring _ _ _ _ outcome.NoMemory (λ past. past));
+  disk_fault = λ e. absurd (memory_not_disk e);
+  write_fault = λ e. absurd (memory_not_write e);
+  no_disk_fault = λ other. c.in-Ok.ensures.no_disk_fault (ok_not_err _ _);
+  no_write_fault = search rules;
+  memory = λ e. c.in-Ok.ensures.opened.readable;
+  unwritten = search rules;
+}

@@ -1,10 +1,11 @@
-use Rattle.std.proofs.Common.{◌∙◌, Err, [], ◌∷◌, ℕ, ap, arith, refl}
-use Rattle.std.proofs.lemmas.Result.{err_from_is_err_and}
-use Rattle.fdr_io.proofs.OutputSteps.{failed_or_not}
+use Rattle.std.proofs.Common.{◌≡◌, ◌∙◌, ℕ, Some, [], ◌∷◌, ap, arith, rules}
+use Rattle.std.specs.Prelude.{IsTrue}
 use Rattle.fdr_deck.specs.Disk.{patched}
+use Rattle.fdr_deck.proofs.Composing.{refusal}
 use Rattle.fdr_slot.proofs.HeaderLemmas.{in_limits-is}
+use Rattle.fdr_recover.specs.Blocks.{Block}
+use Rattle.fdr_ring.specs.Gates.{image_with_open_gate, waiting_block}
 use Rattle.fdr_ring.specs.Rings.{IsCommitting, ChangesImage}
-use Rattle.fdr_ring.proofs.Results.{no_ok}
 use Rattle.fdr_ring.proofs.Committed.{committing_deck, committing_quiet, committed, committed_ring}
 use Rattle.fdr_ring.proofs.ring.Prepared.commit.Given.{Over}
 use Rattle.fdr_ring.proofs.ring.Prepared.commit.Goals.{After-open_gate}
@@ -21,94 +22,25 @@ changes g c = record {
       c.requires c.gate_at.ensures.at c.open_gate.ensures.changes.disk_work;
 }
 
-pub returns-in_err-open_gate-clause-changes : goal.returns-in_err-open_gate-clause-changes
-returns-in_err-open_gate-clause-changes g c = changes g (goal.at.returns-in_err-open_gate-clause-changes g c).After-open_gate
-
-pub returns-clause-changes : goal.returns-clause-changes
-returns-clause-changes g c = changes g (goal.at.returns-clause-changes g c).After-open_gate
-
-pub returns-clause-held : goal.returns-clause-held
-returns-clause-held g c told =
-    c.in_ok-open_gate.ensures.written told ∙ ap
-    (λ (at : ℕ). patched at (0x5a ∷ []) (g.D.Deck.state c.args.deck.now).held) c.gate_at.ensures.at
-
-pub returns-clause-added : goal.returns-clause-added
-returns-clause-added g c told b waits =
-    committed c.args.self.header c.args.self.next b _ _ (in_limits-is c.args.self.header c.args.self.limits)
-    (c.requires.ring.next told) (c.requires.ring.closed told)
-    (omega (arith, c.requires.ring.extent, (g.met.D.Deck.sound c.args.deck.now).size told)) waits
-    (returns-clause-held g c told)
-
-pub returns-clause-fact : goal.returns-clause-fact
-returns-clause-fact g c =
-    committed_ring _ c.args.self.header c.args.self.next _ _ (in_limits-is c.args.self.header c.args.self.limits)
-    (g.met.D.Deck.sound c.args.deck.now)
-    c.requires c.open_gate.ensures.changes.extent (returns-clause-held g c) c.in_ok-open_gate.ensures.settled
-
 -- the gate was not opened
-pub returns-in_err-open_gate-clause-only : goal.returns-in_err-open_gate-clause-only
-returns-in_err-open_gate-clause-only g c =
-    let r = c.from_residual.result in
-    let p = err_from_is_err_and r c.from_residual.ensures.1 in
-    failed_or_not r (p.1 ∙ ap Err p.2)
-
-pub returns-in_err-open_gate-clause-ring : goal.returns-in_err-open_gate-clause-ring
-returns-in_err-open_gate-clause-ring g c =
-    let r = c.from_residual.result in
-    let p = err_from_is_err_and r c.from_residual.ensures.1 in
-    no_ok _ r p.0 p.1
-
-pub returns-in_err-open_gate-clause-held : goal.returns-in_err-open_gate-clause-held
-returns-in_err-open_gate-clause-held g c =
-    let r = c.from_residual.result in
-    let p = err_from_is_err_and r c.from_residual.ensures.1 in
-    no_ok _ r p.0 p.1
-
-pub returns-in_err-open_gate-clause-fact : goal.returns-in_err-open_gate-clause-fact
-returns-in_err-open_gate-clause-fact g c =
-    let r = c.from_residual.result in
-    let p = err_from_is_err_and r c.from_residual.ensures.1 in
-    no_ok _ r p.0 p.1
-
-pub returns-in_err-open_gate-clause-added : goal.returns-in_err-open_gate-clause-added
-returns-in_err-open_gate-clause-added g c =
-    let r = c.from_residual.result in
-    let p = err_from_is_err_and r c.from_residual.ensures.1 in
-    no_ok _ r p.0 p.1
-
-pub returns-in_err-open_gate-clause-settled : goal.returns-in_err-open_gate-clause-settled
-returns-in_err-open_gate-clause-settled g c =
-    let r = c.from_residual.result in
-    let p = err_from_is_err_and r c.from_residual.ensures.1 in
-    no_ok _ r p.0 p.1
-
-pub returns-in_err-open_gate-clause-succeeds : goal.returns-in_err-open_gate-clause-succeeds
-returns-in_err-open_gate-clause-succeeds g c =
-    let r = c.from_residual.result in
-    let p = err_from_is_err_and r c.from_residual.ensures.1 in
-    no_ok _ r p.0 p.1
-
-pub returns-in_err-open_gate-clause-cause : goal.returns-in_err-open_gate-clause-cause
-returns-in_err-open_gate-clause-cause g c = failed_or_not c.from_residual.result c.in_err-open_gate.ensures.cause
-
-pub returns-in_err-open_gate-clause-rest : goal.returns-in_err-open_gate-clause-rest
-returns-in_err-open_gate-clause-rest g c = c.open_gate.ensures.rest
+pub returns-in_err-open_gate : goal.returns-in_err-open_gate
+returns-in_err-open_gate g c =
+    rw (refusal _ _ c.from_residual.ensures.1)
+    (search (rules, changes g (goal.at.returns-in_err-open_gate g c).After-open_gate, c.in_err-open_gate.ensures))
 
 -- it was opened
-pub returns-clause-only : goal.returns-clause-only
-returns-clause-only g c = tt
-
-pub returns-clause-ring : goal.returns-clause-ring
-returns-clause-ring g c = (refl, refl, refl)
-
-pub returns-clause-settled : goal.returns-clause-settled
-returns-clause-settled g c = c.in_ok-open_gate.ensures.settled
-
-pub returns-clause-succeeds : goal.returns-clause-succeeds
-returns-clause-succeeds g c = c.in_ok-open_gate.ensures.succeeds
-
-pub returns-clause-cause : goal.returns-clause-cause
-returns-clause-cause g c = tt
-
-pub returns-clause-rest : goal.returns-clause-rest
-returns-clause-rest g c = c.open_gate.ensures.rest
+pub returns : goal.returns
+returns g c =
+    let h = c.args.self.header in
+    let number = c.args.self.next in
+    let old = g.D.Deck.state c.args.deck.now in
+    let new = g.D.Deck.state c.open_gate.new.deck in
+    let limits = in_limits-is h c.args.self.limits in
+    let sound = g.met.D.Deck.sound c.args.deck.now in
+    let held : IsTrue g.D.Deck.tells.bytes → new.held ≡ image_with_open_gate h old.held number =
+    λ told. c.in_ok-open_gate.ensures.written told ∙ ap (λ (at : ℕ). patched at (0x5a ∷ []) old.held) c.gate_at.ensures.at in
+    let added = λ (told : IsTrue g.D.Deck.tells.bytes) (b : Block) (waits : waiting_block h old.held number ≡ Some b).
+    committed h number b old.held new.held limits (c.requires.ring.next told) (c.requires.ring.closed told)
+    (omega (arith, c.requires.ring.extent, sound.size told)) waits (held told) in
+    let fact = committed_ring _ h number old new limits sound c.requires c.open_gate.ensures.changes.extent held c.in_ok-open_gate.ensures.settled in
+    search (rules, changes g (goal.at.returns g c).After-open_gate, held, added, fact, c.in_ok-open_gate.ensures)
