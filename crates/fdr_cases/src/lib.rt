@@ -132,8 +132,12 @@ fn ran_with(
     ran_over(alloc, &words, &mut table, deck, given.writes)
 }
 
-// The deck that a command leaves, with what the command answered and wrote.
-fn ran_on(alloc: Global, words: &[&str], given: Given<'_>) -> Result<(Ran, MemDeck), AllocError> {
+/// The deck that a command leaves, with what the command answered and wrote.
+pub fn ran_on(
+    alloc: Global,
+    words: &[&str],
+    given: Given<'_>,
+) -> Result<(Ran, MemDeck), AllocError> {
     let mut deck = deck_of(alloc, given.image, given.line, given.calls)?;
     let ran = ran_with(alloc, words, given, &mut deck)?;
     Ok((ran, deck))
