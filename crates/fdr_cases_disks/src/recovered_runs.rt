@@ -140,6 +140,39 @@ fn finds_the_run(rt: HostRuntime) {
     }
 }
 
+/// Eight slots with blocks 2, 3, 4, 7 and 8 of the sessions of their numbers; the gates of 1, 5 and 6 are closed.
+const BROKEN: &[Slot] = &[
+    (true, 64, 8, 8),
+    (false, 64, 1, 1),
+    (true, 64, 2, 2),
+    (true, 64, 3, 3),
+    (true, 64, 4, 4),
+    (false, 64, 5, 5),
+    (false, 64, 6, 6),
+    (true, 64, 7, 7),
+];
+
+#[test]
+fn finds_the_run_that_ends_at_the_greatest(rt: HostRuntime) {
+    let eight = Header { slots: 8, ..SMALL };
+    let eight_first = Header {
+        slots: 8,
+        ..SMALL_FIRST
+    };
+    let image = image_of(&rt, BROKEN);
+    assert!(rt; image.len() == 704);
+    let mut deck = SureDeck::new(image, Vec::new(rt.alloc()));
+    let run = Found {
+        first: 7,
+        next: 9,
+        session: 8,
+    };
+    let run_first = Found { session: 0, ..run };
+    assert!(rt;
+        scan(&mut deck, &eight) == Ok(run) && scan(&mut deck, &eight_first) == Ok(run_first)
+    );
+}
+
 /// What is given of the block with this number of an image, and its payload before zeros.
 fn given_of(
     rt: &(impl Abort + AllocGlobal),

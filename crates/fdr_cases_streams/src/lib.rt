@@ -11,6 +11,8 @@ mod command_lines;
 #[cfg(test)]
 mod generated_traces;
 #[cfg(test)]
+mod limits;
+#[cfg(test)]
 mod loads;
 #[cfg(test)]
 mod recordings;

@@ -287,6 +287,19 @@ fn values_are_rounded_down(rt: HostRuntime) {
     );
 }
 
+/// An altitude whose values are half of its twelve bits, with their sign, in tenths.
+const HALVES: &[u8] = b"F,64,2,1\nP,ALT,0,203,,11,12,S,1,2,0,1,16\nL,ALT,1,1,10,0,1,12,0,1\n";
+
+#[test]
+fn half_of_minus_one_is_minus_one_tenth(rt: HostRuntime) {
+    let table = Table::read(rt.alloc(), HALVES).expect(&rt, "a table");
+    assert!(rt;
+        matches!(table.params(), [param] if param.decimals == 1)
+            && first_value(&rt, HALVES, 0xFFF) == -1
+            && first_value(&rt, HALVES, 0) == 0
+    );
+}
+
 #[test]
 fn values_at_the_limits(rt: HostRuntime) {
     let highest: &[u8] = b"F,64,2,1\nP,A,0,1,,1,32,U,1000000000,1,1000000000000000,0,1\n";

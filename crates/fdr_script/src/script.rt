@@ -220,7 +220,7 @@ fn whole(alloc: Global, files: &Files, tokens: &str, body: &str) -> Result<Vec<u
     bytes_of(alloc, files, all.as_str(), 0)
 }
 
-/// What the commands of a line give, one after the other, where `N` is this number.
+/// What the commands of a line give, one after the other, where `N` is this number. After one that has no such call none is run.
 fn once<R: Runner>(
     alloc: Global,
     runner: &R,
@@ -231,6 +231,9 @@ fn once<R: Runner>(
     let mut block = Vec::new(alloc);
     for part in line.split("; ") {
         do_part(alloc, runner, files, part, n, &mut block)?;
+        if block.starts_with(NO_SUCH_CALL) {
+            break;
+        }
     }
     Ok(block)
 }
