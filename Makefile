@@ -35,10 +35,13 @@ demo:
 		--data damaged.img=../../examples/damaged.img --data headless.img=../../examples/headless.img \
 		--data old.img=../../examples/old.img
 
-# Checks the documents and the images of examples/ against what they are made from: two seconds.
+# Checks the documents, the images of examples/ and the cases against what they are made from, and does the cases by a
+# second reader: four seconds.
 check:
 	tools/documents.py check
 	examples/make_images.py --check
+	tests/case_tables.py --check
+	tests/cases.py
 
 # Goes the walk of examples/ with the built programs, and compares what they print with what the three pages show.
 walk: build

@@ -1,4 +1,4 @@
-//! Each answer's status and text. `fdr_cases_commands` has the text of each fault of a table and of a trace.
+//! Each answer's status and text. The cases of whole commands have the text of each fault of a table and of a trace.
 
 use fdr_bus::TraceFault;
 use fdr_io::Input;

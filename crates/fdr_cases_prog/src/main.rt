@@ -3,9 +3,10 @@
 #![tactic(auto)]
 
 mod answers;
+mod objects;
 mod run;
 
-use fdr_script::{Wrong, said_of};
+use fdr_cases_script::{Wrong, said_of};
 use run::InMemory;
 use std::io::Write;
 use std::{env, fs, io};

@@ -1,10 +1,10 @@
 //! What a command of a script gives and leaves.
 
 use crate::answers::{ANSWERS, LAST_ROW, TABLE_FAULTS};
-use fdr_cases::{Given, Ran, ran_on, stopped, words_of};
+use crate::objects::{Given, Ran, ran_on, stopped, words_of};
+use fdr_cases_script::{Command, Files, Left, NO_SUCH_CALL, Runner, Wrong};
 use fdr_deck::{Deck, MemDeck, SureDeck, Tear};
 use fdr_io::{NullSink, SureSource};
-use fdr_script::{Command, Files, Left, NO_SUCH_CALL, Runner, Wrong};
 use fdr_sure::sure_command;
 use fdr_top::Outcome;
 use fdr_words::{Request, WordsFault, read_words};

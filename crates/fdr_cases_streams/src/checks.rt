@@ -1,4 +1,4 @@
-//! Worked checks of tables and a report. `fdr_cases_commands` has each fault and other reports, by the command.
+//! Worked checks of tables and a report. The cases of whole commands have each fault and other reports.
 
 use fdr_check::{check, report};
 use fdr_table::{Refusal, Table, TableError, TableFault};

@@ -1,4 +1,4 @@
-//! The texts of faults. `fdr_cases_commands` has each of them, with the name of the program `fdr`.
+//! The texts of faults. The cases of whole commands have each of them, with the name of the program `fdr`.
 
 use fdr_bus::TraceFault;
 use fdr_messages::{image_message, table_message, trace_message, words_message};
