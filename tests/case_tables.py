@@ -220,7 +220,7 @@ class Base(NamedTuple):
     def is_drill(self) -> bool:
         return self.words.startswith("drill")
 
-    def bytes(self) -> bytes:
+    def blocks(self) -> bytes:
         return bytes_of({"zeros": ZEROS, "five": FIVE}, self.stream)
 
     def ring(self) -> bytes:
@@ -229,7 +229,7 @@ class Base(NamedTuple):
         return recording(fresh, FIVE).image if self.began else fresh
 
     def run(self) -> Run:
-        own = self.bytes()[self.began * self.block :]
+        own = self.blocks()[self.began * self.block :]
         return drilling(self.ring(), own) if self.is_drill() else recording(self.ring(), own)
 
     def command(self) -> str:
@@ -399,6 +399,8 @@ def stops_of_upgrade() -> Iterator[str]:
     blocks = [("[old.img changed]\n" if number > 2 else "") + DISK_FAULT for number in range(len(run.calls))]
     yield line(f"N=0..{len(run.calls) + 1} calls=N fdr upgrade old.img", blocks_of(0, [*blocks, "[old.img changed]\n"]))
     yield line(f"N=0..{len(run.calls)} calls=N stop=N+1:old fdr upgrade old.img", blocks_of(0, [NO_SUCH_CALL] * len(run.calls)))
+    yield "# Of version 2 nothing is written: the size, the header and a sync.\n"
+    yield line("N=0..4 stop=N:00 fdr upgrade five.img; five.img is @header size=64 @five.img[64..1344]", blocks_of(0, ["", "", "", NO_SUCH_CALL]))
 
 
 def faults_of_listing() -> Iterator[str]:
