@@ -36,7 +36,7 @@ demo:
 		--data old.img=../../examples/old.img
 
 # Checks the documents, the images of examples/ and the cases against what they are made from, and does the cases by a
-# second reader: four seconds.
+# second reader: seven seconds.
 check:
 	tools/documents.py check
 	examples/make_images.py --check
