@@ -3,9 +3,8 @@
 
     tests/cases.py
 
-docs/TESTS.md says what a script is. What is compared is each line in which no call fails and nothing is stopped, on files that no
-such line has left, and of what isn't there the names of all cases with what the program is to write. It ends with 0 where
-nothing differs.
+docs/CASES.md says what a script is. Compared is each line in which no call fails and nothing is stopped, on files that no other line
+has left, and the names of the cases with what the program is to write. It ends with 0 where nothing differs.
 """
 
 from __future__ import annotations
