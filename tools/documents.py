@@ -3,6 +3,8 @@
 
     tools/documents.py write    writes docs/clauses/CRATE.md and the marked parts of docs/MODEL.md and docs/model/ anew
     tools/documents.py check    prints what differs, and ends with 1 where something does
+    tools/documents.py diff REV prints which public clauses and definitions of that revision are gone, new, changed or moved, by
+                                crate, and ends with 1 where one is
 
 A marked part of a page stands between its mark and `<!-- end -->`. `<!-- definitions of CRATE -->` has a table of the public
 definitions of the crate's specs/, each with the comment above it. `<!-- pages of docs/model -->` has a table of these pages.
@@ -11,7 +13,7 @@ at the names in the column before; its other columns are written by hand, as all
 
 The check wants:
 
-- the pages of docs/clauses, and the marked parts, to be as the source says;
+- the pages of docs/clauses, and the marked parts, to be as the source says, and each contract that was read to be whole;
 - each public definition of specs/ to have a comment that stands by itself, and its crate to be in one page of docs/model;
 - docs/MODEL.md to name the recursive definitions, and to begin at none of which the contract of `run` doesn't speak;
 - each name in `these marks` of docs/COMMANDS.md, docs/GUARANTEES.md, docs/LAYERS.md, docs/MODEL.md and docs/model to be one of
@@ -40,7 +42,14 @@ import re
 import shutil
 import subprocess
 import sys
-from typing import NamedTuple
+from collections.abc import Iterable, Iterator
+
+sys.dont_write_bytecode = True
+
+from sources.contracts import clauses, faults_of_contracts, functions, public_calls
+from sources.crates import crate_lines, crate_names, source_files
+from sources.definitions import Key, all_definitions, by_key, imports, is_recursive, names_in, reached_from
+from sources.differences import differences_from
 
 TOP = pathlib.Path(__file__).resolve().parent.parent
 CRATES = TOP / "crates"
@@ -53,197 +62,22 @@ MOST_COLUMNS = 160
 MOST_COMMENT_COLUMNS = 130
 MOST_LINES = 299
 MOST_LINES_IN_ALL = 999
+Known = tuple[str, str | None, str, set[str]]  # a public function: its crate, its owner or none, its name, its `ensures` clauses
 OUTSIDE = {"TABLE", "IMAGE", "flock"}
 
 
-def crate_lines():
-    """The crates in the order of crates.txt, each with what it stands on."""
-    for line in (TOP / "crates.txt").read_text().splitlines():
-        line = line.split("#")[0].strip()
-        if line:
-            name, needs = line.split(":")
-            yield name.strip(), needs.split()
-
-
-def source_files(crate):
-    """The source files of a crate but its tests, the root file first and then by name."""
-    source = CRATES / crate / "src"
-    files = [path for path in source.rglob("*.rt") if path.name != "tests.rt" and "tests" not in path.parts]
-    return sorted(files, key=lambda path: (path.name not in ("lib.rt", "main.rt"), path.as_posix()))
-
-
-def exported(crate):
-    """The names that a crate's root file hands out."""
-    names = set()
-    for path in source_files(crate)[:1]:
-        text = path.read_text()
-        for group in re.findall(r"^pub use ([^;]*);", text, re.M):
-            names.update(re.findall(r"\w+", group.split("::", 1)[-1]))
-        names.update(re.findall(r"^pub (?:const fn|fn|struct|enum|trait) (\w+)", text, re.M))
-    return names
-
-
-def owner_of(line):
-    """The type or trait whose block a line begins, and whether all functions in it are public."""
-    trait = re.match(r"pub trait (\w+)", line)
-    if trait:
-        return trait.group(1), True
-    block = re.match(r"impl(?:<[^{]*?>)? (?:(\w+)(?:<[^{]*>)? for )?&?(\w+)", line)
-    if block:
-        return block.group(2), block.group(1) is not None
-    return None
-
-
-def functions(path):
-    """The functions of a file: owner, name, whether public, and the lines of signature and contract."""
-    owner, all_public = None, False
-    lines = path.read_text().splitlines()
-    at = 0
-    while at < len(lines):
-        line = lines[at]
-        if line.startswith("#[cfg(test)]"):
-            return
-        if owner_of(line):
-            owner, all_public = owner_of(line)
-        elif line == "}":
-            owner, all_public = None, False
-        start = re.match(r"( *)(pub |pub\(crate\) )?(?:const )?fn (\w+)", line)
-        if start:
-            indent, public, name = start.groups()
-            contract = []
-            while at < len(lines):
-                text = lines[at][len(indent):]
-                if text in ("{", "}", "{}"):
-                    break
-                ends = text.endswith((" {", ";")) and not text.startswith(("    ensures", "    requires", "        "))
-                contract.append(text.removesuffix(" {").removesuffix(";") if ends else text)
-                at += 1
-                if ends:
-                    break
-                last = contract[-1]
-                if last.endswith(";") and last.startswith("    ensures") or last.endswith(" };") and last.startswith("        "):
-                    contract[-1] = contract[-1][:-1]
-                    at -= 1
-                    break
-            yield owner, name, public == "pub " or (all_public and not public), contract
-        at += 1
-
-
-def clause_page(crate):
+def clause_page(crate: str) -> str | None:
     """The contracts of a crate's public functions, as a page."""
-    names = exported(crate)
     parts = [
         f"# Clauses of {crate}\n",
         "The contracts of the public functions, word for word. Written by `tools/documents.py` from the source; edit that.",
     ]
-    for path in source_files(crate):
-        for owner, name, public, contract in functions(path):
-            if public and (owner or name) in names and any("ensures" in line or "requires" in line for line in contract):
-                title = f"{owner}::{name}" if owner else name
-                parts.append(f"\n## `{title}`\n\n```text\n" + "\n".join(contract).rstrip() + "\n```")
+    parts += [f"\n## `{call.title}`\n\n```text\n{call.contract}\n```" for call in public_calls(TOP, crate) if call.has_clauses]
     return "\n".join(parts) + "\n" if len(parts) > 2 else None
 
 
-def pages():
-    return {name: page for name, _ in crate_lines() if (page := clause_page(name))}
-
-
-class Definition(NamedTuple):
-    """A public definition of specs/: where it is, the comment above it, and its lines without comments."""
-
-    crate: str
-    module: str
-    name: str
-    comment: str
-    lines: list
-    near: dict
-    brought: dict
-
-    @property
-    def key(self):
-        return self.crate, self.module, self.name
-
-
-def begun(line):
-    """The name of the public definition that a line begins, if it begins one."""
-    begins = re.match(r"(?:(?:abbrev|unfoldable) )?pub (?:record |data )?([^\s:{(]+)", line)
-    return begins.group(1) if begins and not line.startswith(("pub mod", "pub use")) else None
-
-
-def goes_on(line, name):
-    """Whether a line goes on with the definition of this name: it is indented, one of its equations, or what closes it."""
-    return not line or line[0] in " )]}" or re.match(rf"{re.escape(name)}(?![\w'-])|unfolding ", line)
-
-
-@functools.cache
-def module_definitions(crate, module):
-    """The public definitions of a module, in its order."""
-    text = (CRATES / crate / "specs" / f"{module}.antt").read_text()
-    found, comment, now = [], [], None
-    near, brought = {}, imports(text, "use")
-    for line in text.splitlines():
-        name = begun(line)
-        if name:
-            now = Definition(crate, module, name, " ".join(comment), [], near, brought)
-            near[name] = now.key
-            found.append(now)
-        elif now and not goes_on(line, now.name):
-            now = None
-        comment = [*comment, line.removeprefix("--").strip()] if line.startswith("--") else []
-        if now and line.strip() and not line.lstrip().startswith("--"):
-            now.lines.append(line)
-    return found
-
-
-@functools.cache
-def all_definitions(crate):
-    """The public definitions of a crate's specs/, module by module as its root module has them."""
-    folder = CRATES / crate / "specs"
-    order = re.findall(r"^pub mod (\w+)", (folder / "Lib.antt").read_text(), re.M) if (folder / "Lib.antt").is_file() else []
-    modules = sorted((path.stem for path in folder.glob("*.antt")), key=lambda name: (order.index(name) if name in order else -1, name))
-    return [definition for module in modules for definition in module_definitions(crate, module)]
-
-
-def definitions(crate):
-    """The public definitions of a crate's specs/, by name, each with its module."""
-    return {definition.name: definition.module for definition in all_definitions(crate)}
-
-
-@functools.cache
-def by_key():
-    """All public definitions of specs/, by where they are."""
-    return {definition.key: definition for crate, _ in crate_lines() for definition in all_definitions(crate)}
-
-
-def imports(text, line):
-    """The names that a file's lines of this kind bring in: each with the crate and module that it comes from."""
-    found = {}
-    for crate, module, names in re.findall(rf"^{line} Rattle\.(fdr_\w+)\.specs\.(\w+)\.\{{([^}}]*)\}}", text, re.M):
-        for name in names.split(","):
-            original, _, other = name.strip().partition(" as ")
-            found[other or original] = crate, module, original
-    return found
-
-
-def names_in(text, near, brought):
-    """The definitions that a text names: those of its own file, and those that are brought in. What follows a point is a field."""
-    for word in set(re.findall(r"(?<![\w'.-])[A-Za-z_][\w'-]*", text)):
-        if word in near:
-            yield near[word]
-        elif word in brought:
-            yield brought[word]
-
-
-def reached_from(keys):
-    """These definitions and all that they name, and what those name, and so on."""
-    known, waiting, seen = by_key(), list(keys), set()
-    while waiting:
-        key = waiting.pop()
-        if key in known and key not in seen:
-            seen.add(key)
-            definition = known[key]
-            waiting.extend(names_in("\n".join(definition.lines), definition.near, definition.brought))
-    return seen
+def pages() -> dict[str, str]:
+    return {name: page for name in crate_names(TOP) if (page := clause_page(name))}
 
 
 # The calls that the programs make, and where they are.
@@ -251,21 +85,21 @@ CALLS = {"run": ("fdr_top", "top.rt"), "run_pair": ("fdr_pair", "run.rt")}
 
 
 @functools.cache
-def reached(call):
+def reached(call: str) -> set[Key]:
     """The definitions of which the contract of a program's call speaks."""
     crate, file = CALLS[call]
     source = (CRATES / crate / "src" / file).read_text()
-    contract = re.search(rf"^pub fn {call}\b.*?^\{{", source, re.M | re.S).group()
-    return reached_from(names_in(contract, {}, imports(source, "ghost use")))
+    contract = next(one.contract for one in functions(CRATES / crate / "src" / file) if one.name == call)
+    return reached_from(TOP, names_in(contract, {}, imports(source, "ghost use")))
 
 
-def check_readme():
-    by_run, by_pair, all_of_them = len(reached("run")), len(reached("run_pair")), len(by_key())
+def check_readme() -> Iterator[str]:
+    by_run, by_pair, all_of_them = len(reached("run")), len(reached("run_pair")), len(by_key(TOP))
     if f"{by_run} and {by_pair} of the {all_of_them} definitions" not in (TOP / "README.md").read_text():
         yield f"README.md: `run` and `run_pair` speak of {by_run} and {by_pair} of the {all_of_them} definitions"
 
 
-def check_clauses():
+def check_clauses() -> Iterator[str]:
     want = pages()
     for name, page in want.items():
         path = CLAUSES / f"{name}.md"
@@ -276,31 +110,31 @@ def check_clauses():
             yield f"docs/clauses/{path.name} is of no crate with clauses"
 
 
-def crates_on(path):
+def crates_on(path: pathlib.Path) -> list[str]:
     """The crates whose definitions are on a page."""
     return re.findall(DEFINITIONS_OF, path.read_text(), re.M)
 
 
-def layer_of(path):
+def layer_of(path: pathlib.Path) -> int:
     """Where the highest crate of a page stands in crates.txt."""
-    layers = [crate for crate, _ in crate_lines()]
+    layers = crate_names(TOP)
     return max((layers.index(crate) for crate in crates_on(path) if crate in layers), default=-1)
 
 
-def model_pages():
+def model_pages() -> list[pathlib.Path]:
     """The pages that say in plain words what the definitions are, from the lowest layer up."""
     return [TOP / "docs" / "MODEL.md", *sorted(MODEL.glob("*.md"), key=lambda path: (layer_of(path), path.name))]
 
 
-def in_reading_order():
+def in_reading_order() -> set[str]:
     """The names that docs/MODEL.md has under 'In which order to read'."""
     page = (TOP / "docs" / "MODEL.md").read_text()
     return set(re.findall(r"`([^`]+)`", page.partition("## In which order to read")[2].partition("\n## ")[0]))
 
 
-def definition_rows(crate):
+def definition_rows(crate: str) -> Iterator[str]:
     """The marked part of a page that has the definitions of a crate."""
-    own, first = all_definitions(crate), in_reading_order()
+    own, first = all_definitions(TOP, crate), in_reading_order()
     by_run, by_pair = (sum(definition.key in reached(call) for definition in own) or "none" for call in CALLS)
     yield f"Definitions: {len(own)}. The contract of `run` speaks of {by_run} of them, that of `run_pair` of {by_pair}."
     yield ""
@@ -312,24 +146,24 @@ def definition_rows(crate):
         yield f"| {name} | {definition.module} | {words} |"
 
 
-def beginnings(cell):
+def beginnings(cell: str) -> Iterable[Key]:
     """The definitions that a cell names, or those that the contract of a program's call names."""
     names = re.findall(r"`([^`]+)`", cell)
-    return reached(names[0]) if names[0] in CALLS else [key for key in by_key() if key[2] in names]
+    return reached(names[0]) if names[0] in CALLS else [key for key in by_key(TOP) if key[2] in names]
 
 
-def counted_rows(rows):
+def counted_rows(rows: list[str]) -> Iterator[str]:
     """The marked part of a page that says how much there is to read, from the rows that are there."""
     for row in rows:
         cells = [cell.strip() for cell in row.strip("|").split("|")]
         if row.startswith("| ") and cells[-1] != "lines":
-            found = reached_from(beginnings(cells[-3]))
-            cells[-2:] = [str(len(found)), f"{sum(len(by_key()[key].lines) for key in found):,}"]
+            found = reached_from(TOP, beginnings(cells[-3]))
+            cells[-2:] = [str(len(found)), f"{sum(len(by_key(TOP)[key].lines) for key in found):,}"]
             row = f"| {' | '.join(cells)} |"
         yield row
 
 
-def page_rows():
+def page_rows() -> Iterator[str]:
     """The marked part of docs/MODEL.md that names the pages of docs/model, each with its first paragraph and its crates."""
     yield "| page | has | crates |"
     yield "|---|---|---|"
@@ -339,7 +173,7 @@ def page_rows():
         yield f"| [{title.removeprefix('# ')}](model/{path.name}) | {about} | {crates} |"
 
 
-def marked_part(mark, there):
+def marked_part(mark: str, there: list[str]) -> Iterator[str]:
     """What stands in the part of a page with this mark, where these lines are there."""
     crate = re.match(DEFINITIONS_OF, mark)
     if crate:
@@ -347,9 +181,11 @@ def marked_part(mark, there):
     return counted_rows([row for row in there if row]) if mark == HOW_MUCH else page_rows()
 
 
-def model_page(path):
+def model_page(path: pathlib.Path) -> str:
     """A page with its marked parts as the source says."""
-    lines, mark, there = [], None, []
+    lines: list[str] = []
+    there: list[str] = []
+    mark = None
     for line in path.read_text().splitlines():
         if mark and line == "<!-- end -->":
             lines += ["", *marked_part(mark, there), ""]
@@ -363,23 +199,30 @@ def model_page(path):
     return "\n".join(lines) + "\n"
 
 
-def stands_by_itself(comment):
+def stands_by_itself(comment: str) -> bool:
     """Whether a comment doesn't point to the one before it."""
     return not re.match(r"(?:its|the same|and|so it is|such)\b|one of these two|that number", comment, re.I)
 
 
-def check_model():
+def check_contracts() -> Iterator[str]:
+    """The contracts that the pages of docs/clauses have are whole."""
+    for crate in crate_names(TOP):
+        for path in source_files(TOP, crate):
+            yield from (f"{path.relative_to(TOP)}: {fault}" for fault in faults_of_contracts(path))
+
+
+def check_model() -> Iterator[str]:
     """The pages of the model are as the source says, each crate is in one of them, and each definition has a comment."""
     marked = [crate for path in model_pages() for crate in crates_on(path)]
     for path in model_pages():
         if path.read_text() != model_page(path):
             yield f"{path.relative_to(TOP)} isn't what the source says: run tools/documents.py write"
-    for crate, _ in crate_lines():
-        if marked.count(crate) != (1 if all_definitions(crate) else 0):
+    for crate in crate_names(TOP):
+        if marked.count(crate) != (1 if all_definitions(TOP, crate) else 0):
             yield f"docs/model: {marked.count(crate)} pages have the definitions of {crate}: put its marks into one, as the others are"
-    for crate in set(marked) - {crate for crate, _ in crate_lines()}:
+    for crate in set(marked) - set(crate_names(TOP)):
         yield f"docs/model: there is no crate {crate}"
-    for definition in by_key().values():
+    for definition in by_key(TOP).values():
         where = f"crates/{definition.crate}/specs/{definition.module}.antt: `{definition.name}`"
         if not definition.comment:
             yield f"{where} has no comment"
@@ -393,30 +236,21 @@ def check_model():
                 yield f"docs/MODEL.md: neither the contract of `run` nor that of `run_pair` speaks of `{name}`"
 
 
-def is_recursive(definition):
-    """Whether a definition names itself where it says what it is. Laws that are proved by induction don't count."""
-    own = rf"(?<![\w'.-]){re.escape(definition.name)}(?![\w'-])"
-    if not definition.lines[0].startswith(("abbrev", "unfoldable")):
-        return False
-    equations = re.split(rf"^{re.escape(definition.name)}(?![\w'-])", "\n".join(definition.lines[1:]), flags=re.M)
-    return any(re.search(own, equation) for equation in equations)
-
-
-def check_recursive():
+def check_recursive() -> Iterator[str]:
     """docs/MODEL.md says of each recursive definition what is said over it, or that no loop of the code goes so."""
     page = (TOP / "docs" / "MODEL.md").read_text()
     named = set(re.findall(r"`([^`]+)`", page.partition("## Recursive definitions")[2].partition("\n## ")[0]))
-    for definition in by_key().values():
+    for definition in by_key(TOP).values():
         if is_recursive(definition) and definition.name not in named:
             yield f"docs/MODEL.md: `{definition.name}` of {definition.crate} ({definition.module}) is recursive, and isn't named as such"
 
 
-def check_guarantees():
+def check_guarantees() -> Iterator[str]:
     """Names in code marks of these pages are names of the source; `clause.field` names a field of a record in specs/."""
     known, fields = set(), {"old", "new", "now"}
-    for crate, _ in crate_lines():
+    for crate in crate_names(TOP):
         known.add(crate)
-        known.update(definitions(crate))
+        known.update(definition.name for definition in all_definitions(TOP, crate))
         for path in (CRATES / crate).rglob("*.rt"):
             known.update(re.findall(r"[A-Za-z_]\w*", path.read_text()))
         for path in (CRATES / crate / "specs").glob("*.antt"):
@@ -438,17 +272,14 @@ def check_guarantees():
                         yield f"{page}:{number}: nothing is named `{name}`"
 
 
-def clauses_of_calls():
+def clauses_of_calls() -> Iterator[Known]:
     """Each public function: its crate, its owner or none, its name, and the names of its `ensures` clauses."""
-    for crate, _ in crate_lines():
-        names = exported(crate)
-        for path in source_files(crate):
-            for owner, name, public, contract in functions(path):
-                if public and (owner or name) in names:
-                    yield crate, owner, name, set(re.findall(r"^    ensures\*? (\w+) \{", "\n".join(contract), re.M))
+    for crate in crate_names(TOP):
+        for call in public_calls(TOP, crate):
+            yield crate, call.owner, call.name, {clause.name for clause in clauses(call.contract) if clause.kind == "ensures"}
 
 
-def calls_in(cell, known):
+def calls_in(cell: str, known: list[Known]) -> Iterator[tuple[str, list[set[str]]]]:
     """The calls that a cell names: each mark with the clauses of the functions that it may be.
 
     `T::f` is that of a type or trait, `f` of the same one where it has such a call and else a function of none, `T` all
@@ -467,7 +298,7 @@ def calls_in(cell, known):
         yield mark, of_owner or [clauses for _, whose, _, clauses in same if not whose and not before]
 
 
-def rows_of_calls(text):
+def rows_of_calls(text: str) -> Iterator[tuple[int, str, list[str]]]:
     """The rows of a page's tables whose first column is of calls and whose last is of clauses: line, calls, clauses."""
     within = False
     for number, line in enumerate(text.splitlines(), 1):
@@ -480,7 +311,7 @@ def rows_of_calls(text):
             yield number, cells[0], re.findall(r"`(\w+)`", cells[-1])
 
 
-def check_layers():
+def check_layers() -> Iterator[str]:
     """Each clause in a row of LAYERS.md is one of the calls that the row names, and each of these has one of them."""
     known = list(clauses_of_calls())
     for number, cell, clauses in rows_of_calls((TOP / "docs" / "LAYERS.md").read_text()):
@@ -497,14 +328,14 @@ def check_layers():
                 yield f"docs/LAYERS.md:{number}: none of the calls has a clause `{clause}`"
 
 
-def check_edges():
+def check_edges() -> Iterator[str]:
     """The table of crates in ARCHITECTURE.md has the edges of crates.txt."""
     rows = {}
     for line in (TOP / "docs" / "ARCHITECTURE.md").read_text().splitlines():
         cells = line.split("|")
         if re.match(r"\| `fdr_\w+` \|", line) and len(cells) > 4:
             rows[cells[1].strip(" `")] = set(re.findall(r"`(\w+)`", cells[3]))
-    edges = dict(crate_lines())
+    edges = dict(crate_lines(TOP))
     for crate, needs in edges.items():
         if rows.get(crate) != set(needs):
             yield f"docs/ARCHITECTURE.md: {crate} stands on {' '.join(needs) or 'nothing'} in crates.txt"
@@ -512,11 +343,11 @@ def check_edges():
         yield f"docs/ARCHITECTURE.md: there is no crate {crate}"
 
 
-def outcomes():
+def outcomes() -> Iterator[tuple[str, str]]:
     """The statuses and texts of the outcomes, as specs/Outcome of fdr_top and the messages of faults have them."""
     text = (CRATES / "fdr_top" / "specs" / "Outcome.antt").read_text()
     messages = (CRATES / "fdr_messages" / "specs" / "Messages.antt").read_text()
-    program = re.search(r'^program_name = (codes ".*")', text, re.M).group(1)
+    program = re.findall(r'^program_name = (codes ".*")', text, re.M)[0]
     statuses = dict(re.findall(r"^status_of \(?outcome\.(\w+)[^=]*= (\d+)", text, re.M))
     bodies = dict(re.findall(r"^(\w+_message) program [^=]*= program (.*)", messages, re.M))
     inputs = re.findall(r'^input_text \S+ = codes "(.*)"', text, re.M)
@@ -528,26 +359,26 @@ def outcomes():
             yield statuses[name], line
 
 
-def sections():
+def sections() -> Iterator[tuple[str, str]]:
     """The commands of COMMANDS.md, in order: each with its form, which is the first line of its section."""
     page = (TOP / "docs" / "COMMANDS.md").read_text()
     for name, line in re.findall(r"^## `(\w+)`\n\n```\n(.*)$", page, re.M):
         yield name, re.split(r" (?:2?>|<)", line)[0]
 
 
-def check_commands():
+def check_commands() -> Iterator[str]:
     """COMMANDS.md has the statuses and the texts, and README.md a row for each of its commands."""
     page = (TOP / "docs" / "COMMANDS.md").read_text()
     rows = {(status, text.strip("`")) for status, text in re.findall(r"^\| \S+ \| (\d+) \| (none|`[^`]*`) \|", page, re.M)}
     for status, text in sorted({(status, text or "none") for status, text in outcomes()} ^ rows):
         yield f"docs/COMMANDS.md: status {status}, text '{text}': the page and specs/Outcome differ"
     names = [name for name, _ in sections()]
-    rows = re.findall(r"^\| \[`(\w+)`\]\(docs/COMMANDS\.md#(\w+)\) \|", (TOP / "README.md").read_text(), re.M)
-    if rows != [(name, name) for name in names]:
+    commands = re.findall(r"^\| \[`(\w+)`\]\(docs/COMMANDS\.md#(\w+)\) \|", (TOP / "README.md").read_text(), re.M)
+    if commands != [(name, name) for name in names]:
         yield f"README.md: the rows of its commands aren't {', '.join(names)}, as the sections of docs/COMMANDS.md"
 
 
-def check_manual():
+def check_manual() -> Iterator[str]:
     """The man page has the forms, the statuses and the texts."""
     manual = (TOP / "docs" / "fdr.1").read_text()
     rows = set(re.findall(r"^(\d+)\|(.*)$", manual, re.M))
@@ -559,7 +390,7 @@ def check_manual():
         yield "docs/fdr.1: its forms aren't those of docs/COMMANDS.md"
 
 
-def check_session():
+def check_session() -> Iterator[str]:
     """Where README.md shows a run of a case of examples/cases, it prints what the case has."""
     cases = {}
     for path in (TOP / "examples" / "cases").glob("*.args"):
@@ -572,7 +403,7 @@ def check_session():
         yield "README.md shows no run of a case of examples/cases"
 
 
-def check_places():
+def check_places() -> Iterator[str]:
     """The files that ARCHITECTURE.md names under 'Where to change what' are there."""
     page = (TOP / "docs" / "ARCHITECTURE.md").read_text()
     for row in page.partition("## Where to change what")[2].splitlines():
@@ -584,9 +415,9 @@ def check_places():
                 yield f"docs/ARCHITECTURE.md: {crate} has no {mark}"
 
 
-def check_crates():
+def check_crates() -> Iterator[str]:
     """The crates that a page or a source names are there."""
-    known = {name for name, _ in crate_lines()}
+    known = set(crate_names(TOP))
     sources = [path for folder in ("src", "specs", "proofs", "must-fail") for path in CRATES.glob(f"*/{folder}/**/*.*")]
     for path in [*written_pages(), *sorted(sources)]:
         for number, line in enumerate(path.read_text().splitlines(), 1):
@@ -595,24 +426,24 @@ def check_crates():
                     yield f"{path.relative_to(TOP)}:{number}: there is no crate {name}"
 
 
-def anchors(path):
+def anchors(path: pathlib.Path) -> Iterator[str]:
     for heading in re.findall(r"^#+ (.*)$", path.read_text(), re.M):
         plain = re.sub(r"[^\w\- ]", "", heading.lower())
         yield plain.replace(" ", "-")
 
 
-def check_names():
+def check_names() -> Iterator[str]:
     """No two public definitions of the repository share a name."""
-    found = {}
-    for crate, _ in crate_lines():
-        for definition in all_definitions(crate):
+    found: dict[str, list[str]] = {}
+    for crate in crate_names(TOP):
+        for definition in all_definitions(TOP, crate):
             found.setdefault(definition.name, []).append(f"{crate} ({definition.module})")
     for name, places in sorted(found.items()):
         if len(places) > 1:
             yield f"specs: `{name}` is defined in {' and in '.join(places)}"
 
 
-def check_columns():
+def check_columns() -> Iterator[str]:
     """No line of specs/ and proofs/ is too long to read."""
     for folder in ("specs", "proofs"):
         for path in sorted(CRATES.glob(f"*/{folder}/**/*.antt")):
@@ -622,7 +453,7 @@ def check_columns():
                     yield f"{path.relative_to(TOP)}:{number}: {len(line)} columns, over {most}"
 
 
-def check_version():
+def check_version() -> Iterator[str]:
     """README.md names the version of VERSION; CHANGELOG.md begins with it and its date, which are those of docs/fdr.1 and
     CITATION.cff."""
     version = (TOP / "VERSION").read_text().strip()
@@ -640,14 +471,14 @@ def check_version():
         yield f"CITATION.cff doesn't name version {version} and {date}"
 
 
-def kits_named():
+def kits_named() -> Iterator[tuple[str, re.Match[str] | None]]:
     """The pages that name the kit that proved, each with what it names: the kit and its logic, or nothing."""
     for page in ("README.md", "docs/GUARANTEES.md"):
         yield page, re.search(r"(rattle-kit-\w+)`?,? logic `?([0-9a-f]{16})", (TOP / page).read_text())
 
 
 @functools.cache
-def kit_here():
+def kit_here() -> re.Match[str] | None:
     """The kit of the command `rt` and its logic, where there is one."""
     if not shutil.which("rt"):
         return None
@@ -655,7 +486,7 @@ def kit_here():
     return re.search(r"(rattle-kit-\w+) logic ([0-9a-f]{16})", says)
 
 
-def check_kit():
+def check_kit() -> Iterator[str]:
     """The pages name a kit, and the logic of the one that is here."""
     here = kit_here()
     for page, named in kits_named():
@@ -665,7 +496,7 @@ def check_kit():
             yield f"{page} names the logic {named[2]}, and `rt version` says {here[2]}"
 
 
-def note_kit():
+def note_kit() -> Iterator[str]:
     """The pages name another kit of the same logic, or there is none to compare with."""
     here = kit_here()
     if not here:
@@ -675,9 +506,9 @@ def note_kit():
             yield f"{page} names {named[1]}, and {here[1]} has the same logic"
 
 
-def note_uses():
+def note_uses() -> Iterator[str]:
     """A crate uses nothing of one that it stands on: in its source, its definitions and its proofs."""
-    for crate, needs in crate_lines():
+    for crate, needs in crate_lines(TOP):
         files = [path for folder in ("src", "specs", "proofs") for path in (CRATES / crate / folder).rglob("*")]
         text = "\n".join(path.read_text() for path in files if path.suffix in (".rt", ".antt"))
         for need in needs:
@@ -685,12 +516,12 @@ def note_uses():
                 yield f"crates.txt: {crate} uses nothing of {need}"
 
 
-def written_pages():
+def written_pages() -> list[pathlib.Path]:
     """The pages in Markdown."""
     return [*TOP.glob("*.md"), *(TOP / "docs").rglob("*.md"), *(TOP / "examples").glob("*.md")]
 
 
-def check_paragraphs():
+def check_paragraphs() -> Iterator[str]:
     """A paragraph of a page is one line, and so is an item of a list."""
     begins = re.compile(r"\s*(?:$|[|#]|```|[-*] |\d+\. )")
     for path in written_pages():
@@ -704,7 +535,7 @@ def check_paragraphs():
                 open_paragraph = bool(line.strip()) and not re.match(r"\s*[|#]", line)
 
 
-def check_lengths():
+def check_lengths() -> Iterator[str]:
     """What is written by hand of a page is short, and no page is very long, but for those of clauses."""
     for path in (path for path in written_pages() if path.parent != CLAUSES):
         text = path.read_text()
@@ -716,7 +547,7 @@ def check_lengths():
             yield f"{path.relative_to(TOP)} has {lines} lines, over {MOST_LINES_IN_ALL}"
 
 
-def check_links():
+def check_links() -> Iterator[str]:
     for path in written_pages():
         for target in re.findall(r"\]\(([^)\s]+)\)", path.read_text()):
             if re.match(r"\w+:", target):
@@ -729,13 +560,13 @@ def check_links():
                 yield f"{path.relative_to(TOP)}: {target} leads to no heading"
 
 
-def scripts():
+def scripts() -> Iterator[pathlib.Path]:
     """The scripts that run the program or make what is in examples/."""
     for folder in ("tests", "bench", "examples"):
         yield from (path for path in sorted((TOP / folder).rglob("*")) if path.suffix in (".py", ".sh"))
 
 
-def check_paths():
+def check_paths() -> Iterator[str]:
     """Each path from the top that a page or a script names leads to something."""
     path_named = re.compile(r"(?<![\w/.$-])(?:bench|crates|docs|examples|tests|tools)/[\w./*-]*")
     for path in [*written_pages(), *scripts()]:
@@ -745,30 +576,45 @@ def check_paths():
                     yield f"{path.relative_to(TOP)}:{number}: there is no {name.rstrip('.')}"
 
 
-def main(command):
-    if command == "write":
-        CLAUSES.mkdir(exist_ok=True)
-        for path in CLAUSES.glob("*.md"):
-            path.unlink()
-        for name, page in pages().items():
-            (CLAUSES / f"{name}.md").write_text(page)
-        for path in model_pages():
-            path.write_text(model_page(path))
-        return 0
-    if command != "check":
-        print(__doc__)
-        return 2
+def write() -> None:
+    """Writes what is written from the source."""
+    CLAUSES.mkdir(exist_ok=True)
+    for path in CLAUSES.glob("*.md"):
+        path.unlink()
+    for name, page in pages().items():
+        (CLAUSES / f"{name}.md").write_text(page)
+    for path in model_pages():
+        path.write_text(model_page(path))
+
+
+def check() -> int:
+    """Prints the faults and the notes, and answers the status to end with."""
     checks = (
-        *(check_readme, check_session, check_clauses, check_model, check_recursive, check_guarantees, check_layers, check_edges, check_places),
-        *(check_commands, check_manual, check_version, check_kit, check_links, check_paths, check_paragraphs, check_lengths),
-        *(check_names, check_columns, check_crates),
+        *(check_readme, check_session, check_clauses, check_contracts, check_model, check_recursive, check_guarantees, check_layers),
+        *(check_edges, check_places, check_commands, check_manual, check_version, check_kit, check_links, check_paths),
+        *(check_paragraphs, check_lengths, check_names, check_columns, check_crates),
     )
-    faults = [fault for check in checks for fault in check()]
+    faults = [fault for one in checks for fault in one()]
     for note in (*note_kit(), *note_uses()):
         print("note:", note)
     print("\n".join(faults) if faults else "documents: as the source says")
     return 1 if faults else 0
 
 
+def main(words: list[str]) -> int:
+    match words:
+        case ["write"]:
+            write()
+            return 0
+        case ["check"]:
+            return check()
+        case ["diff", revision]:
+            told = differences_from(TOP, revision)
+            print("".join(line + "\n" for line in told), end="")
+            return 1 if told else 0
+    print(__doc__)
+    return 2
+
+
 if __name__ == "__main__":
-    sys.exit(main(sys.argv[1] if len(sys.argv) == 2 else ""))
+    sys.exit(main(sys.argv[1:]))
