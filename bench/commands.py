@@ -16,7 +16,6 @@ many times as long a recording in two images took as the same in one. docs/PERFO
 """
 
 import argparse
-import collections
 import csv
 import os
 import pathlib
@@ -24,6 +23,8 @@ import platform
 import random
 import sys
 import tempfile
+from collections.abc import Iterable, Iterator, Sequence
+from typing import NamedTuple
 
 TOP = pathlib.Path(__file__).resolve().parent.parent
 sys.dont_write_bytecode = True
@@ -32,7 +33,7 @@ sys.path.insert(0, str(TOP / "tests"))
 from formats import SYNCS, Shape, bits_of, bus_word, bytes_of_bits, empty_image, end_at, head_of, header_of, levels_of
 from formats import packed, put_word, record_at, size_of_slot, with_bit
 from inputs import ORDINARY, T1, largest_table
-from runs import PAYLOAD, SLOTS, SUPERFRAME, print_row, run
+from runs import PAYLOAD, SLOTS, SUPERFRAME, Figures, print_row, run
 
 COUNTERS = 4096
 DRILLED = 20_000  # frames of a drill
@@ -41,21 +42,53 @@ MOST_WORDS = 50  # that a parameter sends in a second
 MB = 1_000_000
 SECOND = 1_000_000  # microseconds
 
-Parameter = collections.namedtuple("Parameter", "bus label sdi rate")
-Place = collections.namedtuple("Place", "subframes word step lsb width cycle period")
-Work = collections.namedtuple("Work", "name program words given measured images")
+NOTHING = pathlib.Path(os.devnull)
+Words = Sequence[str | pathlib.Path]
+Images = Sequence[pathlib.Path]
+
+
+class Parameter(NamedTuple):
+    """What a table says of a parameter, as far as traces are made by it."""
+
+    bus: int
+    label: int
+    sdi: int
+    rate: int
+
+
+class Place(NamedTuple):
+    """A place of a parameter's part in the frames."""
+
+    subframes: list[int]
+    word: int
+    step: int
+    lsb: int
+    width: int
+    cycle: int
+    period: int
+
+
+class Work(NamedTuple):
+    """The program, its words, the input, the file whose bytes count, and the images that are made anew."""
+
+    name: str
+    program: str
+    words: Words
+    given: pathlib.Path
+    measured: pathlib.Path
+    images: Images
 
 
 # --- tables
 
 
-def dense_table():
+def dense_table() -> bytes:
     """1,024 words a subframe and 200 parameters, from eight times a second down to once in 64 seconds."""
     rows = ["F,1024,1024,4"]
     free = (word for word in range(13, 1024) if word % 128 not in range(3, 13) and word % 512 not in range(20, 60))
     scales = ["U,1,1,0,0", "S,1,4,0,2", "U,3,7,-100,1", "S,1,1000,0,3"]
 
-    def add(rate, width, *places):
+    def add(rate: int, width: int, *places: tuple[str | int, int, int, int, int, int]) -> None:
         number = len([row for row in rows if row.startswith("P")])
         sdi = "" if number % 2 else number // 2 % 4
         scale, rest = scales[number % 4].split(",", 1)
@@ -78,7 +111,7 @@ def dense_table():
     return "\n".join(rows + [""]).encode()
 
 
-def full_table():
+def full_table() -> bytes:
     """Four parts in each word from the third of a subframe on: 261,632 parts."""
     rows = ["F,1024,2,4"]
     for number in range(4):
@@ -90,7 +123,7 @@ def full_table():
 class Table:
     """What the rows of a table say, as far as frames and traces are made by it."""
 
-    def __init__(self, text):
+    def __init__(self, text: bytes) -> None:
         self.parameters, self.places = [], []
         for row in csv.reader(text.decode().splitlines()):
             if row[0] == "F":
@@ -101,7 +134,7 @@ class Table:
             else:
                 self.places.append(Place([int(digit) for digit in row[3]], *map(int, row[4:])))
 
-    def masks(self):
+    def masks(self) -> list[list[int]]:
         """The bits of each word of a frame that a place has, for each frame of a superframe."""
         masks = [[0] * (4 * self.words) for _ in range(16)]
         for place in self.places:
@@ -117,7 +150,7 @@ class Table:
 # --- bits
 
 
-def frames(table, chance):
+def frames(table: Table, chance: random.Random) -> tuple[bytes, int]:
     """All frames from counter 0 to 4095, with drawn numbers where the table has places and zeros elsewhere."""
     masks, line = table.masks(), bytearray()
     for number in range(DISTINCT):
@@ -132,7 +165,7 @@ def frames(table, chance):
     return bytes(line), 6 * table.words
 
 
-def with_a_bit_in_each(line, size, chance):
+def with_a_bit_in_each(line: bytes, size: int, chance: random.Random) -> bytes:
     """The frames with a bit put into each, somewhere behind its first word. Eight of them are whole bytes again."""
     pieces = []
     for at in range(0, len(line), 8 * size):
@@ -145,7 +178,7 @@ def with_a_bit_in_each(line, size, chance):
     return b"".join(pieces)
 
 
-def write_again_and_again(path, line, size):
+def write_again_and_again(path: pathlib.Path, line: bytes, size: int) -> None:
     """Writes a file of so many bytes: the line as often as it fits, and a front part of it."""
     with open(path, "wb") as file:
         for _ in range(size // len(line)):
@@ -153,7 +186,7 @@ def write_again_and_again(path, line, size):
         file.write(line[: size % len(line)])
 
 
-def levels_again_and_again(line):
+def levels_again_and_again(line: bytes) -> bytes:
     """The Harvard biphase levels of bytes, so often that they may follow themselves."""
     turned = bytes(255 - byte for byte in range(256))
     after_low = [bytes_of_bits(levels_of(bits_of([byte]))) for byte in range(256)]
@@ -165,18 +198,18 @@ def levels_again_and_again(line):
     return levels + levels.translate(turned) if level else levels
 
 
-def write_noise(path, size, chance):
+def write_noise(path: pathlib.Path, size: int, chance: random.Random) -> None:
     with open(path, "wb") as file:
         for _ in range(size // MB):
             file.write(chance.randbytes(MB))
 
 
-def write_full_image(path, line):
+def write_full_image(path: pathlib.Path, line: bytes, slots: int = SLOTS) -> None:
     """An image of frames of 256 words as a recorder leaves it that filled it: only the first slot is closed."""
-    shape = Shape(SLOTS, PAYLOAD, words=256)
+    shape = Shape(slots, PAYLOAD, words=256)
     with open(path, "wb") as file:
         file.write(header_of(shape) + bytes(size_of_slot(shape)))
-        for number in range(1, SLOTS):
+        for number in range(1, slots):
             at = number * PAYLOAD % len(line)
             file.write(head_of(number, PAYLOAD) + line[at : at + PAYLOAD])
 
@@ -184,7 +217,7 @@ def write_full_image(path, line):
 # --- traces
 
 
-def write_trace(path, table, seconds, chance):
+def write_trace(path: pathlib.Path, table: Table, seconds: int, chance: random.Random) -> None:
     """Each parameter sends as often as it is sampled, at most 50 times a second. The words repeat each 64 seconds."""
     records = []
     for parameter in table.parameters:
@@ -203,7 +236,7 @@ def write_trace(path, table, seconds, chance):
 # --- rules
 
 
-def change_rules(count, window):
+def change_rules(count: int, window: int) -> bytes:
     """Rules for changes of the ordinary table's parameters within so many rows, which no value makes: they are only looked for."""
     names = [row.split(",")[1] for row in ORDINARY.decode().splitlines() if row.startswith("P")]
     return "".join(f"RULE{number},{names[number % len(names)]},change,{10**15},{window}\n" for number in range(count)).encode()
@@ -212,7 +245,7 @@ def change_rules(count, window):
 # --- the works
 
 
-def make_works(room, memory, size, hours):
+def make_works(room: pathlib.Path, memory: pathlib.Path, size: int, hours: float) -> list[Work]:
     """Makes the inputs in a folder, and answers the works: the program, its words, the input, the file whose bytes count,
     and the images that are made anew in a folder in memory."""
     chance = random.Random(717)
@@ -221,13 +254,13 @@ def make_works(room, memory, size, hours):
         (room / f"{name}.csv").write_bytes(text)
     table_of = {name: Table(text) for name, text in texts.items()}
 
-    def at(name):
+    def at(name: str) -> pathlib.Path:
         return room / name
 
-    works = []
+    works: list[Work] = []
 
-    def add(name, words, given=None, measured=None, images=(), program="fdr"):
-        works.append(Work(name, program, words, given or os.devnull, measured or given, images))
+    def add(name: str, words: Words, given: pathlib.Path = NOTHING, measured: pathlib.Path | None = None, images: Images = (), program: str = "fdr") -> None:
+        works.append(Work(name, program, words, given, measured or given, images))
 
     for name in ("t1", "ordinary", "dense"):
         line, frame = frames(table_of[name], chance)
@@ -257,11 +290,11 @@ def make_works(room, memory, size, hours):
         add(f"stream, {what}, {seconds // 3600 * hours:g} h", ["stream", at(f"{name}.csv")], at(f"{name}.trace"))
     image, second = memory / "recorded.img", memory / "second.img"
     for name, seconds in (("ordinary", 25 * 3600), ("dense", 3600)):
-        words, what = ["record", at(f"{name}.csv"), image], f"the {name} table, {seconds // 3600 * hours:g} h"
+        words: Words = ["record", at(f"{name}.csv"), image]
+        what = f"the {name} table, {seconds // 3600 * hours:g} h"
         add(f"record, {what}", words, at(f"{name}.trace"), images=[image])
         if name == "ordinary":
-            both = {"images": [image, second], "program": "fdrpair"}
-            add(f"record in two images, {what}", [*words, second], at(f"{name}.trace"), **both)
+            add(f"record in two images, {what}", [*words, second], at(f"{name}.trace"), images=[image, second], program="fdrpair")
     words = ["drill", at("ordinary.csv"), image, "--seed", "7", "--frames", str(DRILLED)]
     add(f"drill, the ordinary table, {DRILLED:,} frames", words, measured=at("ordinary.csv"), images=[image])
     add("check, the largest table", ["check", at("largest.csv")], measured=at("largest.csv"))
@@ -271,27 +304,27 @@ def make_works(room, memory, size, hours):
 # --- the runs
 
 
-def make_anew(work):
+def make_anew(work: Work) -> None:
     """Makes the images of a work without blocks, by the table that its words name second."""
     for image in work.images:
-        words = Table(work.words[1].read_bytes()).words
+        words = Table(pathlib.Path(work.words[1]).read_bytes()).words
         image.write_bytes(empty_image(SLOTS, PAYLOAD, words))
 
 
-def runs_of(words, work, repeat):
+def runs_of(words: Words, work: Work, repeat: int) -> Iterator[Figures]:
     for _ in range(repeat):
         make_anew(work)
         yield run(words, given=work.given)
 
 
-def middle_run(runs):
+def middle_run(runs: Iterable[Figures]) -> Figures:
     """The run with the middle seconds of the processor, and the most memory of all."""
     runs = sorted(runs, key=lambda one: one.processor)
     repeat = len(runs)
     return runs[repeat // 2]._replace(peak=max(one.peak for one in runs))
 
 
-def row_of(programs, work, repeat, room):
+def row_of(programs: dict[str, pathlib.Path], work: Work, repeat: int, room: pathlib.Path) -> tuple[list[str], float]:
     """The cells of a work's row, and its seconds."""
     words, shown = [programs[work.program], *work.words], room / "shown"
     make_anew(work)
@@ -305,7 +338,7 @@ def row_of(programs, work, repeat, room):
     return cells + [f"{floor.processor:.3f}"], figures.processor
 
 
-def machine():
+def machine() -> str:
     """The processors, the memory, the system and how busy it is."""
     info = pathlib.Path("/proc/cpuinfo").read_text().splitlines()
     kind = next((line.split(":")[1].strip() for line in info if line.startswith("model name")), platform.machine())
@@ -315,7 +348,7 @@ def machine():
     return f"{os.cpu_count()} processors, {kind}; {memory:.0f} GB; {system}; load {busy:.1f}"
 
 
-def main():
+def main() -> None:
     words = argparse.ArgumentParser(description=__doc__.splitlines()[0])
     words.add_argument("fdr", type=pathlib.Path)
     words.add_argument("fdrpair", type=pathlib.Path)
@@ -329,8 +362,8 @@ def main():
     programs = {"fdr": given.fdr.resolve(), "fdrpair": given.fdrpair.resolve()}
     print(f"{machine()}\n")
     prefix = "fdr_bench_"
-    with tempfile.TemporaryDirectory(prefix=prefix, dir=given.folder) as room, tempfile.TemporaryDirectory(prefix=prefix, dir=given.memory) as memory:
-        room, memory = pathlib.Path(room), pathlib.Path(memory)
+    with tempfile.TemporaryDirectory(prefix=prefix, dir=given.folder) as folder, tempfile.TemporaryDirectory(prefix=prefix, dir=given.memory) as shared:
+        room, memory = pathlib.Path(folder), pathlib.Path(shared)
         works = [work for work in make_works(room, memory, given.size * MB, given.hours) if given.only in work.name]
         print_row(["work", "bytes in", "bytes out", "seconds", "MB a second", "peak MB", "`cat`, seconds"])
         print_row(["---"] + ["---:"] * 6)

@@ -28,6 +28,7 @@ import subprocess
 import sys
 import tempfile
 import time
+from typing import NamedTuple
 
 TOP = pathlib.Path(__file__).resolve().parent.parent
 sys.dont_write_bytecode = True
@@ -38,12 +39,22 @@ from runs import PAYLOAD, SLOTS, SUPERFRAME, Figures, print_row, run
 
 TABLE = TOP / "examples" / "ordinary.csv"
 CALLS = ["pwrite64", "fdatasync", "fsync", "pread64", "fstat", "read"]
+Words = list[str | pathlib.Path]
+
+
+class Measured(NamedTuple):
+    """What was recorded, and the figures and the calls of the program and of the plain loop, by their names."""
+
+    blocks: int
+    records: int
+    figures: dict[str, Figures]
+    calls: dict[str, dict[str, int]]
 
 
 # --- the trace
 
 
-def trace_of(hours):
+def trace_of(hours: float) -> bytes:
     """A trace in which each parameter of the table sends as often as the table samples it."""
     chance = random.Random(1)
     seconds = int(hours * 3600)
@@ -62,7 +73,7 @@ def trace_of(hours):
 # --- the plain loop
 
 
-def plain_loop(path, stream):
+def plain_loop(path: str, stream: bytes) -> tuple[float, float]:
     """Makes the writes and syncs of a recording, and answers what that took."""
     blocks = blocks_of(stream, PAYLOAD)
     image = os.open(path, os.O_RDWR)
@@ -84,18 +95,18 @@ def plain_loop(path, stream):
 # --- runs
 
 
-def middle(figures):
+def middle(figures: list[Figures]) -> Figures:
     """The run whose time is the middle one."""
     return sorted(figures)[len(figures) // 2]
 
 
-def make_image(program, path):
+def make_image(program: pathlib.Path, path: pathlib.Path) -> None:
     path.unlink(missing_ok=True)
     run([program, "format", TABLE, path, "--slots", SLOTS, "--payload", PAYLOAD])
     subprocess.run(["sync", path], check=True)
 
 
-def compare(program, path, stream, room):
+def compare(program: pathlib.Path, path: pathlib.Path, stream: pathlib.Path, room: pathlib.Path) -> None:
     """Wants what was recorded to be the stream, but for blocks that are no longer promised."""
     run([program, "recover", path], written=room / "recovered")
     found, wanted = (room / "recovered").read_bytes(), stream.read_bytes()
@@ -103,32 +114,33 @@ def compare(program, path, stream, room):
         sys.exit(f"the image holds {len(found)} bytes of {len(wanted)}, or others")
 
 
-def calls_of(words, given, room):
+def calls_of(words: Words, given: str | pathlib.Path, room: pathlib.Path) -> dict[str, int]:
     """How often a program made each call of the system, or nothing where strace isn't there."""
     if not shutil.which("strace"):
-        return None
+        return {}
     run(["strace", "-f", "-c", "-o", room / "calls", "-e", "trace=" + ",".join(CALLS), *words], given=given)
     found = re.findall(r"^ *[\d.]+ +[\d.]+ +\d+ +(\d+) +(?:\d+ +)?(\w+)$", (room / "calls").read_text(), re.M)
     return {name: int(count) for count, name in found}
 
 
-def measured(program, hours, folder, repeat, room):
+def measured(program: pathlib.Path, hours: float, folder: pathlib.Path, repeat: int, room: pathlib.Path) -> Measured:
     """The figures of `record` and of the plain loop, and the calls of both."""
     trace, stream = room / "trace", room / "stream"
     trace.write_bytes(trace_of(hours))
     run([program, "stream", TABLE], given=trace, written=stream)
     image = folder / f"measured_{os.getpid()}.img"
-    record = [program, "record", TABLE, image]
-    plain = [sys.executable, __file__, "--plain", image, stream]
+    record: Words = [program, "record", TABLE, image]
+    plain: Words = [sys.executable, __file__, "--plain", image, stream]
     figures, calls = {}, {}
+    runs: list[tuple[str, Words, str | pathlib.Path]] = [("record", record, trace), ("plain loop", plain, os.devnull)]
     try:
-        for name, words, given in (("record", record, trace), ("plain loop", plain, os.devnull)):
+        for name, words, given in runs:
             taken = []
             for _ in range(repeat):
                 make_image(program, image)
                 one = run(words, given=given, written=room / "said")
                 said = (room / "said").read_text().split()
-                taken.append(Figures(*map(float, said), None) if said else one)
+                taken.append(Figures(float(said[0]), float(said[1]), 0) if said else one)
                 compare(program, image, stream, room)
             figures[name] = middle(taken)
             make_image(program, image)
@@ -136,10 +148,10 @@ def measured(program, hours, folder, repeat, room):
     finally:
         image.unlink(missing_ok=True)
     blocks = -(-stream.stat().st_size // PAYLOAD)
-    return blocks, trace.stat().st_size // RECORD.size, figures, calls
+    return Measured(blocks, trace.stat().st_size // RECORD.size, figures, calls)
 
 
-def main():
+def main() -> None:
     words = argparse.ArgumentParser(description=__doc__.splitlines()[0])
     words.add_argument("program", type=pathlib.Path)
     words.add_argument("--disk", type=pathlib.Path, default=pathlib.Path("/var/tmp"))
@@ -153,12 +165,12 @@ def main():
     print_row(["---"] * 5 + ["---:"] * 5)
     for name, folder, hours in (("disk", given.disk, given.hours[0]), ("memory", given.memory, given.hours[1])):
         with tempfile.TemporaryDirectory(prefix="fdr_recording_") as room:
-            blocks, records, figures, calls = measured(program, hours, folder, given.repeat, pathlib.Path(room))
-        for who, it in figures.items():
-            made = calls[who]
+            found = measured(program, hours, folder, given.repeat, pathlib.Path(room))
+        for who, it in found.figures.items():
+            made, blocks = found.calls[who], found.blocks
             writes = f"{made['pwrite64'] / blocks:.2f}" if made else "-"
             syncs = f"{(made.get('fdatasync', 0) + made.get('fsync', 0)) / blocks:.2f}" if made else "-"
-            row = [name, f"{hours:g}", f"{records:,}", f"{blocks:,}", who, f"{it.seconds:.3f}", f"{it.processor:.3f}"]
+            row = [name, f"{hours:g}", f"{found.records:,}", f"{blocks:,}", who, f"{it.seconds:.3f}", f"{it.processor:.3f}"]
             print_row(row + [writes, syncs, f"{it.peak:.1f}" if it.peak else "-"])
 
 

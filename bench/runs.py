@@ -1,20 +1,27 @@
 """How the scripts of bench/ run a program and what they learn of it, the images that they record in, and their tables."""
 
-import collections
 import contextlib
 import os
 import pathlib
 import subprocess
 import sys
 import time
+from collections.abc import Iterable
+from typing import NamedTuple
 
 SLOTS, PAYLOAD = 8448, 4096
 SUPERFRAME = 64  # seconds, in which a parameter comes as often as its rate says
 
-Figures = collections.namedtuple("Figures", "seconds processor peak")
+
+class Figures(NamedTuple):
+    """Of a run: its seconds, those of the processor, and the most memory in MB."""
+
+    seconds: float
+    processor: float
+    peak: float
 
 
-def peak_of(process):
+def peak_of(process: int) -> int:
     """The most memory of a running process so far, in kB, or nothing where it has just ended."""
     with contextlib.suppress(OSError):
         for line in pathlib.Path(f"/proc/{process}/status").read_text().splitlines():
@@ -23,7 +30,7 @@ def peak_of(process):
     return 0
 
 
-def run(words, given=os.devnull, written=os.devnull):
+def run(words: Iterable[object], given: str | pathlib.Path = os.devnull, written: str | pathlib.Path = os.devnull) -> Figures:
     """Runs a program, and answers its figures.
 
     Its memory is looked at while it runs: what the system says at its end counts the memory of who started it, too.
@@ -43,6 +50,6 @@ def run(words, given=os.devnull, written=os.devnull):
     return Figures(seconds, used.ru_utime + used.ru_stime, peak / 1024)
 
 
-def print_row(cells):
+def print_row(cells: Iterable[str]) -> None:
     """Prints a row of a table in Markdown."""
     print("| " + " | ".join(cells) + " |")

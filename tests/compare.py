@@ -15,6 +15,7 @@ from __future__ import annotations
 
 import argparse
 import collections
+import functools
 import pathlib
 import random
 import subprocess
@@ -146,8 +147,12 @@ class Shrinker:
         for pieces_of in (lines_of, records_of, bytes_of):
             self.strike_out(pieces_of(self.case.given), lambda data: self.case._replace(given=data))
             for name, held in self.case.files.items():
-                self.strike_out(pieces_of(held), lambda data, n=name: self.case._replace(files=self.case.files | {n: data}))
+                self.strike_out(pieces_of(held), functools.partial(self.with_file, name))
         return self.case
+
+    def with_file(self, name: str, data: bytes) -> Case:
+        """The case with other bytes in this file."""
+        return self.case._replace(files=self.case.files | {name: data})
 
 
 def keep(program: pathlib.Path, case: Case) -> pathlib.Path:

@@ -36,7 +36,7 @@ from recordings import Image, kill_after, next_by, record, trace_of
 RUNS_OF_AN_IMAGE = 20
 
 
-def record_and_look(image, chance, pace, counts):
+def record_and_look(image: Image, chance: random.Random, pace: dict[str, float], counts: dict[str, int]) -> None:
     """One run, and what the image holds after it. The first one is let end, to learn the program's pace."""
     trace = trace_of(chance, chance.randrange(1, 80))
     coming = image.blocks_of(trace)
@@ -68,7 +68,7 @@ def record_and_look(image, chance, pace, counts):
     counts["blocks acknowledged"] += max(0, len(told) - 1)
 
 
-def main():
+def main() -> int:
     words = argparse.ArgumentParser(description=__doc__.splitlines()[0])
     words.add_argument("program")
     words.add_argument("--runs", type=int, default=200)
@@ -82,10 +82,10 @@ def main():
     names += ["killed with a block recorded and not yet acknowledged", "ended by themselves"]
     names += ["blocks recorded", "blocks acknowledged"]
     counts = dict.fromkeys(names, 0)
-    pace = {}
+    pace: dict[str, float] = {}
     room = pathlib.Path(tempfile.mkdtemp(prefix="fdr_crashes_"))
     print(f"seed {seed}")
-    run = 0
+    run, slots, payload = 0, 0, 0
     try:
         for run in range(given.runs):
             if run % RUNS_OF_AN_IMAGE == 0:

@@ -21,6 +21,8 @@ import pathlib
 import signal
 import sys
 import time
+from collections.abc import Callable, Iterator
+from typing import Any
 
 sys.dont_write_bytecode = True
 
@@ -28,6 +30,7 @@ import places
 from formats import HEADER, VERSION_1, bits_of, bytes_of_bits, empty_image, end_at, frame, levels_of, recorded, shape_of, slot_at, upgraded
 from inputs import BITS, FIVES, T1, TRACE, largest_table, t1_frame, table_of_every_word, word_at
 from places import CLOSED, FOLDER, FULL, GONE, NOBODY, NOTHING, PAGE, PIPE, READ_ONLY, WRITE_ONLY, ZEROS, Front, InLittleMemory, Mismatch, To
+from places import Answer, Doer, How, Maker, Place, Run, Stream, Tried
 from places import acks, all_of, begin_apart, block_device, bound_socket, closed_subfolder, empty_pipe, few_files, file, filled, full_pipe
 from places import held_pipe, is_interrupted, link, made_read_only, mode, mounted, named_pipe, size_limit, sparse_image, subfolder, text_of, try_all, zeros_of
 
@@ -101,29 +104,30 @@ PAST_SIZE = (-signal.SIGXFSZ, "")
 # --- what happens while the program runs
 
 
-def shrinks(size):
-    def act(place, run):
+def shrinks(size: int) -> Doer:
+    def act(place: Place, run: Run) -> None:
         run.fills_its_pipe()
         os.truncate(place.room / "a.img", size)
 
     return act
 
 
-def loses_its_reader(place, run):
+def loses_its_reader(place: Place, run: Run) -> None:
     run.feed(BITS[:384])
     run.shows(LISTING[:17])
+    assert run.child.stdout
     run.child.stdout.close()
     run.feed(BITS[384:])
 
 
-def shrinks_while_recorded_in(place, run):
+def shrinks_while_recorded_in(place: Place, run: Run) -> None:
     run.feed(word_at(0, 5) + word_at(4_000_000, 7))
     run.says(text_of(acks(12, 18)))
     os.truncate(place.room / "a.img", 700)
     run.feed(end_at(8_000_000))
 
 
-def others_come(place, run):
+def others_come(place: Place, run: Run) -> None:
     """While an image is recorded in, every other command on it is refused."""
     run.says(text_of(acks(12, 12)))
     for words in (RECORD, DRILL, RECOVER, LIST, SALVAGE, UPGRADE, ["format", "t1.csv", "a.img", *SIZES]):
@@ -131,7 +135,7 @@ def others_come(place, run):
     run.feed(TRACE)
 
 
-def readers_come(place, run):
+def readers_come(place: Place, run: Run) -> None:
     """While an image is read, others may read it, and none may write it."""
     run.fills_its_pipe()
     place.expect(RECOVER, DONE, BIG_BITS)
@@ -139,15 +143,15 @@ def readers_come(place, run):
         place.expect(words, DISK_FAULT, given=TRACE)
 
 
-def is_killed(place, run):
+def is_killed(place: Place, run: Run) -> None:
     run.says(text_of(acks(12, 12)))
     run.child.kill()
     run.child.wait()
     place.expect(RECORD, DONE, given=TRACE, lines=acks(12, 24))
 
 
-def image_gets(change):
-    def act(place, run):
+def image_gets(change: Callable[[pathlib.Path], object]) -> Doer:
+    def act(place: Place, run: Run) -> None:
         run.says(text_of(acks(12, 12)))
         change(place.room / "a.img")
         run.feed(TRACE)
@@ -155,7 +159,7 @@ def image_gets(change):
     return act
 
 
-def rows_come(place, run):
+def rows_come(place: Place, run: Run) -> None:
     """Each line comes while the input stays open, once the bytes that came decide it."""
     line, first, second = b"\0\0" + BITS, b"gap,0,16\n" + LISTING[:17], LISTING[17:]
     for begin, end, shown in ((0, 385, b""), (385, 386, first), (386, 769, first), (769, 770, first + second)):
@@ -164,7 +168,7 @@ def rows_come(place, run):
         run.shows(shown)
 
 
-def blocks_come(place, run):
+def blocks_come(place: Place, run: Run) -> None:
     """Blocks of the stream come while the input stays open."""
     for record, shown in ((word_at(0, 5), b""), (word_at(43_000_000, 7), FIVES[:4096])):
         is_interrupted(run)
@@ -173,7 +177,7 @@ def blocks_come(place, run):
     run.feed(end_at(44_000_000))
 
 
-def acks_come(place, run):
+def acks_come(place: Place, run: Run) -> None:
     """Acknowledgements come while the input stays open."""
     for record, last in ((word_at(0, 5), 12), (word_at(4_000_000, 7), 18), (end_at(8_000_000), 24)):
         is_interrupted(run)
@@ -181,7 +185,7 @@ def acks_come(place, run):
         run.says(text_of(acks(12, last)))
 
 
-def table_comes_slowly(place, run):
+def table_comes_slowly(place: Place, run: Run) -> None:
     pipe = None
     while pipe is None:
         if run.child.poll() is not None:
@@ -199,7 +203,8 @@ def table_comes_slowly(place, run):
 
 
 class Case(places.Case):
-    files, usage, no_memory = {"t1.csv": T1, "a.img": IMAGE}, USAGE, NO_MEMORY
+    files = {"t1.csv": T1, "a.img": IMAGE}
+    usage, no_memory = USAGE, NO_MEMORY
 
 
 LARGEST = file("large.csv", largest_table())
@@ -208,7 +213,7 @@ BIG = all_of(file("every.csv", EVERY), file("a.img", BIG_IMAGE))
 IN_REMOVED = ["sh", "-c", 'mkdir gone; cd gone; rmdir ../gone; exec "$0" "$@"']
 
 
-def writers(stream, how):
+def writers(stream: Stream, how: str) -> Iterator[Case]:
     """Each command that writes to standard output, which takes nothing."""
     yield Case(f"check, {how}", CHECK, NO_OUTPUT, out=stream)
     yield Case(f"stream, {how}", STREAM, NO_OUTPUT, given=TRACE, out=stream)
@@ -221,14 +226,14 @@ def writers(stream, how):
     yield Case(f"drill, {how}", DRILL, NO_OUTPUT, lines=acks(12, 18), changes={"a.img": DRILLED}, out=stream)
 
 
-def tellers(stream, how):
+def tellers(stream: Stream, how: str) -> Iterator[Case]:
     """What goes to a standard error that takes nothing is dropped."""
     yield Case(f"a refused word, {how}", ["list"], USAGE, err=stream)
     yield Case(f"record, {how}", RECORD, DONE, changes={"a.img": AGAIN}, given=TRACE, err=stream)
     yield Case(f"drill, {how}", DRILL, DONE, DRILL_LINE, changes={"a.img": DRILLED}, err=stream)
 
 
-def readers(stream, how):
+def readers(stream: Stream, how: str) -> Iterator[Case]:
     """Each command that reads standard input, which can't be read."""
     yield Case(f"stream, {how}", STREAM, NO_INPUT, given=stream)
     yield Case(f"listbits, {how}", LISTBITS, NO_INPUT, given=stream)
@@ -237,7 +242,7 @@ def readers(stream, how):
     yield Case(f"record, {how}", RECORD, NO_INPUT, lines=acks(12, 12), given=stream)
 
 
-def tables(name, answer, what, **how):
+def tables(name: str, answer: Answer, what: str, **how: Any) -> Iterator[Case]:
     """Each command that reads a table, of this name. None but `check` has begun with anything else then."""
     yield Case(f"check, {what}", ["check", name], answer, **how)
     yield Case(f"stream, {what}", ["stream", name], answer, given=TRACE, **how)
@@ -249,7 +254,7 @@ def tables(name, answer, what, **how):
     yield Case(f"drill, {what}", ["drill", name, "a.img", *SEED], answer, **how)
 
 
-def images(name, answer, what, formatted=None, **how):
+def images(name: str, answer: Answer, what: str, formatted: Answer | None = None, **how: Any) -> Iterator[Case]:
     """Each command on an image, of this name. `format` may answer something else."""
     yield Case(f"record, {what}", ["record", "t1.csv", name], answer, given=TRACE, **how)
     yield Case(f"recover, {what}", ["recover", name], answer, **how)
@@ -263,7 +268,7 @@ def images(name, answer, what, formatted=None, **how):
         yield Case(f"format, {what}", ["format", "t1.csv", name, *SIZES], formatted, **how)
 
 
-def stream_cases():
+def stream_cases() -> Iterator[Case]:
     yield from writers(CLOSED, "output closed")
     yield from writers(FULL, "output full")
     yield from writers(GONE, "output without a reader")
@@ -276,7 +281,7 @@ def stream_cases():
     yield from readers(WRITE_ONLY, "input open for writing alone")
     yield from readers(FOLDER, "input a folder")
     yield from readers(empty_pipe, "input an empty pipe that doesn't wait")
-    closed = {"given": CLOSED, "out": CLOSED, "err": CLOSED}
+    closed: How = {"given": CLOSED, "out": CLOSED, "err": CLOSED}
     yield Case("check, all streams closed", CHECK, NO_OUTPUT, **closed)
     yield Case("format, all streams closed", FORMAT, DONE, changes={"new.img": EMPTY}, **closed)
     yield Case("record, all streams closed", RECORD, NO_INPUT, **closed)
@@ -294,23 +299,23 @@ def stream_cases():
     yield Case("record, input /dev/null", RECORD, TRUNCATED, lines=acks(12, 12), given=NOTHING)
     yield Case("stream, input without end", STREAM, BAD_KIND, given=ZEROS)
     yield Case("record, input without end", RECORD, BAD_KIND, lines=acks(12, 12), given=ZEROS)
-    whole = {"output": b"gap,0,2147483648\n", "seconds": 300}
+    whole: How = {"output": b"gap,0,2147483648\n", "seconds": 300}
     yield Case("listbits, the longest input", LISTBITS, DONE, given=zeros_of(1 << 28), **whole)
     yield Case("listbits, input of a byte more", LISTBITS, TOO_LONG, given=zeros_of((1 << 28) + 1), **whole)
     yield Case("listbits, input without end", LISTBITS, TOO_LONG, given=ZEROS, **whole)
     yield Case("listbits, slow input", LISTBITS, DONE, b"gap,0,16\n" + LISTING, given=PIPE, does=rows_come)
     yield Case("stream, slow input", STREAM, DONE, FIVES, given=PIPE, does=blocks_come)
-    slow = {"lines": acks(12, 24), "changes": {"a.img": AGAIN}, "given": PIPE}
+    slow: How = {"lines": acks(12, 24), "changes": {"a.img": AGAIN}, "given": PIPE}
     yield Case("record, slow input", RECORD, DONE, does=acks_come, **slow)
 
 
-def table_cases():
+def table_cases() -> Iterator[Case]:
     yield from tables("none.csv", NO_TABLE, "the table isn't there")
     yield from tables("folder", NO_TABLE, "the table is a folder", makes=subfolder)
     yield from tables("/dev/null", NO_FRAME, "the table is /dev/null")
     yield from tables("/dev/zero", TOO_LARGE, "the table is /dev/zero")
     yield from tables("t1.csv", NO_TABLE, "the table may not be read", makes=mode("t1.csv", 0o000), user=NOBODY)
-    refused = {
+    refused: dict[str, tuple[str, Maker | None]] = {
         "a file as a folder": ("t1.csv/", None),
         "a link to no file": ("link", link("none.csv")),
         "a link to itself": ("link", link("link")),
@@ -322,15 +327,15 @@ def table_cases():
     }
     for what, (name, makes) in refused.items():
         yield Case(f"check, the table is {what}", ["check", name], NO_TABLE, makes=makes)
-    closed = {"makes": closed_subfolder, "user": NOBODY}
+    closed: How = {"makes": closed_subfolder, "user": NOBODY}
     yield Case("check, the table's folder is closed", ["check", "folder/t1.csv"], NO_TABLE, **closed)
     yield Case("check, the table is a link to one", ["check", "link"], DONE, REPORT, makes=link("t1.csv"))
     yield Case("check, the table is /dev/stdin", ["check", "/dev/stdin"], DONE, REPORT, given=T1)
-    slow = {"makes": named_pipe, "does": table_comes_slowly}
+    slow: How = {"makes": named_pipe, "does": table_comes_slowly}
     yield Case("check, the table is a slow pipe", ["check", "pipe"], DONE, REPORT, **slow)
 
 
-def image_cases():
+def image_cases() -> Iterator[Case]:
     yield from images("none.img", TOO_SMALL, "the image isn't there")
     yield from images("none/a.img", TOO_SMALL, "the image's folder isn't there", DISK_FAULT)
     yield from images("folder", DISK_FAULT, "the image is a folder", DISK_FAULT, makes=subfolder)
@@ -338,7 +343,7 @@ def image_cases():
     yield from images("/dev/zero", DISK_FAULT, "the image is /dev/zero", DISK_FAULT)
     yield from images("/dev/full", DISK_FAULT, "the image is /dev/full", DISK_FAULT)
     yield from images("pipe", DISK_FAULT, "the image is a named pipe", DISK_FAULT, makes=held_pipe)
-    waiting = {"makes": named_pipe, "seconds": 5}
+    waiting: How = {"makes": named_pipe, "seconds": 5}
     yield Case("recover, the image is a named pipe without a writer", ["recover", "pipe"], DISK_FAULT, **waiting)
     yield Case("list, the image is a named pipe without a writer", ["list", "t1.csv", "pipe"], DISK_FAULT, **waiting)
     yield from images("socket", DISK_FAULT, "the image is a socket", DISK_FAULT, makes=bound_socket)
@@ -347,11 +352,11 @@ def image_cases():
     yield from images("link", DISK_FAULT, "the image is a link to itself", DISK_FAULT, makes=link("link"))
     yield from images("i" * 256, DISK_FAULT, "the image is a name of 256 bytes", DISK_FAULT)
     yield from images("t1.csv", CLOSED_HEADER, "the image is the table", NOT_EMPTY)
-    unreadable = {"makes": mode("a.img", 0o000), "user": NOBODY}
+    unreadable: How = {"makes": mode("a.img", 0o000), "user": NOBODY}
     yield from images("a.img", DISK_FAULT, "the image may not be read", DISK_FAULT, **unreadable)
-    closed = {"makes": closed_subfolder, "user": NOBODY}
+    closed: How = {"makes": closed_subfolder, "user": NOBODY}
     yield from images("folder/a.img", DISK_FAULT, "the image's folder is closed", DISK_FAULT, **closed)
-    unwritable = {"makes": mode("a.img", 0o444), "user": NOBODY}
+    unwritable: How = {"makes": mode("a.img", 0o444), "user": NOBODY}
     yield Case("record, the image may not be written", RECORD, DISK_FAULT, given=TRACE, **unwritable)
     yield Case("drill, the image may not be written", DRILL, DISK_FAULT, **unwritable)
     yield Case("recover, the image may not be written", RECOVER, DONE, BITS, **unwritable)
@@ -367,11 +372,11 @@ def image_cases():
     linked = [*FORMAT[:2], "link", *SIZES]
     yield Case("format, a link to an empty file", linked, DONE, makes=through, changes={"new.img": EMPTY})
     linked = ["record", "t1.csv", "link"]
-    recorded = {"changes": {"a.img": AGAIN}, "lines": acks(12, 24), "given": TRACE}
+    recorded: How = {"changes": {"a.img": AGAIN}, "lines": acks(12, 24), "given": TRACE}
     yield Case("record, a link to an image", linked, DONE, makes=link("a.img"), **recorded)
     yield Case("recover, a link to an image", ["recover", "link"], DONE, BITS, makes=link("a.img"))
     yield Case("recover, the image is /dev/stdin", ["recover", "/dev/stdin"], DONE, BITS, given=IMAGE)
-    old = {"makes": file("a.img", OLD)}
+    old: How = {"makes": file("a.img", OLD)}
     yield Case("upgrade, the image is of version 1", UPGRADE, DONE, changes={"a.img": NEW}, **old)
     yield Case("upgrade, the image is of version 2", UPGRADE, DONE)
     yield Case("record, the image is of version 1", RECORD, OLD_VERSION, given=TRACE, **old)
@@ -379,28 +384,28 @@ def image_cases():
     yield Case("recover, the image is of version 1", RECOVER, DONE, BITS, **old)
     yield Case("list, the image is of version 1", LIST, DONE, LISTING, **old)
     yield Case("salvage, the image is of version 1", SALVAGE, DONE, RUN + LISTING, **old)
-    headless = {"makes": file("a.img", bytes(64) + IMAGE[64:])}
+    headless: How = {"makes": file("a.img", bytes(64) + IMAGE[64:])}
     yield Case("salvage, the header is gone", SALVAGE, CLOSED_HEADER, **headless)
     yield Case("salvage, the header is gone, slots and payload given", [*SALVAGE, *SIZES], DONE, RUN + LISTING, **headless)
-    new = {"makes": file("a.img", NEW)}
+    new: How = {"makes": file("a.img", NEW)}
     yield Case("list, the image was upgraded", LIST, DONE, b"session,0,0\n" + LISTING, **new)
-    twice = {"changes": {"a.img": NEW_AGAIN}, "lines": acks(12, 24), "given": TRACE}
+    twice: How = {"changes": {"a.img": NEW_AGAIN}, "lines": acks(12, 24), "given": TRACE}
     yield Case("record, the image was upgraded", RECORD, DONE, **new, **twice)
 
 
-def meanwhile_cases():
+def meanwhile_cases() -> Iterator[Case]:
     for what, size in (("shrunk", slot_at(shape_of(BIG_IMAGE), 32)), ("emptied", 0)):
-        shrunk = {"makes": BIG, "does": shrinks(size), "changes": {"a.img": BIG_IMAGE[:size]}}
+        shrunk: How = {"makes": BIG, "does": shrinks(size), "changes": {"a.img": BIG_IMAGE[:size]}}
         yield Case(f"recover, the image is {what}", RECOVER, DISK_FAULT, Front(BIG_BITS), **shrunk)
         yield Case(f"list, the image is {what}", LIST_EVERY, DISK_FAULT, Front(BIG_LISTING), **shrunk)
     shrunk = {"changes": {"a.img": recorded(IMAGE, BITS[:384])[:700]}, "does": shrinks_while_recorded_in}
     yield Case("record, the image is shrunk", RECORD, DISK_FAULT, lines=acks(12, 18), given=PIPE, **shrunk)
-    whole = {"lines": acks(12, 24), "given": PIPE}
+    whole: How = {"lines": acks(12, 24), "given": PIPE}
     yield Case("record, others come", RECORD, DONE, changes={"a.img": AGAIN}, does=others_come, **whole)
     yield Case("list, others come", LIST_EVERY, DONE, BIG_LISTING, makes=BIG, does=readers_come)
-    lost = {"given": PIPE, "does": loses_its_reader}
+    lost: How = {"given": PIPE, "does": loses_its_reader}
     yield Case("listbits, its reader goes", LISTBITS, NO_OUTPUT, LISTING[:17], **lost)
-    killed = {"changes": {"a.img": AGAIN}, "does": is_killed, "given": PIPE}
+    killed: How = {"changes": {"a.img": AGAIN}, "does": is_killed, "given": PIPE}
     yield Case("record, killed, and record", RECORD, KILLED, lines=acks(12, 12), **killed)
     renamed = {"a.img": None, "b.img": AGAIN}
     rename = image_gets(lambda path: path.rename(path.with_name("b.img")))
@@ -409,14 +414,14 @@ def meanwhile_cases():
     yield Case("record, the image's name is removed", RECORD, DONE, changes={"a.img": None}, does=unlink, **whole)
 
 
-def limit_cases():
+def limit_cases() -> Iterator[Case]:
     five, end_of_five = recorded(EMPTY, BITS[:320]), slot_at(shape_of(EMPTY), 5)
-    only = {"makes": file("a.img", EMPTY), "changes": {"a.img": five}, "lines": acks(0, 5), "given": TRACE}
-    front = {"given": BITS, "out": To("shown"), "changes": {"shown": LISTING[:20]}}
-    ignored = {"ignores": signal.SIGXFSZ}
+    only: How = {"makes": file("a.img", EMPTY), "changes": {"a.img": five}, "lines": acks(0, 5), "given": TRACE}
+    front: How = {"given": BITS, "out": To("shown"), "changes": {"shown": LISTING[:20]}}
+    ignored: How = {"ignores": signal.SIGXFSZ}
     # A limit of the size of files ends a run by a signal, where that isn't ignored.
     yield Case("format, at a limit of size", FORMAT, DISK_FAULT, **size_limit(1000), **ignored)
-    to_fill = {"makes": file("new.img"), **size_limit(1000), **ignored}
+    to_fill: How = {"makes": file("new.img"), **size_limit(1000), **ignored}
     yield Case("format of an empty file, at a limit of size", FORMAT, DISK_FAULT, **to_fill)
     yield Case("record, at a limit of size", RECORD, DISK_FAULT, **only, **size_limit(end_of_five), **ignored)
     yield Case("listbits, at a limit of size", LISTBITS, NO_OUTPUT, **front, **size_limit(20), **ignored)
@@ -434,14 +439,14 @@ def limit_cases():
     yield Case("format, few descriptors and input closed", FORMAT, DISK_FAULT, given=CLOSED, **few_files(5))
 
 
-def memory_cases():
+def memory_cases() -> Iterator[Case]:
     wide = recorded(empty_image(16, 64, words=1024), b"")
     report = b"frame,1024,2048,262144\n" + b"".join(b"param,Q%d,32,even\n" % number for number in range(2048))
-    with_image = {"makes": all_of(LARGEST, WIDE_IMAGE)}
+    with_image: How = {"makes": all_of(LARGEST, WIDE_IMAGE)}
     yield Case("check", ["check", "large.csv"], DONE, report, makes=LARGEST)
     yield Case("stream", ["stream", "large.csv"], DONE, given=end_at(0), makes=LARGEST)
     yield Case("listbits", ["listbits", "large.csv"], DONE, b"gap,0,6144\n", given=BITS, makes=LARGEST)
-    new = {"changes": {"new.img": wide}, "makes": LARGEST}
+    new: How = {"changes": {"new.img": wide}, "makes": LARGEST}
     yield Case("format", ["format", "large.csv", "new.img", *SIZES], DONE, **new)
     yield Case("record", ["record", "large.csv", "a.img"], DONE, lines=acks(0, 0), given=end_at(0), **with_image)
     yield Case("list", ["list", "large.csv", "a.img"], DONE, **with_image)
@@ -450,7 +455,7 @@ def memory_cases():
     yield Case("upgrade", UPGRADE, DONE, makes=file("a.img", OLD), changes={"a.img": NEW})
 
 
-def word_cases():
+def word_cases() -> Iterator[Case]:
     yield Case("no words", [], USAGE)
     yield Case("a command that isn't text", [b"\xff"], USAGE)
     yield Case("a table that isn't text", ["check", b"\xff.csv"], USAGE)
@@ -464,7 +469,7 @@ def word_cases():
     yield Case("an option of 130,000 digits", [*FORMAT[:3], "--slots", "1" * 130_000, "--payload=64"], USAGE)
 
 
-def mount_cases():
+def mount_cases() -> Iterator[Case]:
     """Cases on a file system in memory with room for 65,536 bytes, or on one that may only be read."""
     small = mounted(65536)
     inside = all_of(small, file("small/a.img", IMAGE))
@@ -474,20 +479,20 @@ def mount_cases():
     yield Case("format, no room", large, DISK_FAULT, makes=small)
     yield Case("format of an empty file, no room", large, DISK_FAULT, makes=all_of(small, file("small/new.img")))
     yield Case("format, no room at all", large, DISK_FAULT, makes=taken)
-    whole = {"changes": {"small/a.img": AGAIN}, "lines": acks(12, 24), "given": TRACE}
+    whole: How = {"changes": {"small/a.img": AGAIN}, "lines": acks(12, 24), "given": TRACE}
     yield Case("record, no room is left", record, DONE, makes=taken, **whole)
     # The first write, of a block's head and bytes after its gate, ends where the first page ends.
     image, begin = empty_image(64, 4096), HEADER.size + 1
     torn = {"small/a.img": image[:begin] + recorded(image, FIVES[:4096])[begin:PAGE] + image[PAGE:]}
-    lacking = {"changes": torn, "lines": acks(0, 0), "given": word_at(0, 5) + end_at(43_000_000)}
+    lacking: How = {"changes": torn, "lines": acks(0, 0), "given": word_at(0, 5) + end_at(43_000_000)}
     holes = all_of(small, sparse_image("small/a.img", image), filled)
     yield Case("record, no room for an image with holes", record, DISK_FAULT, makes=holes, **lacking)
     big = all_of(BIG, small)
-    front = {"changes": {"small/shown": Front(BIG_BITS)}, "out": To("small/shown")}
+    front: How = {"changes": {"small/shown": Front(BIG_BITS)}, "out": To("small/shown")}
     yield Case("recover, no room for its output", RECOVER, NO_OUTPUT, makes=big, **front)
     front = {"changes": {"small/shown": Front(BIG_LISTING)}, "out": To("small/shown")}
     yield Case("list, no room for its output", LIST_EVERY, NO_OUTPUT, makes=big, **front)
-    untold = {"changes": {"a.img": AGAIN, "small/said": b""}, "given": TRACE, "err": To("small/said")}
+    untold: How = {"changes": {"a.img": AGAIN, "small/said": b""}, "given": TRACE, "err": To("small/said")}
     yield Case("record, no room for its acknowledgements", RECORD, DONE, makes=taken, **untold)
     read_only = all_of(inside, made_read_only)
     yield Case("format, the file system may only be read", large, DISK_FAULT, makes=read_only)
@@ -498,14 +503,14 @@ def mount_cases():
     yield Case("upgrade, the file system may only be read", ["upgrade", "small/a.img"], DISK_FAULT, makes=read_only)
 
 
-def main():
+def main() -> int:
     words = argparse.ArgumentParser(description=__doc__.splitlines()[0])
     words.add_argument("program", type=pathlib.Path)
     words.add_argument("--seconds", type=float, default=20, help="that a run may take")
     words.add_argument("--only", default="", help="the cases with this in their names")
     given = words.parse_args()
     begin_apart()
-    cases = [*word_cases(), *stream_cases(), *table_cases(), *image_cases(), *meanwhile_cases()]
+    cases: list[Tried] = [*word_cases(), *stream_cases(), *table_cases(), *image_cases(), *meanwhile_cases()]
     cases += [*limit_cases(), *map(InLittleMemory, memory_cases()), *mount_cases()]
     return try_all([case for case in cases if given.only in case.name], {"fdr": given.program}, given.seconds)
 

@@ -12,13 +12,13 @@ ORDINARY = (TOP / "examples" / "ordinary.csv").read_bytes()
 # --- tables
 
 
-def table_of_every_word():
+def table_of_every_word() -> bytes:
     """One parameter in words 3 to 64 of each subframe, so that a frame has many lines."""
     rate = 62 * 4 * 16
     return f"F,64,2,1\nP,V,0,203,,11,12,U,1,1,0,0,{rate}\nL,V,1,1234,3,1,1,12,0,1\n".encode()
 
 
-def largest_table():
+def largest_table() -> bytes:
     """As many parameters, places and parts as a table may have: 2,048, 8,192 and 262,144.
 
     A word has the four parts of three parameters, a bit each, in two of the four subframes."""
@@ -34,17 +34,17 @@ def largest_table():
 # --- frames and records by examples/t1.csv
 
 
-def t1_frame(counter, value):
+def t1_frame(counter: int, value: int) -> bytes:
     """A frame with this value of its parameter."""
     return frame({(1, 2): counter, (1, 10): value})
 
 
-def t1_word(value):
+def t1_word(value: int) -> int:
     """A bus word of its parameter: label octal 203, and the value in bits 11 to 22."""
     return bus_word(0o203, value)
 
 
-def word_at(time, value):
+def word_at(time: int, value: int) -> bytes:
     """The record of such a word."""
     return record_at(time, t1_word(value))
 

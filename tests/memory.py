@@ -26,6 +26,7 @@ import struct
 import subprocess
 import sys
 import tempfile
+from collections.abc import Iterator, Sequence
 from concurrent import futures
 
 sys.dont_write_bytecode = True
@@ -37,11 +38,15 @@ SOURCE = TOP / "tests" / "refuse.c"
 CASES = TOP / "examples" / "cases"
 LIMIT = 60  # seconds that a run has
 
+Files = dict[str, bytes]
+Answer = tuple[int, bytes, bytes]  # the status, standard output and standard error
+Programs = dict[str, pathlib.Path]
+
 
 class Work:
     """A command, its input and the files that it finds; and what it has to write, where that is stored."""
 
-    def __init__(self, name, words, given, files, output=None, most=sys.maxsize, program="fdr"):
+    def __init__(self, name: str, words: list[str], given: bytes, files: Files, output: bytes | None = None, most: int = sys.maxsize, program: str = "fdr") -> None:
         self.name, self.words, self.given, self.files = name, words, given, files
         self.output, self.most, self.program = output, most, program
         self.no_memory = (12, b"", f"{program}: no memory\n".encode())
@@ -50,11 +55,11 @@ class Work:
 class Ended:
     """What a run answered, left and took, and how many requests for memory it made."""
 
-    def __init__(self, answer, files, taken, requests):
+    def __init__(self, answer: Answer, files: Files, taken: int, requests: int) -> None:
         self.answer, self.files, self.taken, self.requests = answer, files, taken, requests
 
 
-def run(programs, library, work, first=0, last=0):
+def run(programs: Programs, library: pathlib.Path, work: Work, first: int = 0, last: int = 0) -> Ended:
     """Runs a work in a folder of its own; the requests from the first to the last are refused."""
     with tempfile.TemporaryDirectory(prefix="fdr_memory_") as top:
         room, refusals = pathlib.Path(top) / "room", pathlib.Path(top) / "refusals"
@@ -66,15 +71,15 @@ def run(programs, library, work, first=0, last=0):
         with tempfile.TemporaryFile() as given:
             given.write(work.given)
             given.seek(0)
-            how = {"stdin": given, "capture_output": True, "cwd": room, "env": environ, "timeout": LIMIT}
-            ended = subprocess.run([programs[work.program], *work.words], **how)
+            words = [str(programs[work.program]), *work.words]
+            ended = subprocess.run(words, stdin=given, capture_output=True, cwd=room, env=environ, timeout=LIMIT)
             taken = os.lseek(given.fileno(), 0, os.SEEK_CUR)
         files = {path.name: path.read_bytes() for path in room.iterdir()}
         answer = (ended.returncode, ended.stdout, ended.stderr)
         return Ended(answer, files, taken, struct.unpack("=QQQ", refusals.read_bytes())[0])
 
 
-def kind_of(ended, usual, work):
+def kind_of(ended: Ended, usual: Ended, work: Work) -> str:
     """Which of the two answers a run gave, or neither."""
     may_take = work.words[:1] == ["exceed"]
     if ended.answer == work.no_memory and ended.files == work.files and (may_take or not ended.taken):
@@ -82,7 +87,7 @@ def kind_of(ended, usual, work):
     return "as usual" if (ended.answer, ended.files) == (usual.answer, usual.files) else "neither"
 
 
-def refused_numbers(requests, most):
+def refused_numbers(requests: int, most: int) -> Sequence[int]:
     """The numbers to refuse: all, or the first and last quarter of the most and as many between."""
     if requests <= most:
         return range(1, requests + 1)
@@ -94,7 +99,7 @@ def refused_numbers(requests, most):
 # --- the works
 
 
-def stored_works():
+def stored_works() -> Iterator[Work]:
     """The cases of examples/, which `make demo` runs too."""
     files = {path.name: path.read_bytes() for path in (TOP / "examples").iterdir() if path.suffix in (".csv", ".img")}
     for words in sorted(CASES.glob("*.args")):
@@ -102,7 +107,7 @@ def stored_works():
         yield Work(words.stem.replace("_", " "), words.read_text().split("\n")[:-1], given, files, output)
 
 
-def turns_table(cycle):
+def turns_table(cycle: int) -> bytes:
     """Two parameters of one bit that take turns in it, or share it, by the cycle of the second."""
     rows = ["F,64,2,1", "P,A,0,1,,11,1,U,1,1,0,0,8", "L,A,1,1,20,0,3,1,0,2", "P,B,0,2,,11,1,U,1,1,0,0,4"]
     return "\n".join([*rows, f"L,B,1,1,20,0,3,1,{cycle},4", ""]).encode()
@@ -117,24 +122,24 @@ L,ALT,1,1,10,0,1,12,0,1
 """
 
 
-def two_parts_trace():
+def two_parts_trace() -> bytes:
     """Two frames: the altitude 5, and the position hexadecimal ABCDE, which is another after a second."""
     positions = [(0x8ABCDE13, 0), (0x80000113, 1_000_000)]
     records = [record_at(time, word, bus=1) for word, time in positions]
     return word_at(0, 5) + b"".join(records) + end_at(8_000_000)
 
 
-def two_parts_bits():
+def two_parts_bits() -> bytes:
     """What that trace records: the second part of the position is in the second frame."""
     return frame({(1, 10): 5, (1, 20): 0xCDE}) + frame({(1, 2): 1, (1, 10): 5, (1, 20): 0x0AB})
 
 
-def with_bit_before(bits, place):
+def with_bit_before(bits: bytes, place: int) -> bytes:
     """Bits with a zero bit put in before this one, and seven after the last."""
     return with_bit(int.from_bytes(bits, "little"), place, 0).to_bytes(len(bits) + 1, "little")
 
 
-def worked_works():
+def worked_works() -> Iterator[Work]:
     """Works whose output is worked out by hand: parts in turns, a value in two parts, a drill, words as options allow."""
     files = {"t1.csv": T1, "p.csv": TWO_PARTS, "turns.csv": turns_table(1), "shared.csv": turns_table(2)}
     files["e.img"] = empty_image(16, 64)
@@ -170,13 +175,13 @@ def worked_works():
     yield Work("no words", [], b"", files, b"")
 
 
-def ordinary_trace(seconds):
+def ordinary_trace(seconds: int) -> bytes:
     """A trace of words of bus 0 and label octal 206, SDI 0, each second; and the end."""
     records = [record_at(second * 1_000_000, bus_word(0o206, second % 4096, lsb=17)) for second in range(seconds)]
     return b"".join(records) + end_at(seconds * 1_000_000)
 
 
-def further_works():
+def further_works() -> Iterator[Work]:
     """Works by larger tables, refusals, and paths that don't fit in a small buffer."""
     files = {"t1.csv": T1, "o.csv": ORDINARY, "o.img": empty_image(64, 512, words=256), "large.csv": largest_table()}
     files["w.img"] = empty_image(16, 64, words=1024)
@@ -196,15 +201,15 @@ def further_works():
     yield Work("check, a long path", ["check", far + "t1.csv"], b"", files)
     yield Work("record, long paths", ["record", far + "t1.csv", far + "t.img"], trace, files)
     yield Work("format, long paths", ["format", far + "t1.csv", far + "n.img", "--slots=4", "--payload=64"], b"", files)
-    few = {"most": 60}
-    yield Work("check, largest table", ["check", "large.csv"], b"", files, **few)
-    yield Work("listbits, largest table", ["listbits", "large.csv"], t1_frame(0, 5), files, **few)
-    yield Work("stream, largest table", ["stream", "large.csv"], end_at(4_000_000), files, **few)
-    yield Work("list, largest table", ["list", "large.csv", "w.img"], b"", files, **few)
-    yield Work("salvage, largest table", ["salvage", "large.csv", "w.img"], b"", files, **few)
+    few = 60
+    yield Work("check, largest table", ["check", "large.csv"], b"", files, most=few)
+    yield Work("listbits, largest table", ["listbits", "large.csv"], t1_frame(0, 5), files, most=few)
+    yield Work("stream, largest table", ["stream", "large.csv"], end_at(4_000_000), files, most=few)
+    yield Work("list, largest table", ["list", "large.csv", "w.img"], b"", files, most=few)
+    yield Work("salvage, largest table", ["salvage", "large.csv", "w.img"], b"", files, most=few)
 
 
-def pair_works():
+def pair_works() -> Iterator[Work]:
     """Recordings in two images, and such as are refused."""
     image, files = recorded(empty_image(16, 64), BITS), {"t1.csv": T1, "o.csv": ORDINARY, "large.csv": largest_table()}
     files |= {"a.img": image, "b.img": image, "behind.img": empty_image(16, 64), "other.img": empty_image(16, 65)}
@@ -229,7 +234,7 @@ def pair_works():
         yield Work(f"in two images, {name}", words, trace, files, b"", most, "fdrpair")
 
 
-def main():
+def main() -> int:
     words = argparse.ArgumentParser(description=__doc__.splitlines()[0])
     words.add_argument("fdr", type=pathlib.Path)
     words.add_argument("fdrpair", type=pathlib.Path)
@@ -240,7 +245,7 @@ def main():
     if not shutil.which("cc"):
         print("skipped: there is no C compiler")
         return 0
-    unlike = 0
+    tried = unlike = 0
     refused = ["one refused: no memory", "as usual", "and all after it: no memory", "as usual"]
     print("| " + " | ".join(["work", "status", "requests", "tried", *refused]) + " |")
     print("|---|---:|---:|---:|---:|---:|---:|---:|")
@@ -254,9 +259,10 @@ def main():
                 print(f"{work.name}: wrote {usual.answer[1][:200]!r} with all its memory")
                 unlike += 1
             numbers = refused_numbers(usual.requests, min(work.most, given.most))
-            cells = []
-            for how, last in (("alone", lambda number: number), ("and all after", lambda number: 1 << 62)):
-                tries = [pool.submit(run, programs, library, work, number, last(number)) for number in numbers]
+            cells: list[int] = []
+            for how, most in (("alone", 0), ("and all after", 1 << 62)):
+                tries = [pool.submit(run, programs, library, work, number, max(number, most)) for number in numbers]
+                tried += len(tries)
                 kinds = [kind_of(one.result(), usual, work) for one in tries]
                 cells += [kinds.count("no memory"), kinds.count("as usual")]
                 for number, one, kind in zip(numbers, tries, kinds):
@@ -266,7 +272,7 @@ def main():
                         unlike += 1
             print(f"| {work.name} | {usual.answer[0]} | {usual.requests:,} | {len(numbers)} | ", end="")
             print(" | ".join(map(str, cells)), "|", flush=True)
-    print(f"{unlike} answers that are neither")
+    print(f"{tried:,} runs, {unlike} answers that are neither")
     return 1 if unlike else 0
 
 

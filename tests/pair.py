@@ -44,7 +44,7 @@ from inputs import TOP
 from pair_cases import all_cases
 from pair_faults import fault_cases
 from places import Mismatch, begin_apart, try_all
-from recordings import Image, kill_after, next_by, record, trace_of
+from recordings import Act, Image, Recorded, Recording, Words, kill_after, next_by, record, trace_of
 
 RUNS_OF_A_PAIR = 20
 BYTES_A_SECOND = 96  # of a stream by examples/t1.csv
@@ -70,28 +70,28 @@ COUNTS = [
 class Pair:
     """Two images that are recorded in together."""
 
-    def __init__(self, program, fdr, table, room, slots, payload):
+    def __init__(self, program: pathlib.Path, fdr: pathlib.Path, table: pathlib.Path, room: pathlib.Path, slots: int, payload: int) -> None:
         self.program, self.table, self.slots, self.payload = program, table, slots, payload
         self.first, self.second = (Image(fdr, table, room / name, slots, payload) for name in ("first.img", "second.img"))
-        self.words = [program, "record", table, self.first.path, self.second.path]
+        self.words: Words = [program, "record", table, self.first.path, self.second.path]
 
-    def name_of(self, image):
+    def name_of(self, image: Image) -> str:
         return "first" if image is self.first else "second"
 
-    def other(self, image):
+    def other(self, image: Image) -> Image:
         return self.second if image is self.first else self.first
 
-    def lead(self):
+    def lead(self) -> Image:
         """The image with more blocks, the first one where both have as many."""
         return self.first if len(self.first.blocks) >= len(self.second.blocks) else self.second
 
-    def replace(self, image):
+    def replace(self, image: Image) -> None:
         """A copy of the other image takes the place of this one."""
         other = self.other(image)
         shutil.copyfile(other.path, image.path)
         image.blocks = list(other.blocks)
 
-    def is_too_far(self):
+    def is_too_far(self) -> bool:
         """Whether the image that leads no longer has the next block of the other."""
         lead = self.lead()
         run = recovered(lead.path.read_bytes())
@@ -101,7 +101,7 @@ class Pair:
 # --- the pair changes
 
 
-def record_alone(pair, chance):
+def record_alone(pair: Pair, chance: random.Random) -> None:
     """The image that leads is recorded in alone: up to more blocks than its ring has."""
     lead = pair.lead()
     blocks = chance.randrange(1, pair.slots * 5 // 4 + 1)
@@ -113,7 +113,7 @@ def record_alone(pair, chance):
     lead.look(every, len(every), len(every))
 
 
-def want_refusal(pair, chance):
+def want_refusal(pair: Pair, chance: random.Random) -> None:
     """The image that is too far behind is refused, and both are as they were. Then it is replaced."""
     behind = pair.other(pair.lead())
     before = [image.path.read_bytes() for image in (pair.first, pair.second)]
@@ -126,7 +126,7 @@ def want_refusal(pair, chance):
     pair.replace(behind)
 
 
-def change(pair, chance, counts):
+def change(pair: Pair, chance: random.Random, counts: dict[str, int]) -> None:
     """What happens to the pair between two runs."""
     kind = chance.random()
     if kind < 0.1:
@@ -146,24 +146,26 @@ def change(pair, chance, counts):
 class Loss:
     """An image that is made shorter while it is recorded in."""
 
-    def __init__(self, pair, chance):
+    def __init__(self, pair: Pair, chance: random.Random) -> None:
         self.image = chance.choice([pair.first, pair.second])
         self.other, self.whole = pair.other(self.image), self.image.path.stat().st_size
-        self.size, self.following = chance.randrange(self.whole), None
+        self.size = chance.randrange(self.whole)
+        self.following = 0
 
-    def __call__(self, recording):
+    def __call__(self, recording: Recording) -> None:
         os.truncate(self.image.path, self.size)
         self.following = next_number(self.other.path.read_bytes())
 
-    def has_to_be_said(self, told):
+    def has_to_be_said(self, told: list[int]) -> bool:
         """Whether a block that was begun afterwards met it. The first one that the other image lacked then may have been begun
         before, and a write that was on its way may have made the file as long again."""
         return self.image.path.stat().st_size < self.whole and told[-1] > self.following + 1
 
 
-def acts_of(pair, coming, missing, chance, pace):
+def acts_of(pair: Pair, coming: list[tuple[int, bytes]], missing: int, chance: random.Random, pace: dict[str, float]) -> tuple[list[tuple[int | None, Act]], Loss | None]:
     """What happens while a trace is recorded: how many acknowledgements are waited for, and what is done then."""
-    acts, loss, count = [], None, 0
+    acts: list[tuple[int | None, Act]] = []
+    loss, count = None, 0
     if pace and chance.random() < 0.2:
         loss = Loss(pair, chance)
         count = chance.randrange(1, min(40, len(coming)) + 1)
@@ -178,7 +180,7 @@ def acts_of(pair, coming, missing, chance, pace):
     return acts, loss
 
 
-def lines_differ(pair, ended, loss):
+def lines_differ(pair: Pair, ended: Recorded, loss: Loss | None) -> str | None:
     """What is wrong with the lines that aren't acknowledgements, if anything."""
     wanted = [f"fault {pair.name_of(loss.image)}"] if loss else []
     if ended.others not in ([], wanted):
@@ -188,7 +190,7 @@ def lines_differ(pair, ended, loss):
     return None
 
 
-def record_and_look(pair, chance, pace, counts):
+def record_and_look(pair: Pair, chance: random.Random, pace: dict[str, float], counts: dict[str, int]) -> None:
     """One run, and what both images hold after it. The first one is let end, to learn the program's pace."""
     lead = pair.lead()
     follower = pair.other(lead)
@@ -237,12 +239,13 @@ def record_and_look(pair, chance, pace, counts):
     counts["blocks brought up"] += 0 if lost else min(following[follower], first) - behind
 
 
-def kill_recordings(program, fdr, runs, seed, table):
+def kill_recordings(program: pathlib.Path, fdr: pathlib.Path, runs: int, seed: int, table: pathlib.Path) -> int:
     """Kills so many recordings, and answers the status to end with."""
-    chance, counts, pace = random.Random(seed), dict.fromkeys(COUNTS, 0), {}
+    chance, counts = random.Random(seed), dict.fromkeys(COUNTS, 0)
+    pace: dict[str, float] = {}
     room = pathlib.Path(tempfile.mkdtemp(prefix="fdr_pair_"))
     print(f"seed {seed}", flush=True)
-    run, pair = 0, None
+    run, slots, payload = 0, 0, 0
     try:
         for run in range(runs):
             if run % RUNS_OF_A_PAIR == 0:
@@ -262,7 +265,7 @@ def kill_recordings(program, fdr, runs, seed, table):
     return 0
 
 
-def main():
+def main() -> int:
     words = argparse.ArgumentParser(description=__doc__.splitlines()[0])
     words.add_argument("program", type=pathlib.Path)
     words.add_argument("fdr", type=pathlib.Path)

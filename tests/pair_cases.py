@@ -7,13 +7,17 @@ and the answer's text.
 
 import fcntl
 import os
+import pathlib
 import signal
+from collections.abc import Callable, Iterable, Iterator
+from typing import Any
 
 import places
 from formats import HEAD, HEADER, NUMBERS, SESSIONS, VERSION_1, blocks_of, empty_image, end_at, head_of
 from formats import next_number, next_session, recorded, recovered, shape_of, slot_at, upgraded, with_blocks
 from inputs import BITS, FIVES, T1, TRACE, largest_table, t1_frame, word_at
 from places import CLOSED, FOLDER, FULL, GONE, NOBODY, NOTHING, PAGE, PIPE, READ_ONLY, WRITE_ONLY, ZEROS, InLittleMemory, Mismatch
+from places import Answer, Doer, How, Maker, Place, Run, Stream, Words
 from places import acks, all_of, block_device, bound_socket, closed_subfolder, empty_pipe, few_files, file, filled, held_pipe
 from places import is_interrupted, link, made_read_only, mode, mounted, size_limit, sparse_image, subfolder, text_of
 
@@ -49,15 +53,15 @@ FIRST, SECOND = "fault first", "fault second"
 WHOLE = {"a.img": AGAIN, "b.img": AGAIN}
 
 
-def refused(side, fault):
+def refused(side: str, fault: str) -> Answer:
     return 4, f"fdrpair: {side} image: {fault}"
 
 
-def differs(number):
+def differs(number: int) -> Answer:
     return 16, f"fdrpair: block {number} differs"
 
 
-def far_behind(side):
+def far_behind(side: str) -> Answer:
     return 19, f"fdrpair: {side} image is too far behind"
 
 
@@ -65,30 +69,31 @@ class Case(places.Case):
     """A run on both images with the trace of two frames, where nothing else is said. None of it is taken before a number
     was acknowledged."""
 
-    files, usage, no_memory = {"t1.csv": T1, "a.img": IMAGE, "b.img": IMAGE}, USAGE, NO_MEMORY
+    files = {"t1.csv": T1, "a.img": IMAGE, "b.img": IMAGE}
+    usage, no_memory = USAGE, NO_MEMORY
 
-    def __init__(self, name, answer, lines=(), words=RECORD, given=TRACE, **how):
+    def __init__(self, name: str, answer: Answer, lines: Iterable[str] = (), words: Words = RECORD, given: Stream = TRACE, **how: Any) -> None:
         super().__init__(name, words, answer, lines=lines, given=given, **how)
 
-    def may_take(self, said):
+    def may_take(self, said: bytes) -> bool:
         return b"ack" in said or self.how.get("err") is not None
 
 
 # --- images
 
 
-def images(first, second):
+def images(first: bytes, second: bytes) -> Maker:
     return all_of(file("a.img", first), file("b.img", second))
 
 
-def brought(image, lead, bits):
+def brought(image: bytes, lead: bytes, bits: bytes) -> bytes:
     """The image after it was brought up to the lead, and the bits were recorded on both."""
     missing = [(block.session, block.payload) for block in recovered(lead) if block.number >= next_number(image)]
     session = next_session(lead)
     return with_blocks(image, missing + [(session, block) for block in blocks_of(bits, shape_of(lead).payload)])
 
 
-def goes_on(name, first, second, bits=BITS, **how):
+def goes_on(name: str, first: bytes, second: bytes, bits: bytes = BITS, **how: Any) -> Case:
     """A recording on both, of which the one that is behind is brought up first."""
     lead = first if next_number(first) >= next_number(second) else second
     number = next_number(lead)
@@ -97,17 +102,17 @@ def goes_on(name, first, second, bits=BITS, **how):
     return Case(name, DONE, lines, makes=images(first, second), changes=changes, **how)
 
 
-def longer(image, count):
+def longer(image: bytes, count: int) -> bytes:
     """The image after a recording of so many blocks."""
     return recorded(image, (BITS * 8)[: 64 * count])
 
 
-def altered(image, at):
+def altered(image: bytes, at: int) -> bytes:
     """The image with another byte here."""
     return image[:at] + bytes([image[at] ^ 1]) + image[at + 1 :]
 
 
-def with_last(number, session=1):
+def with_last(number: int, session: int = 1) -> bytes:
     """An image of 16 slots whose only block has this number."""
     at, block = slot_at(shape_of(EMPTY), number), BITS[:64]
     return EMPTY[:at] + head_of(number, len(block), session) + block + EMPTY[at + HEAD.size + len(block) :]
@@ -116,10 +121,10 @@ def with_last(number, session=1):
 # --- what a case adds to its folder
 
 
-def locked(how, *names):
+def locked(how: int, *names: str) -> Maker:
     """Somebody else has the lock of these files."""
 
-    def make(place):
+    def make(place: Place) -> None:
         for name in names:
             held = place.undo.enter_context(open(place.room / name, "rb"))
             fcntl.flock(held, how)
@@ -127,11 +132,11 @@ def locked(how, *names):
     return make
 
 
-def same_file(place):
+def same_file(place: Place) -> None:
     os.link(place.room / "a.img", place.room / "same.img")
 
 
-def in_other_hands(*modes):
+def in_other_hands(*modes: tuple[str, int]) -> Maker:
     """Files that everybody may write, and some with these modes."""
     return all_of(*(mode(name, bits) for name, bits in {"a.img": 0o666, "b.img": 0o666, **dict(modes)}.items()))
 
@@ -139,10 +144,10 @@ def in_other_hands(*modes):
 # --- what happens while the program runs
 
 
-def shrink(size, *names):
+def shrink(size: int, *names: str) -> Doer:
     """These images are made shorter while the recording waits for more of its input."""
 
-    def act(place, run):
+    def act(place: Place, run: Run) -> None:
         run.feed(word_at(0, 5) + word_at(4_000_000, 7))
         run.says(text_of(acks(NEXT, NEXT + 6)))
         for name in names:
@@ -152,7 +157,7 @@ def shrink(size, *names):
     return act
 
 
-def shrink_in_turn(place, run):
+def shrink_in_turn(place: Place, run: Run) -> None:
     """First the second image is made shorter, and later the first."""
     run.feed(word_at(0, 5) + word_at(4_000_000, 7))
     run.says(text_of(acks(NEXT, NEXT + 6)))
@@ -163,7 +168,7 @@ def shrink_in_turn(place, run):
     run.feed(end_at(12_000_000))
 
 
-def others_come(place, run):
+def others_come(place: Place, run: Run) -> None:
     """While both images are recorded in, all else that opens one is refused."""
     run.says(text_of(acks(NEXT, NEXT)))
     for name in ("a.img", "b.img"):
@@ -173,15 +178,15 @@ def others_come(place, run):
     run.feed(TRACE)
 
 
-def is_killed(place, run):
+def is_killed(place: Place, run: Run) -> None:
     run.says(text_of(acks(NEXT, NEXT)))
     run.child.kill()
     run.child.wait()
     place.expect(RECORD, DONE, lines=acks(NEXT, AFTER), given=TRACE)
 
 
-def images_get(change):
-    def act(place, run):
+def images_get(change: Callable[[pathlib.Path], object]) -> Doer:
+    def act(place: Place, run: Run) -> None:
         run.says(text_of(acks(NEXT, NEXT)))
         for name in ("a.img", "b.img"):
             change(place.room / name)
@@ -190,7 +195,7 @@ def images_get(change):
     return act
 
 
-def acks_come(place, run):
+def acks_come(place: Place, run: Run) -> None:
     """Acknowledgements come while the input stays open, and both images have what was acknowledged."""
     for record, last, bits in ((word_at(0, 5), NEXT, b""), (word_at(4_000_000, 7), NEXT + 6, SIXTH), (end_at(8_000_000), AFTER, BITS)):
         is_interrupted(run)
@@ -204,7 +209,7 @@ def acks_come(place, run):
 # --- the cases
 
 
-def one_fails(what, name, **how):
+def one_fails(what: str, name: str, **how: Any) -> Iterator[Case]:
     """Either image is this, which is a fault of its disk: the recording goes on with the other."""
     words = ["record", "t1.csv", name, "b.img"]
     yield Case(f"the first image is {what}", DONE, [FIRST, *acks(NEXT, AFTER)], words, changes={"b.img": AGAIN}, **how)
@@ -214,7 +219,7 @@ def one_fails(what, name, **how):
     yield Case(f"both images are {what}", DISK_FAULT, [FIRST, SECOND], words, **how)
 
 
-def one_is_refused(what, fault, image):
+def one_is_refused(what: str, fault: str, image: bytes) -> Iterator[Case]:
     """Either image has these bytes, for which it is refused, also where the other disk failed."""
     yield Case(f"the first image is {what}", refused("first", fault), makes=images(image, IMAGE))
     yield Case(f"the second image is {what}", refused("second", fault), makes=images(IMAGE, image))
@@ -227,8 +232,8 @@ def one_is_refused(what, fault, image):
     yield Case(f"the first image is {what}, and the second disk failed", refused("first", fault), [SECOND], words, makes=failed)
 
 
-def word_cases():
-    for what, words in {
+def word_cases() -> Iterator[Case]:
+    refused_words: dict[str, Words] = {
         "no words": [],
         "a command alone": ["record"],
         "a word too few": RECORD[:3],
@@ -248,11 +253,12 @@ def word_cases():
         "an image that isn't text": ["record", "t1.csv", "a.img", b"b\xc0\x80.img"],
         "a hundred thousand words": ["record"] + ["t"] * 100_000,
         "a command of 130,000 bytes": ["r" * 130_000, *RECORD[1:]],
-    }.items():
+    }
+    for what, words in refused_words.items():
         yield Case(what, USAGE, words=words)
 
 
-def start_cases():
+def start_cases() -> Iterator[Case]:
     yield goes_on("both are empty rings", EMPTY, EMPTY)
     yield goes_on("both have the same blocks", IMAGE, IMAGE)
     yield goes_on("both went round", AGAIN, AGAIN)
@@ -280,7 +286,7 @@ def start_cases():
     yield Case("the trace is cut", CUT, acks(NEXT, NEXT + 6), given=TRACE[:47], changes=dict.fromkeys(WHOLE, recorded(IMAGE, SIXTH)))
 
 
-def refusal_cases():
+def refusal_cases() -> Iterator[Case]:
     yield from one_is_refused("an empty file", "too small", b"")
     yield from one_is_refused("a file of 63 bytes", "too small", IMAGE[:63])
     yield from one_is_refused("shorter than its header says", "shorter than its ring", IMAGE[:-1])
@@ -308,7 +314,7 @@ def refusal_cases():
     yield Case("both are for other frames", OTHER_WORDS, makes=images(wide, wide))
     old_and_wide = empty_image(16, 64, words=128, version=VERSION_1)
     yield Case("both are of version 1 and for other frames", OTHER_WORDS, makes=images(old_and_wide, old_and_wide))
-    failed = {"words": ["record", "t1.csv", "folder", "b.img"], "lines": [FIRST]}
+    failed: How = {"words": ["record", "t1.csv", "folder", "b.img"], "lines": [FIRST]}
     yield Case("the second is for other frames, and the first disk failed", OTHER_WORDS, makes=all_of(images(IMAGE, wide), subfolder), **failed)
     old = recorded(empty_image(16, 64, version=VERSION_1), BITS)
     yield Case("both are of version 1", OLD_VERSION, makes=images(old, old))
@@ -328,7 +334,7 @@ def refusal_cases():
     yield Case("they differ in the last block of one", differs(NEXT), makes=images(far, longer(IMAGE, 1)))
 
 
-def fault_cases():
+def fault_cases() -> Iterator[Case]:
     yield from one_fails("a folder", "folder", makes=subfolder)
     yield from one_fails("/dev/null", "/dev/null")
     yield from one_fails("/dev/zero", "/dev/zero")
@@ -341,7 +347,7 @@ def fault_cases():
     yield from one_fails("in a closed folder", "folder/a.img", makes=all_of(in_other_hands(), closed_subfolder), user=NOBODY)
 
     for bits, what in ((0o000, "may not be read"), (0o444, "may not be written")):
-        of_both = {"user": NOBODY, "makes": in_other_hands(("a.img", bits))}
+        of_both: How = {"user": NOBODY, "makes": in_other_hands(("a.img", bits))}
         yield Case(f"the first image {what}", DONE, [FIRST, *acks(NEXT, AFTER)], changes={"b.img": AGAIN}, **of_both)
         of_both = {"user": NOBODY, "makes": in_other_hands(("b.img", bits))}
         yield Case(f"the second image {what}", DONE, [SECOND, *acks(NEXT, AFTER)], changes={"a.img": AGAIN}, **of_both)
@@ -349,24 +355,24 @@ def fault_cases():
         yield Case(f"both images: {what}", DISK_FAULT, [FIRST, SECOND], **of_both)
 
     for how, what in ((fcntl.LOCK_EX, "recorded in"), (fcntl.LOCK_SH, "read")):
-        held = {"makes": locked(how, "a.img"), "changes": {"b.img": AGAIN}}
+        held: How = {"makes": locked(how, "a.img"), "changes": {"b.img": AGAIN}}
         yield Case(f"the first image is {what} by another", DONE, [FIRST, *acks(NEXT, AFTER)], **held)
         held = {"makes": locked(how, "b.img"), "changes": {"a.img": AGAIN}}
         yield Case(f"the second image is {what} by another", DONE, [SECOND, *acks(NEXT, AFTER)], **held)
         yield Case(f"both images are {what} by another", DISK_FAULT, [FIRST, SECOND], makes=locked(how, "a.img", "b.img"))
 
-    once = {"lines": [SECOND, *acks(NEXT, AFTER)], "changes": {"a.img": AGAIN}}
+    once: How = {"lines": [SECOND, *acks(NEXT, AFTER)], "changes": {"a.img": AGAIN}}
     yield Case("the same image twice", DONE, words=["record", "t1.csv", "a.img", "a.img"], **once)
     yield Case("the same image by another path", DONE, words=["record", "t1.csv", "a.img", "./a.img"], **once)
     yield Case("the same image by a link", DONE, words=["record", "t1.csv", "a.img", "link"], makes=link("a.img"), **once)
-    twice = {**once, "changes": {"a.img": AGAIN, "same.img": AGAIN}}
+    twice: How = {**once, "changes": {"a.img": AGAIN, "same.img": AGAIN}}
     yield Case("the same image by another name", DONE, words=["record", "t1.csv", "a.img", "same.img"], makes=same_file, **twice)
     yield Case("links to both images", DONE, acks(NEXT, AFTER), ["record", "t1.csv", "link", "b.img"], makes=link("a.img"), changes=WHOLE)
 
 
-def meanwhile_cases():
+def meanwhile_cases() -> Iterator[Case]:
     cut = recorded(IMAGE, SIXTH)[:700]
-    lost = {"given": PIPE, "does": shrink(700, "b.img"), "changes": {"a.img": AGAIN, "b.img": cut}}
+    lost: How = {"given": PIPE, "does": shrink(700, "b.img"), "changes": {"a.img": AGAIN, "b.img": cut}}
     yield Case("the second image is shrunk", DONE, [*acks(NEXT, NEXT + 6), SECOND, *acks(NEXT + 7, AFTER)], **lost)
     lost = {"given": PIPE, "does": shrink(700, "a.img"), "changes": {"a.img": cut, "b.img": AGAIN}}
     yield Case("the first image is shrunk", DONE, [*acks(NEXT, NEXT + 6), FIRST, *acks(NEXT + 7, AFTER)], **lost)
@@ -377,7 +383,7 @@ def meanwhile_cases():
     lines = [*acks(NEXT, NEXT + 6), SECOND, *acks(NEXT + 7, AFTER), FIRST]
     lost = {"given": PIPE, "does": shrink_in_turn, "changes": {"a.img": AGAIN[:700], "b.img": cut}}
     yield Case("one image is shrunk after the other", DISK_FAULT, lines, **lost)
-    whole = {"lines": acks(NEXT, AFTER), "given": PIPE}
+    whole: How = {"lines": acks(NEXT, AFTER), "given": PIPE}
     yield Case("acknowledgements come", DONE, does=acks_come, changes=WHOLE, **whole)
     yield Case("others come", DONE, does=others_come, changes=WHOLE, **whole)
     yield Case("killed, and recorded again", KILLED, acks(NEXT, NEXT), given=PIPE, does=is_killed, changes=WHOLE)
@@ -388,7 +394,7 @@ def meanwhile_cases():
     yield Case("the names of both images are removed", DONE, does=unlink, changes={"a.img": None, "b.img": None}, **whole)
 
 
-def stream_cases():
+def stream_cases() -> Iterator[Case]:
     for stream, how in ((CLOSED, "closed"), (FULL, "full"), (GONE, "without a reader")):
         yield Case(f"standard error {how}", DONE, changes=WHOLE, err=stream)
         words = ["record", "t1.csv", "a.img", "folder"]
@@ -396,26 +402,27 @@ def stream_cases():
         yield Case(f"standard error {how}, and the words are refused", USAGE, words=RECORD[:3], err=stream)
         yield Case(f"standard output {how}", DONE, acks(NEXT, AFTER), changes=WHOLE, out=stream)
     yield Case("standard output open for reading alone", DONE, acks(NEXT, AFTER), changes=WHOLE, out=READ_ONLY)
-    for stream, how in ((CLOSED, "closed"), (WRITE_ONLY, "open for writing alone"), (FOLDER, "a folder"), (empty_pipe, "an empty pipe that doesn't wait")):
+    inputs: list[tuple[Stream, str]] = [(CLOSED, "closed"), (WRITE_ONLY, "open for writing alone"), (FOLDER, "a folder")]
+    for stream, how in [*inputs, (empty_pipe, "an empty pipe that doesn't wait")]:
         yield Case(f"input {how}", NO_INPUT, acks(NEXT, NEXT), given=stream)
     yield Case("input /dev/null", TRUNCATED, acks(NEXT, NEXT), given=NOTHING)
     yield Case("input without end", BAD_KIND, acks(NEXT, NEXT), given=ZEROS)
     yield Case("all streams closed", NO_INPUT, given=CLOSED, out=CLOSED, err=CLOSED)
 
 
-def table_cases():
+def table_cases() -> Iterator[Case]:
     for name, answer in {"none.csv": NO_TABLE, "folder": NO_TABLE, "/dev/null": NO_FRAME, "/dev/zero": TOO_LARGE}.items():
         yield Case(f"the table is {name}", answer, words=["record", name, "a.img", "b.img"], makes=subfolder)
         # The disks weren't asked for anything, so that no fault is said.
         yield Case(f"the table is {name}, and no image is good", answer, words=["record", name, "folder", "none.img"], makes=subfolder)
-    may_not = {"makes": all_of(in_other_hands(), mode("t1.csv", 0o000)), "user": NOBODY}
+    may_not: How = {"makes": all_of(in_other_hands(), mode("t1.csv", 0o000)), "user": NOBODY}
     yield Case("the table may not be read", NO_TABLE, **may_not)
     yield Case("the table is /dev/stdin", BAD_KIND, acks(NEXT, NEXT), ["record", "/dev/stdin", "a.img", "b.img"], given=T1)
 
 
-def limit_cases():
+def limit_cases() -> Iterator[Case]:
     five = dict.fromkeys(WHOLE, recorded(EMPTY, BITS[:320]))
-    only = {"makes": images(EMPTY, EMPTY), "changes": five, **size_limit(slot_at(shape_of(EMPTY), 5))}
+    only: How = {"makes": images(EMPTY, EMPTY), "changes": five, **size_limit(slot_at(shape_of(EMPTY), 5))}
     # A limit of the size of files ends a run by a signal, where that isn't ignored.
     yield Case("at a limit of size", DISK_FAULT, [*acks(0, 5), FIRST, SECOND], ignores=signal.SIGXFSZ, **only)
     yield Case("ended at a limit of size", PAST_SIZE, acks(0, 5), **only)
@@ -425,17 +432,17 @@ def limit_cases():
     yield Case("two descriptors too few", DISK_FAULT, [FIRST, SECOND], **few_files(4))
 
 
-def memory_cases():
+def memory_cases() -> Iterator[Case]:
     yield Case("on both", DONE, acks(NEXT, AFTER), changes=WHOLE)
     large = all_of(file("large.csv", largest_table()), images(*[empty_image(16, 64, words=1024)] * 2))
     yield Case("by the largest table", DONE, acks(0, 0), ["record", "large.csv", "a.img", "b.img"], makes=large, given=end_at(0))
 
 
-def mount_cases():
+def mount_cases() -> Iterator[Case]:
     """Cases with an image on a file system in memory with room for 65,536 bytes, or on one that may only be read."""
     small = mounted(65536)
     on_second, on_first = ["record", "t1.csv", "a.img", "small/b.img"], ["record", "t1.csv", "small/b.img", "a.img"]
-    both = {"changes": {"a.img": AGAIN, "small/b.img": AGAIN}}
+    both: How = {"changes": {"a.img": AGAIN, "small/b.img": AGAIN}}
     taken = all_of(small, file("small/b.img", IMAGE), filled)
     yield Case("no room is left for the second", DONE, acks(NEXT, AFTER), on_second, makes=taken, **both)
     # The first write, of a block's head and bytes after its gate, ends where the first page ends.
@@ -443,7 +450,7 @@ def mount_cases():
     torn = large[:begin] + recorded(large, FIVES[:4096])[begin:PAGE] + large[PAGE:]
     holes = all_of(file("a.img", large), small, sparse_image("small/b.img", large), filled)
     given = word_at(0, 5) + end_at(43_000_000)
-    lacking = {"makes": holes, "given": given, "changes": {"a.img": recorded(large, FIVES[:4128]), "small/b.img": torn}}
+    lacking: How = {"makes": holes, "given": given, "changes": {"a.img": recorded(large, FIVES[:4128]), "small/b.img": torn}}
     yield Case("no room for the second, with holes", DONE, ["ack 0", SECOND, *acks(1, 2)], on_second, **lacking)
     yield Case("no room for the first, with holes", DONE, ["ack 0", FIRST, *acks(1, 2)], on_first, **lacking)
     lead = recorded(large, FIVES[:4128])
@@ -452,12 +459,12 @@ def mount_cases():
     yield Case("no room to bring up the second", DONE, [SECOND, *acks(2, 4)], on_second, **lacking)
     yield Case("no room to bring up the first", DONE, [FIRST, *acks(2, 4)], on_first, **lacking)
     read_only = all_of(small, file("small/b.img", IMAGE), made_read_only)
-    one = {"makes": read_only, "changes": {"a.img": AGAIN}}
+    one: How = {"makes": read_only, "changes": {"a.img": AGAIN}}
     yield Case("the second's file system may only be read", DONE, [SECOND, *acks(NEXT, AFTER)], on_second, **one)
     yield Case("the first's file system may only be read", DONE, [FIRST, *acks(NEXT, AFTER)], on_first, **one)
 
 
-def all_cases():
+def all_cases() -> Iterator[Case | InLittleMemory]:
     yield from word_cases()
     yield from start_cases()
     yield from refusal_cases()

@@ -7,14 +7,16 @@ Where the image that leads fails while the other is brought up to it, the answer
 18: the lead is as it was, and the other has some more of the lead's blocks, whole.
 """
 
-import collections
 import itertools
+import pathlib
 import shutil
 import subprocess
+from collections.abc import Iterator
+from typing import NamedTuple
 
 from formats import blocks_of, empty_image, end_at, next_number, next_session, recovered, shape_of, with_blocks
 from inputs import T1, t1_frame, word_at
-from places import Mismatch, Skipped
+from places import Mismatch, Place, Skipped
 from recordings import LIMIT, PROMISED_LESS
 
 CALLS = ["openat", "newfstatat", "statx", "fstat", "pread64", "pwrite64", "fdatasync"]
@@ -22,10 +24,20 @@ TRACE = word_at(0, 5) + end_at(4_000_000)
 BITS = t1_frame(0, 5)
 NAMES = {"first": "a.img", "second": "b.img"}
 
-Ended = collections.namedtuple("Ended", "status told others was_injected later images")
+
+class Ended(NamedTuple):
+    """A run that is over: its status, the acknowledged numbers, the other lines, whether a call failed, and the calls and images
+    after it."""
+
+    status: int
+    told: list[int]
+    others: list[str]
+    was_injected: str
+    later: list[str]
+    images: dict[str, bytes]
 
 
-def started(slots, *recordings):
+def started(slots: int, *recordings: int) -> bytes:
     """An image in which so many blocks were recorded, one recording after another."""
     image = empty_image(slots, 64)
     for count in recordings:
@@ -40,10 +52,10 @@ PAIRS = {
 }
 
 
-def run_with_fault(program, room, side, call, number):
+def run_with_fault(program: pathlib.Path, room: pathlib.Path, side: str, call: str, number: int) -> Ended:
     """A run in which the call of this kind and number on one image fails."""
     paths = {one: (room / name).resolve() for one, name in NAMES.items()}
-    words = ["strace", "-qq", "-o", "calls", "-P", paths[side], "-e", f"trace={','.join(CALLS)}", "-e", f"inject={call}:error=EIO:when={number}"]
+    words: list[str | pathlib.Path] = ["strace", "-qq", "-o", "calls", "-P", paths[side], "-e", f"trace={','.join(CALLS)}", "-e", f"inject={call}:error=EIO:when={number}"]
     words += [program, "record", "t1.csv", *paths.values()]
     ended = subprocess.run(words, cwd=room, input=TRACE, capture_output=True, timeout=LIMIT)
     lines = ended.stderr.decode().splitlines()
@@ -53,12 +65,12 @@ def run_with_fault(program, room, side, call, number):
     return Ended(ended.returncode, told, others, was_injected, later.split("\n")[1:-1], {one: path.read_bytes() for one, path in paths.items()})
 
 
-def want(is_so, what):
+def want(is_so: object, what: str) -> None:
     if not is_so:
         raise Mismatch(what)
 
 
-def look(before, side, ended):
+def look(before: dict[str, bytes], side: str, ended: Ended) -> bool:
     """Compares what a run left after this side failed, and answers whether the recording went on."""
     other = "first" if side == "second" else "second"
     lead = max(NAMES, key=lambda one: next_number(before[one]))
@@ -85,7 +97,7 @@ def look(before, side, ended):
     return True
 
 
-def holds_its_own(before, lead, new, image):
+def holds_its_own(before: bytes, lead: bytes, new: list[tuple[int, bytes]], image: bytes) -> bool:
     """Whether an image that failed at some call holds the last of its blocks, and then the first of those that were to come."""
     run = recovered(image)
     blocks = {block.number: (block.session, block.payload) for block in [*recovered(before), *recovered(lead)]}
@@ -95,7 +107,7 @@ def holds_its_own(before, lead, new, image):
     return is_long and following >= next_number(before) and all(blocks.get(one.number) == (one.session, one.payload) for one in run)
 
 
-def fail_in_turn(program, room, first, second, side):
+def fail_in_turn(program: pathlib.Path, room: pathlib.Path, first: bytes, second: bytes, side: str) -> tuple[int, int]:
     """Has each call on one image fail in turn, and answers how many calls there were, and after how many faults the recording
     went on."""
     before, calls, went_on = {"first": first, "second": second}, 0, 0
@@ -119,19 +131,19 @@ def fail_in_turn(program, room, first, second, side):
 class Faults:
     """A case of faults: each call on one image of a pair."""
 
-    def __init__(self, what, side):
+    def __init__(self, what: str, side: str) -> None:
         self.what, self.side = what, side
         self.name = f"each call on the {side} image fails in turn, {what}"
 
-    def tried(self, place):
+    def tried(self, place: Place) -> None:
         can_trace = shutil.which("strace") and subprocess.run(["strace", "-o", "/dev/null", "true"], capture_output=True).returncode == 0
         if not can_trace:
             raise Skipped("it needs strace")
-        calls, went_on = fail_in_turn(place.program, place.room, *PAIRS[self.what], self.side)
+        calls, went_on = fail_in_turn(pathlib.Path(place.program), place.room, *PAIRS[self.what], self.side)
         self.name += f": {calls} calls, the recording went on after {went_on}"
 
 
-def fault_cases():
+def fault_cases() -> Iterator[Faults]:
     for what in PAIRS:
         for side in NAMES:
             yield Faults(what, side)

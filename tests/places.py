@@ -6,9 +6,12 @@ byte: a case names the files that it changes, and all others are as they were, w
 than its limit is ended, and fails.
 """
 
+from __future__ import annotations
+
 import bisect
 import collections
 import contextlib
+import enum
 import fcntl
 import os
 import pathlib
@@ -24,6 +27,8 @@ import tempfile
 import termios
 import threading
 import time
+from collections.abc import Callable, Iterable, Iterator, Mapping, Sequence
+from typing import IO, Any, NamedTuple, Protocol
 
 from formats import HEADER
 
@@ -31,6 +36,16 @@ APART = "FDR_TESTS_APART"  # set where the script has mounts of its own
 NOBODY = 65534
 PIPE_SIZE = 4096
 PAGE = 4096
+
+
+Words = Sequence["str | bytes | pathlib.Path"]
+Answer = tuple[int, str]  # the status, and the text on standard error
+Limit = tuple[int, int]  # of a resource
+How = dict[str, Any]  # more words for a run
+Held = dict[str, "tuple[int, bytes | str | None]"]  # of each name the mode, and the bytes of a file or the target of a link
+Changes = Mapping[str, "bytes | Front | None"]
+Maker = Callable[["Place"], None]
+Doer = Callable[["Place", "Run"], None]
 
 
 class Mismatch(Exception):
@@ -44,26 +59,26 @@ class Skipped(Exception):
 class Front:
     """A front part of these bytes, and not all of them."""
 
-    def __init__(self, data):
+    def __init__(self, data: bytes) -> None:
         self.data = data
 
-    def __eq__(self, other):
-        return len(other) < len(self.data) and self.data.startswith(other)
+    def __eq__(self, other: object) -> bool:
+        return isinstance(other, bytes) and len(other) < len(self.data) and self.data.startswith(other)
 
-    def __repr__(self):
+    def __repr__(self) -> str:
         return f"a front part of {len(self.data)} bytes"
 
 
-def short(data):
+def short(data: object) -> str:
     return repr(data) if not isinstance(data, bytes) or len(data) <= 160 else f"{len(data)} bytes, {data[:60]!r}.."
 
 
-def acks(first, last):
+def acks(first: int, last: int) -> list[str]:
     """The lines of the acknowledgements from one number to another."""
     return [f"ack {number}" for number in range(first, last + 1)]
 
 
-def text_of(lines, text=""):
+def text_of(lines: Iterable[str], text: str = "") -> bytes:
     """What stands on standard error: these lines, and the text."""
     return "".join(line + "\n" for line in [*lines, text] if line).encode()
 
@@ -71,11 +86,23 @@ def text_of(lines, text=""):
 # --- what a run has for a stream
 
 
-CLOSED, PIPE = object(), object()
-To = collections.namedtuple("To", "name")  # a file of the run's folder
+class Mark(enum.Enum):
+    """A stream that is closed, and one that is a pipe to the script."""
+
+    CLOSED = enum.auto()
+    PIPE = enum.auto()
 
 
-def opened(path, flags):
+class To(NamedTuple):
+    """A file of the run's folder."""
+
+    name: str
+
+
+CLOSED, PIPE = Mark.CLOSED, Mark.PIPE
+
+
+def opened(path: str, flags: int) -> Callable[[], int]:
     return lambda: os.open(path, flags)
 
 
@@ -86,13 +113,13 @@ ZEROS = opened("/dev/zero", os.O_RDONLY)
 FOLDER = opened("/", os.O_RDONLY)
 
 
-def pipe_without_reader():
+def pipe_without_reader() -> int:
     reader, writer = os.pipe()
     os.close(reader)
     return writer
 
 
-def empty_pipe():
+def empty_pipe() -> int:
     """A pipe in which nothing is yet, and whose reader isn't made to wait."""
     reader, writer = os.pipe()
     os.set_blocking(reader, False)
@@ -100,7 +127,7 @@ def empty_pipe():
     return reader
 
 
-def full_pipe():
+def full_pipe() -> int:
     """A pipe in which there is no room, and whose writer isn't made to wait."""
     reader, writer = os.pipe()
     os.set_blocking(writer, False)
@@ -112,13 +139,15 @@ def full_pipe():
 
 
 GONE = pipe_without_reader
-HELD = []  # the other ends of pipes
+HELD: list[int] = []  # the other ends of pipes
+Stream = bytes | To | Mark | Callable[[], int]
+Output = bytes | Front
 
 
-def zeros_of(size):
+def zeros_of(size: int) -> Callable[[], int]:
     """A file of so many zeros, which takes no room."""
 
-    def stream():
+    def stream() -> int:
         with tempfile.TemporaryFile() as file:
             file.truncate(size)
             return os.dup(file.fileno())
@@ -126,7 +155,7 @@ def zeros_of(size):
     return stream
 
 
-def file_with(data):
+def file_with(data: bytes) -> int:
     with tempfile.TemporaryFile() as file:
         file.write(data)
         file.seek(0)
@@ -139,13 +168,13 @@ def file_with(data):
 class Run:
     """A run of a program in a folder. It is ended where it takes too long."""
 
-    def __init__(self, words, room, seconds, given=b"", out=PIPE, err=PIPE, limit=None, ignores=None, user=None):
+    def __init__(self, words: Words, room: pathlib.Path, seconds: float, given: Stream = b"", out: Stream = PIPE, err: Stream = PIPE, limit: Limit | None = None, ignores: int | None = None, user: int | None = None) -> None:
         self.shown, self.said, self.was_late = b"", b"", False
         self.taken = 0
         streams = [given, out, err]
         closed = [number for number, stream in enumerate(streams) if stream is CLOSED]
 
-        def prepare():
+        def prepare() -> None:
             for number in closed:
                 os.close(number)
             if ignores:
@@ -153,20 +182,20 @@ class Run:
             if limit:
                 resource.setrlimit(limit[0], (limit[1], limit[1]))
 
-        own = {"user": user, "group": user, "extra_groups": []} if user and os.geteuid() == 0 else {}
+        who = user if os.geteuid() == 0 else None
         with contextlib.ExitStack() as ends:
             stdin, stdout, stderr = [self.end_of(stream, room, ends) for stream in streams]
             self.source = os.dup(stdin) if isinstance(given, bytes) else None
-            own |= {"cwd": room, "preexec_fn": prepare, "bufsize": 0, "pipesize": PIPE_SIZE}
-            self.child = subprocess.Popen(words, stdin=stdin, stdout=stdout, stderr=stderr, **own)
+            self.child = subprocess.Popen(
+                words, stdin=stdin, stdout=stdout, stderr=stderr, cwd=room, preexec_fn=prepare, bufsize=0, pipesize=PIPE_SIZE,
+                user=who, group=who, extra_groups=[] if who else None,
+            )  # fmt: skip
         self.limit = threading.Timer(seconds, self.end_late)
         self.limit.start()
 
-    def end_of(self, stream, room, ends):
-        if stream is PIPE:
-            return subprocess.PIPE
-        if stream is CLOSED:
-            return subprocess.DEVNULL
+    def end_of(self, stream: Stream, room: pathlib.Path, ends: contextlib.ExitStack) -> int:
+        if isinstance(stream, Mark):
+            return subprocess.PIPE if stream is PIPE else subprocess.DEVNULL
         if isinstance(stream, To):
             end = os.open(room / stream.name, os.O_WRONLY | os.O_CREAT | os.O_TRUNC, 0o644)
         else:
@@ -174,47 +203,49 @@ class Run:
         ends.callback(os.close, end)
         return end
 
-    def end_late(self):
+    def end_late(self) -> None:
         self.was_late = True
         self.child.kill()
 
-    def feed(self, data):
+    def feed(self, data: bytes) -> None:
+        assert self.child.stdin
         try:
             self.child.stdin.write(data)
         except BrokenPipeError:
             raise Mismatch("ended before it read its input") from None
 
-    def shows(self, wanted):
+    def shows(self, wanted: bytes) -> None:
         """Waits until this is the standard output so far, and nothing more comes before the run waits again."""
         self.shown = self.read_to(self.child.stdout, self.shown, wanted)
         self.waits()
         if held_in(self.child.stdout):
             raise Mismatch(f"more came behind {short(wanted)}")
 
-    def says(self, wanted):
+    def says(self, wanted: bytes) -> None:
         """Waits until this is the standard error so far."""
         self.said = self.read_to(self.child.stderr, self.said, wanted)
 
-    def read_to(self, stream, data, wanted):
+    def read_to(self, stream: IO[bytes] | None, data: bytes, wanted: bytes) -> bytes:
+        assert stream
         while len(data) < len(wanted) and (more := stream.read(len(wanted) - len(data))):
             data += more
         if data != wanted:
             raise Mismatch(f"{short(data)} came and not {short(wanted)}")
         return data
 
-    def waits(self):
+    def waits(self) -> None:
         """Waits until the run sleeps, as it does in a read of an empty pipe."""
         while pathlib.Path(f"/proc/{self.child.pid}/stat").read_text().rpartition(")")[2].split()[0] not in "SZ":
             time.sleep(0.001)
 
-    def fills_its_pipe(self):
+    def fills_its_pipe(self) -> None:
         """Waits until the run waits in a write, since its output isn't read."""
         while held_in(self.child.stdout) < PIPE_SIZE:
             if self.child.poll() is not None:
                 raise Mismatch("ended before its output was full")
             time.sleep(0.001)
 
-    def ended(self):
+    def ended(self) -> tuple[int, bytes, bytes]:
         """The status, the output and the text, once it ended."""
         shown, said = self.child.communicate()
         self.limit.cancel()
@@ -226,12 +257,14 @@ class Run:
         return self.child.returncode, self.shown + (shown or b""), self.said + (said or b"")
 
 
-def held_in(pipe):
+def held_in(pipe: IO[bytes] | None) -> int:
     """How many bytes wait in a pipe."""
-    return struct.unpack("i", fcntl.ioctl(pipe, termios.FIONREAD, bytes(4)))[0]
+    assert pipe
+    count: int = struct.unpack("i", fcntl.ioctl(pipe, termios.FIONREAD, bytes(4)))[0]
+    return count
 
 
-def differences_in_answer(found, answer, output, lines):
+def differences_in_answer(found: tuple[int, bytes, bytes], answer: Answer, output: Output, lines: Iterable[str]) -> Iterator[str]:
     status, shown, said = found
     wanted = text_of(lines, answer[1])
     if status != answer[0]:
@@ -242,7 +275,7 @@ def differences_in_answer(found, answer, output, lines):
         yield f"said {short(said)} and not {short(wanted)}"
 
 
-def want_none(differences):
+def want_none(differences: Iterable[str]) -> None:
     told = "; ".join(differences)
     if told:
         raise Mismatch(told)
@@ -251,41 +284,42 @@ def want_none(differences):
 class Place:
     """Where a case runs: the program, a folder of its own and the limit of time, and what is undone when it is over."""
 
-    def __init__(self, program, top, seconds):
+    def __init__(self, program: str, top: str, seconds: float) -> None:
         self.program, self.top, self.seconds = program, top, seconds
         self.undo = contextlib.ExitStack()
 
-    def __enter__(self):
+    def __enter__(self) -> Place:
         self.room = pathlib.Path(tempfile.mkdtemp(dir=self.top))
         self.room.chmod(0o755)
         self.undo.callback(shutil.rmtree, self.room)
         return self
 
-    def __exit__(self, *error):
+    def __exit__(self, *error: object) -> None:
         self.undo.close()
 
-    def anew(self):
+    def anew(self) -> Place:
         return Place(self.program, self.top, self.seconds)
 
-    def beside(self, name):
+    def beside(self, name: str) -> pathlib.Path:
         """Another program."""
         return pathlib.Path(self.top) / name
 
-    def run(self, words, by=(), seconds=None, program=None, **how):
+    def run(self, words: Words, by: Words = (), seconds: float | None = None, program: str | pathlib.Path | None = None, **how: Any) -> Run:
         return Run([*by, program or self.program, *words], self.room, seconds or self.seconds, **how)
 
-    def expect(self, words, answer, output=b"", lines=(), **how):
+    def expect(self, words: Words, answer: Answer, output: Output = b"", lines: Iterable[str] = (), **how: Any) -> None:
         """Runs something else meanwhile, and wants this of it."""
+        name = words[0] if isinstance(words[0], str) else repr(words[0])
         differences = differences_in_answer(self.run(words, **how).ended(), answer, output, lines)
-        want_none(f"meanwhile {words[0]} {difference}" for difference in differences)
+        want_none(f"meanwhile {name} {difference}" for difference in differences)
 
 
 # --- what stands in a folder
 
 
-def files_of(room):
+def files_of(room: pathlib.Path) -> Held:
     """All that a folder holds: of each name its kind and mode, and the bytes of a file or the target of a link."""
-    found = {}
+    found: Held = {}
     for path in sorted(room.rglob("*")):
         mode = path.lstat().st_mode
         readable = stat.S_ISREG(mode) and os.access(path, os.R_OK)
@@ -294,7 +328,7 @@ def files_of(room):
     return found
 
 
-def differences_in_files(before, after, changes):
+def differences_in_files(before: Held, after: Held, changes: Changes) -> Iterator[str]:
     """Where these changes, of a name to its bytes or to None where it goes, weren't made, or others were."""
     for name in sorted(before.keys() | after.keys() | changes.keys()):
         held = after.get(name, (0, None))[1]
@@ -310,34 +344,34 @@ def differences_in_files(before, after, changes):
 # --- what a case adds to its folder
 
 
-def all_of(*makers):
-    def make(place):
+def all_of(*makers: Maker) -> Maker:
+    def make(place: Place) -> None:
         for maker in makers:
             maker(place)
 
     return make
 
 
-def file(name, data=b"", mode=0o644):
-    def make(place):
+def file(name: str, data: bytes = b"", mode: int = 0o644) -> Maker:
+    def make(place: Place) -> None:
         (place.room / name).write_bytes(data)
         (place.room / name).chmod(mode)
 
     return make
 
 
-def sparse_image(name, data):
+def sparse_image(name: str, data: bytes) -> Maker:
     """An image whose bytes after the header are zeros for which no room is taken."""
 
-    def make(place):
+    def make(place: Place) -> None:
         (place.room / name).write_bytes(data[: HEADER.size])
         os.truncate(place.room / name, len(data))
 
     return make
 
 
-def mode(name, bits):
-    def make(place):
+def mode(name: str, bits: int) -> Maker:
+    def make(place: Place) -> None:
         before = stat.S_IMODE((place.room / name).stat().st_mode)
         (place.room / name).chmod(bits)
         place.undo.callback((place.room / name).chmod, before)
@@ -345,15 +379,15 @@ def mode(name, bits):
     return make
 
 
-def link(target):
+def link(target: str) -> Maker:
     return lambda place: (place.room / "link").symlink_to(target)
 
 
-def subfolder(place):
+def subfolder(place: Place) -> None:
     (place.room / "folder").mkdir()
 
 
-def closed_subfolder(place):
+def closed_subfolder(place: Place) -> None:
     """A folder with a table and an image that may not be entered."""
     subfolder(place)
     for name in ("t1.csv", "a.img"):
@@ -361,47 +395,47 @@ def closed_subfolder(place):
     mode("folder", 0o000)(place)
 
 
-def named_pipe(place):
+def named_pipe(place: Place) -> None:
     os.mkfifo(place.room / "pipe")
 
 
-def held_pipe(place):
+def held_pipe(place: Place) -> None:
     """A named pipe that somebody else has open."""
     named_pipe(place)
     place.undo.callback(os.close, os.open(place.room / "pipe", os.O_RDWR))
 
 
-def bound_socket(place):
+def bound_socket(place: Place) -> None:
     with socket.socket(socket.AF_UNIX) as made:
         made.bind(str(place.room / "socket"))
 
 
-def mounted(size):
+def mounted(size: int) -> Maker:
     """A file system in memory with room for so many bytes, in the folder `small`."""
 
-    def make(place):
+    def make(place: Place) -> None:
         if APART not in os.environ:
             raise Skipped("mounts of its own need root and unshare")
         small = place.room / "small"
         small.mkdir()
         subprocess.run(["mount", "-t", "tmpfs", "-o", f"size={size}", "tmpfs", small], check=True)
-        place.undo.callback(subprocess.run, ["umount", small], check=True)
+        place.undo.callback(lambda: subprocess.run(["umount", small], check=True))
 
     return make
 
 
-def filled(place):
+def filled(place: Place) -> None:
     """Takes all the room that is left in the folder `small`."""
     with contextlib.suppress(OSError), open(place.room / "small" / "rest", "wb", buffering=0) as rest:
         while rest.write(bytes(4096)):
             pass
 
 
-def made_read_only(place):
+def made_read_only(place: Place) -> None:
     subprocess.run(["mount", "-o", "remount,ro", place.room / "small"], check=True)
 
 
-def block_device(place):
+def block_device(place: Place) -> None:
     """A block device over the bytes of the image, in the file `disk`, with a link to it in the folder."""
     (place.room / "disk").write_bytes((place.room / "a.img").read_bytes().ljust(65536, b"\xa5"))
     try:
@@ -409,14 +443,14 @@ def block_device(place):
     except (OSError, subprocess.CalledProcessError):
         raise Skipped("a block device needs root and losetup") from None
     device = made.stdout.decode().strip()
-    place.undo.callback(subprocess.run, ["losetup", "-d", device], check=True)
+    place.undo.callback(lambda: subprocess.run(["losetup", "-d", device], check=True))
     (place.room / "device").symlink_to(device)
 
 
 # --- what happens while the program runs
 
 
-def is_interrupted(run):
+def is_interrupted(run: Run) -> None:
     """Stops a run in its read, and lets it go on."""
     run.waits()
     run.child.send_signal(signal.SIGSTOP)
@@ -426,11 +460,11 @@ def is_interrupted(run):
 # --- the cases
 
 
-def size_limit(size):
+def size_limit(size: int) -> How:
     return {"limit": (resource.RLIMIT_FSIZE, size)}
 
 
-def few_files(count):
+def few_files(count: int) -> How:
     return {"limit": (resource.RLIMIT_NOFILE, count)}
 
 
@@ -439,13 +473,15 @@ class Case:
 
     `files` are in the folder of each case, by their names. `usage` and `no_memory` are these answers of the program."""
 
-    files, usage, no_memory = {}, None, None
+    files: Mapping[str, bytes] = {}
+    usage: Answer = (0, "")
+    no_memory: Answer = (0, "")
 
-    def __init__(self, name, words, answer, output=b"", lines=(), makes=None, changes=None, does=None, **how):
+    def __init__(self, name: str, words: Words, answer: Answer, output: Output = b"", lines: Iterable[str] = (), makes: Maker | None = None, changes: Changes | None = None, does: Doer | None = None, **how: Any) -> None:
         self.name, self.words, self.answer, self.output, self.lines = name, words, answer, output, lines
         self.makes, self.changes, self.does, self.how = makes, changes or {}, does, how
 
-    def tried(self, place, limit=None):
+    def tried(self, place: Place, limit: Limit | None = None) -> bool:
         """Runs it and compares. Where its memory is limited, it may answer that there is none, and that is told."""
         for name, data in self.files.items():
             (place.room / name).write_bytes(data)
@@ -459,8 +495,9 @@ class Case:
         finally:
             status, shown, said = run.ended()
         lacks_memory = bool(limit) and status == self.no_memory[0]
-        usual = self.answer, self.output, self.lines, self.changes
-        answer, output, lines, changes = (self.no_memory, b"", (), {}) if lacks_memory else usual
+        answer, lines = (self.no_memory, ()) if lacks_memory else (self.answer, self.lines)
+        changes: Changes = {} if lacks_memory else self.changes
+        output: Output = b"" if lacks_memory else self.output
         # Where a stream isn't captured, what went to it is compared as a file, or not at all.
         output = output if run.child.stdout else b""
         found = status, shown, said if run.child.stderr else text_of(lines, answer[1])
@@ -471,18 +508,26 @@ class Case:
         want_none(differences)
         return lacks_memory
 
-    def may_take(self, said):
+    def may_take(self, said: bytes) -> bool:
         """Whether a run that said this may have taken some of its input."""
         return True
+
+
+class Tried(Protocol):
+    """What has a name and is tried in a place."""
+
+    name: str
+
+    def tried(self, place: Place) -> object: ...
 
 
 class InLittleMemory:
     """A case that is run with more and more memory. It finds none and leaves all as it was, until it has enough."""
 
-    def __init__(self, case):
+    def __init__(self, case: Case) -> None:
         self.case, self.name = case, f"{case.name}, in little memory"
 
-    def tried(self, place):
+    def tried(self, place: Place) -> None:
         pages = range(1 << 16)
         least = bisect.bisect_left(pages, True, key=lambda count: self.starts(place, count * PAGE)) * PAGE
         lacked = []
@@ -492,7 +537,7 @@ class InLittleMemory:
         if not lacked[0] or lacked[-1] or lacked != sorted(lacked, reverse=True):
             raise Mismatch(f"with more and more memory, it found none: {lacked}")
 
-    def starts(self, place, size):
+    def starts(self, place: Place, size: int) -> bool:
         """Whether the system can begin the program at all."""
         status, _, said = place.run([], limit=(resource.RLIMIT_AS, size)).ended()
         return (status, said) in [(answer[0], text_of((), answer[1])) for answer in (self.case.usage, self.case.no_memory)]
@@ -501,7 +546,7 @@ class InLittleMemory:
 # --- all of them
 
 
-def begin_apart():
+def begin_apart() -> None:
     """Begins the script anew in mounts of its own, where that may be."""
     words = ["unshare", "--mount", "--propagation", "private"]
     if APART not in os.environ and os.geteuid() == 0 and shutil.which("unshare"):
@@ -509,7 +554,7 @@ def begin_apart():
             os.execvpe("unshare", [*words, sys.executable, *sys.argv], {**os.environ, APART: "1"})
 
 
-def tell(case, place):
+def tell(case: Tried, place: Place) -> str:
     """Tries a case, prints its line, and answers what came of it."""
     try:
         with place:
@@ -523,11 +568,11 @@ def tell(case, place):
     return kind
 
 
-def try_all(cases, programs, seconds):
+def try_all(cases: Sequence[Tried], programs: dict[str, pathlib.Path], seconds: float) -> int:
     """Tries the cases, of the first of these programs, with the others beside it, and answers the status to end with."""
     with tempfile.TemporaryDirectory(prefix="fdr_tests_") as top:
         os.chmod(top, 0o755)
-        copies = [shutil.copy(program, pathlib.Path(top) / name) for name, program in programs.items()]
+        copies = [str(shutil.copy(program, pathlib.Path(top) / name)) for name, program in programs.items()]
         told = collections.Counter(tell(case, Place(copies[0], top, seconds)) for case in cases)
     if told["skipped"]:
         print(f"{told['skipped']} skipped")

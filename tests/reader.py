@@ -124,12 +124,12 @@ def subframes(field: bytes, before: list[Any]) -> list[int]:
     return [int(digit) for digit in field.decode()]
 
 
-F_ROW = (as_is, number(64, 1024, WORDS), number(2, 1024), number(1, 4))
+F_ROW: list[Reader] = [as_is, number(64, 1024, WORDS), number(2, 1024), number(1, 4)]
 LABEL, SDI, AGE = number(0, 0o377, form=OCTAL, base=8), or_none(number(0, 3)), or_none(number(1, 64_000_000))
-P_ROW = (as_is, as_is, number(0, 255), LABEL, SDI, number(1, 32), width_up_to(32), sign)
-P_ROW += (signed(10**9), number(1, 10**9), signed(10**15), number(0, 9), number(1, MAX_PARTS), AGE)
-L_ROW = (as_is, as_is, number(1, 4), subframes, number(1, 1024), number(0, 1024), number(1, 12), width_up_to(12))
-L_ROW += (number(0, 15), number(1, 16, (1, 2, 4, 8, 16)))
+P_ROW: list[Reader] = [as_is, as_is, number(0, 255), LABEL, SDI, number(1, 32), width_up_to(32), sign]
+P_ROW += [signed(10**9), number(1, 10**9), signed(10**15), number(0, 9), number(1, MAX_PARTS), AGE]
+L_ROW: list[Reader] = [as_is, as_is, number(1, 4), subframes, number(1, 1024), number(0, 1024), number(1, 12), width_up_to(12)]
+L_ROW += [number(0, 15), number(1, 16, (1, 2, 4, 8, 16))]
 ROWS: dict[bytes, Sequence[Reader]] = {b"F": F_ROW, b"P": P_ROW, b"L": L_ROW}
 COUNTS = {b"F": (4,), b"P": (13, 14), b"L": (10,)}
 
@@ -308,7 +308,7 @@ def look_at_parts(table: Table) -> None:
         parts = table.parts[param.name]
         widths = [{place.width for place in places} for places in parts.values()]
         is_whole = bool(parts) and sorted(parts) == list(range(1, len(parts) + 1))
-        if not is_whole or any(len(of_part) > 1 for of_part in widths) or sum(map(sum, widths)) != param.width:
+        if not is_whole or any(len(of_part) > 1 for of_part in widths) or sum(sum(of_part) for of_part in widths) != param.width:
             raise table_fault(param.row, "parts")
     total = 0
     for param in table.params.values():
@@ -733,7 +733,7 @@ class Rule(NamedTuple):
     param: Param
     kind: bytes
     limit: int
-    count: int
+    length: int
 
 
 KINDS = (b"above", b"below", b"change")
@@ -781,10 +781,10 @@ def rules_of(table: Table, text: bytes) -> list[Rule]:
 
 def compared(rule: Rule, values: list[int], place: int) -> int | None:
     """What a rule compares with its limit at this one of the values, or None where too few are before it."""
-    window = values[max(0, place + 1 - rule.count) : place + 1]
+    window = values[max(0, place + 1 - rule.length) : place + 1]
     if rule.kind != b"change":
         return values[place]
-    return max(window) - min(window) if len(window) == rule.count else None
+    return max(window) - min(window) if len(window) == rule.length else None
 
 
 def exceedances_of(rule: Rule, stretch: list[Row]) -> Iterator[tuple[int, str]]:
@@ -795,7 +795,7 @@ def exceedances_of(rule: Rule, stretch: list[Row]) -> Iterator[tuple[int, str]]:
     is_hit = [it is not None and (it < rule.limit if rule.kind == b"below" else it > rule.limit) for it in found]
     for hit, together in itertools.groupby(range(len(values)), key=lambda at: is_hit[at]):
         hits = list(together)
-        if hit and (rule.kind == b"change" or len(hits) >= rule.count):
+        if hit and (rule.kind == b"change" or len(hits) >= rule.length):
             numbers = [it for it in found[hits[0] : hits[-1] + 1] if it is not None]
             peak = min(numbers) if rule.kind == b"below" else max(numbers)
             first = stretch[places[hits[0]]]

@@ -14,17 +14,21 @@ import shutil
 import subprocess
 import sys
 import tempfile
+from collections.abc import Iterator
 
 EXAMPLES = pathlib.Path(__file__).resolve().parent.parent / "examples"
 PAGES = ("README.md", "IMAGES.md", "EXCEEDANCES.md")
 COMMAND = re.compile(r"(fdr|fdrpair|put|cp|head|cat|printf) |\(")
 ANNOUNCEMENT = re.compile(r"ack \d+")
+Block = tuple[int, list[str]]  # the number of its first line, and its lines
+Step = tuple[str, list[str], list[str] | None]  # where it is, its commands, and what the page says they print
 MARK = "--- end of a block ---"
 
 
-def blocks(page):
+def blocks(page: str) -> Iterator[Block]:
     """The fenced blocks of a page, each with the number of its first line."""
-    inside, start, lines = False, 0, []
+    inside, start = False, 0
+    lines: list[str] = []
     for number, line in enumerate(page.splitlines(), 1):
         if line.startswith("```"):
             if inside:
@@ -36,19 +40,20 @@ def blocks(page):
         raise SystemExit(f"walk: the block at line {start} has no end")
 
 
-def is_of_commands(lines):
+def is_of_commands(lines: list[str]) -> bool:
     return any(COMMAND.match(line) for line in lines)
 
 
-def steps(name):
+def steps(name: str) -> Iterator[Step]:
     """Each block of commands of a page, with the lines that the page says they print, or None where it shows none."""
     found = list(blocks((EXAMPLES / name).read_text()))
-    for (start, lines), (_, after) in zip(found, [*found[1:], (0, None)]):
+    following: list[list[str] | None] = [lines for _, lines in found[1:]]
+    for (start, lines), after in zip(found, [*following, None]):
         if is_of_commands(lines):
-            yield f"examples/{name}:{start}", lines, after if after is not None and not is_of_commands(after) else None
+            yield f"examples/{name}:{start}", lines, None if after is None or is_of_commands(after) else after
 
 
-def printed(programs, walk):
+def printed(programs: dict[str, str], walk: list[Step]) -> list[list[str]]:
     """What each block of commands prints, standard error among it, in one shell that finds these programs by their names."""
     with tempfile.TemporaryDirectory() as room:
         folder = pathlib.Path(room, "examples")
@@ -64,7 +69,7 @@ def printed(programs, walk):
     return [part.strip("\n").splitlines() for part in run.stdout.split(MARK)[:-1]]
 
 
-def is_shown(lines, shown):
+def is_shown(lines: list[str], shown: list[str] | None) -> bool:
     """Whether these lines are what the page shows."""
     if shown is None:
         return all(ANNOUNCEMENT.fullmatch(line) for line in lines)
@@ -73,7 +78,7 @@ def is_shown(lines, shown):
     return lines == shown
 
 
-def main():
+def main() -> None:
     if len(sys.argv) != 3:
         raise SystemExit(__doc__)
     walk = [step for name in PAGES for step in steps(name)]
