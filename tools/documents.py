@@ -16,8 +16,8 @@ The check wants:
 - the pages of docs/clauses, and the marked parts, to be as the source says, and each contract that was read to be whole;
 - each public definition of specs/ to have a comment that stands by itself, and its crate to be in one page of docs/model;
 - docs/MODEL.md to name the recursive definitions, and to begin at none of which the contract of `run` doesn't speak;
-- each name in `these marks` of docs/COMMANDS.md, docs/GUARANTEES.md, docs/LAYERS.md, docs/MODEL.md and docs/model to be one of
-  the source, and each clause in a row of docs/LAYERS.md to be one of the calls that the row names;
+- each name in `these marks` of docs/COMMANDS.md, docs/GUARANTEES.md, docs/LAYERS.md, docs/MEANING.md, docs/MODEL.md and
+  docs/model to be one of the source, and each clause in a row of docs/LAYERS.md to be one of the calls that the row names;
 - README.md to say of how many definitions the contract of `run` speaks, and to show of a case of examples/cases what the case
   has;
 - the crates' edges in docs/ARCHITECTURE.md to be those of crates.txt, and the files in its last table to be there;
@@ -58,6 +58,10 @@ MODEL = TOP / "docs" / "model"
 DEFINITIONS_OF = r"^<!-- definitions of (\w+) -->$"
 HOW_MUCH = "<!-- how much there is to read -->"
 PAGES = "<!-- pages of docs/model -->"
+EQUATIONS_OF = r"^<!-- equations of (\w+) -->$"
+MEANING = TOP / "docs" / "MEANING.md"
+# The definition whose equations a crate has on the page of what the programs mean, and the file that it is in.
+EQUATIONS = {"fdr_top": ("meaning", "Meaning.antt"), "fdr_pair": ("pair_meaning", "PairMeaning.antt")}
 MOST_COLUMNS = 160
 MOST_COMMENT_COLUMNS = 130
 MOST_LINES = 299
@@ -173,11 +177,24 @@ def page_rows() -> Iterator[str]:
         yield f"| [{title.removeprefix('# ')}](model/{path.name}) | {about} | {crates} |"
 
 
+def equation_lines(crate: str) -> Iterator[str]:
+    """The marked part of a page that has the equations of a crate, as its source says them, without `g.` and `outcome.`."""
+    name, file = EQUATIONS[crate]
+    source = (TOP / "crates" / crate / "specs" / file).read_text()
+    yield "```"
+    for equation in re.findall(rf"^{name} [^:\n].*(?:\n .*)*", source, re.M):
+        yield from re.sub(r"\b(?:g|outcome)\.", "", equation).splitlines()
+    yield "```"
+
+
 def marked_part(mark: str, there: list[str]) -> Iterator[str]:
     """What stands in the part of a page with this mark, where these lines are there."""
     crate = re.match(DEFINITIONS_OF, mark)
     if crate:
         return definition_rows(crate[1])
+    equations = re.match(EQUATIONS_OF, mark)
+    if equations:
+        return equation_lines(equations[1])
     return counted_rows([row for row in there if row]) if mark == HOW_MUCH else page_rows()
 
 
@@ -194,7 +211,7 @@ def model_page(path: pathlib.Path) -> str:
             there.append(line)
         else:
             lines.append(line)
-        if re.match(DEFINITIONS_OF, line) or line in (HOW_MUCH, PAGES):
+        if re.match(DEFINITIONS_OF, line) or re.match(EQUATIONS_OF, line) or line in (HOW_MUCH, PAGES):
             mark, there = line, []
     return "\n".join(lines) + "\n"
 
@@ -214,7 +231,7 @@ def check_contracts() -> Iterator[str]:
 def check_model() -> Iterator[str]:
     """The pages of the model are as the source says, each crate is in one of them, and each definition has a comment."""
     marked = [crate for path in model_pages() for crate in crates_on(path)]
-    for path in model_pages():
+    for path in [*model_pages(), MEANING]:
         if path.read_text() != model_page(path):
             yield f"{path.relative_to(TOP)} isn't what the source says: run tools/documents.py write"
     for crate in crate_names(TOP):
@@ -257,7 +274,7 @@ def check_guarantees() -> Iterator[str]:
             known.update(re.findall(r"[A-Za-z_]\w*", path.read_text()))
             fields.update(re.findall(r"^ +pub (\w+) :", path.read_text(), flags=re.M))
         known.update(path.stem for path in (CRATES / crate / "must-fail").glob("*.edit"))
-    for path in [TOP / "docs" / "COMMANDS.md", TOP / "docs" / "GUARANTEES.md", TOP / "docs" / "LAYERS.md", *model_pages()]:
+    for path in [TOP / "docs" / "COMMANDS.md", TOP / "docs" / "GUARANTEES.md", TOP / "docs" / "LAYERS.md", MEANING, *model_pages()]:
         page = path.relative_to(TOP)
         text = re.sub(r"```.*?```", lambda m: "\n" * m.group().count("\n"), path.read_text(), flags=re.S)
         for number, line in enumerate(text.splitlines(), 1):
@@ -583,7 +600,7 @@ def write() -> None:
         path.unlink()
     for name, page in pages().items():
         (CLAUSES / f"{name}.md").write_text(page)
-    for path in model_pages():
+    for path in [*model_pages(), MEANING]:
         path.write_text(model_page(path))
 
 

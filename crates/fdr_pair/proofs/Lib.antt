@@ -36,3 +36,13 @@ pub mod Attached
 pub mod Leading
 pub mod PairKeeping
 pub mod PairGoing
+pub mod PairTables
+pub mod PairFirstBlocks
+pub mod PairHeaders
+pub mod PairDifferences
+pub mod PairGrowth
+pub mod PairTraces
+pub mod PairGivens
+pub mod PairRefusals
+pub mod PairRecordings
+pub mod PairMeans

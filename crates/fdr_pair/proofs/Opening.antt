@@ -33,7 +33,7 @@ use Rattle.fdr_pair.specs.declared.open.LivingSides.{LivingSides}
 use Rattle.fdr_pair.specs.declared.open.LivingSides.TheVariants.{Both, OnlyFirst, OnlySecond}
 use Rattle.fdr_pair.specs.declared.open.Opened.{Opened}
 use Rattle.fdr_pair.specs.Opening.{side_header, header_or_fault, header_read, header_after, same_header, common_header}
-use Rattle.fdr_pair.specs.Opening.{unless, checked, opening, IsReadOf, FitsExtent, IsCountedAs}
+use Rattle.fdr_pair.specs.Opening.{opened_unless, checked, opening, IsReadOf, FitsExtent, IsCountedAs}
 use Rattle.fdr_pair.specs.Opening.{LooksAtSide, ReadsHeader, AreLiving, OnLiving, IsHeaderOn, HasLivingSide, IsOpeningRefusal}
 
 -- reading the header of an image, as it is on the deck of a twin that is turned to a side
@@ -269,7 +269,7 @@ module _ (tells : Tells) (p q : Pair) where
       differ_of (same_header h k) words (record { header = h; living = Both }) why is (record { first = first.faults; second = second.faults })
 
   refusal_of : (c d : Bool) (words : ℕ) (x : Opened) (why : PairOutcome) → nat_eq x.header.words words ≡ c → HasLivingSide p q
-      → unless (if c then (if d then Some outcome.OldVersion else None) else Some (outcome.WordsDiffer x.header.words words)) x ≡ Err why
+      → opened_unless (if c then (if d then Some outcome.OldVersion else None) else Some (outcome.WordsDiffer x.header.words words)) x ≡ Err why
       → IsOpeningRefusal words why p q
   refusal_of true true words x why test living is =
       let fault : outcome.OldVersion ≡ why = cc in
@@ -306,7 +306,7 @@ module _ (tells : Tells) (p q : Pair) where
       omega (arith, least, most, other)
 
 passed : (c d : Bool) (words : ℕ) (x o : Opened)
-    → unless (if c then (if d then Some outcome.OldVersion else None) else Some (outcome.WordsDiffer x.header.words words)) x ≡ Ok o
+    → opened_unless (if c then (if d then Some outcome.OldVersion else None) else Some (outcome.WordsDiffer x.header.words words)) x ≡ Ok o
     → (c ≡ true) × (d ≡ false) × (x ≡ o)
 passed true true words x o is = absurd (cc)
 passed true false words x o is = (refl, refl, cc)

@@ -24,7 +24,7 @@ use Rattle.fdr_recorder.specs.declared.source.SourceEnd.TheVariants as source
 use Rattle.fdr_pair.specs.Bringing.{HasNoFault}
 use Rattle.fdr_pair.specs.Living.{HasLiving, SideNow}
 use Rattle.fdr_pair.specs.Opening.{AreCountsBelowMost, HasLivingSide, checked, frame_refusal, header_after, header_or_fault, header_read, opening}
-use Rattle.fdr_pair.specs.Opening.{same_header, unless}
+use Rattle.fdr_pair.specs.Opening.{same_header, opened_unless}
 use Rattle.fdr_pair.specs.PairAnswers.{recording_answer_of}
 use Rattle.fdr_pair.specs.PairRun.{HasPairCause, IsHeaderAnswer, LeavesPair, RefusesHeaders, RefusesRuns}
 use Rattle.fdr_pair.specs.PairRecording.{PairRecordsAll}
@@ -96,7 +96,7 @@ frame_right words h count version =
     ∙ cond-false (nat_eq h.version 1) (Some outcome.OldVersion) None current
 
 checked_right : (words : ℕ) (o : Opened) → o.header.words ≡ words → o.header.version ≡ 2 → checked words (Ok o) ≡ Ok o
-checked_right words o count version = ap (λ (r : Option PairOutcome). unless r o) (frame_right words o.header count version)
+checked_right words o count version = ap (λ (r : Option PairOutcome). opened_unless r o) (frame_right words o.header count version)
 
 same_header_self : (h : Header) → same_header h h ≡ true
 same_header_self h =

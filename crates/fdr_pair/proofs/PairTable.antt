@@ -180,6 +180,7 @@ module _ (old new : Option (List ℕ)) (t : TableRows)
     bounded = bounded;
     table_cause = λ e. absurd (not_failed answer either e);
     no_table_fault = λ not. quiet;
+    before = λ early. absurd (not_before answer either early);
     records = λ past. (t, told_table, sound, records);
     memory = memory;
     complete = λ whole faultless not.
@@ -280,6 +281,7 @@ module _ {R : Type 0} (old new : Option (List ℕ)) (before now : ℕ) (f : Load
     bounded = bounded;
     table_cause = λ e. fault (ap Err (was_failed f e));
     no_table_fault = λ not. quiet (λ e. not (failed_answer e));
+    before = λ early. (only_looks_here tells p (table_refusal_of f) sound, record { first = refl; second = refl });
     records = λ past. absurd (refusal_not_past f past);
     memory = λ e. only_looks_here tells p (table_refusal_of f) sound;
     complete = λ whole faultless not. memory_left f refl whole.0 whole.1 whole.2 not;
@@ -313,6 +315,7 @@ runs_unread rest faults tells p sound = record {
   bounded = ([], omega arith, preceded_none rest);
   table_cause = λ e. absurd (cc);
   no_table_fault = λ not. refl;
+  before = λ early. absurd early;
   records = λ past. absurd past;
   memory = λ e. only_looks_here tells p outcome.NoMemory sound;
   complete = λ whole faultless not. inr refl;

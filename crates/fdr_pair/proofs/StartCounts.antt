@@ -13,7 +13,7 @@ use Rattle.fdr_twin.specs.declared.side.Side.TheVariants.{First, Second}
 use Rattle.fdr_twin.specs.Pair.{Pair, Disk, disk_on}
 use Rattle.fdr_pair.specs.Alike.{HaveOneHeader}
 use Rattle.fdr_pair.specs.Bringing.{HasNoFault, HasFailedAlone}
-use Rattle.fdr_pair.specs.Opening.{header_or_fault, header_read, header_after, same_header, frame_refusal, unless, checked, opening}
+use Rattle.fdr_pair.specs.Opening.{header_or_fault, header_read, header_after, same_header, frame_refusal, opened_unless, checked, opening}
 use Rattle.fdr_pair.specs.Opening.{AreCountsBelowMost, AreLiving, OnLiving, IsHeaderOn}
 use Rattle.fdr_pair.specs.PairRun.{IsHeaderAnswer}
 use Rattle.fdr_pair.specs.declared.open.LivingSides.{LivingSides}
@@ -134,8 +134,8 @@ frame_right words h same version =
 
 right_opens : (words : ℕ) (o : Opened) (why : PairOutcome) → o.header.words ≡ words → o.header.version ≡ 2 → checked words (Ok o) ≡ Err why → ⊥
 right_opens words o why same version is =
-    let opens : unless (frame_refusal words o.header) o ≡ Ok o =
-    ap (λ (x : Option PairOutcome). unless x o) (frame_right words o.header same version) in
+    let opens : opened_unless (frame_refusal words o.header) o ≡ Ok o =
+    ap (λ (x : Option PairOutcome). opened_unless x o) (frame_right words o.header same version) in
     absurd (cc)
 
 -- a header is the same as itself
@@ -233,4 +233,5 @@ one_header_opens words p q why have none is =
     let first : header_after p.first q.first ≡ Read h = unfailed_read p.first q.first none.first ∙ read_of p.first.held h have.first refl in
     let second : header_after p.second q.second ≡ Read k = unfailed_read p.second q.second none.second ∙ read_of p.second.held k have.second refl in
     two_open words h h k why have.count have.version refl have.same
-    (sym (ap (λ (x : SideHeader). opening words x (Read k)) first) ∙ sym (ap (λ (x : SideHeader). opening words (header_after p.first q.first) x) second) ∙ is)
+    (sym (ap (λ (x : SideHeader). opening words x (Read k)) first) ∙ sym (ap (λ (x : SideHeader). opening words (header_after p.first q.first) x) second)
+    ∙ is)

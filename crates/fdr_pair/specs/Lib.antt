@@ -25,3 +25,5 @@ pub mod PairAnswers
 pub mod Joining
 pub mod Attaching
 pub mod PairStarting
+pub mod PairMeaning
+pub mod PairDoing

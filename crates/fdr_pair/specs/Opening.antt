@@ -68,14 +68,14 @@ abbrev pub frame_refusal : ℕ → Header → Option PairOutcome
 frame_refusal words h =
     if nat_eq h.words words then (if nat_eq h.version 1 then Some outcome.OldVersion else None) else Some (outcome.WordsDiffer h.words words)
 
--- the value, unless there is this refusal
-abbrev pub unless : Option PairOutcome → Opened → Result Opened PairOutcome
-unless None opened = Ok opened
-unless (Some why) opened = Err why
+-- the header that was opened, unless there is this refusal
+abbrev pub opened_unless : Option PairOutcome → Opened → Result Opened PairOutcome
+opened_unless None opened = Ok opened
+opened_unless (Some why) opened = Err why
 
 -- sides that have a common header and are to record frames of this count of words in a subframe, or the first refusal
 abbrev pub checked : ℕ → Result Opened PairOutcome → Result Opened PairOutcome
-checked words (Ok opened) = unless (frame_refusal words opened.header) opened
+checked words (Ok opened) = opened_unless (frame_refusal words opened.header) opened
 checked words (Err why) = Err why
 
 -- the answer of opening both sides for frames of this count of words in a subframe, by what was read of each side's header: what

@@ -30,7 +30,7 @@ use Rattle.fdr_pair.specs.PairWork.{LeavesLine, IsLineMoment, IsLookedAt}
 use Rattle.fdr_pair.specs.Bringing.{HasNoFault, HasFailedAlone}
 use Rattle.fdr_pair.specs.Opening.{opening, header_after, AreCountsBelowMost, HasLivingSide, IsOpeningRefusal, LooksAtSide}
 use Rattle.fdr_pair.specs.Alike.{AreAlike, HaveOneHeader, HaveDifferentBlocks, IsSideFarBehind, lead_on, follower_on, lead_image, follower_image}
-use Rattle.fdr_pair.specs.PairStages.{IsPastPairTable, WritesOnNeither, LeavesPairLine, EndsPairTrace}
+use Rattle.fdr_pair.specs.PairStages.{EndsBeforeDisks, EndsPairTrace, IsPastPairTable, LeavesPairLine, WritesOnNeither}
 use Rattle.fdr_pair.specs.PairMoments.{MayRecordPair, KeepsOwnRun, KeepsRunUntilPull, StaysAsAtEntry}
 use Rattle.fdr_pair.specs.PairEnds.{GoesOnWithLead, GoesOnWithoutLead}
 use Rattle.fdr_pair.specs.declared.outcome.PairOutcome.{PairOutcome}
@@ -196,6 +196,8 @@ pub record RunsPair (r : PairRun) : Type 0 where
   pub bounded : TakesAtMost (most_table_bytes + piece_bytes) r.rest_before r.rest_now
   pub table_cause : r.answer ≡ outcome.ReadFault input.Table → Rose r.table_before r.table_now
   pub no_table_fault : r.answer ≢ outcome.ReadFault input.Table → r.table_now ≡ r.table_before
+  -- Before the disks are asked for anything both hold what they held, and neither failed.
+  pub before : EndsBeforeDisks r.answer → OnlyLooksAtPair r.tells r.old r.new r.answer × HasNoFault r.old r.new
   pub records : IsPastPairTable r.answer → ByPairTable r.rest_before (λ (t : TableRows). RecordsPair t r)
   pub memory : r.answer ≡ outcome.NoMemory → OnlyLooksAtPair r.tells r.old r.new r.answer
   pub complete : IsWholePairInput r.rest_before r.tells r.old → CountsNoPairFault r.old r.new → (Rose r.table_before r.table_now → ⊥)

@@ -4,7 +4,8 @@ ghost use Rattle.std.specs.Prelude.{◌≡◌, ◌⊎◌, ◌↔◌, ℕ, List, 
 ghost use Rattle.fdr_pair.specs.PairWords.{fits_pair_form};
 ghost use Rattle.fdr_pair.specs.PairAnswers.{table_refusal_of, recording_answer_of};
 ghost use Rattle.fdr_pair.specs.PairStages.{EndsBeforeDisks, IsPastPairTable};
-ghost use Rattle.fdr_pair.specs.PairRun.{OnlyLooksAtPair, RecordsPair, RunsPair};
+ghost use Rattle.fdr_pair.specs.PairDoing.{DoesPairAsMeant, IsPairTold};
+ghost use Rattle.fdr_pair.specs.PairRun.{OnlyLooksAtPair, PairRun, RecordsPair, RunsPair};
 
 use crate::fault::PairFault;
 use crate::outcome::PairOutcome;
@@ -85,6 +86,18 @@ pub fn run_pair<T: Source, D: Twin>(
     ensures usage { (result ≡ PairOutcome.Usage) ↔ (fits_pair_form (map string_bytes words.now) ≡ false) }
     ensures untouched { fits_pair_form (map string_bytes words.now) ≡ false → (table.new ≡ table.old) × (twin.new ≡ twin.old) }
     ensures disks_untouched { EndsBeforeDisks result → twin.new ≡ twin.old }
+
+    // The recording does what it means.
+    ensures means { (fits_pair_form (map string_bytes words.now) ≡ false → ⊥) → let r : PairRun = record {
+      rest_before = T.rest table.old;
+      rest_now = T.rest table.new;
+      table_before = T.faults table.old;
+      table_now = T.faults table.new;
+      tells = D.tells;
+      old = D.pair twin.old;
+      new = D.pair twin.new;
+      answer = result;
+    } in IsPairTold r → DoesPairAsMeant r }
 
     // What is promised of the recording.
     ensures runs { (fits_pair_form (map string_bytes words.now) ≡ false → ⊥) → RunsPair (record {

@@ -1,15 +1,51 @@
 -- An input that is pulled piece by piece.
-use Rattle.std.proofs.Common.{◌≡◌, ℕ, ◌+◌, ◌-◌, ◌≤◌, ◌<◌, List, [], ◌++◌, length, take, drop, ap, sym, refl, ◌∙◌, length-append, arith, inl, inr}
+use Rattle.std.proofs.Common.{◌≡◌, ℕ, ◌+◌, ◌-◌, ◌≤◌, ◌<◌, List, [], ◌++◌, length, take, drop, ap, sym, refl, ◌∙◌, length-append, arith, inl, inr, ⊎_elim}
 use Rattle.std.specs.Prelude.{IsTrue, min}
 use Rattle.std.proofs.lemmas.Bool.{cases_lt}
 use Rattle.std.proofs.lemmas.List.{take_all, take-take, take-append-drop, length-take}
 use Rattle.std.proofs.Math.Seq.{take-append-add, take-append_seam, drop-append_seam}
 use Rattle.fdr_deck.specs.State.{State, Tells}
+use Rattle.fdr_deck.specs.Calls.{IsDiskWork, LeavesDisk}
+use Rattle.fdr_deck.specs.Disk.{KeepsDisk}
+use Rattle.fdr_deck.specs.Moments.{EachMoment, Elapses, IsSoundDeck, Within}
 use Rattle.fdr_deck.specs.Pull.{GivesPiece, TakesInput}
 use Rattle.fdr_deck.proofs.Line.{TakesInput-then}
+use Rattle.fdr_deck.proofs.Moments.{EachMoment-then, Elapses-here, Elapses-then}
 use Rattle.fdr_io.specs.Limits.{piece_bytes}
-use Rattle.fdr_pieces.specs.Pieces.{PullsPieces, EndsInput, before_last, last_piece}
+use Rattle.fdr_pieces.specs.Pieces.{PullsPieces, EndsInput, LeavesStops, before_last, last_piece}
 use Rattle.fdr_pieces.specs.declared.pieces.InputEnd.TheVariants as input_end
+
+-- ---- what stops leave
+
+pub LeavesStops-here : (tells : Tells) (d : State) → IsSoundDeck tells d → LeavesStops tells d d
+LeavesStops-here tells d sound =
+    record { time = Elapses-here tells d sound; moments = λ told m since. (sound.only_now told m since).image }
+
+-- calls that only look at the disk
+pub LeavesStops-look : (tells : Tells) (old new : State) → IsDiskWork tells old.may_leave old new → LeavesStops tells old new
+LeavesStops-look tells old new work = record { time = work.passes.time; moments = λ told m since. (work.moments told m since).image }
+
+pub LeavesStops-then : (tells : Tells) (old mid new : State) → LeavesStops tells old mid → KeepsDisk old mid → LeavesStops tells mid new
+    → LeavesStops tells old new
+LeavesStops-then tells old mid new first kept second = record {
+  time = Elapses-then tells old mid new first.time second.time;
+  moments = EachMoment-then tells old mid new (λ m. old.may_leave m.image) first.time second.time first.moments
+      (λ told m since. kept.no_more m.image (second.moments told m since));
+}
+
+-- a pull after those before
+pub LeavesStops-pull : (tells : Tells) (old mid new : State) → LeavesStops tells old mid → LeavesDisk old mid → LeavesDisk mid new → Elapses tells mid new
+    → EachMoment tells mid new (Within mid new) → LeavesStops tells old new
+LeavesStops-pull tells old mid new before kept leaves time moments = record {
+  time = Elapses-then tells old mid new before.time time;
+  moments = EachMoment-then tells old mid new (λ m. old.may_leave m.image) before.time time before.moments
+      (λ told m since. kept.disk.no_more m.image (⊎_elim
+      (λ now. now.image)
+      (λ inside. ⊎_elim (λ was. was) (λ is. leaves.disk.no_more m.image is) inside.image)
+      (moments told m since)));
+}
+
+-- ---- what is pulled
 
 -- a pull takes its bytes of the input
 pulls_line : (tells : Tells) (old new : State) (buffer : List ℕ) (n : ℕ) → n ≤ length buffer → GivesPiece tells old new buffer n

@@ -2,6 +2,7 @@
 use Rattle.std.specs.Prelude.{◌≡◌, ℕ, ◌+◌, ◌-◌, ◌<◌, ◌≤◌, List, [], length, take, drop, IsTrue}
 use Rattle.fdr_io.specs.Limits.{piece_bytes}
 use Rattle.fdr_deck.specs.State.{State, Tells}
+use Rattle.fdr_deck.specs.Moments.{EachMoment, Elapses}
 use Rattle.fdr_deck.specs.Pull.{IsLastPull, TakesInput}
 use Rattle.fdr_pieces.specs.declared.pieces.InputEnd.{InputEnd}
 use Rattle.fdr_pieces.specs.declared.pieces.InputEnd.TheVariants as input_end
@@ -13,6 +14,11 @@ pub record PullsPieces (limit : ℕ) (tells : Tells) (old new : State) (pulled :
   pub last : 0 < length pulled → IsLastPull old.taken new.pulled_before new.taken
   pub begun_within_limit : 0 < length pulled → new.pulled_before ≤ old.taken + limit
   pub bounded : length pulled ≤ limit + piece_bytes
+
+-- Time goes on, and at each moment since then a stop leaves what it could leave before.
+pub record LeavesStops (tells : Tells) (old new : State) : Type 0 where
+  pub time : Elapses tells old new
+  pub moments : EachMoment tells old new (λ m. old.may_leave m.image)
 
 -- What an end says of the bytes that were pulled of an input: at most the limit of them came and the input is at its end, or a
 -- pull failed; or more than the limit came.

@@ -5,7 +5,7 @@ ghost use Rattle.fdr_io.specs.Faults.{Rose};
 ghost use Rattle.fdr_io.specs.Limits.{piece_bytes};
 ghost use Rattle.fdr_deck.specs.Calls.{LeavesDisk};
 ghost use Rattle.fdr_pieces.specs.Limits.{most_input_bytes};
-ghost use Rattle.fdr_pieces.specs.Pieces.{EndsInput, PullsPieces, before_last, last_piece};
+ghost use Rattle.fdr_pieces.specs.Pieces.{EndsInput, LeavesStops, PullsPieces, before_last, last_piece};
 
 use fdr_deck::Deck;
 use fdr_io::{Failed, PIECE};
@@ -70,6 +70,7 @@ pub fn take_pieces<D: Deck, O, T: PieceTaker<O>>(
     ensures no_fault { IfOk result (λ end. end ≢ InputEnd.Fault → (D.state deck.new).input_faults ≡ (D.state deck.old).input_faults) }
     ensures stop_quiet { OnErr result ((D.state deck.new).input_faults ≡ (D.state deck.old).input_faults) }
     ensures disk { LeavesDisk (D.state deck.old) (D.state deck.new) }
+    ensures stops { LeavesStops D.tells (D.state deck.old) (D.state deck.new) }
     ensures announced { (D.state deck.new).announced ≡ (D.state deck.old).announced }
     ensures bounded { (D.state deck.new).taken ≤ (D.state deck.old).taken + limit + piece_bytes }
 {

@@ -1,5 +1,5 @@
 -- The moments while a session starts.
-use Rattle.std.proofs.Common.{◌≡◌, ℕ, ◌+◌, ◌-◌, ◌%◌, ◌^◌, ◌≤◌, List, [], ◌∷◌, refl, sym, ◌∙◌, ap, subst, arith, None}
+use Rattle.std.proofs.Common.{◌≡◌, ℕ, ◌+◌, ◌-◌, ◌%◌, ◌^◌, ◌≤◌, List, [], ◌∷◌, inl, inr, refl, sym, ◌∙◌, ap, subst, arith, None}
 use Rattle.std.specs.Prelude.{IsTrue}
 use Rattle.fdr_deck.specs.State.{State, Tells, Moment}
 use Rattle.fdr_deck.specs.Disk.{IsSettled, KeepsDisk}
@@ -19,7 +19,7 @@ use Rattle.fdr_stream.specs.Blocks.{due_blocks}
 use Rattle.fdr_stream.specs.Past.{stream_made, RepresentsStream}
 use Rattle.fdr_recorder.specs.Past.{session_of}
 use Rattle.fdr_recorder.specs.Recording.{IsReady}
-use Rattle.fdr_recorder.specs.Starting.{IsStarting, Starts}
+use Rattle.fdr_recorder.specs.Starting.{AnnouncesLast, IsStarting, Starts}
 use Rattle.fdr_recorder.proofs.Steps.{keeps_run, tail_same}
 
 weaker : (h : Header) (old new : List ℕ) → KeepsRun h (h.slots - 1) old new → KeepsRun h (h.slots - 2) old new
@@ -48,6 +48,10 @@ module _ (tells : Tells) (h : Header) (d0 d1 : State) (sound : IsSoundDeck tells
   looking ready stops m since = let q = quiet.moments stops m since in
       starting h d0 m (subst (λ (l : List ℕ). IsAttaching h d0.held l) (sym (ready.settled m.image q.image)) (attaching_same h d0.held))
       (omega (arith, q.greatest, ready.greatest)) q.least q.pulled
+
+  -- nothing was announced
+  pub looking_announced : (now : State) → EachMoment tells d0 d1 (AnnouncesLast d0 now)
+  looking_announced now stops m since = let q = quiet.moments stops m since in inl (q.least, q.greatest)
 
   looking_pulled : EachMoment tells d0 d1 (HasSamePulls d0)
   looking_pulled stops m since = (quiet.moments stops m since).pulled
@@ -80,6 +84,20 @@ module _ (tells : Tells) (h : Header) (d0 d1 : State) (sound : IsSoundDeck tells
         (omega (arith, q.greatest, fresh.greatest, told, sound.greatest, ready.greatest))
         (omega (arith, q.least, fresh.least, told, sound.least))
         (attaching_pulled stops m since)
+
+    -- nothing was announced
+    pub attaching_announced : (now : State) → EachMoment tells d0 d2 (AnnouncesLast d0 now)
+    attaching_announced now = EachMoment-then tells d0 d1 d2 (AnnouncesLast d0 now) quiet.passes.time passes2.time (looking_announced now)
+        (λ stops m since.
+        let q = (quiet2 stops).moments stops m since in
+        let told = quiet.passes.announced.announced in
+        inl (omega (arith, q.least, fresh.least, told, sound.least), omega (arith, q.greatest, fresh.greatest, told, sound.greatest)))
+
+    -- and then the next number was
+    pub starting_announced : (d3 : State) → Elapses tells d2 d3 → EachMoment tells d2 d3 (IsNow d3) → EachMoment tells d0 d3 (AnnouncesLast d0 d3)
+    starting_announced d3 time3 moments = EachMoment-then tells d0 d2 d3 (AnnouncesLast d0 d3)
+        (Elapses-then tells d0 d1 d2 quiet.passes.time passes2.time) time3 (attaching_announced d3)
+        (λ stops m since. inr (moments stops m since).image)
 
     -- the ring was attached, or the disk failed then
     pub Starts-attached : Starts tells h d0 d2

@@ -1,5 +1,5 @@
 -- What the start of a session leaves.
-use Rattle.std.specs.Prelude.{◌≡◌, ◌≤◌, ◌-◌, [], IsTrue}
+use Rattle.std.specs.Prelude.{◌≡◌, ◌≤◌, ◌⊎◌, ◌-◌, [], IsTrue}
 use Rattle.fdr_deck.specs.State.{Moment, State, Tells}
 use Rattle.fdr_deck.specs.Disk.{IsSettled}
 use Rattle.fdr_deck.specs.Moments.{HasSamePulls, Elapses, EachMoment}
@@ -21,6 +21,11 @@ use Rattle.fdr_recorder.specs.declared.session.Session.{Session}
 pub record IsStarting (h : Header) (entry : State) (m : Moment) : Type 0 where
   pub recording : IsRecordingMoment h entry [] m
   pub image : IsAttaching h entry.held m.image
+
+-- At this moment no number was announced but one of before, or a stop may leave the image in the end too: so nothing is announced
+-- before what it rests on is durable.
+abbrev pub AnnouncesLast : State → State → Moment → Type 0
+AnnouncesLast old now m = ((old.least ≤ m.announced) × (m.announced ≤ old.greatest)) ⊎ now.may_leave m.image
 
 -- What the start of a session leaves, whatever it answers: at each moment the run but for its oldest block, and nothing is
 -- pulled.

@@ -2,6 +2,7 @@
 
 ghost use Rattle.std.specs.Prelude.{◌≡◌, ◌≢◌, ◌+◌, ◌≤◌, [], Ok, Err, IfOk, IfErr, IsTrue};
 ghost use Rattle.fdr_io.specs.Faults.{Rose};
+ghost use Rattle.fdr_deck.specs.Calls.{IsDiskWork};
 ghost use Rattle.fdr_deck.specs.Disk.{KeepsDisk, LearnsExtent};
 ghost use Rattle.fdr_deck.specs.Pull.{KeepsInput};
 ghost use Rattle.fdr_recover.specs.ImageHeader.{IsFor, header_in};
@@ -140,6 +141,8 @@ pub fn record_source<D: Deck, S: RecordSource<D>>(
     ensures memory_current { IfErr result (λ fault. fault ≡ SessionFault.NoMemory → IsTrue D.tells.bytes
         → (header_in (D.state deck.old).held).version ≡ 2) }
     ensures untouched { IfErr result (λ fault. IsRefusedAtStart fault → KeepsDisk (D.state deck.old) (D.state deck.new)) }
+    ensures looked { IfErr result (λ fault. IsRefusedAtStart fault
+        → IsDiskWork D.tells (D.state deck.old).may_leave (D.state deck.old) (D.state deck.new)) }
     ensures announced { IfErr result (λ fault. IsRefusedAtStart fault → (D.state deck.new).announced ≡ (D.state deck.old).announced) }
     ensures input { IfErr result (λ fault. IsRefusedAtStart fault → KeepsInput (D.state deck.old) (D.state deck.new)
         × ((D.state deck.new).input_faults ≡ (D.state deck.old).input_faults)) }

@@ -3,7 +3,8 @@
 ghost use Rattle.std.specs.Prelude.{◌≡◌, ◌≢◌, ◌⊎◌, ◌↔◌, ◌<◌, ◌≤◌, ◌+◌, ℕ, [], ◌∷◌, ◌++◌, Err, Some, None, length, IfOk, OnOk, OnErr, IsTrue};
 ghost use Rattle.fdr_io.specs.Faults.{Rose};
 ghost use Rattle.fdr_deck.specs.Disk.{KeepsDisk, LearnsExtent};
-ghost use Rattle.fdr_deck.specs.Calls.{KeepsAnnounced};
+ghost use Rattle.fdr_deck.specs.Calls.{IsDiskWork, KeepsAnnounced};
+ghost use Rattle.fdr_deck.specs.Moments.{EachMoment};
 ghost use Rattle.fdr_slot.specs.Limits.{least_payload_bytes, most_payload_bytes, sequence_end};
 ghost use Rattle.fdr_slot.specs.declared.image.ImageFault.{ImageFault};
 ghost use Rattle.fdr_slot.specs.declared.image.ImageFault.TheVariants as image_fault;
@@ -36,7 +37,7 @@ pub struct Session {
 
 impl Session {
     ghost use Rattle.fdr_recorder.specs.Past.{RecordingPast, MayFeedRecording, RepresentsRecording, recording_with_record, blocks_due_at, rest_of, recorded_of, all_blocks};
-    ghost use Rattle.fdr_recorder.specs.Starting.{Starts, IsStarted};
+    ghost use Rattle.fdr_recorder.specs.Starting.{AnnouncesLast, Starts, IsStarted};
 
     /// Starts a recording by a table in the image on the disk, and announces its next number. The session's number is one
     /// more, modulo 2^32, than that of the image's last block, or 1 where it has none. `Image` names the first fault of the
@@ -72,6 +73,10 @@ impl Session {
         ensures learns { LearnsExtent D.tells (D.state deck.old) (D.state deck.new) }
         ensures untouched { result ≢ Err SessionFault.DiskFault
             → OnErr result (KeepsDisk (D.state deck.old) (D.state deck.new)) }
+        ensures looked { result ≢ Err SessionFault.DiskFault
+            → OnErr result (IsDiskWork D.tells (D.state deck.old).may_leave (D.state deck.old) (D.state deck.new)) }
+        ensures announced_last { EachMoment D.tells (D.state deck.old) (D.state deck.new)
+            (AnnouncesLast (D.state deck.old) (D.state deck.new)) }
         ensures no_fault { result ≢ Err SessionFault.DiskFault
             → (D.state deck.new).disk_faults ≡ (D.state deck.old).disk_faults }
         ensures cause { result ≡ Err SessionFault.DiskFault

@@ -8,7 +8,7 @@ use std::alloc::AllocError;
 pub enum SalvageFault {
     /// The disk failed: its count of faults rose in this call.
     DiskFault,
-    /// There wasn't enough memory. The disk wasn't asked for anything.
+    /// There wasn't enough memory.
     NoMemory,
 }
 

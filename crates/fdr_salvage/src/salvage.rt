@@ -26,7 +26,6 @@ pub struct Run {
 }
 
 /// Finds all runs of the disk's image, in the order of their numbers: looks at all slots, and joins the numbers of the valid ones.
-/// All memory that it needs is there before it looks.
 pub fn runs<D: Deck>(alloc: Global, deck: &mut D, h: &Header) -> Result<Vec<Run>, SalvageFault>
     requires limits { IsInLimits h.now }
     requires whole { image_size h.now ≤ (D.state deck.old).extent }

@@ -44,7 +44,7 @@ pub fn run_in_memory<T: Source, O: Sink>(
     out: &mut O,
 ) -> Ran
     ensures { (path at : List ℕ) → form_of (map string_bytes words.now) ≡ Some (record_line path at)
-        → ByTable (T.rest table.old) (λ (t : TableRows). IsRecordedInMemory t image.items input.items result.answer result.deck) }
+        → ByTable (T.rest table.old) (T.rest table.new) result.answer (λ (t : TableRows). IsRecordedInMemory t image.items input.items result.answer result.deck) }
 {
     let mut deck = made_deck(alloc, image, input, failing);
     let answer = run(alloc, words, table, &mut deck, out);

@@ -27,6 +27,7 @@ use Rattle.fdr_top.specs.Format.{Makes}
 use Rattle.fdr_top.specs.Leaves.{HasCause, LeavesAll, LeavesUnused}
 use Rattle.fdr_top.specs.Runs.{WorkRun}
 use Rattle.fdr_io.specs.Limits.{piece_bytes}
+use Rattle.fdr_pieces.specs.Pieces.{LeavesStops}
 use Rattle.fdr_pieces.specs.Limits.{most_input_bytes}
 use Rattle.fdr_top.specs.InputTexts.{WritesOfInput}
 use Rattle.fdr_top.specs.Recover.{Recovers, RecoversImage}
@@ -107,6 +108,7 @@ recovers_image path tells old new before now answer recovers of = record {
   looks = recovers.looks;
   all = recovers.all;
   part = recovers.part;
+  begun = recovers.begun;
   good = λ done told. recovers.good
       (λ e. let c : outcome.Done ≡ outcome.DiskFault = sym done ∙ e in cc)
       (λ why e. let c : outcome.Done ≡ outcome.ImageRefused why = sym done ∙ e in cc) told;
@@ -138,10 +140,12 @@ begun_leaves form r reads makes both of leaves told written faults nothing = ⊎
     of
 
 -- a command that pulls the input leaves the disk
-pub line_unused : (form : Form) (r : WorkRun) → PullsInput form → LeavesDisk r.old r.new → r.new.announced ≡ r.old.announced
+pub line_unused : (form : Form) (r : WorkRun) → ((WritesText form → ⊥) → (r.written_now ≡ r.written_before) × (r.sink_now ≡ r.sink_before))
+    → PullsInput form → LeavesDisk r.old r.new → r.new.announced ≡ r.old.announced
     → (r.answer ≡ outcome.NoMemory → KeepsInputAndFaults r.old r.new)
     → (PullsBits form → r.new.taken ≤ r.old.taken + most_input_bytes + piece_bytes) → (PullsRules form → ⊥) → LeavesUnused form r
-line_unused form r pulls leaves told memory bounded no_rules = record {
+line_unused form r quiet pulls leaves told memory bounded no_rules = record {
+  text = quiet;
   input = λ unused. absurd (unused pulls);
   disk = λ unused. leaves;
   announced = λ unused. told;
@@ -156,9 +160,11 @@ passes_keeps tells old new passes =
     record { input = passes.input.input; taken = passes.input.taken; pulled_before = passes.input.pulled_before; faults = passes.input_faults }
 
 -- and one that has an image leaves the input
-pub image_unused : (form : Form) (r : WorkRun) → HasImage form → (PullsInput form → ⊥) → (PullsBits form → ⊥)
+pub image_unused : (form : Form) (r : WorkRun) → ((WritesText form → ⊥) → (r.written_now ≡ r.written_before) × (r.sink_now ≡ r.sink_before))
+    → HasImage form → (PullsInput form → ⊥) → (PullsBits form → ⊥)
     → Passes r.tells r.old r.new → LeavesUnused form r
-image_unused form r image no_line no_bits passes = record {
+image_unused form r quiet image no_line no_bits passes = record {
+  text = quiet;
   input = λ unused. passes_keeps r.tells r.old r.new passes;
   disk = λ unused. absurd (unused image);
   announced = λ unused. passes.announced.announced;
@@ -183,10 +189,12 @@ left_all r written faults disk learns told line = record {
 }
 
 -- what a recording doesn't use: a drill the input, and a trace is left where memory ends
-pub image_recorded : (form : Form) (r : WorkRun) → HasImage form → RecordsImage form → (PullsBits form → ⊥)
+pub image_recorded : (form : Form) (r : WorkRun) → ((WritesText form → ⊥) → (r.written_now ≡ r.written_before) × (r.sink_now ≡ r.sink_before))
+    → HasImage form → RecordsImage form → (PullsBits form → ⊥)
     → ((PullsInput form → ⊥) → KeepsInputAndFaults r.old r.new) → (PullsInput form → r.answer ≡ outcome.NoMemory → KeepsInputAndFaults r.old r.new)
     → LeavesUnused form r
-image_recorded form r image records no_bits unpulled memory = record {
+image_recorded form r quiet image records no_bits unpulled memory = record {
+  text = quiet;
   input = unpulled;
   disk = λ unused. absurd (unused image);
   announced = λ unused. absurd (unused records);
@@ -223,6 +231,20 @@ making_refusal path image slots payload h r of makes written faults nothing = �
     (λ (failed : r.answer ≡ outcome.DiskFault). absurd (rw failed at nothing))
     rest)
     (making_cases path image slots payload r.answer of)
+
+-- and at each moment a stop leaves what it could leave before
+pub making_stops : (path image : List ℕ) (slots payload : ℕ) (h : Header) (tells : Tells) (old new : State) (answer : Outcome)
+    → IsOwn (format_image path image slots payload) answer → Makes h tells old new answer → WritesNothing answer → LeavesStops tells old new
+making_stops path image slots payload h tells old new answer of makes nothing = ⊎_elim
+    (λ (done : answer ≡ outcome.Done). absurd (rw done at nothing))
+    (λ (rest : (answer ≡ outcome.NotEmpty) ⊎ (answer ≡ outcome.DiskFault)). ⊎_elim
+    (λ (some : answer ≡ outcome.NotEmpty). record {
+      time = makes.disk_work.passes.time;
+      moments = λ told m since. (makes.disk_work.moments told m since).image.kept (omega (arith, makes.not_empty some, (makes.learns some).stops told));
+    })
+    (λ (failed : answer ≡ outcome.DiskFault). absurd (rw failed at nothing))
+    rest)
+    (making_cases path image slots payload answer of)
 
 -- on a disk that has no byte and doesn't fail, the image is made
 pub making_done : (path image : List ℕ) (slots payload : ℕ) (h : Header) (tells : Tells) (old new : State) (answer : Outcome)

@@ -10,10 +10,12 @@ use Rattle.fdr_check.specs.Soundness.{IsSound}
 use Rattle.fdr_table.specs.Bounds.{most_table_bytes}
 use Rattle.fdr_table.specs.Rows.{TableRows}
 use Rattle.fdr_words.specs.Forms.{Form, check_table, stream_line, list_bits, encode_bytes}
-use Rattle.fdr_words.specs.Forms.{decode_levels, format_image, record_line, recover_image, list_image, upgrade_image, salvage_image, exceed_image, drill_image}
+use Rattle.fdr_words.specs.Forms.{decode_levels, format_image, record_line, recover_image, list_image, upgrade_image, salvage_image, exceed_image}
+use Rattle.fdr_words.specs.Forms.{drill_image}
 use Rattle.fdr_words.specs.Forms.{table_path}
 use Rattle.fdr_top.specs.Stages.{IsOfTable}
-use Rattle.fdr_top.specs.Answers.{IsOwn, KeepsInputAndFaults, ReadsTable}
+use Rattle.fdr_pieces.proofs.Pulling.{LeavesStops-here}
+use Rattle.fdr_top.specs.Answers.{IsOwn, KeepsInputAndFaults, ReadsTable, WritesText}
 use Rattle.fdr_top.specs.Commands.{ByItsTable, CarriesOut, DoesWork, RunsCommand, Works}
 use Rattle.fdr_top.specs.Complete.{ByAccepted, TellsAccepted}
 use Rattle.fdr_top.specs.Leaves.{HasCause, LeavesAll, LeavesUnused, PassesOverNoFault}
@@ -67,8 +69,11 @@ idle_leaves_all tells d written s answer = record {
 
 -- a run that leaves the deck as it was uses nothing of it
 pub still_unused : (form : Form) (tells : Tells) (d : State) (before now : Option (List ℕ)) (s t : ℕ) (answer : Outcome)
-    → LeavesUnused form (record { tells = tells; old = d; new = d; written_before = before; written_now = now; sink_before = s; sink_now = t; answer = answer })
-still_unused form tells d before now s t answer = record {
+    → ((WritesText form → ⊥) → (now ≡ before) × (t ≡ s))
+    → LeavesUnused form
+    (record { tells = tells; old = d; new = d; written_before = before; written_now = now; sink_before = s; sink_now = t; answer = answer })
+still_unused form tells d before now s t answer quiet = record {
+  text = quiet;
   input = λ unused. keeps_line d;
   disk = λ unused. record {
     disk = record { held = refl; no_more = λ image leaves. leaves; no_less = λ image leaves. leaves };
@@ -96,11 +101,12 @@ idle_passes form tells d written s answer = record { input = λ read covers. ref
 
 -- where memory ends before the work is begun, it is as promised
 pub idle_works : (form : Form) (t : TableRows) (tells : Tells) (d : State) (written : Option (List ℕ)) (s : ℕ)
-    → DoesWork form t (idle tells d written s outcome.NoMemory) → Works form t (idle tells d written s outcome.NoMemory)
-idle_works form t tells d written s does = record {
+    → IsSoundDeck tells d → DoesWork form t (idle tells d written s outcome.NoMemory) → Works form t (idle tells d written s outcome.NoMemory)
+idle_works form t tells d written s sound does = record {
+  stops = λ has nothing. LeavesStops-here tells d sound;
   answer = inl refl;
   refusal = λ nothing. idle_leaves_all tells d written s outcome.NoMemory;
-  unused = still_unused form tells d written written s s outcome.NoMemory;
+  unused = still_unused form tells d written written s s outcome.NoMemory (λ no. (refl, refl));
   causes = table_has_cause tells d written s outcome.NoMemory tt;
   no_fault_passed_over = idle_passes form tells d written s outcome.NoMemory;
   does = does;
@@ -134,7 +140,8 @@ check_works path t tells d before now s u answer own reports sink quiet memory =
       })
       (λ of. absurd (own_begun (check_table path) answer (λ none. none) (λ none. none) (λ none. none) of nothing))
       own;
-  unused = still_unused (check_table path) tells d before now s u answer;
+  stops = λ has. absurd has;
+  unused = still_unused (check_table path) tells d before now s u answer (λ no. absurd (no tt));
   causes = has_cause (check_table path) _ own (λ pulls. absurd pulls) (λ text. sink) (λ image. absurd image);
   no_fault_passed_over = record { input = λ read covers. refl; write = λ other covers. quiet other; disk = λ other. refl };
   does = λ past. reports;
@@ -143,11 +150,11 @@ check_works path t tells d before now s u answer own reports sink quiet memory =
 
 -- ---- the table that a form's command reads
 
-its_table : (path : Option (List ℕ)) (old new : Option (List ℕ)) (t : TableRows) (P : TableRows → Type 0) → IsSome path
+its_table : (path : Option (List ℕ)) (old new : Option (List ℕ)) (t : TableRows) (answer : Outcome) (P : TableRows → Type 0) → IsSome path
     → (taken : List ℕ) × IsAccepted taken × (t ≡ table_in taken) × (old ≡ preceded_by taken new) → IfSome new (λ left. left ≡ []) → P t
-    → ByItsTable path old P
-its_table None old new t P some read end holds = absurd (let e : false ≡ true = some in cc)
-its_table (Some path) old new t P some read end holds = by_table old new t P read end holds
+    → ByItsTable path old new answer P
+its_table None old new t answer P some read end holds = absurd (let e : false ≡ true = some in cc)
+its_table (Some path) old new t answer P some read end holds = by_table old new t answer P read end holds
 
 accepted_holds : (path : Option (List ℕ)) (old new : Option (List ℕ)) (t : TableRows) (P : TableRows → Type 0)
     → (taken : List ℕ) × IsAccepted taken × (t ≡ table_in taken) × (old ≡ preceded_by taken new) → IfSome new (λ left. left ≡ [])
@@ -173,12 +180,13 @@ carried form r t reads read end sound bounded quiet works = record {
   table = λ reads. read_accepted r.rest_before r.rest_now t r.work.answer read end sound (memory_past form r.work.answer works.answer);
   bounded = bounded;
   refusal = works.refusal;
+  stops = works.stops;
   unused = works.unused;
   table_cause = λ e. absurd (own_not_table form r.work.answer works.answer e);
   no_table_fault = λ other. quiet;
   causes = works.causes;
   no_fault_passed_over = works.no_fault_passed_over;
-  carries_out = its_table (table_path form) r.rest_before r.rest_now t _ reads read end works.does;
+  carries_out = its_table (table_path form) r.rest_before r.rest_now t r.work.answer _ reads read end works.does;
   complete = λ whole faultless.
       works.complete (accepted_holds (table_path form) r.rest_before r.rest_now t _ read end whole) faultless.work;
 }
@@ -191,6 +199,7 @@ carried_alone form r none quiet bounded works = record {
   table = λ reads. absurd (let e : false ≡ true = rw none at reads in cc);
   bounded = bounded;
   refusal = (works (table_or None)).refusal;
+  stops = (works (table_or None)).stops;
   unused = (works (table_or None)).unused;
   table_cause = λ e. absurd (own_not_table form r.work.answer (works (table_or None)).answer e);
   no_table_fault = λ other. quiet;
@@ -204,27 +213,33 @@ carried_alone form r none quiet bounded works = record {
 pub does_nothing : (form : Form) (r : CommandRun) (tells : Tells) (d : State) (written : Option (List ℕ)) (s : ℕ) (answer : Outcome)
     → r.work ≡ idle tells d written s answer → IsSoundDeck tells d → ReadsTable form → IsOfTable answer → CarriesOut form r
 does_nothing (check_table path) r tells d written s answer same sound reads of =
-    (table_or r.rest_before, table_told r.rest_before, rw same (λ past. absurd (table_not_past answer of past)))
+    rw same (table_or r.rest_before, table_told r.rest_before, λ past. absurd (table_not_past answer of past), λ past. absurd (table_not_past answer of past))
 does_nothing (stream_line path) r tells d written s answer same sound reads of =
-    (table_or r.rest_before, table_told r.rest_before, rw same (λ past. absurd (table_not_past answer of past)))
+    rw same (table_or r.rest_before, table_told r.rest_before, λ past. absurd (table_not_past answer of past), λ past. absurd (table_not_past answer of past))
 does_nothing (list_bits path) r tells d written s answer same sound reads of =
-    (table_or r.rest_before, table_told r.rest_before, rw same (λ past. absurd (table_not_past answer of past)))
+    rw same (table_or r.rest_before, table_told r.rest_before, λ past. absurd (table_not_past answer of past), λ past. absurd (table_not_past answer of past))
 does_nothing encode_bytes r tells d written s answer same sound reads of = absurd (let e : false ≡ true = reads in cc)
 does_nothing decode_levels r tells d written s answer same sound reads of = absurd (let e : false ≡ true = reads in cc)
 does_nothing (format_image path image slots payload) r tells d written s answer same sound reads of =
-    rw same (makes_nothing tells r.rest_before slots payload d answer sound (inr of))
+    rw same (makes_nothing tells r.rest_before r.rest_now slots payload d answer sound (inr of))
 does_nothing (record_line path image) r tells d written s answer same sound reads of =
-    rw same (records_nothing tells r.rest_before d answer sound (table_not_past answer of))
+    rw same (records_nothing tells r.rest_before r.rest_now d answer sound (table_not_past answer of))
 does_nothing (recover_image image) r tells d written s answer same sound reads of = absurd (let e : false ≡ true = reads in cc)
 does_nothing (list_image path image) r tells d written s answer same sound reads of =
-    rw same (lists_nothing tells r.rest_before d written answer sound (inr of))
+    rw same (lists_nothing tells r.rest_before r.rest_now d written answer sound (inr of))
 does_nothing (upgrade_image image) r tells d written s answer same sound reads of = absurd (let e : false ≡ true = reads in cc)
 does_nothing (salvage_image path image ring) r tells d written s answer same sound reads of =
-    rw same (salvages_nothing ring tells r.rest_before d written answer sound (inr of))
+    rw same (salvages_nothing ring tells r.rest_before r.rest_now d written answer sound (inr of))
 does_nothing (exceed_image path image) r tells d written s answer same sound reads of =
-    rw same (table_or r.rest_before, table_told r.rest_before, exceeds_nothing (table_or r.rest_before) tells d written answer (table_not_past answer of))
+    rw same (
+      table_or r.rest_before,
+      table_told r.rest_before,
+      λ past. absurd (table_not_past answer of past),
+      exceeds_nothing
+          (table_or r.rest_before) tells d written answer sound (table_not_past answer of),
+    )
 does_nothing (drill_image path image seed frames) r tells d written s answer same sound reads of =
-    rw same (drills_nothing seed frames tells r.rest_before d written answer sound (table_not_past answer of))
+    rw same (drills_nothing seed frames tells r.rest_before r.rest_now d written answer sound (table_not_past answer of))
 
 -- where its table isn't read or is refused, the command is as promised
 pub table_refused : (form : Form) (r : CommandRun) (tells : Tells) (d : State) (written : Option (List ℕ)) (s : ℕ) (answer : Outcome)
@@ -237,7 +252,8 @@ table_refused form r tells d written s answer same sound reads of table bounded 
   table = λ reads. rw same table;
   bounded = bounded;
   refusal = λ nothing. rw same (idle_leaves_all tells d written s answer);
-  unused = rw same (still_unused form tells d written written s s answer);
+  stops = λ has nothing. rw same (LeavesStops-here tells d sound);
+  unused = rw same (still_unused form tells d written written s s answer (λ no. (refl, refl)));
   table_cause = rw same cause;
   no_table_fault = rw same quiet;
   causes = rw same (table_has_cause tells d written s answer of);
@@ -276,7 +292,8 @@ nothing_done form r tells d written s same rest quiet sound = record {
   table = λ reads. rw (same, rest) (nothing_read r.rest_before);
   bounded = rw rest (TakesAtMost-none (most_table_bytes + piece_bytes) r.rest_before);
   refusal = λ nothing. rw same (idle_leaves_all tells d written s outcome.NoMemory);
-  unused = rw same (still_unused form tells d written written s s outcome.NoMemory);
+  stops = λ has nothing. rw same (LeavesStops-here tells d sound);
+  unused = rw same (still_unused form tells d written written s s outcome.NoMemory (λ no. (refl, refl)));
   table_cause = rw same (λ e. absurd (cc));
   no_table_fault = λ other. quiet;
   causes = rw same (table_has_cause tells d written s outcome.NoMemory tt);

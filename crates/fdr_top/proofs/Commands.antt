@@ -15,7 +15,7 @@ use Rattle.fdr_top.specs.Answers.{HasImage, IsImageRecorded, IsImageThere, IsOwn
 use Rattle.fdr_top.specs.Answers.{KeepsInputAndFaults, MakesImage, ReadsBoth, ReadsImage, RecordsImage}
 use Rattle.fdr_top.specs.Answers.{AreRulesTaken, IsInputTaken, IsInputTakenLast, PullsLast, PullsRules}
 use Rattle.fdr_deck.specs.State.{State}
-use Rattle.fdr_top.specs.Leaves.{CoversInputFault}
+use Rattle.fdr_top.specs.Leaves.{IsCutShort}
 use Rattle.fdr_top.specs.Check.{Reports}
 use Rattle.fdr_io.proofs.Telling.{followed_by-nil}
 use Rattle.fdr_table.specs.Rows.{TableRows}
@@ -139,10 +139,10 @@ own_begun form answer reads makes both own nothing = nothing
 -- where an answer covers no fault of the input, none was met
 pub uncovered_line : (form : Form) (old new : State) (answer : Outcome) → (answer ≡ outcome.NoMemory) ⊎ IsOwn form answer
     → (answer ≡ outcome.NoMemory → KeepsInputAndFaults old new) → (IsOwn form answer → answer ≢ outcome.WriteFault → new.input_faults ≡ old.input_faults)
-    → (CoversInputFault answer → ⊥) → new.input_faults ≡ old.input_faults
+    → (IsCutShort answer → ⊥) → new.input_faults ≡ old.input_faults
 uncovered_line form old new answer of memory quiet covers = ⊎_elim
     (λ none. (memory none).faults)
-    (λ own. quiet own (λ e. covers (subst CoversInputFault (sym e) tt)))
+    (λ own. quiet own (λ e. covers (subst IsCutShort (sym e) tt)))
     of
 
 -- each request but four has a table

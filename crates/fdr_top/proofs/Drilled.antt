@@ -193,13 +193,14 @@ module _ (t : TableRows) (seed frames : ℕ) (tells : Tells) (a b c d : State) (
 
 -- ---- where the table isn't read
 
-pub drills_nothing : (seed frames : ℕ) (tells : Tells) (rest : Option (List ℕ)) (d : State) (written : Option (List ℕ)) (answer : Outcome)
+pub drills_nothing : (seed frames : ℕ) (tells : Tells) (rest now : Option (List ℕ)) (d : State) (written : Option (List ℕ)) (answer : Outcome)
     → IsSoundDeck tells d → (IsPastTable answer → ⊥)
-    → ByTable rest (λ (t : TableRows). DrillsImage t seed frames tells d d written written answer)
-drills_nothing seed frames tells rest d written answer sound early =
+    → ByTable rest now answer (λ (t : TableRows). DrillsImage t seed frames tells d d written written answer)
+drills_nothing seed frames tells rest now d written answer sound early =
     let t = table_or rest in (
       t,
       table_told rest,
+      λ past. absurd (early past),
       record {
         blocks = RecordsBlocks-unbegun t tells (generated_trace t seed frames) d d (EndsRecording answer) (answer ≡ outcome.SeqEnd)
             (nothing_started tells d sound) (λ all. early (all_past answer all)) (λ e. early (subst IsPastTable (sym e) tt));

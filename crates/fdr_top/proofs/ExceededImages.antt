@@ -11,9 +11,11 @@ use Rattle.fdr_io.specs.declared.Input.TheVariants as input
 use Rattle.fdr_io.proofs.Telling.{followed_by-nil}
 use Rattle.fdr_deck.specs.Calls.{LeavesDisk}
 use Rattle.fdr_deck.specs.Disk.{KeepsDisk, LearnsExtent}
+use Rattle.fdr_deck.specs.Moments.{IsSoundDeck}
 use Rattle.fdr_deck.specs.Pull.{KeepsInput}
 use Rattle.fdr_deck.specs.State.{State, Tells}
-use Rattle.fdr_pieces.specs.Pieces.{EndsInput, PullsPieces, before_last, last_piece}
+use Rattle.fdr_pieces.proofs.Pulling.{LeavesStops-here, LeavesStops-look, LeavesStops-then}
+use Rattle.fdr_pieces.specs.Pieces.{EndsInput, LeavesStops, PullsPieces, before_last, last_piece}
 use Rattle.fdr_pieces.specs.declared.pieces.InputEnd.{InputEnd}
 use Rattle.fdr_pieces.specs.declared.pieces.InputEnd.TheVariants as input_end
 use Rattle.fdr_slot.specs.Places.{image_size}
@@ -244,6 +246,11 @@ no_first_rule fault x e some = let c : ◌≡◌ {A = Option (ℕ × RuleFault)}
 shut_other : (answer other : Outcome) → RefusesOpening answer → (RefusesOpening other → ⊥) → answer ≡ other → ⊥
 shut_other answer other shut not e = not (subst RefusesOpening e shut)
 
+-- the disk was looked at, and then pieces were pulled
+stops_then : (tells : Tells) (old mid new : State) → OnlyLooks tells old mid → LeavesStops tells mid new → LeavesStops tells old new
+stops_then tells old mid new looks stopped =
+    LeavesStops-then tells old mid new (LeavesStops-look tells old mid looks.disk_work) looks.disk stopped
+
 -- the image wasn't opened
 pub unopened : (t : TableRows) (tells : Tells) (old new : State) (written : Option (List ℕ)) (answer : Outcome) → OnlyLooks tells old new
     → RefusesOpening answer → RefusesImage t tells old new answer → ExceedsImage t tells old new written written answer
@@ -253,6 +260,7 @@ unopened t tells old new written answer looks shut image =
     record {
       disk = looks.disk;
       learns = looks.learns;
+      stops = LeavesStops-look tells old new looks.disk_work;
       image = image;
       good = λ either told. absurd (undone either);
       pulled = [];
@@ -266,6 +274,7 @@ unopened t tells old new written answer looks shut image =
       text = λ done told. absurd (undone (inl done));
       part = λ read told. (0, sym (followed_by-nil written));
       unwritten = λ none. refl;
+      cut = λ e. inl (looks.disk_work.passes.input.taken, refl);
     }
 
 some_first : (fault : Option (ℕ × RuleFault)) (r row : ℕ) (g f : RuleFault) → fault ≡ Some (r, g) → fault ≡ Some (row, f) → (r ≡ row) × (g ≡ f)
@@ -290,9 +299,10 @@ always t tells old new pulled answer refused row f past some = ⊎_elim
 
 -- the rules weren't read
 pub rules_refused : (t : TableRows) (tells : Tells) (old mid new : State) (written : Option (List ℕ)) (pulled : List ℕ) (answer : Outcome)
-    → OnlyLooks tells old mid → 64 ≤ mid.extent → (IsTrue tells.bytes → IsFor t.frame.words old.held) → LeavesDisk mid new
+    → OnlyLooks tells old mid → 64 ≤ mid.extent → (IsTrue tells.bytes → IsFor t.frame.words old.held) → LeavesDisk mid new → LeavesStops tells mid new
     → HasRefusedRules t tells mid new pulled answer → ExceedsImage t tells old new written written answer
-rules_refused t tells old mid new written pulled answer looks long for leaves refused = record {
+rules_refused t tells old mid new written pulled answer looks long for leaves stopped refused = record {
+  stops = stops_then tells old mid new looks stopped;
   disk = keeps_then old mid new looks.disk leaves.disk;
   learns = learns_then tells old mid new looks.learns leaves.extent;
   image = unrefused t tells old new answer refused.only (λ short. omega (arith, short, leaves.extent, long)) for;
@@ -308,13 +318,15 @@ rules_refused t tells old mid new written pulled answer looks long for leaves re
   text = λ done told. absurd (rules_unread answer refused.only (inl done));
   part = λ read told. absurd (rules_unread answer refused.only read);
   unwritten = λ none. refl;
+  cut = λ e. absurd (rules_unread answer refused.only (inr (inr e)));
 }
 
 -- memory ended behind the rules
 pub no_room_to_watch : (t : TableRows) (tells : Tells) (old mid new : State) (written : Option (List ℕ)) (pulled : List ℕ)
-    → OnlyLooks tells old mid → LeavesDisk mid new → HasPulledRules t tells mid new pulled
+    → OnlyLooks tells old mid → LeavesDisk mid new → LeavesStops tells mid new → HasPulledRules t tells mid new pulled
     → ExceedsImage t tells old new written written outcome.NoMemory
-no_room_to_watch t tells old mid new written pulled looks leaves read = record {
+no_room_to_watch t tells old mid new written pulled looks leaves stopped read = record {
+  stops = stops_then tells old mid new looks stopped;
   disk = keeps_then old mid new looks.disk leaves.disk;
   learns = learns_then tells old mid new looks.learns leaves.extent;
   image = refuses_nothing t tells old new outcome.NoMemory (λ past. past);
@@ -330,17 +342,18 @@ no_room_to_watch t tells old mid new written pulled looks leaves read = record {
   text = λ done told. absurd (cc);
   part = λ either told. absurd (rules_unread outcome.NoMemory (inr (inr refl)) either);
   unwritten = λ none. refl;
+  cut = λ e. absurd (cc);
 }
 
 -- the blocks were read
 pub blocks_exceeded : (t : TableRows) (tells : Tells) (old mid end new : State) (h : Header) (rules : List Rule) (before now : Option (List ℕ))
-    (pulled : List ℕ) (answer : Outcome) → OnlyLooks tells old mid → LeavesDisk mid end → Looks tells end new
+    (pulled : List ℕ) (answer : Outcome) → OnlyLooks tells old mid → LeavesDisk mid end → LeavesStops tells mid end → Looks tells end new
     → (IsTrue tells.bytes → h ≡ header_in old.held) → (IsTrue tells.bytes → IsFor t.frame.words old.held) → image_size h ≤ mid.extent
     → HasPulledRules t tells mid end pulled → rules ≡ rules_in t pulled → HasReadBlocks answer
     → (answer ≡ outcome.Done → IsTrue tells.bytes → now ≡ followed_by before (exceedances_of_blocks rules t h.version (recovered_run h end.held)))
     → (IsTrue tells.bytes → (k : ℕ) × (now ≡ followed_by before (take k (exceedances_of_blocks rules t h.version (recovered_run h end.held)))))
     → ExceedsImage t tells old new before now answer
-blocks_exceeded t tells old mid end new h rules before now pulled answer looks leaves last header for long read are of text part =
+blocks_exceeded t tells old mid end new h rules before now pulled answer looks leaves stopped last header for long read are of text part =
     let listed : IsTrue tells.bytes → exceedances_of_blocks rules t h.version (recovered_run h end.held) ≡ exceedances_in t pulled old.held = λ told.
     ap (λ (rs : List Rule). exceedances_of_blocks rs t h.version (recovered_run h end.held)) are
     ∙ ap (λ (image : List ℕ). exceedances_of_blocks (rules_in t pulled) t h.version (recovered_run h image)) leaves.disk.held
@@ -350,6 +363,8 @@ blocks_exceeded t tells old mid end new h rules before now pulled answer looks l
     record {
       disk = keeps_then old end new (keeps_then old mid end looks.disk leaves.disk) last.disk;
       learns = learns_then tells old mid new looks.learns (last.extent ∙ leaves.extent);
+      stops = LeavesStops-then tells old end new (stops_then tells old mid end looks stopped) (keeps_then old mid end looks.disk leaves.disk)
+          (LeavesStops-look tells end new last.disk_work);
       image = takes_image t tells old new answer begun (λ short. omega (arith, short, last.extent, leaves.extent, long)) for;
       good = λ either told. for told;
       pulled = pulled;
@@ -366,6 +381,7 @@ blocks_exceeded t tells old mid end new h rules before now pulled answer looks l
       text = λ done told. text done told ∙ ap (followed_by before) (listed told);
       part = λ either told. let p = part told in (p.0, p.1 ∙ ap (λ (l : List ℕ). followed_by before (take p.0 l)) (listed told));
       unwritten = λ none. absurd (none of);
+      cut = λ e. inr (λ told. last.disk_work.passes.input.input ∙ read.end told, for);
     }
 
 -- the rules have no fault, the image is for the table's frames, and nothing fails: the exceedances are listed, or memory ended
@@ -390,15 +406,17 @@ exceed_done path image t tells old new before now (outcome.ReadFault input.Table
 exceed_done path image t tells old new before now answer of lists line none told for read disk sink = ⊎_elim (λ memory. inr memory) (λ own. absurd own) of
 
 -- where the work isn't begun, the deck isn't touched and nothing is written
-pub exceeds_nothing : (t : TableRows) (tells : Tells) (d : State) (written : Option (List ℕ)) (answer : Outcome) → (IsPastTable answer → ⊥)
+pub exceeds_nothing : (t : TableRows) (tells : Tells) (d : State) (written : Option (List ℕ)) (answer : Outcome) → IsSoundDeck tells d
+    → (IsPastTable answer → ⊥)
     → ExceedsImage t tells d d written written answer
-exceeds_nothing t tells d written answer early =
+exceeds_nothing t tells d written answer sound early =
     let not : (other : Outcome) → IsPastTable other → answer ≡ other → ⊥ = λ other past e. early (subst IsPastTable (sym e) past) in
     let undone : (answer ≡ outcome.Done) ⊎ (answer ≡ outcome.WriteFault) → ⊥ = λ either.
     ⊎_elim (not outcome.Done tt) (not outcome.WriteFault tt) either in
     record {
       disk = record { held = refl; no_more = λ image leaves. leaves; no_less = λ image leaves. leaves };
       learns = record { bytes = λ told. refl; stops = λ told. refl; known = λ some. refl };
+      stops = LeavesStops-here tells d sound;
       image = refuses_nothing t tells d d answer early;
       good = λ either told. absurd (undone either);
       pulled = [];
@@ -412,6 +430,7 @@ exceeds_nothing t tells d written answer early =
       text = λ done told. absurd (undone (inl done));
       part = λ read told. (0, sym (followed_by-nil written));
       unwritten = λ none. refl;
+      cut = λ e. inl (refl, refl);
     }
 
 -- an image has its header

@@ -62,6 +62,7 @@ nothing_recovered tells old new written answer looks undone good refused small l
   good = good;
   all = λ done told. absurd (undone done);
   part = λ told. (0, sym (followed_by-nil written));
+  begun = inl refl;
   refused = refused;
   small = small;
   long = long;
@@ -114,6 +115,7 @@ run_recovered tells old mid new h before now answer sound first second header go
       good = λ no_fault read told. good told;
       all = λ done told. all done told ∙ ap (λ run. followed_by before (payloads_of run)) (same told);
       part = λ told. let p = part told in (p.0, p.1 ∙ ap (λ run. followed_by before (take p.0 (payloads_of run))) (same told));
+      begun = inr good;
       refused = λ why e told. absurd (unrefused why e);
       small = λ why e. absurd (unrefused why e);
       long = λ no_fault read. omega (arith, long, second.extent);
@@ -166,6 +168,7 @@ recovers_nothing tells d written sound = record {
   all = λ done told. absurd (cc);
   part = λ told. (0, sym (followed_by-nil written));
   good = λ done told. absurd (cc);
+  begun = inl refl;
   header = record {
     refused = λ why e told. absurd (cc);
     small = λ why e. absurd (cc);

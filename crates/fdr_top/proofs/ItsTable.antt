@@ -69,10 +69,11 @@ read_refused old new answer of_table refused fault = record {
 }
 
 -- what holds of the table that was read
-pub by_table : (old new : Option (List ℕ)) (t : TableRows) (P : TableRows → Type 0)
-    → (taken : List ℕ) × IsAccepted taken × (t ≡ table_in taken) × (old ≡ preceded_by taken new) → IfSome new (λ left. left ≡ []) → P t → ByTable old P
-by_table old new t P read end holds =
-    (t, λ bytes told. read.2 ∙ ap table_in (sym (taken_is_all old new read.0 bytes read.3 end told)), holds)
+pub by_table : (old new : Option (List ℕ)) (t : TableRows) (answer : Outcome) (P : TableRows → Type 0)
+    → (taken : List ℕ) × IsAccepted taken × (t ≡ table_in taken) × (old ≡ preceded_by taken new) → IfSome new (λ left. left ≡ []) → P t
+    → ByTable old new answer P
+by_table old new t answer P read end holds =
+    (t, λ bytes told. read.2 ∙ ap table_in (sym (taken_is_all old new read.0 bytes read.3 end told)), λ past. read, holds)
 
 -- a table that is told and accepted isn't refused
 pub accepted_left : (old new : Option (List ℕ)) (answer : Outcome) → IsOfTable answer → ReadsItsTable old new answer

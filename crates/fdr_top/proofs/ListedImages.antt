@@ -93,6 +93,7 @@ unlisted t tells old new written answer looks shut image = record {
   text = λ done told. absurd (shut_not_done answer shut done);
   part = λ told. (0, sym (followed_by-nil written));
   good = λ either told. absurd (⊎_elim (shut_not_done answer shut) (shut_not_write answer shut) either);
+  begun = inl refl;
   image = image;
 }
 
@@ -139,6 +140,7 @@ blocks_listed t tells old mid new h before now answer sound first second header 
       text = λ done told. text done told ∙ ap (followed_by before) (listed told);
       part = λ told. let p = part told in (p.0, p.1 ∙ ap (λ (l : List ℕ). followed_by before (take p.0 l)) (listed told));
       good = λ either told. for told;
+      begun = inr for;
       image = takes_image t tells old new answer (of_blocks_begun answer of) (λ short. omega (arith, short, second.extent, long)) for;
     }
 
@@ -148,10 +150,10 @@ any_table None = (table_in [], λ bytes told. absurd (cc))
 any_table (Some found) = (table_in found, λ bytes told. let same : found ≡ bytes = cc in ap table_in same)
 
 -- where the table isn't read, the deck isn't touched and nothing is listed
-pub lists_nothing : (tells : Tells) (rest : Option (List ℕ)) (d : State) (written : Option (List ℕ)) (answer : Outcome) → IsSoundDeck tells d
+pub lists_nothing : (tells : Tells) (rest now : Option (List ℕ)) (d : State) (written : Option (List ℕ)) (answer : Outcome) → IsSoundDeck tells d
     → (answer ≡ outcome.NoMemory) ⊎ IsOfTable answer
-    → ByTable rest (λ (t : TableRows). ListsImage t tells d d written written answer)
-lists_nothing tells rest d written answer sound either =
+    → ByTable rest now answer (λ (t : TableRows). ListsImage t tells d d written written answer)
+lists_nothing tells rest now d written answer sound either =
     let early : IsPastTable answer → ⊥ = λ past. ⊎_elim
     (λ (m : answer ≡ outcome.NoMemory). past_not_memory answer past m)
     (λ (of : IsOfTable answer). table_not_past answer of past) either in
@@ -159,11 +161,13 @@ lists_nothing tells rest d written answer sound either =
     let found = any_table rest in (
       found.0,
       found.1,
+      λ past. absurd (early past),
       record {
         looks = OnlyLooks-here tells d sound;
         text = λ done told. absurd (not outcome.Done tt done);
         part = λ told. (0, sym (followed_by-nil written));
         good = λ either told. absurd (⊎_elim (not outcome.Done tt) (not outcome.WriteFault tt) either);
+        begun = inl refl;
         image = refuses_nothing found.0 tells d d answer early;
       },
     )

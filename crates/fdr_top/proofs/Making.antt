@@ -25,10 +25,10 @@ unfolding table_or
 table_told rest bytes told = rw told refl
 
 -- where the table isn't read, the deck isn't touched and no image is made
-pub makes_nothing : (tells : Tells) (rest : Option (List ℕ)) (slots payload : ℕ) (d : State) (answer : Outcome) → IsSoundDeck tells d
+pub makes_nothing : (tells : Tells) (rest now : Option (List ℕ)) (slots payload : ℕ) (d : State) (answer : Outcome) → IsSoundDeck tells d
     → (answer ≡ outcome.NoMemory) ⊎ IsOfTable answer
-    → ByTable rest (λ (t : TableRows). Makes (new_header slots payload t.frame.words) tells d d answer)
-makes_nothing tells rest slots payload d answer sound either =
+    → ByTable rest now answer (λ (t : TableRows). Makes (new_header slots payload t.frame.words) tells d d answer)
+makes_nothing tells rest now slots payload d answer sound either =
     let h : Header = new_header slots payload (table_or rest).frame.words in
     let done : answer ≡ outcome.Done → ⊥ = λ e. ⊎_elim
     (λ (m : answer ≡ outcome.NoMemory). let c : outcome.Done ≡ outcome.NoMemory = sym e ∙ m in cc)
@@ -44,6 +44,7 @@ makes_nothing tells rest slots payload d answer sound either =
     (λ (of : IsOfTable answer). table_not_past answer of past) either in (
       table_or rest,
       table_told rest,
+      λ past. absurd (early past),
       record {
         empty = λ e. absurd (done e);
         held = λ e told. absurd (done e);

@@ -145,13 +145,14 @@ records_line t tells old new answer range sound is =
     subst (λ (x : Outcome). RecordsTrace t tells old new x) (sym is.1) (records_end t tells old new is.0 range sound is.2)
 
 -- where the table isn't read, the deck isn't touched and nothing is recorded
-pub records_nothing : (tells : Tells) (rest : Option (List ℕ)) (d : State) (answer : Outcome) → IsSoundDeck tells d
-    → (IsPastTable answer → ⊥) → ByTable rest (λ (t : TableRows). RecordsTrace t tells d d answer)
-records_nothing tells rest d answer sound early =
+pub records_nothing : (tells : Tells) (rest now : Option (List ℕ)) (d : State) (answer : Outcome) → IsSoundDeck tells d
+    → (IsPastTable answer → ⊥) → ByTable rest now answer (λ (t : TableRows). RecordsTrace t tells d d answer)
+records_nothing tells rest now d answer sound early =
     let t = table_or rest in
     let starts = nothing_started tells d sound in (
       t,
       table_told rest,
+      λ past. absurd (early past),
       record {
         pulled = [];
         pulls = none_pulled tells d d starts.input starts.input_faults;

@@ -173,6 +173,7 @@ unsalvaged t ring tells old new written answer looks shut refuses = record {
   text = λ done told. absurd (shut_not_done answer shut done);
   part = λ told. (0, sym (followed_by-nil written));
   good = λ either told. absurd (⊎_elim (shut_not_done answer shut) (shut_not_write answer shut) either);
+  begun = inl refl;
   image = refuses;
 }
 
@@ -190,6 +191,7 @@ runs_salvaged t ring tells old mid new r before now answer sound first second op
       text = λ done told. text done told ∙ ap (followed_by before) (listed told);
       part = λ told. let p = part told in (p.0, p.1 ∙ ap (λ (l : List ℕ). followed_by before (take p.0 l)) (listed told));
       good = λ either told. opened.image told;
+      begun = inr opened.image;
       image = takes_by ring t tells old new answer (of_blocks_begun answer of) (readable_kept ring tells old mid new second.extent opened.readable)
           opened.image;
     }
@@ -210,21 +212,23 @@ opening_own path image ring t tells old new outcome.NoMemory shut refuses = inl 
 opening_own path image ring t tells old new answer shut refuses = absurd shut
 
 -- where the table isn't read, the deck isn't touched and nothing is salvaged
-pub salvages_nothing : (ring : Option (ℕ × ℕ)) (tells : Tells) (rest : Option (List ℕ)) (d : State) (written : Option (List ℕ)) (answer : Outcome)
+pub salvages_nothing : (ring : Option (ℕ × ℕ)) (tells : Tells) (rest now : Option (List ℕ)) (d : State) (written : Option (List ℕ)) (answer : Outcome)
     → IsSoundDeck tells d → (answer ≡ outcome.NoMemory) ⊎ IsOfTable answer
-    → ByTable rest (λ (t : TableRows). SalvagesImage t ring tells d d written written answer)
-salvages_nothing ring tells rest d written answer sound either =
+    → ByTable rest now answer (λ (t : TableRows). SalvagesImage t ring tells d d written written answer)
+salvages_nothing ring tells rest now d written answer sound either =
     let early : IsPastTable answer → ⊥ = λ past. ⊎_elim
     (λ (m : answer ≡ outcome.NoMemory). past_not_memory answer past m)
     (λ (of : IsOfTable answer). table_not_past answer of past) either in
     let not : (other : Outcome) → IsPastTable other → answer ≡ other → ⊥ = λ other past e. early (rw e past) in (
       table_or rest,
       table_told rest,
+      λ past. absurd (early past),
       record {
         looks = OnlyLooks-here tells d sound;
         text = λ done told. absurd (not outcome.Done tt done);
         part = λ told. (0, sym (followed_by-nil written));
         good = λ either told. absurd (⊎_elim (not outcome.Done tt) (not outcome.WriteFault tt) either);
+        begun = inl refl;
         image = refuses_by_nothing ring (table_or rest) tells d d answer early;
       },
     )

@@ -5,7 +5,7 @@ use Rattle.fdr_io.specs.Told.{followed_by}
 use Rattle.fdr_io.specs.declared.Input.TheVariants as input
 use Rattle.fdr_deck.specs.State.{State, Tells}
 use Rattle.fdr_deck.specs.Disk.{KeepsDisk, LearnsExtent}
-use Rattle.fdr_pieces.specs.Pieces.{PullsPieces}
+use Rattle.fdr_pieces.specs.Pieces.{LeavesStops, PullsPieces}
 use Rattle.fdr_pieces.specs.declared.pieces.InputEnd.{InputEnd}
 use Rattle.fdr_pieces.specs.declared.pieces.InputEnd.TheVariants as input_end
 use Rattle.fdr_recover.specs.Blocks.{Block}
@@ -69,9 +69,11 @@ abbrev pub HasReadBlocks : Outcome → Type 0
 HasReadBlocks answer = (answer ≡ outcome.Done) ⊎ ((answer ≡ outcome.WriteFault) ⊎ (answer ≡ outcome.DiskFault))
 
 -- The rules were pulled, and the exceedances in the image were listed, or the answer says why they weren't.
-pub record ExceedsImage (t : TableRows) (tells : Tells) (old new : State) (written_before written_now : Option (List ℕ)) (answer : Outcome) : Type 0 where
+pub record ExceedsImage (t : TableRows) (tells : Tells) (old new : State) (written_before written_now : Option (List ℕ))
+    (answer : Outcome) : Type 0 where
   pub disk : KeepsDisk old new
   pub learns : LearnsExtent tells old new
+  pub stops : LeavesStops tells old new
   pub image : RefusesImage t tells old new answer
   pub good : (answer ≡ outcome.Done) ⊎ (answer ≡ outcome.WriteFault) → IsTrue tells.bytes → IsFor t.frame.words old.held
   -- The rules are all that the input has, and they are refused for their first fault.
@@ -81,15 +83,21 @@ pub record ExceedsImage (t : TableRows) (tells : Tells) (old new : State) (writt
   pub rules : (row : ℕ) (f : RuleFault) → answer ≡ outcome.RuleRefused row f → rules_fault t pulled ≡ Some (row, f)
   pub rules_always : (row : ℕ) (f : RuleFault) → IsPastTable answer → rules_fault t pulled ≡ Some (row, f)
       → (answer ≡ outcome.RuleRefused row f) ⊎ (answer ≡ outcome.ReadFault input.Line)
-  pub rules_of_input : (row : ℕ) (f : RuleFault) → answer ≡ outcome.RuleRefused row f → IsTrue tells.input → rules_fault t old.input ≡ Some (row, f)
+  pub rules_of_input : (row : ℕ) (f : RuleFault) → answer ≡ outcome.RuleRefused row f → IsTrue tells.input
+      → rules_fault t old.input ≡ Some (row, f)
   pub no_fault : HasReadBlocks answer → rules_fault t pulled ≡ None
   -- Where the input fails, no more came than rules may have.
   pub few : answer ≡ outcome.ReadFault input.Line → length pulled ≤ most_rule_bytes
   -- The lines of the exceedances were written, all or a front part of them; and nothing where no block was read.
-  pub text : answer ≡ outcome.Done → IsTrue tells.bytes → written_now ≡ followed_by written_before (exceedances_in t pulled old.held)
+  pub text : answer ≡ outcome.Done → IsTrue tells.bytes → written_now ≡ followed_by written_before
+      (exceedances_in t pulled old.held)
   pub part : HasReadBlocks answer → IsTrue tells.bytes
       → (k : ℕ) × (written_now ≡ followed_by written_before (take k (exceedances_in t pulled old.held)))
   pub unwritten : (HasReadBlocks answer → ⊥) → written_now ≡ written_before
+  -- Where the disk failed, it did before anything was pulled or written, or once the input was at its end and the image known to
+  -- be one for the table's frames.
+  pub cut : answer ≡ outcome.DiskFault → ((new.taken ≡ old.taken) × (written_now ≡ written_before))
+      ⊎ ((IsTrue tells.input → new.input ≡ []) × (IsTrue tells.bytes → IsFor t.frame.words old.held))
 
 -- Of the input these bytes were pulled, to its end, and as rules they have no fault.
 pub record HasPulledRules (t : TableRows) (tells : Tells) (old new : State) (pulled : List ℕ) : Type 0 where
@@ -106,7 +114,8 @@ IsRulesEnd answer = ((row : ℕ) × (f : RuleFault) × (answer ≡ outcome.RuleR
 pub record HasRefusedRules (t : TableRows) (tells : Tells) (old new : State) (pulled : List ℕ) (answer : Outcome) : Type 0 where
   pub pieces : PullsPieces most_rule_bytes tells old new pulled
   pub rules : (row : ℕ) (f : RuleFault) → answer ≡ outcome.RuleRefused row f → rules_fault t pulled ≡ Some (row, f)
-  pub rules_of_input : (row : ℕ) (f : RuleFault) → answer ≡ outcome.RuleRefused row f → IsTrue tells.input → rules_fault t old.input ≡ Some (row, f)
+  pub rules_of_input : (row : ℕ) (f : RuleFault) → answer ≡ outcome.RuleRefused row f → IsTrue tells.input
+      → rules_fault t old.input ≡ Some (row, f)
   pub few : answer ≡ outcome.ReadFault input.Line → length pulled ≤ most_rule_bytes
   pub only : IsRulesEnd answer
 
@@ -118,6 +127,7 @@ rules_refusal error.NoMemory = outcome.NoMemory
 -- why rules aren't read of these bytes, where the input ended so
 abbrev pub IsRulesAnswer : TableRows → List ℕ → InputEnd → Outcome → Type 0
 IsRulesAnswer t bytes input_end.End answer =
-    (e : RulesError) × (answer ≡ rules_refusal e) × ((row : ℕ) (f : RuleFault) → e ≡ rule_refused row f → rules_fault t bytes ≡ Some (row, f))
+    (e : RulesError) × (answer ≡ rules_refusal e) × ((row : ℕ) (f : RuleFault) → e ≡ rule_refused row f
+    → rules_fault t bytes ≡ Some (row, f))
 IsRulesAnswer t bytes input_end.Fault answer = answer ≡ outcome.ReadFault input.Line
 IsRulesAnswer t bytes input_end.TooLong answer = answer ≡ outcome.RuleRefused 0 fault.Size

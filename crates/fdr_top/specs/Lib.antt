@@ -29,3 +29,5 @@ pub mod Coding
 pub mod Leaves
 pub mod Complete
 pub mod Commands
+pub mod Meaning
+pub mod Doing

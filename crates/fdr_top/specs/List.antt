@@ -28,6 +28,8 @@ pub record ListsImage (t : TableRows) (tells : Tells) (old new : State) (written
   pub text : answer ≡ outcome.Done → IsTrue tells.bytes → written_now ≡ followed_by written_before (listing_in t old.held)
   pub part : IsTrue tells.bytes → (k : ℕ) × (written_now ≡ followed_by written_before (take k (listing_in t old.held)))
   pub good : (answer ≡ outcome.Done) ⊎ (answer ≡ outcome.WriteFault) → IsTrue tells.bytes → IsFor t.frame.words old.held
+  -- Nothing was written, or the image is one for the table's frames.
+  pub begun : (written_now ≡ written_before) ⊎ (IsTrue tells.bytes → IsFor t.frame.words old.held)
   pub image : RefusesImage t tells old new answer
 
 -- An image was opened to be listed: its header was read, it is for the table's frames, and there is memory for reading its bits.

@@ -1,5 +1,5 @@
 -- What `recover` promises: the payloads of the recovered run of what the disk holds.
-use Rattle.std.specs.Prelude.{◌≡◌, ℕ, ◌<◌, ◌≤◌, ◌↔◌, List, Option, Some, None, IsTrue, take}
+use Rattle.std.specs.Prelude.{◌≡◌, ◌⊎◌, ℕ, ◌<◌, ◌≤◌, ◌↔◌, List, Option, Some, None, IsTrue, take}
 use Rattle.fdr_io.specs.Faults.{Rose}
 use Rattle.fdr_io.specs.Told.{followed_by}
 use Rattle.fdr_deck.specs.State.{State, Tells}
@@ -44,6 +44,8 @@ pub record Recovers (tells : Tells) (old new : State) (written_before written_no
       → image_fault_of old.held ≡ None
   pub all : answer ≡ outcome.Done → IsTrue tells.bytes → written_now ≡ followed_by written_before (payloads_of (run_in old.held))
   pub part : IsTrue tells.bytes → (k : ℕ) × (written_now ≡ followed_by written_before (take k (payloads_of (run_in old.held))))
+  -- Nothing was written, or the image has no fault.
+  pub begun : (written_now ≡ written_before) ⊎ (IsTrue tells.bytes → image_fault_of old.held ≡ None)
   pub refused : (why : ImageFault) → answer ≡ outcome.ImageRefused why → IsTrue tells.bytes → image_fault_of old.held ≡ Some why
   pub small : (why : ImageFault) → answer ≡ outcome.ImageRefused why → (why ≡ fault.Small) ↔ (new.extent < 64)
   pub long : (answer ≡ outcome.DiskFault → ⊥) → ((why : ImageFault) → answer ≡ outcome.ImageRefused why → ⊥) → 64 ≤ new.extent
@@ -56,4 +58,6 @@ pub record RecoversImage (tells : Tells) (old new : State) (written_before writt
   pub all : answer ≡ outcome.Done → IsTrue tells.bytes → written_now ≡ followed_by written_before (payloads_of (run_in old.held))
   pub part : IsTrue tells.bytes → (k : ℕ) × (written_now ≡ followed_by written_before (take k (payloads_of (run_in old.held))))
   pub good : answer ≡ outcome.Done → IsTrue tells.bytes → image_fault_of old.held ≡ None
+  -- Nothing was written, or the image has no fault.
+  pub begun : (written_now ≡ written_before) ⊎ (IsTrue tells.bytes → image_fault_of old.held ≡ None)
   pub header : RefusesHeader tells old new answer

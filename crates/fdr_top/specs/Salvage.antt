@@ -54,6 +54,8 @@ pub record SalvagesImage (t : TableRows) (ring : Option (ℕ × ℕ)) (tells : T
   pub text : answer ≡ outcome.Done → IsTrue tells.bytes → written_now ≡ followed_by written_before (salvage_in t ring old.held)
   pub part : IsTrue tells.bytes → (k : ℕ) × (written_now ≡ followed_by written_before (take k (salvage_in t ring old.held)))
   pub good : (answer ≡ outcome.Done) ⊎ (answer ≡ outcome.WriteFault) → IsTrue tells.bytes → CanBeSalvaged t ring old.held
+  -- Nothing was written, or the image can be salvaged.
+  pub begun : (written_now ≡ written_before) ⊎ (IsTrue tells.bytes → CanBeSalvaged t ring old.held)
   pub image : RefusesBy ring t tells old new answer
 
 -- An image was opened to be salvaged: it can be read, and there is memory for reading its bits.

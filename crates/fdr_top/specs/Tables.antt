@@ -20,9 +20,15 @@ load_answer (load.Refused row f) = outcome.TableRefused row f
 load_answer load.Failed = outcome.ReadFault input.Table
 load_answer load.NoMemory = outcome.NoMemory
 
--- The statement holds of the table that was read, which is that of the source's bytes where it tells them.
-abbrev pub ByTable : Option (List ℕ) → (TableRows → Type 0) → Type 0
-ByTable rest P = (t : TableRows) × ((bytes : List ℕ) → rest ≡ Some bytes → t ≡ table_in bytes) × P t
+-- The table is that of the bytes that were taken of its source, and they are accepted.
+abbrev pub IsOfTaken : TableRows → Option (List ℕ) → Option (List ℕ) → Type 0
+IsOfTaken t old new = (taken : List ℕ) × IsAccepted taken × (t ≡ table_in taken) × (old ≡ preceded_by taken new)
+
+-- The statement holds of the table that was read. That is the table of the source's bytes where it tells them, and past the table
+-- always that of the bytes that were taken, which are accepted.
+abbrev pub ByTable : Option (List ℕ) → Option (List ℕ) → Outcome → (TableRows → Type 0) → Type 0
+ByTable old new answer P = (t : TableRows) × ((bytes : List ℕ) → old ≡ Some bytes → t ≡ table_in bytes)
+    × (IsPastTable answer → IsOfTaken t old new) × P t
 
 -- How the answer of a command goes with the table that it reads: which fault is named, how much was taken of the source, and that
 -- past it the table was accepted.

@@ -1,6 +1,7 @@
 //! A recording that generates its own trace, and tells what the image then lists as.
 
 ghost use Rattle.std.specs.Prelude.{◌≡◌, ◌≢◌, ◌⊎◌, ◌+◌, ◌≤◌, ℕ, List, [], ◌++◌, length, take, IsTrue};
+ghost use Rattle.fdr_pieces.specs.Pieces.{LeavesStops};
 ghost use Rattle.fdr_io.specs.Faults.{Rose};
 ghost use Rattle.fdr_io.specs.Told.{followed_by};
 ghost use Rattle.fdr_deck.specs.Disk.{KeepsDisk, LearnsExtent};
@@ -123,6 +124,7 @@ fn drill_image<D: Deck, O: Sink>(
     ensures drills { DrillsImage sound.now seed frames D.tells (D.state deck.old) (D.state deck.new)
         (O.written out.old) (O.written out.new) result }
     ensures untouched { WritesNothing result → KeepsDisk (D.state deck.old) (D.state deck.new) }
+    ensures stops { WritesNothing result → LeavesStops D.tells (D.state deck.old) (D.state deck.new) }
     ensures announced { WritesNothing result → (D.state deck.new).announced ≡ (D.state deck.old).announced }
     ensures input { KeepsInputAndFaults (D.state deck.old) (D.state deck.new) }
     ensures learns { LearnsExtent D.tells (D.state deck.old) (D.state deck.new) }

@@ -1,6 +1,7 @@
 //! The exceedances of rules in the blocks that an image holds.
 
 ghost use Rattle.std.specs.Prelude.{◌≡◌, ◌≢◌, ◌⊎◌, ◌+◌, ◌≤◌, ◌<◌, ◌^◌, ◌++◌, ◌∷◌, ℕ, List, [], Err, None, length, take, IfOk, IfErr, OnOk, OnErr, IsTrue};
+ghost use Rattle.fdr_pieces.specs.Pieces.{LeavesStops};
 ghost use Rattle.fdr_io.specs.Faults.{Rose};
 ghost use Rattle.fdr_io.specs.Limits.{piece_bytes};
 ghost use Rattle.fdr_io.specs.Output.{Emits, EmitsPart};
@@ -307,6 +308,7 @@ fn pull_rules<D: Deck>(alloc: Global, table: &Table, deck: &mut D) -> Result<Rul
     ensures input_fault { result ≡ Err (Outcome.ReadFault input.Line) → Rose (D.state deck.old).input_faults (D.state deck.new).input_faults }
     ensures no_input_fault { result ≢ Err (Outcome.ReadFault input.Line) → (D.state deck.new).input_faults ≡ (D.state deck.old).input_faults }
     ensures disk { LeavesDisk (D.state deck.old) (D.state deck.new) }
+    ensures stops { LeavesStops D.tells (D.state deck.old) (D.state deck.new) }
     ensures announced { (D.state deck.new).announced ≡ (D.state deck.old).announced }
     ensures bounded { (D.state deck.new).taken ≤ (D.state deck.old).taken + most_rule_bytes + piece_bytes }
 {

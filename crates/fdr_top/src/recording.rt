@@ -1,6 +1,7 @@
 //! Recording the trace of a deck's input in the image on its disk.
 
 ghost use Rattle.std.specs.Prelude.{◌≡◌, ◌≢◌, ◌⊎◌, ℕ, List, Option};
+ghost use Rattle.fdr_pieces.specs.Pieces.{LeavesStops};
 ghost use Rattle.fdr_io.specs.Faults.{Rose};
 ghost use Rattle.fdr_deck.specs.Disk.{KeepsDisk, LearnsExtent};
 ghost use Rattle.fdr_recorder.specs.Ends.{RecordingEnd};
@@ -14,7 +15,7 @@ ghost use Rattle.fdr_top.specs.Refusals.{HasHeader};
 ghost use Rattle.fdr_top.specs.Commands.{Works};
 ghost use Rattle.fdr_table.specs.Ranges.{IsInRange};
 ghost use Rattle.fdr_check.specs.Soundness.{IsSound};
-ghost use Rattle.fdr_top.specs.Leaves.{CoversInputFault};
+ghost use Rattle.fdr_top.specs.Leaves.{IsCutShort};
 
 use crate::ends::{session_refusal, source_answer};
 use crate::outcome::Outcome;
@@ -32,6 +33,7 @@ fn record_line<D: Deck>(alloc: Global, sound: &Sound, deck: &mut D) -> Outcome
         × RecordsSupply line_trace sound.now D.tells (D.state deck.old) (D.state deck.new) end }
     ensures answer { (path image : List ℕ) → (result ≡ Outcome.NoMemory) ⊎ IsOwn (record_line path image) result }
     ensures untouched { WritesNothing result → KeepsDisk (D.state deck.old) (D.state deck.new) }
+    ensures stops { WritesNothing result → LeavesStops D.tells (D.state deck.old) (D.state deck.new) }
     ensures announced { WritesNothing result → (D.state deck.new).announced ≡ (D.state deck.old).announced }
     ensures input { WritesNothing result → KeepsInputAndFaults (D.state deck.old) (D.state deck.new) }
     ensures learns { LearnsExtent D.tells (D.state deck.old) (D.state deck.new) }
@@ -40,7 +42,7 @@ fn record_line<D: Deck>(alloc: Global, sound: &Sound, deck: &mut D) -> Outcome
     ensures disk_fault { result ≡ Outcome.DiskFault
         → Rose (D.state deck.old).disk_faults (D.state deck.new).disk_faults }
     ensures no_disk_fault { result ≢ Outcome.DiskFault → (D.state deck.new).disk_faults ≡ (D.state deck.old).disk_faults }
-    ensures no_input_fault { result ≢ Outcome.ReadFault Input.Line → (CoversInputFault result → ⊥)
+    ensures no_input_fault { result ≢ Outcome.ReadFault Input.Line → (IsCutShort result → ⊥)
         → (D.state deck.new).input_faults ≡ (D.state deck.old).input_faults }
 {
     let Ok(mut trace) = TraceLine::new(alloc) else {

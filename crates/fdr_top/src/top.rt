@@ -8,6 +8,8 @@ ghost use Rattle.fdr_words.specs.Forms.{command_uses, form_of, IsInBounds};
 ghost use Rattle.fdr_top.specs.Stages.{EndsBeforeDeck};
 ghost use Rattle.fdr_top.specs.Answers.{ReadsTable, UsesDeck, WritesText, ReadsImage};
 ghost use Rattle.fdr_top.specs.Commands.{Works, RunsCommand};
+ghost use Rattle.fdr_top.specs.Doing.{DoesAsMeant, IsTold};
+ghost use Rattle.fdr_top.specs.Runs.{CommandRun};
 ghost use Rattle.fdr_table.specs.Ranges.{IsInRange};
 ghost use Rattle.fdr_check.specs.Soundness.{IsSound};
 ghost use Rattle.fdr_frame.specs.WordCount.{IsWordCount};
@@ -155,6 +157,24 @@ pub fn run<T: Source, D: Deck, O: Sink>(
     ensures usage { (result ≡ Outcome.Usage) ↔ (form_of (map string_bytes args.now) ≡ None) }
     ensures untouched { form_of (map string_bytes args.now) ≡ None
         → (table.new ≡ table.old) × (deck.new ≡ deck.old) × (out.new ≡ out.old) }
+
+    // The command that they ask for does what it means.
+    ensures means { IfSome (form_of (map string_bytes args.now)) (λ form. let r : CommandRun = record {
+      rest_before = T.rest table.old;
+      rest_now = T.rest table.new;
+      table_before = T.faults table.old;
+      table_now = T.faults table.new;
+      work = record {
+        tells = D.tells;
+        old = D.state deck.old;
+        new = D.state deck.new;
+        written_before = O.written out.old;
+        written_now = O.written out.new;
+        sink_before = O.faults out.old;
+        sink_now = O.faults out.new;
+        answer = result;
+      };
+    } in IsTold form r → DoesAsMeant form r) }
 
     // What is promised of the command that they ask for.
     ensures runs { IfSome (form_of (map string_bytes args.now)) (λ form. RunsCommand form (record {

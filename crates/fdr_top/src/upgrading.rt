@@ -1,6 +1,7 @@
 //! Making an image of version 1 one of version 2.
 
 ghost use Rattle.std.specs.Prelude.{◌≡◌, ◌≢◌, ◌≤◌, ℕ, List, Option, OnOk, OnErr, IsTrue};
+ghost use Rattle.fdr_pieces.specs.Pieces.{LeavesStops};
 ghost use Rattle.fdr_io.specs.Faults.{Rose};
 ghost use Rattle.fdr_deck.specs.Calls.{IsDiskWork};
 ghost use Rattle.fdr_deck.specs.Disk.{IsSettled, KeepsDisk};
@@ -50,6 +51,7 @@ fn upgrade_image<D: Deck>(deck: &mut D) -> Outcome
     ensures answer { (image : List ℕ) → IsOwn (upgrade_image image) result }
     ensures upgrades { UpgradesImage D.tells (D.state deck.old) (D.state deck.new) result }
     ensures untouched { WritesNothing result → KeepsDisk (D.state deck.old) (D.state deck.new) }
+    ensures stops { WritesNothing result → LeavesStops D.tells (D.state deck.old) (D.state deck.new) }
     ensures disk_fault { result ≡ Outcome.DiskFault → Rose (D.state deck.old).disk_faults (D.state deck.new).disk_faults }
     ensures no_disk_fault { result ≢ Outcome.DiskFault → (D.state deck.new).disk_faults ≡ (D.state deck.old).disk_faults }
 {

@@ -88,4 +88,4 @@ returns-clause-made_already c = λ path image slots payload is accepted some.
     making_sure path image slots payload c.args.table.now c.run.result e.answers
     (λ row f x. (e.table refl).refused row f c.args.table.now x refl) accepted
     (λ x. let rose = e.table_cause x in omega (arith, rose)) (λ x. let rose = e.causes.disk x in omega (arith, rose))
-    (λ past. e.carries_out.2.not_empty_always past some)
+    (λ past. e.carries_out.3.not_empty_always past some)

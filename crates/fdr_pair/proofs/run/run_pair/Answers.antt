@@ -1,7 +1,8 @@
-use Rattle.std.proofs.Common.{subst, sym}
+use Rattle.std.proofs.Common.{subst, sym, ◌∙◌}
 use Rattle.fdr_pair.specs.PairRun.{RunsPair}
 use Rattle.fdr_pair.specs.declared.outcome.PairOutcome.{PairOutcome}
-use Rattle.fdr_pair.proofs.PairTable.{records_by, runs_accepted, runs_refused, runs_unread}
+use Rattle.fdr_pair.proofs.PairMeans.{means}
+use Rattle.fdr_pair.proofs.PairTable.{not_usage, records_by, refusal_not_usage, runs_accepted, runs_refused, runs_unread}
 use Rattle.fdr_pair.proofs.run.run_pair.Goals as goal
 
 pub returns-in-Ok-load_table-clause-runs : goal.returns-in-Ok-load_table-clause-runs
@@ -43,3 +44,16 @@ pub returns-clause-runs : goal.returns-clause-runs
 returns-clause-runs g c = λ fits.
     runs_unread (g.T.Source.rest c.args.table.now) (g.T.Source.faults c.args.table.now) g.D.Deck.tells (g.D.Twin.pair c.args.twin.now)
     (g.met.D.Twin.sound_pair c.args.twin.now)
+
+-- ---- what it means
+
+pub returns-in-Ok-load_table-clause-means : goal.returns-in-Ok-load_table-clause-means
+returns-in-Ok-load_table-clause-means g c = λ fits told.
+    means _ (returns-in-Ok-load_table-clause-runs g c fits) (not_usage c.record_pair.result c.record_pair.ensures.past) told
+
+pub returns-in-Ok-clause-means : goal.returns-in-Ok-clause-means
+returns-in-Ok-clause-means g c = λ fits told. means _ (returns-in-Ok-clause-runs g c fits)
+    (λ usage. refusal_not_usage c.in-Err.fault (sym c.table_refusal.ensures ∙ usage)) told
+
+pub returns-clause-means : goal.returns-clause-means
+returns-clause-means g c = λ fits told. means _ (returns-clause-runs g c fits) (λ usage. absurd (cc)) told

@@ -5,7 +5,7 @@ use Rattle.std.proofs.lemmas.Result.{err_from_is_err_and}
 use Rattle.fdr_io.specs.Faults.{Rose}
 use Rattle.fdr_pieces.specs.Limits.{most_input_bytes}
 use Rattle.fdr_pieces.specs.Pieces.{PullsPieces, before_last, last_piece}
-use Rattle.fdr_pieces.proofs.Pulling.{before_piece, piece_at_last, pieces_then, pieces_stay, pieces_ended, taken_of_piece}
+use Rattle.fdr_pieces.proofs.Pulling.{LeavesStops-pull, before_piece, piece_at_last, pieces_then, pieces_stay, pieces_ended, taken_of_piece}
 use Rattle.fdr_pieces.proofs.Pulling.{ends_at_end, ends_at_fault, ends_too_long, within_limit, taken_within, more_than_limit, left_after, taken_bounded}
 use Rattle.fdr_pieces.proofs.pieces.take_pieces.Given.{Over}
 use Rattle.fdr_pieces.proofs.pieces.take_pieces.Goals.{In-Ok, In-Ok-eq0, In-Err, After-take}
@@ -173,6 +173,7 @@ loop-count-preserved g c =
         left_after c.args.limit c.loop-count.left count c.min-taken.result inv.0 buf inv.3 c.in-Ok.ensures.bound c.min-taken.ensures c.if-taken-count.false,
       );
       disk = search rules;
+      stops = LeavesStops-pull _ _ _ _ c.loop-count.invariant.stops c.loop-count.invariant.disk c.pull.ensures.disk c.pull.ensures.time c.pull.ensures.moments;
       announced = c.in-Ok.ensures.announced.announced ∙ c.loop-count.invariant.announced;
       no_fault = c.in-Ok.ensures.pulls.faults ∙ c.loop-count.invariant.no_fault;
     }

@@ -35,6 +35,7 @@ returns-in-Err g c =
       memory_good = λ is told. e.no_memory told (ap Err is);
       memory_current = λ is told. e.memory_current told (ap Err is);
       untouched = λ refused. e.untouched (λ is. refused_not_disk c.in-Err.fault refused (fault_same _ _ is));
+      looked = λ refused. e.looked (λ is. refused_not_disk c.in-Err.fault refused (fault_same _ _ is));
       announced = λ refused. e.refused.announced;
       input = λ refused. (starts.input, starts.input_faults);
       unpulled = λ still. (starts.input, starts.input_faults);
@@ -63,6 +64,7 @@ returns-in_err-closed g c =
       memory_good = λ is. absurd (cut_not_memory e a.only is);
       memory_current = λ is. absurd (cut_not_memory e a.only is);
       untouched = λ refused. absurd (cut_after_start e a.only e refl refused);
+      looked = λ refused. absurd (cut_after_start e a.only e refl refused);
       announced = λ refused. absurd (cut_after_start e a.only e refl refused);
       input = λ refused. absurd (cut_after_start e a.only e refl refused);
       unpulled = λ still. let later = a.unpulled still in keeps_input_then _ _ _ _ (starts.input, starts.input_faults) refl later.0 later.1;
@@ -93,6 +95,7 @@ returns g c =
       memory_good = tt;
       memory_current = tt;
       untouched = tt;
+      looked = tt;
       announced = tt;
       input = tt;
       unpulled = λ still. let later = e.unpulled still in keeps_input_then _ _ _ _ (starts.input, starts.input_faults) refl later.0 later.1;

@@ -8,6 +8,7 @@ returns g c = λ path at asks.
     let is = (rw asks at c.run-answer.ensures.runs).carries_out in (
       is.0,
       is.1,
+      is.2,
       recorded_in_memory is.0 c.args.image.items c.args.input.items c.made_deck-deck.result c.run-answer.new.deck c.run-answer.result
-          made.may_record made.image made.input made.unused is.2,
+          made.may_record made.image made.input made.unused is.3,
     )

@@ -17,13 +17,14 @@ returns g c = record {
         answer = answer;
         refusal = begun_leaves decode_levels _ (λ none. none) (λ none. none) (λ none. none) answer
             c.decode_levels.ensures.disk c.decode_levels.ensures.announced c.decode_levels.ensures.no_memory c.decode_levels.ensures.no_memory_faults;
-        unused = line_unused decode_levels _ tt c.decode_levels.ensures.disk c.decode_levels.ensures.announced
+        stops = λ has. absurd has;
+        unused = line_unused decode_levels _ (λ no. absurd (no tt)) tt c.decode_levels.ensures.disk c.decode_levels.ensures.announced
             c.decode_levels.ensures.no_memory_input (λ pulls. c.decode_levels.ensures.bounded) (λ rules. rules);
         causes = has_cause decode_levels _ answer (λ pulls. c.decode_levels.ensures.input_fault) (λ text. c.decode_levels.ensures.write_fault)
             (λ image. absurd image);
         no_fault_passed_over = record {
           input = λ read covers. uncovered_line decode_levels _ _ _ answer c.decode_levels.ensures.no_memory_input
-              (λ own written. c.decode_levels.ensures.no_input_fault read written) covers;
+              (λ own written. c.decode_levels.ensures.no_input_fault read written) (λ cut. covers (λ rules. rules, cut));
           write = λ other covers. c.decode_levels.ensures.no_write_fault other;
           disk = λ other. c.decode_levels.ensures.disk.disk_faults;
         };

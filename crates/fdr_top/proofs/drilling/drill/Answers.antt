@@ -13,7 +13,8 @@ returns-clause-works g c = λ path image.
       refusal = λ nothing. let same = c.drill_image.ensures.unwritten (writes_other _ _ nothing tt) (writes_other _ _ nothing tt) in
           left_all _ (ap g.O.Sink.written same) (ap g.O.Sink.faults same) (c.drill_image.ensures.untouched nothing)
           c.drill_image.ensures.learns (c.drill_image.ensures.announced nothing) c.drill_image.ensures.input;
-      unused = image_recorded form _ tt tt (λ none. none) (λ unused. c.drill_image.ensures.input) (λ pulls. absurd pulls);
+      stops = λ has. c.drill_image.ensures.stops;
+      unused = image_recorded form _ (λ no. absurd (no tt)) tt tt (λ none. none) (λ unused. c.drill_image.ensures.input) (λ pulls. absurd pulls);
       causes = has_cause form _ answer (λ pulls. absurd pulls) (λ text. c.drill_image.ensures.write_fault) (λ image. c.drill_image.ensures.disk_fault);
       no_fault_passed_over = record {
         input = λ read covers. c.drill_image.ensures.input.faults;

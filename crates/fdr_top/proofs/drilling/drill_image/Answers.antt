@@ -4,6 +4,7 @@ use Rattle.fdr_recorder.proofs.SessionEnds.{keeps_input_then}
 use Rattle.fdr_recorder.proofs.Supplies.{drawn_made}
 use Rattle.fdr_top.specs.Ends.{session_refusal}
 use Rattle.fdr_top.specs.declared.outcome.Outcome.TheVariants as outcome
+use Rattle.fdr_pieces.proofs.Pulling.{LeavesStops-look, LeavesStops-then}
 use Rattle.fdr_top.proofs.Drilled.{drill_cut, drill_shut, drill_told, learns_then}
 use Rattle.fdr_top.proofs.ListedImages.{of_blocks_begun, of_blocks_drill}
 use Rattle.fdr_top.proofs.Answering.{memory_writes, passes_keeps}
@@ -27,6 +28,7 @@ returns-in-Err g c = record {
       drill_shut c.args.sound.now _ _ _ _ _ _ c.in-Err.answer c.requires.in_range c.requires.sound (g.met.D.Deck.sound c.args.deck.now)
       c.open_image.ensures.looks c.in-Err.ensures.shut c.in-Err.ensures.refused;
   untouched = λ nothing. c.open_image.ensures.looks.disk;
+  stops = λ nothing. LeavesStops-look _ _ _ c.open_image.ensures.looks.disk_work;
   announced = λ nothing. c.open_image.ensures.looks.disk_work.passes.announced.announced;
   input = passes_keeps _ _ _ c.open_image.ensures.looks.disk_work.passes;
   learns = c.open_image.ensures.looks.learns;
@@ -46,6 +48,7 @@ returns-in_default g c = record {
       drill_shut c.args.sound.now _ _ _ _ _ _ outcome.NoMemory c.requires.in_range c.requires.sound (g.met.D.Deck.sound c.args.deck.now)
       c.open_image.ensures.looks tt (refuses_nothing _ _ _ _ outcome.NoMemory (λ past. past));
   untouched = λ nothing. c.open_image.ensures.looks.disk;
+  stops = λ nothing. LeavesStops-look _ _ _ c.open_image.ensures.looks.disk_work;
   announced = λ nothing. c.open_image.ensures.looks.disk_work.passes.announced.announced;
   input = passes_keeps _ _ _ c.open_image.ensures.looks.disk_work.passes;
   learns = c.open_image.ensures.looks.learns;
@@ -73,6 +76,7 @@ returns g c = record {
       c.write_summary.ensures.answer c.in-Ok.ensures.opened.header e.blocks c.requires.in_range c.requires.sound
       c.write_summary.ensures.text c.write_summary.ensures.part (λ x. ap g.O.Sink.written (c.write_summary.ensures.unread x));
   untouched = λ nothing. absurd (of_blocks_begun c.write_summary.result c.write_summary.ensures.answer nothing);
+  stops = λ nothing. absurd (of_blocks_begun c.write_summary.result c.write_summary.ensures.answer nothing);
   announced = λ nothing. absurd (of_blocks_begun c.write_summary.result c.write_summary.ensures.answer nothing);
   input =
       let opened = c.open_image.ensures.looks.disk_work.passes in
@@ -115,6 +119,9 @@ returns-in-Err-record_source g c = record {
         no_more = λ image leaves. looked.no_more image (left.no_more image leaves);
         no_less = λ image leaves. left.no_less image (looked.no_less image leaves);
       };
+  stops = λ nothing. LeavesStops-then _ _ _ _ (LeavesStops-look _ _ _ c.open_image.ensures.looks.disk_work) c.open_image.ensures.looks.disk
+      (LeavesStops-look _ _ _ (c.in-Err-record_source.ensures.looked
+      (refused_at_start c.in-Err-record_source.fault (rw c.session_refusal.ensures at nothing))));
   announced = λ nothing.
       c.in-Err-record_source.ensures.announced (refused_at_start c.in-Err-record_source.fault (rw c.session_refusal.ensures at nothing))
       ∙ c.open_image.ensures.looks.disk_work.passes.announced.announced;

@@ -14,13 +14,14 @@ returns g c = record {
         answer = answer;
         refusal = begun_leaves encode_bytes _ (λ none. none) (λ none. none) (λ none. none) answer
             c.encode_bits.ensures.disk c.encode_bits.ensures.announced c.encode_bits.ensures.no_memory c.encode_bits.ensures.no_memory_faults;
-        unused = line_unused encode_bytes _ tt c.encode_bits.ensures.disk c.encode_bits.ensures.announced
+        stops = λ has. absurd has;
+        unused = line_unused encode_bytes _ (λ no. absurd (no tt)) tt c.encode_bits.ensures.disk c.encode_bits.ensures.announced
             c.encode_bits.ensures.no_memory_input (λ pulls. c.encode_bits.ensures.bounded) (λ rules. rules);
         causes = has_cause encode_bytes _ answer (λ pulls. c.encode_bits.ensures.input_fault) (λ text. c.encode_bits.ensures.write_fault)
             (λ image. absurd image);
         no_fault_passed_over = record {
           input = λ read covers. uncovered_line encode_bytes _ _ _ answer c.encode_bits.ensures.no_memory_input
-              (λ own written. c.encode_bits.ensures.no_input_fault read written) covers;
+              (λ own written. c.encode_bits.ensures.no_input_fault read written) (λ cut. covers (λ rules. rules, cut));
           write = λ other covers. c.encode_bits.ensures.no_write_fault other;
           disk = λ other. c.encode_bits.ensures.disk.disk_faults;
         };

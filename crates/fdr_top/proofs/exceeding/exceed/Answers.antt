@@ -21,12 +21,14 @@ returns-clause-works g c = λ path image.
             announced = c.list_exceedances.ensures.announced;
             input = λ first. c.list_exceedances.ensures.before_input first;
           };
+      stops = λ has nothing. lists.stops;
       unused = record {
         input = λ unused. absurd (unused tt);
         disk = λ unused. absurd (unused tt);
         announced = λ unused. c.list_exceedances.ensures.announced;
         memory = λ pulls none. absurd pulls;
         bits = λ pulls. absurd pulls;
+        text = λ no. absurd (no tt);
         rules = λ pulls. c.list_exceedances.ensures.bounded;
       };
       causes = has_cause (exceed_image path image) _ answer (λ pulls. c.list_exceedances.ensures.input_fault)

@@ -43,7 +43,7 @@ returns-in-Err-pull_rules g c = record {
       let refused = rw c.table.ensures at c.in-Err-pull_rules.ensures.refused in
       rules_refused c.args.sound.now _ _ _ _ _ refused.0 c.in-Err-pull_rules.answer c.open_image.ensures.looks
       (long_image c.in-Ok.reader.header _ opened.whole) opened.image
-      c.pull_rules.ensures.disk refused.1;
+      c.pull_rules.ensures.disk c.pull_rules.ensures.stops refused.1;
   before_input = λ before.
       absurd (of_rules (λ (a : Outcome). IsBeforeInput a → ⊥) c.in-Err-pull_rules.answer (λ row f none. none) (λ none. none) (λ none. none)
       c.in-Err-pull_rules.ensures.refused.1.only before);
@@ -68,7 +68,7 @@ returns-in_default g c = record {
   answer = λ path image. inl refl;
   lists =
       let read = rw c.table.ensures at c.in-Ok-pull_rules.ensures.rules in
-      no_room_to_watch c.args.sound.now _ _ _ _ _ read.0 c.open_image.ensures.looks c.pull_rules.ensures.disk read.2;
+      no_room_to_watch c.args.sound.now _ _ _ _ _ read.0 c.open_image.ensures.looks c.pull_rules.ensures.disk c.pull_rules.ensures.stops read.2;
   before_input = λ before. absurd before;
   announced = c.pull_rules.ensures.announced ∙ c.open_image.ensures.looks.disk_work.passes.announced.announced;
   bounded = bounded_between _ _ _ _ _ _ c.open_image.ensures.looks.disk_work.passes.input.taken c.pull_rules.ensures.bounded refl;
@@ -93,8 +93,9 @@ returns g c = record {
       let opened = c.in-Ok.ensures.opened in
       let read = rw c.table.ensures at c.in-Ok-pull_rules.ensures.rules in
       blocks_exceeded c.args.sound.now _ _ _ _ _ c.in-Ok.reader.header _ _ _ read.0 _ c.open_image.ensures.looks c.pull_rules.ensures.disk
-      c.write_exceedances.ensures.looks opened.header opened.image opened.whole read.2 (c.in-Ok-watching.ensures.rules ∙ read.1)
-      c.write_exceedances.ensures.answer (rw c.table-2.ensures at c.write_exceedances.ensures.text) (rw c.table-2.ensures at c.write_exceedances.ensures.part);
+      c.pull_rules.ensures.stops c.write_exceedances.ensures.looks opened.header opened.image opened.whole read.2 (c.in-Ok-watching.ensures.rules ∙ read.1)
+      c.write_exceedances.ensures.answer (rw c.table-2.ensures at c.write_exceedances.ensures.text)
+      (rw c.table-2.ensures at c.write_exceedances.ensures.part);
   before_input = λ before.
       absurd (of_blocks (λ (a : Outcome). IsBeforeInput a → ⊥) c.write_exceedances.result (λ none. none) (λ none. none) (λ none. none)
       c.write_exceedances.ensures.answer before);

@@ -1,6 +1,6 @@
 use Rattle.std.proofs.Common.{inl, inr, refl}
 use Rattle.fdr_words.specs.Forms.{format_image}
-use Rattle.fdr_top.proofs.Answering.{has_cause, image_unused, making_done, making_refusal}
+use Rattle.fdr_top.proofs.Answering.{has_cause, image_unused, making_done, making_refusal, making_stops}
 use Rattle.fdr_top.proofs.formatting.format.Goals as goal
 
 pub returns : goal.returns
@@ -11,7 +11,8 @@ returns g c = record {
       record {
         answer = inr own;
         refusal = making_refusal path image c.args.slots c.args.payload _ _ own c.make_image.ensures.makes refl refl;
-        unused = image_unused form _ tt (λ none. none) (λ none. none) c.make_image.ensures.makes.disk_work.passes;
+        stops = λ has nothing. making_stops path image c.args.slots c.args.payload _ _ _ _ _ own c.make_image.ensures.makes nothing;
+        unused = image_unused form _ (λ no. (refl, refl)) tt (λ none. none) (λ none. none) c.make_image.ensures.makes.disk_work.passes;
         causes = has_cause form _ (inr own) (λ pulls. absurd pulls) (λ text. absurd text) (λ image. c.make_image.ensures.makes.cause);
         no_fault_passed_over = record {
           input = λ read covers. c.make_image.ensures.makes.disk_work.passes.input_faults;

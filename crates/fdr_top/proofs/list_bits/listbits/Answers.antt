@@ -14,13 +14,14 @@ returns g c = record {
         answer = answer;
         refusal = begun_leaves (list_bits path) _ (λ none. none) (λ none. none) (λ none. none) answer
             c.list_line.ensures.disk c.list_line.ensures.announced c.list_line.ensures.no_memory c.list_line.ensures.no_memory_faults;
-        unused = line_unused (list_bits path) _ tt c.list_line.ensures.disk c.list_line.ensures.announced
+        stops = λ has. absurd has;
+        unused = line_unused (list_bits path) _ (λ no. absurd (no tt)) tt c.list_line.ensures.disk c.list_line.ensures.announced
             c.list_line.ensures.no_memory_input (λ pulls. c.list_line.ensures.bounded) (λ rules. rules);
         causes = has_cause (list_bits path) _ answer (λ pulls. c.list_line.ensures.input_fault) (λ text. c.list_line.ensures.write_fault)
             (λ image. absurd image);
         no_fault_passed_over = record {
           input = λ read covers. uncovered_line (list_bits path) _ _ _ answer c.list_line.ensures.no_memory_input
-              (λ own written. c.list_line.ensures.no_input_fault read written) covers;
+              (λ own written. c.list_line.ensures.no_input_fault read written) (λ cut. covers (λ rules. rules, cut));
           write = λ other covers. c.list_line.ensures.no_write_fault other;
           disk = λ other. c.list_line.ensures.disk.disk_faults;
         };

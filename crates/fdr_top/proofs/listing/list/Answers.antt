@@ -1,5 +1,6 @@
 use Rattle.std.proofs.Common.{ap, refl}
 use Rattle.fdr_words.specs.Forms.{list_image}
+use Rattle.fdr_pieces.proofs.Pulling.{LeavesStops-look}
 use Rattle.fdr_top.proofs.Answering.{has_cause, image_unused, left_all, passes_keeps}
 use Rattle.fdr_top.proofs.ListedImages.{list_done}
 use Rattle.fdr_top.proofs.listing.list.Goals as goal
@@ -13,7 +14,8 @@ returns-clause-works g c = λ path image.
       refusal = λ nothing. let same = c.list_image.ensures.unwritten nothing in
           left_all _ (ap g.O.Sink.written same) (ap g.O.Sink.faults same) looks.disk looks.learns looks.disk_work.passes.announced.announced
           (passes_keeps _ _ _ looks.disk_work.passes);
-      unused = image_unused (list_image path image) _ tt (λ none. none) (λ none. none) looks.disk_work.passes;
+      stops = λ has nothing. LeavesStops-look _ _ _ looks.disk_work;
+      unused = image_unused (list_image path image) _ (λ no. absurd (no tt)) tt (λ none. none) (λ none. none) looks.disk_work.passes;
       causes = has_cause (list_image path image) _ answer (λ pulls. absurd pulls) (λ text. c.list_image.ensures.write_fault)
           (λ image. c.list_image.ensures.disk_fault);
       no_fault_passed_over = record {

@@ -13,12 +13,13 @@ returns-clause-works g c = λ path image written faults.
       answer = answer;
       refusal = λ nothing. left_all _ refl refl (c.record_line.ensures.untouched nothing) c.record_line.ensures.learns
           (c.record_line.ensures.announced nothing) (c.record_line.ensures.input nothing);
-      unused = image_recorded (record_line path image) _ tt tt (λ none. none) (λ unused. absurd (unused tt))
+      stops = λ has. c.record_line.ensures.stops;
+      unused = image_recorded (record_line path image) _ (λ no. (refl, refl)) tt tt (λ none. none) (λ unused. absurd (unused tt))
           (λ pulls memory. c.record_line.ensures.input (memory_writes _ memory));
       causes = has_cause (record_line path image) _ answer (λ pulls. c.record_line.ensures.input_fault) (λ text. absurd text)
           (λ image. c.record_line.ensures.disk_fault);
       no_fault_passed_over = record {
-        input = λ read covers. c.record_line.ensures.no_input_fault read covers;
+        input = λ read covers. c.record_line.ensures.no_input_fault read (λ cut. covers (λ rules. rules, cut));
         write = λ other covers. refl;
         disk = λ other. c.record_line.ensures.no_disk_fault other;
       };

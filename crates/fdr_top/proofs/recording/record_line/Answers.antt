@@ -8,6 +8,7 @@ use Rattle.fdr_words.specs.Forms.{record_line}
 use Rattle.fdr_top.specs.Answers.{IsOwn}
 use Rattle.fdr_top.specs.Ends.{session_refusal, source_answer}
 use Rattle.fdr_top.specs.Stages.{WritesNothing}
+use Rattle.fdr_pieces.proofs.Pulling.{LeavesStops-here, LeavesStops-look}
 use Rattle.fdr_top.proofs.RecordingEnds.{is_disk_fault, is_no_memory, keeps_line, refused_at_start}
 use Rattle.fdr_top.proofs.Results.{memory_not_disk, memory_not_input}
 use Rattle.fdr_top.proofs.SourceEnds.{refusal_not_input, refusal_own_record, source_begun, source_failed, source_not_disk, source_not_memory, source_own}
@@ -24,6 +25,7 @@ returns-in_default g c = record {
   );
   answer = λ path image. inl refl;
   untouched = λ nothing. record { held = refl; no_more = λ image leaves. leaves; no_less = λ image leaves. leaves };
+  stops = λ nothing. LeavesStops-here _ _ (g.met.D.Deck.sound c.args.deck.now);
   announced = search rules;
   input = λ nothing. record { input = refl; taken = refl; pulled_before = refl; faults = refl };
   learns = record { bytes = λ told. refl; stops = λ told. refl; known = λ some. refl };
@@ -45,6 +47,7 @@ returns-in-Ok-record_source g c = record {
   answer = λ path image.
       inr (subst (IsOwn (record_line path image)) (sym c.source_answer.ensures) (source_own path image c.in-Ok-record_source.recorded.end));
   untouched = λ nothing. absurd (source_begun c.in-Ok-record_source.recorded.end (subst WritesNothing c.source_answer.ensures nothing));
+  stops = λ nothing. absurd (source_begun c.in-Ok-record_source.recorded.end (subst WritesNothing c.source_answer.ensures nothing));
   announced = λ nothing. absurd (source_begun c.in-Ok-record_source.recorded.end (subst WritesNothing c.source_answer.ensures nothing));
   input = λ nothing. absurd (source_begun c.in-Ok-record_source.recorded.end (subst WritesNothing c.source_answer.ensures nothing));
   learns = c.record_source.ensures.learns;
@@ -66,6 +69,7 @@ returns g c = record {
   records = (Err c.in-Err.fault, c.session_refusal.ensures, c.in-Err.ensures.ended line_trace c.in-Ok.ensures);
   answer = λ path image. rw c.session_refusal.ensures (refusal_own_record path image c.in-Err.fault);
   untouched = λ nothing. c.in-Err.ensures.untouched (refused_at_start c.in-Err.fault (subst WritesNothing c.session_refusal.ensures nothing));
+  stops = λ nothing. LeavesStops-look _ _ _ (c.in-Err.ensures.looked (refused_at_start c.in-Err.fault (subst WritesNothing c.session_refusal.ensures nothing)));
   announced = λ nothing. c.in-Err.ensures.announced (refused_at_start c.in-Err.fault (subst WritesNothing c.session_refusal.ensures nothing));
   input = λ nothing. keeps_line _ _ (c.in-Err.ensures.input (refused_at_start c.in-Err.fault (subst WritesNothing c.session_refusal.ensures nothing)));
   learns = c.record_source.ensures.learns;

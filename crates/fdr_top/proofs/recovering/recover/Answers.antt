@@ -1,5 +1,6 @@
 use Rattle.std.proofs.Common.{ap}
 use Rattle.fdr_words.specs.Forms.{recover_image}
+use Rattle.fdr_pieces.proofs.Pulling.{LeavesStops-look}
 use Rattle.fdr_top.proofs.Answering.{has_cause, image_unused, left_all, passes_keeps, recovers_image, recovery_done, writes_other}
 use Rattle.fdr_top.proofs.recovering.recover.Goals as goal
 
@@ -14,7 +15,8 @@ returns-clause-works g c = λ image t.
           (writes_other _ _ nothing tt) in
           left_all _ (ap g.O.Sink.written same) (ap g.O.Sink.faults same) looks.disk looks.learns looks.disk_work.passes.announced.announced
           (passes_keeps _ _ _ looks.disk_work.passes);
-      unused = image_unused (recover_image image) _ tt (λ none. none) (λ none. none) looks.disk_work.passes;
+      stops = λ has nothing. LeavesStops-look _ _ _ looks.disk_work;
+      unused = image_unused (recover_image image) _ (λ no. absurd (no tt)) tt (λ none. none) (λ none. none) looks.disk_work.passes;
       causes = has_cause (recover_image image) _ answer (λ pulls. absurd pulls) (λ text. c.recover_image.ensures.write_fault)
           (λ image. c.recover_image.ensures.recovers.cause);
       no_fault_passed_over = record {

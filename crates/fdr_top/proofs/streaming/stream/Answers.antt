@@ -14,14 +14,15 @@ returns g c = record {
         answer = answer;
         refusal = begun_leaves (stream_line path) _ (λ none. none) (λ none. none) (λ none. none) answer
             c.stream_sound.ensures.disk c.stream_sound.ensures.announced c.stream_sound.ensures.no_memory c.stream_sound.ensures.no_memory_faults;
-        unused = line_unused (stream_line path) _ tt c.stream_sound.ensures.disk c.stream_sound.ensures.announced
+        stops = λ has. absurd has;
+        unused = line_unused (stream_line path) _ (λ no. absurd (no tt)) tt c.stream_sound.ensures.disk c.stream_sound.ensures.announced
             c.stream_sound.ensures.no_memory_input (λ none. absurd none) (λ rules. rules);
         causes = has_cause (stream_line path) _ answer (λ pulls. c.stream_sound.ensures.input_fault) (λ text. c.stream_sound.ensures.write_fault)
             (λ image. absurd image);
         no_fault_passed_over = record {
           input = λ read covers. uncovered_line (stream_line path) _ _ _ answer c.stream_sound.ensures.no_memory_input
               (λ own written. (c.stream_sound.ensures.streams (own_not_memory (stream_line path) _ own)).ends.no_fault
-              (stream_reads path _ own written) read) covers;
+              (stream_reads path _ own written) read) (λ cut. covers (λ rules. rules, cut));
           write = λ other covers. c.stream_sound.ensures.no_write_fault other;
           disk = λ other. c.stream_sound.ensures.disk.disk_faults;
         };

@@ -2,6 +2,7 @@ use Rattle.std.proofs.Common.{refl, arith}
 use Rattle.fdr_readout.proofs.ListedEvents.{lists_events}
 use Rattle.fdr_top.proofs.Carrying.{nothing_done}
 use Rattle.fdr_top.proofs.Commands.{of_form}
+use Rattle.fdr_top.proofs.MeaningCommands.{means}
 use Rattle.fdr_top.proofs.OneRun.{one_run}
 use Rattle.fdr_top.proofs.top.run.Goals as goal
 
@@ -29,3 +30,10 @@ returns-in-Err-Usage-clause-one_run c = grind (arith, one_run)
 
 pub returns-in-Err-NoMemory-clause-one_run : goal.returns-in-Err-NoMemory-clause-one_run
 returns-in-Err-NoMemory-clause-one_run c = grind (arith, one_run)
+
+pub returns-in-Err-NoMemory-clause-means : goal.returns-in-Err-NoMemory-clause-means
+returns-in-Err-NoMemory-clause-means g c = of_form _ _ (λ form. means form _
+    (nothing_done form _ _ _ _ _ refl refl refl (g.met.D.Deck.sound c.args.deck.now)) (g.met.D.Deck.sound c.args.deck.now))
+
+pub returns-in-Ok-clause-means : goal.returns-in-Ok-clause-means
+returns-in-Ok-clause-means g c = rw c.in-Ok.ensures.form (means _ _ c.carry_out.ensures.runs (g.met.D.Deck.sound c.args.deck.now))

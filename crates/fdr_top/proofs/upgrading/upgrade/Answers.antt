@@ -14,7 +14,8 @@ returns-clause-works g c = λ image t written faults.
       answer = inr own;
       refusal = λ nothing. left_all _ refl refl (c.upgrade_image.ensures.untouched nothing) does.learns does.disk_work.passes.announced.announced
           (passes_keeps _ _ _ does.disk_work.passes);
-      unused = image_unused form _ tt (λ none. none) (λ none. none) does.disk_work.passes;
+      stops = λ has. c.upgrade_image.ensures.stops;
+      unused = image_unused form _ (λ no. (refl, refl)) tt (λ none. none) (λ none. none) does.disk_work.passes;
       causes = has_cause form _ (inr own) (λ pulls. absurd pulls) (λ text. absurd text) (λ image. c.upgrade_image.ensures.disk_fault);
       no_fault_passed_over = record {
         input = λ read covers. does.disk_work.passes.input_faults;

@@ -2,6 +2,7 @@ use Rattle.std.proofs.Common.{◌≡◌, ◌∙◌, Err, ap, sym}
 use Rattle.fdr_recover.specs.declared.error.RingFault.TheVariants as ring
 use Rattle.fdr_top.specs.declared.outcome.Outcome.TheVariants as outcome
 use Rattle.fdr_top.specs.Recover.{header_refusal}
+use Rattle.fdr_pieces.proofs.Pulling.{LeavesStops-look}
 use Rattle.fdr_top.proofs.Upgrades.{header_refuses, refusal_failed, refusal_not_done, refusal_own, upgrade_read, upgrade_unread}
 use Rattle.fdr_top.proofs.upgrading.upgrade_image.Goals as goal
 
@@ -27,6 +28,9 @@ pub returns-in-Err-clause-no_disk_fault : goal.returns-in-Err-clause-no_disk_fau
 returns-in-Err-clause-no_disk_fault g c = λ other.
     (c.in-Err.ensures.succeeds (λ x. let same : c.in-Err.fault ≡ ring.DiskFault = cc in
     other (c.refusal.ensures ∙ ap header_refusal same))).disk_faults
+
+pub returns-in-Err-clause-stops : goal.returns-in-Err-clause-stops
+returns-in-Err-clause-stops g c = λ nothing. LeavesStops-look _ _ _ c.read_image_header.ensures.disk_work
 
 -- ---- where it is read
 

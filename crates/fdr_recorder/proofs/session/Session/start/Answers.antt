@@ -19,7 +19,7 @@ use Rattle.fdr_recorder.specs.declared.error.SessionFault.TheVariants as fault
 use Rattle.fdr_recorder.proofs.Refused.{apart, header_disk, header_image, header_not_end, header_not_memory, header_not_old, header_short, header_words}
 use Rattle.fdr_recorder.proofs.Refused.{disk_above, ok_not_err, too_short_for, version_2}
 use Rattle.fdr_recorder.proofs.Adding.{IsSureRing-told}
-use Rattle.fdr_recorder.proofs.Starting.{Starts-looked, Starts-attached, Starts-announced}
+use Rattle.fdr_recorder.proofs.Starting.{Starts-looked, Starts-attached, Starts-announced, attaching_announced, looking_announced, starting_announced}
 use Rattle.fdr_recorder.proofs.Starting.{greatest-started, least-started, stream-started, next-started, session_of-is}
 use Rattle.fdr_recorder.proofs.session.Session.start.Given.{Over}
 use Rattle.fdr_recorder.proofs.session.Session.start.Goals.{After-attach}
@@ -67,6 +67,9 @@ returns-in_err-header g c =
       old_version = λ is. absurd (header_not_old e is);
       started = tt;
       starts = Starts-looked _ _ _ _ (g.met.D.Deck.sound c.args.deck.now) a.disk_work;
+      looked = λ other. a.disk_work;
+      announced_last = looking_announced _ (header_in (g.D.Deck.state c.args.deck.now).held) _ _ (g.met.D.Deck.sound c.args.deck.now) a.disk_work
+          (g.D.Deck.state c.read_header_for.new.deck);
       refused = a.disk_work.passes.announced;
       learns = a.learns;
       untouched = λ other. a.disk;
@@ -97,6 +100,9 @@ returns-then-header-eq1 g c =
       );
       started = tt;
       starts = Starts-looked _ _ _ _ (g.met.D.Deck.sound c.args.deck.now) h.disk_work;
+      looked = λ other. h.disk_work;
+      announced_last = looking_announced _ (header_in (g.D.Deck.state c.args.deck.now).held) _ _ (g.met.D.Deck.sound c.args.deck.now) h.disk_work
+          (g.D.Deck.state c.read_header_for.new.deck);
       refused = h.disk_work.passes.announced;
       learns = h.learns;
       untouched = λ other. h.disk;
@@ -126,6 +132,9 @@ returns-in_err-memory g c =
       old_version = λ is. absurd (apart _ _ refl is);
       started = tt;
       starts = Starts-looked _ _ _ _ (g.met.D.Deck.sound c.args.deck.now) h.disk_work;
+      looked = λ other. h.disk_work;
+      announced_last = looking_announced _ (header_in (g.D.Deck.state c.args.deck.now).held) _ _ (g.met.D.Deck.sound c.args.deck.now) h.disk_work
+          (g.D.Deck.state c.read_header_for.new.deck);
       refused = h.disk_work.passes.announced;
       learns = h.learns;
       untouched = λ other. h.disk;
@@ -156,6 +165,10 @@ returns-in_err-ring g c =
       started = tt;
       starts = Starts-attached g.D.Deck.tells _ _ _ (g.met.D.Deck.sound c.args.deck.now) read.disk_work read.disk (header_read g at) (s c.attach.new.deck)
           passes (attaching g at);
+      looked = λ other. absurd (other refl);
+      announced_last = attaching_announced g.D.Deck.tells (header_in (s c.args.deck.now).held) _ _
+          (g.met.D.Deck.sound c.args.deck.now) read.disk_work read.disk (header_read g at)
+          (s c.attach.new.deck) passes (attaching g at) (s c.attach.new.deck);
       refused = KeepsAnnounced-then _ _ _ read.disk_work.passes.announced passes.announced;
       learns = LearnsExtent-then _ _ _ _ read.learns c.attach.ensures.changes.extent;
       untouched = λ other. absurd (other refl);
@@ -250,6 +263,10 @@ returns g c =
           (λ stops. c.next.ensures.number ∙ ok.attached.next ((is d0).stops_need_bytes stops)
           ∙ ap (λ (hh : Header). next_of hh (s d1).held) (same_header g at stops))
           told_after.disk told_after.input told_after.input_faults told_after.time told_after.moments;
+      looked = λ other. tt;
+      announced_last = starting_announced t (header_in (s d0).held) _ _ (is d0) read.disk_work read.disk fresh
+          (s d2) c.attach.ensures.changes.disk_work.passes
+          (attaching g at) (s d3) told_after.time told_after.moments;
       refused = tt;
       learns = LearnsExtent-then _ _ _ _ read.learns extent;
       untouched = λ other. tt;

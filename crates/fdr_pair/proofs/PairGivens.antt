@@ -1,0 +1,184 @@
+-- What was given: what came of the input, and which side failed.
+use Rattle.std.proofs.Common.{◌≡◌, ◌⊎◌, ⊎_elim, inl, inr, ℕ, ◌-◌, ◌^◌, ◌<◌, Bool, true, false, List, [], ◌++◌, Option, Some, None, IsTrue, refl, sym, ◌∙◌}
+use Rattle.std.proofs.Common.{subst, arith}
+use Rattle.std.specs.Prelude.{nat_lt}
+use Rattle.std.proofs.lemmas.Bool.Decides.{nat_tests}
+use Rattle.std.proofs.lemmas.List.{append-nil}
+use Rattle.fdr_io.specs.Faults.{Rose}
+use Rattle.fdr_deck.specs.State.{Tells}
+use Rattle.fdr_twin.specs.declared.side.Side.{Side}
+use Rattle.fdr_twin.specs.declared.side.Side.TheVariants.{First, Second}
+use Rattle.fdr_twin.specs.Pair.{Pair, disk_on}
+use Rattle.fdr_twin.specs.Serving.{EachPairMoment}
+use Rattle.fdr_pair.specs.Opening.{header_after, header_read, AreCountsBelowMost}
+use Rattle.fdr_pair.specs.PairMoments.{HasFailedBeforePull}
+use Rattle.fdr_pair.specs.Bringing.{HasNoFault}
+use Rattle.fdr_pair.specs.PairEnds.{HasFailedSince}
+use Rattle.fdr_pair.specs.PairRun.{PairRun}
+use Rattle.fdr_pair.specs.PairWork.{IsLineMoment, LeavesLine}
+use Rattle.fdr_pair.specs.declared.outcome.PairOutcome.TheVariants as outcome
+use Rattle.fdr_pair.specs.PairMeaning.{PairGiven}
+use Rattle.fdr_pair.specs.PairDoing.{GavePairInput, GavePairTable, FailsOnly, KeepsOn, Pulls, WasPairGiven}
+use Rattle.fdr_load.specs.Supplies.{Supplied}
+use Rattle.fdr_pair.proofs.PairHeaders.{read_unless}
+
+-- ---- the input
+
+-- all bytes where they are told, or those that were pulled
+abbrev pub all_of : Bool → List ℕ → List ℕ → List ℕ
+all_of true all pulled = all
+all_of false all pulled = pulled
+
+all_or : (b : Bool) (all pulled : List ℕ) → ((b ≡ true) × (all_of b all pulled ≡ all)) ⊎ ((b ≡ true → ⊥) × (all_of b all pulled ≡ pulled))
+all_or true all pulled = inl (refl, refl)
+all_or false all pulled = inr (λ told. cc, refl)
+
+-- what holds of both holds of the one that came
+pub all_elim : (P : List ℕ → Type 0) (b : Bool) (all pulled : List ℕ) → (IsTrue b → P all) → P pulled → P (all_of b all pulled)
+all_elim P true all pulled told of = told refl
+all_elim P false all pulled told of = of
+
+-- all of the input came, where it is told; else what was pulled
+abbrev pub came_all : PairRun → List ℕ → Supplied
+came_all r pulled = record { bytes = all_of r.tells.input r.old.input pulled; failed = false }
+
+-- what was pulled came, and then a read failed
+abbrev pub came_cut : List ℕ → Supplied
+came_cut pulled = record { bytes = pulled; failed = true }
+
+-- what was pulled came, and no read failed
+abbrev pub came_part : List ℕ → Supplied
+came_part pulled = record { bytes = pulled; failed = false }
+
+pub gave_all : (r : PairRun) (pulled : List ℕ) → Pulls pulled r → GavePairInput (came_all r pulled) r
+gave_all r pulled takes = record {
+  whole = λ no. ⊎_elim
+      (λ told. inl (told.0, told.1))
+      (λ untold. inr (subst (λ (bytes : List ℕ). Pulls bytes r) (sym untold.1) takes, λ told. absurd (untold.0 told)))
+      (all_or r.tells.input r.old.input pulled);
+  cut = λ yes. absurd (cc);
+}
+
+pub gave_cut : (r : PairRun) (pulled : List ℕ) → Pulls pulled r → Rose r.old.input_faults r.new.input_faults → GavePairInput (came_cut pulled) r
+gave_cut r pulled takes rose = record { whole = λ no. absurd (cc); cut = λ yes. (rose, takes) }
+
+pub gave_part : (r : PairRun) (pulled : List ℕ) → Pulls pulled r → r.answer ≡ outcome.DiskFault → GavePairInput (came_part pulled) r
+gave_part r pulled takes cut = record { whole = λ no. inr (takes, λ told. cut); cut = λ yes. absurd (cc) }
+
+-- what was pulled is a front part of it
+pub front_all : (r : PairRun) (pulled : List ℕ) → Pulls pulled r → (rest : List ℕ) × ((came_all r pulled).bytes ≡ pulled ++ rest)
+front_all r pulled takes = all_elim (λ (bytes : List ℕ). (rest : List ℕ) × (bytes ≡ pulled ++ rest)) r.tells.input r.old.input pulled
+    (λ line. (r.new.input, takes.input line)) ([], sym (append-nil pulled))
+
+pub front_same : (pulled : List ℕ) → (rest : List ℕ) × (pulled ≡ pulled ++ rest)
+front_same pulled = ([], sym (append-nil pulled))
+
+-- nothing was pulled
+takes_none : (r : PairRun) → LeavesLine r.old r.new → Pulls [] r
+takes_none r line = record { taken = omega (arith, line.taken); input = λ told. sym line.input }
+
+pub gave_none : (r : PairRun) → LeavesLine r.old r.new → GavePairInput (came_all r []) r
+gave_none r line = gave_all r [] (takes_none r line)
+
+-- ---- the table
+
+pub whole : (r : PairRun) (bytes : List ℕ) → r.rest_before ≡ Some bytes → GavePairTable (record { bytes = bytes; failed = false }) r
+whole r bytes is = record { whole = λ no. is; cut = λ yes. absurd (cc) }
+
+-- ---- the side that failed
+
+-- what was given, by the side that failed
+abbrev pub given_by : PairRun → Supplied → Supplied → Option Side → PairGiven
+given_by r table came failed = record { table = table; input = came; image = λ (side : Side). (disk_on side r.old).held; failed = failed }
+
+pub was_given : (r : PairRun) (table came : Supplied) (failed : Option Side) → GavePairTable table r → GavePairInput came r
+    → ((side : Side) → failed ≡ Some side → HasFailedBeforePull r.tells side r.old r.new) → WasPairGiven (given_by r table came failed) r
+was_given r table came failed of_table of_input of_side = record { table = of_table; input = of_input; image = refl; failed = of_side }
+
+-- a side failed before anything was pulled, as nothing was
+pub failed_idle : (tells : Tells) (side : Side) (old new : Pair) → EachPairMoment tells old new (IsLineMoment old)
+    → Rose (disk_on side old).faults (disk_on side new).faults → HasFailedBeforePull tells side old new
+failed_idle tells side old new idle rose =
+    record { now = rose; moments = λ stops m since pulled. absurd (omega (arith, (idle stops m since).taken, pulled)) }
+
+-- a count that is higher than it was rose
+pub rose_by : (before now : ℕ) → nat_lt before now ≡ true → Rose before now
+rose_by before now is = let less : before < now = grind (arith, nat_tests) in omega (arith, less)
+
+-- one that rose is higher, if it isn't at its greatest
+pub higher : (before now : ℕ) → now < 2 ^ 64 - 1 → Rose before now → nat_lt before now ≡ true
+higher before now most rose = let less : before < now = omega (arith, most, rose) in grind (arith, nat_tests)
+
+pub not_higher : (before now : ℕ) → now ≡ before → nat_lt before now ≡ false
+not_higher before now is = grind (arith, nat_tests)
+
+-- the side whose count rose alone, if there is one
+abbrev pub failed_by : Bool → Bool → Option Side
+failed_by true second = Some First
+failed_by false true = Some Second
+failed_by false false = None
+
+-- both sides failed, or what was read of the headers goes by the side that failed alone
+pub reads_by : (old new : Pair) (b1 b2 : Bool) → nat_lt old.first.faults new.first.faults ≡ b1 → nat_lt old.second.faults new.second.faults ≡ b2
+    → ((b1 ≡ true) × (b2 ≡ true)) ⊎ ((header_after old.first new.first ≡ read_unless (failed_by b1 b2) First (header_read old.first.held))
+    × (header_after old.second new.second ≡ read_unless (failed_by b1 b2) Second (header_read old.second.held))
+    × ((b1 ≡ true) × (b2 ≡ true) → ⊥))
+reads_by old new true true e1 e2 = inl (refl, refl)
+reads_by old new true false e1 e2 = inr (rw e1 refl, rw e2 refl, λ both. let never : false ≡ true = both.1 in cc)
+reads_by old new false true e1 e2 = inr (rw e1 refl, rw e2 refl, λ both. let never : false ≡ true = both.0 in cc)
+reads_by old new false false e1 e2 = inr (rw e1 refl, rw e2 refl, λ both. let never : false ≡ true = both.0 in cc)
+
+-- the side that failed alone, by the counts
+pub failed_of : (r : PairRun) (b1 b2 : Bool) → nat_lt r.old.first.faults r.new.first.faults ≡ b1 → nat_lt r.old.second.faults r.new.second.faults ≡ b2
+    → EachPairMoment r.tells r.old r.new (IsLineMoment r.old)
+    → (side : Side) → failed_by b1 b2 ≡ Some side → HasFailedBeforePull r.tells side r.old r.new
+failed_of r true b2 e1 e2 idle First is = failed_idle r.tells First r.old r.new idle (rose_by r.old.first.faults r.new.first.faults e1)
+failed_of r true b2 e1 e2 idle Second is = absurd (cc)
+failed_of r false true e1 e2 idle Second is = failed_idle r.tells Second r.old r.new idle (rose_by r.old.second.faults r.new.second.faults e2)
+failed_of r false true e1 e2 idle First is = absurd (cc)
+failed_of r false false e1 e2 idle side is = absurd (cc)
+
+-- ---- nothing was pulled
+
+-- where nothing is pulled, there is nothing to keep from the first pulled byte on
+pub keeps_idle : (r : PairRun) (g : PairGiven) → LeavesLine r.old r.new → EachPairMoment r.tells r.old r.new (IsLineMoment r.old) → KeepsOn g r
+keeps_idle r g line idle = record {
+  pulled = [];
+  pulls = takes_none r line;
+  front = (g.input.bytes, refl);
+  each = λ side none may stops m since pulled. absurd (omega (arith, (idle stops m since).taken, pulled));
+  in_time = λ may stops m since. record {
+    pulled = inl (record { taken = (idle stops m since).taken; pulled_before = (idle stops m since).pulled_before });
+  };
+}
+
+-- ---- no further side failed
+
+below : (r : PairRun) → AreCountsBelowMost r.new → (s : Side) → (disk_on s r.new).faults < 2 ^ 64 - 1
+below r counts First = counts.first
+below r counts Second = counts.second
+
+pub rose_not : (r : PairRun) → AreCountsBelowMost r.new → (s : Side) → HasFailedSince s r.old r.new → (disk_on s r.new).faults ≡ (disk_on s r.old).faults → ⊥
+rose_not r counts s rose same = omega (arith, rose, same, below r counts s)
+
+pub none_failed : (r : PairRun) → HasNoFault r.old r.new → (s : Side) → (disk_on s r.new).faults ≡ (disk_on s r.old).faults
+none_failed r none First = none.first
+none_failed r none Second = none.second
+
+pub fails_none : (r : PairRun) (g : PairGiven) → AreCountsBelowMost r.new → HasNoFault r.old r.new → FailsOnly g r
+fails_none r g counts none side rose = absurd (rose_not r counts side rose (none_failed r none side))
+
+-- the counts show which side failed
+pub fails_by : (r : PairRun) (table came : Supplied) (b1 b2 : Bool) → AreCountsBelowMost r.new → nat_lt r.old.first.faults r.new.first.faults ≡ b1
+    → nat_lt r.old.second.faults r.new.second.faults ≡ b2 → ((b1 ≡ true) × (b2 ≡ true) → ⊥) → FailsOnly (given_by r table came (failed_by b1 b2)) r
+fails_by r table came true true counts e1 e2 one side rose = absurd (one (refl, refl))
+fails_by r table came true false counts e1 e2 one First rose = refl
+fails_by r table came true false counts e1 e2 one Second rose =
+    let never : true ≡ false = sym (higher r.old.second.faults r.new.second.faults counts.second rose) ∙ e2 in absurd (cc)
+fails_by r table came false true counts e1 e2 one First rose =
+    let never : true ≡ false = sym (higher r.old.first.faults r.new.first.faults counts.first rose) ∙ e1 in absurd (cc)
+fails_by r table came false true counts e1 e2 one Second rose = refl
+fails_by r table came false false counts e1 e2 one First rose =
+    let never : true ≡ false = sym (higher r.old.first.faults r.new.first.faults counts.first rose) ∙ e1 in absurd (cc)
+fails_by r table came false false counts e1 e2 one Second rose =
+    let never : true ≡ false = sym (higher r.old.second.faults r.new.second.faults counts.second rose) ∙ e2 in absurd (cc)

@@ -1,0 +1,129 @@
+-- How the runs of both sides have grown, by what the contract says of the lead and of the other side.
+use Rattle.std.proofs.Common.{◌≡◌, ⊎_elim, ℕ, ◌+◌, ◌-◌, Bool, true, false, List, [], ◌∷◌, ◌++◌, length, take, Some, None, refl, sym, ◌∙◌, ap, subst, arith}
+use Rattle.std.proofs.Common.{length-append}
+use Rattle.std.specs.Prelude.{if◌then◌else◌, nat_lt, not}
+use Rattle.std.proofs.lemmas.Bool.{cases_Bool}
+use Rattle.std.proofs.lemmas.List.{append_assoc, append-nil}
+use Rattle.fdr_deck.specs.State.{Tells}
+use Rattle.fdr_slot.specs.Headers.{has_magic, has_open_gate}
+use Rattle.fdr_slot.specs.Limits.{IsInLimits, in_limits}
+use Rattle.fdr_slot.specs.Places.{image_size}
+use Rattle.fdr_slot.specs.declared.image.Header.{Header}
+use Rattle.fdr_slot.specs.declared.image.ImageFault.TheVariants as fault
+use Rattle.fdr_slot.proofs.HeaderLemmas.{in_limits-is}
+use Rattle.fdr_slot.specs.Headers.{image_fault}
+use Rattle.fdr_recover.specs.Blocks.{Block}
+use Rattle.fdr_recover.specs.Images.{next_of, recovered_run}
+use Rattle.fdr_recover.specs.ImageHeader.{image_fault_of, header_in}
+use Rattle.fdr_recover.specs.Payloads.{run_in}
+use Rattle.fdr_ring.specs.Runs.{last_blocks}
+use Rattle.fdr_recorder.specs.NewBlocks.{AddsToRun, new_blocks, next_in}
+use Rattle.fdr_bus.specs.declared.BusRecord.{BusRecord}
+use Rattle.fdr_table.specs.Rows.{TableRows}
+use Rattle.fdr_pair.specs.PairMoments.{KeepsBroughtRun, KeepsOwnRun}
+use Rattle.fdr_pair.specs.SideKeeping.{HasFailedOrKeeps}
+use Rattle.fdr_twin.specs.declared.side.Side.{Side}
+use Rattle.fdr_twin.specs.Pair.{Pair, PairMoment, disk_on, seen}
+use Rattle.fdr_pair.specs.Alike.{AreAlike, follower_on, lead_image, follower_image}
+use Rattle.fdr_pair.specs.Brought.{blocks_not_below}
+use Rattle.fdr_pair.specs.PairEnds.{FollowerHoldsBrought, HoldsAfter}
+use Rattle.fdr_pair.proofs.BroughtRuns.{missing_count}
+use Rattle.fdr_pair.proofs.Leading.{brought_next, one_header}
+
+-- ---- limits
+
+faulty : (short gate magic limits long : Bool) → limits ≡ false → (if short then Some fault.Small
+    else if not gate then Some fault.Closed
+    else if not magic then Some fault.Magic
+    else if not limits then Some fault.Geometry
+    else if long then Some fault.Short
+    else None) ≡ None → ⊥
+faulty true gate magic limits long outside none = cc
+faulty false false magic limits long outside none = cc
+faulty false true false limits long outside none = cc
+faulty false true true true long outside none = absurd (cc)
+faulty false true true false long outside none = cc
+
+-- the header of an image without a fault is in limits
+pub limits_in : (image : List ℕ) → image_fault_of image ≡ None → IsInLimits (header_in image)
+unfolding image_fault
+limits_in image none = ⊎_elim
+    (λ (within : in_limits (header_in image) ≡ true). in_limits-is (header_in image) within)
+    (λ (outside : in_limits (header_in image) ≡ false). absurd (faulty (nat_lt (length image) 64) (has_open_gate (take 64 image))
+    (has_magic (take 64 image)) (in_limits (header_in image)) (nat_lt (length image) (image_size (header_in image))) outside none))
+    (cases_Bool (in_limits (header_in image)))
+
+-- ---- what a side is brought
+
+no_length : {A : Type 0} (xs : List A) → length xs ≡ 0 → xs ≡ []
+no_length [] is = refl
+no_length (x ∷ xs) is = absurd (omega (arith, is))
+
+-- an image has no block of its own from its next number on
+pub brought_nothing : (image : List ℕ) → IsInLimits (header_in image) → blocks_not_below (next_in image) (run_in image) ≡ []
+brought_nothing image limits =
+    let same = missing_count (header_in image) image image limits (λ far. omega (arith, far)) (omega arith) in
+    no_length (blocks_not_below (next_in image) (run_in image)) (omega (arith, same))
+
+-- ---- what a side holds
+
+module _ (tells : Tells) (blocks : List Block) (old new : Pair) where
+  -- a side that goes on from its own run
+  pub grown_own : (side : Side) → IsInLimits (header_in (disk_on side old).held)
+      → HoldsAfter tells side (header_in (disk_on side old).held) (run_in (disk_on side old).held) (next_in (disk_on side old).held) blocks new
+      → new.announced ≡ next_in (disk_on side old).held + length blocks
+      → AddsToRun tells (blocks_not_below (next_in (disk_on side old).held) (run_in (disk_on side old).held) ++ blocks) (seen side old) (seen side new)
+  grown_own side limits holds announced =
+      subst (λ (bs : List Block). AddsToRun tells (bs ++ blocks) (seen side old) (seen side new))
+      (sym (brought_nothing (disk_on side old).held limits))
+      (record { header = holds.header; run = holds.last; next = holds.number; announced = announced; settled = holds.settled })
+
+  -- the side that doesn't lead, once it is brought up to the lead
+  pub grown_brought : (words : ℕ) → AreAlike words old → IsInLimits (header_in (lead_image old)) → FollowerHoldsBrought tells blocks old new
+      → new.announced ≡ next_in (lead_image old) + length blocks
+      → AddsToRun tells (blocks_not_below (next_in (follower_image old)) (run_in (lead_image old)) ++ blocks) (seen (follower_on old) old)
+      (seen (follower_on old) new)
+  grown_brought words alike limits holds announced =
+      let same = one_header words old alike.header in
+      let held = (disk_on (follower_on old) new).held in
+      let long : next_in (follower_image old) + length (blocks_not_below (next_in (follower_image old)) (run_in (lead_image old)))
+      ≡ next_in (lead_image old) =
+      subst (λ (h : Header). next_in (follower_image old) + length (blocks_not_below (next_of h (follower_image old)) (run_in (lead_image old)))
+      ≡ next_in (lead_image old)) (sym same) (brought_next words old alike limits) in
+      let missing = blocks_not_below (next_in (follower_image old)) (run_in (lead_image old)) in
+      let count : next_in (lead_image old) + length blocks ≡ next_in (follower_image old) + length (missing ++ blocks) =
+      grind (arith, long, length-append missing blocks) in
+      record {
+        header = holds.header ∙ sym same;
+        run = subst (λ (h : Header). recovered_run h held ≡ last_blocks (h.slots - 1) ((recovered_run h (follower_image old)
+            ++ blocks_not_below (next_of h (follower_image old)) (run_in (lead_image old))) ++ blocks)) (sym same) holds.last
+            ∙ ap (last_blocks ((header_in (follower_image old)).slots - 1)) (append_assoc (run_in (follower_image old)) missing blocks);
+        next = subst (λ (h : Header). next_of h held ≡ next_in (lead_image old) + length blocks) (sym same) holds.number ∙ count;
+        announced = announced ∙ count;
+        settled = holds.settled;
+      }
+
+-- ---- what a side keeps
+
+-- the base keeps its own run, to which nothing is brought
+pub keeps_base : (t : TableRows) (records : List BusRecord) (old : Pair) (b : Side) (m : PairMoment) → image_fault_of (disk_on b old).held ≡ None
+    → KeepsOwnRun b t records old m
+    → HasFailedOrKeeps b (header_in (disk_on b old).held)
+    (run_in (disk_on b old).held ++ blocks_not_below (next_in (disk_on b old).held) (run_in (disk_on b old).held))
+    (next_in (disk_on b old).held) (new_blocks t (disk_on b old).held records) old m
+keeps_base t records old b m none keeps =
+    let own = (disk_on b old).held in
+    let same : run_in own ++ blocks_not_below (next_in own) (run_in own) ≡ run_in own =
+    ap (λ (bs : List Block). run_in own ++ bs) (brought_nothing own (limits_in own none)) ∙ append-nil (run_in own) in
+    subst (λ (run : List Block). HasFailedOrKeeps b (header_in own) run (next_in own) (new_blocks t own records) old m) (sym same) keeps
+
+-- the other side keeps its brought run
+pub keeps_brought : (t : TableRows) (records : List BusRecord) (old : Pair) (m : PairMoment) → AreAlike t.frame.words old
+    → KeepsBroughtRun t records old m
+    → HasFailedOrKeeps (follower_on old) (header_in (follower_image old))
+    (run_in (follower_image old) ++ blocks_not_below (next_in (follower_image old)) (run_in (lead_image old)))
+    (next_in (lead_image old)) (new_blocks t (lead_image old) records) old m
+keeps_brought t records old m alike keeps = subst (λ (h : Header). HasFailedOrKeeps (follower_on old) h
+    (recovered_run h (follower_image old) ++ blocks_not_below (next_of h (follower_image old)) (run_in (lead_image old)))
+    (next_in (lead_image old)) (new_blocks t (lead_image old) records) old m)
+    (sym (one_header t.frame.words old alike.header)) keeps

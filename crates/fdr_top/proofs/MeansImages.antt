@@ -1,0 +1,185 @@
+-- What `recover`, `upgrade`, `list`, `salvage` and `format` mean.
+use Rattle.std.proofs.Common.{◌≡◌, ◌⊎◌, ⊎_elim, inl, inr, ℕ, List, [], None, IsTrue, refl, sym, ap, ◌∙◌, subst}
+use Rattle.fdr_io.specs.declared.Input.TheVariants as input
+use Rattle.fdr_deck.specs.State.{State, Tells}
+use Rattle.fdr_recover.specs.ImageHeader.{image_fault_of}
+use Rattle.fdr_recover.specs.Payloads.{payloads_of, run_in}
+use Rattle.fdr_load.specs.Tables.{table_in}
+use Rattle.fdr_table.specs.Rows.{TableRows}
+use Rattle.fdr_words.specs.Forms.{recover_image, list_image, upgrade_image}
+use Rattle.fdr_top.specs.Answers.{IsOwn, MayAnswer}
+use Rattle.fdr_top.specs.Commands.{DoesWork, RunsCommand}
+use Rattle.fdr_top.specs.List.{ListsImage, listing_in}
+use Rattle.fdr_top.specs.Recover.{OnlyLooks, RecoversImage}
+use Rattle.fdr_top.specs.Runs.{CommandRun}
+use Rattle.fdr_top.specs.Stages.{IsPastTable}
+use Rattle.fdr_top.specs.Upgrade.{UpgradesImage}
+use Rattle.fdr_top.specs.declared.outcome.Outcome.{Outcome}
+use Rattle.fdr_top.specs.declared.outcome.Outcome.TheVariants as outcome
+use Rattle.fdr_top.specs.Meaning.{Effect, answers, at_start, changes, raised, stays, writes}
+use Rattle.fdr_top.specs.Doing.{Becomes, IsTold, Refines}
+use Rattle.fdr_top.proofs.MeaningWords.{Core, by_header, by_image}
+use Rattle.fdr_top.proofs.MeaningLeft.{no_memory, refused, wrote_nothing, front_nothing}
+use Rattle.fdr_top.proofs.MeaningByTable.{means_by_table, nothing}
+use Rattle.fdr_top.proofs.MeaningImages.{IsImageRefusal, header_or, header_reads, none_left, header_refuses, image_or, image_reads, image_refuses}
+use Rattle.fdr_top.proofs.MeaningImages.{words_refuse, read_all, read_cut, read_failed}
+
+-- what only looked at the disk leaves the image
+pub looked : (tells : Tells) (old new : State) → IsTrue tells.bytes → OnlyLooks tells old new → Becomes stays tells old new
+looked tells old new told looks = (looks.disk, looks.learns.bytes told, looks.disk_work.passes.announced.announced)
+
+-- ---- recover
+
+module _ (path : List ℕ) (r : CommandRun) (told : IsTold (recover_image path) r) (runs : RunsCommand (recover_image path) r) where
+  module _ (does : RecoversImage r.work.tells r.work.old r.work.new r.work.written_before r.work.written_now r.work.answer) where
+    -- a header that isn't refused, where the output failed
+    recover_header : r.work.answer ≡ outcome.WriteFault → image_fault_of r.work.old.held ≡ None
+    recover_header e = none_left (image_fault_of r.work.old.held) (λ why is. ⊎_elim
+        (λ f. let c : outcome.WriteFault ≡ outcome.ImageRefused why = sym e ∙ f in cc)
+        (λ f. let c : outcome.WriteFault ≡ outcome.DiskFault = sym e ∙ f in cc)
+        (does.header.refused_always why (subst IsPastTable (sym e) tt) (told.image tt) is))
+
+    recover_refines : (a : Outcome) → r.work.answer ≡ a → IsOwn (recover_image path) a
+        → Refines (recover_image path) (by_header r.work.old.held (writes (payloads_of (run_in r.work.old.held)) outcome.Done)) r.work
+    recover_refines outcome.Done e own = read_all (recover_image path) r
+        (by_header r.work.old.held (writes (payloads_of (run_in r.work.old.held)) outcome.Done))
+        (payloads_of (run_in r.work.old.held)) (looked r.work.tells r.work.old r.work.new (told.image tt) does.looks)
+        (header_reads r.work.old.held (writes (payloads_of (run_in r.work.old.held)) outcome.Done) (does.good e (told.image tt)))
+        e (does.all e (told.image tt))
+    recover_refines outcome.WriteFault e own = read_cut (recover_image path) r
+        (by_header r.work.old.held (writes (payloads_of (run_in r.work.old.held)) outcome.Done))
+        (payloads_of (run_in r.work.old.held)) (looked r.work.tells r.work.old r.work.new (told.image tt) does.looks)
+        tt (header_reads r.work.old.held (writes (payloads_of (run_in r.work.old.held)) outcome.Done) (recover_header e))
+        e (runs.causes.write e) (does.part (told.image tt))
+    recover_refines outcome.DiskFault e own = read_failed (recover_image path) r
+        (by_header r.work.old.held (writes (payloads_of (run_in r.work.old.held)) outcome.Done))
+        (payloads_of (run_in r.work.old.held)) (looked r.work.tells r.work.old r.work.new (told.image tt) does.looks)
+        tt (header_or r.work.old.held (writes (payloads_of (run_in r.work.old.held)) outcome.Done))
+        e (runs.causes.disk e) (does.part (told.image tt))
+        (⊎_elim (λ quiet. inl quiet) (λ good. inr (header_reads r.work.old.held (writes (payloads_of (run_in r.work.old.held)) outcome.Done)
+        (good (told.image tt))))
+        does.begun)
+    recover_refines (outcome.ImageRefused why) e own = refused (recover_image path) r
+        (by_header r.work.old.held (writes (payloads_of (run_in r.work.old.held)) outcome.Done)) (outcome.ImageRefused why) told runs e tt at_start
+        (header_refuses r.work.old.held (writes (payloads_of (run_in r.work.old.held)) outcome.Done) why
+        (does.header.refused why e (told.image tt)))
+    recover_refines (outcome.ReadFault input.Line) e own = absurd own
+    recover_refines a e own = absurd own
+
+  recover_at : (a : Outcome) → r.work.answer ≡ a → MayAnswer (recover_image path) a
+      → Refines (recover_image path) (by_header r.work.old.held (writes (payloads_of (run_in r.work.old.held)) outcome.Done)) r.work
+  recover_at outcome.NoMemory e may = no_memory (recover_image path) r
+      (by_header r.work.old.held (writes (payloads_of (run_in r.work.old.held)) outcome.Done)) runs told e
+  recover_at outcome.Usage e may = absurd may
+  recover_at (outcome.TableRefused row f) e may = absurd (cc)
+  recover_at (outcome.ReadFault input.Table) e may = absurd (cc)
+  recover_at (outcome.ReadFault input.Line) e may = absurd may
+  recover_at a e may = recover_refines (runs.carries_out (table_in [])) a e may
+
+  pub means_recover : Core (recover_image path) r
+  means_recover = record {
+    g = record { table = nothing; input = nothing; image = r.work.old.held };
+    given = record { table = λ no. absurd (cc); input = λ no. absurd no; image = λ yes. refl };
+    does = recover_at r.work.answer refl runs.answers;
+    all = λ line uncut disk. recover_at r.work.answer refl runs.answers;
+  }
+
+-- ---- upgrade
+
+module _ (path : List ℕ) (r : CommandRun) (told : IsTold (upgrade_image path) r) (runs : RunsCommand (upgrade_image path) r) where
+  abbrev upgrades : Effect
+  upgrades = by_header r.work.old.held (changes raised)
+
+  module _ (does : UpgradesImage r.work.tells r.work.old r.work.new r.work.answer) where
+    upgrade_failed : (upgrades ≡ changes raised) ⊎ IsImageRefusal upgrades → r.work.answer ≡ outcome.DiskFault
+        → Refines (upgrade_image path) upgrades r.work
+    upgrade_failed (inl meant) e = subst (λ (x : Effect). Refines (upgrade_image path) x r.work) (sym meant) (inr (inr (inl (
+      tt,
+      record {
+        answer = e;
+        step = λ e. cc;
+        cause = runs.causes.disk e;
+        text = front_nothing [] r.work.written_before r.work.written_now (runs.unused.text (λ no. no)).0;
+      },
+    ))))
+    upgrade_failed (inr refusal) e = subst (λ (x : Effect). Refines (upgrade_image path) x r.work) (sym refusal.is) (inr (inr (inl (
+      tt,
+      record {
+        answer = e;
+        step = λ e. cc;
+        cause = runs.causes.disk e;
+        text = front_nothing [] r.work.written_before r.work.written_now (runs.unused.text (λ no. no)).0;
+      },
+    ))))
+
+    upgrade_at : (a : Outcome) → r.work.answer ≡ a → MayAnswer (upgrade_image path) a → Refines (upgrade_image path) upgrades r.work
+    upgrade_at outcome.Done e may =
+        subst (λ (x : Effect). Refines (upgrade_image path) x r.work) (sym (header_reads r.work.old.held (changes raised) (does.good e (told.image tt))))
+        (inl (record {
+          answer = e;
+          text = wrote_nothing r.work.written_before r.work.written_now (runs.unused.text (λ no. no)).0;
+          image = (does.held e (told.image tt), does.settled e);
+        }))
+    upgrade_at outcome.DiskFault e may = upgrade_failed (header_or r.work.old.held (changes raised)) e
+    upgrade_at (outcome.ImageRefused why) e may = refused (upgrade_image path) r upgrades (outcome.ImageRefused why) told runs e tt at_start
+        (header_refuses r.work.old.held (changes raised) why (does.header.refused why e (told.image tt)))
+    upgrade_at outcome.NoMemory e may = no_memory (upgrade_image path) r upgrades runs told e
+    upgrade_at outcome.WriteFault e may = absurd may
+    upgrade_at (outcome.TableRefused row f) e may = absurd (cc)
+    upgrade_at (outcome.ReadFault input.Table) e may = absurd (cc)
+    upgrade_at (outcome.ReadFault input.Line) e may = absurd may
+    upgrade_at (outcome.WordsDiffer image table) e may = absurd may
+    upgrade_at a e may = absurd may
+
+  pub means_upgrade : Core (upgrade_image path) r
+  means_upgrade = record {
+    g = record { table = nothing; input = nothing; image = r.work.old.held };
+    given = record { table = λ no. absurd (cc); input = λ no. absurd no; image = λ yes. refl };
+    does = upgrade_at (runs.carries_out (table_in [])) r.work.answer refl runs.answers;
+    all = λ line uncut disk. upgrade_at (runs.carries_out (table_in [])) r.work.answer refl runs.answers;
+  }
+
+-- ---- list
+
+module _ (table path : List ℕ) (r : CommandRun) (told : IsTold (list_image table path) r) (runs : RunsCommand (list_image table path) r) where
+  abbrev listed : TableRows → Effect
+  listed t = writes (listing_in t r.work.old.held) outcome.Done
+
+  abbrev lists : TableRows → Effect
+  lists t = by_image t r.work.old.held (listed t)
+
+  module _ (t : TableRows) (does : ListsImage t r.work.tells r.work.old r.work.new r.work.written_before r.work.written_now r.work.answer) where
+    list_left : Becomes stays r.work.tells r.work.old r.work.new
+    list_left = looked r.work.tells r.work.old r.work.new (told.image tt) does.looks
+
+    list_at : (a : Outcome) → r.work.answer ≡ a → IsOwn (list_image table path) a → Refines (list_image table path) (lists t) r.work
+    list_at outcome.Done e own = read_all (list_image table path) r (lists t) (listing_in t r.work.old.held) list_left
+        (image_reads t r.work.old.held (listed t) (does.good (inl e) (told.image tt))) e (does.text e (told.image tt))
+    list_at outcome.WriteFault e own = read_cut (list_image table path) r (lists t) (listing_in t r.work.old.held) list_left
+        tt (image_reads t r.work.old.held (listed t) (does.good (inr e) (told.image tt))) e (runs.causes.write e) (does.part (told.image tt))
+    list_at outcome.DiskFault e own = read_failed (list_image table path) r (lists t) (listing_in t r.work.old.held) list_left
+        tt (image_or t r.work.old.held (listed t)) e (runs.causes.disk e) (does.part (told.image tt))
+        (⊎_elim (λ quiet. inl quiet) (λ for. inr (image_reads t r.work.old.held (listed t) (for (told.image tt)))) does.begun)
+    list_at (outcome.ImageRefused why) e own = refused (list_image table path) r (lists t) (outcome.ImageRefused why) told runs e tt at_start
+        (image_refuses t r.work.old.held (listed t) why (does.image.header.refused why e (told.image tt)))
+    list_at (outcome.WordsDiffer image words) e own =
+        let differ = does.image.words image words e in
+        refused (list_image table path) r (lists t) (outcome.WordsDiffer image words) told runs e tt at_start
+        (words_refuse t r.work.old.held (listed t) image (differ.2 (told.image tt)) (λ same. differ.1 (same ∙ sym differ.0))
+        ∙ ap (λ (x : ℕ). answers at_start (outcome.WordsDiffer image x)) (sym differ.0))
+    list_at (outcome.ReadFault input.Line) e own = absurd own
+    list_at a e own = absurd own
+
+  pub means_list : Core (list_image table path) r
+  means_list = means_by_table (list_image table path) (λ t came image. by_image t image (writes (listing_in t image) outcome.Done)) r told runs refl
+      (λ g. refl)
+      (λ why. (nothing, r.work.old.held, λ no. absurd no, λ yes. refl))
+      runs.carries_out (λ bytes did past own. let d = list_at (table_in bytes) did
+      r.work.answer refl own in record {
+        came = nothing;
+        image = r.work.old.held;
+        given = λ no. absurd no;
+        held = λ yes. refl;
+        does = d;
+        all = λ line uncut disk. d;
+      })
