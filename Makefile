@@ -6,7 +6,7 @@ PROGRAM = crates/fdr_prog
 PAIR_PROGRAM = crates/fdr_pair_prog
 SOURCES = crates.txt $(shell find crates -name out -prune -o -type f \( -name '*.rt' -o -name '*.antt' \) -print)
 
-.PHONY: build demo check walk compare streams crash-test check-real check-memory bench tools-test test install clean help
+.PHONY: build demo check walk compare laws streams crash-test check-real check-memory bench tools-test test install clean help
 
 # Proves both programs and everything below them, and puts them at bin/fdr and bin/fdrpair.
 # After `make test` they are there already.
@@ -50,6 +50,10 @@ walk: build
 # Compares the first program with a reader that was written from docs/FORMATS.md alone, on drawn inputs.
 compare: build
 	tests/compare.py --program bin/fdr
+
+# Tries the laws that go through the whole on small cases by the built programs.
+laws: build
+	tests/laws.py bin/fdr bin/fdrpair
 
 # Runs the first program with each of its standard streams closed.
 streams: build
