@@ -1,4 +1,5 @@
-"""When rows were sampled: the counter unwrapped, stretches, gaps of known and of unknown length, sessions, recordings anew."""
+"""When rows were sampled: the counter unwrapped, stretches, gaps of known and of unknown length, sessions, runs, recordings
+anew, memories that wrap."""
 
 import dataclasses
 import io
@@ -79,12 +80,16 @@ def test_gaps_whose_bits_and_counters_agree(frames, after, text):
     assert (between[0][1].begin, between[0][1].end, between[0][1].known) == (6 * clock.FRAME, after * clock.FRAME, True)
 
 
-@pytest.mark.parametrize("frames, after", [(1, 8), (0.01, 900), (40, 6)])
-def test_gaps_whose_length_is_unknown(frames, after):
+@pytest.mark.parametrize(
+    "frames, after, seconds, by_counter",
+    [(1, 8, "4", "8"), (0.01, 900, "0.04", "3576"), (40, 6, "160", "0"), (0.4, 1669, "1.6", "6652")],
+)
+def test_gaps_whose_length_is_unknown(frames, after, seconds, by_counter):
     bits = round(frames * FRAME_BITS)
     rows, between = timed(row(5) + f"gap,3072,{bits}\n" + row(after))
     assert rows == [(0, 1, 20), (0, 2, 4 * after)]
-    assert texts(between) == [(1, "gap", f"from bit 3072, {bits} bits: unknown length")]
+    said = f"bits of {seconds} s, by the counter {by_counter} s: lost bits or another recording"
+    assert texts(between) == [(1, "gap", f"from bit 3072, {bits} bits: {said}")]
     assert not between[0][1].known
 
 
@@ -99,8 +104,8 @@ def test_a_recording_that_begins_anew_after_a_gap():
     rows, between = timed(row(36) + row(37) + "gap,9999,2560\n" + row(0) + row(1))
     assert rows == [(0, 1, 144), (0, 1, 148), (1, 2, 0), (1, 2, 4)]
     assert texts(between) == [
-        (2, "gap", "from bit 9999, 2560 bits: unknown length"),
-        (2, "restart", "the counter goes from 37 to 0: a recording begins"),
+        (2, "gap", "from bit 9999, 2560 bits: bits of 3.3 s, unknown length"),
+        (2, "back", "the counter goes back by 37, from 37 to 0"),
     ]
 
 
@@ -115,7 +120,68 @@ def test_a_counter_that_goes_back_or_to_0_begins_a_recording(before, after, anew
 def test_a_recording_that_begins_anew_without_a_gap():
     rows, between = timed(row(0) + row(0) + row(1) + row(0, "IAS") + row(0))
     assert rows == [(0, 1, 0), (1, 2, 0), (1, 2, 4), (1, 2, 0), (2, 3, 0)]
-    assert [one[:2] for one in texts(between)] == [(1, "restart"), (4, "restart")]
+    assert texts(between) == [(1, "back", "the counter stays at 0"), (4, "back", "the counter goes back by 1, from 1 to 0")]
+
+
+def test_frames_that_a_download_copied_twice():
+    rows, between = timed("".join(row(number) for number in (5, 6, 7, 6, 7, 8)))
+    assert [(recording, seconds / 4) for recording, _, seconds in rows] == [(0, 5), (0, 6), (0, 7), (1, 6), (1, 7), (1, 8)]
+    assert texts(between) == [(3, "back", "the counter goes back by 1, from 7 to 6")]
+
+
+def test_a_damaged_counter():
+    _, between = timed("".join(row(number) for number in (5, 1000, 7, 8)))
+    assert texts(between) == [
+        (1, "break", "the counter goes from 5 to 1000: unknown length"),
+        (2, "back", "the counter goes back by 993, from 1000 to 7"),
+    ]
+
+
+def test_runs_of_a_damaged_image():
+    text = "run,5,1\nsession,1,5\n" + row(3) + "gap,3072,8\nrun,8,2\nsession,1,8\n" + row(7) + "session,2,9\n" + row(0)
+    rows, between = timed(text)
+    assert rows == [(0, 1, 12), (1, 2, 28), (2, 3, 0)]
+    assert texts(between) == [
+        (0, "hole", "blocks 0 to 4 are missing: 5 blocks"),
+        (0, "run", "run of 1 blocks from block 5"),
+        (0, "session", "session 1 from block 5"),
+        (1, "gap", "from bit 3072, 8 bits: 0.010742 s by its bits"),
+        (1, "hole", "blocks 6 to 7 are missing: 2 blocks"),
+        (1, "run", "run of 2 blocks from block 8"),
+        (1, "session", "session 1 from block 8"),
+        (2, "session", "session 2 from block 9"),
+    ]
+    assert [one.recording for _, one in between] == [0, 0, 0, 0, 0, 1, 1, 2]
+
+
+def test_runs_of_an_image_without_sessions():
+    rows, between = timed("run,0,2\n" + row(3) + "run,3,2\ngap,0,8\n" + row(7))
+    assert rows == [(0, 1, 12), (1, 2, 28)]
+    assert [one[:2] for one in texts(between)] == [(0, "run"), (1, "hole"), (1, "run"), (1, "gap")]
+
+
+WRAPPED = "gap,0,1000\n" + "".join(map(row, range(100, 110))) + "gap,31720,1000\n" + "".join(map(row, range(40, 99))) + "gap,213968,2072\n"
+
+
+@pytest.mark.parametrize(
+    "text, line",
+    [
+        (WRAPPED, 13),
+        ("".join(map(row, (7, 8, 3, 4, 5, 6))), 3),
+        ("".join(map(row, (7, 8, 3, 4, 5))), None),
+        ("".join(map(row, (7, 8, 3, 4, 1, 6))), None),
+        ("".join(map(row, (7, 8, 700, 4095))), None),
+        ("session,1,0\n" + "".join(map(row, (7, 8, 3, 4, 5, 6))), None),
+        ("".join(map(row, range(4))), None),
+        ("", None),
+    ],
+)
+def test_a_memory_that_wraps(text, line):
+    names, times = listing.Names(), clock.Clock(ALL_FRAMES)
+    times.times(listing.piece_of(text.encode(), 1, names), len(names))
+    place = times.wrap()
+    assert (place and place.line) == line
+    assert place is None or text.encode()[place.byte :] == b"".join(text.encode().splitlines(keepends=True)[line - 1 :])
 
 
 def test_frames_that_are_missing_without_a_gap():

@@ -20,11 +20,13 @@ GOOD = [
     b"gap,2147483647,12",
     b"session,4294967295,281474976710655",
     b"session,0,0",
+    b"run,1,49",
+    b"run,281474976710655,1",
     b"exceed,HI,0,1,10,3,9",
     b"exceed,LO,4095,4,1024,1,-1.5",
 ]
 BAD = [
-    b"", b"row", b"row,", b"rox,0,1,10,ALT,5", b"row,0,1,10,ALT", b"row,0,1,10,ALT,5,6", b"row,4096,1,10,ALT,5",
+    b"", b"row", b"row,", b"row,0,1,10,ALT", b"row,0,1,10,ALT,5,6", b"row,4096,1,10,ALT,5",
     b"row,00,1,10,ALT,5", b"row,-1,1,10,ALT,5", b"row,0,0,10,ALT,5", b"row,0,5,10,ALT,5", b"row,0,1,0,ALT,5",
     b"row,0,1,1025,ALT,5", b"row,0,1,010,ALT,5", b"row,,1,10,ALT,5", b"row,0,1,10,,5", b"row,0,1,10,ALT,",
     b"row,0,1,10,A T,5", b"row,0,1,10,ABCDEFGHIJKLMNOPQ,5", b"row,0,1,10,ALT,5.", b"row,0,1,10,ALT,.5", b"row,0,1,10,ALT,-",
@@ -32,7 +34,8 @@ BAD = [
     b"row,0,1,10,ALT,5 ", b" row,0,1,10,ALT,5", b"row,0,1,10,ALT,1.0123456789", b"row,0,1,10,ALT,12345678901234567890",
     b"row,0,1,10,ALT,--5", b"row,0,1,10,ALT,5-", b"row,0,1,10,A\xffT,5", b"row,0,1,10,ALT,5\r", b"Row,0,1,10,ALT,5",
     b"gap,0", b"gap,0,0", b"gap,0,1,2", b"gap,-1,5", b"gap,x,5", b"gap,01,5", b"session,1", b"session,a,b", b"exceed,HI,0,1,10,3",
-    b"exceed,HI,0,1,10,0,9", b"exceed,HI,0,5,10,3,9", b"exceed,,0,1,10,3,9", b"drill,6,2,2,1506", b"note,1,2",
+    b"exceed,HI,0,1,10,0,9", b"exceed,HI,0,5,10,3,9", b"exceed,,0,1,10,3,9", b"run,1", b"run,1,0", b"run,1,2,3", b"run,-1,2",
+    b"run", b"gap", b"exceed", b"session", b"1,2", b"Note,1", b" note,1", b"note ,1", b"no\xfft,1",
     b"row,0,1,,,", b"row,,,,,", b",,,,,", b"row,0,1,10,ALT,\x00", b"row,0,1,10,A\x00,5", b"row,0,1,10,\x00,5", b"row,0,1,10,A\x00B,5",
 ]  # fmt: skip
 
@@ -51,6 +54,15 @@ def test_bad_lines(line):
         for after in (b"", GOOD[0] + b"\n", GOOD[1] + b"\n"):
             with pytest.raises(Fault, match=f"^listing line {before.count(10) + 7}: "):
                 piece_of(before + line + b"\n" + after, 7, Names())
+
+
+@pytest.mark.parametrize("line", [b"drill,6,2,2,1506", b"note,1,2", b"rows,0,1,10,ALT,5", b"note", b"later-kind_2,\xff,,"])
+def test_lines_that_begin_with_another_word_are_passed_over(line):
+    assert is_line(line)
+    piece = piece_of(GOOD[0] + b"\n" + line + b"\n" + GOOD[1] + b"\n", 1, Names())
+    assert len(piece) == 2
+    assert [(mark.kind, mark.row, mark.line) for mark in piece.marks] == [(Kind.OTHER, 1, 2)]
+    assert [piece.line_of(row) for row in (0, 1)] == [1, 3]
 
 
 def test_both_readings_agree_on_changed_lines():
@@ -101,7 +113,7 @@ def test_many_pieces_are_one_listing():
 
 def test_faults_name_lines_of_the_whole_listing():
     text = GOOD[0] + b"\n" + GOOD[6] + b"\n"
-    for bad in (b"x\n", b"row,0,1"):
+    for bad in (b"row,0\n", b"row,0,1"):
         with pytest.raises(Fault, match="^listing line 100001: "):
             for _ in read_listing(Input(io.BytesIO(text * 50_000 + bad), None), Names()):
                 pass

@@ -149,7 +149,7 @@ def test_the_example_s_page(opened, hour, tmp_path):
     shown = opened(hour, "--table", encoder.TOP / "examples" / "ordinary.csv", "--title", "A flight of an hour")
     assert shown.value("page.charts.size") == 7
     assert shown.value("flight.recordings.length") == 2
-    assert {"new recording", "gap, unknown length"} <= set(shown.value("flight.spans.map(span => span.name)"))
+    assert {"the counter goes back by 467", "gap, unknown length"} <= set(shown.value("flight.spans.map(span => span.name)"))
     shown.screenshot(tmp_path / "page.png")
     assert pathlib.Path(tmp_path / "page.png").stat().st_size > 20_000
     assert shown.faults() == []

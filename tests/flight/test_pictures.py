@@ -162,7 +162,8 @@ def test_a_stretch_has_all_samples_of_an_exceedance():
 
 def test_the_order_of_a_rule_s_exceedances_decides():
     assert begins(rule("A", 8, peak="99"), rule("A", 5, peak="99")) == [[(0, 32)], [(1, 20)]]
-    assert begins(rule("A", 8, peak="99"), rule("B", 5, peak="99")) == [[(0, 32), (1, 32)], [(0, 20), (1, 20)]]
+    assert begins(rule("A", 8, peak="99"), rule("B", 5, peak="99")) == [[(0, 32)], [(1, 20)]]
+    assert begins(rule("A", 5, peak="99"), rule("B", 8, peak="99")) == [[(0, 20), (1, 20)], [(0, 32), (1, 32)]]
     assert begins(rule("A", 8, peak="9"), rule("A", 5, peak="99")) == [
         [(0, 32)],
         [(1, 20)],
@@ -242,7 +243,7 @@ def test_refused(flight, write, tmp_path, words, fault):
 
 def test_a_bad_listing_leaves_the_old_picture(flight, write, tmp_path):
     path = write("flight.png", "old")
-    assert flight("plot", write("l", SPREAD + "x\n"), "--words", 64, "-o", path).status == 1
+    assert flight("plot", write("l", SPREAD + "row\n"), "--words", 64, "-o", path).status == 1
     assert path.read_text() == "old"
 
 
@@ -266,4 +267,4 @@ def test_the_example(flight, write, hour, tmp_path):
     drawn = flight_of(hour, words=256)
     assert [recording.put_end // clock.SECOND for recording in drawn.recordings] == [468 * 4, 468 * 4 + 70 + 417 * 4]
     assert drawn.counts == {"ALT": 3540, "IAS": 3540, "VRTG": 28_320, "FLT": 57, "GEAR": 3540, "HDG": 1770, "PIT": 1770}
-    assert [one.event for one in drawn.spans] == [clock.Event.GAP, clock.Event.RESTART, clock.Event.GAP]
+    assert [one.event for one in drawn.spans] == [clock.Event.GAP, clock.Event.BACK, clock.Event.GAP]

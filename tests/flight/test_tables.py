@@ -15,61 +15,61 @@ row,0,1,10,ALT,5
 row,0,1,10,IAS,5.5
 row,1,1,10,ALT,-7
 row,1,1,12,IAS,6.5
-gap,3088,3064
+gap,6160,3064
 row,3,1,10,ALT,9
 row,0,1,10,ALT,1
 exceed,HI,0,1,10,1,1
 row,1,1,10,ALT,2
-gap,9999,12
+gap,18440,12
 """
 LONG = """\
-time,counter,subframe,word,name,value
-,,,,(gap),"from bit 0, 16 bits: 0.020508 s by its bits"
-0.140625,0,1,10,ALT,5
-0.140625,0,1,10,IAS,5.5
-4.140625,1,1,10,ALT,-7
-4.171875,1,1,12,IAS,6.5
-8.000000,,,,(gap),"from bit 3088, 3064 bits: 4 s"
-12.140625,3,1,10,ALT,9
-0.000000,,,,(restart),the counter goes from 3 to 0: a recording begins
-0.140625,0,1,10,ALT,1
-0.140625,0,1,10,(exceed),"HI: 1 samples, peak 1"
-4.140625,1,1,10,ALT,2
-8.000000,,,,(gap),"from bit 9999, 12 bits: 0.015625 s by its bits"
+recording,session,time,counter,subframe,word,name,value,note
+1,,,,,,(gap),,"from bit 0, 16 bits: 0.020508 s by its bits"
+1,,0.140625,0,1,10,ALT,5,
+1,,0.140625,0,1,10,IAS,5.5,
+1,,4.140625,1,1,10,ALT,-7,
+1,,4.171875,1,1,12,IAS,6.5,
+1,,8.000000,,,,(gap),,"from bit 6160, 3064 bits: 4 s"
+1,,12.140625,3,1,10,ALT,9,
+2,,0.000000,,,,(back),,"the counter goes back by 3, from 3 to 0"
+2,,0.140625,0,1,10,ALT,1,
+2,,0.140625,0,1,10,(exceed),,"HI: 1 samples, peak 1"
+2,,4.140625,1,1,10,ALT,2,
+2,,8.000000,,,,(gap),,"from bit 18440, 12 bits: 0.015625 s by its bits"
 """
 WIDE = """\
-time,(between),ALT,IAS
-,"gap: from bit 0, 16 bits: 0.020508 s by its bits",,
-0.140625,,5,5.5
-4.140625,,-7,
-4.171875,,,6.5
-8.000000,"gap: from bit 3088, 3064 bits: 4 s",,
-12.140625,,9,
-0.000000,restart: the counter goes from 3 to 0: a recording begins,,
-0.140625,"exceed: HI: 1 samples, peak 1",,
-0.140625,,1,
-4.140625,,2,
-8.000000,"gap: from bit 9999, 12 bits: 0.015625 s by its bits",,
+recording,session,time,ALT,IAS,note
+1,,,,,"gap: from bit 0, 16 bits: 0.020508 s by its bits"
+1,,0.140625,5,5.5,
+1,,4.140625,-7,,
+1,,4.171875,,6.5,
+1,,8.000000,,,"gap: from bit 6160, 3064 bits: 4 s"
+1,,12.140625,9,,
+2,,0.000000,,,"back: the counter goes back by 3, from 3 to 0"
+2,,0.140625,,,"exceed: HI: 1 samples, peak 1"
+2,,0.140625,1,,
+2,,4.140625,2,,
+2,,8.000000,,,"gap: from bit 18440, 12 bits: 0.015625 s by its bits"
 """
 GRID = """\
-time,(between),ALT,IAS
-,"gap: from bit 0, 16 bits: 0.020508 s by its bits",,
-1.500000,,5,5.5
-3.000000,,5,5.5
-4.500000,,-7,6.5
-6.000000,,-7,6.5
-7.500000,,-7,6.5
-8.000000,"gap: from bit 3088, 3064 bits: 4 s",,
-13.500000,,9,
-15.000000,,9,
-0.000000,restart: the counter goes from 3 to 0: a recording begins,,
-0.140625,"exceed: HI: 1 samples, peak 1",,
-1.500000,,1,
-3.000000,,1,
-4.500000,,2,
-6.000000,,2,
-7.500000,,2,
-8.000000,"gap: from bit 9999, 12 bits: 0.015625 s by its bits",,
+recording,session,time,ALT,IAS,note
+1,,,,,"gap: from bit 0, 16 bits: 0.020508 s by its bits"
+1,,1.500000,5,5.5,
+1,,3.000000,5,5.5,
+1,,4.500000,-7,6.5,
+1,,6.000000,-7,6.5,
+1,,7.500000,-7,6.5,
+1,,8.000000,,,"gap: from bit 6160, 3064 bits: 4 s"
+1,,13.500000,9,,
+1,,15.000000,9,,
+2,,0.000000,,,"back: the counter goes back by 3, from 3 to 0"
+2,,0.140625,,,"exceed: HI: 1 samples, peak 1"
+2,,1.500000,1,,
+2,,3.000000,1,,
+2,,4.500000,2,,
+2,,6.000000,2,,
+2,,7.500000,2,,
+2,,8.000000,,,"gap: from bit 18440, 12 bits: 0.015625 s by its bits"
 """
 KINDS = [((), LONG), (("--wide",), WIDE), (("--every", "1500ms"), GRID), (("--wide", "--every", "1.5"), GRID)]
 
@@ -85,9 +85,10 @@ def test_known_tables(flight, piped, write, words, wanted):
 def test_pieces_of_any_size_give_the_same(words, wanted, size):
     out, names, times = io.BytesIO(), listing.Names(["ALT", "IAS"]), clock.Clock(clock.shape_of(None, 64))
     if "--every" in words:
-        writer = tables.GridTable(out, names, 1_500_000)
+        writer = tables.GridTable(out, names, tables.Columns(times.sessions), 1_500_000)
     else:
-        writer = tables.WideTable(out, names) if words else tables.LongTable(out)
+        columns = tables.Columns(times.sessions)
+        writer = tables.WideTable(out, names, columns) if words else tables.LongTable(out, columns)
     lines = LISTING.encode().splitlines(keepends=True)
     for at in range(0, len(lines), size):
         writer.write(times.times(listing.piece_of(b"".join(lines[at : at + size]), 1, names), len(names)))
@@ -102,22 +103,22 @@ def test_pieces_of_any_size_give_the_same(words, wanted, size):
 def test_late_samples_are_put_in_order_when_wide(flight, write):
     text = "row,0,1,10,A,1\nrow,1,1,10,A,2\nrow,0,1,20,P,9\nrow,2,1,10,A,3\n"
     rows = flight("table", write("l", text), "--words", 64, "--wide").out.decode().splitlines()
-    assert rows[1:] == ["0.140625,,1,", "0.296875,,,9", "4.140625,,2,", "8.140625,,3,"]
+    assert rows[1:] == ["1,,0.140625,1,,", "1,,0.296875,,9,", "1,,4.140625,2,,", "1,,8.140625,3,,"]
     grid = flight("table", write("l", text), "--words", 64, "--every", "4s").out.decode().splitlines()
-    assert grid[1:] == ["4.000000,,1,9", "8.000000,,2,9"]
+    assert grid[1:] == ["1,,4.000000,1,9,", "1,,8.000000,2,9,"]
 
 
 def test_a_sample_at_a_time_of_the_grid_counts_there(flight, write):
     text = "row,0,1,33,A,1\nrow,0,2,33,A,2\nrow,0,2,34,A,3\n"
     rows = flight("table", write("l", text), "--words", 64, "--every", "500ms").out.decode().splitlines()
     assert rows[1:] == [
-        "0.500000,,1",
-        "1.000000,,1",
-        "1.500000,,2",
-        "2.000000,,3",
-        "2.500000,,3",
-        "3.000000,,3",
-        "3.500000,,3",
+        "1,,0.500000,1,",
+        "1,,1.000000,1,",
+        "1,,1.500000,2,",
+        "1,,2.000000,3,",
+        "1,,2.500000,3,",
+        "1,,3.000000,3,",
+        "1,,3.500000,3,",
     ]
 
 
@@ -126,20 +127,11 @@ def test_columns_of_a_table_are_its_rows(flight, write):
         "F,64,2,1\nP,B,0,1,,11,1,U,1,1,0,0,16\nL,B,1,1,21,0,1,1,0,1\nP,A,0,2,,11,1,U,1,1,0,0,16\nL,A,1,1,20,0,1,1,0,1\n"
     )
     out = flight("table", write("l", "row,0,1,20,A,1\n"), "--table", write("t.csv", table), "--wide").out
-    assert out == b"time,(between),B,A\n0.296875,,,1\n"
-
-
-def test_a_name_that_the_table_has_not(flight, write):
-    answer = flight("table", write("l", LISTING), "--table", encoder.TOP / "examples" / "t1.csv", "--wide")
-    assert answer == (
-        1,
-        b"",
-        "flight: the listing has a parameter that the table hasn't: at counter 0, subframe 1, word 10\n",
-    )
+    assert out == b"recording,session,time,B,A,note\n1,,0.296875,,1,\n"
 
 
 def test_an_empty_listing(flight, write):
-    for words, header in (((), LONG), (("--wide",), "time,(between)\n"), (("--every", "1s"), "time,(between)\n")):
+    for words, header in (((), LONG), (("--wide",), "recording,session,time,note\n"), (("--every", "1s"), "recording,session,time,note\n")):
         assert (
             flight("table", write("l", ""), "--words", 64, *words).out.decode() == header.splitlines(keepends=True)[0]
         )
@@ -147,11 +139,11 @@ def test_an_empty_listing(flight, write):
 
 @pytest.mark.parametrize("words", [kind for kind, _ in KINDS[:3]])
 def test_a_late_fault_leaves_nothing(flight, write, words):
-    text = "".join(f"row,{at % 4096},1,10,ALT,5\n" for at in range(400_000)) + "rox\n"
+    text = "".join(f"row,{at % 4096},1,10,ALT,5\n" for at in range(400_000)) + "row\n"
     assert flight("table", write("l", text), "--words", 64, *words) == (
         1,
         b"",
-        "flight: listing line 400001: 'rox' is no line of a listing\n",
+        "flight: listing line 400001: 'row' is no line of a listing\n",
     )
 
 
@@ -187,7 +179,7 @@ def test_a_flight_against_the_plain_recorder(flight, write):
     wanted = recording.rows()
     assert len(rows) == len(wanted) + 1
     for row, (seconds, *place, name, value) in zip(rows[1:], wanted):
-        assert row == [f"{seconds:.6f}", *map(str, place), name, value]
+        assert row == ["1", "", f"{seconds:.6f}", *map(str, place), name, value, ""]
     _check_grid(flight, path, wanted)
 
 
@@ -195,11 +187,11 @@ def _check_grid(flight, path, wanted):
     """A grid of 0.7 seconds has of each parameter the last value."""
     out = flight("table", path, "--table", encoder.TOP / "examples" / "ordinary.csv", "--every", "700ms").out.decode()
     header, *rows = csv.reader(io.StringIO(out))
-    held, at = dict.fromkeys(header[2:], ""), 0
+    held, at = dict.fromkeys(header[3:-1], ""), 0
     ordered = sorted(wanted)
-    assert [round(float(row[0]) * 10) for row in rows] == list(range(7, 12_000, 7))
+    assert [round(float(row[2]) * 10) for row in rows] == list(range(7, 12_000, 7))
     for row in rows:
-        while at < len(ordered) and ordered[at][0] <= float(row[0]):
+        while at < len(ordered) and ordered[at][0] <= float(row[2]):
             held[ordered[at][4]] = ordered[at][5]
             at += 1
-        assert row[1:] == ["", *held.values()]
+        assert [*row[:2], *row[3:]] == ["1", "", *held.values(), ""]

@@ -47,7 +47,7 @@ def test_generated_values_come_back(flight, fdr, write, name, frames):
     listing = fdr("listbits", table_path, given=bits)
     assert listing.decode() == recording.listing()
     rows = list(csv.reader(io.StringIO(flight("table", write("l", listing), "--table", table_path).out.decode())))
-    wanted = [[f"{seconds:.6f}", *map(str, place), name, value] for seconds, *place, name, value in recording.rows()]
+    wanted = [["1", "", f"{seconds:.6f}", *map(str, place), name, value, ""] for seconds, *place, name, value in recording.rows()]
     assert rows[1:] == wanted
 
 
@@ -65,11 +65,11 @@ def test_examples_with_a_power_cut(fdr, flight, write):
         flight("table", write("l", listing), "--table", encoder.TOP / "examples" / "t1.csv").out.decode().splitlines()
     )
     assert rows[1:] == [
-        "0.000000,,,,(session),session 1 from block 9",
-        ',,,,(gap),"from bit 0, 1536 bits: 2 s by its bits"',
-        "0.000000,,,,(session),session 2 from block 12",
-        "0.140625,0,1,10,ALT,5",
-        '4.000000,,,,(gap),"from bit 3072, 2560 bits: 3.333008 s by its bits"',
+        "1,1,0.000000,,,,(session),,session 1 from block 9",
+        '1,1,,,,,(gap),,"from bit 0, 1536 bits: 2 s by its bits"',
+        "2,2,0.000000,,,,(session),,session 2 from block 12",
+        "2,2,0.140625,0,1,10,ALT,5,",
+        '2,2,4.000000,,,,(gap),,"from bit 3072, 2560 bits: 3.333008 s by its bits"',
     ]
 
 
@@ -79,7 +79,7 @@ def test_times_are_right_in_damaged_bits(flight, fdr, write, shape, flips, cuts)
     path = write("t.csv", POSITION)
     table = encoder.read_table(path)
     recording = encoder.recording_of(table, encoder.generated(table, 300, 1), 1_200_000_000)
-    known = {(f"{seconds:.6f}", *map(str, place), name, value) for seconds, *place, name, value in recording.rows()}
+    known = {("1", "", f"{seconds:.6f}", *map(str, place), name, value, "") for seconds, *place, name, value in recording.rows()}
     bits, chance = bytearray(recording.bits()), random.Random(3)
     for _ in range(flips):  # of sync words
         bits[384 * chance.randrange(300) + chance.choice([0, 96, 192, 288])] ^= 1 << chance.randrange(8)
@@ -90,6 +90,6 @@ def test_times_are_right_in_damaged_bits(flight, fdr, write, shape, flips, cuts)
     out = flight("table", write("l", listing), shape, path if shape == "--table" else 64).out.decode()
     rows = [tuple(row) for row in csv.reader(io.StringIO(out))][1:]
     assert len(rows) > 500
-    assert [row for row in rows if row not in known and row[4] != "(gap)"] == []
-    gaps = [row[5] for row in rows if row[4] == "(gap)"]
-    assert len(gaps) > 3 and any("unknown" in text for text in gaps) is bool(cuts)
+    assert [row for row in rows if row not in known and row[6] != "(gap)"] == []
+    gaps = [row[8] for row in rows if row[6] == "(gap)"]
+    assert len(gaps) > 3 and any("lost bits" in text for text in gaps) is bool(cuts)

@@ -2,8 +2,11 @@
 
 A row has its frame's counter, which is the frame's number modulo 4,096. Rows come in the order of their samples' last
 parts, so a row may be of a frame up to 15 before that of its neighbours; a parameter's own samples never go back. Rows
-that follow each other so are a stretch. A new one begins after a gap, after a session's line, and where the counter
-doesn't go on or a parameter goes back.
+that follow each other so are a stretch. A new one begins after a gap, after a line of a session or a run, and where the
+counter doesn't go on or a parameter goes back.
+
+A recording is what has one time from its beginning on: it begins with a session, with a run, and where the counter goes
+back. What is said of a place is what was seen there, and not what it may mean.
 
 Times are counted in 1,024ths of a second, of which every place of every table is a whole number, from the start of the
 recording that the row is of.
@@ -16,7 +19,7 @@ from dataclasses import dataclass
 import numpy as np
 
 from .faults import Fault
-from .listing import MOST_WORDS, ROUND, SUBFRAMES, Exceedance, Kind, Mark, Piece
+from .listing import MOST_WORDS, ROUND, SUBFRAMES, Exceedance, Kind, Mark, Piece, Place
 from .parameters import SUPERFRAME, Table
 
 SECOND = 1024  # ticks
@@ -24,6 +27,8 @@ FRAME = SUBFRAMES * SECOND
 LATE = SUPERFRAME - 1  # frames from a sample's first part to its last, at the most
 WORD_BITS = 12
 NONE = -1
+MOST_NAMES = 1 << 16  # whose numbers two bytes hold
+WRAPS = "the memory wraps here: what follows is older"
 
 
 @dataclass(frozen=True)
@@ -60,9 +65,17 @@ class Event(enum.Enum):
 
     GAP = "gap"
     SESSION = "session"
-    RESTART = "restart"
+    RUN = "run"
+    HOLE = "hole"
+    BACK = "back"
     BREAK = "break"
+    WRAP = "wrap"
     EXCEED = "exceed"
+
+    @property
+    def begins_recording(self) -> bool:
+        """Whether a recording may begin with it."""
+        return self in (Event.SESSION, Event.RUN, Event.BACK, Event.WRAP)
 
 
 @dataclass(frozen=True)
@@ -81,14 +94,49 @@ class Between:
 
 
 @dataclass
+class Frames:
+    """The frames of a piece, as far as rows tell them apart: neighbouring rows of one frame. For each its first row, the
+    number of the frame on the clock's line, the greatest such number so far, and the stretch that it is of."""
+
+    first: np.ndarray
+    line: np.ndarray
+    newest: np.ndarray
+    stretch: np.ndarray
+
+    def of(self, rows: np.ndarray) -> np.ndarray:
+        """The frame that each of these rows is in."""
+        return np.searchsorted(self.first, rows, side="right") - 1
+
+
+@dataclass
 class Timed:
-    """A piece with its times: for each row the recording and the stretch it is of, and when its sample began."""
+    """A piece with its times: for each row the recording and the stretch it is of, and when its sample began. `sessions` has
+    the session of each recording so far, where a line told it; `bit` where each row's first word begins, where it is wanted, and
+    `dump_bit` the same with the bits of all sessions before."""
 
     piece: Piece
     recording: np.ndarray
     stretch: np.ndarray
     time: np.ndarray
     between: list[Between]
+    frames: Frames
+    sessions: list[int | None]
+    bit: np.ndarray | None = None
+    dump_bit: np.ndarray | None = None
+
+
+@dataclass
+class Odd:
+    """Where time doesn't go on as far as can be told: how often, and the place of the first."""
+
+    count: int = 0
+    place: Place | None = None
+
+    def add(self, piece: Piece, row: int) -> None:
+        """Counts one, at a row."""
+        self.count += 1
+        if self.place is None:
+            self.place = Place(piece.byte_of(row), piece.line_of(row))
 
 
 class Clock:
@@ -96,71 +144,103 @@ class Clock:
 
     It counts frames on a line: the number of a row's frame there has the row's counter as its remainder by 4,096, and no
     frame of a stretch is as early there as one of a stretch before. A stretch's own shift makes it the number in its
-    recording."""
+    recording. `wrap` is where a memory is known to wrap, in a listing that is read as it was recorded."""
 
-    def __init__(self, shape: Shape) -> None:
+    def __init__(self, shape: Shape, wrap: Place | None = None) -> None:
         self.shape = shape
+        self.known_wrap = wrap
         self.recording = -1
+        self.sessions: list[int | None] = []
         self.stretch = 0
         self.shift = 0
         self.line = 0  # of the last row
         self.newest = 0  # of the newest frame
         self.has_rows = False  # the recording has
         self.has_begun = False  # a row came
-        self.waiting: list[Mark] = []  # the gaps and sessions after the last row
+        self.has_lines = False  # of sessions or runs
+        self.run_end: int | None = None  # the block after the last run
+        self.is_new_run = False  # nothing came since the line of a run
+        self.waiting: list[Mark] = []  # what came after the last row
         self.last = np.zeros(0, dtype=np.int64)  # the place of each parameter's last sample
+        self.furthest = NONE  # the greatest of them
+        self.first_counter, self.leading = 0, 0  # of the first row, and the bits before it
+        self.backs, self.unknown = Odd(), Odd()
 
     def times(self, piece: Piece, names: int) -> Timed:
         """The times of a piece; `names` is how many names there are so far."""
         self.last = np.concatenate((self.last, np.full(names - len(self.last), NONE)))
-        edges = self.waiting + [mark for mark in piece.marks if mark.kind is not Kind.EXCEED]
+        others = (Kind.EXCEED, Kind.OTHER)
+        edges = self.waiting + [mark for mark in piece.marks if mark.kind not in others]
         before = (self.newest + self.shift if self.has_rows else -1, max(self.recording, 0))
-        line, starts = self._line(piece, edges)
+        first, line, starts = self._line(piece, edges)
         newest = np.maximum.accumulate(np.maximum(line, self.newest))
-        shift, recording, between = self._placed(piece, line, newest, starts, edges)
+        at = np.searchsorted(first, starts)
+        shift, recording, between = self._placed(piece, line, newest, at, edges, first)
+        stretch = self.stretch + _counted(at, len(first))
         self.waiting = [dataclasses.replace(mark, row=0) for mark in edges if mark.row >= len(piece)]
         if any(mark.exceedance for mark in piece.marks):
-            between += self._exceedances(piece.marks, [before, *zip((newest + shift).tolist(), recording.tolist())])
-        between.sort(key=lambda one: one.row)
-        frame = line + shift
-        time = frame * FRAME + (piece.subframe - 1) * SECOND + (piece.word - 1) * (SECOND // self.shape.words)
-        stretch = self.stretch + _counted(starts, len(piece))
-        self._keep(piece, line, newest, starts)
-        return Timed(piece, recording, stretch, time, between)
+            frames = [before, *zip((newest + shift).tolist(), recording.tolist())]
+            between += self._exceedances(piece.marks, frames, first)
+            between.sort(key=lambda one: one.row)
+        counts = np.diff(first, append=len(piece))
+        time = np.repeat((line + shift) * FRAME, counts) + self._within_frame(piece)
+        self._keep(piece, line, newest, counts, len(at))
+        frames_of = Frames(first, line, newest, stretch)
+        rows = (np.repeat(column, counts) for column in (recording, stretch))
+        return Timed(piece, *rows, time, between, frames_of, self.sessions)
 
     def end(self) -> list[Between]:
         """What is after the last row."""
-        return self._begin(self.waiting, 0, None)
+        return self._begin(self.waiting, 0, None, None)
 
-    def _line(self, piece: Piece, edges: list[Mark]) -> tuple[np.ndarray, np.ndarray]:
-        """The frame of each row on the line, and the rows that stretches begin with.
+    def wrap(self) -> Place | None:
+        """Where the memory wraps, once all pieces came: there is one place alone where time doesn't go on, and the end of the
+        listing leads to its beginning."""
+        odd = self.backs if self.backs.count else self.unknown
+        if self.known_wrap or self.has_lines or not self.has_begun or odd.count != 1:
+            return None
+        bits = self.leading + sum(mark.second for mark in self.waiting)
+        missing = (self.first_counter - self.newest - self.shift - 1) % ROUND
+        return odd.place if self._agree(missing, bits) else None
+
+    def _within_frame(self, piece: Piece) -> np.ndarray:
+        return (piece.subframe - 1) * SECOND + (piece.word - 1) * (SECOND // self.shape.words)
+
+    def _line(self, piece: Piece, edges: list[Mark]) -> tuple[np.ndarray, np.ndarray, np.ndarray]:
+        """The first row of each frame, the frame's number on the line, and the rows that stretches begin with.
 
         Where such a row is found, the line is counted anew, and others may be seen then."""
+        changes = np.flatnonzero(np.diff(piece.counter, prepend=NONE))
         rows = {mark.row for mark in edges if mark.row < len(piece)} | (set() if self.has_begun else {0})
         starts = np.array(sorted(rows) if len(piece) else [], dtype=np.int64)
         while True:
-            steps = np.diff(piece.counter.astype(np.int64), prepend=self.line % ROUND) % ROUND
+            first = np.union1d(changes, starts).astype(np.int64)
+            at = np.searchsorted(first, starts)
+            steps = np.diff(piece.counter[first].astype(np.int64), prepend=self.line % ROUND) % ROUND
             late = steps >= ROUND - LATE
-            late[starts] = False
+            late[at] = False
             steps[late] -= ROUND
-            steps[starts] += ROUND
+            steps[at] += ROUND
             line = self.line + np.cumsum(steps)
-            found = np.union1d(self._jumps(line), self._backs(piece, line))
+            found = np.union1d(first[self._jumps(line)], self._backs(piece, first, line))
             if not len(np.setdiff1d(found, starts)):
-                return line, starts
+                return first, line, starts
             starts = np.union1d(starts, found).astype(np.int64)
 
     def _jumps(self, line: np.ndarray) -> np.ndarray:
-        """The rows whose frame is so much later than the newest before that rows between are missing."""
+        """The frames that are so much later than the newest before that rows between are missing."""
         newest = np.maximum.accumulate(np.insert(line, 0, self.newest))
         return np.flatnonzero(np.diff(newest) > self.shape.steps[newest[:-1] % SUPERFRAME])
 
-    def _backs(self, piece: Piece, line: np.ndarray) -> np.ndarray:
+    def _backs(self, piece: Piece, first: np.ndarray, line: np.ndarray) -> np.ndarray:
         """Rows at which a parameter has gone back, as few as there must be. None has over the beginning of a stretch."""
-        place = self._place(piece, line)
+        place = self._place(piece, np.repeat(line, np.diff(first, append=len(piece))))
+        if len(self.last) <= MOST_NAMES and len(place) and place[0] > self.furthest:
+            if (np.diff(place * MOST_NAMES + piece.name) > 0).all():
+                return np.zeros(0, dtype=np.int64)
         known = np.flatnonzero(self.last != NONE)
         names = np.concatenate((known, piece.name))
-        names = names.astype(np.uint16) if len(self.last) <= 1 << 16 else names
+        names = names.astype(np.uint16) if len(self.last) <= MOST_NAMES else names
         order = np.argsort(names, kind="stable")
         names = names[order]
         places = np.concatenate((self.last[known], place))[order]
@@ -173,49 +253,92 @@ class Clock:
         return (line * SUBFRAMES + piece.subframe - 1) * MOST_WORDS + piece.word - 1
 
     def _placed(
-        self, piece: Piece, line: np.ndarray, newest: np.ndarray, starts: np.ndarray, edges: list[Mark]
+        self, piece: Piece, line: np.ndarray, newest: np.ndarray, at: np.ndarray, edges: list[Mark], first: np.ndarray
     ) -> tuple[np.ndarray, np.ndarray, list[Between]]:
-        """What makes each row's frame on the line the one in its recording, its recording, and what is between the rows."""
-        shift, recording = np.empty(len(piece), dtype=np.int64), np.empty(len(piece), dtype=np.int64)
+        """What makes each frame's number on the line the one in its recording, its recording, and what is between the rows."""
+        shift, recording = np.empty(len(line), dtype=np.int64), np.empty(len(line), dtype=np.int64)
         between: list[Between] = []
         done, before = 0, 0
-        for start in starts.tolist():
+        for start in at.tolist():
             shift[before:start], recording[before:start] = self.shift, self.recording
             self.newest = int(newest[start - 1]) if start else self.newest
-            held = done
-            while done < len(edges) and edges[done].row <= start:
+            held, row = done, int(first[start])
+            while done < len(edges) and edges[done].row <= row:
                 done += 1
-            between += self._begin(edges[held:done], start, int(line[start]))
+            between += self._begin(edges[held:done], row, int(line[start]), piece)
             before = start
         shift[before:], recording[before:] = self.shift, self.recording
         return shift, recording, between
 
-    def _begin(self, edges: list[Mark], row: int, line: int | None) -> list[Between]:
-        """A stretch begins with a row, or nothing comes any more, after these gaps and sessions."""
+    def _begin(self, edges: list[Mark], row: int, line: int | None, piece: Piece | None) -> list[Between]:
+        """A stretch begins with a row, or nothing comes any more, after these gaps, sessions and runs."""
         between: list[Between] = []
         gaps: list[Mark] = []
         for mark in edges:
-            if mark.kind is Kind.SESSION:
+            if mark.kind in (Kind.SESSION, Kind.RUN):
                 between += [self._gap_by_bits(gap, row, None) for gap in gaps]
-                between.append(
-                    self._new_recording(Event.SESSION, row, 0, f"session {mark.first} from block {mark.second}")
-                )
+                between += self._session(mark, row) if mark.kind is Kind.SESSION else self._run(mark, row)
                 gaps = []
-            else:
+            elif mark.kind is Kind.GAP:
                 gaps.append(mark)
-        if line is None:
+                self.is_new_run = False
+            else:
+                between.append(self._turned(mark, row, line))
+        if line is None or piece is None:
             return between + [self._gap_by_bits(gap, row, None) for gap in gaps]
-        between += self._joined(gaps, row, line) if self.has_rows else self._led(gaps, row, line)
+        between += self._joined(gaps, row, line, piece) if self.has_rows else self._led(gaps, row, line)
         self.has_rows = self.has_begun = True
+        self.is_new_run = False
         return between
+
+    def _session(self, mark: Mark, row: int) -> list[Between]:
+        """A session begins, and a recording with it, unless a run's line is right before it."""
+        text = f"session {mark.first} from block {mark.second}"
+        self.has_lines = True
+        if self.is_new_run:
+            between = Between(Event.SESSION, row, self.recording, 0, 0, True, text)
+        else:
+            between = self._new_recording(Event.SESSION, row, 0, text)
+        self.sessions[self.recording] = mark.first
+        self.is_new_run = False
+        return [between]
+
+    def _run(self, mark: Mark, row: int) -> list[Between]:
+        """A run begins, and a recording with it, after a hole of so many blocks."""
+        missing = mark.first - (self.run_end or 0)
+        text = f"blocks {mark.first - missing} to {mark.first - 1} are missing: {missing} blocks"
+        between = []
+        if missing > 0:
+            end = (self.newest + self.shift + 1) * FRAME if self.has_rows else None
+            between = [Between(Event.HOLE, row, max(self.recording, 0), end, None, False, text)]
+        self.has_lines = self.is_new_run = True
+        self.run_end = mark.first + mark.second
+        blocks = f"run of {mark.second} blocks from block {mark.first}"
+        return between + [self._new_recording(Event.RUN, row, 0, blocks)]
+
+    def _turned(self, mark: Mark, row: int, line: int | None) -> Between:
+        """A listing is read in the order of the counter: the memory wraps here, or its listing begins here."""
+        if mark.kind is Kind.WRAP:
+            begin, text = (line or 0) % ROUND * FRAME, WRAPS
+        else:
+            begin, text = (self.newest + self.shift + 1) * FRAME, "the listing begins here: what follows is newer"
+        return Between(Event.WRAP, row, max(self.recording, 0), begin, begin, True, text)
 
     def _led(self, gaps: list[Mark], row: int, line: int) -> list[Between]:
         """The first stretch of a recording begins, of which the counter alone says the frame."""
-        self.recording = max(self.recording, 0)
+        if self.recording < 0:
+            self.recording = 0
+            self.sessions.append(None)
+        if not self.has_begun:
+            self.first_counter, self.leading = line % ROUND, sum(gap.second for gap in gaps)
         self.shift = line % ROUND - line
         return [self._gap_by_bits(gap, row, line % ROUND * FRAME) for gap in gaps]
 
-    def _joined(self, gaps: list[Mark], row: int, line: int) -> list[Between]:
+    def _agree(self, missing: int, bits: int) -> bool:
+        """Whether so many frames are missing as bits went by."""
+        return abs(missing - bits / self.shape.bits) < 1 + self.shape.unseen
+
+    def _joined(self, gaps: list[Mark], row: int, line: int, piece: Piece) -> list[Between]:
         """A stretch begins after another one: later in the same recording, or in a new one.
 
         The counter says how many frames are missing, up to whole rounds, and the gap's bits how many went by. Where both
@@ -224,26 +347,48 @@ class Clock:
         bits = sum(gap.second for gap in gaps)
         missing = (line - before - 1) % ROUND
         missing += ROUND * max(0, round((bits / self.shape.bits - missing) / ROUND))
-        known = bits > 0 and abs(missing - bits / self.shape.bits) < 1 + self.shape.unseen
-        anew = not known and (missing >= ROUND // 2 or line % ROUND == 0)
-        begin = (before + 1) * FRAME
-        end = None if anew else begin + missing * FRAME
-        says = f"{seconds(missing * FRAME)} s" if known else "unknown length"
-        between = [Between(Event.GAP, row, self.recording, begin, end, known, f"{_bits(gap)}: {says}") for gap in gaps]
-        counters = f"the counter goes from {before % ROUND} to {line % ROUND}"
+        if self.known_wrap and piece.byte_of(row) == self.known_wrap.byte:
+            return self._anew(gaps, row, line, Event.WRAP, WRAPS)
+        if self._agree(missing, bits) and (bits > 0 or missing == 0):
+            return self._went_on(gaps, row, line, missing)
+        anew = missing >= ROUND // 2 or line % ROUND == 0
+        (self.backs if anew else self.unknown).add(piece, row)
         if anew:
-            between.append(
-                self._new_recording(Event.RESTART, row, line % ROUND * FRAME, f"{counters}: a recording begins")
-            )
-            self.shift = line % ROUND - line
-        else:
-            self.shift = before + 1 + missing - line
-        if not gaps and not anew:
-            between.append(Between(Event.BREAK, row, self.recording, begin, end, False, f"{counters}: unknown length"))
+            back = (before - line) % ROUND
+            ends = f"from {before % ROUND} to {line % ROUND}"
+            text = f"the counter goes back by {back}, {ends}" if back else f"the counter stays at {line % ROUND}"
+            return self._anew(gaps, row, line, Event.BACK, text)
+        begin, end = (before + 1) * FRAME, (before + 1 + missing) * FRAME
+        self.shift = before + 1 + missing - line
+        if not gaps:
+            text = f"the counter goes from {before % ROUND} to {line % ROUND}: unknown length"
+            return [Between(Event.BREAK, row, self.recording, begin, end, False, text)]
+        by_bits, by_counter = about(bits * FRAME / self.shape.bits), about(missing * FRAME)
+        text = f"bits of {by_bits} s, by the counter {by_counter} s: lost bits or another recording"
+        return [Between(Event.GAP, row, self.recording, begin, end, False, f"{_bits(gap)}: {text}") for gap in gaps]
+
+    def _went_on(self, gaps: list[Mark], row: int, line: int, missing: int) -> list[Between]:
+        """Time goes on after gaps of a known length."""
+        before = self.newest + self.shift
+        begin, end = (before + 1) * FRAME, (before + 1 + missing) * FRAME
+        self.shift = before + 1 + missing - line
+        text = f"{seconds(missing * FRAME)} s"
+        return [Between(Event.GAP, row, self.recording, begin, end, True, f"{_bits(gap)}: {text}") for gap in gaps]
+
+    def _anew(self, gaps: list[Mark], row: int, line: int, event: Event, text: str) -> list[Between]:
+        """A recording begins anew after gaps of unknown length."""
+        begin = (self.newest + self.shift + 1) * FRAME
+        between = []
+        for gap in gaps:
+            by_bits = f"{_bits(gap)}: bits of {about(gap.second * FRAME / self.shape.bits)} s, unknown length"
+            between.append(Between(Event.GAP, row, self.recording, begin, None, False, by_bits))
+        between.append(self._new_recording(event, row, line % ROUND * FRAME, text))
+        self.shift = line % ROUND - line
         return between
 
     def _new_recording(self, event: Event, row: int, begin: int, text: str) -> Between:
         self.recording += 1
+        self.sessions.append(None)
         self.has_rows = False
         return Between(event, row, self.recording, begin, begin, True, text)
 
@@ -259,26 +404,28 @@ class Clock:
         text = f"{_bits(gap)}: {seconds(length)} s by its bits"
         return Between(Event.GAP, row, max(self.recording, 0), begin, after, True, text)
 
-    def _exceedances(self, marks: list[Mark], newest: list[tuple[int, int]]) -> list[Between]:
-        """The exceedances among the rows. Each began in the last frame before it that has its counter; `newest` has for each
-        row, and for what is before the first, the newest frame and the recording up to it."""
+    def _exceedances(self, marks: list[Mark], newest: list[tuple[int, int]], first: np.ndarray) -> list[Between]:
+        """The exceedances among the rows. Each began in the last frame before it that has its counter; `newest` has for what is
+        before the first row, and for each frame, the newest frame and the recording up to it."""
         between = []
         for mark in marks:
             if mark.exceedance is not None:
-                one, (frame, number) = mark.exceedance, newest[mark.row]
+                one, (frame, number) = mark.exceedance, newest[int(np.searchsorted(first, mark.row))]
                 frame -= (frame - one.counter) % ROUND
                 begin = place_time(frame, one.subframe, one.word, self.shape.words) if frame >= 0 else None
                 text = f"{one.name}: {one.length} samples, peak {one.peak}"
                 between.append(Between(Event.EXCEED, mark.row, number, begin, begin, True, text, one))
         return between
 
-    def _keep(self, piece: Piece, line: np.ndarray, newest: np.ndarray, starts: np.ndarray) -> None:
+    def _keep(self, piece: Piece, line: np.ndarray, newest: np.ndarray, counts: np.ndarray, starts: int) -> None:
         """Keeps what the next piece goes on from."""
         if not len(piece):
             return
         self.line, self.newest = int(line[-1]), int(newest[-1])
-        self.stretch += len(starts)
-        self.last[piece.name] = self._place(piece, line)
+        self.stretch += starts
+        place = self._place(piece, np.repeat(line, counts))
+        self.last[piece.name] = place
+        self.furthest = max(self.furthest, int(place.max()))
 
 
 def place_time(frame: int, subframe: int, word: int, words: int) -> int:
@@ -289,6 +436,12 @@ def place_time(frame: int, subframe: int, word: int, words: int) -> int:
 def seconds(ticks: int) -> str:
     """Ticks as seconds, without zeros at the end."""
     return f"{ticks / SECOND:.6f}".rstrip("0").rstrip(".")
+
+
+def about(ticks: float) -> str:
+    """Ticks as seconds, to a tenth, or to two digits where that is less."""
+    length = ticks / SECOND
+    return f"{length:.1f}".removesuffix(".0") if length >= 0.1 else f"{length:.2g}"
 
 
 def _bits(gap: Mark) -> str:

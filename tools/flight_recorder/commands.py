@@ -8,10 +8,10 @@ import sys
 from typing import TYPE_CHECKING, BinaryIO, Callable
 
 from .faults import Fault, MissingPackage
-from .streams import opened, opened_twice, standard_output, whole_file
+from .streams import Again, emptied, opened, opened_again, output, standard_output, whole_file
 
 if TYPE_CHECKING:
-    from . import curves, dump, listing, tables
+    from . import curves, dates, dump, listing, reading, tables, window
 
 DONE, FAULT, SILENT, STOPPED = 0, 1, 2, 130
 WIDTHS = (64, 128, 256, 512, 1024)
@@ -197,12 +197,44 @@ def _run_unpack(given: argparse.Namespace) -> None:
         dump.unpack(source, out, _units(given))
 
 
-def _add_shape(parser: argparse.ArgumentParser) -> None:
+def _add_listing(parser: argparse.ArgumentParser) -> None:
+    """A listing, and which part of it is wanted."""
+    parser.add_argument("listing", metavar="LISTING", help="a listing; - for standard input")
     shape = parser.add_mutually_exclusive_group(required=True)
     shape.add_argument("--table", metavar="TABLE", help="the recording's table")
     shape.add_argument(
         "--words", metavar="N", type=int, choices=WIDTHS, help="the words of a subframe, without a table"
     )
+    parser.add_argument("--from", dest="begin", metavar="TIME", help="from this time on, as 90s, 0:01:30 or a date")
+    parser.add_argument("--to", dest="end", metavar="TIME", help="up to before this time")
+    parser.add_argument("--recording", metavar="N", type=int, help="one recording alone, counted from 1")
+    parser.add_argument("--zero", action="store_true", help="count times from each recording's first frame on")
+    parser.add_argument(
+        "--start",
+        metavar="DATE",
+        action="append",
+        default=[],
+        help="the date of time 0 of the first recording, as 2026-05-04T10:00:00Z; 2=DATE for the second",
+    )
+    parser.add_argument("--as-recorded", action="store_true", help="the order of the dump where its memory wraps")
+
+
+def _reading(given: argparse.Namespace, with_bits: bool = False) -> tuple[reading.Reading, dates.Dates | None]:
+    """How a listing is read, and the dates that are given."""
+    from . import dates, reading, window
+
+    starts = dates.dates_of(given.start)
+    begin, end = (None if text is None else dates.ticks_of(text, starts) for text in (given.begin, given.end))
+    wanted = window.Window(given.recording, begin, end, given.zero)
+    how = reading.reading_of(given.table, given.words)
+    how.window, how.as_recorded, how.with_bits = wanted, given.as_recorded, with_bits
+    return how, starts
+
+
+def _say_passed_over(passed: reading.PassedOver) -> None:
+    if passed.count:
+        said = f"{passed.count} line{'s' if passed.count > 1 else ''} of a kind that isn't known"
+        print(f"flight: passed over {said}, at listing line {passed.line} first", file=sys.stderr)
 
 
 def _add_table(commands: argparse._SubParsersAction) -> None:
@@ -213,40 +245,79 @@ def _add_table(commands: argparse._SubParsersAction) -> None:
         "make a table of a listing, with times",
         "flight table flight.listing --table examples/ordinary.csv --every 1s > flight.csv",
     )
-    parser.add_argument("listing", metavar="LISTING", help="a listing; - for standard input")
-    _add_shape(parser)
+    _add_listing(parser)
+    parser.add_argument("-o", "--output", metavar="FILE", help="a file in place of standard output; HDF5 where it ends with .h5")
     parser.add_argument("--wide", action="store_true", help="a column for each parameter")
     parser.add_argument(
         "--every", metavar="STEP", help="a column for each parameter, and rows at multiples of a time as 1s or 250ms"
     )
+    parser.add_argument("--bits", action="store_true", help="a column with the bit at which each sample's word begins")
+    parser.add_argument("--raw", metavar="DUMP", help="a column with each sample's words in octal, of the listed bits")
+    parser.add_argument("--exceed", metavar="FILE", help="a table of these exceedances alone, with their times")
 
 
 def _run_table(given: argparse.Namespace) -> None:
-    from . import clock, listing, parameters
+    from . import listing
 
-    table = parameters.read_table(given.table) if given.table else None
-    times = clock.Clock(clock.shape_of(table, given.words))
-    names = listing.Names(list(table.parameters) if table else None)
-    wants_names = table is None and (given.wide or given.every is not None)
-    with opened_twice(given.listing, wants_names) as (first, source), standard_output() as out:
-        if wants_names:
-            for _ in listing.read_listing(first, names):
+    _check_table_words(given)
+    how, starts = _reading(given, given.bits or given.raw is not None)
+    how.cuts = given.every is None and not given.exceed
+    with opened_again(given.listing) as source:
+        if how.table is None and (given.wide or given.every is not None or _is_hdf(given.output)):
+            for _ in listing.read_listing(source.input(), how.names):
                 pass
-        writer = _table_writer(given, names, out)
-        for piece in listing.read_listing(source, names):
-            writer.write(times.times(piece, len(names)))
-        writer.end(times.end())
+        if _is_hdf(given.output):
+            passed_over = _write_hdf(given, how, starts, source)
+        else:
+            with output(given.output) as out:
+                for one in how.passes(source):
+                    writer = _table_writer(given, one, _columns(given, one, starts), emptied(out))
+                    for timed in one:
+                        writer.write(timed)
+                    writer.end(one.rest)
+                    passed_over = one.passed_over
+        _say_passed_over(passed_over)
 
 
-def _table_writer(given: argparse.Namespace, names: listing.Names, out: BinaryIO) -> tables.TableWriter:
+def _is_hdf(path: str | None) -> bool:
+    return path is not None and pathlib.Path(path).suffix in (".h5", ".hdf5")
+
+
+def _check_table_words(given: argparse.Namespace) -> None:
+    """Which words go together."""
+    by_parameter = given.wide or given.every is not None
+    if (given.bits or given.raw) and (by_parameter or given.exceed or _is_hdf(given.output)):
+        raise Fault("--bits and --raw are columns of a long table")
+    if (given.bits or given.raw) and not given.table:
+        raise Fault("--bits and --raw need --table, by which frames without rows are known")
+    if given.exceed and by_parameter:
+        raise Fault("--exceed makes a table of its own, without --wide and --every")
+
+
+def _columns(given: argparse.Namespace, one: reading.Pass, starts: dates.Dates | None) -> tables.Columns:
+    """What rows have beside their samples."""
+    from . import raw, tables
+
+    if (given.bits or given.raw) and not one.shape.every_frame:
+        raise Fault("--bits and --raw: by this table frames may be without rows, so it isn't known where they are")
+    words = raw.RawWords(given.raw, one.reading.table) if given.raw and one.reading.table else None
+    return tables.Columns(one.sessions, starts, given.bits, words, one.reading.window)
+
+
+def _table_writer(
+    given: argparse.Namespace, one: reading.Pass, columns: tables.Columns, out: BinaryIO
+) -> tables.TableWriter:
     """What writes the table that is asked for."""
-    from . import durations, tables
+    from . import durations, exceedings, tables
 
+    names = one.reading.names
+    if given.exceed:
+        return exceedings.ExceedanceTable(out, names, columns, _exceedances(given.exceed))
     if given.every is not None:
-        return tables.GridTable(out, names, durations.microseconds(given.every))
+        return tables.GridTable(out, names, columns, durations.microseconds(given.every))
     if given.wide:
-        return tables.WideTable(out, names)
-    return tables.LongTable(out)
+        return tables.WideTable(out, names, columns)
+    return tables.LongTable(out, columns)
 
 
 def _add_plot(commands: argparse._SubParsersAction) -> None:
@@ -257,10 +328,12 @@ def _add_plot(commands: argparse._SubParsersAction) -> None:
         "plot a listing's parameters over time",
         "flight plot flight.listing --table examples/ordinary.csv -o flight.html",
     )
-    parser.add_argument("listing", metavar="LISTING", help="a listing; - for standard input")
-    _add_shape(parser)
+    _add_listing(parser)
     parser.add_argument("-o", "--output", metavar="FILE", required=True, help="a .png, .svg, .pdf or .html")
     parser.add_argument("--only", metavar="NAMES", help="these parameters, as ALT,IAS; all of them if it isn't given")
+    parser.add_argument(
+        "--together", metavar="NAMES", action="append", default=[], help="these parameters on one axis, as N1_1,N1_2"
+    )
     parser.add_argument("--exceed", metavar="FILE", help="lines of exceedances to mark")
     parser.add_argument("--title", metavar="TEXT", default="", help="a title")
 
@@ -271,16 +344,11 @@ PICTURE_POINTS, PAGE_POINTS = 150_000, 800_000  # that are kept, of all paramete
 
 
 def _run_plot(given: argparse.Namespace) -> None:
-    from . import listing
-
     path = pathlib.Path(given.output)
     if path.suffix not in (*PICTURES, PAGE):
         raise Fault(f"{given.output}: a picture's name ends with {', '.join(PICTURES)} or {PAGE}")
     save = _saver(path)
-    exceedances = []
-    if given.exceed:
-        with opened(given.exceed) as source:
-            exceedances = listing.read_exceedances(source)
+    exceedances = _exceedances(given.exceed) if given.exceed else []
     flight = _flight(given, PAGE_POINTS if path.suffix == PAGE else PICTURE_POINTS, exceedances)
     for one in flight.exceedings:
         if not one.times:
@@ -288,6 +356,14 @@ def _run_plot(given: argparse.Namespace) -> None:
             print(f"flight: exceedance {one.exceedance.name} isn't in the listing: {place}", file=sys.stderr)
     with whole_file(path) as half:
         save(flight, half, given.title)
+
+
+def _exceedances(path: str) -> list[listing.Exceedance]:
+    """The exceedances of a file."""
+    from . import listing
+
+    with opened(path) as source:
+        return listing.read_exceedances(source)
 
 
 def _saver(path: pathlib.Path) -> Callable[[curves.Flight, pathlib.Path, str], None]:
@@ -303,18 +379,21 @@ def _saver(path: pathlib.Path) -> Callable[[curves.Flight, pathlib.Path, str], N
 
 def _flight(given: argparse.Namespace, points: int, exceedances: list[listing.Exceedance]) -> curves.Flight:
     """What is drawn of a listing."""
-    from . import clock, curves, listing, parameters
+    from . import curves
 
-    table = parameters.read_table(given.table) if given.table else None
-    times = clock.Clock(clock.shape_of(table, given.words))
-    names = listing.Names(list(table.parameters) if table else None)
+    how, starts = _reading(given)
     only = set(given.only.split(",")) if given.only else None
-    collector = curves.Collector(names, only, points, exceedances)
-    with opened(given.listing) as source:
-        for piece in listing.read_listing(source, names):
-            collector.add(times.times(piece, len(names)))
-    flight = collector.end(times.end())
-    missing = sorted((only or set()) - set(flight.curves))
+    with opened_again(given.listing) as source:
+        for one in how.passes(source):
+            collector = curves.Collector(how.names, only, points, exceedances)
+            for timed in one:
+                collector.add(timed)
+            flight = collector.end(one.rest)
+        _say_passed_over(one.passed_over)
+    flight.together = [names.split(",") for names in given.together]
+    flight.dates = starts
+    drawn = {name for name in flight.curves}
+    missing = sorted(((only or set()) | {name for names in flight.together for name in names}) - drawn)
     if missing:
         raise Fault(f"the listing has no parameter {', '.join(missing)}")
     return flight

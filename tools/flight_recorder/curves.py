@@ -3,12 +3,14 @@
 Recordings are put one after another on one axis of time, in ticks, with some room before each.
 """
 
-from dataclasses import dataclass
+from dataclasses import dataclass, field
 
 import numpy as np
 
 from .clock import FRAME, Between, Event, Timed
-from .listing import MOST_WORDS, SUBFRAMES, Exceedance, Names
+from .dates import Dates
+from .exceedings import Finder
+from .listing import Exceedance, Names
 
 LEAST = 256  # points of a curve that are kept in any case
 ROOMS = 50  # the room between recordings is this part of the axis,
@@ -124,6 +126,8 @@ class Flight:
     spans: list[Span]
     exceedings: list[Exceeding]
     recordings: list[Recording]
+    together: list[list[str]] = field(default_factory=list)
+    dates: Dates | None = None
 
     @property
     def end(self) -> int:
@@ -155,7 +159,7 @@ class Collector:
         if not len(timed.time):
             return
         time = self._put(timed)
-        self.finder.look(timed, time)
+        self.finder.look(timed)
         order = np.argsort(timed.piece.name, kind="stable")
         for rows in np.split(order, np.flatnonzero(np.diff(timed.piece.name[order])) + 1):
             name = int(timed.piece.name[rows[0]])
@@ -200,7 +204,7 @@ class Collector:
             recording.put += number * room
         room_of = np.array(self.recording_of, dtype=np.int64) * room
         most = share([curve.held for curve in self.curves.values()], self.total)
-        flight = Flight({}, {}, {}, self._spans(room), self._exceedings(room), self.recordings)
+        flight = Flight({}, {}, {}, self._spans(room), self._exceedings(), self.recordings)
         for number in sorted(self.curves):
             name, curve = self.names.names[number], self.curves[number]
             points = curve.points(most)
@@ -215,7 +219,7 @@ class Collector:
             if one.event is Event.EXCEED or one.recording >= len(self.recordings):
                 continue
             recording = self.recordings[one.recording]
-            if one.event in (Event.SESSION, Event.RESTART):
+            if one.event.begins_recording:
                 begin = recording.put - (room if one.recording else 0)
                 spans.append(Span(one.event, begin, recording.put, True, one.text))
             elif one.begin is not None:
@@ -224,105 +228,17 @@ class Collector:
                 spans.append(Span(one.event, begin, end, one.known, one.text))
         return spans
 
-    def _exceedings(self, room: int) -> list[Exceeding]:
+    def _exceedings(self) -> list[Exceeding]:
         """The exceedances of the file, and those of the listing itself."""
-        found = self.finder.found(self.names, room)
+        found = [
+            Exceeding(one.exceedance, tuple(self._on_axis(*begin) for begin in one.begins()), one.parameters(self.names))
+            for one in self.finder.found()
+        ]
         for one in self.between:
             if one.exceedance and one.begin is not None:
-                recording = self.recordings[one.recording]
-                found.append(Exceeding(one.exceedance, (one.begin - recording.first + recording.put,), ()))
+                found.append(Exceeding(one.exceedance, (self._on_axis(one.recording, one.begin),), ()))
         return found
 
-
-@dataclass
-class _Place:
-    """A sample at which an exceedance may have begun: where it is, its parameter, how many of the exceedance's samples
-    didn't come yet, and the least and the greatest of those that came."""
-
-    put: int
-    recording: int
-    stretch: int
-    name: int
-    left: int
-    least: float = np.inf
-    greatest: float = -np.inf
-
-    def take(self, timed: Timed, row: int) -> None:
-        """Takes the samples of a piece, from a row on."""
-        here = (timed.piece.name[row:] == self.name) & (timed.stretch[row:] == self.stretch)
-        values = timed.piece.value[row:][here][: self.left]
-        if len(values):
-            self.left -= len(values)
-            self.least = min(self.least, float(values.min()))
-            self.greatest = max(self.greatest, float(values.max()))
-
-
-class Finder:
-    """Finds where exceedances began: at samples of their places, in stretches that have all their samples. The counter comes
-    round and begins anew, so there may be several. Those whose samples have the peak are taken, if there are any, and then
-    those that the order of one rule's exceedances leaves."""
-
-    def __init__(self, exceedances: list[Exceedance]) -> None:
-        self.exceedances = exceedances
-        self.keys = np.array([int(_keys(one.counter, one.subframe, one.word)) for one in exceedances], dtype=np.int64)
-        self.places: list[list[_Place]] = [[] for _ in exceedances]
-        self.open: list[_Place] = []
-
-    def look(self, timed: Timed, put: np.ndarray) -> None:
-        """Looks for the places in a piece, whose rows are put on the axis."""
-        if not self.exceedances:
-            return
-        for place in self.open:
-            place.take(timed, 0)
-        piece = timed.piece
-        keys = _keys(piece.counter, piece.subframe, piece.word)
-        for row in np.flatnonzero(np.isin(keys, self.keys)):
-            for number in np.flatnonzero(self.keys == keys[row]):
-                where = (int(put[row]), int(timed.recording[row]), int(timed.stretch[row]), int(piece.name[row]))
-                place = _Place(*where, self.exceedances[number].length)
-                place.take(timed, int(row))
-                self.places[number].append(place)
-                self.open.append(place)
-        self.open = [place for place in self.open if place.left and place.stretch == timed.stretch[-1]]
-
-    def found(self, names: Names, room: int) -> list[Exceeding]:
-        """The exceedances on the axis, which has this room before each recording."""
-        whole = [[place for place in places if not place.left] for places in self.places]
-        with_peak = [self._with_peak(one, places) for one, places in zip(self.exceedances, whole)]
-        times = self._in_order(with_peak, room)
-        if any(places and not left for places, left in zip(whole, times)):
-            with_peak, times = whole, self._in_order(whole, room)
-        answer = []
-        for one, places, begins in zip(self.exceedances, with_peak, times):
-            here = {names.names[place.name] for place in places if place.put + place.recording * room in begins}
-            answer.append(Exceeding(one, tuple(begins), tuple(sorted(here))))
-        return answer
-
-    def _in_order(self, places: list[list[_Place]], room: int) -> list[list[int]]:
-        """The times of places that the order of one rule's exceedances leaves."""
-        times = [sorted({place.put + place.recording * room for place in one}) for one in places]
-        earliest = self._bounds(times, 1)
-        latest = self._bounds([[-time for time in reversed(one)] for one in times], -1)
-        return [[time for time in one if first <= time <= -last] for one, first, last in zip(times, earliest, latest)]
-
-    @staticmethod
-    def _with_peak(one: Exceedance, places: list[_Place]) -> list[_Place]:
-        """The places whose samples have an exceedance's peak, or all where none has."""
-        peak = [place for place in places if float(one.peak) in (place.least, place.greatest)]
-        return peak or places
-
-    def _bounds(self, times: list[list[int]], way: int) -> list[float]:
-        """For each exceedance the first time that those of its rule before it leave; from the last one on where the way is back."""
-        bounds: list[float] = [np.inf] * len(times)
-        newest: dict[str, float] = {}
-        for number in range(len(times))[::way]:
-            name = self.exceedances[number].name
-            past = newest.get(name, -np.inf)
-            bounds[number] = next((time for time in times[number] if time > past), np.inf)
-            newest[name] = bounds[number] if bounds[number] < np.inf else past
-        return bounds
-
-
-def _keys(counter: "np.ndarray | int", subframe: "np.ndarray | int", word: "np.ndarray | int") -> np.ndarray:
-    """A number for each place of a round of the counter."""
-    return (np.asarray(counter, dtype=np.int64) * SUBFRAMES + subframe - 1) * MOST_WORDS + word - 1
+    def _on_axis(self, recording: int, time: int) -> int:
+        """The place of a time of a recording on the axis."""
+        return time - self.recordings[recording].first + self.recordings[recording].put

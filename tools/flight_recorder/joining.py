@@ -61,6 +61,63 @@ class Text:
         return np.concatenate(self.parts)
 
 
+@dataclass
+class Field:
+    """A field of each row: as many bytes of each as the longest has, and how long it is; shorter ones are at the right."""
+
+    text: np.ndarray
+    length: np.ndarray
+    at_right: bool = False
+
+    @property
+    def mask(self) -> np.ndarray:
+        """Which of the bytes are the field's."""
+        width = self.text.shape[1]
+        if not width:
+            return np.zeros(self.text.shape, dtype=bool)
+        wanted = np.arange(width) < np.arange(width + 1)[:, np.newaxis]
+        wanted = wanted[:, ::-1] if self.at_right else wanted
+        return _rows_of(np.ascontiguousarray(wanted), self.length).view(bool)
+
+
+def _rows_of(table: np.ndarray, codes: np.ndarray) -> np.ndarray:
+    """Rows of a table of bytes: each as one item, which is copied the fastest."""
+    width = table.shape[1]
+    return table.view(f"V{width}").ravel()[codes].view(np.uint8).reshape(len(codes), width)
+
+
+def field_of(texts: list[bytes], codes: np.ndarray, at_right: bool = False) -> Field:
+    """A field that has one of these texts in each row."""
+    width = max(map(len, texts), default=0) or 1
+    padded = b"".join(text.rjust(width) if at_right else text.ljust(width) for text in texts)
+    lengths = np.array([len(text) for text in texts], dtype=np.int64)
+    table = np.frombuffer(padded, dtype=np.uint8).reshape(-1, width)
+    return Field(_rows_of(table, codes), lengths[codes], at_right)
+
+
+def fractions_of(ticks: np.ndarray) -> Field:
+    """The fractions of seconds, with their points."""
+    return Field(_rows_of(FRACTIONS.reshape(-1, FRACTION), ticks % SECOND), np.full(len(ticks), FRACTION))
+
+
+def field_in(text: np.ndarray, start: np.ndarray, length: np.ndarray, more: int = 0) -> Field:
+    """A field that stands in a text, with room for some more bytes."""
+    width = int(length.max(initial=0)) + more
+    if not width:
+        return Field(np.zeros((len(start), 0), dtype=np.uint8), length)
+    text = np.concatenate((text, np.zeros(max(0, int(start.max(initial=0)) + width - len(text)), dtype=np.uint8)))
+    each = np.ndarray(len(text) - width + 1, dtype=f"V{width}", buffer=text, strides=(1,))
+    return Field(each[start].view(np.uint8).reshape(len(start), width), length)
+
+
+def rows_of(fields: list[Field]) -> tuple[bytes, np.ndarray]:
+    """Rows that have these fields one after another: their text, and where each row ends in it."""
+    text = np.concatenate([field.text for field in fields], axis=1)
+    mask = np.concatenate([field.mask for field in fields], axis=1)
+    ends = np.cumsum(np.sum([field.length for field in fields], axis=0))
+    return text[mask].tobytes(), ends
+
+
 def add_times(text: Text, ticks: np.ndarray) -> tuple[Places, Places]:
     """Adds what times are written with, and answers the places of their seconds and of their fractions."""
     codes, seconds = pandas.factorize(ticks // SECOND)

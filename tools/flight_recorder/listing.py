@@ -1,7 +1,8 @@
 """Listings, read as columns: a piece of about a megabyte at a time, whatever the size of the whole.
 
-A line is `row,COUNTER,SUBFRAME,WORD,NAME,VALUE`, `gap,AT,BITS`, `session,SESSION,FIRST` or
-`exceed,NAME,COUNTER,SUBFRAME,WORD,LENGTH,PEAK`. Each is checked; the first that is none of these is a fault.
+A line is `row,COUNTER,SUBFRAME,WORD,NAME,VALUE`, `gap,AT,BITS`, `session,SESSION,FIRST`, `run,FIRST,BLOCKS` or
+`exceed,NAME,COUNTER,SUBFRAME,WORD,LENGTH,PEAK`. Each is checked; the first that isn't as it has to be is a fault. A line
+that begins with another word is passed over, as later versions may have more kinds.
 """
 
 import enum
@@ -19,21 +20,25 @@ PIECE = 1 << 19
 PADDING = 64  # zero bytes after a piece, so that no field reaches over the end of its memory
 LONGEST_LINE = 4096
 COMMAS = 5  # in a row
+SIGNS = COMMAS + 1  # and its line feed
 MOST_NAME = 16
 MOST_DIGITS = 19
 MOST_DECIMALS = 9
+ROW_WORD = 3  # bytes of `row`
 POWERS = 10.0 ** np.arange(MOST_DECIMALS + 1)
 ROUND = 4096  # frames until the counter comes round
 SUBFRAMES = 4
 MOST_WORDS = 1024
 NEWLINE, COMMA, POINT, MINUS, ZERO = (ord(sign) for sign in "\n,.-0")
 ROW = np.frombuffer(b"row,", dtype="<u4")[0]
+KNOWN = (b"row", b"gap", b"session", b"run", b"exceed")
 KEEP = np.array([(1 << 8 * min(max(length, 0), 8)) - 1 for length in range(-8, MOST_NAME + 1)], dtype=np.uint64)
 NUMBER = rb"(0|[1-9][0-9]{0,18})"
 NAME = rb"([A-Za-z0-9_.-]{1,16})"
 VALUE = rb"(-?(?:0|[1-9][0-9]{0,18})(?:\.[0-9]{1,9})?)"
 ROW_LINE = re.compile(rb"row,%b,%b,%b,%b,%b" % (NUMBER, NUMBER, NUMBER, NAME, VALUE))
-PAIR_LINE = re.compile(rb"(gap|session),%b,%b" % (NUMBER, NUMBER))
+PAIR_LINE = re.compile(rb"(gap|session|run),%b,%b" % (NUMBER, NUMBER))
+FIRST_WORD = re.compile(rb"([a-z][a-z0-9_-]{0,31})(?:,.*)?")
 EXCEED_LINE = re.compile(rb"exceed,%b,%b,%b,%b,%b,%b" % (NAME, NUMBER, NUMBER, NUMBER, NUMBER, VALUE))
 
 
@@ -42,7 +47,11 @@ class Kind(enum.Enum):
 
     GAP = "gap"
     SESSION = "session"
+    RUN = "run"
     EXCEED = "exceed"
+    OTHER = "other"  # a line of a kind that isn't known
+    WRAP = "wrap"  # no line: the memory wraps here
+    BEGIN = "begin"  # no line: the beginning of a listing that is read from its middle on
 
 
 @dataclass(frozen=True)
@@ -59,18 +68,20 @@ class Exceedance:
 
 @dataclass(frozen=True)
 class Mark:
-    """A line that isn't a row: how many rows of the piece are before it, and what it says."""
+    """A line that isn't a row: how many rows of the piece are before it, what it says, and its number in the listing."""
 
     kind: Kind
     row: int
     first: int = 0
     second: int = 0
     exceedance: Exceedance | None = None
+    line: int = 0
 
 
 @dataclass
 class Piece:
-    """Whole lines of a listing. Each column has a place for each row; texts are places in `text`."""
+    """Whole lines of a listing. Each column has a place for each row; texts are places in `text`. The first line has a number
+    in the listing, and is at a byte of it."""
 
     text: np.ndarray
     counter: np.ndarray
@@ -83,9 +94,31 @@ class Piece:
     rest_start: np.ndarray
     end: np.ndarray
     marks: list[Mark]
+    first_line: int = 1
+    at: int = 0
 
     def __len__(self) -> int:
         return len(self.counter)
+
+    def line_of(self, row: int) -> int:
+        """The number of a row's line in the listing."""
+        return self.first_line + row + sum(mark.row <= row for mark in self.marks)
+
+    def byte_of(self, row: int) -> int:
+        """Where a row's line begins in the listing."""
+        return self.at + int(self.rest_start[row]) - ROW_WORD
+
+    def only(self, which: np.ndarray) -> "Piece":
+        """Some of its rows, without what isn't a row."""
+        columns = (self.counter, self.subframe, self.word, self.name, self.value, self.decimals)
+        places = (self.value_start, self.rest_start, self.end)
+        return Piece(self.text, *(column[which] for column in (*columns, *places)), [])
+
+
+def empty_piece(mark: Mark) -> Piece:
+    """A piece that has no rows, and this mark."""
+    nothing = np.zeros(0, dtype=np.int64)
+    return Piece(np.zeros(PADDING, dtype=np.uint8), *[nothing] * 9, [mark])
 
 
 class Names:
@@ -136,10 +169,18 @@ class _Unsound(Exception):
     """A line of a piece isn't as it has to be."""
 
 
-def read_listing(source: Input, names: Names) -> Iterator[Piece]:
-    """The pieces of a listing."""
-    line, left = 1, b""
-    while data := source.read(PIECE):
+@dataclass(frozen=True)
+class Place:
+    """A place between the lines of a listing: its byte, and the number of the line after it."""
+
+    byte: int = 0
+    line: int = 1
+
+
+def read_listing(source: Input, names: Names, begin: Place = Place(), end: int | None = None) -> Iterator[Piece]:
+    """The pieces of a listing; of one that is read from another place on, or up to a byte, those of these lines."""
+    line, at, left = begin.line, begin.byte, b""
+    while data := source.read(PIECE if end is None else min(PIECE, end - at - len(left))):
         data = left + data
         whole = data.rfind(b"\n") + 1
         left = data[whole:]
@@ -147,7 +188,9 @@ def read_listing(source: Input, names: Names) -> Iterator[Piece]:
             raise _first_fault(data, line)
         if whole:
             piece = piece_of(data[:whole], line, names)
+            piece.at = at
             line += len(piece) + len(piece.marks)
+            at += whole
             yield piece
     if left:
         raise Fault(f"listing line {line}: it has no line feed at its end, so the listing was cut there")
@@ -156,17 +199,38 @@ def read_listing(source: Input, names: Names) -> Iterator[Piece]:
 def piece_of(data: bytes, first_line: int, names: Names) -> Piece:
     """Whole lines as columns; `first_line` is the number of the first one."""
     text = np.frombuffer(data + bytes(PADDING), dtype=np.uint8)
-    ends = np.flatnonzero(text == NEWLINE)
-    starts = np.insert(ends + 1, 0, 0)[:-1]
-    is_row = text[starts] == ord("r")
     try:
-        others = np.flatnonzero(~is_row)
-        before = others - np.arange(len(others))
-        marks = [_mark(data[starts[at] : ends[at]], int(row)) for at, row in zip(others, before)]
-        commas = _outside(np.flatnonzero(text == COMMA), starts[others], ends[others])
-        return _piece(text, starts[is_row], ends[is_row], commas, marks, names)
+        signs = np.flatnonzero((text == COMMA) | (text == NEWLINE))
+        last = np.flatnonzero(text[signs] == NEWLINE)  # of each line
+        ends = signs[last]
+        starts = np.insert(ends + 1, 0, 0)[:-1]
+        others = np.flatnonzero(_taken(text, starts, "<u4") != ROW)
+        marks: list[Mark] = []
+        if len(others):
+            marks = [
+                _mark(data[starts[line] : ends[line]], int(line) - before, first_line + int(line))
+                for before, line in enumerate(others)
+            ]
+            signs, starts, last = _rows_alone(signs, starts, last, others)
+        if len(signs) != SIGNS * len(starts) or not np.array_equal(last, np.arange(len(starts)) * SIGNS + COMMAS):
+            raise _Unsound
+        piece = _piece(text, starts, np.ascontiguousarray(signs.reshape(-1, SIGNS).T), marks, names)
     except _Unsound:
         raise _first_fault(data, first_line) from None
+    piece.first_line = first_line
+    return piece
+
+
+def _rows_alone(
+    signs: np.ndarray, starts: np.ndarray, last: np.ndarray, others: np.ndarray
+) -> tuple[np.ndarray, np.ndarray, np.ndarray]:
+    """The commas and line feeds, the starts and the places of the line feeds among these, without some of the lines."""
+    first = np.insert(last + 1, 0, 0)[:-1]
+    keep = np.ones(len(signs), dtype=bool)
+    for line in others.tolist():
+        keep[first[line] : last[line] + 1] = False
+    counts = np.delete(last + 1 - first, others)
+    return signs[keep], np.delete(starts, others), np.cumsum(counts) - 1
 
 
 def _first_fault(data: bytes, first_line: int) -> Fault:
@@ -185,7 +249,7 @@ def is_line(line: bytes) -> bool:
     if row:
         return _is_place(*(int(number) for number in row.groups()[:3])) and _has_few_digits(row.group(5))
     try:
-        _mark(line, 0)
+        _mark(line, 0, 0)
     except _Unsound:
         return False
     return True
@@ -199,15 +263,18 @@ def _has_few_digits(value: bytes) -> bool:
     return sum(byte in b"0123456789" for byte in value) <= MOST_DIGITS
 
 
-def _mark(line: bytes, row: int) -> Mark:
+def _mark(text: bytes, row: int, line: int) -> Mark:
     """A line that isn't a row."""
-    pair = PAIR_LINE.fullmatch(line)
+    pair = PAIR_LINE.fullmatch(text)
     if pair:
         kind = Kind(pair.group(1).decode())
-        if kind is Kind.GAP and pair.group(3) == b"0":
+        if kind is not Kind.SESSION and pair.group(3) == b"0":
             raise _Unsound
-        return Mark(kind, row, int(pair.group(2)), int(pair.group(3)))
-    return Mark(Kind.EXCEED, row, exceedance=_exceedance(line))
+        return Mark(kind, row, int(pair.group(2)), int(pair.group(3)), line=line)
+    word = FIRST_WORD.fullmatch(text)
+    if word and word.group(1) not in KNOWN:
+        return Mark(Kind.OTHER, row, line=line)
+    return Mark(Kind.EXCEED, row, exceedance=_exceedance(text), line=line)
 
 
 def _exceedance(line: bytes) -> Exceedance:
@@ -231,52 +298,20 @@ def read_exceedances(source: Input) -> list[Exceedance]:
     return found
 
 
-def _outside(places: np.ndarray, starts: np.ndarray, ends: np.ndarray) -> np.ndarray:
-    """The places that are in none of these stretches."""
-    if not len(starts):
-        return places
-    keep = np.ones(len(places), dtype=bool)
-    for begin, end in zip(np.searchsorted(places, starts), np.searchsorted(places, ends)):
-        keep[begin:end] = False
-    return places[keep]
-
-
-def _piece(
-    text: np.ndarray, starts: np.ndarray, ends: np.ndarray, commas: np.ndarray, marks: list[Mark], names: Names
-) -> Piece:
-    """The rows between these places, which have these commas, as columns."""
-    if len(commas) != COMMAS * len(starts):
-        raise _Unsound
-    fields = np.ascontiguousarray(commas.reshape(-1, COMMAS).T)
-    _want((_taken(text, starts, "<u4") == ROW) & (fields[0] == starts + 3) & (fields[-1] < ends))
-    counter, subframe, word = (_whole(text, fields[at] + 1, fields[at + 1]) for at in range(3))
+def _piece(text: np.ndarray, starts: np.ndarray, signs: np.ndarray, marks: list[Mark], names: Names) -> Piece:
+    """Rows as columns, by where they start, and by their commas and line feeds."""
+    ends = signs[COMMAS]
+    counter, subframe, word = (_whole(text, signs[at] + 1, signs[at + 1]) for at in range(3))
     _want((counter < ROUND) & (subframe >= 1) & (subframe <= SUBFRAMES) & (word >= 1) & (word <= MOST_WORDS))
-    lengths = _short(fields[4] - fields[3] - 1, MOST_NAME)
-    value, decimals = _values(text, fields[4] + 1, ends)
-    name = names.numbers_in(text, fields[3] + 1, lengths)
-    return Piece(text, counter, subframe, word, name, value, decimals, fields[4] + 1, fields[0], ends + 1, marks)
+    lengths = _short(signs[4] - signs[3] - 1, MOST_NAME)
+    value, decimals = _values(text, signs[4] + 1, ends)
+    name = names.numbers_in(text, signs[3] + 1, lengths)
+    return Piece(text, counter, subframe, word, name, value, decimals, signs[4] + 1, signs[0], ends + 1, marks)
 
 
 def _want(sound: np.ndarray) -> None:
     if not sound.all():
         raise _Unsound
-
-
-def _whole(text: np.ndarray, starts: np.ndarray, ends: np.ndarray) -> np.ndarray:
-    """Whole numbers of up to four digits, without leading zeros."""
-    lengths = _short(ends - starts, 4)
-    longest = int(lengths.max(initial=0))
-    number = np.zeros(len(starts), dtype=np.int32)
-    for place in range(longest):
-        digit = text[starts + place] - np.uint8(ZERO)
-        inside = lengths > place
-        _want((digit <= 9) | ~inside)
-        if place == 0 and longest > 1:
-            _want((digit != 0) | (lengths == 1))
-        number *= np.where(inside, np.int32(10), np.int32(1))
-        digit *= inside
-        number += digit
-    return number
 
 
 def _short(lengths: np.ndarray, most: int) -> np.ndarray:
@@ -286,27 +321,95 @@ def _short(lengths: np.ndarray, most: int) -> np.ndarray:
     return lengths.astype(np.int8)
 
 
+def _last_bytes(count: int, kind: type) -> np.ndarray:
+    """For each length up to `count` what keeps so many of the last bytes of a number, which are its highest."""
+    return np.array([((1 << 8 * count) - 1) & -(1 << 8 * (count - length)) for length in range(count + 1)], dtype=kind)
+
+
+LAST_OF_4, LAST_OF_8 = _last_bytes(4, np.uint32), _last_bytes(8, np.uint64)
+LEAST_OF = np.array([0, 0, 10, 100, 1000], dtype=np.int32)  # the least number of so many digits, without leading zeros
+
+
+def _each_byte(byte: int) -> np.uint64:
+    return np.uint64(byte * 0x0101010101010101)
+
+
+def _whole(text: np.ndarray, starts: np.ndarray, ends: np.ndarray) -> np.ndarray:
+    """Whole numbers of up to four digits, without leading zeros: all digits of a number at once, as four bytes."""
+    lengths = ends - starts
+    if len(lengths) and not 1 <= int(lengths.min()) <= int(lengths.max()) <= 4:
+        raise _Unsound
+    digits = (_taken(text, ends - 4, "<u4") ^ np.uint32(0x30303030)) & LAST_OF_4[lengths]
+    _want(((digits + np.uint32(0x06060606)) | digits) & np.uint32(0xF0F0F0F0) == 0)
+    pairs = (digits * np.uint32(10) + (digits >> np.uint32(8))) & np.uint32(0x00FF00FF)
+    number = ((pairs * np.uint32(100) + (pairs >> np.uint32(16))) & np.uint32(0xFFFF)).astype(np.int32)
+    _want((number >= LEAST_OF[lengths]))
+    return number
+
+
 def _values(text: np.ndarray, starts: np.ndarray, ends: np.ndarray) -> tuple[np.ndarray, np.ndarray]:
     """Values as numbers, and how many digits each has after its point."""
     negative = text[starts] == MINUS
     starts = starts + negative
-    lengths = _short(ends - starts, MOST_DIGITS + 1)
-    longest = int(lengths.max(initial=0))
-    digits = np.zeros(len(starts), dtype=np.int32 if longest <= 9 else np.int64)
+    lengths = ends - starts
+    if len(lengths) and not 1 <= int(lengths.min()) <= int(lengths.max()) <= MOST_DIGITS + 1:
+        raise _Unsound
+    whole_digits = lengths > 8
+    if not whole_digits.any():
+        size, decimals = _of_eight(text, starts, ends, lengths)
+    else:
+        size, decimals = np.empty(len(starts)), np.empty(len(starts), dtype=np.int8)
+        for which, read in ((~whole_digits, _of_eight), (whole_digits, _of_many)):
+            size[which], decimals[which] = read(text, starts[which], ends[which], lengths[which])
+    return np.where(negative, -size, size), decimals
+
+
+def _of_eight(
+    text: np.ndarray, starts: np.ndarray, ends: np.ndarray, lengths: np.ndarray
+) -> tuple[np.ndarray, np.ndarray]:
+    """Numbers of up to eight signs, all of a number at once, as eight bytes. A point is found by the byte that it alone has,
+    and taken out; then two digits become one number, two of these one, and so again."""
+    signs = (_taken(text, ends - 8, "<u8") ^ _each_byte(ZERO)) & LAST_OF_8[lengths]
+    low = signs ^ _each_byte(POINT ^ ZERO)
+    point = ~(((low & _each_byte(0x7F)) + _each_byte(0x7F)) | low | _each_byte(0x7F))
+    decimals = np.zeros(len(starts), dtype=np.int64)
+    digits, whole = signs, lengths
+    if point.any():
+        has_point = point != 0
+        after = ~((point << np.uint64(1)) - np.uint64(1))  # the bytes after the point
+        before = (point >> np.uint64(7)) - np.uint64(1)
+        count = ((after & _each_byte(1)) * _each_byte(1)) >> np.uint64(56)
+        decimals = np.where(has_point, count, 0).astype(np.int64)
+        digits = np.where(has_point, ((signs & before) << np.uint64(8)) | (signs & after), signs)
+        whole = lengths - np.where(has_point, decimals + 1, 0)
+        _want((point & (point - has_point)) == 0)
+        _want(~has_point | ((decimals >= 1) & (whole >= 1)))
+    _want(((digits + _each_byte(0x06)) | digits) & _each_byte(0xF0) == 0)
+    _want((whole == 1) | (text[starts] != ZERO))
+    pairs = (digits * np.uint64(10) + (digits >> np.uint64(8))) & np.uint64(0x00FF00FF00FF00FF)
+    fours = (pairs * np.uint64(100) + (pairs >> np.uint64(16))) & np.uint64(0x0000FFFF0000FFFF)
+    number = (fours * np.uint64(10_000) + (fours >> np.uint64(32))) & np.uint64(0xFFFFFFFF)
+    return number / POWERS[decimals], decimals.astype(np.int8)
+
+
+def _of_many(
+    text: np.ndarray, starts: np.ndarray, ends: np.ndarray, lengths: np.ndarray
+) -> tuple[np.ndarray, np.ndarray]:
+    """Numbers of any number of signs, sign by sign."""
+    digits = np.zeros(len(starts), dtype=np.int64)
     decimals = np.zeros(len(starts), dtype=np.int8)
     after_point = np.zeros(len(starts), dtype=bool)
-    for place in range(longest):
+    for place in range(int(lengths.max())):
         inside = lengths > place
         sign = text[starts + place]
         digit = sign - np.uint8(ZERO)
         is_digit = inside & (digit <= 9)
         is_point = inside & (sign == POINT)
         _want(~inside | is_digit | (is_point & ~after_point & (place > 0)))
-        digits *= np.where(is_digit, digits.dtype.type(10), digits.dtype.type(1))
-        digit *= is_digit
-        digits += digit
+        digits *= np.where(is_digit, 10, 1)
+        digits += digit * is_digit
         decimals += is_digit & after_point
         after_point |= is_point
     _want((decimals <= MOST_DECIMALS) & (~after_point | (decimals >= 1)) & (lengths - after_point <= MOST_DIGITS))
     _want((text[starts] != ZERO) | (lengths == 1) | (text[starts + 1] == POINT))
-    return np.where(negative, -digits, digits) / POWERS[decimals], decimals
+    return digits / POWERS[decimals], decimals

@@ -1,5 +1,6 @@
 """How a flight's times, spans and curves are named and told apart, in pictures and in pages."""
 
+import re
 from dataclasses import dataclass
 
 import numpy as np
@@ -49,8 +50,10 @@ def span_name(span: Span) -> str:
     """A short name of a span."""
     if span.event is Event.SESSION:
         return span.text.split(" from ")[0]
-    if span.event is Event.RESTART:
-        return "new recording"
+    if span.event in (Event.BACK, Event.WRAP):
+        return re.split("[,:]", span.text)[0]
+    if span.event in (Event.RUN, Event.HOLE):
+        return span.text.split(": ")[-1]
     if not span.known:
         return f"{span.event.value}, unknown length"
     return f"gap {(span.end - span.begin) / SECOND:.3g} s"

@@ -6,7 +6,9 @@
 const flight = JSON.parse(document.getElementById("flight").textContent);
 const SHOWN_AT_FIRST = 12;
 const LABEL_WIDTH = 62;
-const COLOURS = { gap: "217,83,79", break: "217,83,79", session: "108,117,125", restart: "108,117,125" };
+const RED = "217,83,79";
+const GREY = "108,117,125";
+const COLOURS = { gap: RED, break: RED, hole: RED, session: GREY, run: GREY, back: GREY, wrap: GREY };
 const EXCEED_COLOUR = "#b8860b";
 
 function numbers(text, Kind) {

@@ -17,12 +17,23 @@ FIELDS = {"F": (4,), "P": (13, 14), "L": (10,)}  # a row of a parameter may have
 
 @dataclass(frozen=True)
 class Place:
-    """Where a part of a parameter occurs."""
+    """Where a part of a parameter occurs: its first word in a subframe and the step to the next, or 0; its lowest bit in the
+    word and its width; and the frames of a superframe."""
 
     part: int
     subframes: tuple[int, ...]
+    word: int
+    step: int
+    lsb: int
+    width: int
     cycle: int
     period: int
+
+    def slots(self, words: int) -> list[int]:
+        """The words of a superframe in which it occurs, counted from 0."""
+        in_subframe = range(self.word, words + 1, self.step) if self.step else [self.word]
+        frames = range(self.cycle, SUPERFRAME, self.period)
+        return [(4 * frame + sub - 1) * words + word - 1 for frame in frames for sub in self.subframes for word in in_subframe]
 
 
 @dataclass
@@ -42,10 +53,13 @@ class Parameter:
 
 @dataclass
 class Table:
-    """The words of a subframe, and the parameters by name in the order of their rows."""
+    """The words of a subframe, the parameters by name in the order of their rows, and where a frame's counter is: its word and
+    its subframe."""
 
     words: int
     parameters: dict[str, Parameter]
+    counter_word: int
+    counter_subframe: int
 
     def steps(self) -> np.ndarray:
         """For each frame of a superframe how many frames later rows come again, at the latest."""
@@ -80,7 +94,7 @@ def _with_row(table: Table | None, row: list[str]) -> Table:
     if (table is None) is not (row[0] == "F") or len(row) not in FIELDS[row[0]]:
         raise ValueError(row)
     if table is None:
-        return Table(_number(row[1], WORDS), {})
+        return Table(_number(row[1], WORDS), {}, _number(row[2], range(2, 1025)), _number(row[3], range(1, 5)))
     if row[0] == "P":
         parameter = _parameter(row)
         if parameter.name in table.parameters:
@@ -106,5 +120,9 @@ def _parameter(row: list[str]) -> Parameter:
 
 def _place(row: list[str]) -> Place:
     subframes = tuple(_number(digit, range(1, 5)) for digit in row[3])
+    word, step = _number(row[4], range(1, 1025)), _number(row[5], range(1025))
+    lsb, width = _number(row[6], range(1, 13)), _number(row[7], range(1, 13))
     period = _number(row[9], (1, 2, 4, 8, 16))
-    return Place(_number(row[2], range(1, 5)), subframes, _number(row[8], range(period)), period)
+    return Place(
+        _number(row[2], range(1, 5)), subframes, word, step, lsb, width, _number(row[8], range(period)), period
+    )

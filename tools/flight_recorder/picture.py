@@ -22,7 +22,10 @@ TICKS = 8  # on the axis of time, about
 STEPS = (1, 2, 5, 10, 15, 30, 60, 120, 300, 600, 900, 1800, 3600, 7200, 14400, 28800, 86400)  # seconds between them
 LABELS = 14  # spans that are named, at the most
 NARROWEST = 1 / 600  # of the axis, for a span to be seen
-COLOURS = {Event.GAP: "#d9534f", Event.BREAK: "#d9534f", Event.SESSION: "#6c757d", Event.RESTART: "#6c757d"}
+RED, GREY = "#d9534f", "#6c757d"
+COLOURS = {Event.GAP: RED, Event.BREAK: RED, Event.HOLE: RED} | dict.fromkeys(
+    (Event.SESSION, Event.RUN, Event.BACK, Event.WRAP), GREY
+)
 EXCEED_COLOUR = "#b8860b"
 CURVE_COLOUR = "#1f4e79"
 

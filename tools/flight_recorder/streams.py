@@ -50,11 +50,14 @@ class Input:
     def __init__(self, file: BinaryIO, size: int | None) -> None:
         self.file = file
         self.progress = Progress(size)
+        self.copy: BinaryIO | None = None  # of all that is read
 
     def read(self, count: int = -1, /) -> bytes:
         """The next bytes, as many as are asked for; fewer at the end alone."""
         data = self.file.read(count)
         self.progress.add(len(data))
+        if self.copy is not None:
+            self.copy.write(data)
         return data
 
     def lines(self) -> Iterator[str]:
@@ -77,21 +80,41 @@ def opened(path: str) -> Iterator[Input]:
         yield source
 
 
-@contextlib.contextmanager
-def opened_twice(path: str, twice: bool = True) -> Iterator[tuple[Input, Input]]:
-    """Opens an input for two readings, one after the other; what isn't a file is copied into one first. Where one reading
-    is enough, both are the same."""
-    with contextlib.ExitStack() as stack:
-        source = stack.enter_context(opened(path))
-        if twice and path != STANDARD and pathlib.Path(path).is_file():
-            yield source, stack.enter_context(opened(path))
-        elif twice:
-            copy = stack.enter_context(tempfile.NamedTemporaryFile(prefix="flight-"))
-            shutil.copyfileobj(source, copy, 1 << 20)
-            copy.flush()
-            yield stack.enter_context(opened(copy.name)), stack.enter_context(opened(copy.name))
+class Again:
+    """An open input that may be read several times. Of what isn't a file a copy is kept, as it is read first."""
+
+    def __init__(self, source: Input, is_file: bool, stack: contextlib.ExitStack) -> None:
+        self.source = source
+        self.is_file = is_file
+        self.begin = source.file.tell() if is_file else 0
+        self.copy: BinaryIO | None = None
+        self.stack = stack
+
+    def input(self, byte: int = 0) -> Input:
+        """The input from its beginning, or from a byte on. It is read to its end the first time."""
+        self.source.progress.done = 0
+        if self.is_file:
+            self.source.file.seek(self.begin + byte)
+        elif self.source.copy is not None:
+            self.source.file, self.source.copy = self.source.copy, None
+            self.source.file.seek(byte)
+            self.is_file, self.begin = True, 0
         else:
-            yield source, source
+            self.source.copy = cast(BinaryIO, self.stack.enter_context(tempfile.TemporaryFile(prefix="flight-")))
+        return self.source
+
+    def forget(self) -> None:
+        """It isn't read again."""
+        if self.source.copy is not None:
+            self.source.copy.close()
+            self.source.copy = None
+
+
+@contextlib.contextmanager
+def opened_again(path: str) -> Iterator[Again]:
+    """Opens an input that may be read several times."""
+    with opened(path) as source, contextlib.ExitStack() as stack:
+        yield Again(source, source.progress.size is not None, stack)
 
 
 @contextlib.contextmanager
@@ -105,9 +128,29 @@ def standard_output() -> Iterator[BinaryIO]:
         try:
             shutil.copyfileobj(held, sys.stdout.buffer, 1 << 20)
             sys.stdout.buffer.flush()
+        except BrokenPipeError:
+            _drop_output()  # who reads has enough
         except OSError as error:
             _drop_output()
             raise Fault(f"standard output: {error.strerror}") from None
+
+
+@contextlib.contextmanager
+def output(path: str | None) -> Iterator[BinaryIO]:
+    """Standard output, or a file that is there once all of it is."""
+    if path is None or path == STANDARD:
+        with standard_output() as out:
+            yield out
+        return
+    with whole_file(pathlib.Path(path)) as half, open(half, "wb") as file:
+        yield file
+
+
+def emptied(out: BinaryIO) -> BinaryIO:
+    """An output of which nothing is wanted so far."""
+    out.seek(0)
+    out.truncate()
+    return out
 
 
 def _drop_output() -> None:

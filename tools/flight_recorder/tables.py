@@ -1,22 +1,26 @@
 """Listings as tables: a row for each sample, or a column for each parameter.
 
-What is between the samples, as gaps and sessions, has rows of its own, named in brackets, as no parameter can be.
+Each row has its recording, its session and its time. What is between the samples, as gaps and sessions, has rows of its
+own: they have a text in the column `note`, and no value.
 """
 
 import csv
 import io
-from dataclasses import dataclass
+from dataclasses import dataclass, field
 from typing import BinaryIO, Protocol
 
 import numpy as np
 
 from .clock import FRAME, LATE, SECOND, Between, Timed
-from .faults import Fault
-from .joining import Places, Text, add_times, joined, time_text
+from .dates import Dates
+from .joining import Field, Places, Text, field_in, field_of, fractions_of, joined, rows_of, time_text
 from .listing import Names
+from .raw import RawWords
+from .window import Window
 
 MICRO = 1_000_000
 MOST_CELLS = 1 << 18  # of a grid that are written at once
+OWN = ("recording", "session", "time", "date", "note")  # columns that are no parameter's
 
 
 def row_text(cells: list[str]) -> bytes:
@@ -24,6 +28,53 @@ def row_text(cells: list[str]) -> bytes:
     out = io.StringIO()
     csv.writer(out, lineterminator="\n").writerow(cells)
     return out.getvalue().encode()
+
+
+@dataclass
+class Columns:
+    """What rows have beside their samples: the session of each recording, and the dates, bits and words that are asked for."""
+
+    sessions: list[int | None]
+    dates: Dates | None = None
+    with_bits: bool = False
+    raw: RawWords | None = None
+    window: Window = field(default_factory=Window)
+
+    def first(self) -> list[str]:
+        """The names of the first columns."""
+        return ["recording", "session", "time", *(["date"] if self.dates else [])]
+
+    def after_value(self) -> list[str]:
+        """The names of the columns after the value of a long table."""
+        return [*(["bit"] if self.with_bits else []), *(["raw"] if self.raw else [])]
+
+    def label(self, recording: int) -> str:
+        """A recording and its session, as the first fields of a row."""
+        session = self.sessions[recording] if recording < len(self.sessions) else None
+        return f"{recording + 1}," + ("" if session is None else str(session))
+
+    def between(self, one: Between) -> list[str]:
+        """The first fields of something between rows."""
+        recording, _, session = self.label(one.recording).partition(",")
+        date = [self.dates.text(one.recording, one.begin)] if self.dates else []
+        return [recording, session, time_text(one.begin), *date]
+
+    def fields(self, recording: np.ndarray, ticks: np.ndarray) -> list[Field]:
+        """The first fields of rows, without a comma at their end."""
+        seconds = ticks // SECOND
+        first = np.flatnonzero(np.insert((np.diff(seconds) != 0) | (np.diff(recording) != 0), 0, len(ticks) > 0))
+        labels = {number: self.label(number).encode() for number in set(recording[first].tolist())}
+        texts = [b"%b,%d" % (labels[n], s) for n, s in zip(recording[first].tolist(), seconds[first].tolist())]
+        codes = np.repeat(np.arange(len(first)), np.diff(first, append=len(ticks)))
+        fields = [field_of(texts, codes, at_right=True), fractions_of(ticks)]
+        return fields if self.dates is None else [*fields, texts_field(self.dates.texts(recording, ticks))]
+
+
+def texts_field(texts: np.ndarray) -> Field:
+    """A field of these texts, with a comma before each."""
+    texts = np.char.add(b",", texts)
+    width = texts.dtype.itemsize or 1
+    return Field(np.frombuffer(texts.tobytes(), dtype=np.uint8).reshape(-1, width), np.char.str_len(texts).astype(np.int64))
 
 
 class TableWriter(Protocol):
@@ -39,34 +90,55 @@ class TableWriter(Protocol):
 class LongTable:
     """A row for each sample, in the order of the listing."""
 
-    def __init__(self, out: BinaryIO) -> None:
+    def __init__(self, out: BinaryIO, columns: Columns) -> None:
         self.out = out
-        out.write(row_text(["time", "counter", "subframe", "word", "name", "value"]))
+        self.columns = columns
+        header = [*columns.first(), "counter", "subframe", "word", "name", "value", *columns.after_value(), "note"]
+        out.write(row_text(header))
 
     def write(self, timed: Timed) -> None:
-        """Writes a piece: each row as it is in the listing, with its time in front."""
-        piece = timed.piece
-        text = Text(piece.text)
-        whole, fraction = add_times(text, timed.time)
-        starts = np.stack((whole.start, fraction.start, piece.rest_start), axis=1).ravel()
-        lengths = np.stack((whole.length, fraction.length, piece.end - piece.rest_start), axis=1).ravel()
-        if timed.between:
-            others = text.add_each([self._between(one) for one in timed.between])
-            rows = np.array([3 * one.row for one in timed.between])
-            starts, lengths = np.insert(starts, rows, others.start), np.insert(lengths, rows, others.length)
-        self.out.write(joined(text.whole(), Places(starts, lengths)))
+        """Writes a piece: each row as it is in the listing, with its recording and its time in front."""
+        text, ends = rows_of([*self.columns.fields(timed.recording, timed.time), *self._rest(timed)])
+        if not timed.between:
+            self.out.write(text)
+            return
+        ends, done = np.insert(ends, 0, 0), 0
+        for one in timed.between:
+            self.out.write(text[done : ends[one.row]])
+            self.out.write(self._between(one))
+            done = int(ends[one.row])
+        self.out.write(text[done:])
 
     def end(self, between: list[Between]) -> None:
         """Writes what is after the last row."""
         for one in between:
             self.out.write(self._between(one))
 
-    @staticmethod
-    def _between(one: Between) -> bytes:
+    def _rest(self, timed: Timed) -> list[Field]:
+        """What comes after the time: the listing's own text, the columns after it, and an empty note."""
+        piece = timed.piece
+        own = field_in(piece.text, piece.rest_start, piece.end - 1 - piece.rest_start, more=2)
+        fields = [own]
+        if self.columns.with_bits and timed.bit is not None:
+            bits = np.where(timed.bit >= 0, timed.bit.astype("S20"), b"")
+            fields.append(texts_field(bits))
+        if self.columns.raw is not None:
+            fields.append(texts_field(self.columns.raw.texts(timed)))
+        last = fields[-1]
+        if last is not own:
+            last.text = np.concatenate((last.text, np.zeros((len(piece), 2), dtype=np.uint8)), axis=1)
+        rows = np.arange(len(piece))
+        last.text[rows, last.length] = ord(",")
+        last.text[rows, last.length + 1] = ord("\n")
+        last.length = last.length + 2
+        return fields
+
+    def _between(self, one: Between) -> bytes:
         place = ["", "", ""]
         if one.exceedance:
             place = [str(number) for number in (one.exceedance.counter, one.exceedance.subframe, one.exceedance.word)]
-        return row_text([time_text(one.begin), *place, f"({one.event.value})", one.text])
+        empty = [""] * (1 + len(self.columns.after_value()))
+        return row_text([*self.columns.between(one), *place, f"({one.event.value})", *empty, one.text])
 
 
 @dataclass
@@ -74,42 +146,46 @@ class Samples:
     """Samples by column, and the text that their values are in."""
 
     text: np.ndarray
+    recording: np.ndarray
     stretch: np.ndarray
     time: np.ndarray
     name: np.ndarray
     start: np.ndarray
     length: np.ndarray
+    value: np.ndarray
 
     def __len__(self) -> int:
         return len(self.time)
 
     def only(self, which: np.ndarray) -> "Samples":
         """Some of them, in this order, with the text as it is."""
-        return Samples(
-            self.text, *(column[which] for column in (self.stretch, self.time, self.name, self.start, self.length))
-        )
+        columns = (self.recording, self.stretch, self.time, self.name, self.start, self.length, self.value)
+        return Samples(self.text, *(column[which] for column in columns))
 
     def alone(self) -> "Samples":
         """The same, with a text that has nothing but their values."""
         text = np.frombuffer(joined(self.text, Places(self.start, self.length)), dtype=np.uint8)
-        return Samples(text, self.stretch, self.time, self.name, np.cumsum(self.length) - self.length, self.length)
+        start = np.cumsum(self.length) - self.length
+        return Samples(text, self.recording, self.stretch, self.time, self.name, start, self.length, self.value)
 
     def followed_by(self, timed: Timed) -> "Samples":
         """These, and after them those of a piece."""
         piece, shift = timed.piece, len(self.text)
         return Samples(
             np.concatenate((self.text, piece.text)),
+            np.concatenate((self.recording, timed.recording)),
             np.concatenate((self.stretch, timed.stretch)),
             np.concatenate((self.time, timed.time)),
             np.concatenate((self.name, piece.name)),
             np.concatenate((self.start, piece.value_start + shift)),
             np.concatenate((self.length, piece.end - 1 - piece.value_start)),
+            np.concatenate((self.value, piece.value)),
         )
 
 
 def no_samples() -> Samples:
     nothing = np.zeros(0, dtype=np.int64)
-    return Samples(np.zeros(0, dtype=np.uint8), nothing, nothing, nothing, nothing, nothing)
+    return Samples(np.zeros(0, dtype=np.uint8), *[nothing] * 6, np.zeros(0))
 
 
 class InTime:
@@ -143,10 +219,9 @@ class InTime:
 
 
 class Waiting:
-    """What is between stretches and isn't written yet, as rows of a wide table."""
+    """What is between stretches and isn't written yet."""
 
-    def __init__(self, columns: int) -> None:
-        self.columns = columns
+    def __init__(self) -> None:
         self.held: list[tuple[int, Between]] = []  # each with the stretch that it is before
 
     def add(self, timed: Timed) -> None:
@@ -155,106 +230,93 @@ class Waiting:
             at = min(one.row, len(timed.stretch) - 1)
             self.held.append((int(timed.stretch[at]) if at >= 0 else 0, one))
 
-    def before(self, stretch: int) -> tuple[list[int], list[bytes]]:
-        """What is before a stretch or an earlier one: the stretch of each, and its row."""
+    def before(self, stretch: int) -> list[tuple[int, Between]]:
+        """What is before a stretch or an earlier one, each with the stretch that it is before."""
         ready = [(before, one) for before, one in self.held if before <= stretch]
         self.held = self.held[len(ready) :]
-        return [before for before, _ in ready], self.rows([one for _, one in ready])
+        return ready
 
-    def rest(self, between: list[Between]) -> list[bytes]:
+    def rest(self, between: list[Between]) -> list[Between]:
         """What is left, and what is after the last row."""
-        return self.rows([one for _, one in self.held] + between)
-
-    def rows(self, between: list[Between]) -> list[bytes]:
-        """The rows of these."""
-        empty = [""] * self.columns
-        return [row_text([time_text(one.begin), f"{one.event.value}: {one.text}", *empty]) for one in between]
+        return [one for _, one in self.held] + between
 
 
-def header_of(names: Names) -> bytes:
-    """The first row of a wide table."""
-    return row_text(["time", "(between)", *names.names])
+def column_names(names: Names) -> list[str]:
+    """The names of the parameters' columns: one that is a column of its own anyway is in brackets, as no other can be."""
+    return [f"({name})" if name in OWN else name for name in names.names]
 
 
-def check_columns(timed: Timed, columns: int) -> None:
-    """Each name of a piece has its column."""
-    if len(timed.piece) and int(timed.piece.name.max()) >= columns:
-        row = int(np.argmax(timed.piece.name >= columns))
-        place = (
-            f"counter {timed.piece.counter[row]}, subframe {timed.piece.subframe[row]}, word {timed.piece.word[row]}"
-        )
-        raise Fault(f"the listing has a parameter that the table hasn't: at {place}")
+class ByParameter:
+    """What the tables with a column for each parameter share: their first row, and the rows between their samples."""
 
-
-class WideTable:
-    """A column for each parameter, and a row for each time at which samples began."""
-
-    def __init__(self, out: BinaryIO, names: Names) -> None:
+    def __init__(self, out: BinaryIO, names: Names, columns: Columns) -> None:
         self.out = out
-        self.columns = len(names)
+        self.count = len(names)
+        self.columns = columns
         self.in_time = InTime()
-        self.waiting = Waiting(self.columns)
-        out.write(header_of(names))
+        self.waiting = Waiting()
+        out.write(row_text([*columns.first(), *column_names(names), "note"]))
+
+    def between(self, one: Between) -> bytes:
+        """The row of something between samples."""
+        return row_text([*self.columns.between(one), *[""] * self.count, f"{one.event.value}: {one.text}"])
+
+
+class WideTable(ByParameter):
+    """A column for each parameter, and a row for each time at which samples began."""
 
     def write(self, timed: Timed) -> None:
         """Writes the rows of a piece that no later row can be before."""
-        check_columns(timed, self.columns)
         self.waiting.add(timed)
         self._write(self.in_time.sorted(timed))
 
     def end(self, between: list[Between]) -> None:
         """Writes the rest."""
         self._write(self.in_time.rest())
-        self.out.writelines(self.waiting.rest(between))
+        self.out.writelines(self.between(one) for one in self.waiting.rest(between))
 
     def _write(self, samples: Samples) -> None:
         """Writes samples, which are in the order of their rows: a sample's commas before it, and the rest of its row."""
         if not len(samples):
             return
         text = Text(samples.text)
-        commas = text.add(b"," * (self.columns + 1) + b"\n")
-        whole, fraction = add_times(text, samples.time)
+        commas = text.add(b"," * (self.count + 1) + b"\n")
         begins = np.diff(samples.time, prepend=-1) != 0
         begins[1:] |= np.diff(samples.stretch) != 0
+        first = np.flatnonzero(begins)
+        heads, head_ends = rows_of(self.columns.fields(samples.recording[first], samples.time[first]))
+        head_start = text.add(heads) + np.insert(head_ends, 0, 0)[:-1]
+        start, length = np.zeros(len(samples), dtype=np.int64), np.zeros(len(samples), dtype=np.int64)
+        start[first], length[first] = head_start, np.diff(head_ends, prepend=0)
         ends = np.append(begins[1:], True)
-        before = np.where(begins, -2, np.roll(samples.name, 1))
-        left = self.columns - 1 - samples.name
+        before = np.where(begins, -1, np.roll(samples.name, 1))
+        left = self.count - 1 - samples.name
         everywhere = np.full(len(samples), commas)
-        starts = [whole.start, fraction.start, everywhere, samples.start, everywhere + self.columns + 1 - left]
-        lengths = [
-            whole.length * begins,
-            fraction.length * begins,
-            samples.name - before,
-            samples.length,
-            (left + 1) * ends,
-        ]
-        stretches, rows = self.waiting.before(int(samples.stretch[-1]))
-        others = text.add_each(rows)
-        at = np.searchsorted(samples.stretch, stretches).astype(np.int64) * len(starts)
-        start = np.insert(np.stack(starts, axis=1).ravel(), at, others.start)
-        length = np.insert(np.stack(lengths, axis=1).ravel(), at, others.length)
-        self.out.write(joined(text.whole(), Places(start, length)))
+        starts = [start, everywhere, samples.start, everywhere + self.count - left]
+        lengths = [length, samples.name - before, samples.length, (left + 2) * ends]
+        ready = self.waiting.before(int(samples.stretch[-1]))
+        others = text.add_each([self.between(one) for _, one in ready])
+        at = np.searchsorted(samples.stretch, [stretch for stretch, _ in ready]).astype(np.int64) * len(starts)
+        all_starts = np.insert(np.stack(starts, axis=1).ravel(), at, others.start)
+        all_lengths = np.insert(np.stack(lengths, axis=1).ravel(), at, others.length)
+        self.out.write(joined(text.whole(), Places(all_starts, all_lengths)))
 
 
-class GridTable:
+class GridTable(ByParameter):
     """A column for each parameter, and rows at whole multiples of a step of time: of each parameter the last value of the
     stretch so far, or nothing. No value is carried into another stretch."""
 
-    def __init__(self, out: BinaryIO, names: Names, step: int) -> None:
-        self.out = out
-        self.columns = len(names)
+    def __init__(self, out: BinaryIO, names: Names, columns: Columns, step: int) -> None:
+        super().__init__(out, names, columns)
         self.step = step  # microseconds
-        self.in_time = InTime()
-        self.waiting = Waiting(self.columns)
         self.stretch = 0  # the open one; there is none that is 0
+        self.recording = 0
         self.next = 0  # the multiple of the step that comes next
         self.ends = 0  # where the open stretch's newest frame ends, in ticks
         self.values: list[bytes] = []
-        out.write(header_of(names))
 
     def write(self, timed: Timed) -> None:
         """Writes the rows that a piece decides."""
-        check_columns(timed, self.columns)
         self.waiting.add(timed)
         self._write(self.in_time.sorted(timed))
 
@@ -262,7 +324,10 @@ class GridTable:
         """Writes the rest."""
         self._write(self.in_time.rest())
         self._rows(no_samples(), self.ends)
-        self.out.writelines(self.waiting.rest(between))
+        self._betweens([one for one in self.waiting.rest(between)])
+
+    def _betweens(self, between: list[Between]) -> None:
+        self.out.writelines(self.between(one) for one in self.columns.window.betweens(between))
 
     def _write(self, samples: Samples) -> None:
         """Takes samples, which are in the order of their times in each stretch."""
@@ -282,10 +347,10 @@ class GridTable:
 
     def _enter(self, samples: Samples) -> None:
         """Begins a stretch."""
-        self.stretch = int(samples.stretch[0])
-        self.out.writelines(self.waiting.before(self.stretch)[1])
+        self.stretch, self.recording = int(samples.stretch[0]), int(samples.recording[0])
+        self._betweens([one for _, one in self.waiting.before(self.stretch)])
         self.next = self._first_not_before(int(samples.time[0]))
-        self.values = [b""] * self.columns
+        self.values = [b""] * self.count
 
     def _first_not_before(self, ticks: int) -> int:
         """The first multiple of the step that isn't before a time."""
@@ -294,14 +359,20 @@ class GridTable:
     def _rows(self, samples: Samples, limit: int) -> None:
         """Writes the rows before a time, in ticks."""
         end = self._first_not_before(limit)
-        most = max(1, MOST_CELLS // max(1, self.columns))
+        most = max(1, MOST_CELLS // max(1, self.count))
         while self.next < end:
             count = min(most, end - self.next)
             self._block(samples, np.arange(self.next, self.next + count, dtype=np.int64))
             self.next += count
 
     def _block(self, samples: Samples, multiples: np.ndarray) -> None:
-        """Writes the rows of these multiples of the step."""
+        """Writes the rows of these multiples of the step, as far as they are wanted."""
+        ticks = -(-multiples * (self.step * SECOND) // MICRO)
+        recording = np.full(len(multiples), self.recording)
+        wanted = self.columns.window.rows(recording, ticks)
+        multiples, recording = multiples[wanted], recording[wanted]
+        if not len(multiples):
+            return
         text = Text(samples.text)
         values = text.add_each(self.values)
         start = np.repeat(values.start[np.newaxis], len(multiples), axis=0)
@@ -313,11 +384,22 @@ class GridTable:
                 column, there = samples.name[rows[0]], last >= 0
                 start[there, column] = samples.start[rows[last[there]]]
                 length[there, column] = samples.length[rows[last[there]]]
-        times = text.add_each([b"%d.%06d," % divmod(multiple * self.step, MICRO) for multiple in multiples.tolist()])
+        heads = text.add_each(self._heads(multiples))
         signs = text.add(b",\n")
-        pieces = np.empty((2, len(multiples), 2 + 2 * self.columns), dtype=np.int64)
-        pieces[:, :, 0] = times.start, times.length
-        pieces[:, :, 1:-1:2] = np.array([signs, 1])[:, np.newaxis, np.newaxis]
-        pieces[:, :, 2:-1:2] = start, length
+        pieces = np.empty((2, len(multiples), 3 + 2 * self.count), dtype=np.int64)
+        pieces[:, :, 0] = heads.start, heads.length
+        pieces[:, :, 1:-2:2] = np.array([signs, 1])[:, np.newaxis, np.newaxis]
+        pieces[:, :, 2:-2:2] = start, length
+        pieces[:, :, -2] = np.array([signs, 1])[:, np.newaxis]
         pieces[:, :, -1] = np.array([signs + 1, 1])[:, np.newaxis]
         self.out.write(joined(text.whole(), Places(pieces[0], pieces[1])))
+
+    def _heads(self, multiples: np.ndarray) -> list[bytes]:
+        """The first fields of rows at these multiples of the step."""
+        label = self.columns.label(self.recording).encode()
+        times = [b"%b,%d.%06d" % (label, *divmod(one, MICRO)) for one in (multiples * self.step).tolist()]
+        if self.columns.dates is None:
+            return times
+        recording = np.full(len(multiples), self.recording)
+        dates = self.columns.dates.texts(recording, multiples * (self.step * SECOND / MICRO))
+        return [time + b"," + date for time, date in zip(times, dates.tolist())]

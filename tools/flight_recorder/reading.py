@@ -1,0 +1,145 @@
+"""A listing with its times, as the commands take it: checked against its table, and read again where its memory wraps."""
+
+from dataclasses import dataclass, field, replace
+from typing import Iterator
+
+import numpy as np
+
+from . import places
+from .addresses import Addresses
+from .clock import Between, Clock, Timed, shape_of
+from .listing import Kind, Mark, Names, Piece, Place, empty_piece, read_listing
+from .parameters import Table, read_table
+from .streams import Again
+from .window import Window, Zero
+
+
+@dataclass(frozen=True)
+class Wrap:
+    """Where a memory wraps: the place of the line after it, and that line's frame in the bits, where it is known."""
+
+    place: Place
+    bit: int | None
+
+
+@dataclass
+class PassedOver:
+    """Lines of kinds that aren't known: how many, and the number of the first."""
+
+    count: int = 0
+    line: int = 0
+
+    def add(self, piece: Piece) -> None:
+        """Counts those of a piece."""
+        lines = [mark.line for mark in piece.marks if mark.kind is Kind.OTHER]
+        self.line = self.line if self.count or not lines else lines[0]
+        self.count += len(lines)
+
+
+@dataclass
+class Reading:
+    """How a listing is read."""
+
+    table: Table | None
+    words: int | None
+    window: Window = Window()
+    cuts: bool = True  # pieces to the window; who needs what is before it cuts its own output
+    as_recorded: bool = False
+    with_bits: bool = False
+    names: Names = field(default_factory=Names)
+
+    def passes(self, source: Again) -> Iterator["Pass"]:
+        """The listing, from its beginning to its end. Where it turns out then that the memory wraps, once more, and this is the
+        one that counts."""
+        first = Pass(self, source, None)
+        yield first
+        wrap = first.wrap()
+        if wrap is not None:
+            yield Pass(self, source, wrap)
+
+
+def reading_of(table: str | None, words: int | None) -> Reading:
+    """How a listing is read by the table of this path, or by the number of words alone."""
+    known = read_table(table) if table else None
+    return Reading(known, words, names=Names(list(known.parameters) if known else None))
+
+
+class Pass:
+    """One way through a listing: its pieces with their times, and what is after the last row."""
+
+    def __init__(self, reading: Reading, source: Again, wrap: Wrap | None) -> None:
+        self.reading = reading
+        self.source = source
+        self.given_wrap = wrap
+        self.shape = shape_of(reading.table, reading.words)
+        in_order = reading.as_recorded
+        self.clock = Clock(self.shape, wrap.place if wrap and in_order else None)
+        is_exact = reading.table is not None and self.shape.every_frame
+        self.addresses = Addresses(self.shape, is_exact, wrap.bit if wrap and not in_order else 0)
+        self.starts = places.starts_of(reading.table) if reading.table else None
+        self.zero = Zero() if reading.window.from_zero else None
+        self.sessions = self.clock.sessions
+        self.rest: list[Between] = []
+        self.passed_over = PassedOver()
+        self.found: Wrap | None = None
+
+    def __iter__(self) -> Iterator[Timed]:
+        for piece in self._pieces():
+            yield self._timed(piece)
+        self.rest = self.clock.end()
+        self.rest = self.zero.betweens(self.rest) if self.zero else self.rest
+        self.rest = self.reading.window.betweens(self.rest) if self.reading.cuts else self.rest
+
+    def wrap(self) -> Wrap | None:
+        """Where the memory wraps, once the listing was read."""
+        place = self.clock.wrap() if self.given_wrap is None else None
+        return None if place is None else self.found if self.found and self.found.place == place else Wrap(place, None)
+
+    def _pieces(self) -> Iterator[Piece]:
+        """The pieces; where the memory is known to wrap those after that place first."""
+        names = self.reading.names
+        if self.given_wrap is None or self.reading.as_recorded:
+            yield from read_listing(self.source.input(), names)
+            return
+        place = self.given_wrap.place
+        yield empty_piece(Mark(Kind.WRAP, 0))
+        yield from read_listing(self.source.input(place.byte), names, place)
+        yield empty_piece(Mark(Kind.BEGIN, 0))
+        yield from read_listing(self.source.input(), names, Place(), place.byte)
+
+    def _timed(self, piece: Piece) -> Timed:
+        """A piece with its times, once it is checked."""
+        self.passed_over.add(piece)
+        if self.starts is not None:
+            self.starts.check(piece, self.reading.names)
+        else:
+            places.check_words(piece, self.shape.words)
+        timed = self.clock.times(piece, len(self.reading.names))
+        bits = self.addresses.follow(timed)
+        self._find(timed, bits)
+        if self.reading.with_bits:
+            bit = self._bits(timed, bits)
+            origins = np.repeat(self.addresses.origins, np.diff(timed.frames.first, append=len(piece)))
+            timed = replace(timed, bit=bit, dump_bit=np.where(bit >= 0, bit + origins, -1))
+        if self.clock.has_lines:
+            self.source.forget()
+        timed = self.zero.shift(timed) if self.zero else timed
+        return self.reading.window.cut(timed) if self.reading.cuts else timed
+
+    def _find(self, timed: Timed, bits: np.ndarray) -> None:
+        """Keeps where the memory may wrap, if that is in this piece."""
+        odd = self.clock.backs if self.clock.backs.count else self.clock.unknown
+        place, piece = odd.place, timed.piece
+        if place is None or self.found and self.found.place == place or not len(piece):
+            return
+        if place.byte >= piece.byte_of(0):
+            row = int(np.searchsorted(piece.rest_start, place.byte - piece.byte_of(0) + int(piece.rest_start[0])))
+            bit = int(bits[timed.frames.of(np.array([row]))[0]])
+            self.found = Wrap(place, bit if bit >= 0 else None)
+
+    def _bits(self, timed: Timed, bits: np.ndarray) -> np.ndarray:
+        """The bit at which each row's first word begins; below 0 where it is unknown."""
+        piece = timed.piece
+        frame = np.repeat(bits, np.diff(timed.frames.first, append=len(piece)))
+        within = ((piece.subframe - 1) * self.shape.words + piece.word - 1) * (self.shape.bits // (4 * self.shape.words))
+        return np.where(frame >= 0, frame + within, -1)
