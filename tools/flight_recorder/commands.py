@@ -43,7 +43,7 @@ def _parser() -> argparse.ArgumentParser:
         prog="flight", description=ABOUT, formatter_class=argparse.RawDescriptionHelpFormatter, allow_abbrev=False
     )
     commands = parser.add_subparsers(metavar="COMMAND", required=True)
-    for add in (_add_trace, _add_words, _add_check_trace, _add_pack, _add_unpack, _add_table, _add_plot):
+    for add in (_add_trace, _add_words, _add_check_trace, _add_pack, _add_unpack, _add_table, _add_frame, _add_plot):
         add(commands)
     return parser
 
@@ -279,6 +279,38 @@ def _run_table(given: argparse.Namespace) -> None:
         _say_passed_over(passed_over)
 
 
+def _write_hdf(
+    given: argparse.Namespace, how: reading.Reading, starts: dates.Dates | None, source: Again
+) -> reading.PassedOver:
+    """Writes a file of HDF5, and answers what was passed over."""
+    import hashlib
+
+    from . import durations, hdf
+
+    digest = source.source.digest = hashlib.sha256()
+    with whole_file(pathlib.Path(given.output)) as half:
+        for one in how.passes(source):
+            columns = _columns(given, one, starts)
+            with hdf.Store(half, columns) as store:
+                writer: tables.TableWriter = hdf.LongStore(store, how.names)
+                if given.every is not None:
+                    writer = hdf.GridStore(store, how.names, columns, durations.microseconds(given.every))
+                elif given.wide:
+                    writer = hdf.WideStore(store, how.names, columns)
+                for timed in one:
+                    writer.write(timed)
+                writer.end(one.rest)
+                source.source.digest = None  # what is read again is in another order
+                store.end(hdf.about(given.listing, digest.hexdigest(), given.table, one.shape.words, _version()))
+    return one.passed_over
+
+
+def _version() -> str:
+    """The version of the tools, where its file is beside them."""
+    path = pathlib.Path(__file__).resolve().parent.parent.parent / "VERSION"
+    return path.read_text().split()[0] if path.is_file() else ""
+
+
 def _is_hdf(path: str | None) -> bool:
     return path is not None and pathlib.Path(path).suffix in (".h5", ".hdf5")
 
@@ -318,6 +350,38 @@ def _table_writer(
     if given.wide:
         return tables.WideTable(out, names, columns)
     return tables.LongTable(out, columns)
+
+
+def _add_frame(commands: argparse._SubParsersAction) -> None:
+    parser = _command(
+        commands,
+        "frame",
+        _run_frame,
+        "print a frame of packed bits in octal, with what its words hold",
+        "flight frame flight.bits --at 0:10:00 --table examples/ordinary.csv",
+    )
+    parser.add_argument("dump", metavar="DUMP", help="packed bits, as fdr listbits reads them; - for standard input")
+    parser.add_argument("--at", metavar="COUNTER|TIME", required=True, help="a counter as 150, or a time as 600s or 0:10:00")
+    parser.add_argument("--table", metavar="TABLE", required=True, help="the recording's table")
+
+
+def _run_frame(given: argparse.Namespace) -> None:
+    import io
+
+    import numpy
+
+    from . import dates, frames, parameters
+
+    table = parameters.read_table(given.table)
+    ticks = None if given.at.isdecimal() else dates.ticks_of(given.at, None)
+    with opened(given.dump) as source, standard_output() as out:
+        bits = numpy.frombuffer(source.read(), dtype=numpy.uint8)
+        found = frames.frames_of(bits, table)
+        text = io.StringIO()
+        for number in frames.chosen(found, given.at, ticks).tolist():
+            frames.write_frame(text, bits, table, found, number)
+            text.write("\n")
+        out.write(text.getvalue().encode())
 
 
 def _add_plot(commands: argparse._SubParsersAction) -> None:

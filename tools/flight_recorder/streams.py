@@ -1,6 +1,7 @@
 """Files and standard streams: inputs that report their progress, and outputs that are whole or not there."""
 
 import contextlib
+import hashlib
 import os
 import pathlib
 import shutil
@@ -51,6 +52,7 @@ class Input:
         self.file = file
         self.progress = Progress(size)
         self.copy: BinaryIO | None = None  # of all that is read
+        self.digest: "hashlib._Hash | None" = None  # of all that is read
 
     def read(self, count: int = -1, /) -> bytes:
         """The next bytes, as many as are asked for; fewer at the end alone."""
@@ -58,6 +60,8 @@ class Input:
         self.progress.add(len(data))
         if self.copy is not None:
             self.copy.write(data)
+        if self.digest is not None:
+            self.digest.update(data)
         return data
 
     def lines(self) -> Iterator[str]:
