@@ -1,5 +1,7 @@
 """`flight trace` and `flight words`: records with known bytes, round trips, and captures that are refused."""
 
+import random
+
 import pytest
 
 import encoder
@@ -71,8 +73,8 @@ def test_marks_of_spreadsheets(flight, write):
 
 
 REFUSED = [
-    ("", 1, "the header names no column `time`"),
-    ("time,word\n", 1, "the header names no column `bus`"),
+    ("", 1, "the header names no column `time`; --columns time=NAME says which it is"),
+    ("time,word\n", 1, "the header names no column `bus`; --columns bus=NAME says which it is"),
     ("time,bus\n", 1, "the header names neither a column `word` nor a column `label`"),
     ("time,bus,label\n", 1, "the header names a column `label` and no column `data`"),
     ("time,bus,word\n0,0\n", 2, "it has 2 fields, and the header 3"),
@@ -84,8 +86,8 @@ REFUSED = [
     ),
     ("time,bus,word\nnan,0,1\n", 2, "time 'nan'"),
     ("time,bus,word\n1_0,0,1\n", 2, "time '1_0'"),
-    ("time,bus,word\n0,256,1\n", 2, "bus '256'"),
-    ("time,bus,word\n0,A,1\n", 2, "bus 'A'"),
+    ("time,bus,word\n0,256,1\n", 2, "bus '256': a bus is 0 to 255; --bus 256=0 gives a name a number"),
+    ("time,bus,word\n0,A,1\n", 2, "bus 'A': a bus is 0 to 255; --bus A=0 gives a name a number"),
     ("time,bus,word\n0,0,1FFFFFFFF\n", 2, "word '1FFFFFFFF'"),
     ("time,bus,word\n0,0,12G\n", 2, "word '12G'"),
     ("time,bus,label,data\n0,0,400,1\n", 2, "label '400'"),
@@ -136,6 +138,86 @@ def test_two_ends(flight, write):
         flight("trace", write("c.csv", "time,bus,word\n1,,end\n"), "--end", 2).error
         == "flight: --end, and the capture has a row of its end\n"
     )
+
+
+def times_of(trace):
+    return [int.from_bytes(trace[at + 8 : at + 16], "big") for at in range(0, len(trace), 16)]
+
+
+KINDS_OF_TIME = [
+    (["1777888800.25", "1777888801.250001", "1777892400"], [0, 1_000_001, 3_599_750_000]),  # from 1970 on
+    (["10:00:00.5", "10:00:01", "23:59:59.999999", "00:00:00", "9:00:00"], [0, 500_000, 50_399_499_999, 50_399_500_000, 82_799_500_000]),
+    (["123:10:00:00.000123", "123:10:00:00.000124", "124:00:00:00"], [0, 1, 50_399_999_877]),
+    (["2026-05-04T10:00:00Z", "2026-05-04T10:00:00.000001Z", "2026-05-05T00:00:00Z"], [0, 1, 50_400_000_000]),
+    (["2026-05-04 10:00:00", "2026-05-04 10:01:00.5", "2026-05-05 00:00:00"], [0, 60_500_000, 50_400_000_000]),
+    (["0.1", "0.25", "7"], [100_000, 250_000, 7_000_000]),
+]
+
+
+@pytest.mark.parametrize("times, wanted", KINDS_OF_TIME)
+@pytest.mark.parametrize("word", ["1", '"1"'])  # read many at once, and one by one
+def test_kinds_of_time(flight, write, times, wanted, word):
+    rows = "".join(f"{time},0,{word}\n" for time in times)
+    answer = flight("trace", write("c.csv", "time,bus,word\n" + rows))
+    assert (answer.status, times_of(answer.out), answer.error) == (0, [*wanted, wanted[-1]], "")
+
+
+@pytest.mark.parametrize("time", ["24:00:00", "10:60:00", "10:00:60", "367:00:00:00", "0:10:00:00", "10:00", "2026-13-01T00:00:00"])
+def test_no_times(flight, write, time):
+    for word in ("1", '"1"'):
+        answer = flight("trace", write("c.csv", f"time,bus,word\n{time},0,{word}\n"))
+        assert answer == (1, b"", f"flight: row 2: time {time!r}\n")
+
+
+def test_kinds_of_time_are_not_mixed(flight, write):
+    for first, second in (("10:00:00", "1"), ("123:10:00:00", "10:00:01"), ("1", "10:00:00")):
+        answer = flight("trace", write("c.csv", f"time,bus,word\n{first},0,1\n{second},0,1\n"))
+        assert answer == (1, b"", f"flight: row 3: time {second!r}\n")
+
+
+def test_names_of_columns_and_buses(flight, write):
+    capture = write("c.csv", "Timestamp,Channel,Data Word,Note\n0,RX1,000014C1,a\n4,0,80001CC1,b\n")
+    words = ("--columns", "time=Timestamp,bus=channel,word=Data Word", "--bus", "RX1=0,RX2=1", "--end", 8)
+    assert flight("trace", capture, *words) == (0, FIVE + SEVEN + END, "")
+    assert flight("trace", capture, *words[:2], "--end", 8).error == (
+        "flight: row 2: bus 'RX1': a bus is 0 to 255; --bus RX1=0 gives a name a number\n"
+    )
+    assert flight("trace", capture, *words[:2], "--bus", "RX2=0,RX3=1").error == (
+        "flight: row 2: bus 'RX1': a bus is 0 to 255, or RX2, RX3 by --bus\n"
+    )
+
+
+def test_one_bus_for_all_rows(flight, write):
+    assert flight("trace", write("c.csv", "time,word\n0,000014C1\n4,80001CC1\n"), "--bus", 0, "--end", 8).out == FIVE + SEVEN + END
+
+
+@pytest.mark.parametrize(
+    "words, fault",
+    [
+        (("--bus", "RX1"), "--bus 'RX1': a name, =, and a number of 0 to 255, each name once"),
+        (("--bus", "RX1=256"), "--bus 'RX1=256': a name, =, and a number of 0 to 255, each name once"),
+        (("--bus", "A=1,A=2"), "--bus 'A=2': a name, =, and a number of 0 to 255, each name once"),
+        (("--columns", "when=T"), "--columns 'when=T': one of time, bus, word, label, sdi, data, ssm, and after = its name in the capture"),
+        (("--columns", "time=T"), "row 1: the header names no column `T`, which --columns has for time"),
+    ],
+)
+def test_refused_names(flight, write, words, fault):
+    assert flight("trace", write("c.csv", "time,bus,word\n0,0,1\n"), *words) == (1, b"", f"flight: {fault}\n")
+
+
+def test_both_readings_of_a_capture_say_the_same(flight, write):
+    """Rows that are read many at once, and the same rows one by one, as a quote makes them be, with a change in one of them."""
+    chance = random.Random(5)
+    for _ in range(150):
+        rows = [[f"{at / 7:.6f}", str(at % 4), f"{chance.randrange(1 << 32):08X}"] for at in range(12)]
+        fields = rows[chance.randrange(12)]
+        at = chance.randrange(3)
+        place = chance.randrange(len(fields[at]))
+        fields[at] = fields[at][:place] + chance.choice("0.9aFx :-_e\t") + fields[at][place + chance.randrange(2) :]
+        text = "".join(",".join(row) + "\n" for row in rows)
+        quick = flight("trace", write("q.csv", "time,bus,word\n" + text))
+        slow = flight("trace", write("s.csv", "time,bus,word\n" + "".join(f'"{row[0]}",{row[1]},{row[2]}\n' for row in rows)))
+        assert quick == slow, fields
 
 
 def test_words(flight, write):

@@ -1,15 +1,15 @@
 """Captures of buses as text: rows of comma-separated fields under a header line, and the traces that they become."""
 
 import csv
-import datetime
 import enum
 from dataclasses import dataclass, field
-from typing import BinaryIO, Callable, Iterable, Iterator, NamedTuple
+from typing import BinaryIO, Callable, Iterable, Iterator, Mapping, NamedTuple
 
 import numpy as np
 
-from . import bus, trace
+from . import bus, plain, trace
 from .faults import Fault
+from .moments import Clock
 from .streams import Input
 
 AT_ONCE = 1 << 15  # rows that are turned into records at once
@@ -42,6 +42,8 @@ class Settings:
     label_first: bool = False
     sort: bool = False
     end: str | None = None
+    columns: Mapping[str, str] = field(default_factory=dict)  # what the capture calls them
+    buses: Mapping[str, int] = field(default_factory=dict)  # by their names; the one without a name is that of all rows
 
 
 @dataclass
@@ -65,54 +67,18 @@ class Words(NamedTuple):
     word: np.ndarray
 
 
-class Clock:
-    """Times of a capture as microseconds: numbers from the recording's start, or ISO 8601 times from the first on."""
-
-    def __init__(self, unit: Unit) -> None:
-        self.unit = unit
-        self.dated: bool | None = None
-        self.start: datetime.datetime | None = None
-
-    def microseconds(self, text: str) -> int:
-        """One time. A ValueError is raised where it isn't of the kind of those before."""
-        text = text.strip()
-        dated = ":" in text
-        if self.dated is None:
-            self.dated = dated
-        if dated is not self.dated:
-            raise ValueError("numbers and dates")
-        return self._since_start(text) if dated else self._number(text)
-
-    def begin_later(self, microseconds: int) -> None:
-        """Dates count from so much later on, or earlier where it is below 0."""
-        if self.start is not None:
-            self.start += datetime.timedelta(microseconds=microseconds)
-
-    def _number(self, text: str) -> int:
-        time = float(_plain(text)) * self.unit.microseconds
-        if not abs(time) < 1e18:
-            raise ValueError("no time")
-        return round(time)
-
-    def _since_start(self, text: str) -> int:
-        moment = datetime.datetime.fromisoformat(text)
-        if self.start is None:
-            self.start = moment
-        if (moment.tzinfo is None) is not (self.start.tzinfo is None):
-            raise ValueError("zones")
-        return (moment - self.start) // datetime.timedelta(microseconds=1)
-
-
 class Header:
     """Where the columns of a capture are."""
 
-    def __init__(self, names: list[str]) -> None:
-        places = {
-            name.strip().lower().removeprefix(BYTE_ORDER_MARK): at for at, name in reversed(list(enumerate(names)))
-        }
+    def __init__(self, names: list[str], settings: Settings) -> None:
+        places = {_plain_name(name): at for at, name in reversed(list(enumerate(names)))}
+        for column, name in settings.columns.items():
+            if _plain_name(name) not in places:
+                raise Fault(f"row {HEADER_ROW}: the header names no column `{name}`, which --columns has for {column}")
+            places[column] = places[_plain_name(name)]
         self.length = len(names)
         self.time = self._needed(places, "time")
-        self.bus = self._needed(places, "bus")
+        self.bus = None if "" in settings.buses else self._needed(places, "bus")
         self.word = places.get("word")
         self.fields = {name: places.get(name) for name in FIELDS}
         if self.word is None and self.fields["label"] is None:
@@ -125,34 +91,153 @@ class Header:
         """The column that has `end` in the row of the recording's end."""
         return self.word if self.word is not None else self.fields["label"]
 
+    @property
+    def columns(self) -> dict[str, int]:
+        """The columns that are there, by what they hold."""
+        named = {"time": self.time, "bus": self.bus, "word": self.word, **self.fields}
+        return {name: at for name, at in named.items() if at is not None}
+
     @staticmethod
     def _needed(places: dict[str, int], name: str) -> int:
         if name not in places:
-            raise Fault(f"row {HEADER_ROW}: the header names no column `{name}`")
+            raise Fault(f"row {HEADER_ROW}: the header names no column `{name}`; --columns {name}=NAME says which it is")
         return places[name]
+
+
+def _plain_name(name: str) -> str:
+    """A column's name as it is compared."""
+    return name.strip().lower().removeprefix(BYTE_ORDER_MARK)
+
+
+def columns_of(text: str) -> dict[str, str]:
+    """The columns of `--columns time=Timestamp,bus=Channel`."""
+    columns = {}
+    for one in text.split(",") if text else []:
+        column, _, name = one.partition("=")
+        if column not in COLUMNS[:-1] or not name:
+            raise Fault(f"--columns {one!r}: one of {', '.join(COLUMNS[:-1])}, and after = its name in the capture")
+        columns[column] = name
+    return columns
+
+
+def buses_of(given: list[str]) -> dict[str, int]:
+    """The buses of `--bus RX1=0`, several with commas between them or given one by one."""
+    buses = {}
+    for one in ",".join(given).split(",") if given else []:
+        name, _, number = one.rpartition("=")
+        if not number.isdecimal() or int(number) > MOST_BUS or name in buses:
+            raise Fault(f"--bus {one!r}: a name, =, and a number of 0 to {MOST_BUS}, each name once")
+        buses[name.strip()] = int(number)
+    return buses
 
 
 def convert(source: Input, out: BinaryIO, settings: Settings) -> None:
     """A capture as a trace."""
-    clock = Clock(settings.unit)
-    rows = _rows(source)
-    header = Header(next(rows, (1, [""]))[1])
-    end: int | None = None
+    reader = Reader(source, settings)
     newest, held = 0, []
-    for batch in _batches(rows, header.length):
-        endings = [at for at, text in enumerate(batch.column(header.ending)) if text.strip() == END_WORD]
-        if endings:
-            end = _end_row(batch, endings[0], header, clock)
-        words = _words_of(batch, header, clock, settings.label_first)
+    for words in reader.words():
         if settings.sort:
             held.append(words)
         else:
             newest = _write(words, newest, out)
+    end = reader.end
     if settings.sort:
-        words, earliest = _sorted(held, clock)
+        words, earliest = _sorted(held, reader.clock)
         end = None if end is None else end - earliest
         newest = _write(words, newest, out)
-    trace.write_end(out, _end_of(end, newest, clock, settings))
+    trace.write_end(out, _end_of(end, newest, reader.clock, settings))
+
+
+class Reader:
+    """Reads the words of a capture. Rows of plain numbers are read many at once; all others, and those with a fault, one by
+    one, which says the same."""
+
+    def __init__(self, source: Input, settings: Settings) -> None:
+        self.source = source
+        self.settings = settings
+        self.clock = Clock(settings.unit.microseconds, not settings.sort)
+        self.end: int | None = None
+        self.row = 0  # lines that were read
+        self.header = self._header()
+
+    def _header(self) -> Header:
+        """The first row."""
+        for number, row in self._rows(self.source.lines()):
+            self.row = number
+            return Header(row, self.settings)
+        return Header([""], self.settings)
+
+    def words(self) -> Iterator[Words]:
+        """All words, some at a time."""
+        for lines, is_plain in plain.pieces(self.source):
+            words = self._at_once(lines) if is_plain else None
+            if words is not None:
+                self.row += len(words.row)
+                yield words
+                continue
+            for batch in _batches(self._rows(lines.lines()), self.header.length):
+                yield self._one_by_one(batch)
+
+    def _at_once(self, lines: plain.Lines) -> Words | None:
+        """The words of lines of plain numbers; none where a line is another."""
+        header, settings = self.header, self.settings
+        known = self.clock.copy()
+        try:
+            if self.end is not None:
+                return None
+            fields = plain.Fields(lines.data, header.length)
+            times = known.all_microseconds(fields.column(header.time))
+            buses = fields.codes(header.bus, settings.buses) if header.bus is not None else None
+            columns = {name: fields.column(at) for name, at in header.columns.items() if name not in ("time", "bus")}
+            numbers = {name: column.whole(BASES[name], name in OPTIONAL) for name, column in columns.items()}
+        except plain.NotPlain:
+            return None
+        if any((number > MOST[name]).any() for name, number in numbers.items()):
+            return None
+        words = self._word_of(numbers, fields)
+        if words is None or buses is not None and (buses > MOST_BUS).any():
+            return None
+        self.clock = known
+        rows = self.row + 1 + np.arange(len(fields))
+        all_buses = np.full(len(fields), settings.buses.get("", 0)) if buses is None else buses
+        return Words(rows, times, all_buses.astype(np.uint8), words)
+
+    def _word_of(self, numbers: dict[str, np.ndarray], fields: plain.Fields) -> np.ndarray | None:
+        """The bus words of columns of numbers; none where a field isn't that of its word."""
+        given = {name: numbers[name].astype(np.uint32) for name in numbers}
+        nothing = np.zeros(len(fields), dtype=np.uint32)
+        if "word" not in given:
+            return bus.word_of(bus.Fields(*(given.get(name, nothing) for name in FIELDS)))
+        words = bus.turned(given["word"]) if self.settings.label_first else given["word"]
+        for name, said in zip(FIELDS, bus.fields_of(words)):
+            at = self.header.fields[name]
+            if name in given and at is not None and ((given[name] != said) & (fields.column(at).length > 0)).any():
+                return None
+        return words
+
+    def _one_by_one(self, batch: Batch) -> Words:
+        """The words of a batch of rows, and the end."""
+        endings = [at for at, text in enumerate(batch.column(self.header.ending)) if text.strip() == END_WORD]
+        if self.end is not None and batch.rows:
+            raise Fault(f"row {batch.rows[0]}: rows after the one of the end")
+        if endings:
+            self.end = _end_row(batch, endings[0], self.header, self.clock)
+        return _words_of(batch, self.header, self.clock, self.settings)
+
+    def _rows(self, lines: Iterator[str]) -> Iterator[tuple[int, list[str]]]:
+        """The rows that aren't blank, each with its number, which counts lines from 1."""
+        reader = csv.reader(lines, strict=True)
+        before = self.row
+        while True:
+            try:
+                row = next(reader, None)
+            except csv.Error as error:
+                raise Fault(f"row {before + reader.line_num}: {error}") from None
+            if row is None:
+                self.row = before + reader.line_num
+                return
+            if row:
+                yield before + reader.line_num, row
 
 
 def _sorted(held: list[Words], clock: Clock) -> tuple[Words, int]:
@@ -160,7 +245,7 @@ def _sorted(held: list[Words], clock: Clock) -> tuple[Words, int]:
     words = Words(*(np.concatenate(parts) for parts in zip(*held)))
     order = np.argsort(words.time, kind="stable")
     words = Words(*(column[order] for column in words))
-    earliest = int(words.time[0]) if clock.dated and len(order) else 0
+    earliest = int(words.time[0]) if clock.counts_from_first and len(order) else 0
     clock.begin_later(earliest)
     return words._replace(time=words.time - earliest), earliest
 
@@ -179,20 +264,6 @@ def _write(words: Words, newest: int, out: BinaryIO) -> int:
         )
     out.write(trace.records_of(words.bus, words.word, words.time).tobytes())
     return int(words.time[-1]) if len(words.time) else newest
-
-
-def _rows(source: Input) -> Iterator[tuple[int, list[str]]]:
-    """The rows that aren't blank, each with its number, which counts lines from 1."""
-    reader = csv.reader(source.lines(), strict=True)
-    while True:
-        try:
-            row = next(reader, None)
-        except csv.Error as error:
-            raise Fault(f"row {reader.line_num}: {error}") from None
-        if row is None:
-            return
-        if row:
-            yield reader.line_num, row
 
 
 def _batches(rows: Iterator[tuple[int, list[str]]], length: int) -> Iterator[Batch]:
@@ -271,15 +342,47 @@ MEANINGS: dict[str, Callable[[str], int]] = {
     "data": _data,
     "ssm": _or_nothing(_within(0, 3)),
 }
+MOST_BUS = 255
+BASES = {"word": 16, "label": 8, "sdi": 10, "data": 10, "ssm": 10}
+OPTIONAL = ("sdi", "ssm")  # empty is 0
+MOST = {"word": (1 << 32) - 1, "label": 0o377, "sdi": 3, "data": (1 << bus.DATA_BITS) - 1, "ssm": 3}
 _word = _within(0, (1 << 32) - 1, 16)
-_bus = _within(0, 255)
 
 
-def _words_of(batch: Batch, header: Header, clock: Clock, label_first: bool) -> Words:
+def _bus(buses: Mapping[str, int]) -> Callable[[str], int]:
+    """Reads a bus: its number, or a name of `--bus`."""
+    number = _within(0, MOST_BUS)
+    return lambda text: buses[text.strip()] if text.strip() in buses else number(text)
+
+
+def _buses(batch: Batch, header: Header, buses: Mapping[str, int]) -> list[int]:
+    """The buses of a batch. One that isn't understood is told with what is."""
+    if header.bus is None:
+        return [buses[""]] * len(batch.rows)
+    texts, meaning = batch.column(header.bus), _bus(buses)
+    try:
+        return [meaning(text) for text in texts]
+    except ValueError:
+        for text, row in zip(texts, batch.rows):
+            if not _means(text, meaning):
+                names = f", or {', '.join(buses)} by --bus" if buses else f"; --bus {text.strip() or 'NAME'}=0 gives a name a number"
+                raise Fault(f"row {row}: bus {text!r}: a bus is 0 to {MOST_BUS}{names}") from None
+        raise
+
+
+def _means(text: str, meaning: Callable[[str], int]) -> bool:
+    try:
+        meaning(text)
+    except ValueError:
+        return False
+    return True
+
+
+def _words_of(batch: Batch, header: Header, clock: Clock, settings: Settings) -> Words:
     """The words of a batch."""
     times = _each(batch.column(header.time), clock.microseconds, batch.rows, "time")
-    buses = _each(batch.column(header.bus), _bus, batch.rows, "bus")
-    words = _words(batch, header, label_first)
+    buses = _buses(batch, header, settings.buses)
+    words = _words(batch, header, settings.label_first)
     return Words(
         np.array(batch.rows, dtype=np.int64), np.array(times, dtype=np.int64), np.array(buses, dtype=np.uint8), words
     )

@@ -93,12 +93,24 @@ def _add_trace(commands: argparse._SubParsersAction) -> None:
         metavar="TIME",
         help="when the recording ends, as the capture's times; the last word's time if it isn't given",
     )
+    parser.add_argument(
+        "--columns", metavar="NAMES", default="", help="what the capture calls its columns, as time=Timestamp,bus=Channel"
+    )
+    parser.add_argument(
+        "--bus",
+        metavar="NAME=NUMBER",
+        action="append",
+        default=[],
+        help="the number of a bus that the capture names, as RX1=0; or a number alone, for all rows",
+    )
 
 
 def _run_trace(given: argparse.Namespace) -> None:
     from . import capture
 
-    settings = capture.Settings(capture.Unit(given.unit), given.label_first, given.sort, given.end)
+    columns, buses = capture.columns_of(given.columns), capture.buses_of(given.bus)
+    unit = capture.Unit(given.unit)
+    settings = capture.Settings(unit, given.label_first, given.sort, given.end, columns, buses)
     with opened(given.capture) as source, standard_output() as out:
         capture.convert(source, out, settings)
 
