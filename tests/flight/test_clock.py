@@ -178,7 +178,8 @@ WRAPPED = "gap,0,1000\n" + "".join(map(row, range(100, 110))) + "gap,31720,1000\
 )
 def test_a_memory_that_wraps(text, line):
     names, times = listing.Names(), clock.Clock(ALL_FRAMES)
-    times.times(listing.piece_of(text.encode(), 1, names), len(names))
+    if text:
+        times.times(listing.piece_of(text.encode(), 1, names), len(names))
     place = times.wrap()
     assert (place and place.line) == line
     assert place is None or text.encode()[place.byte :] == b"".join(text.encode().splitlines(keepends=True)[line - 1 :])

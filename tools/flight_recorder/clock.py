@@ -26,6 +26,7 @@ SECOND = 1024  # ticks
 FRAME = SUBFRAMES * SECOND
 LATE = SUPERFRAME - 1  # frames from a sample's first part to its last, at the most
 WORD_BITS = 12
+PLACES = SUBFRAMES * MOST_WORDS  # of a frame, on the clock's line; as many as ticks
 NONE = -1
 MOST_NAMES = 1 << 16  # whose numbers two bytes hold
 WRAPS = "the memory wraps here: what follows is older"
@@ -172,7 +173,8 @@ class Clock:
         others = (Kind.EXCEED, Kind.OTHER)
         edges = self.waiting + [mark for mark in piece.marks if mark.kind not in others]
         before = (self.newest + self.shift if self.has_rows else -1, max(self.recording, 0))
-        first, line, starts = self._line(piece, edges)
+        within = (piece.subframe.astype(np.int64) - 1) * MOST_WORDS + piece.word - 1
+        first, line, starts, place = self._line(piece, within, edges)
         newest = np.maximum.accumulate(np.maximum(line, self.newest))
         at = np.searchsorted(first, starts)
         shift, recording, between = self._placed(piece, line, newest, at, edges, first)
@@ -183,8 +185,10 @@ class Clock:
             between += self._exceedances(piece.marks, frames, first)
             between.sort(key=lambda one: one.row)
         counts = np.diff(first, append=len(piece))
-        time = np.repeat((line + shift) * FRAME, counts) + self._within_frame(piece)
-        self._keep(piece, line, newest, counts, len(at))
+        time = place + (piece.word - 1) * (SECOND // self.shape.words - 1)
+        if shift.any():
+            time += np.repeat(shift * FRAME, counts)
+        self._keep(piece, line, newest, place, len(at))
         frames_of = Frames(first, line, newest, stretch)
         rows = (np.repeat(column, counts) for column in (recording, stretch))
         return Timed(piece, *rows, time, between, frames_of, self.sessions)
@@ -203,11 +207,11 @@ class Clock:
         missing = (self.first_counter - self.newest - self.shift - 1) % ROUND
         return odd.place if self._agree(missing, bits) else None
 
-    def _within_frame(self, piece: Piece) -> np.ndarray:
-        return (piece.subframe - 1) * SECOND + (piece.word - 1) * (SECOND // self.shape.words)
-
-    def _line(self, piece: Piece, edges: list[Mark]) -> tuple[np.ndarray, np.ndarray, np.ndarray]:
-        """The first row of each frame, the frame's number on the line, and the rows that stretches begin with.
+    def _line(
+        self, piece: Piece, within: np.ndarray, edges: list[Mark]
+    ) -> tuple[np.ndarray, np.ndarray, np.ndarray, np.ndarray]:
+        """The first row of each frame, the frame's number on the line, the rows that stretches begin with, and the place of each
+        row on the line, of which a frame has 4,096; `within` is that in its frame.
 
         Where such a row is found, the line is counted anew, and others may be seen then."""
         changes = np.flatnonzero(np.diff(piece.counter, prepend=NONE))
@@ -222,9 +226,10 @@ class Clock:
             steps[late] -= ROUND
             steps[at] += ROUND
             line = self.line + np.cumsum(steps)
-            found = np.union1d(first[self._jumps(line)], self._backs(piece, first, line))
+            place = np.repeat(line * PLACES, np.diff(first, append=len(piece))) + within
+            found = np.union1d(first[self._jumps(line)], self._backs(piece, place))
             if not len(np.setdiff1d(found, starts)):
-                return first, line, starts
+                return first, line, starts, place
             starts = np.union1d(starts, found).astype(np.int64)
 
     def _jumps(self, line: np.ndarray) -> np.ndarray:
@@ -232,11 +237,11 @@ class Clock:
         newest = np.maximum.accumulate(np.insert(line, 0, self.newest))
         return np.flatnonzero(np.diff(newest) > self.shape.steps[newest[:-1] % SUPERFRAME])
 
-    def _backs(self, piece: Piece, first: np.ndarray, line: np.ndarray) -> np.ndarray:
+    def _backs(self, piece: Piece, place: np.ndarray) -> np.ndarray:
         """Rows at which a parameter has gone back, as few as there must be. None has over the beginning of a stretch."""
-        place = self._place(piece, np.repeat(line, np.diff(first, append=len(piece))))
         if len(self.last) <= MOST_NAMES and len(place) and place[0] > self.furthest:
-            if (np.diff(place * MOST_NAMES + piece.name) > 0).all():
+            each = place * MOST_NAMES + piece.name
+            if (each[1:] > each[:-1]).all():
                 return np.zeros(0, dtype=np.int64)
         known = np.flatnonzero(self.last != NONE)
         names = np.concatenate((known, piece.name))
@@ -246,11 +251,6 @@ class Clock:
         places = np.concatenate((self.last[known], place))[order]
         bad = np.flatnonzero((names[1:] == names[:-1]) & (places[1:] <= places[:-1]))
         return _between_each(order[bad] - len(known), order[bad + 1] - len(known))
-
-    @staticmethod
-    def _place(piece: Piece, line: np.ndarray) -> np.ndarray:
-        """A number that is greater for a later sample."""
-        return (line * SUBFRAMES + piece.subframe - 1) * MOST_WORDS + piece.word - 1
 
     def _placed(
         self, piece: Piece, line: np.ndarray, newest: np.ndarray, at: np.ndarray, edges: list[Mark], first: np.ndarray
@@ -417,13 +417,12 @@ class Clock:
                 between.append(Between(Event.EXCEED, mark.row, number, begin, begin, True, text, one))
         return between
 
-    def _keep(self, piece: Piece, line: np.ndarray, newest: np.ndarray, counts: np.ndarray, starts: int) -> None:
+    def _keep(self, piece: Piece, line: np.ndarray, newest: np.ndarray, place: np.ndarray, starts: int) -> None:
         """Keeps what the next piece goes on from."""
         if not len(piece):
             return
         self.line, self.newest = int(line[-1]), int(newest[-1])
         self.stretch += starts
-        place = self._place(piece, np.repeat(line, counts))
         self.last[piece.name] = place
         self.furthest = max(self.furthest, int(place.max()))
 

@@ -219,7 +219,7 @@ class Collector:
             if one.event is Event.EXCEED or one.recording >= len(self.recordings):
                 continue
             recording = self.recordings[one.recording]
-            if one.event.begins_recording:
+            if one.event.begins_recording and (one.event is not Event.WRAP or one.begin == recording.first):
                 begin = recording.put - (room if one.recording else 0)
                 spans.append(Span(one.event, begin, recording.put, True, one.text))
             elif one.begin is not None:

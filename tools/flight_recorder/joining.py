@@ -11,6 +11,7 @@ FRACTIONS = np.frombuffer(
     b"".join(b".%06d" % round(tick * 1_000_000 / SECOND) for tick in range(SECOND)), dtype=np.uint8
 )
 FRACTION = 7  # bytes of one
+MOST_MASKS = 4096
 
 
 @dataclass
@@ -101,11 +102,12 @@ def fractions_of(ticks: np.ndarray) -> Field:
 
 
 def field_in(text: np.ndarray, start: np.ndarray, length: np.ndarray, more: int = 0) -> Field:
-    """A field that stands in a text, with room for some more bytes."""
+    """A field that stands in a text, in the order of the rows, with room for some more bytes."""
     width = int(length.max(initial=0)) + more
-    if not width:
-        return Field(np.zeros((len(start), 0), dtype=np.uint8), length)
-    text = np.concatenate((text, np.zeros(max(0, int(start.max(initial=0)) + width - len(text)), dtype=np.uint8)))
+    if not len(start):
+        return Field(np.zeros((0, width), dtype=np.uint8), length)
+    missing = int(start[-1]) + width - len(text)
+    text = np.concatenate((text, np.zeros(missing, dtype=np.uint8))) if missing > 0 else text
     each = np.ndarray(len(text) - width + 1, dtype=f"V{width}", buffer=text, strides=(1,))
     return Field(each[start].view(np.uint8).reshape(len(start), width), length)
 
@@ -113,9 +115,28 @@ def field_in(text: np.ndarray, start: np.ndarray, length: np.ndarray, more: int 
 def rows_of(fields: list[Field]) -> tuple[bytes, np.ndarray]:
     """Rows that have these fields one after another: their text, and where each row ends in it."""
     text = np.concatenate([field.text for field in fields], axis=1)
-    mask = np.concatenate([field.mask for field in fields], axis=1)
-    ends = np.cumsum(np.sum([field.length for field in fields], axis=0))
+    mask = _mask_of(fields)
+    ends = np.cumsum(sum((field.length for field in fields[1:]), fields[0].length))
     return text[mask].tobytes(), ends
+
+
+def _mask_of(fields: list[Field]) -> np.ndarray:
+    """Which bytes of the rows are their fields'. Each row's are taken from a table of all that there may be, by the lengths of
+    its fields; where that would be large, each field's by itself."""
+    codes, tables = np.zeros(len(fields[0].length), dtype=np.int64), [np.zeros((1, 0), dtype=bool)]
+    for field in fields:
+        least, most = (int(field.length.min(initial=0 if not len(codes) else 1 << 30)), int(field.length.max(initial=0)))
+        width = field.text.shape[1]
+        lengths = np.arange(least, most + 1)[:, np.newaxis]
+        wanted = np.arange(width) < lengths
+        wanted = wanted[:, ::-1] if field.at_right else wanted
+        before = tables[-1]
+        if len(before) * len(wanted) > MOST_MASKS:
+            return np.concatenate([field.mask for field in fields], axis=1)
+        tables.append(np.hstack((np.repeat(before, len(wanted), axis=0), np.tile(wanted, (len(before), 1)))))
+        codes = codes * len(wanted) + (field.length - least) if most > least else codes
+    table = np.ascontiguousarray(tables[-1])
+    return _rows_of(table, codes).view(bool) if table.shape[1] else np.zeros((len(codes), 0), dtype=bool)
 
 
 def add_times(text: Text, ticks: np.ndarray) -> tuple[Places, Places]:

@@ -144,17 +144,16 @@ class Names:
         """The numbers of the names at these places. They are told apart by their bytes, with zeros after them."""
         _want(text[starts + lengths - 1] != 0)
         first = _taken(text, starts, "<u8") & KEEP[lengths + 8]
-        second = np.zeros(len(starts), dtype=np.uint64)
-        codes, _ = pandas.factorize(first)
+        codes, firsts = pandas.factorize(first)
+        seconds = np.zeros(len(firsts), dtype=np.uint64)
         if len(lengths) and lengths.max() > 8:
-            second = _taken(text, starts + 8, "<u8") & KEEP[lengths]
-            others, found = pandas.factorize(second)
-            codes, _ = pandas.factorize(codes * len(found) + others)
-        new = np.flatnonzero(np.diff(np.maximum.accumulate(codes), prepend=-1))
-        names = (first[new].tobytes(), second[new].tobytes())
+            others, found = pandas.factorize(_taken(text, starts + 8, "<u8") & KEEP[lengths])
+            codes, both = pandas.factorize(codes * len(found) + others)
+            firsts, seconds = firsts[both // len(found)], found[both % len(found)]
+        names = (firsts.tobytes(), seconds.tobytes())
         numbers = [
             self.number((names[0][at : at + 8] + names[1][at : at + 8]).rstrip(b"\0"))
-            for at in range(0, 8 * len(new), 8)
+            for at in range(0, 8 * len(firsts), 8)
         ]
         return np.array(numbers, dtype=np.int64)[codes]
 
@@ -200,25 +199,42 @@ def piece_of(data: bytes, first_line: int, names: Names) -> Piece:
     """Whole lines as columns; `first_line` is the number of the first one."""
     text = np.frombuffer(data + bytes(PADDING), dtype=np.uint8)
     try:
-        signs = np.flatnonzero((text == COMMA) | (text == NEWLINE))
-        last = np.flatnonzero(text[signs] == NEWLINE)  # of each line
-        ends = signs[last]
-        starts = np.insert(ends + 1, 0, 0)[:-1]
-        others = np.flatnonzero(_taken(text, starts, "<u4") != ROW)
-        marks: list[Mark] = []
-        if len(others):
-            marks = [
-                _mark(data[starts[line] : ends[line]], int(line) - before, first_line + int(line))
-                for before, line in enumerate(others)
-            ]
-            signs, starts, last = _rows_alone(signs, starts, last, others)
-        if len(signs) != SIGNS * len(starts) or not np.array_equal(last, np.arange(len(starts)) * SIGNS + COMMAS):
-            raise _Unsound
+        signs, starts, marks = _rows_in(text[: len(data)], data, first_line)
         piece = _piece(text, starts, np.ascontiguousarray(signs.reshape(-1, SIGNS).T), marks, names)
     except _Unsound:
         raise _first_fault(data, first_line) from None
     piece.first_line = first_line
     return piece
+
+
+def _rows_in(text: np.ndarray, data: bytes, first_line: int) -> tuple[np.ndarray, np.ndarray, list[Mark]]:
+    """The commas and line feeds of the rows, where the rows start, and the lines that are none. A comma is the greatest sign that
+    no other field has."""
+    signs = np.flatnonzero(text <= COMMA)
+    count = int(np.count_nonzero(text == NEWLINE))
+    if count and len(signs) == SIGNS * count and int(np.count_nonzero(text == COMMA)) == COMMAS * count:
+        ends = signs[COMMAS::SIGNS]
+        starts = np.insert(ends + 1, 0, 0)[:-1]
+        if (text[ends] == NEWLINE).all() and (_taken(text, starts, "<u4") == ROW).all():
+            return signs, starts, []
+    signs = np.flatnonzero((text == COMMA) | (text == NEWLINE))
+    last = np.flatnonzero(text[signs] == NEWLINE)  # of each line
+    ends = signs[last]
+    starts = np.insert(ends + 1, 0, 0)[:-1]
+    others = np.flatnonzero(_taken_padded(text, starts) != ROW)
+    marks = [
+        _mark(data[starts[line] : ends[line]], int(line) - before, first_line + int(line))
+        for before, line in enumerate(others)
+    ]
+    signs, starts, last = _rows_alone(signs, starts, last, others)
+    if len(signs) != SIGNS * len(starts) or not np.array_equal(last, np.arange(len(starts)) * SIGNS + COMMAS):
+        raise _Unsound
+    return signs, starts, marks
+
+
+def _taken_padded(text: np.ndarray, starts: np.ndarray) -> np.ndarray:
+    """The first four bytes of lines, the last of which may be shorter."""
+    return _taken(np.concatenate((text, np.zeros(4, dtype=np.uint8))), starts, "<u4")
 
 
 def _rows_alone(
@@ -301,8 +317,12 @@ def read_exceedances(source: Input) -> list[Exceedance]:
 def _piece(text: np.ndarray, starts: np.ndarray, signs: np.ndarray, marks: list[Mark], names: Names) -> Piece:
     """Rows as columns, by where they start, and by their commas and line feeds."""
     ends = signs[COMMAS]
-    counter, subframe, word = (_whole(text, signs[at] + 1, signs[at + 1]) for at in range(3))
-    _want((counter < ROUND) & (subframe >= 1) & (subframe <= SUBFRAMES) & (word >= 1) & (word <= MOST_WORDS))
+    counter, word = (_whole(text, signs[at] + 1, signs[at + 1]) for at in (0, 2))
+    subframe = (text[signs[1] + 1] - np.uint8(ZERO)).astype(np.int32)
+    _want(signs[2] - signs[1] == 2)
+    for number, least, most in ((counter, 0, ROUND - 1), (subframe, 1, SUBFRAMES), (word, 1, MOST_WORDS)):
+        if len(number) and not least <= int(number.min()) <= int(number.max()) <= most:
+            raise _Unsound
     lengths = _short(signs[4] - signs[3] - 1, MOST_NAME)
     value, decimals = _values(text, signs[4] + 1, ends)
     name = names.numbers_in(text, signs[3] + 1, lengths)

@@ -62,7 +62,8 @@ class Columns:
     def fields(self, recording: np.ndarray, ticks: np.ndarray) -> list[Field]:
         """The first fields of rows, without a comma at their end."""
         seconds = ticks // SECOND
-        first = np.flatnonzero(np.insert((np.diff(seconds) != 0) | (np.diff(recording) != 0), 0, len(ticks) > 0))
+        changes = (seconds[1:] != seconds[:-1]) | (recording[1:] != recording[:-1])
+        first = np.insert(np.flatnonzero(changes) + 1, 0, 0)[: len(ticks)]
         labels = {number: self.label(number).encode() for number in set(recording[first].tolist())}
         texts = [b"%b,%d" % (labels[n], s) for n, s in zip(recording[first].tolist(), seconds[first].tolist())]
         codes = np.repeat(np.arange(len(first)), np.diff(first, append=len(ticks)))
