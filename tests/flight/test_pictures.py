@@ -18,9 +18,9 @@ SPREAD = "session,1,0\n" + "".join(f"row,{at},1,10,ALT,{at * at}\nrow,{at},2,5,G
 )  # fmt: skip
 
 
-def flight_of(text, total=400_000, exceedances=(), only=None, words=64):
+def flight_of(text, total=400_000, exceedances=(), only=None, words=64, circles=None):
     names, times = listing.Names(), clock.Clock(clock.shape_of(None, words))
-    collector = curves.Collector(names, only, total, list(exceedances))
+    collector = curves.Collector(names, only, total, list(exceedances), circles)
     for piece in listing.read_listing(Input(io.BytesIO(text.encode()), None), names):
         collector.add(times.times(piece, len(names)))
     return collector.end(times.end())
@@ -43,15 +43,23 @@ def test_thinning_keeps_extremes_and_ends():
     points = curves.Points(
         np.sort(chance.integers(0, 10**6, 50_000)), chance.normal(size=50_000), np.zeros(50_000, dtype=np.int64)
     )
-    few = curves.thinned(points, 400)
-    assert len(few) <= 400
+    few = curves.thinned(points, 8192)
+    assert len(few) <= 4 * (10**6 // 8192 + 1)
     assert (few.value.min(), few.value.max()) == (points.value.min(), points.value.max())
     assert (few.time[0], few.time[-1]) == (points.time[0], points.time[-1])
     assert set(zip(few.time.tolist(), few.value.tolist())) <= set(zip(points.time.tolist(), points.value.tolist()))
-    length = (int(points.time[-1]) - int(points.time[0])) // 100 + 1
-    for begin in range(int(points.time[0]), int(points.time[-1]), length):
-        here, kept = (one.value[(one.time >= begin) & (one.time < begin + length)] for one in (points, few))
+    for begin in range(0, 10**6, 8192):
+        here, kept = (one.value[(one.time >= begin) & (one.time < begin + 8192)] for one in (points, few))
         assert (here.min(), here.max()) == (kept.min(), kept.max())
+
+
+@pytest.mark.parametrize("rows", [20_000, 65_000, 70_001, 90_000])
+def test_as_many_points_are_kept_at_the_end_as_elsewhere(rows):
+    flight = flight_of("".join(f"row,{at % 4096},1,10,ALT,{at * at % 997}\n" for at in range(rows)), total=4000)
+    time = flight.curves["ALT"].time
+    parts = np.histogram(time, bins=14, range=(0, rows * clock.FRAME))[0]
+    assert 1900 < len(time) <= 4000
+    assert parts.max() <= 1.1 * parts.min()
 
 
 def test_a_spike_in_a_long_flight_is_kept():
@@ -84,8 +92,44 @@ def test_the_figure():
     line = figure.axes[0].get_lines()[0]
     assert np.isnan(line.get_xdata()).sum() == 3  # after each stretch but the last
     assert np.count_nonzero(~np.isnan(line.get_ydata())) == 20 + 9 + 5 + 10
-    assert figure.axes[1].get_lines()[0].get_drawstyle() == "steps-post"
     assert figure._suptitle.get_text() == "A flight"
+
+
+def test_discretes_are_thin_bands():
+    figure = picture.figure_of(flight_of(SPREAD))
+    heights = [axes.get_position().height * figure.get_figheight() for axes in figure.axes]
+    assert heights[1] < heights[0] / 3
+    band = {one.get_label(): one for one in figure.axes[1].collections}
+    ones = [path.vertices[:, 0] for path in band["GEAR is 1"].get_paths()]
+    begins = [4 * at + 1 + 4 / 64 for at in range(20)]  # GEAR is 1 in each second frame, and in the last one for no time
+    assert [(one.min(), one.max()) for one in ones] == [(begins[at], begins[min(at + 1, 19)]) for at in range(1, 20, 2)]
+    assert [(one.vertices[:, 0].min(), one.vertices[:, 0].max()) for one in band["GEAR"].get_paths()] == [(begins[0], begins[19])]
+
+
+def test_curves_together():
+    text = "".join(f"row,{at},1,10,A,{at}\nrow,{at},1,11,B,{2 * at}\nrow,{at},1,12,C,7\n" for at in range(20))
+    flight = flight_of(text)
+    flight.together = [["A", "C"]]
+    figure = picture.figure_of(flight)
+    assert [axes.get_ylabel() for axes in figure.axes] == ["A\nC", "B"]
+    lines = [line for line in figure.axes[0].get_lines()]
+    assert [line.get_label() for line in lines] == ["A", "C"]
+    assert lines[0].get_color() != lines[1].get_color()
+    assert [one.get_text() for one in figure.axes[0].get_legend().get_texts()] == ["A", "C"]
+
+
+def angles(values, **how):
+    text = "".join(f"row,{at},1,10,HDG,{value}\n" for at, value in enumerate(values))
+    points = flight_of(text, **how).curves["HDG"]
+    return [values[at] for at in np.flatnonzero(np.diff(points.stretch, prepend=points.stretch[0])).tolist()]
+
+
+def test_angles_are_broken_at_the_wrap():
+    assert angles([340, 350, 359, 4, 20, 358, 340, 20]) == [4, 358, 20]
+    assert angles([-170, -179, 178, 170, -175]) == [178, -175]
+    assert angles([0, 350, 370, 5]) == []  # more than a circle
+    assert angles([100, 290, 100]) == []  # not round it
+    assert angles([100, 4000, 90], circles={"HDG": 4096}) == [4000, 90]
 
 
 def test_a_second_recording_is_put_after_the_first_with_room_before_it():
@@ -112,8 +156,8 @@ def test_shaded_spans():
     assert ("gap", 80, 84, False) in shaded
     assert ("gap", 120, 160, True) in shaded
     assert ("session", 180, 180 + room, False) in shaded
-    names = {text.get_text() for text in axes.texts}
-    assert {"gap 4 s", "gap, unknown length", "session 1", "session 2"} <= names
+    numbers = [text.get_text() for text in axes.texts]
+    assert numbers == ["1", "2", "3", "4"]
 
 
 def test_time_labels_are_each_recording_s_own():
@@ -131,9 +175,34 @@ def test_exceedances_are_marked():
     figure = picture.figure_of(flight)
     marks = [[line for line in axes.get_lines() if line.get_label() == "exceed"] for axes in figure.axes]
     assert [len(one) for one in marks] == [3, 1]
-    assert marks[0][0].get_xdata()[0] == 12 * 4 + 9 / 64
-    assert [line.get_linestyle() for line in marks[0]] == ["-", "--", "--"]
-    assert {"HI 9", "TWICE 9?"} <= {text.get_text() for text in figure.axes[0].texts}
+    places = {line.get_xdata()[0]: line.get_linestyle() for line in marks[0]}
+    twice = [time / clock.SECOND for time in flight.exceedings[2].times]
+    assert places == {12 * 4 + 9 / 64: "-", twice[0]: "--", twice[1]: "--"}
+    assert all(line.get_zorder() < figure.axes[0].get_lines()[0].get_zorder() for line in marks[0])
+    numbers = {text.get_text(): text.xy[0] for text in figure.axes[0].texts}
+    below = [text.get_text().split(maxsplit=1) for text in figure.texts]
+    texts = {text.split("  ")[-1]: number for number, text in below}
+    number = texts["TWICE of ALT: 2 samples, peak 9, at one of 2 places"]
+    assert sorted(place for text, place in numbers.items() if text == f"{number}?") == twice[1:]
+    assert numbers[texts["HI of ALT: 2 samples, peak 9"]] == 12 * 4 + 9 / 64
+
+
+def test_events_are_listed_below():
+    lines = [text.get_text().split("  ") for text in picture.figure_of(flight_of(SPREAD)).texts]
+    assert [[part.strip() for part in line if part.strip()] for line in lines] == [
+        ["1", "recording 1, 0:00:00", "session 1: session 1 from block 0"],
+        ["2", "recording 1, 0:01:20", "gap 4 s: from bit 61440, 3072 bits: 4 s"],
+        ["3", "recording 1, 0:02:00", "gap, unknown length: from bit 92160, 100 bits: bits of 0.1 s, by the counter 40 s: lost bits or another recording"],
+        ["4", "recording 1, 0:03:00", "session 2: session 2 from block 30"],
+    ]  # fmt: skip
+
+
+def test_numbers_that_are_close_are_above_one_another():
+    text = "".join(f"row,{at},1,10,ALT,{at}\n" for at in range(1000))
+    exceedances = [rule(f"R{at}", at, length=1, peak=str(at)) for at in range(100, 112, 2)]
+    figure = picture.figure_of(flight_of(text, exceedances=exceedances))
+    heights = [text.xyann[1] for text in figure.axes[0].texts]
+    assert len(heights) == 6 and all(one != other for one, other in zip(heights, heights[1:]))
 
 
 def own_time(flight, tick):

@@ -190,7 +190,7 @@ class Clock:
             time += np.repeat(shift * FRAME, counts)
         self._keep(piece, line, newest, place, len(at))
         frames_of = Frames(first, line, newest, stretch)
-        rows = (np.repeat(column, counts) for column in (recording, stretch))
+        rows = (_repeated(column, counts, len(piece)) for column in (recording, stretch))
         return Timed(piece, *rows, time, between, frames_of, self.sessions)
 
     def end(self) -> list[Between]:
@@ -445,6 +445,13 @@ def about(ticks: float) -> str:
 
 def _bits(gap: Mark) -> str:
     return f"from bit {gap.first}, {gap.second} bits"
+
+
+def _repeated(column: np.ndarray, counts: np.ndarray, length: int) -> np.ndarray:
+    """What each row has of what each frame has; mostly all have the same."""
+    if len(column) and column[0] == column[-1] and (column == column[0]).all():
+        return np.broadcast_to(column[0], length)
+    return np.repeat(column, counts)
 
 
 def _counted(starts: np.ndarray, length: int) -> np.ndarray:

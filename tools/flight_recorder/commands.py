@@ -410,6 +410,12 @@ def _add_plot(commands: argparse._SubParsersAction) -> None:
     parser.add_argument(
         "--together", metavar="NAMES", action="append", default=[], help="these parameters on one axis, as N1_1,N1_2"
     )
+    parser.add_argument(
+        "--angle",
+        metavar="NAMES",
+        default="",
+        help="parameters that go round, as HDG, or TRK=4096 where not in degrees; angles in degrees are mostly found",
+    )
     parser.add_argument("--exceed", metavar="FILE", help="lines of exceedances to mark")
     parser.add_argument("--title", metavar="TEXT", default="", help="a title")
 
@@ -432,6 +438,17 @@ def _run_plot(given: argparse.Namespace) -> None:
             print(f"flight: exceedance {one.exceedance.name} isn't in the listing: {place}", file=sys.stderr)
     with whole_file(path) as half:
         save(flight, half, given.title)
+
+
+def _circles(text: str) -> dict[str, float]:
+    """The full circles of the parameters of `--angle`."""
+    circles = {}
+    for one in text.split(",") if text else []:
+        name, _, circle = one.partition("=")
+        if not name or circle and not circle.isdecimal() or circle == "0":
+            raise Fault(f"--angle {one!r}: a name, or a name, = and the full circle as 360")
+        circles[name] = float(circle or 360)
+    return circles
 
 
 def _exceedances(path: str) -> list[listing.Exceedance]:
@@ -457,17 +474,16 @@ def _flight(given: argparse.Namespace, points: int, exceedances: list[listing.Ex
     """What is drawn of a listing."""
     from . import curves
 
-    how, starts = _reading(given)
+    how, _ = _reading(given)
     only = set(given.only.split(",")) if given.only else None
     with opened_again(given.listing) as source:
         for one in how.passes(source):
-            collector = curves.Collector(how.names, only, points, exceedances)
+            collector = curves.Collector(how.names, only, points, exceedances, _circles(given.angle))
             for timed in one:
                 collector.add(timed)
             flight = collector.end(one.rest)
         _say_passed_over(one.passed_over)
     flight.together = [names.split(",") for names in given.together]
-    flight.dates = starts
     drawn = {name for name in flight.curves}
     missing = sorted(((only or set()) | {name for names in flight.together for name in names}) - drawn)
     if missing:

@@ -4,17 +4,20 @@ Recordings are put one after another on one axis of time, in ticks, with some ro
 """
 
 from dataclasses import dataclass, field
+from typing import Mapping
 
 import numpy as np
 
 from .clock import FRAME, Between, Event, Timed
-from .dates import Dates
 from .exceedings import Finder
 from .listing import Exceedance, Names
 
 LEAST = 256  # points of a curve that are kept in any case
 ROOMS = 50  # the room between recordings is this part of the axis,
 MOST_ROOM = 5  # and all rooms together are this part at the most
+FULL_CIRCLE = 360
+ANGLES = ((0, FULL_CIRCLE), (-FULL_CIRCLE // 2, FULL_CIRCLE // 2))  # what angles in degrees are between
+MOST_OF_CIRCLE = 300  # degrees that values spread over, for them to be taken for an angle's
 CUT = 4  # points that a stretch of time is thinned to, at the most: the first, the least, the greatest and the last
 
 
@@ -34,17 +37,33 @@ class Points:
         return Points(self.time[which], self.value[which], self.stretch[which])
 
 
-def thinned(points: Points, most: int) -> Points:
-    """At most so many points, of which the first, the least, the greatest and the last of each stretch of time are kept."""
-    if len(points) <= most:
+def thinned(points: Points, width: int) -> Points:
+    """Of each stretch of time of so many ticks, counted from 0, the first, the least, the greatest and the last point. What was
+    thinned by the same width stays as it is, and what was by half of it becomes the same."""
+    if not len(points):
         return points
-    spans = max(1, most // CUT)
-    length = int(points.time[-1] - points.time[0]) // spans + 1
-    span = (points.time - points.time[0]) // length
-    first = np.flatnonzero(np.diff(span, prepend=-1))
+    span = points.time // width
+    first = np.flatnonzero(np.diff(span, prepend=span[0] - 1))
     last = np.append(first[1:], len(span)) - 1
     by_value = np.lexsort((points.value, span))
     return points.only(np.unique(np.concatenate((first, last, by_value[first], by_value[last]))))
+
+
+def circle_of(points: Points) -> int | None:
+    """The full circle of values that are an angle's in degrees, as far as they show it."""
+    if not len(points):
+        return None
+    least, greatest = float(points.value.min()), float(points.value.max())
+    if greatest - least <= MOST_OF_CIRCLE:
+        return None
+    return FULL_CIRCLE if any(low <= least and greatest <= high for low, high in ANGLES) else None
+
+
+def broken_at_wraps(points: Points, circle: float) -> Points:
+    """A curve of angles, broken where it goes over the full circle: each part is as a stretch of its own."""
+    wraps = np.abs(np.diff(points.value, prepend=points.value[:1])) > circle / 2
+    breaks = np.insert(np.diff(points.stretch) != 0, 0, False) if len(points) else wraps
+    return Points(points.time, points.value, np.cumsum(wraps | breaks))
 
 
 class Curve:
@@ -54,6 +73,7 @@ class Curve:
         self.parts: list[Points] = []
         self.held = 0  # points in the parts
         self.count = 0  # points that came
+        self.width = 0  # ticks that it is thinned by
         self.decimals = 0
 
     def add(self, points: Points, decimals: int) -> None:
@@ -64,9 +84,14 @@ class Curve:
         self.decimals = max(self.decimals, decimals)
 
     def points(self, most: int) -> Points:
-        """Its points, thinned to at most so many, which alone are held then."""
+        """Its points, thinned to at most so many, which alone are held then. All are thinned alike, whenever they came."""
         columns = zip(*((part.time, part.value, part.stretch) for part in self.parts))
-        whole = thinned(Points(*(np.concatenate(column) for column in columns)), most)
+        whole = Points(*(np.concatenate(column) for column in columns))
+        whole = thinned(whole, self.width) if self.width else whole
+        while len(whole) > most:
+            spread = (int(whole.time[-1]) - int(whole.time[0])) * CUT // most
+            self.width = max(2 * self.width, 1 << max(0, spread.bit_length() - 2))
+            whole = thinned(whole, self.width)
         self.parts, self.held = [whole], len(whole)
         return whole
 
@@ -127,7 +152,16 @@ class Flight:
     exceedings: list[Exceeding]
     recordings: list[Recording]
     together: list[list[str]] = field(default_factory=list)
-    dates: Dates | None = None
+
+    def groups(self) -> list[list[str]]:
+        """The names of the curves of each axis: those that are together, at the place of the first of them, and the others."""
+        of = {name: names for names in self.together for name in names}
+        groups: list[list[str]] = []
+        for name in self.curves:
+            group = of.get(name, [name])
+            if group not in groups:
+                groups.append(group)
+        return groups
 
     @property
     def end(self) -> int:
@@ -139,8 +173,16 @@ class Flight:
 class Collector:
     """Collects what is drawn, piece by piece."""
 
-    def __init__(self, names: Names, only: set[str] | None, total: int, exceedances: list[Exceedance]) -> None:
+    def __init__(
+        self,
+        names: Names,
+        only: set[str] | None,
+        total: int,
+        exceedances: list[Exceedance],
+        circles: Mapping[str, float] | None = None,
+    ) -> None:
         self.names = names
+        self.circles = circles or {}
         self.only = only
         self.total = total
         self.curves: dict[int, Curve] = {}
@@ -209,6 +251,8 @@ class Collector:
             name, curve = self.names.names[number], self.curves[number]
             points = curve.points(most)
             points.time += room_of[points.stretch]
+            circle = self.circles.get(name, circle_of(points))
+            points = broken_at_wraps(points, circle) if circle else points
             flight.curves[name], flight.decimals[name], flight.counts[name] = points, curve.decimals, curve.count
         return flight
 

@@ -87,13 +87,24 @@ def _rows_of(table: np.ndarray, codes: np.ndarray) -> np.ndarray:
     return table.view(f"V{width}").ravel()[codes].view(np.uint8).reshape(len(codes), width)
 
 
-def field_of(texts: list[bytes], codes: np.ndarray, at_right: bool = False) -> Field:
-    """A field that has one of these texts in each row."""
-    width = max(map(len, texts), default=0) or 1
-    padded = b"".join(text.rjust(width) if at_right else text.ljust(width) for text in texts)
-    lengths = np.array([len(text) for text in texts], dtype=np.int64)
-    table = np.frombuffer(padded, dtype=np.uint8).reshape(-1, width)
-    return Field(_rows_of(table, codes), lengths[codes], at_right)
+def numbers_after(texts: list[bytes], which: np.ndarray, numbers: np.ndarray, codes: np.ndarray) -> Field:
+    """A field that has in each row one of these whole numbers of 0 or more, after a text: `which` is that of each number, and
+    `codes` the number of each row."""
+    room = max((len(text) for text in texts), default=0)
+    digits = len(str(int(numbers.max(initial=0))))
+    table = np.zeros((len(numbers), room + digits), dtype=np.uint8)
+    left = numbers.copy()
+    lengths = np.ones(len(numbers), dtype=np.int64)
+    for place in range(digits):
+        left, digit = np.divmod(left, 10)
+        table[:, room + digits - 1 - place] = digit + ord("0")
+        lengths += left > 0
+    for text, length in {(text, length) for text, length in zip(which.tolist(), lengths.tolist())}:
+        rows = np.flatnonzero((which == text) & (lengths == length))
+        end = room + digits - length
+        table[rows, end - len(texts[text]) : end] = np.frombuffer(texts[text], dtype=np.uint8)
+    lengths += np.array([len(text) for text in texts], dtype=np.int64)[which]
+    return Field(_rows_of(table, codes), lengths[codes], at_right=True)
 
 
 def fractions_of(ticks: np.ndarray) -> Field:

@@ -6,7 +6,7 @@ from dataclasses import dataclass
 import numpy as np
 
 from .clock import SECOND, Event
-from .curves import Points, Span
+from .curves import Exceeding, Flight, Points, Span
 
 OTHERS = ", and others"
 
@@ -64,3 +64,53 @@ def clock_text(seconds: float) -> str:
     whole = int(seconds)
     text = f"{whole // 3600}:{whole // 60 % 60:02d}:{whole % 60:02d}"
     return text if abs(seconds - whole) < 1e-6 else text + f"{seconds - whole:.3f}"[1:].rstrip("0")
+
+
+@dataclass(frozen=True)
+class Happening:
+    """What is numbered in a picture and in the list below it: where it begins on the axis, and what there is to say."""
+
+    number: int
+    place: int
+    event: Event
+    certain: bool
+    text: str
+    parameters: tuple[str, ...] = ()
+
+
+def happenings(flight: Flight, narrowest: float) -> list[Happening]:
+    """What is between samples, and the exceedances, in the order of the axis. An exceedance that may stand at several places has
+    one number, and is there several times."""
+    shades = [(shade.begin, shade.event, True, f"{shade.name}: {shade.text}", ()) for shade in seen(flight.spans, narrowest)]
+    exceeds = [
+        (place, Event.EXCEED, len(one.times) == 1, _exceeding_text(one), one.parameters)
+        for one in flight.exceedings
+        for place in one.times
+    ]
+    numbers: dict[tuple[Event, str], int] = {}
+    answer = []
+    for place, event, certain, text, parameters in sorted([*shades, *exceeds], key=lambda each: each[0]):
+        number = len(numbers) + 1
+        if not certain:
+            number = numbers.setdefault((event, text), number)
+        else:
+            numbers[(event, f"{number} {text}")] = number
+        answer.append(Happening(number, place, event, certain, text, parameters))
+    return answer
+
+
+def _exceeding_text(one: Exceeding) -> str:
+    exceedance = one.exceedance
+    where = f" of {' or '.join(one.parameters)}" if one.parameters else ""
+    sure = "" if len(one.times) == 1 else f", at one of {len(one.times)} places"
+    return f"{exceedance.name}{where}: {exceedance.length} samples, peak {exceedance.peak}{sure}"
+
+
+def own_clock(flight: Flight, place: int) -> str:
+    """A place of the axis as the time of its recording."""
+    number = max((at for at, one in enumerate(flight.recordings) if one.put <= place), default=0)
+    if not flight.recordings:
+        return clock_text(place / SECOND)
+    one = flight.recordings[number]
+    text = clock_text(max(0, round((place - one.put + one.first) / SECOND, 3)))
+    return text if len(flight.recordings) == 1 else f"recording {number + 1}, {text}"

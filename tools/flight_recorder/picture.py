@@ -1,5 +1,6 @@
 """A flight as a picture: the parameters' curves under one another on one axis of time."""
 
+import itertools
 import logging
 import pathlib
 
@@ -12,15 +13,20 @@ from matplotlib.ticker import FixedLocator, FuncFormatter
 from .clock import SECOND, Event
 from .curves import Flight, Points
 from .faults import Fault
-from .naming import clock_text, is_discrete, seen
+from .naming import Happening, clock_text, happenings, is_discrete, own_clock, seen
 
 WIDTH = 11.0  # inches
 ROW = 1.15  # inches of a curve
-HEAD = 0.85  # inches for the names of spans and the axis
+BAND = 0.3  # inches of one that is 0 or 1
+HEAD = 0.85  # inches for the title, the numbers and the axis
+LINE = 0.155  # inches of a line of the list
+MOST_LINES = 60
+MOST_SIGNS = 150  # of a line
+CLOSE = 1 / 90  # of the axis, between numbers that are written one above the other
+LEVELS = 3
 MOST_CURVES = 100
 TICKS = 8  # on the axis of time, about
 STEPS = (1, 2, 5, 10, 15, 30, 60, 120, 300, 600, 900, 1800, 3600, 7200, 14400, 28800, 86400)  # seconds between them
-LABELS = 14  # spans that are named, at the most
 NARROWEST = 1 / 600  # of the axis, for a span to be seen
 RED, GREY = "#d9534f", "#6c757d"
 COLOURS = {Event.GAP: RED, Event.BREAK: RED, Event.HOLE: RED} | dict.fromkeys(
@@ -28,6 +34,8 @@ COLOURS = {Event.GAP: RED, Event.BREAK: RED, Event.HOLE: RED} | dict.fromkeys(
 )
 EXCEED_COLOUR = "#b8860b"
 CURVE_COLOUR = "#1f4e79"
+TOGETHER_COLOURS = (CURVE_COLOUR, "#c0504d", "#4f8a3c", "#7a5195", "#d98c21", "#2a9d8f")
+BAND_COLOUR = "#c9d6e4"  # of a discrete that is 0
 
 
 def save(flight: Flight, path: pathlib.Path, title: str) -> None:
@@ -44,20 +52,42 @@ def figure_of(flight: Flight, title: str = "") -> Figure:
     count = max(1, len(flight.curves))
     if count > MOST_CURVES:
         raise Fault(f"{count} parameters are too many for a picture, which has up to {MOST_CURVES}: choose with --only")
-    height = HEAD + ROW * count
+    groups = flight.groups() or [[]]
+    bands = [len(group) == 1 and is_discrete(flight.curves[group[0]]) for group in groups]
+    events = happenings(flight, flight.end * NARROWEST)
+    lines = listed(flight, events)
+    below = 0.42 + LINE * (len(lines) + 1 if lines else 0)
+    inches = [BAND if band else ROW for band in bands]
+    height = 0.5 + below + sum(inches)
     figure = Figure(figsize=(WIDTH, height), dpi=100)
-    figure.subplots_adjust(left=0.09, right=0.98, top=1 - 0.5 / height, bottom=0.42 / height, hspace=0.12)
-    all_axes = figure.subplots(count, 1, sharex=True, squeeze=False)[:, 0]
-    for axes, (name, points) in zip(all_axes, flight.curves.items()):
-        _draw(axes, name, points)
-    for axes in all_axes:
+    figure.subplots_adjust(left=0.09, right=0.98, top=1 - 0.5 / height, bottom=below / height, hspace=0.12)
+    ratios = {"height_ratios": inches}
+    all_axes = figure.subplots(len(groups), 1, sharex=True, squeeze=False, gridspec_kw=ratios)[:, 0]
+    for axes, group, is_band in zip(all_axes, groups, bands):
+        if is_band:
+            _draw_band(axes, group[0], flight.curves[group[0]])
+        else:
+            _draw_group(axes, {name: flight.curves[name] for name in group})
         _shade(axes, flight)
-    _mark(list(all_axes), list(flight.curves), flight)
-    _name_spans(all_axes[0], flight)
+    _mark(list(all_axes), groups, events, flight)
     _time_axis(all_axes[-1], flight)
+    for at, line in enumerate(lines):
+        place = (below - 0.42 - LINE * (at + 0.5)) / height
+        figure.text(0.05, place, line, fontsize=7, va="top", family="monospace")
     if title:
         figure.suptitle(title, x=0.09, y=1 - 0.04 / height, ha="left", va="top", fontsize=11)
     return figure
+
+
+def listed(flight: Flight, events: list[Happening]) -> list[str]:
+    """The lines of the list below a picture: each number once."""
+    lines: dict[int, str] = {}
+    for one in events:
+        lines.setdefault(one.number, f"{one.number:>3}  {own_clock(flight, one.place):<12}  {one.text}")
+    texts = [line if len(line) <= MOST_SIGNS else line[: MOST_SIGNS - 2] + ".." for line in lines.values()]
+    if len(texts) > MOST_LINES:
+        texts = texts[:MOST_LINES] + [f"     and {len(texts) - MOST_LINES} more"]
+    return texts
 
 
 def broken(points: Points) -> tuple[np.ndarray, np.ndarray]:
@@ -66,22 +96,56 @@ def broken(points: Points) -> tuple[np.ndarray, np.ndarray]:
     return np.insert(points.time / SECOND, cuts, np.nan), np.insert(points.value, cuts, np.nan)
 
 
-def _draw(axes: Axes, name: str, points: Points) -> None:
-    """Draws a curve; a point without others beside it is a dot."""
-    seconds, values = broken(points)
-    style = "steps-post" if is_discrete(points) else "default"
-    axes.plot(seconds, values, color=CURVE_COLOUR, linewidth=0.8, drawstyle=style, label=name)
-    changes = np.diff(points.stretch) != 0
-    alone = np.append(changes, True) & np.append(True, changes)
-    if alone.any():
-        axes.plot(points.time[alone] / SECOND, points.value[alone], ".", color=CURVE_COLOUR, markersize=2)
-    axes.set_ylabel(name, rotation=0, ha="right", va="center", fontsize=9)
+def _draw_group(axes: Axes, curves: dict[str, Points]) -> None:
+    """Draws the curves of one axis."""
+    for (name, points), colour in zip(curves.items(), itertools.cycle(TOGETHER_COLOURS)):
+        _draw(axes, name, points, colour)
+    if len(curves) == 1:
+        axes.set_ylabel(*curves, rotation=0, ha="right", va="center", fontsize=9)
+    elif curves:
+        axes.set_ylabel("\n".join(curves), rotation=0, ha="right", va="center", fontsize=9)
+        lines = [line for line in axes.get_lines() if line.get_label() in curves]
+        axes.legend(handles=lines, fontsize=7, loc="upper right", framealpha=0.6)
     axes.tick_params(labelsize=7)
     axes.grid(True, linewidth=0.3, alpha=0.6)
     axes.margins(y=0.1)
-    if is_discrete(points):
-        axes.set_ylim(-0.2, 1.2)
-        axes.set_yticks([0, 1])
+
+
+def _draw(axes: Axes, name: str, points: Points, colour: str) -> None:
+    """Draws a curve; a point without others beside it is a dot."""
+    seconds, values = broken(points)
+    style = "steps-post" if is_discrete(points) else "default"
+    axes.plot(seconds, values, color=colour, linewidth=0.8, drawstyle=style, label=name)
+    changes = np.diff(points.stretch) != 0
+    alone = np.append(changes, True) & np.append(True, changes)
+    if alone.any():
+        axes.plot(points.time[alone] / SECOND, points.value[alone], ".", color=colour, markersize=2)
+
+
+def bars(points: Points) -> tuple[list[tuple[float, float]], list[tuple[float, float]]]:
+    """Where a discrete was sampled, and where it was 1: the beginning of each bar and its length, in seconds."""
+    ends = np.append(np.diff(points.stretch) != 0, True)
+    change = ends | np.append(np.diff(points.value) != 0, True)
+    until = np.where(ends, points.time, np.append(points.time[1:], points.time[-1:]))
+    last = np.flatnonzero(change)
+    first = np.insert(last + 1, 0, 0)[: len(last)]
+    pieces = np.stack((points.time[first], until[last] - points.time[first]), axis=1) / SECOND
+    is_one = points.value[first] == 1
+    last = np.flatnonzero(ends)
+    first = np.insert(last + 1, 0, 0)[: len(last)]
+    whole = np.stack((points.time[first], points.time[last] - points.time[first]), axis=1) / SECOND
+    return [tuple(one) for one in whole.tolist()], [tuple(one) for one in pieces[is_one].tolist()]
+
+
+def _draw_band(axes: Axes, name: str, points: Points) -> None:
+    """Draws a discrete as a thin band: light where it is 0, dark where it is 1."""
+    whole, ones = bars(points)
+    axes.broken_barh(whole, (0, 1), facecolors=BAND_COLOUR, edgecolors=BAND_COLOUR, linewidth=0.6, label=name)
+    axes.broken_barh(ones, (0, 1), facecolors=CURVE_COLOUR, edgecolors=CURVE_COLOUR, linewidth=0.6, label=f"{name} is 1")
+    axes.set_ylabel(name, rotation=0, ha="right", va="center", fontsize=9)
+    axes.set_ylim(0, 1)
+    axes.set_yticks([])
+    axes.tick_params(labelsize=7)
 
 
 def _shade(axes: Axes, flight: Flight) -> None:
@@ -99,35 +163,28 @@ def _shade(axes: Axes, flight: Flight) -> None:
         )
 
 
-def _mark(all_axes: list[Axes], names: list[str], flight: Flight) -> None:
-    """Marks where exceedances began, in the curves that were sampled there; dashed where it may have been elsewhere."""
-    for one in flight.exceedings:
-        certain = len(one.times) == 1
-        chosen = [axes for axes, name in zip(all_axes, names) if name in one.parameters or not one.parameters]
-        for axes in chosen:
-            for time in one.times:
-                style = "-" if certain else "--"
-                axes.axvline(time / SECOND, color=EXCEED_COLOUR, linewidth=1.2, linestyle=style, label="exceed")
-                text = f"{one.exceedance.name} {one.exceedance.peak}" + ("" if certain else "?")
-                place = (time / SECOND, 0.97)
-                axes.annotate(
-                    text, place, xycoords=axes.get_xaxis_transform(), fontsize=7, color=EXCEED_COLOUR, va="top"
-                )
-
-
-def _name_spans(axes: Axes, flight: Flight) -> None:
-    """Names the longest spans, over the curves."""
-    spans = seen(flight.spans, flight.end * NARROWEST)
-    named = sorted(spans, key=lambda span: span.begin - span.end)[:LABELS]
+def _mark(all_axes: list[Axes], groups: list[list[str]], events: list[Happening], flight: Flight) -> None:
+    """Numbers what is in the list, above the curves. Where an exceedance began there is a line behind the curves that were
+    sampled there, dashed where it may have been elsewhere, so that it covers nothing."""
     newest, level = -np.inf, 0
-    for span in sorted(named, key=lambda one: one.begin):
-        middle = (span.begin + span.end) / 2
-        level = (level + 1) % 3 if middle - newest < flight.end / 12 else 0
-        newest = middle
-        place = (middle / SECOND, 1.03 + 0.11 * level)
-        side = "right" if middle > 0.95 * flight.end else "left" if middle < 0.05 * flight.end else "center"
-        name, colour = span.name, COLOURS[span.event]
-        axes.annotate(name, place, xycoords=axes.get_xaxis_transform(), ha=side, fontsize=7, color=colour)
+    for one in events:
+        place = one.place / SECOND
+        level = (level + 1) % LEVELS if one.place - newest < flight.end * CLOSE else 0
+        newest = one.place
+        colour = COLOURS.get(one.event, EXCEED_COLOUR)
+        text = f"{one.number}" if one.certain else f"{one.number}?"
+        head = all_axes[0]
+        head.annotate(
+            text, (place, 1.0), (0, 3 + 7 * level), xycoords=head.get_xaxis_transform(), textcoords="offset points",
+            ha="center", fontsize=7, color=colour,
+        )  # fmt: skip
+        if one.event is Event.EXCEED:
+            style = "-" if one.certain else "--"
+            for axes, group in zip(all_axes, groups):
+                if not one.parameters or set(group) & set(one.parameters):
+                    axes.axvline(
+                        place, color=EXCEED_COLOUR, linewidth=1.0, linestyle=style, label="exceed", zorder=0.5, alpha=0.7
+                    )
 
 
 def _time_axis(axes: Axes, flight: Flight) -> None:

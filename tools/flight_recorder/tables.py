@@ -13,7 +13,7 @@ import numpy as np
 
 from .clock import FRAME, LATE, SECOND, Between, Timed
 from .dates import Dates
-from .joining import Field, Places, Text, field_in, field_of, fractions_of, joined, rows_of, time_text
+from .joining import Field, Places, Text, field_in, fractions_of, joined, numbers_after, rows_of, time_text
 from .listing import Names
 from .raw import RawWords
 from .window import Window
@@ -64,10 +64,9 @@ class Columns:
         seconds = ticks // SECOND
         changes = (seconds[1:] != seconds[:-1]) | (recording[1:] != recording[:-1])
         first = np.insert(np.flatnonzero(changes) + 1, 0, 0)[: len(ticks)]
-        labels = {number: self.label(number).encode() for number in set(recording[first].tolist())}
-        texts = [b"%b,%d" % (labels[n], s) for n, s in zip(recording[first].tolist(), seconds[first].tolist())]
         codes = np.repeat(np.arange(len(first)), np.diff(first, append=len(ticks)))
-        fields = [field_of(texts, codes, at_right=True), fractions_of(ticks)]
+        labels = [(self.label(number) + ",").encode() for number in range(int(recording.max(initial=-1)) + 1)]
+        fields = [numbers_after(labels, recording[first], seconds[first], codes), fractions_of(ticks)]
         return fields if self.dates is None else [*fields, texts_field(self.dates.texts(recording, ticks))]
 
 
