@@ -6,25 +6,45 @@
 const flight = JSON.parse(document.getElementById("flight").textContent);
 const SHOWN_AT_FIRST = 12;
 const LABEL_WIDTH = 62;
+const MOST_LISTED = 500;
+const CURVE_COLOURS = ["#1f4e79", "#c0504d", "#4f8a3c", "#7a5195", "#d98c21", "#2a9d8f"];
 const RED = "217,83,79";
 const GREY = "108,117,125";
 const COLOURS = { gap: RED, break: RED, hole: RED, session: GREY, run: GREY, back: GREY, wrap: GREY };
 const EXCEED_COLOUR = "#b8860b";
 
-function numbers(text, Kind) {
+async function numbers(text, Kind) {
   const signs = atob(text);
   const bytes = new Uint8Array(signs.length);
   for (let at = 0; at < bytes.length; at++) bytes[at] = signs.charCodeAt(at);
-  return new Kind(bytes.buffer);
+  const whole = new Blob([bytes]).stream().pipeThrough(new DecompressionStream("deflate"));
+  return new Kind(await new Response(whole).arrayBuffer());
+}
+
+// Numbers of which each is so much more than the one before.
+function summed(steps) {
+  for (let at = 1; at < steps.length; at++) steps[at] += steps[at - 1];
+  return steps;
 }
 
 class Curve {
-  constructor(data) {
+  constructor(data, number) {
     Object.assign(this, data);
-    this.time = numbers(data.time, Int32Array);
-    this.value = numbers(data.value, Float64Array);
-    this.begins = new Uint8Array(this.time.length);
-    for (const cut of numbers(data.cuts, Int32Array)) this.begins[cut] = 1;
+    this.number = number;
+    this.time = null;
+  }
+
+  // Reads the points.
+  async load() {
+    const parts = document.getElementById(`curve-${this.number}`).textContent.split(" ");
+    const [time, value, cuts] = await Promise.all([
+      numbers(parts[0], Int32Array), numbers(parts[1], this.isWhole ? Int32Array : Float64Array), numbers(parts[2], Int32Array),
+    ]);
+    const unit = 10 ** this.decimals;
+    this.value = this.isWhole ? Float64Array.from(summed(value), (one) => one / unit) : value;
+    this.begins = new Uint8Array(time.length);
+    for (const cut of cuts) this.begins[cut] = 1;
+    this.time = summed(time);
   }
 
   // The first point that isn't before a time.
@@ -91,6 +111,42 @@ class Curve {
   }
 }
 
+// The curves of a chart: one, or several on one axis.
+class Group {
+  constructor(curves) {
+    this.curves = curves;
+    this.name = curves.map((curve) => curve.name).join(", ");
+    this.isBand = curves.length === 1 && curves[0].steps;
+  }
+
+  isLoaded() {
+    return this.curves.every((curve) => curve.time);
+  }
+
+  load() {
+    return Promise.all(this.curves.filter((curve) => !curve.time).map((curve) => curve.load()));
+  }
+
+  // The rows for dygraphs: of several curves each has its own column, which is null where it has no point, and a break is NaN.
+  rows(begin, end, columns) {
+    if (this.curves.length === 1) return this.curves[0].rows(begin, end, columns);
+    const rows = new Map();
+    this.curves.forEach((curve, column) => {
+      for (const [sampled, value] of curve.rows(begin, end, columns)) {
+        const time = value === null ? sampled + 0.25 / flight.second : sampled; // a break has a row of its own
+        if (!rows.has(time)) rows.set(time, [time, ...this.curves.map(() => null)]);
+        rows.get(time)[column + 1] = value === null ? NaN : value;
+      }
+    });
+    return [...rows.values()].sort((one, other) => one[0] - other[0]);
+  }
+
+  // The values that were sampled last at a time, as text.
+  at(time) {
+    return this.curves.map((curve) => `${curve.name}  ${curve.at(time)}`).join("  ");
+  }
+}
+
 function isBetween(time) {
   return flight.spans.some((span) => span.begin < time && time < span.end);
 }
@@ -144,11 +200,19 @@ class Page {
   constructor() {
     this.whole = [0, Math.max(flight.end, flight.second) / flight.second];
     this.window = this.whole;
-    this.curves = flight.curves.map((data) => new Curve(data));
+    this.curves = flight.curves.map((data, number) => new Curve(data, number));
+    const named = new Map(this.curves.map((curve) => [curve.name, curve]));
+    this.groups = flight.groups.map((names) => new Group(names.map((name) => named.get(name))));
     this.charts = new Map();
     this.list();
-    this.curves.slice(0, SHOWN_AT_FIRST).forEach((curve) => this.show(curve));
+    this.listEvents();
     window.addEventListener("resize", () => this.setWindow(this.window));
+  }
+
+  // Shows the first charts.
+  async open() {
+    for (const group of this.groups.slice(0, SHOWN_AT_FIRST)) await this.show(group);
+    return this;
   }
 
   // The list of parameters, each with a box that puts its chart on and off.
@@ -157,15 +221,15 @@ class Page {
     const filter = Object.assign(document.createElement("input"), { type: "search", placeholder: "parameters" });
     nav.append(filter);
     this.boxes = new Map();
-    this.curves.forEach((curve, at) => {
+    this.groups.forEach((group, at) => {
       const label = document.createElement("label");
       const box = Object.assign(document.createElement("input"), { type: "checkbox", checked: at < SHOWN_AT_FIRST });
-      box.addEventListener("change", () => (box.checked ? this.show(curve) : this.hide(curve)));
-      const thinned = curve.time.length < curve.count;
-      label.title = `${curve.count} samples` + (thinned ? `, thinned to ${curve.time.length} with their extremes` : "");
-      label.append(box, " ", curve.name);
+      box.addEventListener("change", () => (box.checked ? this.show(group) : this.hide(group)));
+      label.title = group.curves.map(({ count, kept }) =>
+        `${count} samples` + (kept < count ? `, thinned to ${kept} with their extremes` : "")).join("; ");
+      label.append(box, " ", group.name);
       nav.append(label);
-      this.boxes.set(curve.name, box);
+      this.boxes.set(group.name, box);
     });
     filter.addEventListener("input", () => {
       for (const label of nav.querySelectorAll("label")) {
@@ -174,50 +238,79 @@ class Page {
     });
   }
 
+  // The list of what is numbered in the charts; a click shows what is around it.
+  listEvents() {
+    const list = document.getElementById("events");
+    const texts = new Map();
+    for (const one of flight.events) if (!texts.has(one.number)) texts.set(one.number, one);
+    for (const one of [...texts.values()].slice(0, MOST_LISTED)) {
+      const line = document.createElement("li");
+      line.value = one.number;
+      line.textContent = `${one.clock}  ${one.text}`;
+      line.addEventListener("click", () => this.around(one.place / flight.second));
+      list.append(line);
+    }
+    if (texts.size > MOST_LISTED) list.append(`and ${texts.size - MOST_LISTED} more`);
+  }
+
+  // Shows a minute about a time.
+  around(time) {
+    this.setWindow([time - 30, time + 30]);
+  }
+
   columns() {
     return Math.max(200, document.getElementById("charts").clientWidth - LABEL_WIDTH);
   }
 
-  rowsOf(curve) {
-    const rows = curve.rows(this.window[0] * flight.second, this.window[1] * flight.second, this.columns());
-    return rows.length ? rows : [[this.window[0], null]];
+  rowsOf(group) {
+    const rows = group.rows(this.window[0] * flight.second, this.window[1] * flight.second, this.columns());
+    return rows.length ? rows : [[this.window[0], ...group.curves.map(() => null)]];
   }
 
-  show(curve) {
+  show(group) {
+    if (!group.isLoaded()) return group.load().then(() => this.boxes.get(group.name).checked && this.show(group));
+    if (this.charts.has(group.name)) return null;
     const section = document.getElementById("charts");
-    const chart = Object.assign(document.createElement("div"), { className: "chart" });
+    const chart = Object.assign(document.createElement("div"), { className: group.isBand ? "chart band" : "chart" });
     const [plot, name, pointer] = ["plot", "name", "pointer"].map((kind) =>
       chart.appendChild(Object.assign(document.createElement("div"), { className: kind })));
-    name.textContent = curve.name;
-    const later = this.curves.slice(this.curves.indexOf(curve) + 1).find((other) => this.charts.has(other.name));
+    name.textContent = group.name;
+    const later = this.groups.slice(this.groups.indexOf(group) + 1).find((other) => this.charts.has(other.name));
     section.insertBefore(chart, later ? this.charts.get(later.name).chart : null);
-    const graph = new Dygraph(plot, this.rowsOf(curve), this.options(curve));
-    this.charts.set(curve.name, { chart, graph, name, pointer, curve });
+    const graph = new Dygraph(plot, this.rowsOf(group), this.options(group));
+    this.charts.set(group.name, { chart, graph, name, pointer, group });
+    return null;
   }
 
-  hide(curve) {
-    const { chart, graph } = this.charts.get(curve.name);
+  hide(group) {
+    if (!this.charts.has(group.name)) return;
+    const { chart, graph } = this.charts.get(group.name);
     graph.destroy();
     chart.remove();
-    this.charts.delete(curve.name);
+    this.charts.delete(group.name);
   }
 
-  options(curve) {
+  options(group) {
+    const band = { fillGraph: true, fillAlpha: 0.85, valueRange: [0, 1] };
+    const y = { axisLabelWidth: LABEL_WIDTH - 8, axisLabelFontSize: 11, pixelsPerLabel: 24 };
     return {
-      labels: ["time", curve.name],
+      labels: ["time", ...group.curves.map((curve) => curve.name)],
+      colors: group.curves.map((_, at) => CURVE_COLOURS[at % CURVE_COLOURS.length]),
+      connectSeparatedPoints: group.curves.length > 1,
+      ...(group.isBand ? band : { yRangePad: 6 }),
       legend: "never",
       dateWindow: this.window,
-      color: "#1f4e79",
-      stepPlot: curve.steps,
+      stepPlot: group.isBand,
       strokeWidth: 1,
       highlightCircleSize: 3,
       gridLineColor: "#dde",
-      valueRange: curve.steps ? [-0.2, 1.2] : null,
-      yRangePad: 6,
-      axes: { x: { ticker, axisLabelFormatter: String, axisLabelFontSize: 11 }, y: { axisLabelWidth: LABEL_WIDTH - 8, axisLabelFontSize: 11, pixelsPerLabel: 24 } },
+      axes: {
+        x: { ticker, axisLabelFormatter: String, axisLabelFontSize: 11, drawAxis: !group.isBand },
+        y: group.isBand ? { ...y, ticker: () => [] } : y,
+      },
       interactionModel: { ...Dygraph.defaultInteractionModel, dblclick: () => this.setWindow(this.whole) },
       drawCallback: (graph) => this.follow(graph),
-      underlayCallback: (canvas, area, graph) => shade(canvas, area, graph, curve),
+      underlayCallback: (canvas, area, graph) => shade(canvas, area, graph, group),
       highlightCallback: (event, time) => this.point(time),
       unhighlightCallback: () => this.point(null),
     };
@@ -236,16 +329,16 @@ class Page {
     const least = 2 / flight.second;
     const begin = Math.min(Math.max(range[0], this.whole[0]), this.whole[1] - least);
     this.window = [begin, Math.max(begin + least, Math.min(range[1], this.whole[1]))];
-    for (const { graph, curve } of this.charts.values()) {
-      graph.updateOptions({ file: this.rowsOf(curve), dateWindow: this.window });
+    for (const { graph, group } of this.charts.values()) {
+      graph.updateOptions({ file: this.rowsOf(group), dateWindow: this.window });
     }
   }
 
   // Shows all values at a time, or none.
   point(time) {
     const where = document.getElementById("where");
-    for (const { graph, name, pointer, curve } of this.charts.values()) {
-      name.textContent = time === null ? curve.name : `${curve.name}  ${curve.at(Math.round(time * flight.second))}`;
+    for (const { graph, name, pointer, group } of this.charts.values()) {
+      name.textContent = time === null ? group.name : group.at(Math.round(time * flight.second));
       pointer.style.display = time === null ? "none" : "block";
       if (time !== null) pointer.style.left = `${graph.toDomXCoord(time)}px`;
     }
@@ -262,49 +355,58 @@ class Page {
   drawn() {
     let count = 0;
     for (const { graph } of this.charts.values()) {
-      for (let row = 0; row < graph.numRows(); row++) if (graph.getValue(row, 1) !== null) count++;
+      for (let row = 0; row < graph.numRows(); row++) {
+        for (let column = 1; column < graph.numColumns(); column++) {
+          const value = graph.getValue(row, column);
+          if (value !== null && !Number.isNaN(value)) count++;
+        }
+      }
     }
     return count;
   }
 }
 
-function shade(canvas, area, graph, curve) {
+function shade(canvas, area, graph, group) {
   canvas.save();
   canvas.beginPath();
   canvas.rect(area.x, area.y, area.w, area.h);
   canvas.clip();
   canvas.font = "10px sans-serif";
-  let named = -Infinity;
   for (const span of flight.spans) {
     const begin = graph.toDomXCoord(span.begin / flight.second);
     const end = graph.toDomXCoord(span.end / flight.second);
     if (end < area.x || begin > area.x + area.w) continue;
     canvas.fillStyle = `rgba(${COLOURS[span.event]},${span.known ? 0.22 : 0.38})`;
     canvas.fillRect(begin, area.y, Math.max(2, end - begin), area.h);
-    if (begin > named) {
-      canvas.fillStyle = `rgb(${COLOURS[span.event]})`;
-      canvas.fillText(span.name, Math.max(begin, area.x) + 3, area.y + area.h - 4);
-      named = begin + canvas.measureText(span.name).width + 8;
-    }
   }
-  mark(canvas, area, graph, curve);
+  mark(canvas, area, graph, group);
   canvas.restore();
 }
 
-function mark(canvas, area, graph, curve) {
-  canvas.strokeStyle = canvas.fillStyle = EXCEED_COLOUR;
-  for (const one of flight.exceedances) {
-    if (one.parameters.length && !one.parameters.includes(curve.name)) continue;
-    canvas.setLineDash(one.times.length > 1 ? [4, 3] : []);
-    for (const time of one.times) {
-      const place = graph.toDomXCoord(time / flight.second);
+// Numbers what is in the list, and draws lines where exceedances began, which are behind the curve.
+function mark(canvas, area, graph, group) {
+  const ends = [-Infinity, -Infinity, -Infinity]; // of the numbers in each of three levels
+  for (const one of flight.events) {
+    const isExceedance = one.event === "exceed";
+    if (one.parameters.length && !group.curves.some((curve) => one.parameters.includes(curve.name))) continue;
+    const place = graph.toDomXCoord(one.place / flight.second);
+    if (place < area.x || place > area.x + area.w) continue;
+    const colour = isExceedance ? EXCEED_COLOUR : `rgb(${COLOURS[one.event]})`;
+    canvas.strokeStyle = canvas.fillStyle = colour;
+    if (isExceedance) {
+      canvas.setLineDash(one.certain ? [] : [4, 3]);
       canvas.beginPath();
       canvas.moveTo(place, area.y);
       canvas.lineTo(place, area.y + area.h);
       canvas.stroke();
-      canvas.fillText(one.text + (one.times.length > 1 ? "?" : ""), place + 3, area.y + 22);
+    }
+    const level = ends.findIndex((end) => end < place);
+    if (level >= 0) {
+      const text = `${one.number}${one.certain ? "" : "?"}`;
+      canvas.fillText(text, place + 3, area.y + area.h - 4 - 11 * level);
+      ends[level] = place + canvas.measureText(text).width + 8;
     }
   }
 }
 
-window.page = new Page();
+new Page().open().then((page) => { window.page = page; });

@@ -5,18 +5,21 @@ import html
 import json
 import pathlib
 import re
+import zlib
+from typing import Any
 
 import numpy as np
 
 from .clock import SECOND
 from .curves import Flight, Points
 from .faults import MissingPackage
-from .naming import is_discrete, seen
+from .naming import happenings, is_discrete, own_clock, seen
 
 LIBRARY = pathlib.Path("/usr/share/javascript/dygraphs")  # where Debian puts it
 HERE = pathlib.Path(__file__).parent
 MOST_BITS = 31  # of a time in the page's data
 NARROWEST = 1 / 50_000  # of the axis, for a span of its own
+MOST_WHOLE = 1 << 30  # of values that are kept as whole numbers
 POLICY = "default-src 'none'; script-src 'unsafe-inline'; style-src 'unsafe-inline'; img-src data:"
 PAGE = """\
 <!doctype html>
@@ -30,8 +33,9 @@ PAGE = """\
 </head>
 <body>
 <header><h1>{title}</h1><p id="help">Drag to zoom, shift-drag to move, double-click for the whole flight.</p><p id="where"></p></header>
-<main><nav id="parameters"></nav><section id="charts"></section></main>
+<main><nav id="parameters"></nav><section><div id="charts"></div><ol id="events"></ol></section></main>
 <script type="application/json" id="flight">{data}</script>
+{curves}
 <script>{library}</script>
 <script>{script}</script>
 </body>
@@ -51,6 +55,7 @@ def page_of(flight: Flight, title: str = "") -> str:
         title=html.escape(title or "Flight"),
         style=_library("dygraph.min.css") + (HERE / "page.css").read_text(),
         data=json.dumps(data_of(flight), separators=(",", ":")).replace("<", "\\u003c"),
+        curves="\n".join(_points_of(flight)),
         library=_library("dygraph.min.js"),
         script=(HERE / "page.js").read_text(),
     )
@@ -65,9 +70,9 @@ def _library(name: str) -> str:
     return re.sub(r"(?m)^(//# sourceMappingURL=.*|/\*# sourceMappingURL=.*\*/)$", "", text)
 
 
-def data_of(flight: Flight) -> dict:
+def data_of(flight: Flight) -> dict[str, Any]:
     """What the page's script reads: times are whole numbers of ticks, of which a second has `second`."""
-    shift = max(0, flight.end.bit_length() - MOST_BITS)
+    shift = _shift(flight)
     return {
         "second": SECOND >> shift,
         "end": flight.end >> shift,
@@ -83,33 +88,64 @@ def data_of(flight: Flight) -> dict:
             }
             for span in seen(flight.spans, flight.end * NARROWEST)
         ],
-        "exceedances": [
+        "events": [
             {
-                "name": one.exceedance.name,
-                "text": f"{one.exceedance.name} {one.exceedance.peak}",
-                "times": [time >> shift for time in one.times],
+                "number": one.number,
+                "place": one.place >> shift,
+                "event": one.event.value,
+                "certain": one.certain,
+                "clock": own_clock(flight, one.place),
+                "text": one.text,
                 "parameters": list(one.parameters),
             }
-            for one in flight.exceedings
+            for one in happenings(flight, flight.end * NARROWEST)
         ],
-        "curves": [_curve(flight, name, points, shift) for name, points in flight.curves.items()],
+        "groups": flight.groups(),
+        "curves": [_curve(flight, name, points) for name, points in flight.curves.items()],
     }
 
 
-def _curve(flight: Flight, name: str, points: Points, shift: int) -> dict:
-    """A curve: its points, and where among them stretches begin."""
-    cuts = np.flatnonzero(np.diff(points.stretch)) + 1
+def _shift(flight: Flight) -> int:
+    """The bits that a time of the page lacks."""
+    return max(0, flight.end.bit_length() - MOST_BITS)
+
+
+def _curve(flight: Flight, name: str, points: Points) -> dict[str, Any]:
+    """What the page knows of a curve before it is shown."""
     return {
         "name": name,
         "decimals": flight.decimals[name],
         "count": flight.counts[name],
+        "kept": len(points),
         "steps": is_discrete(points),
-        "time": _text(points.time >> shift, "<i4"),
-        "value": _text(points.value, "<f8"),
-        "cuts": _text(cuts, "<i4"),
+        "isWhole": _whole(points, flight.decimals[name]) is not None,
     }
 
 
-def _text(numbers: np.ndarray, kind: str) -> str:
-    """Numbers as text, by the bytes that they have in memory."""
-    return base64.b64encode(numbers.astype(kind).tobytes()).decode()
+def _whole(points: Points, decimals: int) -> np.ndarray | None:
+    """Values as whole numbers of their last decimal, where they are small enough."""
+    scaled = np.rint(points.value * 10**decimals)
+    return scaled.astype(np.int64) if len(points) and float(np.abs(scaled).max()) < MOST_WHOLE else None
+
+
+def _points_of(flight: Flight) -> list[str]:
+    """The points of each curve: its times, its values and where among them stretches begin. The page reads them once it shows the
+    curve, so it opens as quickly with many."""
+    texts = []
+    for number, (name, points) in enumerate(flight.curves.items()):
+        whole = _whole(points, flight.decimals[name])
+        values = _packed(points.value, "<f8") if whole is None else _packed(_steps(whole), "<i4")
+        cuts = np.flatnonzero(np.diff(points.stretch)) + 1
+        parts = [_packed(_steps(points.time >> _shift(flight)), "<i4"), values, _packed(cuts, "<i4")]
+        texts.append(f'<script type="text/plain" id="curve-{number}">{" ".join(parts)}</script>')
+    return texts
+
+
+def _steps(numbers: np.ndarray) -> np.ndarray:
+    """Each number less the one before it."""
+    return np.diff(numbers, prepend=0)
+
+
+def _packed(numbers: np.ndarray, kind: str) -> str:
+    """Numbers as text, by the bytes that they have in memory, made shorter."""
+    return base64.b64encode(zlib.compress(numbers.astype(kind).tobytes(), 6)).decode()
