@@ -6,7 +6,7 @@ PROGRAM = crates/fdr_prog
 PAIR_PROGRAM = crates/fdr_pair_prog
 SOURCES = crates.txt $(shell find crates -name out -prune -o -type f \( -name '*.rt' -o -name '*.antt' \) -print)
 
-.PHONY: build demo check walk compare laws streams crash-test check-real check-memory bench tools-test test install clean help
+.PHONY: build demo check walk compare laws streams crash-test check-real check-memory bench tools-test test install install-tools clean help
 
 # Proves both programs and everything below them, and puts them at bin/fdr and bin/fdrpair.
 # After `make test` they are there already.
@@ -89,13 +89,22 @@ test:
 	cp $(PROGRAM)/out/fdr_prog bin/fdr
 	cp $(PAIR_PROGRAM)/out/fdr_pair_prog bin/fdrpair
 
-# Puts the programs, their man pages and the pages below PREFIX, which is /usr/local where it isn't given.
-install: build
+# Puts the programs, the tools, their man pages and the pages below PREFIX, which is /usr/local where it isn't given.
+install: build install-tools
 	install -d $(DESTDIR)$(PREFIX)/bin $(DESTDIR)$(PREFIX)/share/man/man1
 	install -m 755 bin/fdr bin/fdrpair $(DESTDIR)$(PREFIX)/bin
 	install -m 644 docs/fdr.1 docs/fdrpair.1 $(DESTDIR)$(PREFIX)/share/man/man1
 	install -d $(DESTDIR)$(PREFIX)/share/doc/fdr
 	cp -R README.md CONTRIBUTING.md CHANGELOG.md CITATION.cff docs examples $(DESTDIR)$(PREFIX)/share/doc/fdr
+
+# Puts the tools beside the program below PREFIX, which needs no build: `flight` and its man page.
+install-tools:
+	install -d $(DESTDIR)$(PREFIX)/bin $(DESTDIR)$(PREFIX)/share/man/man1 $(DESTDIR)$(PREFIX)/lib/fdr/flight_recorder
+	install -m 755 tools/flight $(DESTDIR)$(PREFIX)/lib/fdr
+	install -m 644 VERSION $(DESTDIR)$(PREFIX)/lib/fdr
+	install -m 644 $(wildcard tools/flight_recorder/*.*) $(DESTDIR)$(PREFIX)/lib/fdr/flight_recorder
+	ln -sf ../lib/fdr/flight $(DESTDIR)$(PREFIX)/bin/flight
+	install -m 644 docs/flight.1 $(DESTDIR)$(PREFIX)/share/man/man1
 
 # Removes what was built.
 clean:

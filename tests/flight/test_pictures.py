@@ -190,10 +190,10 @@ def test_exceedances_are_marked():
 def test_events_are_listed_below():
     lines = [text.get_text().split("  ") for text in picture.figure_of(flight_of(SPREAD)).texts]
     assert [[part.strip() for part in line if part.strip()] for line in lines] == [
-        ["1", "recording 1, 0:00:00", "session 1: session 1 from block 0"],
+        ["1", "recording 1, 0:00:00", "session 1 from block 0"],
         ["2", "recording 1, 0:01:20", "gap 4 s: from bit 61440, 3072 bits: 4 s"],
         ["3", "recording 1, 0:02:00", "gap, unknown length: from bit 92160, 100 bits: bits of 0.1 s, by the counter 40 s: lost bits or another recording"],
-        ["4", "recording 1, 0:03:00", "session 2: session 2 from block 30"],
+        ["4", "recording 1, 0:03:00", "session 2 from block 30"],
     ]  # fmt: skip
 
 

@@ -7,12 +7,13 @@ import subprocess
 import sys
 import time
 
+import pandas
 import pytest
 
 from conftest import FLIGHT, T1
 from flight_recorder import commands
 
-COMMANDS = ["trace", "words", "check-trace", "pack", "unpack", "table", "plot"]
+COMMANDS = ["trace", "words", "check-trace", "pack", "unpack", "table", "frame", "plot"]
 ROW = b"row,0,1,10,ALT,5\n"
 ROWS = b"".join(b"row,%d,1,10,ALT,5\n" % (1000 + number % 3000) for number in range(200_000))  # 20 bytes each
 
@@ -123,6 +124,19 @@ def test_no_progress_of_quick_work():
     except OSError:
         said = b""
     assert said == b"" or time.monotonic() - begin > 1
+
+
+def test_installed_tools(tmp_path, write):
+    """They run from where they are installed, without the repository, and their man page has each command."""
+    made = subprocess.run(["make", "-s", "-C", FLIGHT.parent.parent, "install-tools", f"DESTDIR={tmp_path}", "PREFIX=/usr"], capture_output=True)
+    assert (made.returncode, made.stderr) == (0, b"")
+    words = [tmp_path / "usr" / "bin" / "flight", "table", write("l", ROW), "--words", "64", "-o", tmp_path / "f.h5"]
+    assert subprocess.run(words, capture_output=True, cwd=tmp_path).returncode == 0
+    version = (FLIGHT.parent.parent / "VERSION").read_text().split()[0]
+    with pandas.HDFStore(str(tmp_path / "f.h5"), "r") as store:
+        assert store.root._v_attrs["made_by"] == f"flight {version}"
+    page = (tmp_path / "usr" / "share" / "man" / "man1" / "flight.1").read_text()
+    assert [name for name in COMMANDS if f"\n.B flight {name} " not in page] == []
 
 
 def test_an_interrupt_says_nothing(monkeypatch, flight, write):

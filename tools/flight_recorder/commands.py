@@ -319,8 +319,9 @@ def _write_hdf(
 
 def _version() -> str:
     """The version of the tools, where its file is beside them."""
-    path = pathlib.Path(__file__).resolve().parent.parent.parent / "VERSION"
-    return path.read_text().split()[0] if path.is_file() else ""
+    folders = pathlib.Path(__file__).resolve().parents[1:3]  # where they are installed, and in the repository
+    found = [folder / "VERSION" for folder in folders if (folder / "VERSION").is_file()]
+    return found[0].read_text().split()[0] if found else ""
 
 
 def _is_hdf(path: str | None) -> bool:

@@ -81,7 +81,7 @@ class Happening:
 def happenings(flight: Flight, narrowest: float) -> list[Happening]:
     """What is between samples, and the exceedances, in the order of the axis. An exceedance that may stand at several places has
     one number, and is there several times."""
-    shades = [(shade.begin, shade.event, True, f"{shade.name}: {shade.text}", ()) for shade in seen(flight.spans, narrowest)]
+    shades = [(shade.begin, shade.event, True, _shade_text(shade), ()) for shade in seen(flight.spans, narrowest)]
     exceeds = [
         (place, Event.EXCEED, len(one.times) == 1, _exceeding_text(one), one.parameters)
         for one in flight.exceedings
@@ -97,6 +97,10 @@ def happenings(flight: Flight, narrowest: float) -> list[Happening]:
             numbers[(event, f"{number} {text}")] = number
         answer.append(Happening(number, place, event, certain, text, parameters))
     return answer
+
+
+def _shade_text(shade: Shade) -> str:
+    return shade.text if shade.text.startswith(shade.name) else f"{shade.name}: {shade.text}"
 
 
 def _exceeding_text(one: Exceeding) -> str:
