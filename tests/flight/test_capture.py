@@ -6,6 +6,7 @@ import pytest
 
 import encoder
 
+ROW = "row"
 FIVE = bytes.fromhex("01000000000014C1") + bytes(8)
 SEVEN = bytes.fromhex("0100000080001CC1") + (4_000_000).to_bytes(8, "big")
 END = bytes([2]) + bytes(7) + (8_000_000).to_bytes(8, "big")
@@ -117,7 +118,7 @@ def test_a_late_fault_leaves_nothing(flight, write):
     assert flight("trace", write("c.csv", f"time,bus,word\n{rows}0,0,1\n")) == (
         1,
         b"",
-        "flight: row 100002: time goes back; --sort puts the rows in order\n",
+        f"flight: {ROW} 100002: time goes back; --sort puts the rows in order\n",
     )
 
 
@@ -166,13 +167,13 @@ def test_kinds_of_time(flight, write, times, wanted, word):
 def test_no_times(flight, write, time):
     for word in ("1", '"1"'):
         answer = flight("trace", write("c.csv", f"time,bus,word\n{time},0,{word}\n"))
-        assert answer == (1, b"", f"flight: row 2: time {time!r}\n")
+        assert answer == (1, b"", f"flight: {ROW} 2: time {time!r}\n")
 
 
 def test_kinds_of_time_are_not_mixed(flight, write):
     for first, second in (("10:00:00", "1"), ("123:10:00:00", "10:00:01"), ("1", "10:00:00")):
         answer = flight("trace", write("c.csv", f"time,bus,word\n{first},0,1\n{second},0,1\n"))
-        assert answer == (1, b"", f"flight: row 3: time {second!r}\n")
+        assert answer == (1, b"", f"flight: {ROW} 3: time {second!r}\n")
 
 
 def test_names_of_columns_and_buses(flight, write):
@@ -180,10 +181,10 @@ def test_names_of_columns_and_buses(flight, write):
     words = ("--columns", "time=Timestamp,bus=channel,word=Data Word", "--bus", "RX1=0,RX2=1", "--end", 8)
     assert flight("trace", capture, *words) == (0, FIVE + SEVEN + END, "")
     assert flight("trace", capture, *words[:2], "--end", 8).error == (
-        "flight: row 2: bus 'RX1': a bus is 0 to 255; --bus RX1=0 gives a name a number\n"
+        f"flight: {ROW} 2: bus 'RX1': a bus is 0 to 255; --bus RX1=0 gives a name a number\n"
     )
     assert flight("trace", capture, *words[:2], "--bus", "RX2=0,RX3=1").error == (
-        "flight: row 2: bus 'RX1': a bus is 0 to 255, or RX2, RX3 by --bus\n"
+        f"flight: {ROW} 2: bus 'RX1': a bus is 0 to 255, or RX2, RX3 by --bus\n"
     )
 
 
@@ -198,7 +199,7 @@ def test_one_bus_for_all_rows(flight, write):
         (("--bus", "RX1=256"), "--bus 'RX1=256': a name, =, and a number of 0 to 255, each name once"),
         (("--bus", "A=1,A=2"), "--bus 'A=2': a name, =, and a number of 0 to 255, each name once"),
         (("--columns", "when=T"), "--columns 'when=T': one of time, bus, word, label, sdi, data, ssm, and after = its name in the capture"),
-        (("--columns", "time=T"), "row 1: the header names no column `T`, which --columns has for time"),
+        (("--columns", "time=T"), f"{ROW} 1: the header names no column `T`, which --columns has for time"),
     ],
 )
 def test_refused_names(flight, write, words, fault):

@@ -6,6 +6,7 @@ table is found out, also where both tables have their parameters in the same wor
 
 import numpy as np
 
+from .arrays import Array
 from .clock import LATE, WORD_BITS, Shape, Timed
 from .faults import Fault
 from .listing import SUBFRAMES, Kind, Mark
@@ -21,11 +22,11 @@ class Tally:
     def __init__(self) -> None:
         self.frames = self.seen = self.stretches = self.late = 0
 
-    def array(self) -> np.ndarray:
+    def array(self) -> Array:
         """The four numbers."""
         return np.array([self.frames, self.seen, self.stretches, self.late], dtype=np.int64)
 
-    def take(self, numbers: np.ndarray) -> None:
+    def take(self, numbers: Array) -> None:
         """Takes the four numbers."""
         self.frames, self.seen, self.stretches, self.late = (int(number) for number in numbers)
 
@@ -44,7 +45,7 @@ class Addresses:
         self.step = 0  # the most frames from one with rows to the next
         self.tally = Tally()  # of what is after `begin`
 
-    def follow(self, timed: Timed) -> np.ndarray:
+    def follow(self, timed: Timed) -> Array:
         """Checks the gaps of a piece, and answers the bit at which each frame of it begins; below 0 where it is unknown."""
         frames = timed.frames
         rise = np.diff(frames.newest, prepend=self.newest)
@@ -69,7 +70,7 @@ class Addresses:
             bits -= (frames.newest - frames.line) * self.shape.bits * (bits >= 0)
         return bits
 
-    def _place(self, bits: np.ndarray, first: int, end: int, counted: np.ndarray) -> None:
+    def _place(self, bits: Array, first: int, end: int, counted: Array) -> None:
         """Places frames that follow each other; `counted` has how many there are up to before each."""
         self.origins[first:end] = self.origin
         if self.begin is not None:

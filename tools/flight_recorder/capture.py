@@ -7,6 +7,7 @@ from typing import BinaryIO, Callable, Iterable, Iterator, Mapping, NamedTuple
 
 import numpy as np
 
+from .arrays import Array
 from . import bus, plain, trace
 from .faults import Fault
 from .moments import Clock
@@ -61,10 +62,10 @@ class Batch:
 class Words(NamedTuple):
     """Bus words of a capture, by column: their rows, their times in microseconds, their buses and themselves."""
 
-    row: np.ndarray
-    time: np.ndarray
-    bus: np.ndarray
-    word: np.ndarray
+    row: Array
+    time: Array
+    bus: Array
+    word: Array
 
 
 class Header:
@@ -202,7 +203,7 @@ class Reader:
         all_buses = np.full(len(fields), settings.buses.get("", 0)) if buses is None else buses
         return Words(rows, times, all_buses.astype(np.uint8), words)
 
-    def _word_of(self, numbers: dict[str, np.ndarray], fields: plain.Fields) -> np.ndarray | None:
+    def _word_of(self, numbers: dict[str, Array], fields: plain.Fields) -> Array | None:
         """The bus words of columns of numbers; none where a field isn't that of its word."""
         given = {name: numbers[name].astype(np.uint32) for name in numbers}
         nothing = np.zeros(len(fields), dtype=np.uint32)
@@ -388,7 +389,7 @@ def _words_of(batch: Batch, header: Header, clock: Clock, settings: Settings) ->
     )
 
 
-def _words(batch: Batch, header: Header, label_first: bool) -> np.ndarray:
+def _words(batch: Batch, header: Header, label_first: bool) -> Array:
     """The bus words of a batch, by the column of words or by those of the fields."""
     if header.word is None:
         return bus.word_of(bus.Fields(*(_field(batch, header, name) for name in FIELDS)))
@@ -400,11 +401,11 @@ def _words(batch: Batch, header: Header, label_first: bool) -> np.ndarray:
     return words
 
 
-def _field(batch: Batch, header: Header, name: str) -> np.ndarray:
+def _field(batch: Batch, header: Header, name: str) -> Array:
     return np.array(_each(batch.column(header.fields[name]), MEANINGS[name], batch.rows, name), dtype=np.uint32)
 
 
-def _check_said(batch: Batch, header: Header, name: str, said: np.ndarray) -> None:
+def _check_said(batch: Batch, header: Header, name: str, said: Array) -> None:
     """A row that has a field beside its word has the word's own, or leaves it empty."""
     texts = batch.column(header.fields[name])
     filled = np.array([bool(text.strip()) for text in texts], dtype=bool)
@@ -440,7 +441,7 @@ def write_words(source: Input, out: BinaryIO) -> None:
         out.write("".join(_texts(records)).encode())
 
 
-def _texts(records: np.ndarray) -> Iterator[str]:
+def _texts(records: Array) -> Iterator[str]:
     """The rows of records."""
     words = records[records["kind"] == trace.WORD]
     columns = [words["time"].astype(np.int64), words["bus"], words["word"], *bus.fields_of(words["word"])]

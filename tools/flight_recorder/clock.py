@@ -18,6 +18,7 @@ from dataclasses import dataclass
 
 import numpy as np
 
+from .arrays import Array
 from .faults import Fault
 from .listing import MOST_WORDS, ROUND, SUBFRAMES, Exceedance, Kind, Mark, Piece, Place
 from .parameters import SUPERFRAME, Table
@@ -37,7 +38,7 @@ class Shape:
     """What a listing doesn't say: the words of a subframe, and how many frames later rows come again, by frame of a superframe."""
 
     words: int
-    steps: np.ndarray
+    steps: Array
     every_frame: bool
 
     @property
@@ -99,12 +100,12 @@ class Frames:
     """The frames of a piece, as far as rows tell them apart: neighbouring rows of one frame. For each its first row, the
     number of the frame on the clock's line, the greatest such number so far, and the stretch that it is of."""
 
-    first: np.ndarray
-    line: np.ndarray
-    newest: np.ndarray
-    stretch: np.ndarray
+    first: Array
+    line: Array
+    newest: Array
+    stretch: Array
 
-    def of(self, rows: np.ndarray) -> np.ndarray:
+    def of(self, rows: Array) -> Array:
         """The frame that each of these rows is in."""
         return np.searchsorted(self.first, rows, side="right") - 1
 
@@ -116,14 +117,14 @@ class Timed:
     `dump_bit` the same with the bits of all sessions before."""
 
     piece: Piece
-    recording: np.ndarray
-    stretch: np.ndarray
-    time: np.ndarray
+    recording: Array
+    stretch: Array
+    time: Array
     between: list[Between]
     frames: Frames
     sessions: list[int | None]
-    bit: np.ndarray | None = None
-    dump_bit: np.ndarray | None = None
+    bit: Array | None = None
+    dump_bit: Array | None = None
 
 
 @dataclass
@@ -190,8 +191,9 @@ class Clock:
             time += np.repeat(shift * FRAME, counts)
         self._keep(piece, line, newest, place, len(at))
         frames_of = Frames(first, line, newest, stretch)
-        rows = (_repeated(column, counts, len(piece)) for column in (recording, stretch))
-        return Timed(piece, *rows, time, between, frames_of, self.sessions)
+        recordings = _repeated(recording, counts, len(piece))
+        stretches = _repeated(stretch, counts, len(piece))
+        return Timed(piece, recordings, stretches, time, between, frames_of, self.sessions)
 
     def end(self) -> list[Between]:
         """What is after the last row."""
@@ -208,8 +210,8 @@ class Clock:
         return odd.place if self._agree(missing, bits) else None
 
     def _line(
-        self, piece: Piece, within: np.ndarray, edges: list[Mark]
-    ) -> tuple[np.ndarray, np.ndarray, np.ndarray, np.ndarray]:
+        self, piece: Piece, within: Array, edges: list[Mark]
+    ) -> tuple[Array, Array, Array, Array]:
         """The first row of each frame, the frame's number on the line, the rows that stretches begin with, and the place of each
         row on the line, of which a frame has 4,096; `within` is that in its frame.
 
@@ -232,12 +234,12 @@ class Clock:
                 return first, line, starts, place
             starts = np.union1d(starts, found).astype(np.int64)
 
-    def _jumps(self, line: np.ndarray) -> np.ndarray:
+    def _jumps(self, line: Array) -> Array:
         """The frames that are so much later than the newest before that rows between are missing."""
         newest = np.maximum.accumulate(np.insert(line, 0, self.newest))
         return np.flatnonzero(np.diff(newest) > self.shape.steps[newest[:-1] % SUPERFRAME])
 
-    def _backs(self, piece: Piece, place: np.ndarray) -> np.ndarray:
+    def _backs(self, piece: Piece, place: Array) -> Array:
         """Rows at which a parameter has gone back, as few as there must be. None has over the beginning of a stretch."""
         if len(self.last) <= MOST_NAMES and len(place) and place[0] > self.furthest:
             each = place * MOST_NAMES + piece.name
@@ -253,8 +255,8 @@ class Clock:
         return _between_each(order[bad] - len(known), order[bad + 1] - len(known))
 
     def _placed(
-        self, piece: Piece, line: np.ndarray, newest: np.ndarray, at: np.ndarray, edges: list[Mark], first: np.ndarray
-    ) -> tuple[np.ndarray, np.ndarray, list[Between]]:
+        self, piece: Piece, line: Array, newest: Array, at: Array, edges: list[Mark], first: Array
+    ) -> tuple[Array, Array, list[Between]]:
         """What makes each frame's number on the line the one in its recording, its recording, and what is between the rows."""
         shift, recording = np.empty(len(line), dtype=np.int64), np.empty(len(line), dtype=np.int64)
         between: list[Between] = []
@@ -404,7 +406,7 @@ class Clock:
         text = f"{_bits(gap)}: {seconds(length)} s by its bits"
         return Between(Event.GAP, row, max(self.recording, 0), begin, after, True, text)
 
-    def _exceedances(self, marks: list[Mark], newest: list[tuple[int, int]], first: np.ndarray) -> list[Between]:
+    def _exceedances(self, marks: list[Mark], newest: list[tuple[int, int]], first: Array) -> list[Between]:
         """The exceedances among the rows. Each began in the last frame before it that has its counter; `newest` has for what is
         before the first row, and for each frame, the newest frame and the recording up to it."""
         between = []
@@ -417,7 +419,7 @@ class Clock:
                 between.append(Between(Event.EXCEED, mark.row, number, begin, begin, True, text, one))
         return between
 
-    def _keep(self, piece: Piece, line: np.ndarray, newest: np.ndarray, place: np.ndarray, starts: int) -> None:
+    def _keep(self, piece: Piece, line: Array, newest: Array, place: Array, starts: int) -> None:
         """Keeps what the next piece goes on from."""
         if not len(piece):
             return
@@ -447,21 +449,21 @@ def _bits(gap: Mark) -> str:
     return f"from bit {gap.first}, {gap.second} bits"
 
 
-def _repeated(column: np.ndarray, counts: np.ndarray, length: int) -> np.ndarray:
+def _repeated(column: Array, counts: Array, length: int) -> Array:
     """What each row has of what each frame has; mostly all have the same."""
     if len(column) and column[0] == column[-1] and (column == column[0]).all():
         return np.broadcast_to(column[0], length)
     return np.repeat(column, counts)
 
 
-def _counted(starts: np.ndarray, length: int) -> np.ndarray:
+def _counted(starts: Array, length: int) -> Array:
     """For each row how many of the starts are at it or before."""
     marked = np.zeros(length, dtype=np.int64)
     marked[starts] = 1
     return np.cumsum(marked)
 
 
-def _between_each(before: np.ndarray, after: np.ndarray) -> np.ndarray:
+def _between_each(before: Array, after: Array) -> Array:
     """Of pairs of rows, the fewest rows so that one is after the first of each pair and not after its second."""
     found: list[int] = []
     for _, earlier, later in sorted(zip(after.tolist(), before.tolist(), after.tolist())):

@@ -49,7 +49,7 @@ def _parser() -> argparse.ArgumentParser:
 
 
 def _command(
-    commands: argparse._SubParsersAction,
+    commands: "argparse._SubParsersAction[argparse.ArgumentParser]",
     name: str,
     run: Callable[[argparse.Namespace], int | None],
     help: str,
@@ -68,7 +68,7 @@ def _command(
     return parser
 
 
-def _add_trace(commands: argparse._SubParsersAction) -> None:
+def _add_trace(commands: "argparse._SubParsersAction[argparse.ArgumentParser]") -> None:
     parser = _command(
         commands,
         "trace",
@@ -115,7 +115,7 @@ def _run_trace(given: argparse.Namespace) -> None:
         capture.convert(source, out, settings)
 
 
-def _add_words(commands: argparse._SubParsersAction) -> None:
+def _add_words(commands: "argparse._SubParsersAction[argparse.ArgumentParser]") -> None:
     parser = _command(commands, "words", _run_words, "write a trace as a capture", "flight words flight.trace | head")
     parser.add_argument("trace", metavar="TRACE", help="a trace; - for standard input")
 
@@ -127,7 +127,7 @@ def _run_words(given: argparse.Namespace) -> None:
         capture.write_words(source, out)
 
 
-def _add_check_trace(commands: argparse._SubParsersAction) -> None:
+def _add_check_trace(commands: "argparse._SubParsersAction[argparse.ArgumentParser]") -> None:
     parser = _command(
         commands,
         "check-trace",
@@ -163,7 +163,7 @@ def _add_units(parser: argparse.ArgumentParser) -> None:
     )
 
 
-def _add_pack(commands: argparse._SubParsersAction) -> None:
+def _add_pack(commands: "argparse._SubParsersAction[argparse.ArgumentParser]") -> None:
     parser = _command(
         commands,
         "pack",
@@ -190,7 +190,7 @@ def _run_pack(given: argparse.Namespace) -> None:
         dump.pack(source, out, _units(given), given.ignore_spare)
 
 
-def _add_unpack(commands: argparse._SubParsersAction) -> None:
+def _add_unpack(commands: "argparse._SubParsersAction[argparse.ArgumentParser]") -> None:
     parser = _command(
         commands,
         "unpack",
@@ -249,7 +249,7 @@ def _say_passed_over(passed: reading.PassedOver) -> None:
         print(f"flight: passed over {said}, at listing line {passed.line} first", file=sys.stderr)
 
 
-def _add_table(commands: argparse._SubParsersAction) -> None:
+def _add_table(commands: "argparse._SubParsersAction[argparse.ArgumentParser]") -> None:
     parser = _command(
         commands,
         "table",
@@ -365,7 +365,7 @@ def _table_writer(
     return tables.LongTable(out, columns)
 
 
-def _add_frame(commands: argparse._SubParsersAction) -> None:
+def _add_frame(commands: "argparse._SubParsersAction[argparse.ArgumentParser]") -> None:
     parser = _command(
         commands,
         "frame",
@@ -397,7 +397,7 @@ def _run_frame(given: argparse.Namespace) -> None:
         out.write(text.getvalue().encode())
 
 
-def _add_plot(commands: argparse._SubParsersAction) -> None:
+def _add_plot(commands: "argparse._SubParsersAction[argparse.ArgumentParser]") -> None:
     parser = _command(
         commands,
         "plot",

@@ -8,6 +8,7 @@ from typing import Mapping
 
 import numpy as np
 
+from .arrays import Array
 from .clock import FRAME, Between, Event, Timed
 from .exceedings import Finder
 from .listing import Exceedance, Names
@@ -25,14 +26,14 @@ CUT = 4  # points that a stretch of time is thinned to, at the most: the first, 
 class Points:
     """Points of a curve: when each was sampled, its value, and the stretch that it is of."""
 
-    time: np.ndarray
-    value: np.ndarray
-    stretch: np.ndarray
+    time: Array
+    value: Array
+    stretch: Array
 
     def __len__(self) -> int:
         return len(self.time)
 
-    def only(self, which: np.ndarray) -> "Points":
+    def only(self, which: Array) -> "Points":
         """Some of them."""
         return Points(self.time[which], self.value[which], self.stretch[which])
 
@@ -219,7 +220,7 @@ class Collector:
                 if curve.held > most:
                     curve.points(most)
 
-    def _put(self, timed: Timed) -> np.ndarray:
+    def _put(self, timed: Timed) -> Array:
         """The places of a piece's rows on the axis, without the room between recordings."""
         cuts = np.flatnonzero(np.diff(timed.recording)) + 1
         put = np.empty(len(timed.time), dtype=np.int64)

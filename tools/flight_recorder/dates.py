@@ -7,6 +7,7 @@ from decimal import Decimal
 
 import numpy as np
 
+from .arrays import Array
 from .clock import SECOND
 from .durations import UNITS
 from .faults import Fault
@@ -23,14 +24,14 @@ class Dates:
     starts: dict[int, int]
     is_utc: bool
 
-    def microseconds(self, recording: np.ndarray, ticks: np.ndarray) -> np.ndarray:
+    def microseconds(self, recording: Array, ticks: Array) -> Array:
         """The dates of rows as numpy has them, or none where a recording's beginning isn't known."""
         known = np.array([self.starts.get(number + 1, -1) for number in range(int(recording.max(initial=0)) + 1)])
         start = known[recording]
         since = np.rint(ticks * (MICRO / SECOND)).astype(np.int64)
         return np.where(start >= 0, start + since, np.iinfo(np.int64).min).astype("datetime64[us]")
 
-    def texts(self, recording: np.ndarray, ticks: np.ndarray) -> np.ndarray:
+    def texts(self, recording: Array, ticks: Array) -> Array:
         """The dates of rows as bytes, empty where there is none."""
         dates = self.microseconds(recording, ticks)
         texts = np.datetime_as_string(dates, unit="us").astype("S26")

@@ -10,6 +10,7 @@ from typing import BinaryIO, Sequence
 
 import numpy as np
 
+from .arrays import Array
 from .clock import SECOND, Between, Timed
 from .joining import time_text
 from .listing import MOST_WORDS, SUBFRAMES, Exceedance, Names
@@ -81,17 +82,17 @@ class Finder:
 
     def _go_on(self, timed: Timed) -> None:
         """Takes the samples of the places that are open."""
-        rows: dict[int, np.ndarray] = {}
+        rows: dict[int, Array] = {}
         for one in self.open:
             if one.name not in rows:
                 rows[one.name] = np.flatnonzero(timed.piece.name == one.name)
             self._take(one, timed, rows[one.name])
         self.open = [one for one in self.open if one.end is None]
 
-    def _take(self, one: Standing, timed: Timed, rows: np.ndarray) -> None:
+    def _take(self, one: Standing, timed: Timed, rows: Array) -> None:
         """Takes the samples in these rows of its parameter, as far as its stretch goes, and the row after them."""
         in_stretch = int(np.searchsorted(timed.stretch, one.stretch, side="right"))
-        rows = rows[: np.searchsorted(rows, in_stretch)]
+        rows = rows[: int(np.searchsorted(rows, in_stretch))]
         values = timed.piece.value[rows[: one.left]]
         if len(values):
             one.least, one.greatest = min(one.least, float(values.min())), max(one.greatest, float(values.max()))
@@ -143,7 +144,7 @@ class Finder:
         return bounds
 
 
-def _keys(counter: "np.ndarray | int", subframe: "np.ndarray | int", word: "np.ndarray | int") -> np.ndarray:
+def _keys(counter: "Array | int", subframe: "Array | int", word: "Array | int") -> Array:
     """A number for each place of a round of the counter."""
     return (np.asarray(counter, dtype=np.int64) * SUBFRAMES + subframe - 1) * MOST_WORDS + word - 1
 

@@ -5,6 +5,7 @@ from typing import Iterator, TextIO
 
 import numpy as np
 
+from .arrays import Array
 from .clock import FRAME, SECOND, WORD_BITS, Clock, Shape
 from .faults import Fault
 from .joining import time_text
@@ -22,13 +23,13 @@ IN_LINE = 8  # words in a line
 class Frames:
     """The accepted frames of some bits: where each begins, its counter, its recording, and its time in ticks."""
 
-    bit: np.ndarray
-    counter: np.ndarray
-    recording: np.ndarray
-    time: np.ndarray
+    bit: Array
+    counter: Array
+    recording: Array
+    time: Array
 
 
-def frames_of(bits: np.ndarray, table: Table) -> Frames:
+def frames_of(bits: Array, table: Table) -> Frames:
     """The accepted frames of some bytes, by the words of a table's subframes."""
     shape = Shape(table.words, np.ones(SUPERFRAME, dtype=np.int64), True)
     begins = np.array(list(_accepted(_positions(bits, table.words), shape.bits)), dtype=np.int64)
@@ -37,12 +38,13 @@ def frames_of(bits: np.ndarray, table: Table) -> Frames:
     ends = np.insert(begins + shape.bits, 0, 0)[:-1]
     marks = [Mark(Kind.GAP, int(at), int(ends[at]), int(begins[at] - ends[at])) for at in np.flatnonzero(begins > ends)]
     ones, nothing = np.ones(len(begins), dtype=np.int64), np.zeros(len(begins), dtype=np.int64)
-    columns = [counter, ones, ones, nothing, nothing, nothing, nothing, nothing, nothing]
-    timed = Clock(shape).times(Piece(np.zeros(0, dtype=np.uint8), *columns, marks), 1)
+    text = np.zeros(0, dtype=np.uint8)
+    piece = Piece(text, counter, ones, ones, nothing, nothing, nothing, nothing, nothing, nothing, marks)
+    timed = Clock(shape).times(piece, 1)
     return Frames(begins, counter, timed.recording, timed.time)
 
 
-def _positions(bits: np.ndarray, words: int) -> np.ndarray:
+def _positions(bits: Array, words: int) -> Array:
     """The bits at which the four sync words of a frame are, whether or not it overlaps another."""
     last = 8 * len(bits) - SUBFRAMES * words * WORD_BITS
     found = []
@@ -60,7 +62,7 @@ def _positions(bits: np.ndarray, words: int) -> np.ndarray:
     return places
 
 
-def _accepted(positions: np.ndarray, length: int) -> Iterator[int]:
+def _accepted(positions: Array, length: int) -> Iterator[int]:
     """The earliest position, the earliest that begins where that frame ends or later, and so on."""
     end = 0
     for position in positions.tolist():
@@ -69,12 +71,12 @@ def _accepted(positions: np.ndarray, length: int) -> Iterator[int]:
             yield position
 
 
-def at_counter(frames: Frames, counter: int) -> np.ndarray:
+def at_counter(frames: Frames, counter: int) -> Array:
     """The frames with a counter."""
     return np.flatnonzero(frames.counter == counter)
 
 
-def at_time(frames: Frames, ticks: int) -> np.ndarray:
+def at_time(frames: Frames, ticks: int) -> Array:
     """The frames of a time of their recordings."""
     return np.flatnonzero(frames.time // FRAME == ticks // FRAME)
 
@@ -107,7 +109,7 @@ def holdings(table: Table) -> dict[int, list[Held]]:
     return found
 
 
-def write_frame(out: TextIO, bits: np.ndarray, table: Table, frames: Frames, number: int) -> None:
+def write_frame(out: TextIO, bits: Array, table: Table, frames: Frames, number: int) -> None:
     """Writes a frame: its place, and each subframe in octal, with the words that hold something."""
     begin, counter = int(frames.bit[number]), int(frames.counter[number])
     length = SUBFRAMES * table.words
@@ -140,7 +142,7 @@ def _counter_slot(table: Table) -> int:
     return (table.counter_subframe - 1) * table.words + table.counter_word - 1
 
 
-def chosen(frames: Frames, at: str, ticks: int | None) -> np.ndarray:
+def chosen(frames: Frames, at: str, ticks: int | None) -> Array:
     """The frames of a counter or of a time."""
     if ticks is None and int(at) >= ROUND:
         raise Fault(f"--at {at}: a counter is below {ROUND}; a time has a unit, as {at}s")

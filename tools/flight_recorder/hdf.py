@@ -10,6 +10,7 @@ import numpy as np
 import pandas
 import tables as pytables
 
+from .arrays import Array
 from .clock import SECOND, Between, Event, Timed
 from .faults import Fault
 from .listing import Names
@@ -55,11 +56,15 @@ class Store:
         for name, text in about.items():
             self.store.root._v_attrs[name] = text
 
-    def first(self, recording: np.ndarray, ticks: np.ndarray) -> dict[str, np.ndarray]:
+    def first(self, recording: Array, ticks: Array) -> dict[str, Array]:
         """The first columns of rows."""
         of = self.columns.sessions + [None] * (int(recording.max(initial=-1)) + 1 - len(self.columns.sessions))
         sessions = np.array([NO_SESSION if one is None else one for one in of], dtype=np.int64)
-        first = {"recording": (recording + 1).astype(np.int32), "session": sessions[recording], "time": ticks / SECOND}
+        first: dict[str, Array] = {
+            "recording": (recording + 1).astype(np.int32),
+            "session": sessions[recording],
+            "time": ticks / SECOND,
+        }
         if self.columns.dates is not None:
             first["date"] = self.columns.dates.microseconds(recording, ticks).astype("datetime64[ns]")
         return first
@@ -102,7 +107,7 @@ class LongStore:
         self.store.notes += between
 
 
-def _frame(store: Store, names: Names, recording: np.ndarray, ticks: np.ndarray, values: np.ndarray) -> pandas.DataFrame:
+def _frame(store: Store, names: Names, recording: Array, ticks: Array, values: Array) -> pandas.DataFrame:
     """Rows with a column for each parameter."""
     first = pandas.DataFrame(store.first(recording, ticks))
     return pandas.concat([first, pandas.DataFrame(values, columns=column_names(names))], axis=1)
@@ -141,7 +146,7 @@ class GridStore(GridTable):
     def _betweens(self, between: list[Between]) -> None:
         self.store.notes += self.columns.window.betweens(between)
 
-    def _block(self, samples: Samples, multiples: np.ndarray) -> None:
+    def _block(self, samples: Samples, multiples: Array) -> None:
         recording = np.full(len(multiples), self.recording)
         ticks = multiples * (self.step * SECOND / MICRO)
         wanted = self.columns.window.rows(recording, ticks)

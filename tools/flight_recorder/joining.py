@@ -5,6 +5,7 @@ from dataclasses import dataclass
 import numpy as np
 import pandas
 
+from .arrays import Array
 from .clock import SECOND
 
 FRACTIONS = np.frombuffer(
@@ -18,11 +19,11 @@ MOST_MASKS = 4096
 class Places:
     """Pieces of a text, in the order in which they are joined: where each begins and how long it is."""
 
-    start: np.ndarray
-    length: np.ndarray
+    start: Array
+    length: Array
 
 
-def joined(text: np.ndarray, places: Places) -> bytes:
+def joined(text: Array, places: Places) -> bytes:
     """The pieces of a text, one after another."""
     lengths, starts = places.length.ravel(), places.start.ravel()
     if not lengths.all():
@@ -40,11 +41,11 @@ def joined(text: np.ndarray, places: Places) -> bytes:
 class Text:
     """A text that grows, whose pieces are joined at the end."""
 
-    def __init__(self, text: np.ndarray) -> None:
+    def __init__(self, text: Array) -> None:
         self.parts = [text]
         self.size = len(text)
 
-    def add(self, part: np.ndarray | bytes) -> int:
+    def add(self, part: Array | bytes) -> int:
         """Adds bytes, and answers where they begin."""
         part = np.frombuffer(part, dtype=np.uint8) if isinstance(part, bytes) else part
         begin = self.size
@@ -57,7 +58,7 @@ class Text:
         lengths = np.array([len(part) for part in parts], dtype=np.int64)
         return Places(self.add(b"".join(parts)) + np.cumsum(lengths) - lengths, lengths)
 
-    def whole(self) -> np.ndarray:
+    def whole(self) -> Array:
         """All of it."""
         return np.concatenate(self.parts)
 
@@ -66,12 +67,12 @@ class Text:
 class Field:
     """A field of each row: as many bytes of each as the longest has, and how long it is; shorter ones are at the right."""
 
-    text: np.ndarray
-    length: np.ndarray
+    text: Array
+    length: Array
     at_right: bool = False
 
     @property
-    def mask(self) -> np.ndarray:
+    def mask(self) -> Array:
         """Which of the bytes are the field's."""
         width = self.text.shape[1]
         if not width:
@@ -81,13 +82,13 @@ class Field:
         return _rows_of(np.ascontiguousarray(wanted), self.length).view(bool)
 
 
-def _rows_of(table: np.ndarray, codes: np.ndarray) -> np.ndarray:
+def _rows_of(table: Array, codes: Array) -> Array:
     """Rows of a table of bytes: each as one item, which is copied the fastest."""
     width = table.shape[1]
     return table.view(f"V{width}").ravel()[codes].view(np.uint8).reshape(len(codes), width)
 
 
-def numbers_after(texts: list[bytes], which: np.ndarray, numbers: np.ndarray, codes: np.ndarray) -> Field:
+def numbers_after(texts: list[bytes], which: Array, numbers: Array, codes: Array) -> Field:
     """A field that has in each row one of these whole numbers of 0 or more, after a text: `which` is that of each number, and
     `codes` the number of each row."""
     room = max((len(text) for text in texts), default=0)
@@ -107,23 +108,23 @@ def numbers_after(texts: list[bytes], which: np.ndarray, numbers: np.ndarray, co
     return Field(_rows_of(table, codes), lengths[codes], at_right=True)
 
 
-def fractions_of(ticks: np.ndarray) -> Field:
+def fractions_of(ticks: Array) -> Field:
     """The fractions of seconds, with their points."""
     return Field(_rows_of(FRACTIONS.reshape(-1, FRACTION), ticks % SECOND), np.full(len(ticks), FRACTION))
 
 
-def field_in(text: np.ndarray, start: np.ndarray, length: np.ndarray, more: int = 0) -> Field:
+def field_in(text: Array, start: Array, length: Array, more: int = 0) -> Field:
     """A field that stands in a text, in the order of the rows, with room for some more bytes."""
     width = int(length.max(initial=0)) + more
     if not len(start):
         return Field(np.zeros((0, width), dtype=np.uint8), length)
     missing = int(start[-1]) + width - len(text)
     text = np.concatenate((text, np.zeros(missing, dtype=np.uint8))) if missing > 0 else text
-    each = np.ndarray(len(text) - width + 1, dtype=f"V{width}", buffer=text, strides=(1,))
+    each: Array = np.ndarray(len(text) - width + 1, dtype=f"V{width}", buffer=text, strides=(1,))
     return Field(each[start].view(np.uint8).reshape(len(start), width), length)
 
 
-def rows_of(fields: list[Field]) -> tuple[bytes, np.ndarray]:
+def rows_of(fields: list[Field]) -> tuple[bytes, Array]:
     """Rows that have these fields one after another: their text, and where each row ends in it."""
     text = np.concatenate([field.text for field in fields], axis=1)
     mask = _mask_of(fields)
@@ -131,7 +132,7 @@ def rows_of(fields: list[Field]) -> tuple[bytes, np.ndarray]:
     return text[mask].tobytes(), ends
 
 
-def _mask_of(fields: list[Field]) -> np.ndarray:
+def _mask_of(fields: list[Field]) -> Array:
     """Which bytes of the rows are their fields'. Each row's are taken from a table of all that there may be, by the lengths of
     its fields; where that would be large, each field's by itself."""
     codes, tables = np.zeros(len(fields[0].length), dtype=np.int64), [np.zeros((1, 0), dtype=bool)]
@@ -150,7 +151,7 @@ def _mask_of(fields: list[Field]) -> np.ndarray:
     return _rows_of(table, codes).view(bool) if table.shape[1] else np.zeros((len(codes), 0), dtype=bool)
 
 
-def add_times(text: Text, ticks: np.ndarray) -> tuple[Places, Places]:
+def add_times(text: Text, ticks: Array) -> tuple[Places, Places]:
     """Adds what times are written with, and answers the places of their seconds and of their fractions."""
     codes, seconds = pandas.factorize(ticks // SECOND)
     whole = text.add_each([b"%d" % second for second in seconds])

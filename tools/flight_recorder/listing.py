@@ -13,6 +13,7 @@ from typing import Iterator
 import numpy as np
 import pandas
 
+from .arrays import Array
 from .faults import Fault
 from .streams import Input
 
@@ -83,16 +84,16 @@ class Piece:
     """Whole lines of a listing. Each column has a place for each row; texts are places in `text`. The first line has a number
     in the listing, and is at a byte of it."""
 
-    text: np.ndarray
-    counter: np.ndarray
-    subframe: np.ndarray
-    word: np.ndarray
-    name: np.ndarray
-    value: np.ndarray
-    decimals: np.ndarray
-    value_start: np.ndarray
-    rest_start: np.ndarray
-    end: np.ndarray
+    text: Array
+    counter: Array
+    subframe: Array
+    word: Array
+    name: Array
+    value: Array
+    decimals: Array
+    value_start: Array
+    rest_start: Array
+    end: Array
     marks: list[Mark]
     first_line: int = 1
     at: int = 0
@@ -108,17 +109,27 @@ class Piece:
         """Where a row's line begins in the listing."""
         return self.at + int(self.rest_start[row]) - ROW_WORD
 
-    def only(self, which: np.ndarray) -> "Piece":
+    def only(self, which: Array) -> "Piece":
         """Some of its rows, without what isn't a row."""
-        columns = (self.counter, self.subframe, self.word, self.name, self.value, self.decimals)
-        places = (self.value_start, self.rest_start, self.end)
-        return Piece(self.text, *(column[which] for column in (*columns, *places)), [])
+        return Piece(
+            self.text,
+            self.counter[which],
+            self.subframe[which],
+            self.word[which],
+            self.name[which],
+            self.value[which],
+            self.decimals[which],
+            self.value_start[which],
+            self.rest_start[which],
+            self.end[which],
+            [],
+        )
 
 
 def empty_piece(mark: Mark) -> Piece:
     """A piece that has no rows, and this mark."""
-    nothing = np.zeros(0, dtype=np.int64)
-    return Piece(np.zeros(PADDING, dtype=np.uint8), *[nothing] * 9, [mark])
+    none = np.zeros(0, dtype=np.int64)
+    return Piece(np.zeros(PADDING, dtype=np.uint8), none, none, none, none, none, none, none, none, none, [mark])
 
 
 class Names:
@@ -140,7 +151,7 @@ class Names:
             self.names.append(name.decode())
         return self.numbers[name]
 
-    def numbers_in(self, text: np.ndarray, starts: np.ndarray, lengths: np.ndarray) -> np.ndarray:
+    def numbers_in(self, text: Array, starts: Array, lengths: Array) -> Array:
         """The numbers of the names at these places. They are told apart by their bytes, with zeros after them."""
         _want(text[starts + lengths - 1] != 0)
         first = _taken(text, starts, "<u8") & KEEP[lengths + 8]
@@ -155,10 +166,10 @@ class Names:
             self.number((names[0][at : at + 8] + names[1][at : at + 8]).rstrip(b"\0"))
             for at in range(0, 8 * len(firsts), 8)
         ]
-        return np.array(numbers, dtype=np.int64)[codes]
+        return np.asarray(np.array(numbers, dtype=np.int64)[codes])
 
 
-def _taken(text: np.ndarray, places: np.ndarray, kind: str) -> np.ndarray:
+def _taken(text: Array, places: Array, kind: str) -> Array:
     """The numbers of several bytes that begin at these places."""
     count = len(text) - np.dtype(kind).itemsize + 1
     return np.ndarray(count, dtype=kind, buffer=text, strides=(1,))[places]
@@ -207,7 +218,7 @@ def piece_of(data: bytes, first_line: int, names: Names) -> Piece:
     return piece
 
 
-def _rows_in(text: np.ndarray, data: bytes, first_line: int) -> tuple[np.ndarray, np.ndarray, list[Mark]]:
+def _rows_in(text: Array, data: bytes, first_line: int) -> tuple[Array, Array, list[Mark]]:
     """The commas and line feeds of the rows, where the rows start, and the lines that are none. A comma is the greatest sign that
     no other field has."""
     signs = np.flatnonzero(text <= COMMA)
@@ -232,14 +243,14 @@ def _rows_in(text: np.ndarray, data: bytes, first_line: int) -> tuple[np.ndarray
     return signs, starts, marks
 
 
-def _taken_padded(text: np.ndarray, starts: np.ndarray) -> np.ndarray:
+def _taken_padded(text: Array, starts: Array) -> Array:
     """The first four bytes of lines, the last of which may be shorter."""
     return _taken(np.concatenate((text, np.zeros(4, dtype=np.uint8))), starts, "<u4")
 
 
 def _rows_alone(
-    signs: np.ndarray, starts: np.ndarray, last: np.ndarray, others: np.ndarray
-) -> tuple[np.ndarray, np.ndarray, np.ndarray]:
+    signs: Array, starts: Array, last: Array, others: Array
+) -> tuple[Array, Array, Array]:
     """The commas and line feeds, the starts and the places of the line feeds among these, without some of the lines."""
     first = np.insert(last + 1, 0, 0)[:-1]
     keep = np.ones(len(signs), dtype=bool)
@@ -314,7 +325,7 @@ def read_exceedances(source: Input) -> list[Exceedance]:
     return found
 
 
-def _piece(text: np.ndarray, starts: np.ndarray, signs: np.ndarray, marks: list[Mark], names: Names) -> Piece:
+def _piece(text: Array, starts: Array, signs: Array, marks: list[Mark], names: Names) -> Piece:
     """Rows as columns, by where they start, and by their commas and line feeds."""
     ends = signs[COMMAS]
     counter, word = (_whole(text, signs[at] + 1, signs[at + 1]) for at in (0, 2))
@@ -329,19 +340,19 @@ def _piece(text: np.ndarray, starts: np.ndarray, signs: np.ndarray, marks: list[
     return Piece(text, counter, subframe, word, name, value, decimals, signs[4] + 1, signs[0], ends + 1, marks)
 
 
-def _want(sound: np.ndarray) -> None:
+def _want(sound: Array) -> None:
     if not sound.all():
         raise _Unsound
 
 
-def _short(lengths: np.ndarray, most: int) -> np.ndarray:
+def _short(lengths: Array, most: int) -> Array:
     """Lengths of fields, from 1 to a number that a byte holds, in bytes, which are compared the fastest."""
     if len(lengths) and not 1 <= int(lengths.min()) <= int(lengths.max()) <= most:
         raise _Unsound
     return lengths.astype(np.int8)
 
 
-def _last_bytes(count: int, kind: type) -> np.ndarray:
+def _last_bytes(count: int, kind: type) -> Array:
     """For each length up to `count` what keeps so many of the last bytes of a number, which are its highest."""
     return np.array([((1 << 8 * count) - 1) & -(1 << 8 * (count - length)) for length in range(count + 1)], dtype=kind)
 
@@ -354,7 +365,7 @@ def _each_byte(byte: int) -> np.uint64:
     return np.uint64(byte * 0x0101010101010101)
 
 
-def _whole(text: np.ndarray, starts: np.ndarray, ends: np.ndarray) -> np.ndarray:
+def _whole(text: Array, starts: Array, ends: Array) -> Array:
     """Whole numbers of up to four digits, without leading zeros: all digits of a number at once, as four bytes."""
     lengths = ends - starts
     if len(lengths) and not 1 <= int(lengths.min()) <= int(lengths.max()) <= 4:
@@ -364,10 +375,10 @@ def _whole(text: np.ndarray, starts: np.ndarray, ends: np.ndarray) -> np.ndarray
     pairs = (digits * np.uint32(10) + (digits >> np.uint32(8))) & np.uint32(0x00FF00FF)
     number = ((pairs * np.uint32(100) + (pairs >> np.uint32(16))) & np.uint32(0xFFFF)).astype(np.int32)
     _want((number >= LEAST_OF[lengths]))
-    return number
+    return np.asarray(number)
 
 
-def _values(text: np.ndarray, starts: np.ndarray, ends: np.ndarray) -> tuple[np.ndarray, np.ndarray]:
+def _values(text: Array, starts: Array, ends: Array) -> tuple[Array, Array]:
     """Values as numbers, and how many digits each has after its point."""
     negative = text[starts] == MINUS
     starts = starts + negative
@@ -385,8 +396,8 @@ def _values(text: np.ndarray, starts: np.ndarray, ends: np.ndarray) -> tuple[np.
 
 
 def _of_eight(
-    text: np.ndarray, starts: np.ndarray, ends: np.ndarray, lengths: np.ndarray
-) -> tuple[np.ndarray, np.ndarray]:
+    text: Array, starts: Array, ends: Array, lengths: Array
+) -> tuple[Array, Array]:
     """Numbers of up to eight signs, all of a number at once, as eight bytes. A point is found by the byte that it alone has,
     and taken out; then two digits become one number, two of these one, and so again."""
     signs = (_taken(text, ends - 8, "<u8") ^ _each_byte(ZERO)) & LAST_OF_8[lengths]
@@ -413,8 +424,8 @@ def _of_eight(
 
 
 def _of_many(
-    text: np.ndarray, starts: np.ndarray, ends: np.ndarray, lengths: np.ndarray
-) -> tuple[np.ndarray, np.ndarray]:
+    text: Array, starts: Array, ends: Array, lengths: Array
+) -> tuple[Array, Array]:
     """Numbers of any number of signs, sign by sign."""
     digits = np.zeros(len(starts), dtype=np.int64)
     decimals = np.zeros(len(starts), dtype=np.int8)

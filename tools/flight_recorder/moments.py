@@ -7,6 +7,7 @@ import re
 
 import numpy as np
 
+from .arrays import Array
 from . import plain
 
 MILLION = 1_000_000
@@ -70,7 +71,7 @@ class Clock:
         self._begin(kind, time)
         return self._in_day(time) - self.start
 
-    def all_microseconds(self, column: plain.Column) -> np.ndarray:
+    def all_microseconds(self, column: plain.Column) -> Array:
         """All times of a column of plain ones."""
         if not len(column):
             return np.zeros(0, dtype=np.int64)
@@ -89,9 +90,9 @@ class Clock:
             days = self.days + np.cumsum(np.diff(times, prepend=before) < -HALF_A_DAY)
             self.before, self.days = int(times[-1]), int(days[-1])
             times = times + days * DAY
-        return times - self.start
+        return np.asarray(times - self.start)
 
-    def _clock_times(self, column: plain.Column, kind: Kind) -> np.ndarray:
+    def _clock_times(self, column: plain.Column, kind: Kind) -> Array:
         """Times with hours and minutes: what is up to the last colon is mostly that of the row before."""
         heads, seconds = column.split_last(":", b"Z" if kind is Kind.DATE else b"")
         microseconds = np.rint(seconds.number() * MILLION).astype(np.int64)
@@ -106,7 +107,7 @@ class Clock:
                 starts.append(self._absolute(f"{text}:00{zone}", kind))
         except ValueError:
             raise plain.NotPlain from None
-        return np.array(starts, dtype=np.int64)[heads.codes] + microseconds
+        return np.asarray(np.array(starts, dtype=np.int64)[heads.codes] + microseconds)
 
     def _begin(self, kind: Kind, time: int) -> None:
         """Takes the first time, and wants all others to be written as it is."""

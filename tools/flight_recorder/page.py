@@ -10,6 +10,7 @@ from typing import Any
 
 import numpy as np
 
+from .arrays import Array
 from .clock import SECOND
 from .curves import Flight, Points
 from .faults import MissingPackage
@@ -122,7 +123,7 @@ def _curve(flight: Flight, name: str, points: Points) -> dict[str, Any]:
     }
 
 
-def _whole(points: Points, decimals: int) -> np.ndarray | None:
+def _whole(points: Points, decimals: int) -> Array | None:
     """Values as whole numbers of their last decimal, where they are small enough."""
     scaled = np.rint(points.value * 10**decimals)
     return scaled.astype(np.int64) if len(points) and float(np.abs(scaled).max()) < MOST_WHOLE else None
@@ -141,11 +142,11 @@ def _points_of(flight: Flight) -> list[str]:
     return texts
 
 
-def _steps(numbers: np.ndarray) -> np.ndarray:
+def _steps(numbers: Array) -> Array:
     """Each number less the one before it."""
     return np.diff(numbers, prepend=0)
 
 
-def _packed(numbers: np.ndarray, kind: str) -> str:
+def _packed(numbers: Array, kind: str) -> str:
     """Numbers as text, by the bytes that they have in memory, made shorter."""
     return base64.b64encode(zlib.compress(numbers.astype(kind).tobytes(), 6)).decode()

@@ -10,6 +10,7 @@ from matplotlib.axes import Axes
 from matplotlib.figure import Figure
 from matplotlib.ticker import FixedLocator, FuncFormatter
 
+from .arrays import Array
 from .clock import SECOND, Event
 from .curves import Flight, Points
 from .faults import Fault
@@ -90,7 +91,7 @@ def listed(flight: Flight, events: list[Happening]) -> list[str]:
     return texts
 
 
-def broken(points: Points) -> tuple[np.ndarray, np.ndarray]:
+def broken(points: Points) -> tuple[Array, Array]:
     """A curve's seconds and values, with a break wherever a stretch ends."""
     cuts = np.flatnonzero(np.diff(points.stretch)) + 1
     return np.insert(points.time / SECOND, cuts, np.nan), np.insert(points.value, cuts, np.nan)
@@ -134,7 +135,11 @@ def bars(points: Points) -> tuple[list[tuple[float, float]], list[tuple[float, f
     last = np.flatnonzero(ends)
     first = np.insert(last + 1, 0, 0)[: len(last)]
     whole = np.stack((points.time[first], points.time[last] - points.time[first]), axis=1) / SECOND
-    return [tuple(one) for one in whole.tolist()], [tuple(one) for one in pieces[is_one].tolist()]
+    return _pairs(whole), _pairs(pieces[is_one])
+
+
+def _pairs(numbers: Array) -> list[tuple[float, float]]:
+    return [(float(begin), float(length)) for begin, length in numbers]
 
 
 def _draw_band(axes: Axes, name: str, points: Points) -> None:

@@ -5,6 +5,7 @@ from typing import NamedTuple
 
 import numpy as np
 
+from .arrays import Array
 from .faults import Fault
 from .listing import SUBFRAMES, Names, Piece
 from .parameters import SUPERFRAME, Parameter, Table
@@ -34,7 +35,7 @@ class Starts:
     for the second, and so on, with NOWHERE where there is none."""
 
     words: int
-    names: np.ndarray
+    names: Array
     known: int
 
     def check(self, piece: Piece, names: Names) -> None:

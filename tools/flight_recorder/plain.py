@@ -7,6 +7,7 @@ from typing import Iterator, Mapping
 
 import numpy as np
 
+from .arrays import Array
 from .streams import Input
 
 AT_ONCE = 1 << 20
@@ -67,15 +68,15 @@ class Heads:
     """Texts of rows: each text once for rows that follow each other, and which of them each row has."""
 
     texts: list[str]
-    codes: np.ndarray
+    codes: Array
 
 
 @dataclass
 class Column:
     """Fields of rows: their bytes, with zeros after each, and their lengths."""
 
-    text: np.ndarray
-    length: np.ndarray
+    text: Array
+    length: Array
 
     def __len__(self) -> int:
         return len(self.length)
@@ -84,7 +85,7 @@ class Column:
         """The field of a row."""
         return self.text[row, : self.length[row]].tobytes().decode("ascii", "replace")
 
-    def whole(self, base: int, may_be_empty: bool) -> np.ndarray:
+    def whole(self, base: int, may_be_empty: bool) -> Array:
         """Whole numbers of up to ten digits."""
         if len(self) and (int(self.length.max()) > 10 or not may_be_empty and int(self.length.min()) < 1):
             raise NotPlain
@@ -97,7 +98,7 @@ class Column:
             number = np.where(inside, number * base + digit, number)
         return number
 
-    def number(self) -> np.ndarray:
+    def number(self) -> Array:
         """Numbers that may have a point, each the nearest one to its text."""
         digits = np.zeros(len(self), dtype=np.int64)
         decimals = np.zeros(len(self), dtype=np.int64)
@@ -169,14 +170,14 @@ class Fields:
         width = int(length.max(initial=1)) or 1
         if width > MOST_WIDTH:
             raise NotPlain
-        each = np.ndarray(len(self.text) - width + 1, dtype=f"V{width}", buffer=self.text, strides=(1,))
+        each: Array = np.ndarray(len(self.text) - width + 1, dtype=f"V{width}", buffer=self.text, strides=(1,))
         text = each[starts].view(np.uint8).reshape(len(self), width)
         if int(length.min(initial=width)) < width:
             keep = np.arange(width) < np.arange(width + 1)[:, np.newaxis]
             text = text * keep.view(f"V{width}").ravel()[length].view(bool).reshape(text.shape)
         return Column(text, length)
 
-    def codes(self, at: int, names: Mapping[str, int]) -> np.ndarray:
+    def codes(self, at: int, names: Mapping[str, int]) -> Array:
         """A column of numbers and of these names, as numbers."""
         column = self.column(at)
         if not names:

@@ -5,6 +5,7 @@ import pathlib
 
 import numpy as np
 
+from .arrays import Array
 from .addresses import Addresses
 from .clock import WORD_BITS, Timed
 from .faults import Fault
@@ -17,11 +18,11 @@ NO_PART = -(1 << 30)
 OCTAL = np.array([b"%04o" % word for word in range(1 << WORD_BITS)])
 
 
-def words_at(bits: np.ndarray, places: np.ndarray) -> np.ndarray:
+def words_at(bits: Array, places: Array) -> Array:
     """The words of 12 bits that begin at these bits of some bytes."""
     byte = places >> 3
     three = sum(bits[np.minimum(byte + at, len(bits) - 1)].astype(np.int64) << 8 * at for at in range(3))
-    return (three >> (places & 7)) & ((1 << WORD_BITS) - 1)
+    return np.asarray((three >> (places & 7)) & ((1 << WORD_BITS) - 1))
 
 
 class RawWords:
@@ -33,7 +34,7 @@ class RawWords:
         self.words = table.words
         self.keys, self.steps = _parts(table)
 
-    def texts(self, timed: Timed) -> np.ndarray:
+    def texts(self, timed: Timed) -> Array:
         """The words of each row."""
         piece = timed.piece
         bit = timed.dump_bit if timed.dump_bit is not None else np.full(len(piece), -1)
@@ -49,7 +50,7 @@ class RawWords:
         return texts
 
 
-    def _check(self, timed: Timed, bit: np.ndarray, slot: np.ndarray) -> None:
+    def _check(self, timed: Timed, bit: Array, slot: Array) -> None:
         """The dump has each row's frame where the listing says."""
         begin = bit - slot % (SUBFRAMES * self.words) * WORD_BITS
         is_there = (bit >= 0) & (begin >= 0) & (bit + WORD_BITS <= 8 * len(self.bits))
@@ -69,7 +70,7 @@ def _mapped(path: str) -> "mmap.mmap | bytes":
             return b""
 
 
-def _parts(table: Table) -> tuple[np.ndarray, np.ndarray]:
+def _parts(table: Table) -> tuple[Array, Array]:
     """For each sample of a superframe, by its parameter and its first word, how many words after it each part is."""
     found: dict[int, list[int]] = {}
     for number, parameter in enumerate(table.parameters.values()):

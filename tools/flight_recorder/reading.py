@@ -5,6 +5,7 @@ from typing import Iterator
 
 import numpy as np
 
+from .arrays import Array
 from . import places
 from .addresses import Addresses
 from .clock import Between, Clock, Timed, shape_of
@@ -126,7 +127,7 @@ class Pass:
         timed = self.zero.shift(timed) if self.zero else timed
         return self.reading.window.cut(timed) if self.reading.cuts else timed
 
-    def _find(self, timed: Timed, bits: np.ndarray) -> None:
+    def _find(self, timed: Timed, bits: Array) -> None:
         """Keeps where the memory may wrap, if that is in this piece."""
         odd = self.clock.backs if self.clock.backs.count else self.clock.unknown
         place, piece = odd.place, timed.piece
@@ -137,7 +138,7 @@ class Pass:
             bit = int(bits[timed.frames.of(np.array([row]))[0]])
             self.found = Wrap(place, bit if bit >= 0 else None)
 
-    def _bits(self, timed: Timed, bits: np.ndarray) -> np.ndarray:
+    def _bits(self, timed: Timed, bits: Array) -> Array:
         """The bit at which each row's first word begins; below 0 where it is unknown."""
         piece = timed.piece
         frame = np.repeat(bits, np.diff(timed.frames.first, append=len(piece)))

@@ -11,6 +11,7 @@ from typing import BinaryIO, Protocol
 
 import numpy as np
 
+from .arrays import Array
 from .clock import FRAME, LATE, SECOND, Between, Timed
 from .dates import Dates
 from .joining import Field, Places, Text, field_in, fractions_of, joined, numbers_after, rows_of, time_text
@@ -59,7 +60,7 @@ class Columns:
         date = [self.dates.text(one.recording, one.begin)] if self.dates else []
         return [recording, session, time_text(one.begin), *date]
 
-    def fields(self, recording: np.ndarray, ticks: np.ndarray) -> list[Field]:
+    def fields(self, recording: Array, ticks: Array) -> list[Field]:
         """The first fields of rows, without a comma at their end."""
         seconds = ticks // SECOND
         changes = (seconds[1:] != seconds[:-1]) | (recording[1:] != recording[:-1])
@@ -70,7 +71,7 @@ class Columns:
         return fields if self.dates is None else [*fields, texts_field(self.dates.texts(recording, ticks))]
 
 
-def texts_field(texts: np.ndarray) -> Field:
+def texts_field(texts: Array) -> Field:
     """A field of these texts, with a comma before each."""
     texts = np.char.add(b",", texts)
     width = texts.dtype.itemsize or 1
@@ -145,19 +146,19 @@ class LongTable:
 class Samples:
     """Samples by column, and the text that their values are in."""
 
-    text: np.ndarray
-    recording: np.ndarray
-    stretch: np.ndarray
-    time: np.ndarray
-    name: np.ndarray
-    start: np.ndarray
-    length: np.ndarray
-    value: np.ndarray
+    text: Array
+    recording: Array
+    stretch: Array
+    time: Array
+    name: Array
+    start: Array
+    length: Array
+    value: Array
 
     def __len__(self) -> int:
         return len(self.time)
 
-    def only(self, which: np.ndarray) -> "Samples":
+    def only(self, which: Array) -> "Samples":
         """Some of them, in this order, with the text as it is."""
         columns = (self.recording, self.stretch, self.time, self.name, self.start, self.length, self.value)
         return Samples(self.text, *(column[which] for column in columns))
@@ -185,7 +186,8 @@ class Samples:
 
 def no_samples() -> Samples:
     nothing = np.zeros(0, dtype=np.int64)
-    return Samples(np.zeros(0, dtype=np.uint8), *[nothing] * 6, np.zeros(0))
+    text = np.zeros(0, dtype=np.uint8)
+    return Samples(text, nothing, nothing, nothing, nothing, nothing, nothing, np.zeros(0))
 
 
 class InTime:
@@ -365,7 +367,7 @@ class GridTable(ByParameter):
             self._block(samples, np.arange(self.next, self.next + count, dtype=np.int64))
             self.next += count
 
-    def _block(self, samples: Samples, multiples: np.ndarray) -> None:
+    def _block(self, samples: Samples, multiples: Array) -> None:
         """Writes the rows of these multiples of the step, as far as they are wanted."""
         ticks = -(-multiples * (self.step * SECOND) // MICRO)
         recording = np.full(len(multiples), self.recording)
@@ -394,7 +396,7 @@ class GridTable(ByParameter):
         pieces[:, :, -1] = np.array([signs + 1, 1])[:, np.newaxis]
         self.out.write(joined(text.whole(), Places(pieces[0], pieces[1])))
 
-    def _heads(self, multiples: np.ndarray) -> list[bytes]:
+    def _heads(self, multiples: Array) -> list[bytes]:
         """The first fields of rows at these multiples of the step."""
         label = self.columns.label(self.recording).encode()
         times = [b"%b,%d.%06d" % (label, *divmod(one, MICRO)) for one in (multiples * self.step).tolist()]

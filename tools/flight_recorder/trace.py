@@ -4,6 +4,7 @@ from typing import BinaryIO, Iterator
 
 import numpy as np
 
+from .arrays import Array
 from .faults import Fault
 from .streams import Input
 
@@ -13,7 +14,7 @@ LATEST = 1_440_000_000_000  # microseconds: 400 hours
 AT_ONCE = 1 << 16  # records that are read or written at once
 
 
-def records_of(bus: np.ndarray, word: np.ndarray, time: np.ndarray) -> np.ndarray:
+def records_of(bus: Array, word: Array, time: Array) -> Array:
     """The records of bus words."""
     records = np.zeros(len(time), dtype=RECORD)
     records["kind"] = WORD
@@ -31,7 +32,7 @@ def write_end(out: BinaryIO, time: int) -> None:
     out.write(record.tobytes())
 
 
-def read_trace(source: Input) -> Iterator[np.ndarray]:
+def read_trace(source: Input) -> Iterator[Array]:
     """The good records of a trace, the end record the last; what comes after it isn't looked at. A trace without one is a fault."""
     first, newest = 0, 0
     while True:
@@ -50,7 +51,7 @@ def read_trace(source: Input) -> Iterator[np.ndarray]:
             raise Fault(f"trace record {first}, byte {RECORD.itemsize * first}: truncated, no end record came")
 
 
-def _check(records: np.ndarray, first: int, newest: int) -> None:
+def _check(records: Array, first: int, newest: int) -> None:
     """Raises the first fault of the records, of which `first` is the number of the first one."""
     times = records["time"].astype(np.int64)
     before = np.insert(times, 0, newest)[:-1]

@@ -5,6 +5,7 @@ from dataclasses import dataclass
 
 import numpy as np
 
+from .arrays import Array
 from .clock import FRAME, Between, Timed
 
 
@@ -27,7 +28,7 @@ class Window:
             return True
         return (self.end is None or begin < self.end) and (self.begin is None or end >= self.begin)
 
-    def rows(self, recording: np.ndarray, time: np.ndarray) -> np.ndarray:
+    def rows(self, recording: Array, time: Array) -> Array:
         """Which rows are wanted."""
         wanted = np.ones(len(time), dtype=bool)
         if self.recording is not None:
