@@ -174,7 +174,9 @@ class Clock:
         others = (Kind.EXCEED, Kind.OTHER)
         edges = self.waiting + [mark for mark in piece.marks if mark.kind not in others]
         before = (self.newest + self.shift if self.has_rows else -1, max(self.recording, 0))
-        within = (piece.subframe.astype(np.int64) - 1) * MOST_WORDS + piece.word - 1
+        within = _within(piece.subframe, piece.word)
+        if piece.kind is not None and piece.kinds is not None:
+            within = _within(piece.kinds.subframe, piece.kinds.word)[piece.kind]
         first, line, starts, place = self._line(piece, within, edges)
         newest = np.maximum.accumulate(np.maximum(line, self.newest))
         at = np.searchsorted(first, starts)
@@ -216,11 +218,11 @@ class Clock:
         row on the line, of which a frame has 4,096; `within` is that in its frame.
 
         Where such a row is found, the line is counted anew, and others may be seen then."""
-        changes = np.flatnonzero(np.diff(piece.counter, prepend=NONE))
+        changes = np.insert(np.flatnonzero(piece.counter[1:] != piece.counter[:-1]) + 1, 0, 0)[: len(piece)]
         rows = {mark.row for mark in edges if mark.row < len(piece)} | (set() if self.has_begun else {0})
         starts = np.array(sorted(rows) if len(piece) else [], dtype=np.int64)
         while True:
-            first = np.union1d(changes, starts).astype(np.int64)
+            first = np.union1d(changes, starts).astype(np.int64) if len(starts) else changes
             at = np.searchsorted(first, starts)
             steps = np.diff(piece.counter[first].astype(np.int64), prepend=self.line % ROUND) % ROUND
             late = steps >= ROUND - LATE
@@ -229,8 +231,9 @@ class Clock:
             steps[at] += ROUND
             line = self.line + np.cumsum(steps)
             place = np.repeat(line * PLACES, np.diff(first, append=len(piece))) + within
-            found = np.union1d(first[self._jumps(line)], self._backs(piece, place))
-            if not len(np.setdiff1d(found, starts)):
+            jumps, backs = first[self._jumps(line)], self._backs(piece, place)
+            found = np.union1d(jumps, backs) if len(jumps) or len(backs) else jumps
+            if not len(found) or not len(np.setdiff1d(found, starts)):
                 return first, line, starts, place
             starts = np.union1d(starts, found).astype(np.int64)
 
@@ -447,6 +450,11 @@ def about(ticks: float) -> str:
 
 def _bits(gap: Mark) -> str:
     return f"from bit {gap.first}, {gap.second} bits"
+
+
+def _within(subframe: Array, word: Array) -> Array:
+    """The place of a word in its frame."""
+    return (subframe.astype(np.int64) - 1) * MOST_WORDS + word - 1
 
 
 def _repeated(column: Array, counts: Array, length: int) -> Array:

@@ -3,7 +3,6 @@
 from dataclasses import dataclass
 
 import numpy as np
-import pandas
 
 from .arrays import Array
 from .clock import SECOND
@@ -12,7 +11,7 @@ FRACTIONS = np.frombuffer(
     b"".join(b".%06d" % round(tick * 1_000_000 / SECOND) for tick in range(SECOND)), dtype=np.uint8
 )
 FRACTION = 7  # bytes of one
-MOST_MASKS = 4096
+MOST_DIGITS = 32  # of a whole number, and more
 
 
 @dataclass
@@ -65,21 +64,10 @@ class Text:
 
 @dataclass
 class Field:
-    """A field of each row: as many bytes of each as the longest has, and how long it is; shorter ones are at the right."""
+    """A field of each row: as many bytes of each as the longest has, and how long it is."""
 
     text: Array
     length: Array
-    at_right: bool = False
-
-    @property
-    def mask(self) -> Array:
-        """Which of the bytes are the field's."""
-        width = self.text.shape[1]
-        if not width:
-            return np.zeros(self.text.shape, dtype=bool)
-        wanted = np.arange(width) < np.arange(width + 1)[:, np.newaxis]
-        wanted = wanted[:, ::-1] if self.at_right else wanted
-        return _rows_of(np.ascontiguousarray(wanted), self.length).view(bool)
 
 
 def _rows_of(table: Array, codes: Array) -> Array:
@@ -93,24 +81,27 @@ def numbers_after(texts: list[bytes], which: Array, numbers: Array, codes: Array
     `codes` the number of each row."""
     room = max((len(text) for text in texts), default=0)
     digits = len(str(int(numbers.max(initial=0))))
-    table = np.zeros((len(numbers), room + digits), dtype=np.uint8)
-    left = numbers.copy()
+    written = np.empty((len(numbers), digits), dtype=np.uint8)
+    left = numbers
     lengths = np.ones(len(numbers), dtype=np.int64)
     for place in range(digits):
-        left, digit = np.divmod(left, 10)
-        table[:, room + digits - 1 - place] = digit + ord("0")
-        lengths += left > 0
-    for text, length in {(text, length) for text, length in zip(which.tolist(), lengths.tolist())}:
-        rows = np.flatnonzero((which == text) & (lengths == length))
-        end = room + digits - length
-        table[rows, end - len(texts[text]) : end] = np.frombuffer(texts[text], dtype=np.uint8)
+        tens = left // 10
+        written[:, digits - 1 - place] = left - 10 * tens + ord("0")
+        lengths += tens > 0
+        left = tens
+    table = np.zeros((len(numbers), room + digits), dtype=np.uint8)
+    for pair in np.unique(which * MOST_DIGITS + lengths).tolist():
+        number, length = divmod(pair, MOST_DIGITS)
+        rows, text = np.flatnonzero((which == number) & (lengths == length)), texts[number]
+        table[rows, : len(text)] = np.frombuffer(text, dtype=np.uint8)
+        table[rows, len(text) : len(text) + length] = written[rows, digits - length :]
     lengths += np.array([len(text) for text in texts], dtype=np.int64)[which]
-    return Field(_rows_of(table, codes), lengths[codes], at_right=True)
+    return Field(_rows_of(table, codes), lengths[codes])
 
 
 def fractions_of(ticks: Array) -> Field:
     """The fractions of seconds, with their points."""
-    return Field(_rows_of(FRACTIONS.reshape(-1, FRACTION), ticks % SECOND), np.full(len(ticks), FRACTION))
+    return Field(_rows_of(FRACTIONS.reshape(-1, FRACTION), ticks & (SECOND - 1)), np.full(len(ticks), FRACTION))
 
 
 def field_in(text: Array, start: Array, length: Array, more: int = 0) -> Field:
@@ -125,38 +116,38 @@ def field_in(text: Array, start: Array, length: Array, more: int = 0) -> Field:
 
 
 def rows_of(fields: list[Field]) -> tuple[bytes, Array]:
-    """Rows that have these fields one after another: their text, and where each row ends in it."""
-    text = np.concatenate([field.text for field in fields], axis=1)
-    mask = _mask_of(fields)
-    ends = np.cumsum(sum((field.length for field in fields[1:]), fields[0].length))
-    return text[mask].tobytes(), ends
+    """Rows that have these fields one after another: their text, and where each row ends in it.
+
+    The last fields are laid first, each as long as the longest: what is behind its end is covered by those of the next rows,
+    which are laid after it, and by the other fields, which are laid then, each as long as it is."""
+    lengths = sum((field.length for field in fields[1:]), fields[0].length)
+    ends = np.cumsum(lengths)
+    if not len(ends):
+        return b"", ends
+    out = np.empty(int(ends[-1]) + max(field.text.shape[1] for field in fields), dtype=np.uint8)
+    last = fields[-1]
+    _lay(out, ends - last.length, last.text, last.text.shape[1])
+    place = ends - lengths
+    for field in fields[:-1]:
+        least, most = int(field.length.min()), int(field.length.max())
+        if least == most:
+            _lay(out, place, field.text, most)
+        else:
+            for length in range(least, most + 1):
+                rows = np.flatnonzero(field.length == length)
+                _lay(out, place[rows], field.text[rows], length)
+        place = place + field.length
+    return out[: ends[-1]].tobytes(), ends
 
 
-def _mask_of(fields: list[Field]) -> Array:
-    """Which bytes of the rows are their fields'. Each row's are taken from a table of all that there may be, by the lengths of
-    its fields; where that would be large, each field's by itself."""
-    codes, tables = np.zeros(len(fields[0].length), dtype=np.int64), [np.zeros((1, 0), dtype=bool)]
-    for field in fields:
-        least, most = (int(field.length.min(initial=0 if not len(codes) else 1 << 30)), int(field.length.max(initial=0)))
-        width = field.text.shape[1]
-        lengths = np.arange(least, most + 1)[:, np.newaxis]
-        wanted = np.arange(width) < lengths
-        wanted = wanted[:, ::-1] if field.at_right else wanted
-        before = tables[-1]
-        if len(before) * len(wanted) > MOST_MASKS:
-            return np.concatenate([field.mask for field in fields], axis=1)
-        tables.append(np.hstack((np.repeat(before, len(wanted), axis=0), np.tile(wanted, (len(before), 1)))))
-        codes = codes * len(wanted) + (field.length - least) if most > least else codes
-    table = np.ascontiguousarray(tables[-1])
-    return _rows_of(table, codes).view(bool) if table.shape[1] else np.zeros((len(codes), 0), dtype=bool)
-
-
-def add_times(text: Text, ticks: Array) -> tuple[Places, Places]:
-    """Adds what times are written with, and answers the places of their seconds and of their fractions."""
-    codes, seconds = pandas.factorize(ticks // SECOND)
-    whole = text.add_each([b"%d" % second for second in seconds])
-    fractions = text.add(FRACTIONS) + FRACTION * (ticks % SECOND)
-    return Places(whole.start[codes], whole.length[codes]), Places(fractions, np.full(len(ticks), FRACTION))
+def _lay(out: Array, places: Array, texts: Array, length: int) -> None:
+    """Puts so many bytes of each text at its place, one after another."""
+    if length and len(places):
+        texts = np.ascontiguousarray(texts)
+        kind = f"V{length}"
+        each: Array = np.ndarray(len(texts), dtype=kind, buffer=texts, strides=(texts.shape[1],))
+        anywhere: Array = np.ndarray(len(out) - length + 1, dtype=kind, buffer=out, strides=(1,))
+        anywhere[places] = each
 
 
 def time_text(ticks: int | None) -> str:

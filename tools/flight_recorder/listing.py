@@ -33,7 +33,8 @@ MOST_WORDS = 1024
 NEWLINE, COMMA, POINT, MINUS, ZERO = (ord(sign) for sign in "\n,.-0")
 ROW = np.frombuffer(b"row,", dtype="<u4")[0]
 KNOWN = (b"row", b"gap", b"session", b"run", b"exceed")
-KEEP = np.array([(1 << 8 * min(max(length, 0), 8)) - 1 for length in range(-8, MOST_NAME + 1)], dtype=np.uint64)
+LEAST_KIND, MOST_KIND = 5, 7 + MOST_NAME  # bytes of a row from its subframe to its name
+KEEP = np.array([(1 << 8 * min(max(length, 0), 8)) - 1 for length in range(-8, MOST_KIND + 1)], dtype=np.uint64)
 NUMBER = rb"(0|[1-9][0-9]{0,18})"
 NAME = rb"([A-Za-z0-9_.-]{1,16})"
 VALUE = rb"(-?(?:0|[1-9][0-9]{0,18})(?:\.[0-9]{1,9})?)"
@@ -80,6 +81,15 @@ class Mark:
 
 
 @dataclass
+class Kinds:
+    """What rows of one kind have alike: the subframe, the word, and the parameter's number."""
+
+    subframe: Array
+    word: Array
+    name: Array
+
+
+@dataclass
 class Piece:
     """Whole lines of a listing. Each column has a place for each row; texts are places in `text`. The first line has a number
     in the listing, and is at a byte of it."""
@@ -97,6 +107,8 @@ class Piece:
     marks: list[Mark]
     first_line: int = 1
     at: int = 0
+    kind: Array | None = None  # of each row, where it was read by kinds
+    kinds: Kinds | None = None
 
     def __len__(self) -> int:
         return len(self.counter)
@@ -327,17 +339,46 @@ def read_exceedances(source: Input) -> list[Exceedance]:
 
 def _piece(text: Array, starts: Array, signs: Array, marks: list[Mark], names: Names) -> Piece:
     """Rows as columns, by where they start, and by their commas and line feeds."""
-    ends = signs[COMMAS]
-    counter, word = (_whole(text, signs[at] + 1, signs[at + 1]) for at in (0, 2))
-    subframe = (text[signs[1] + 1] - np.uint8(ZERO)).astype(np.int32)
-    _want(signs[2] - signs[1] == 2)
-    for number, least, most in ((counter, 0, ROUND - 1), (subframe, 1, SUBFRAMES), (word, 1, MOST_WORDS)):
-        if len(number) and not least <= int(number.min()) <= int(number.max()) <= most:
-            raise _Unsound
+    counter = _whole(text, signs[0] + 1, signs[1])
+    if len(counter) and int(counter.max()) >= ROUND:
+        raise _Unsound
+    kind, first = _kinds(text, signs[1] + 1, signs[4] - signs[1] - 1)
+    kinds = _kinds_at(text, signs[:, first], names)
+    value, decimals = _values(text, signs[4] + 1, signs[COMMAS])
+    places = (signs[4] + 1, signs[0], signs[COMMAS] + 1)
+    columns = (kinds.subframe[kind], kinds.word[kind], kinds.name[kind], value, decimals)
+    piece = Piece(text, counter, *columns, *places, marks)
+    piece.kind, piece.kinds = kind, kinds
+    return piece
+
+
+MIXERS = [np.uint64(number) for number in (0x9E3779B97F4A7C15, 0xC2B2AE3D27D4EB4F, 0x165667B19E3779F9)]
+
+
+def _kinds(text: Array, begin: Array, length: Array) -> tuple[Array, Array]:
+    """The kind of each row, by its text from the subframe to the name, and the first row of each kind. Most rows of a listing are
+    of few kinds, so each is read once. They are told apart by one number out of their text, which is compared then."""
+    if len(length) and not LEAST_KIND <= int(length.min()) <= int(length.max()) <= MOST_KIND:
+        raise _Unsound
+    eights = [_taken(text, begin + at, "<u8") & KEEP[length + 8 - at] for at in range(0, int(length.max(initial=1)), 8)]
+    mixed = eights[0] * MIXERS[0]
+    for eight, mixer in zip(eights[1:], MIXERS[1:]):
+        mixed += eight * mixer
+    kind, keys = pandas.factorize(mixed)
+    first = np.empty(len(keys), dtype=np.int64)
+    first[kind[::-1]] = np.arange(len(kind) - 1, -1, -1)
+    if all((eight[first][kind] == eight).all() for eight in eights):
+        return kind, first
+    _, first, kind = np.unique(np.stack(eights), axis=1, return_index=True, return_inverse=True)
+    return kind, first
+
+
+def _kinds_at(text: Array, signs: Array, names: Names) -> Kinds:
+    """The kinds of these rows, by their commas and line feeds."""
+    subframe, word = (_whole(text, signs[at] + 1, signs[at + 1]) for at in (1, 2))
+    _want((subframe >= 1) & (subframe <= SUBFRAMES) & (word >= 1) & (word <= MOST_WORDS))
     lengths = _short(signs[4] - signs[3] - 1, MOST_NAME)
-    value, decimals = _values(text, signs[4] + 1, ends)
-    name = names.numbers_in(text, signs[3] + 1, lengths)
-    return Piece(text, counter, subframe, word, name, value, decimals, signs[4] + 1, signs[0], ends + 1, marks)
+    return Kinds(subframe, word, names.numbers_in(text, signs[3] + 1, lengths))
 
 
 def _want(sound: Array) -> None:

@@ -40,15 +40,26 @@ class Starts:
 
     def check(self, piece: Piece, names: Names) -> None:
         """Raises a fault that names the first row that isn't where the table has its parameter."""
-        word = np.minimum(piece.word, self.words)
-        slot = ((piece.counter % SUPERFRAME) * SUBFRAMES + piece.subframe - 1) * self.words + word - 1
-        is_there = np.zeros(len(piece), dtype=bool)
-        for each in self.names:
-            is_there |= each[slot] == piece.name
-        is_there &= word == piece.word
+        cycle = piece.counter & (SUPERFRAME - 1)
+        if piece.kind is not None and piece.kinds is not None:
+            kinds, cycles = piece.kinds, np.arange(SUPERFRAME)[:, np.newaxis]
+            is_there = self._has(cycles, kinds.subframe, kinds.word, kinds.name).ravel()[
+                cycle * len(kinds.name) + piece.kind
+            ]
+        else:
+            is_there = self._has(cycle, piece.subframe, piece.word, piece.name)
         if not is_there.all():
             row = int(np.argmin(is_there))
             raise Fault(f"listing line {piece.line_of(row)}: {self._wrong(piece, row, names)}")
+
+    def _has(self, cycle: Array, subframe: Array, word: Array, name: Array) -> Array:
+        """Whether the table has these parameters at these places."""
+        inside = np.minimum(word, self.words)
+        slot = (cycle * SUBFRAMES + subframe - 1) * self.words + inside - 1
+        found = np.zeros(slot.shape, dtype=bool)
+        for each in self.names:
+            found |= each[slot] == name
+        return np.asarray(found & (inside == word))
 
     def _wrong(self, piece: Piece, row: int, names: Names) -> str:
         """What is wrong with a row."""

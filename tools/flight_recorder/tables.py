@@ -20,6 +20,7 @@ from .raw import RawWords
 from .window import Window
 
 MICRO = 1_000_000
+SECOND_BITS = SECOND.bit_length() - 1
 MOST_CELLS = 1 << 18  # of a grid that are written at once
 OWN = ("recording", "session", "time", "date", "note")  # columns that are no parameter's
 
@@ -62,7 +63,7 @@ class Columns:
 
     def fields(self, recording: Array, ticks: Array) -> list[Field]:
         """The first fields of rows, without a comma at their end."""
-        seconds = ticks // SECOND
+        seconds = ticks >> SECOND_BITS
         changes = (seconds[1:] != seconds[:-1]) | (recording[1:] != recording[:-1])
         first = np.insert(np.flatnonzero(changes) + 1, 0, 0)[: len(ticks)]
         codes = np.repeat(np.arange(len(first)), np.diff(first, append=len(ticks)))
