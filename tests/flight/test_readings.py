@@ -84,7 +84,7 @@ def test_gaps_that_do_not_fit_the_frames(flight, write, shape):
 
 
 def test_fewer_words_than_the_frames_have(flight, write):
-    text = row(0) + row(1) + row(2) + "gap,18432,8\n"  # three frames of 128 words
+    text = "".join(map(row, range(20))) + "gap,122880,8\n"  # 20 frames of 128 words
     assert flight("table", write("l", text), "--words", 64).error.endswith("subframes of 128 words fit\n")
     assert flight("table", write("l", text), "--words", 128).status == 0
 

@@ -2,6 +2,7 @@
 
 import csv
 import io
+import os
 import random
 
 import pytest
@@ -93,3 +94,49 @@ def test_times_are_right_in_damaged_bits(flight, fdr, write, shape, flips, cuts)
     assert [row for row in rows if row not in known and row[6] != "(gap)"] == []
     gaps = [row[8] for row in rows if row[6] == "(gap)"]
     assert len(gaps) > 3 and any("lost bits" in text for text in gaps) is bool(cuts)
+
+
+SPARSE = "F,64,2,1\nP,A,0,203,,11,12,U,1,1,0,0,4\nL,A,1,1,10,0,1,12,1,4\nP,B,0,204,,11,12,U,1,1,0,0,1\nL,B,1,3,11,0,1,12,6,16\n"
+IN_TWO_FRAMES = "F,64,2,1\nP,POS,1,310,,9,20,U,1,1,0,0,1\nL,POS,1,1,20,0,1,12,1,16\nL,POS,2,1,20,0,1,8,15,16\n"
+IN_TURN = (
+    "F,64,2,1\nP,A,0,203,,11,12,U,1,1,0,0,2\nL,A,1,1,10,0,1,12,0,2\n"
+    "P,B,0,204,,11,12,U,1,1,0,0,2\nL,B,1,3,11,0,1,12,1,2\n"
+)
+DRAWN = int(os.environ.get("FLIGHT_DRAWN", "40"))  # damaged recordings of each table
+
+
+def damaged(bits: bytes, frame: int, chance: random.Random) -> bytes:
+    """Bits with some of what a download or a memory does to them: flips, also of syncs and counters, cuts, whole frames that are
+    gone or there twice, and bytes from elsewhere."""
+    broken = bytearray(bits)
+    for _ in range(chance.randrange(12)):
+        at, kind = chance.randrange(len(broken)), chance.randrange(6)
+        first, count = at // frame * frame, chance.randrange(1, 4) * frame
+        if kind == 0:
+            broken[at] ^= 1 << chance.randrange(8)
+        elif kind == 1:
+            broken[first + chance.randrange(2)] ^= 1 << chance.randrange(8)
+        elif kind == 2:
+            del broken[at : at + chance.randrange(1, 3 * frame)]
+        elif kind == 3:
+            del broken[first : first + count]
+        elif kind == 4:
+            broken[first:first] = broken[first : first + count]
+        else:
+            broken[at:at] = chance.randbytes(chance.randrange(1, 40))
+        broken = broken or bytearray(bits)
+    return bytes(broken)
+
+
+@pytest.mark.parametrize("text", [POSITION, SPARSE, IN_TWO_FRAMES, IN_TURN])
+def test_no_damaged_listing_of_the_table_is_refused(flight, fdr, write, text):
+    """The gaps of a damaged recording fit its frames, whatever the damage is, by its table and by its words."""
+    path = write("t.csv", text)
+    table = encoder.read_table(path)
+    bits = encoder.recording_of(table, encoder.generated(table, 120, 3), 480_000_000).bits()
+    chance = random.Random(text)
+    for _ in range(DRAWN):
+        listing = write("l", fdr("listbits", path, given=damaged(bits, 384, chance)))
+        for shape in (("--table", path), ("--words", 64)):
+            answer = flight("table", listing, *shape)
+            assert (answer.status, answer.error) == (0, "")

@@ -10,9 +10,9 @@ from .arrays import Array
 from .clock import LATE, WORD_BITS, Shape, Timed
 from .faults import Fault
 from .listing import SUBFRAMES, Kind, Mark
-from .parameters import WORDS
+from .parameters import SUPERFRAME, WORDS
 
-SURE_STEP = 16  # frames until rows come again, where no rows said how many
+ANY = 1 << 62
 EDGES = (Kind.GAP, Kind.SESSION, Kind.RUN, Kind.BEGIN)
 
 
@@ -42,7 +42,9 @@ class Addresses:
         self.origins = np.zeros(0, dtype=np.int64)  # for each frame of the last piece
         self.newest = 0
         self.stretch = 0
-        self.step = 0  # the most frames from one with rows to the next
+        self.in_a_row = 0  # frames with rows, up to the last one
+        self.all_have_rows = False  # as many in a row had as a superframe has, and so each has
+        self.has_late = False  # rows of earlier frames, whose samples are in several
         self.tally = Tally()  # of what is after `begin`
 
     def follow(self, timed: Timed) -> Array:
@@ -51,7 +53,8 @@ class Addresses:
         rise = np.diff(frames.newest, prepend=self.newest)
         begins = np.diff(frames.stretch, prepend=self.stretch) != 0
         rise[begins] = 1
-        self.step = max(self.step, int(rise.max(initial=0)))
+        self._count_in_a_row(rise == 1, begins)
+        self.has_late |= bool((frames.line < frames.newest).any())
         counts = np.stack((rise, rise > 0, begins, frames.line < frames.newest), axis=1).astype(np.int64)
         totals = np.concatenate((np.zeros((1, 4), dtype=np.int64), np.cumsum(counts, axis=0)))
         bits = np.full(len(rise), -1, dtype=np.int64)
@@ -104,16 +107,28 @@ class Addresses:
             f"was it listed by another table?{hint}"
         )
 
+    def _count_in_a_row(self, is_next: Array, begins: Array) -> None:
+        """Counts how many frames follow each other that all have rows."""
+        new = np.flatnonzero(is_next | begins)
+        if not len(new):
+            return
+        goes_on = is_next[new] & ~begins[new]
+        count = np.cumsum(goes_on)
+        before = np.maximum.accumulate(np.where(goes_on, 0, count))
+        in_a_row = count - before + np.where(np.logical_or.accumulate(~goes_on), 1, self.in_a_row)
+        self.in_a_row = int(in_a_row[-1])
+        self.all_have_rows |= int(in_a_row.max()) >= SUPERFRAME
+
     def _limits(self) -> tuple[int, int]:
-        """How few and how many frames there may be, by the counters and the rows. Where frames may be without rows, some more
-        may be beside each stretch, and a quarter is left for whole frames that are missing without a gap."""
+        """How few and how many frames there may be. Each frame that has rows is there. Others may be without rows where the table
+        has such; by `--words`, where no whole superframe of rows came so far. What is missing or damaged may hide some more, so
+        a listing is refused only where that can't be it."""
         tally = self.tally
         if self.is_exact:
             return tally.frames, tally.frames + tally.late
-        if not tally.frames:
-            return 0, 1 << 62
-        quarter = tally.frames // 4
-        unseen = self.shape.unseen if not self.shape.every_frame else 2 * ((self.step or SURE_STEP) - 1)
-        unseen += LATE if unseen else 0
-        least = max(tally.seen, tally.frames - quarter) if tally.stretches <= 1 else tally.seen
-        return least, tally.frames + quarter + unseen * max(1, tally.stretches) + tally.late
+        by_table = not self.shape.every_frame
+        is_known = bool((self.shape.steps < SUPERFRAME).any()) if by_table else self.all_have_rows
+        if not tally.frames or not is_known:
+            return tally.seen, ANY
+        beside = self.shape.unseen + LATE if by_table else LATE * self.has_late
+        return tally.seen, tally.frames * 3 // 2 + beside * max(1, tally.stretches) + tally.late

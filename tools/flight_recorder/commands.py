@@ -423,7 +423,7 @@ def _add_plot(commands: "argparse._SubParsersAction[argparse.ArgumentParser]") -
 
 PICTURES = (".png", ".svg", ".pdf")
 PAGE = ".html"
-PICTURE_POINTS, PAGE_POINTS = 150_000, 8_000_000  # that are kept, of all parameters
+PICTURE_POINTS, PAGE_POINTS = 150_000, 5_000_000  # that are kept, of all parameters
 
 
 def _run_plot(given: argparse.Namespace) -> None:

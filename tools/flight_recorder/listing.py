@@ -22,6 +22,7 @@ PADDING = 64  # zero bytes after a piece, so that no field reaches over the end 
 LONGEST_LINE = 4096
 COMMAS = 5  # in a row
 SIGNS = COMMAS + 1  # and its line feed
+BLOCK = 1 << 13  # values that are read at once, whose numbers stay in the processor's own memory
 MOST_NAME = 16
 MOST_DIGITS = 19
 MOST_DECIMALS = 9
@@ -426,37 +427,34 @@ def _values(text: Array, starts: Array, ends: Array) -> tuple[Array, Array]:
     lengths = ends - starts
     if len(lengths) and not 1 <= int(lengths.min()) <= int(lengths.max()) <= MOST_DIGITS + 1:
         raise _Unsound
-    whole_digits = lengths > 8
-    if not whole_digits.any():
-        size, decimals = _of_eight(text, starts, ends, lengths)
-    else:
-        size, decimals = np.empty(len(starts)), np.empty(len(starts), dtype=np.int8)
-        for which, read in ((~whole_digits, _of_eight), (whole_digits, _of_many)):
+    many = lengths > 8
+    size, decimals = np.empty(len(starts)), np.empty(len(starts), dtype=np.int8)
+    if many.any():
+        for which, read in ((np.flatnonzero(~many), _of_eight), (np.flatnonzero(many), _of_many)):
             size[which], decimals[which] = read(text, starts[which], ends[which], lengths[which])
+    else:
+        for at in range(0, len(starts), BLOCK):
+            rows = slice(at, at + BLOCK)
+            size[rows], decimals[rows] = _of_eight(text, starts[rows], ends[rows], lengths[rows])
     return np.where(negative, -size, size), decimals
 
 
-def _of_eight(
-    text: Array, starts: Array, ends: Array, lengths: Array
-) -> tuple[Array, Array]:
+def _of_eight(text: Array, starts: Array, ends: Array, lengths: Array) -> tuple[Array, Array]:
     """Numbers of up to eight signs, all of a number at once, as eight bytes. A point is found by the byte that it alone has,
     and taken out; then two digits become one number, two of these one, and so again."""
     signs = (_taken(text, ends - 8, "<u8") ^ _each_byte(ZERO)) & LAST_OF_8[lengths]
     low = signs ^ _each_byte(POINT ^ ZERO)
     point = ~(((low & _each_byte(0x7F)) + _each_byte(0x7F)) | low | _each_byte(0x7F))
-    decimals = np.zeros(len(starts), dtype=np.int64)
-    digits, whole = signs, lengths
-    if point.any():
-        has_point = point != 0
-        after = ~((point << np.uint64(1)) - np.uint64(1))  # the bytes after the point
-        before = (point >> np.uint64(7)) - np.uint64(1)
-        count = ((after & _each_byte(1)) * _each_byte(1)) >> np.uint64(56)
-        decimals = np.where(has_point, count, 0).astype(np.int64)
-        digits = np.where(has_point, ((signs & before) << np.uint64(8)) | (signs & after), signs)
-        whole = lengths - np.where(has_point, decimals + 1, 0)
-        _want((point & (point - has_point)) == 0)
-        _want(~has_point | ((decimals >= 1) & (whole >= 1)))
-    _want(((digits + _each_byte(0x06)) | digits) & _each_byte(0xF0) == 0)
+    has_point = (point != 0).astype(np.uint64)
+    after = ~((point << np.uint64(1)) - has_point) * has_point  # the bytes after the point
+    before = (point >> np.uint64(7)) - np.uint64(1)
+    decimals = (((after & _each_byte(1)) * _each_byte(1)) >> np.uint64(56)).astype(np.int64)
+    digits = ((signs & before) << (has_point << np.uint64(3))) | (signs & after)
+    one = has_point.astype(np.int64)
+    whole = lengths - decimals - one
+    wrong = (point & (point - has_point)) | (((digits + _each_byte(0x06)) | digits) & _each_byte(0xF0))
+    if wrong.any() or (decimals < one).any() or len(whole) and int(whole.min()) < 1:
+        raise _Unsound
     _want((whole == 1) | (text[starts] != ZERO))
     pairs = (digits * np.uint64(10) + (digits >> np.uint64(8))) & np.uint64(0x00FF00FF00FF00FF)
     fours = (pairs * np.uint64(100) + (pairs >> np.uint64(16))) & np.uint64(0x0000FFFF0000FFFF)
