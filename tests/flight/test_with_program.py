@@ -99,8 +99,8 @@ def test_times_are_right_in_damaged_bits(flight, fdr, write, shape, flips, cuts)
 SPARSE = "F,64,2,1\nP,A,0,203,,11,12,U,1,1,0,0,4\nL,A,1,1,10,0,1,12,1,4\nP,B,0,204,,11,12,U,1,1,0,0,1\nL,B,1,3,11,0,1,12,6,16\n"
 IN_TWO_FRAMES = "F,64,2,1\nP,POS,1,310,,9,20,U,1,1,0,0,1\nL,POS,1,1,20,0,1,12,1,16\nL,POS,2,1,20,0,1,8,15,16\n"
 IN_TURN = (
-    "F,64,2,1\nP,A,0,203,,11,12,U,1,1,0,0,2\nL,A,1,1,10,0,1,12,0,2\n"
-    "P,B,0,204,,11,12,U,1,1,0,0,2\nL,B,1,3,11,0,1,12,1,2\n"
+    "F,64,2,1\nP,A,0,203,,11,12,U,1,1,0,0,8\nL,A,1,1,10,0,1,12,0,2\n"
+    "P,B,0,204,,11,12,U,1,1,0,0,8\nL,B,1,3,11,0,1,12,1,2\n"
 )
 DRAWN = int(os.environ.get("FLIGHT_DRAWN", "40"))  # damaged recordings of each table
 
