@@ -6,7 +6,7 @@ PROGRAM = crates/fdr_prog
 PAIR_PROGRAM = crates/fdr_pair_prog
 SOURCES = crates.txt $(shell find crates -name out -prune -o -type f \( -name '*.rt' -o -name '*.antt' \) -print)
 
-.PHONY: build demo check walk compare laws streams crash-test check-real check-memory bench tools-test test install install-tools clean help
+.PHONY: build demo check walk compare laws streams crash-test check-real check-memory bench tools-test drawn-dumps test install install-tools clean help
 
 # Proves both programs and everything below them, and puts them at bin/fdr and bin/fdrpair.
 # After `make test` they are there already.
@@ -81,6 +81,10 @@ bench: build
 # Tests the tools beside the program, and says which packages they lack.
 tools-test:
 	@if [ -x /usr/bin/python3 ]; then tests/flight/run; else echo "tools-test: not run: there is no /usr/bin/python3"; fi
+
+# Draws foreign dumps in many forms and files that are none, looks at them, and reads each by the line that look prints.
+drawn-dumps: build
+	FDR=bin/fdr tests/drawn_dumps.py
 
 # The gate: every proof, must-fail edit, test and program.
 test:

@@ -10,7 +10,7 @@ import pytest
 
 sys.dont_write_bytecode = True
 TOP = pathlib.Path(__file__).resolve().parent.parent.parent
-sys.path[:0] = [str(TOP / "tools"), str(pathlib.Path(__file__).parent)]
+sys.path[:0] = [str(TOP / "tools"), str(pathlib.Path(__file__).parent), str(TOP / "tests")]
 
 import encoder  # noqa: E402
 from flight_recorder import commands  # noqa: E402

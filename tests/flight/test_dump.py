@@ -37,24 +37,22 @@ def test_pack_of_unpack(flight, write):
         assert flight("pack", write("dump", dump), "--order", "big", "--align", "left").out == bits
 
 
+NO_FRAMES = "flight look finds no frames in it in any form; --ignore-spare drops what isn't a word's"
+OUTSIDE = "the unit 4702 has bits outside its word"
+
+
 @pytest.mark.parametrize(
     "dump, how, fault",
     [
         (b"\x47\x02\x01", (), "dump byte 2: half a unit of 16 bits"),
-        (
-            b"\x47\x02\x02\x47",
-            (),
-            "dump byte 2: the unit 4702 has bits outside its word; try another --order or --align, or --ignore-spare",
-        ),
-        (
-            b"\x47\x02",
-            ("--align", "left"),
-            "dump byte 0: the unit 0247 has bits outside its word; try another --order or --align, or --ignore-spare",
-        ),
+        (b"\x47\x02\x02\x47", (), f"dump byte 2: {OUTSIDE}"),
+        (b"\x47\x02", ("--align", "left"), "dump byte 0: the unit 0247 has bits outside its word"),
+        (b"\1\2\3\x47\x02\x02\x47", ("--skip", 3), f"dump byte 5: {OUTSIDE}"),
+        (b"\1\x47\2\x02\3\x02\4\x47", ("--block", 2, "--head", 1), f"byte 2 of the dump's words: {OUTSIDE}"),
     ],
 )
 def test_refused_dumps(flight, write, dump, how, fault):
-    assert flight("pack", write("dump", dump), *how) == (1, b"", f"flight: {fault}\n")
+    assert flight("pack", write("dump", dump), *how) == (1, b"", f"flight: {fault}; {NO_FRAMES}\n")
 
 
 def test_spare_bits_that_are_ignored(flight, write):

@@ -7,11 +7,12 @@ import pathlib
 import sys
 from typing import TYPE_CHECKING, BinaryIO, Callable
 
+from . import readout
 from .faults import Fault, MissingPackage
 from .streams import Again, emptied, opened, opened_again, output, standard_output, whole_file
 
 if TYPE_CHECKING:
-    from . import curves, dates, dump, listing, reading, tables, window
+    from . import curves, dates, listing, reading, tables, window
 
 DONE, FAULT, SILENT, STOPPED = 0, 1, 2, 130
 WIDTHS = (64, 128, 256, 512, 1024)
@@ -43,8 +44,9 @@ def _parser() -> argparse.ArgumentParser:
         prog="flight", description=ABOUT, formatter_class=argparse.RawDescriptionHelpFormatter, allow_abbrev=False
     )
     commands = parser.add_subparsers(metavar="COMMAND", required=True)
-    for add in (_add_trace, _add_words, _add_check_trace, _add_pack, _add_unpack, _add_table, _add_frame, _add_plot):
+    for add in (_add_trace, _add_words, _add_check_trace, _add_table, _add_frame, _add_plot):
         add(commands)
+    readout.add_commands(commands, _command)
     return parser
 
 
@@ -146,67 +148,6 @@ def _run_check_trace(given: argparse.Namespace) -> int:
     with opened(given.trace) as source, standard_output() as out:
         heard = silence.listen(table, source)
         return DONE if silence.write_answer(table, heard, out) else SILENT
-
-
-def _add_units(parser: argparse.ArgumentParser) -> None:
-    parser.add_argument(
-        "--order",
-        choices=["little", "big"],
-        default="little",
-        help="which byte of a unit is first; little if it isn't given",
-    )
-    parser.add_argument(
-        "--align",
-        choices=["right", "left"],
-        default="right",
-        help="which 12 bits of a unit have the word; right if it isn't given",
-    )
-
-
-def _add_pack(commands: "argparse._SubParsersAction[argparse.ArgumentParser]") -> None:
-    parser = _command(
-        commands,
-        "pack",
-        _run_pack,
-        "pack a dump of 12-bit words in units of 16 bits",
-        "flight pack dump.bin --order big | fdr listbits examples/ordinary.csv",
-    )
-    parser.add_argument("dump", metavar="DUMP", help="a dump; - for standard input")
-    _add_units(parser)
-    parser.add_argument("--ignore-spare", action="store_true", help="don't refuse units with bits outside their words")
-
-
-def _units(given: argparse.Namespace) -> dump.Units:
-    """How a dump holds its words."""
-    from . import dump
-
-    return dump.Units(dump.Order(given.order), dump.Align(given.align))
-
-
-def _run_pack(given: argparse.Namespace) -> None:
-    from . import dump
-
-    with opened(given.dump) as source, standard_output() as out:
-        dump.pack(source, out, _units(given), given.ignore_spare)
-
-
-def _add_unpack(commands: "argparse._SubParsersAction[argparse.ArgumentParser]") -> None:
-    parser = _command(
-        commands,
-        "unpack",
-        _run_unpack,
-        "unpack bits into units of 16 bits",
-        "fdr recover flight.img | flight unpack - --order big > dump.bin",
-    )
-    parser.add_argument("bits", metavar="BITS", help="packed bits, two words in three bytes; - for standard input")
-    _add_units(parser)
-
-
-def _run_unpack(given: argparse.Namespace) -> None:
-    from . import dump
-
-    with opened(given.bits) as source, standard_output() as out:
-        dump.unpack(source, out, _units(given))
 
 
 def _add_listing(parser: argparse.ArgumentParser) -> None:
