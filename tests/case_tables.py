@@ -3,10 +3,11 @@
 
     tests/case_tables.py --check | --write
 
-The order of the calls is that of docs/FORMATS.md: an image is opened by its size, its header, the head of each slot, the heads
-of its blocks from the last one down, a look at the gate of the next block's slot and a sync; a block comes by its body, a look at
-the gate after it, a sync, its own gate and a sync, and a gate that is open where it has to be closed is written. What is listed of
-what is left is had from reader.py. The files are those of crates/fdr_cases_prog/data/ that say so in their first line.
+What is written, and when it is made durable, is in the order of docs/FORMATS.md. An image is opened by its size, its header, the head of
+each slot, the heads of its blocks from the last one down, and a look at the gate of the next block's slot, which is closed where it is
+open, and a sync. A block comes by its body, a look at the gate after it, which is closed where it is open, a sync, its own gate, and
+a sync. It is read by its head and its bytes. What is listed of what is left is had from reader.py. The files are those of
+crates/fdr_cases_prog/data/ that say so in their first line.
 """
 
 from __future__ import annotations
@@ -483,7 +484,7 @@ def large_rings() -> Iterator[str]:
 
 # --- files
 
-HEAD = "# Written by tests/case_tables.py from the order of the calls in docs/FORMATS.md, and not by hand; what is listed is had from tests/reader.py.\n"
+HEAD = "# Written by tests/case_tables.py from the order of a command's calls, and not by hand; what is listed is had from tests/reader.py.\n"
 
 
 TORN = "# What stops within each call leave, torn in six ways: as before, as written, half written, and filled with a byte.\n"
