@@ -6,7 +6,7 @@ PROGRAM = crates/fdr_prog
 PAIR_PROGRAM = crates/fdr_pair_prog
 SOURCES = crates.txt $(shell find crates -name out -prune -o -type f \( -name '*.rt' -o -name '*.antt' \) -print)
 
-.PHONY: build demo check walk compare laws streams crash-test check-real check-memory bench tools-test drawn-dumps test install install-tools clean help
+.PHONY: build demo check walk compare laws streams crash-test check-real check-memory fail-io calls count verify bench tools-test drawn-dumps test install install-tools clean help
 
 # Proves both programs and everything below them, and puts them at bin/fdr and bin/fdrpair.
 # After `make test` they are there already.
@@ -35,13 +35,14 @@ demo:
 		--data damaged.img=../../examples/damaged.img --data headless.img=../../examples/headless.img \
 		--data old.img=../../examples/old.img
 
-# Checks the documents, the images of examples/ and the cases against what they are made from, and does the cases by a
-# second reader: seven seconds.
+# Checks the documents, the images of examples/ and the cases against what they are made from, does the cases by a
+# second reader, and checks the types of all Python: twenty seconds.
 check:
 	tools/documents.py check
 	examples/make_images.py --check
 	tests/case_tables.py --check
 	tests/cases.py
+	@if [ -x /usr/bin/mypy ]; then /usr/bin/mypy; else echo "check: the types weren't checked: there is no /usr/bin/mypy"; fi
 
 # Goes the walk of examples/ with the built programs, and compares what they print with what the three pages show.
 walk: build
@@ -73,20 +74,36 @@ check-real: build
 check-memory: build
 	tests/memory.py bin/fdr bin/fdrpair
 
+# Has each read, write and sync of the cases fail in turn, or move one byte alone, with the built programs and the trial build.
+fail-io: build
+	tests/fail_io.py bin/fdr bin/fdrpair
+
+# Compares what the built programs ask of the system, call by call, with what is stored in tests/calls/.
+calls: build
+	tests/calls.py bin/fdr bin/fdrpair --check
+
+# Compares how many instructions the built programs take with what is stored in bench/counts.csv.
+count: build
+	bench/count.py bin/fdr bin/fdrpair --check
+
+# Runs all that the gate leaves out, says what wasn't run, and writes the table in docs/TESTS.md.
+verify: build
+	tests/verify.py bin/fdr bin/fdrpair
+
 # Measures the built programs on large inputs, beside `cat` of the same bytes.
 # It takes under a minute after the build, and 1.5 GB for the inputs.
 bench: build
 	bench/commands.py bin/fdr bin/fdrpair
 
-# Tests the tools beside the program, and says which packages they lack.
+# Tests the tools beside the program, in a browser too, and fails where a package is missing that they all need.
 tools-test:
-	@if [ -x /usr/bin/python3 ]; then tests/flight/run; else echo "tools-test: not run: there is no /usr/bin/python3"; fi
+	tests/flight/run
 
 # Draws foreign dumps in many forms and files that are none, looks at them, and reads each by the line that look prints.
 drawn-dumps: build
 	FDR=bin/fdr tests/drawn_dumps.py
 
-# The gate: every proof, must-fail edit, test and program.
+# The gate: every proof, must-fail edit, test and program, and the tests of the tools.
 test:
 	./.ci/run
 	mkdir -p bin
