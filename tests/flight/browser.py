@@ -13,6 +13,7 @@ from typing import Any, Iterator
 
 PROGRAM = shutil.which("chromium") or shutil.which("chromium-browser")
 SIZE = (1200, 900)
+Message = dict[str, Any]
 
 
 class Browser:
@@ -23,7 +24,7 @@ class Browser:
         self.from_browser = os.fdopen(from_browser, "rb")
         self.number = 0
         self.session: str | None = None
-        self.events: list[dict] = []
+        self.events: list[Message] = []
         self.left = b""
 
     def close(self) -> None:
@@ -31,7 +32,7 @@ class Browser:
         self.to_browser.close()
         self.from_browser.close()
 
-    def call(self, method: str, **given: Any) -> dict:
+    def call(self, method: str, **given: Any) -> Message:
         """Calls the browser, and answers its result."""
         self.number += 1
         message = {"id": self.number, "method": method, "params": given}
@@ -43,17 +44,19 @@ class Browser:
             if answer.get("id") == self.number:
                 if "error" in answer:
                     raise RuntimeError(f"{method}: {answer['error']}")
-                return answer["result"]
+                result: Message = answer["result"]
+                return result
             self.events.append(answer)
 
-    def _read(self) -> dict:
+    def _read(self) -> Message:
         while b"\0" not in self.left:
             data = os.read(self.from_browser.fileno(), 1 << 16)
             if not data:
                 raise RuntimeError("the browser ended")
             self.left += data
         message, self.left = self.left.split(b"\0", 1)
-        return json.loads(message)
+        answer: Message = json.loads(message)
+        return answer
 
     def open(self, path: pathlib.Path) -> None:
         """Opens a file in a page of its own."""
@@ -97,7 +100,8 @@ class Browser:
         self._mouse("mouseMoved", begin, 0)
         self._mouse("mousePressed", begin, 1)
         for part in (0.3, 0.7, 1.0):
-            self._mouse("mouseMoved", tuple(a + part * (b - a) for a, b in zip(begin, end)), 1)
+            across, down = (a + part * (b - a) for a, b in zip(begin, end))
+            self._mouse("mouseMoved", (across, down), 1)
         self._mouse("mouseReleased", end, 0)
 
     def move(self, place: tuple[float, float]) -> None:
@@ -130,10 +134,10 @@ class Browser:
 def _pipe() -> tuple[int, int]:
     """A pipe whose ends have numbers above those that the browser has for its own."""
     ends = os.pipe()
-    higher = tuple(fcntl.fcntl(end, fcntl.F_DUPFD_CLOEXEC, 10) for end in ends)
+    reader, writer = (fcntl.fcntl(end, fcntl.F_DUPFD_CLOEXEC, 10) for end in ends)
     for end in ends:
         os.close(end)
-    return higher
+    return reader, writer
 
 
 @contextlib.contextmanager
@@ -143,7 +147,7 @@ def browser() -> Iterator[Browser]:
         in_read, in_write = _pipe()
         out_read, out_write = _pipe()
         words = [
-            PROGRAM,
+            str(PROGRAM),
             "--headless=new",
             "--remote-debugging-pipe",
             "--no-first-run",
@@ -153,8 +157,8 @@ def browser() -> Iterator[Browser]:
         words += ["--disable-background-networking", f"--user-data-dir={folder}", f"--window-size={SIZE[0]},{SIZE[1]}"]
         words += ["--no-sandbox"] if os.geteuid() == 0 else []
         shell = ["bash", "-c", f'exec "$@" 3<&{in_read} 4>&{out_write}', "bash", *words]
-        quiet = {"stdin": subprocess.DEVNULL, "stdout": subprocess.DEVNULL, "stderr": subprocess.DEVNULL}
-        program = subprocess.Popen(shell, pass_fds=(in_read, out_write), **quiet)
+        nothing = subprocess.DEVNULL
+        program = subprocess.Popen(shell, pass_fds=(in_read, out_write), stdin=nothing, stdout=nothing, stderr=nothing)
         os.close(in_read)
         os.close(out_write)
         page = Browser(in_write, out_read)

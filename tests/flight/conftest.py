@@ -4,7 +4,7 @@ import os
 import pathlib
 import subprocess
 import sys
-from typing import Callable, NamedTuple
+from typing import Any, Callable, NamedTuple
 
 import pytest
 
@@ -28,15 +28,20 @@ class Ran(NamedTuple):
     error: str
 
 
+Tool = Callable[..., Ran]
+Fdr = Callable[..., bytes]
+Write = Callable[[str, str | bytes], pathlib.Path]
+
+
 @pytest.fixture
-def flight(capfdbinary: pytest.CaptureFixture) -> Callable[..., Ran]:
+def flight(capfdbinary: pytest.CaptureFixture[bytes]) -> Tool:
     """Runs a command of the tools in this process."""
 
     def run(*words: object) -> Ran:
         try:
             status = commands.main([str(word) for word in words])
         except SystemExit as end:
-            status = end.code
+            status = end.code if isinstance(end.code, int) else 1
         sys.stdout.flush()
         out, error = capfdbinary.readouterr()
         return Ran(status, out, error.decode())
@@ -45,12 +50,12 @@ def flight(capfdbinary: pytest.CaptureFixture) -> Callable[..., Ran]:
 
 
 @pytest.fixture
-def piped() -> Callable[..., Ran]:
+def piped() -> Tool:
     """Runs a command of the tools as a program, with its standard input."""
 
-    def run(*words: object, given: bytes = b"", **how: object) -> Ran:
+    def run(*words: object, given: bytes = b"", **how: Any) -> Ran:
         ran = subprocess.run(
-            [sys.executable, FLIGHT, *map(str, words)], input=given, capture_output=True, timeout=120, **how
+            [sys.executable, str(FLIGHT), *map(str, words)], input=given, capture_output=True, timeout=120, **how
         )
         return Ran(ran.returncode, ran.stdout, ran.stderr.decode())
 
@@ -58,7 +63,7 @@ def piped() -> Callable[..., Ran]:
 
 
 @pytest.fixture
-def fdr() -> Callable[..., bytes]:
+def fdr() -> Fdr:
     """Runs the program, which FDR names, or bin/fdr; the test is skipped where there is none."""
     program = pathlib.Path(os.environ.get("FDR", TOP / "bin" / "fdr"))
     if not program.is_file():
@@ -73,7 +78,7 @@ def fdr() -> Callable[..., bytes]:
 
 
 @pytest.fixture
-def write(tmp_path: pathlib.Path) -> Callable[[str, str | bytes], pathlib.Path]:
+def write(tmp_path: pathlib.Path) -> Write:
     """Writes a file into the test's folder."""
 
     def one(name: str, text: str | bytes) -> pathlib.Path:
@@ -86,7 +91,7 @@ def write(tmp_path: pathlib.Path) -> Callable[[str, str | bytes], pathlib.Path]:
 
 def example_captures() -> list[str]:
     """The two captures of the example's flight, before and after its power cut."""
-    program = [sys.executable, TOP / "examples" / "make_flight.py"]
+    program = [sys.executable, str(TOP / "examples" / "make_flight.py")]
     parts = (["--to", "1873.4"], ["--from", "1931"])
     return [subprocess.run([*program, *part], capture_output=True, text=True, check=True).stdout for part in parts]
 

@@ -8,7 +8,7 @@ import random
 import pytest
 
 import encoder
-from conftest import example_captures
+from conftest import Fdr, Tool, Write, example_captures
 
 POSITION = """\
 F,64,2,1
@@ -33,7 +33,7 @@ L,POS,2,3,20,0,1,8,0,1
 
 
 @pytest.mark.parametrize("name, frames", [("ordinary", 120), ("position", 100), ("aged", 100)])
-def test_generated_values_come_back(flight, fdr, write, name, frames):
+def test_generated_values_come_back(flight: Tool, fdr: Fdr, write: Write, name: str, frames: int) -> None:
     given = {"position": POSITION, "aged": AGED}
     table_path = write("t.csv", given[name]) if name in given else encoder.TOP / "examples" / "ordinary.csv"
     table = encoder.read_table(table_path)
@@ -52,7 +52,7 @@ def test_generated_values_come_back(flight, fdr, write, name, frames):
     assert rows[1:] == wanted
 
 
-def test_the_plain_recorder_s_listing_of_the_example_is_the_program_s(fdr, hour, flight, write):
+def test_the_plain_recorder_s_listing_of_the_example_is_the_program_s(fdr: Fdr, hour: str, flight: Tool, write: Write) -> None:
     bits = b""
     for capture in example_captures():
         trace = flight("trace", write("c.csv", capture)).out
@@ -60,7 +60,7 @@ def test_the_plain_recorder_s_listing_of_the_example_is_the_program_s(fdr, hour,
     assert fdr("listbits", encoder.TOP / "examples" / "ordinary.csv", given=bits).decode() == hour
 
 
-def test_examples_with_a_power_cut(fdr, flight, write):
+def test_examples_with_a_power_cut(fdr: Fdr, flight: Tool, write: Write) -> None:
     listing = fdr("list", encoder.TOP / "examples" / "t1.csv", encoder.TOP / "examples" / "cut.img")
     rows = (
         flight("table", write("l", listing), "--table", encoder.TOP / "examples" / "t1.csv").out.decode().splitlines()
@@ -76,7 +76,7 @@ def test_examples_with_a_power_cut(fdr, flight, write):
 
 @pytest.mark.parametrize("shape", ["--table", "--words"])
 @pytest.mark.parametrize("flips, cuts", [(30, 0), (0, 5)])
-def test_times_are_right_in_damaged_bits(flight, fdr, write, shape, flips, cuts):
+def test_times_are_right_in_damaged_bits(flight: Tool, fdr: Fdr, write: Write, shape: str, flips: int, cuts: int) -> None:
     path = write("t.csv", POSITION)
     table = encoder.read_table(path)
     recording = encoder.recording_of(table, encoder.generated(table, 300, 1), 1_200_000_000)
