@@ -70,15 +70,15 @@ def parts(fdr: str, pair: str) -> Iterator[Part]:
     yield Part("`make tools-test`", ["tests/flight/run"], r"^(.*\bpassed\b.*) in ")
 
 
-def run(part: Part) -> Outcome:
-    """Runs a part, and keeps what it prints."""
+def run(part: Part, fdr: str) -> Outcome:
+    """Runs a part, and keeps what it prints. The tests of the tools take the program from FDR."""
     lacks = [f"{need} isn't there" for need in part.needs if not shutil.which(need)]
     if lacks:
         return Outcome(part, "not run", True, lacks, 0.0)
     begin = time.monotonic()
     log = LOGS / (re.sub(r"\W+", "_", part.name).strip("_") + ".log")
     with open(log, "w") as file:
-        ended = subprocess.run(part.words, cwd=TOP, stdout=file, stderr=subprocess.STDOUT, check=False)
+        ended = subprocess.run(part.words, cwd=TOP, env={**os.environ, "FDR": fdr}, stdout=file, stderr=subprocess.STDOUT, check=False)
     said = log.read_text(errors="replace")
     found = re.findall(part.counts, said, re.M)
     lacks = sorted(set(WANTS.findall(said)))
@@ -124,9 +124,10 @@ def main() -> int:
     given = words.parse_args()
     LOGS.mkdir(parents=True, exist_ok=True)
     outcomes = []
-    for part in parts(str(given.fdr.resolve()), str(given.fdrpair.resolve())):
+    fdr, pair = str(given.fdr.resolve()), str(given.fdrpair.resolve())
+    for part in parts(fdr, pair):
         if given.only in part.name:
-            outcomes.append(run(part))
+            outcomes.append(run(part, fdr))
             one = outcomes[-1]
             print(f"{'ok' if one.is_well else 'FAILED':7}{one.seconds:6.0f} s  {part.name}: {one.count}", flush=True)
     lines = list(rows(outcomes))
