@@ -7,6 +7,8 @@ from typing import NamedTuple
 
 import numpy as np
 
+from .arrays import Array
+
 SDI, DATA, SSM, PARITY = 8, 10, 29, 31  # where the fields begin, counted from 0
 LABEL_BITS, SDI_BITS, DATA_BITS, SSM_BITS = 8, 2, 19, 2
 
@@ -16,13 +18,13 @@ REVERSED_BYTE = np.array([int(f"{byte:08b}"[::-1], 2) for byte in range(256)], d
 class Fields(NamedTuple):
     """The fields of bus words: label as it is spoken, SDI, the data of bits 11 to 29, SSM."""
 
-    label: np.ndarray
-    sdi: np.ndarray
-    data: np.ndarray
-    ssm: np.ndarray
+    label: Array
+    sdi: Array
+    data: Array
+    ssm: Array
 
 
-def has_odd_parity(word: np.ndarray) -> np.ndarray:
+def has_odd_parity(word: Array) -> Array:
     """Whether the number of ones is odd, as it has to be."""
     folded = np.asarray(word, dtype=np.uint32)
     for shift in (16, 8, 4, 2, 1):
@@ -30,17 +32,17 @@ def has_odd_parity(word: np.ndarray) -> np.ndarray:
     return (folded & np.uint32(1)) == 1
 
 
-def fields_of(word: np.ndarray) -> Fields:
+def fields_of(word: Array) -> Fields:
     """A word's fields."""
     word = np.asarray(word, dtype=np.uint32)
 
-    def field(begin: int, bits: int) -> np.ndarray:
+    def field(begin: int, bits: int) -> Array:
         return (word >> np.uint32(begin)) & np.uint32((1 << bits) - 1)
 
     return Fields(REVERSED_BYTE[word & 0xFF], field(SDI, SDI_BITS), field(DATA, DATA_BITS), field(SSM, SSM_BITS))
 
 
-def word_of(fields: Fields) -> np.ndarray:
+def word_of(fields: Fields) -> Array:
     """The word of these fields, with odd parity."""
     word = REVERSED_BYTE[np.asarray(fields.label)]
     for begin, value in ((SDI, fields.sdi), (DATA, fields.data), (SSM, fields.ssm)):
@@ -49,7 +51,7 @@ def word_of(fields: Fields) -> np.ndarray:
     return word | (even.astype(np.uint32) << np.uint32(PARITY))
 
 
-def turned(word: np.ndarray) -> np.ndarray:
+def turned(word: Array) -> Array:
     """The word with its 32 bits in the other order: bit 1 becomes the most significant bit of the number."""
     word = np.asarray(word, dtype=np.uint32)
     answer = np.zeros_like(word)

@@ -8,6 +8,7 @@ from dataclasses import dataclass, field
 
 import numpy as np
 
+from .arrays import Array
 from .faults import Fault
 
 WORDS = (64, 128, 256, 512, 1024)
@@ -61,7 +62,7 @@ class Table:
     counter_word: int
     counter_subframe: int
 
-    def steps(self) -> np.ndarray:
+    def steps(self) -> Array:
         """For each frame of a superframe how many frames later rows come again, at the latest."""
         with_rows = np.zeros(SUPERFRAME, dtype=bool)
         for parameter in self.parameters.values():

@@ -7,6 +7,7 @@ import numpy as np
 import pandas
 
 from . import bus, trace
+from .arrays import Array
 from .capture import MILLION
 from .parameters import Parameter, Table
 from .streams import Input
@@ -29,7 +30,7 @@ class Heard:
     newest: int = 0
     silence: int = 0
 
-    def add(self, times: np.ndarray, odd: np.ndarray) -> None:
+    def add(self, times: Array, odd: Array) -> None:
         """Takes the words of a stretch of the trace: their times, and whether each is of odd parity."""
         self.words += len(times)
         self.even += int(np.count_nonzero(~odd))
@@ -73,7 +74,7 @@ def _source(parameter: Parameter) -> Source:
     return Source(parameter.bus, parameter.label, parameter.sdi)
 
 
-def _take(records: np.ndarray, by_label: dict[tuple[int, int], list[Source]], answer: Answer) -> None:
+def _take(records: Array, by_label: dict[tuple[int, int], list[Source]], answer: Answer) -> None:
     """Takes the words of a stretch of the trace, label by label."""
     fields = bus.fields_of(records["word"])
     words = pandas.DataFrame(
