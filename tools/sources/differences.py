@@ -8,6 +8,7 @@ how lines are laid out, don't count.
 import collections
 import difflib
 import io
+import shutil
 import subprocess
 import sys
 import tarfile
@@ -138,8 +139,8 @@ def differences(before: Path, now: Path) -> Iterator[str]:
 def differences_from(top: Path, revision: str) -> list[str]:
     """What differs from a revision of the repository."""
     words = ["git", "-C", str(top), "archive", "--format=tar", revision, "crates", "crates.txt"]
-    archived = subprocess.run(words, stdout=subprocess.PIPE, check=False)
-    if archived.returncode != 0:
+    archived = subprocess.run(words, stdout=subprocess.PIPE, check=False) if shutil.which("git") else None
+    if archived is None or archived.returncode != 0:
         sys.exit("documents: git can't hand out that revision")
     with tempfile.TemporaryDirectory(prefix="fdr_documents_") as folder, tarfile.open(fileobj=io.BytesIO(archived.stdout)) as files:
         files.extractall(folder)
