@@ -4,6 +4,7 @@ import random
 
 import pytest
 
+from conftest import Tool, Write
 import encoder
 
 ROW = "row"
@@ -12,23 +13,23 @@ SEVEN = bytes.fromhex("0100000080001CC1") + (4_000_000).to_bytes(8, "big")
 END = bytes([2]) + bytes(7) + (8_000_000).to_bytes(8, "big")
 
 
-def test_words_as_they_are(flight, write):
+def test_words_as_they_are(flight: Tool, write: Write) -> None:
     capture = write("c.csv", "time,bus,word\n0,0,000014C1\n4,0,0x80001cc1\n")
     assert flight("trace", capture, "--end", "8") == (0, FIVE + SEVEN + END, "")
 
 
-def test_fields_get_parity(flight, write):
+def test_fields_get_parity(flight: Tool, write: Write) -> None:
     capture = write("c.csv", "bus,label,sdi,data,ssm,time\n0,203,,5,,0\n0,203,0,0x7,0,4\n,end,,,,8\n")
     assert flight("trace", capture).out == FIVE + SEVEN + END
 
 
-def test_negative_data_and_all_fields(flight, write):
+def test_negative_data_and_all_fields(flight: Tool, write: Write) -> None:
     capture = write("c.csv", "time,bus,label,sdi,data,ssm\n0,255,377,3,-1,3\n")
     word = flight("trace", capture).out[4:8].hex()
     assert word == "7fffffff"  # 31 ones already, so bit 32 stays clear
 
 
-def test_label_first(flight, write):
+def test_label_first(flight: Tool, write: Write) -> None:
     capture = write("c.csv", "time,bus,word\n0,0,83280000\n4,0,83380001\n")
     assert flight("trace", capture, "--label-first", "--end", 8).out == FIVE + SEVEN + END
 
@@ -37,38 +38,38 @@ def test_label_first(flight, write):
     "unit, first, last, end",
     [("s", "0.5", "0.500001", "1"), ("ms", "500", "500.001", "1e3"), ("us", "500000", "500001", "1000000")],
 )
-def test_units(flight, write, unit, first, last, end):
+def test_units(flight: Tool, write: Write, unit: str, first: str, last: str, end: str) -> None:
     capture = write("c.csv", f"time,bus,word\n{first},0,1\n{last},0,1\n")
     out = flight("trace", capture, "--unit", unit, "--end", end).out
     assert [int.from_bytes(out[at + 8 : at + 16], "big") for at in (0, 16, 32)] == [500_000, 500_001, 1_000_000]
 
 
-def test_dates_count_from_the_first(flight, write):
+def test_dates_count_from_the_first(flight: Tool, write: Write) -> None:
     capture = write("c.csv", "time,bus,word\n2026-11-29T23:59:59.5Z,0,1\n2026-11-30T01:00:00.500001+01:00,0,1\n")
     out = flight("trace", capture, "--end", "2026-11-30T00:00:02Z").out
     assert [int.from_bytes(out[at + 8 : at + 16], "big") for at in (0, 16, 32)] == [0, 1_000_001, 2_500_000]
 
 
-def test_the_last_word_ends_it_without_another_end(flight, write):
+def test_the_last_word_ends_it_without_another_end(flight: Tool, write: Write) -> None:
     out = flight("trace", write("c.csv", "time,bus,word\n1,0,1\n2.5,0,1\n")).out
     assert out[-16:] == bytes([2]) + bytes(7) + (2_500_000).to_bytes(8, "big")
 
 
-def test_a_capture_without_rows(flight, write):
+def test_a_capture_without_rows(flight: Tool, write: Write) -> None:
     assert flight("trace", write("c.csv", "time,bus,word\n"), "--end", "0").out == bytes([2]) + bytes(15)
 
 
-def test_sorting(flight, write):
+def test_sorting(flight: Tool, write: Write) -> None:
     capture = write("c.csv", "time,bus,word\n4,0,80001CC1\n0,0,000014C1\n8,,end\n")
     assert flight("trace", capture, "--sort").out == FIVE + SEVEN + END
 
 
-def test_sorted_dates_count_from_the_earliest(flight, write):
+def test_sorted_dates_count_from_the_earliest(flight: Tool, write: Write) -> None:
     rows = "2026-01-01T00:00:04,0,80001CC1\n2026-01-01T00:00:00,0,000014C1\n2026-01-01T00:00:08,,end\n"
     assert flight("trace", write("c.csv", "time,bus,word\n" + rows), "--sort").out == FIVE + SEVEN + END
 
 
-def test_marks_of_spreadsheets(flight, write):
+def test_marks_of_spreadsheets(flight: Tool, write: Write) -> None:
     capture = write("c.csv", "\ufeffTime,Bus,Word\r\n0,0,000014C1\r\n\r\n4,0,80001CC1\r\n")
     assert flight("trace", capture, "--end", 8).out == FIVE + SEVEN + END
 
@@ -108,12 +109,12 @@ REFUSED = [
 
 
 @pytest.mark.parametrize("text, row, fault", REFUSED)
-def test_refused(flight, write, text, row, fault):
+def test_refused(flight: Tool, write: Write, text: str, row: int, fault: str) -> None:
     place = f"row {row}: " if row else ""
     assert flight("trace", write("c.csv", text)) == (1, b"", f"flight: {place}{fault}\n")
 
 
-def test_a_late_fault_leaves_nothing(flight, write):
+def test_a_late_fault_leaves_nothing(flight: Tool, write: Write) -> None:
     rows = "".join(f"{number},0,1\n" for number in range(100_000))
     assert flight("trace", write("c.csv", f"time,bus,word\n{rows}0,0,1\n")) == (
         1,
@@ -130,18 +131,18 @@ def test_a_late_fault_leaves_nothing(flight, write):
         ("1440001", "the end is 1440001.0 seconds, and a recording has up to 1440000"),
     ],
 )
-def test_refused_ends(flight, write, end, fault):
+def test_refused_ends(flight: Tool, write: Write, end: str, fault: str) -> None:
     assert flight("trace", write("c.csv", "time,bus,word\n1,0,1\n"), "--end", end) == (1, b"", f"flight: {fault}\n")
 
 
-def test_two_ends(flight, write):
+def test_two_ends(flight: Tool, write: Write) -> None:
     assert (
         flight("trace", write("c.csv", "time,bus,word\n1,,end\n"), "--end", 2).error
         == "flight: --end, and the capture has a row of its end\n"
     )
 
 
-def times_of(trace):
+def times_of(trace: bytes) -> list[int]:
     return [int.from_bytes(trace[at + 8 : at + 16], "big") for at in range(0, len(trace), 16)]
 
 
@@ -157,26 +158,26 @@ KINDS_OF_TIME = [
 
 @pytest.mark.parametrize("times, wanted", KINDS_OF_TIME)
 @pytest.mark.parametrize("word", ["1", '"1"'])  # read many at once, and one by one
-def test_kinds_of_time(flight, write, times, wanted, word):
+def test_kinds_of_time(flight: Tool, write: Write, times: list[str], wanted: list[int], word: str) -> None:
     rows = "".join(f"{time},0,{word}\n" for time in times)
     answer = flight("trace", write("c.csv", "time,bus,word\n" + rows))
     assert (answer.status, times_of(answer.out), answer.error) == (0, [*wanted, wanted[-1]], "")
 
 
 @pytest.mark.parametrize("time", ["24:00:00", "10:60:00", "10:00:60", "367:00:00:00", "0:10:00:00", "10:00", "2026-13-01T00:00:00"])
-def test_no_times(flight, write, time):
+def test_no_times(flight: Tool, write: Write, time: str) -> None:
     for word in ("1", '"1"'):
         answer = flight("trace", write("c.csv", f"time,bus,word\n{time},0,{word}\n"))
         assert answer == (1, b"", f"flight: {ROW} 2: time {time!r}\n")
 
 
-def test_kinds_of_time_are_not_mixed(flight, write):
+def test_kinds_of_time_are_not_mixed(flight: Tool, write: Write) -> None:
     for first, second in (("10:00:00", "1"), ("123:10:00:00", "10:00:01"), ("1", "10:00:00")):
         answer = flight("trace", write("c.csv", f"time,bus,word\n{first},0,1\n{second},0,1\n"))
         assert answer == (1, b"", f"flight: {ROW} 3: time {second!r}\n")
 
 
-def test_names_of_columns_and_buses(flight, write):
+def test_names_of_columns_and_buses(flight: Tool, write: Write) -> None:
     capture = write("c.csv", "Timestamp,Channel,Data Word,Note\n0,RX1,000014C1,a\n4,0,80001CC1,b\n")
     words = ("--columns", "time=Timestamp,bus=channel,word=Data Word", "--bus", "RX1=0,RX2=1", "--end", 8)
     assert flight("trace", capture, *words) == (0, FIVE + SEVEN + END, "")
@@ -188,7 +189,7 @@ def test_names_of_columns_and_buses(flight, write):
     )
 
 
-def test_one_bus_for_all_rows(flight, write):
+def test_one_bus_for_all_rows(flight: Tool, write: Write) -> None:
     assert flight("trace", write("c.csv", "time,word\n0,000014C1\n4,80001CC1\n"), "--bus", 0, "--end", 8).out == FIVE + SEVEN + END
 
 
@@ -202,11 +203,11 @@ def test_one_bus_for_all_rows(flight, write):
         (("--columns", "time=T"), f"{ROW} 1: the header names no column `T`, which --columns has for time"),
     ],
 )
-def test_refused_names(flight, write, words, fault):
+def test_refused_names(flight: Tool, write: Write, words: tuple[str, ...], fault: str) -> None:
     assert flight("trace", write("c.csv", "time,bus,word\n0,0,1\n"), *words) == (1, b"", f"flight: {fault}\n")
 
 
-def test_both_readings_of_a_capture_say_the_same(flight, write):
+def test_both_readings_of_a_capture_say_the_same(flight: Tool, write: Write) -> None:
     """Rows that are read many at once, and the same rows one by one, as a quote makes them be, with a change in one of them."""
     chance = random.Random(5)
     for _ in range(150):
@@ -221,7 +222,7 @@ def test_both_readings_of_a_capture_say_the_same(flight, write):
         assert quick == slow, fields
 
 
-def test_words(flight, write):
+def test_words(flight: Tool, write: Write) -> None:
     rows = "time,bus,word,label,sdi,data,ssm,parity\n0.000000,0,000014C1,203,0,5,0,odd\n4.000000,0,00001CC1,203,0,7,0,even\n8.000000,,end,,,,,\n"
     even = SEVEN[:4] + bytes.fromhex("00001CC1") + SEVEN[8:]
     assert flight("words", write("t", FIVE + even + END + b"not looked at   " + END)) == (0, rows.encode(), "")
@@ -238,11 +239,11 @@ def test_words(flight, write):
         (FIVE + END[:8] + b"\xff" * 8, "trace record 1, byte 16: time too late"),
     ],
 )
-def test_refused_traces(flight, write, trace, fault):
+def test_refused_traces(flight: Tool, write: Write, trace: bytes, fault: str) -> None:
     assert flight("words", write("t", trace)) == (1, b"", f"flight: {fault}\n")
 
 
-def test_trace_of_words(flight, write):
+def test_trace_of_words(flight: Tool, write: Write) -> None:
     table = encoder.read_table(encoder.TOP / "examples" / "ordinary.csv")
     words = encoder.generated(table, 20, seed=5)
     words = [one._replace(word=one.word ^ (number % 7 == 0) << 31) for number, one in enumerate(words)]
@@ -252,7 +253,7 @@ def test_trace_of_words(flight, write):
     assert text.count(b",even\n") == (len(words) + 6) // 7
 
 
-def test_standard_input(piped):
+def test_standard_input(piped: Tool) -> None:
     assert piped("trace", "-", "--end", "8", given=b"time,bus,word\n0,0,000014C1\n4,0,80001CC1\n") == (
         0,
         FIVE + SEVEN + END,

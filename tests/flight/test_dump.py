@@ -4,6 +4,7 @@ import random
 import struct
 
 import pytest
+from conftest import Tool, Write
 
 WORDS = [0x247, 0x123, 0xFFF, 0x000, 0xDB8]
 PACKED = bytes.fromhex("473212FF0F00B80D")
@@ -16,17 +17,17 @@ DUMPS = {
 
 
 @pytest.mark.parametrize("kind", DUMPS)
-def test_known_bytes(flight, write, kind):
+def test_known_bytes(flight: Tool, write: Write, kind: tuple[str, str]) -> None:
     how = ("--order", kind[0], "--align", kind[1])
     assert flight("pack", write("dump", DUMPS[kind]), *how) == (0, PACKED, "")
     assert flight("unpack", write("bits", PACKED), *how) == (0, DUMPS[kind], "")
 
 
-def test_little_and_right_if_nothing_is_said(flight, write):
+def test_little_and_right_if_nothing_is_said(flight: Tool, write: Write) -> None:
     assert flight("pack", write("dump", DUMPS["little", "right"])).out == PACKED
 
 
-def test_pack_of_unpack(flight, write):
+def test_pack_of_unpack(flight: Tool, write: Write) -> None:
     chance = random.Random(2)
     for size in (0, 2, 3, 5, 3 << 18, (3 << 18) + 3, (3 << 19) + 5):
         bits = bytearray(chance.randbytes(size))
@@ -51,11 +52,11 @@ OUTSIDE = "the unit 4702 has bits outside its word"
         (b"\1\x47\2\x02\3\x02\4\x47", ("--block", 2, "--head", 1), f"byte 2 of the dump's words: {OUTSIDE}"),
     ],
 )
-def test_refused_dumps(flight, write, dump, how, fault):
+def test_refused_dumps(flight: Tool, write: Write, dump: bytes, how: tuple[str, ...], fault: str) -> None:
     assert flight("pack", write("dump", dump), *how) == (1, b"", f"flight: {fault}; {NO_FRAMES}\n")
 
 
-def test_spare_bits_that_are_ignored(flight, write):
+def test_spare_bits_that_are_ignored(flight: Tool, write: Write) -> None:
     assert flight("pack", write("dump", b"\x47\xf2\x23\x81"), "--ignore-spare").out == PACKED[:3]
 
 
@@ -66,11 +67,11 @@ def test_spare_bits_that_are_ignored(flight, write):
         (PACKED[:3] + b"\x47\x12", "bits byte 4: its upper four bits begin a word that isn't whole"),
     ],
 )
-def test_refused_bits(flight, write, bits, fault):
+def test_refused_bits(flight: Tool, write: Write, bits: bytes, fault: str) -> None:
     assert flight("unpack", write("bits", bits)) == (1, b"", f"flight: {fault}\n")
 
 
-def test_a_fault_in_a_later_piece_leaves_nothing(flight, write):
+def test_a_fault_in_a_later_piece_leaves_nothing(flight: Tool, write: Write) -> None:
     dump = bytes(2 << 20) + b"\xff\xff"
     answer = flight("pack", write("dump", dump))
     assert (answer.status, answer.out) == (1, b"")

@@ -3,6 +3,7 @@
 import random
 
 import pytest
+from conftest import Tool, Write
 
 PACKED = "473212FF0F00"  # the words 247, 123, FFF and 000
 
@@ -33,7 +34,7 @@ PACKED = "473212FF0F00"  # the words 247, 123, FFF and 000
         ("0247F1232FFF300055", ("--order", "big", "--ignore-spare")),
     ],
 )
-def test_four_words(flight, write, dump, how):
+def test_four_words(flight: Tool, write: Write, dump: str, how: tuple[str, ...]) -> None:
     assert flight("pack", write("dump", bytes.fromhex(dump)), *how) == (0, bytes.fromhex(PACKED), "")
 
 
@@ -52,11 +53,11 @@ LOW_FIRST_PHASE = "--phase is that of units and of --packed high-first; low-firs
         (("--packed", "low-first", "--order", "big"), UNITS_AND_PACKED),
     ],
 )
-def test_forms_that_no_dump_has(flight, write, how, fault):
+def test_forms_that_no_dump_has(flight: Tool, write: Write, how: tuple[str, ...], fault: str) -> None:
     assert flight("pack", write("dump", b"1234"), *how) == (1, b"", f"flight: {fault}\n")
 
 
-def test_a_number_below_zero(flight, write):
+def test_a_number_below_zero(flight: Tool, write: Write) -> None:
     assert flight("pack", write("dump", b""), "--skip", "-3").status == 2
 
 
@@ -80,7 +81,7 @@ def bytes_of(bits: str) -> bytes:
     return int(bits[::-1], 2).to_bytes(-(-len(bits) // 8), "little")
 
 
-def test_a_rotation_over_pieces(flight, piped, write, data):
+def test_a_rotation_over_pieces(flight: Tool, piped: Tool, write: Write, data: bytes) -> None:
     bits = digits(data)
     how = ("--packed", "low-first", "--rotate", 8003)
     wanted = bytes_of(bits[8003:] + bits[:8003])
@@ -88,22 +89,22 @@ def test_a_rotation_over_pieces(flight, piped, write, data):
     assert piped("pack", "-", *how, given=data).out == wanted
 
 
-def test_blocks_over_pieces(flight, write, data):
+def test_blocks_over_pieces(flight: Tool, write: Write, data: bytes) -> None:
     blocks = b"".join(b"HEAD" + data[at : at + 1001] for at in range(0, len(data), 1001))
     assert flight("pack", write("dump", blocks), "--packed", "low-first", "--block", 1005, "--head", 4).out == data
 
 
-def test_all_bits_backwards_over_pieces(flight, write, data):
+def test_all_bits_backwards_over_pieces(flight: Tool, write: Write, data: bytes) -> None:
     assert flight("pack", write("dump", data[::-1].translate(TURNED)), "--packed", "low-first", "--backwards").out == data
 
 
-def test_swapped_pairs_over_pieces(flight, write, data):
+def test_swapped_pairs_over_pieces(flight: Tool, write: Write, data: bytes) -> None:
     swapped = bytearray(data)
     swapped[0:-1:2], swapped[1::2] = data[1::2], data[0:-1:2]
     assert flight("pack", write("dump", bytes(swapped)), "--packed", "low-first", "--swap").out == data
 
 
-def test_high_first_words_over_pieces(flight, write, data):
+def test_high_first_words_over_pieces(flight: Tool, write: Write, data: bytes) -> None:
     bits = digits(data)
     words = "".join(bits[at : at + 12][::-1] for at in range(0, len(bits) - 11, 12))
     high = bytes_of("101" + words).translate(TURNED)

@@ -7,7 +7,7 @@ import pytest
 import drawn_dumps
 import encoder
 import reader
-from conftest import ORDINARY
+from conftest import ORDINARY, Tool, Write
 from drawn_dumps import low_first
 
 FRAMES = 14
@@ -59,14 +59,14 @@ def decoded(levels: bytes) -> bytes:
     return answer.output
 
 
-def test_two_levels_a_bit_are_those_of_encode(flight, write):
+def test_two_levels_a_bit_are_those_of_encode(flight: Tool, write: Write) -> None:
     bits = random.Random(3).randbytes(1000)
     levels = reader.encode(bits).output
     assert flight("levels", write("levels", levels), "--samples", 2) == (0, levels, "")
 
 
 @pytest.mark.parametrize("samples", [2, 3, 3.3, 4, 5, 7.7, 8, 16, 100])
-def test_any_number_of_samples(flight, write, samples):
+def test_any_number_of_samples(flight: Tool, write: Write, samples: float) -> None:
     bits = "101" + "".join(random.Random(4).choices("01", k=4001))
     phase = 0.0 if samples == 2 else 0.3
     levels = flight("levels", write("capture", low_first(sampled(bits, samples, phase))), "--samples", samples)
@@ -74,7 +74,7 @@ def test_any_number_of_samples(flight, write, samples):
     assert bits[1:-2] in digits(decoded(levels.out))
 
 
-def test_a_capture_that_begins_anywhere(flight, write):
+def test_a_capture_that_begins_anywhere(flight: Tool, write: Write) -> None:
     bits = "".join(random.Random(5).choices("01", k=2000))
     line = sampled(bits, 8)
     for front in range(20):
@@ -83,7 +83,7 @@ def test_a_capture_that_begins_anywhere(flight, write):
             assert bits[4:-1] in digits(decoded(levels))
 
 
-def test_jitter(flight, write):
+def test_jitter(flight: Tool, write: Write) -> None:
     bits = "".join(random.Random(6).choices("01", k=4000))
     capture = low_first(sampled(bits, 20, 0.5, jitter=0.1))
     levels = flight("levels", write("capture", capture), "--samples", 20)
@@ -92,7 +92,7 @@ def test_jitter(flight, write):
 
 
 @pytest.mark.parametrize("rate, more", [(24576, ()), (24576, ("--words", 256)), (30000, ()), (1e6, ())])
-def test_a_rate(flight, write, recording, rate, more):
+def test_a_rate(flight: Tool, write: Write, recording: encoder.Recording, rate: float, more: tuple[str, ...]) -> None:
     bits = digits(recording.bits())[: 3 * FRAME]
     capture = low_first(sampled(bits, rate / 3072))
     levels = flight("levels", write("capture", capture), "--rate", rate, *more)
@@ -100,7 +100,7 @@ def test_a_rate(flight, write, recording, rate, more):
     assert bits[1:-1] in digits(decoded(levels.out))
 
 
-def test_first_sample_in_the_highest_bit(flight, write, recording):
+def test_first_sample_in_the_highest_bit(flight: Tool, write: Write, recording: encoder.Recording) -> None:
     bits = digits(recording.bits())[:FRAME]
     capture = low_first(sampled(bits, 6)).translate(drawn_dumps.TURNED_BYTES)
     levels = flight("levels", write("capture", capture), "--samples", 6, "--reverse").out
@@ -108,7 +108,7 @@ def test_first_sample_in_the_highest_bit(flight, write, recording):
 
 
 @pytest.mark.parametrize("samples", [2, 8])
-def test_a_wrong_level_costs_one_frame(flight, write, recording, samples):
+def test_a_wrong_level_costs_one_frame(flight: Tool, write: Write, recording: encoder.Recording, samples: int) -> None:
     """A glitch in any frame, at any bit of it: its frame alone has no rows, and no value is made up."""
     bits = digits(recording.bits())
     line = sampled(bits, samples)
@@ -125,7 +125,7 @@ def test_a_wrong_level_costs_one_frame(flight, write, recording, samples):
         assert [line for line in rows(decoded(levels.out)) if ",FLT," not in line] == kept
 
 
-def test_every_frame_with_a_glitch_anywhere(flight, write, recording):
+def test_every_frame_with_a_glitch_anywhere(flight: Tool, write: Write, recording: encoder.Recording) -> None:
     """Twelve glitches in twelve frames, close to all their borders: only untouched frames are listed, and as they were."""
     bits = digits(recording.bits())
     line = sampled(bits, 8)
@@ -141,7 +141,7 @@ def test_every_frame_with_a_glitch_anywhere(flight, write, recording):
         assert lost <= {"4", "5", "6"} and "5" in lost and len(lost) <= 2
 
 
-def test_a_silent_line_for_a_while(flight, write, recording):
+def test_a_silent_line_for_a_while(flight: Tool, write: Write, recording: encoder.Recording) -> None:
     bits = digits(recording.bits())
     line = sampled(bits, 4)
     at = (6 * FRAME + 700) * 4
@@ -153,7 +153,7 @@ def test_a_silent_line_for_a_while(flight, write, recording):
     assert set(rows(decoded(levels.out))) <= set(recording.listing().splitlines())
 
 
-def test_a_long_run_of_ones(flight, write):
+def test_a_long_run_of_ones(flight: Tool, write: Write) -> None:
     """Bits of 1 alone say nothing of where bits begin, and more of them come than are held."""
     bits = "0011" + "1" * 600_000 + "0010111"
     levels = flight("levels", write("capture", low_first(sampled(bits, 4))), "--samples", 4)
@@ -170,12 +170,12 @@ def test_a_long_run_of_ones(flight, write):
         (("--rate", 5000), "at 5000 Hz the line has the bits of no frames of 64, 128, 256, 512, 1024 words a second"),
     ],
 )
-def test_rates_that_are_refused(flight, write, how, fault):
+def test_rates_that_are_refused(flight: Tool, write: Write, how: tuple[str, ...], fault: str) -> None:
     capture = low_first(sampled("0110" * 200, 8))
     assert flight("levels", write("capture", capture), *how) == (1, b"", f"flight: {fault}\n")
 
 
-def test_look_names_a_capture_with_a_wrong_level(flight, write, recording):
+def test_look_names_a_capture_with_a_wrong_level(flight: Tool, write: Write, recording: encoder.Recording) -> None:
     line = sampled(digits(recording.bits()), 8)
     at = len(line) // 4 // 8 * 8 + 2
     turned = line[:at] + line[at : at + 4].translate(drawn_dumps.OPPOSITE) + line[at + 4 :]

@@ -41,14 +41,14 @@ BAD = [
 
 
 @pytest.mark.parametrize("line", GOOD)
-def test_good_lines(line):
+def test_good_lines(line: bytes) -> None:
     assert is_line(line)
     piece = piece_of(line + b"\n", 1, Names())
     assert len(piece) + len(piece.marks) == 1
 
 
 @pytest.mark.parametrize("line", BAD)
-def test_bad_lines(line):
+def test_bad_lines(line: bytes) -> None:
     assert not is_line(line)
     for before in (b"", GOOD[0] + b"\n", GOOD[6] + b"\n" + GOOD[0] + b"\n"):
         for after in (b"", GOOD[0] + b"\n", GOOD[1] + b"\n"):
@@ -57,7 +57,7 @@ def test_bad_lines(line):
 
 
 @pytest.mark.parametrize("line", [b"drill,6,2,2,1506", b"note,1,2", b"rows,0,1,10,ALT,5", b"note", b"later-kind_2,\xff,,"])
-def test_lines_that_begin_with_another_word_are_passed_over(line):
+def test_lines_that_begin_with_another_word_are_passed_over(line: bytes) -> None:
     assert is_line(line)
     piece = piece_of(GOOD[0] + b"\n" + line + b"\n" + GOOD[1] + b"\n", 1, Names())
     assert len(piece) == 2
@@ -65,7 +65,7 @@ def test_lines_that_begin_with_another_word_are_passed_over(line):
     assert [piece.line_of(row) for row in (0, 1)] == [1, 3]
 
 
-def test_both_readings_agree_on_changed_lines():
+def test_both_readings_agree_on_changed_lines() -> None:
     chance = random.Random(4)
     signs = b"0123456789,.-rowgapALT\xff \x00"
     for _ in range(4000):
@@ -81,7 +81,7 @@ def test_both_readings_agree_on_changed_lines():
         assert taken is is_line(bytes(line)), bytes(line)
 
 
-def test_columns():
+def test_columns() -> None:
     names = Names()
     text = b"gap,5,7\n" + b"".join(line + b"\n" for line in GOOD[:6]) + b"session,2,6\nexceed,HI,0,1,10,3,9\n"
     piece = piece_of(text, 1, names)
@@ -95,15 +95,17 @@ def test_columns():
         (Kind.GAP, 0, 5, 7),
         (Kind.SESSION, 6, 2, 6),
     ]
-    assert (piece.marks[2].exceedance.name, piece.marks[2].exceedance.peak) == ("HI", "9")
+    found = piece.marks[2].exceedance
+    assert found is not None and (found.name, found.peak) == ("HI", "9")
 
 
-def test_many_pieces_are_one_listing():
+def test_many_pieces_are_one_listing() -> None:
     lines = [
         b"row,%d,%d,%d,N%d,%d.%d\n" % (at % 4096, at % 4 + 1, at % 64 + 1, at % 300, at, at % 10)
         for at in range(150_000)
     ]
-    names, rows = Names(), []
+    names = Names()
+    rows: list[tuple[int, float]] = []
     for piece in read_listing(Input(io.BytesIO(b"".join(lines)), None), names):
         rows += zip(piece.name.tolist(), piece.value.tolist())
     assert [(names.names[name], value) for name, value in rows] == [
@@ -111,7 +113,7 @@ def test_many_pieces_are_one_listing():
     ]
 
 
-def test_faults_name_lines_of_the_whole_listing():
+def test_faults_name_lines_of_the_whole_listing() -> None:
     text = GOOD[0] + b"\n" + GOOD[6] + b"\n"
     for bad in (b"row,0\n", b"row,0,1"):
         with pytest.raises(Fault, match="^listing line 100001: "):
@@ -119,11 +121,11 @@ def test_faults_name_lines_of_the_whole_listing():
                 pass
 
 
-def test_a_listing_that_was_cut():
+def test_a_listing_that_was_cut() -> None:
     with pytest.raises(Fault, match="^listing line 2: it has no line feed at its end, so the listing was cut there$"):
         list(read_listing(Input(io.BytesIO(GOOD[0] + b"\n" + GOOD[0]), None), Names()))
 
 
-def test_no_lines_at_all():
+def test_no_lines_at_all() -> None:
     with pytest.raises(Fault, match="^listing line 1: "):
         list(read_listing(Input(io.BytesIO(bytes(3 << 20)), None), Names()))

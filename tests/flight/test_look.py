@@ -1,16 +1,18 @@
 """`flight look` on one flight in each form: the line that it prints gives all rows. And files that are no recordings."""
 
 import pathlib
+import random
 import re
 import shlex
 import struct
+from typing import Callable
 
 import pytest
 
 import drawn_dumps
 import encoder
 import reader
-from conftest import ORDINARY
+from conftest import ORDINARY, Tool, Write
 from drawn_dumps import high_first, low_first, swapped, with_heads
 
 FRAMES = 48
@@ -42,7 +44,7 @@ def rows_of(bits: bytes) -> list[str]:
     return [line for line in lines if line.startswith("row,")]
 
 
-def read_by_line(flight, monkeypatch, path: pathlib.Path) -> tuple[str, bytes]:
+def read_by_line(flight: Tool, monkeypatch: pytest.MonkeyPatch, path: pathlib.Path) -> tuple[str, bytes]:
     """What look says of a file, and the bits that come of the line that it prints."""
     looked = flight("look", path)
     assert (looked.status, looked.error) == (0, "")
@@ -64,7 +66,7 @@ def high(slots: list[int]) -> bytes:
     return high_first("".join(f"{slot:012b}" for slot in slots))
 
 
-FORMS = {
+FORMS: dict[str, tuple[Callable[[Flight], bytes], str]] = {
     "inverted": (lambda flight: flight.bits.translate(OPPOSITE), "--invert --packed low-first"),
     "bits of each byte reversed": (lambda flight: flight.bits.translate(TURNED), "--reverse --packed low-first"),
     "highest first": (lambda flight: high(flight.slots), "--packed high-first"),
@@ -82,17 +84,17 @@ FORMS = {
 
 def blocks(flight: Flight, block: int, head: int) -> bytes:
     """The flight in blocks with heads."""
-    return with_heads(drawn_dumps.random.Random(block), flight.bits, block, head)
+    return with_heads(random.Random(block), flight.bits, block, head)
 
 
 def units(flight: Flight, order: str, head: int) -> bytes:
     """The flight with a word in each 16 bits, after a head."""
-    front = drawn_dumps.random.Random(head).randbytes(head)
+    front = random.Random(head).randbytes(head)
     return front + struct.pack(f"{order}{len(flight.slots)}H", *flight.slots)
 
 
 @pytest.mark.parametrize("form", FORMS)
-def test_every_form_is_named_and_read(flight, monkeypatch, write, recorded, form):
+def test_every_form_is_named_and_read(flight: Tool, monkeypatch: pytest.MonkeyPatch, write: Write, recorded: Flight, form: str) -> None:
     make, options = FORMS[form]
     said, bits = read_by_line(flight, monkeypatch, write("dump", make(recorded)))
     assert said.splitlines()[-1].endswith(f"dump {options} > {said.split(' > ')[1].strip()}")
@@ -102,7 +104,7 @@ def test_every_form_is_named_and_read(flight, monkeypatch, write, recorded, form
     assert rows_of(bits) == recorded.rows
 
 
-def test_a_memory_that_wrapped(flight, monkeypatch, write, recorded):
+def test_a_memory_that_wrapped(flight: Tool, monkeypatch: pytest.MonkeyPatch, write: Write, recorded: Flight) -> None:
     size, newest = 50_001, 9_137
     data = recorded.bits[-newest:] + recorded.bits[-size:-newest]
     said, bits = read_by_line(flight, monkeypatch, write("dump", data))
@@ -114,7 +116,7 @@ def test_a_memory_that_wrapped(flight, monkeypatch, write, recorded):
     assert len(rows_of(data)) < len(wanted)
 
 
-def test_a_recording_that_was_cut_is_no_memory_that_wrapped(flight, write, recorded):
+def test_a_recording_that_was_cut_is_no_memory_that_wrapped(flight: Tool, write: Write, recorded: Flight) -> None:
     """The frame at its end has all its sync words, and lacks some words of its last subframe."""
     for end in (1152 + 2, 1152 + 100, 1500):
         data = recorded.bits[700 : 40 * 1536 + end]
@@ -123,7 +125,7 @@ def test_a_recording_that_was_cut_is_no_memory_that_wrapped(flight, write, recor
         assert "frames    39, which are 156 seconds, without a gap" in said
 
 
-def test_refused_units_are_advised_by_a_look(flight, write, recorded):
+def test_refused_units_are_advised_by_a_look(flight: Tool, write: Write, recorded: Flight) -> None:
     for head, order in ((128, "little"), (77, "big")):
         path = write("dump", units(recorded, "<" if order == "little" else ">", head))
         wanted = f"flight pack {path} --skip {head} --order {order} --align right > {path}.bits\n"
@@ -133,13 +135,13 @@ def test_refused_units_are_advised_by_a_look(flight, write, recorded):
         assert answer.error.endswith(f"; by its sync words it is read by: {wanted}")
 
 
-def test_a_line_that_goes_on_to_the_listing(flight, write, recorded):
+def test_a_line_that_goes_on_to_the_listing(flight: Tool, write: Write, recorded: Flight) -> None:
     path = write("a dump", recorded.bits)
     said = flight("look", path, "--table", "t.csv").out.decode()
     assert said.splitlines()[-1] == f"flight pack '{path}' --packed low-first | fdr listbits t.csv > '{path}.listing'"
 
 
-def test_where_frames_stop(flight, write, recorded):
+def test_where_frames_stop(flight: Tool, write: Write, recorded: Flight) -> None:
     data = recorded.bits[:15360] + bytes(100) + recorded.bits[15360:30000] + recorded.bits[30001:]
     said = flight("look", write("dump", data)).out.decode()
     at = 8 * 15360
@@ -148,7 +150,7 @@ def test_where_frames_stop(flight, write, recorded):
     assert f"sure      {4 * (FRAMES - 1)} of {4 * FRAMES + 1} sync words" in said
 
 
-def test_a_narrow_counter_and_none(flight, write, recorded):
+def test_a_narrow_counter_and_none(flight: Tool, write: Write, recorded: Flight) -> None:
     narrow, none = list(recorded.slots), list(recorded.slots)
     for frame in range(FRAMES):
         narrow[frame * 1024 + 4] = frame % 16 << 3
@@ -162,14 +164,14 @@ def test_a_narrow_counter_and_none(flight, write, recorded):
     assert "flight recount BITS --words 256 --frames --into 4,256" in said
 
 
-def test_one_frame(flight, write, recorded):
+def test_one_frame(flight: Tool, write: Write, recorded: Flight) -> None:
     said = flight("look", write("dump", bytes(1000) + recorded.bits[:1536])).out.decode()
     assert "frames    1, which are 4 seconds, without a gap" in said
     assert "too few frames" in said
 
 
 @pytest.mark.parametrize("seed", range(10))
-def test_nothing_found(flight, write, seed):
+def test_nothing_found(flight: Tool, write: Write, seed: int) -> None:
     _, data = drawn_dumps.other_file(seed)
     answer = flight("look", write("file", data))
     assert (answer.status, answer.error) == (2, "")
@@ -177,18 +179,18 @@ def test_nothing_found(flight, write, seed):
 
 
 @pytest.mark.parametrize("data", [b"", b"\x47", b"\x47\x02"])
-def test_nothing_in_hardly_any_bytes(flight, write, data):
+def test_nothing_in_hardly_any_bytes(flight: Tool, write: Write, data: bytes) -> None:
     assert flight("look", write("file", data)).status == 2
 
 
 @pytest.mark.parametrize("seed", range(8))
-def test_drawn_dumps(write, tmp_path, seed):
+def test_drawn_dumps(write: Write, tmp_path: pathlib.Path, seed: int) -> None:
     with drawn_dumps.programs() as environment:
         drawn = drawn_dumps.drawn_dump(seed)
         assert drawn_dumps.wrong_with(drawn, tmp_path, environment)[0] == ""
 
 
-def test_a_pipe_and_a_far_beginning(piped, recorded):
+def test_a_pipe_and_a_far_beginning(piped: Tool, recorded: Flight) -> None:
     data = bytes(5 << 20) + recorded.bits
     ran = piped("look", "-", given=data)
     assert ran.status == 0

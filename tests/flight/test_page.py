@@ -3,9 +3,11 @@
 import json
 import pathlib
 import re
+from typing import Any, Callable, Iterator
 
 import pytest
 
+from conftest import Tool, Write
 import browser
 import encoder
 from flight_recorder import page
@@ -17,9 +19,11 @@ PLACE = "(box => [box.left, box.top, box.width, box.height])(document.querySelec
 HAS_LIBRARY = (page.LIBRARY / "dygraph.min.js").is_file()
 pytestmark = pytest.mark.skipif(not HAS_LIBRARY, reason="libjs-dygraphs isn't installed")
 
+Opened = Callable[..., browser.Browser]
+
 
 @pytest.fixture(scope="module")
-def chromium():
+def chromium() -> Iterator[browser.Browser]:
     """A browser for all tests."""
     if browser.PROGRAM is None:
         pytest.skip("chromium isn't installed")
@@ -28,10 +32,10 @@ def chromium():
 
 
 @pytest.fixture
-def opened(flight, write, tmp_path, chromium):
+def opened(flight: Tool, write: Write, tmp_path: pathlib.Path, chromium: browser.Browser) -> Opened:
     """Makes a page, and opens it."""
 
-    def run(listing, *words):
+    def run(listing: str, *words: object) -> browser.Browser:
         path = tmp_path / "flight.html"
         assert flight("plot", write("l", listing), "-o", path, *words) == (0, b"", "")
         chromium.events.clear()
@@ -42,7 +46,7 @@ def opened(flight, write, tmp_path, chromium):
     return run
 
 
-def test_the_file_is_whole(flight, write, tmp_path):
+def test_the_file_is_whole(flight: Tool, write: Write, tmp_path: pathlib.Path) -> None:
     path = tmp_path / "flight.html"
     assert flight("plot", write("l", LISTING), "-o", path, "--words", 64, "--title", "A <b> & c").status == 0
     text = path.read_text()
@@ -51,12 +55,12 @@ def test_the_file_is_whole(flight, write, tmp_path):
         r"""(src|href)\s*=|@import|url\(|sourceMappingURL""", re.sub(r"(?s)<script>.*?</script>", "", text)
     )
     assert "sourceMappingURL" not in text
-    data = json.loads(re.search(r'(?s)<script type="application/json" id="flight">(.*?)</script>', text).group(1))
+    data = json.loads(re.findall(r'(?s)<script type="application/json" id="flight">(.*?)</script>', text)[0])
     assert [curve["name"] for curve in data["curves"]] == ["ALT", "GEAR"]
     assert [(span["name"], span["known"]) for span in data["spans"]] == [("gap 4 s", True)]
 
 
-def test_points_are_drawn(opened):
+def test_points_are_drawn(opened: Opened) -> None:
     shown = opened(LISTING, "--words", 64)
     assert shown.value("page.curves.map(curve => curve.time.length)") == [59, 50]
     assert shown.value("page.drawn()") == 109
@@ -69,7 +73,7 @@ def test_points_are_drawn(opened):
     assert shown.faults() == []
 
 
-def test_a_drag_zooms_all_charts(opened):
+def test_a_drag_zooms_all_charts(opened: Opened) -> None:
     shown = opened(LISTING, "--words", 64)
     left, top, width, _ = shown.value(PLACE)
     area = shown.value("[...page.charts.values()][0].graph.getArea()")
@@ -86,7 +90,7 @@ def test_a_drag_zooms_all_charts(opened):
     assert shown.value("page.window") == [0, 240]
 
 
-def test_values_under_the_pointer(opened):
+def test_values_under_the_pointer(opened: Opened) -> None:
     shown = opened(LISTING, "--words", 64)
     left, top, _, _ = shown.value(PLACE)
     area = shown.value("[...page.charts.values()][0].graph.getArea()")
@@ -99,7 +103,7 @@ def test_values_under_the_pointer(opened):
     assert shown.value("page.curves[0].at(202 * 1024)") == "\u2013"  # within the gap
 
 
-def test_parameters_are_put_on_and_off(opened):
+def test_parameters_are_put_on_and_off(opened: Opened) -> None:
     shown = opened(LISTING, "--words", 64)
     shown.value("page.boxes.get('ALT').click()")
     assert shown.value("[...page.charts.keys()]") == ["GEAR"]
@@ -108,7 +112,7 @@ def test_parameters_are_put_on_and_off(opened):
     assert shown.value("[...document.querySelectorAll('.chart .name')].map(one => one.textContent)") == ["ALT", "GEAR"]
 
 
-def test_many_parameters_are_off_at_first(opened):
+def test_many_parameters_are_off_at_first(opened: Opened) -> None:
     shown = opened("".join(f"row,0,1,{at + 2},N{at},1\n" for at in range(60)), "--words", 64)
     assert shown.value("[page.curves.length, page.charts.size]") == [60, 12]
     shown.value(
@@ -117,7 +121,7 @@ def test_many_parameters_are_off_at_first(opened):
     assert shown.value("[...document.querySelectorAll('nav label')].filter(one => !one.hidden).length") == 11
 
 
-def test_a_day_is_drawn_by_few_points(opened):
+def test_a_day_is_drawn_by_few_points(opened: Opened) -> None:
     """Eight samples a second for a day, as VRTG: all that is kept is there, and the chart draws few of them, zoomed too."""
     rows = "".join(
         f"row,{at // 4 % 4096},{at % 4 + 1},{word},VRTG,{(at * 7 + word) % 997}\n"
@@ -135,7 +139,7 @@ def test_a_day_is_drawn_by_few_points(opened):
     ) == [0, 996]
 
 
-def test_a_page_of_600_parameters_has_what_is_looked_at_in_full(opened):
+def test_a_page_of_600_parameters_has_what_is_looked_at_in_full(opened: Opened) -> None:
     """600 parameters, each sampled 1,000 times: the page reads those that it shows, and a parameter in full once it is put on."""
     names = [f"P{at}" for at in range(600)]
     rows = "".join(
@@ -155,7 +159,7 @@ def test_a_page_of_600_parameters_has_what_is_looked_at_in_full(opened):
     assert shown.faults() == []
 
 
-def test_curves_together(opened):
+def test_curves_together(opened: Opened) -> None:
     text = "".join(f"row,{at},1,10,A,{at}\nrow,{at},2,10,B,{at}.5\nrow,{at},1,11,C,1\n" for at in range(10))
     text += "gap,30720,3072\n" + "".join(f"row,{at},1,10,A,{at}\n" for at in range(11, 14))
     shown = opened(text, "--words", 64, "--together", "A,B")
@@ -163,21 +167,22 @@ def test_curves_together(opened):
     rows = shown.value("page.rowsOf(page.groups[0]).map(row => row.map(one => Number.isNaN(one) ? 'break' : one))")
     first = [[4 * at + 9 / 64, at, None] for at in range(10)] + [[4 * at + 1 + 9 / 64, None, at + 0.5] for at in range(10)]
     last = [[4 * at + 9 / 64, at, None] for at in range(11, 14)]
-    assert rows == sorted([*first, [36 + 9 / 64 + 0.25 / 1024, "break", None], *last], key=lambda row: row[0])
+    wanted: list[list[Any]] = [*first, [36 + 9 / 64 + 0.25 / 1024, "break", None], *last]
+    assert rows == sorted(wanted, key=lambda row: float(row[0]))
     assert shown.value("page.drawn()") == 10 + 10 + 10 + 3
     shown.value("page.point(6)")
     assert shown.value("document.querySelector('.name').textContent") == "A  1  B  1.5"
     assert shown.faults() == []
 
 
-def test_discretes_are_thin_bands(opened):
+def test_discretes_are_thin_bands(opened: Opened) -> None:
     shown = opened(LISTING, "--words", 64)
     heights = shown.value("[...document.querySelectorAll('.plot')].map(one => one.getBoundingClientRect().height)")
     assert heights[1] < heights[0] / 3
     assert shown.value("page.groups.map(group => group.isBand)") == [False, True]
 
 
-def test_events_are_numbered_with_a_list(opened, write):
+def test_events_are_numbered_with_a_list(opened: Opened, write: Write) -> None:
     exceedances = write("e", "exceed,HI,30,1,10,3,3200\nexceed,LO,55,1,10,1,55.5\n")
     shown = opened(LISTING, "--words", 64, "--exceed", exceedances)
     assert shown.value("[...document.querySelectorAll('#events li')].map(one => [one.value, one.textContent])") == [
@@ -190,7 +195,7 @@ def test_events_are_numbered_with_a_list(opened, write):
     assert shown.faults() == []
 
 
-def test_no_extreme_of_a_long_flight_is_lost(opened):
+def test_no_extreme_of_a_long_flight_is_lost(opened: Opened) -> None:
     values = {33_333: 500, 55_555: -500}
     shown = opened(
         "".join(f"row,{at % 4096},1,10,ALT,{values.get(at, at % 2)}\n" for at in range(90_000)), "--words", 64
@@ -200,7 +205,7 @@ def test_no_extreme_of_a_long_flight_is_lost(opened):
     assert shown.value(f"{rows}.filter(row => Math.abs(row[1]) === 500).map(row => row[1])") == [500, -500]
 
 
-def test_the_example_s_page(opened, hour, tmp_path):
+def test_the_example_s_page(opened: Opened, hour: str, tmp_path: pathlib.Path) -> None:
     shown = opened(hour, "--table", encoder.TOP / "examples" / "ordinary.csv", "--title", "A flight of an hour")
     assert shown.value("page.charts.size") == 7
     assert shown.value("flight.recordings.length") == 2

@@ -1,11 +1,14 @@
 """`flight plot` as a picture: curves that lose no extreme, shaded spans, marks of exceedances, and the files."""
 
 import io
+import pathlib
 import re
+from typing import Any, Mapping, Sequence
 
 import numpy as np
 import pytest
 
+from conftest import Tool, Write
 from encoder import TOP
 from flight_recorder import clock, curves, listing, naming, picture
 from flight_recorder.faults import Fault
@@ -18,7 +21,14 @@ SPREAD = "session,1,0\n" + "".join(f"row,{at},1,10,ALT,{at * at}\nrow,{at},2,5,G
 )  # fmt: skip
 
 
-def flight_of(text, total=400_000, exceedances=(), only=None, words=64, circles=None):
+def flight_of(
+    text: str,
+    total: int = 400_000,
+    exceedances: Sequence[listing.Exceedance] = (),
+    only: set[str] | None = None,
+    words: int = 64,
+    circles: Mapping[str, float] | None = None,
+) -> curves.Flight:
     names, times = listing.Names(), clock.Clock(clock.shape_of(None, words))
     collector = curves.Collector(names, only, total, list(exceedances), circles)
     for piece in listing.read_listing(Input(io.BytesIO(text.encode()), None), names):
@@ -26,11 +36,13 @@ def flight_of(text, total=400_000, exceedances=(), only=None, words=64, circles=
     return collector.end(times.end())
 
 
-def rule(name, counter, subframe=1, word=10, length=2, peak="9"):
+def rule(
+    name: str, counter: int, subframe: int = 1, word: int = 10, length: int = 2, peak: str = "9"
+) -> listing.Exceedance:
     return listing.Exceedance(name, counter, subframe, word, length, peak)
 
 
-def test_points_are_where_they_were_sampled():
+def test_points_are_where_they_were_sampled() -> None:
     flight = flight_of("row,0,1,10,ALT,5\nrow,1,1,10,ALT,7\n")
     points = flight.curves["ALT"]
     assert (points.time / clock.SECOND).tolist() == [9 / 64, 4 + 9 / 64]
@@ -38,7 +50,7 @@ def test_points_are_where_they_were_sampled():
     assert flight.end == 8 * clock.SECOND
 
 
-def test_thinning_keeps_extremes_and_ends():
+def test_thinning_keeps_extremes_and_ends() -> None:
     chance = np.random.default_rng(1)
     points = curves.Points(
         np.sort(chance.integers(0, 10**6, 50_000)), chance.normal(size=50_000), np.zeros(50_000, dtype=np.int64)
@@ -54,7 +66,7 @@ def test_thinning_keeps_extremes_and_ends():
 
 
 @pytest.mark.parametrize("rows", [20_000, 65_000, 70_001, 90_000])
-def test_as_many_points_are_kept_at_the_end_as_elsewhere(rows):
+def test_as_many_points_are_kept_at_the_end_as_elsewhere(rows: int) -> None:
     flight = flight_of("".join(f"row,{at % 4096},1,10,ALT,{at * at % 997}\n" for at in range(rows)), total=4000)
     time = flight.curves["ALT"].time
     parts = np.histogram(time, bins=14, range=(0, rows * clock.FRAME))[0]
@@ -62,7 +74,7 @@ def test_as_many_points_are_kept_at_the_end_as_elsewhere(rows):
     assert parts.max() <= 1.1 * parts.min()
 
 
-def test_a_spike_in_a_long_flight_is_kept():
+def test_a_spike_in_a_long_flight_is_kept() -> None:
     rows = "".join(f"row,{at % 4096},1,10,ALT,{-77 if at == 44_444 else at % 3}\n" for at in range(90_000))
     flight = flight_of(rows, total=1000)
     points = flight.curves["ALT"]
@@ -81,11 +93,11 @@ def test_a_spike_in_a_long_flight_is_kept():
         ([100, 9000], 300, 256),
     ],
 )
-def test_shares(counts, total, most):
+def test_shares(counts: list[int], total: int, most: int) -> None:
     assert curves.share(counts, total) == most
 
 
-def test_the_figure():
+def test_the_figure() -> None:
     flight = flight_of(SPREAD)
     figure = picture.figure_of(flight, "A flight")
     assert [axes.get_ylabel() for axes in figure.axes] == ["ALT", "GEAR"]
@@ -95,7 +107,7 @@ def test_the_figure():
     assert figure._suptitle.get_text() == "A flight"
 
 
-def test_discretes_are_thin_bands():
+def test_discretes_are_thin_bands() -> None:
     figure = picture.figure_of(flight_of(SPREAD))
     heights = [axes.get_position().height * figure.get_figheight() for axes in figure.axes]
     assert heights[1] < heights[0] / 3
@@ -106,7 +118,7 @@ def test_discretes_are_thin_bands():
     assert [(one.vertices[:, 0].min(), one.vertices[:, 0].max()) for one in band["GEAR"].get_paths()] == [(begins[0], begins[19])]
 
 
-def test_curves_together():
+def test_curves_together() -> None:
     text = "".join(f"row,{at},1,10,A,{at}\nrow,{at},1,11,B,{2 * at}\nrow,{at},1,12,C,7\n" for at in range(20))
     flight = flight_of(text)
     flight.together = [["A", "C"]]
@@ -118,13 +130,13 @@ def test_curves_together():
     assert [one.get_text() for one in figure.axes[0].get_legend().get_texts()] == ["A", "C"]
 
 
-def angles(values, **how):
+def angles(values: list[float], **how: Any) -> list[float]:
     text = "".join(f"row,{at},1,10,HDG,{value}\n" for at, value in enumerate(values))
     points = flight_of(text, **how).curves["HDG"]
     return [values[at] for at in np.flatnonzero(np.diff(points.stretch, prepend=points.stretch[0])).tolist()]
 
 
-def test_angles_are_broken_at_the_wrap():
+def test_angles_are_broken_at_the_wrap() -> None:
     assert angles([340, 350, 359, 4, 20, 358, 340, 20]) == [4, 358, 20]
     assert angles([-170, -179, 178, 170, -175]) == [178, -175]
     assert angles([0, 350, 370, 5]) == []  # more than a circle
@@ -132,7 +144,7 @@ def test_angles_are_broken_at_the_wrap():
     assert angles([100, 4000, 90], circles={"HDG": 4096}) == [4000, 90]
 
 
-def test_a_second_recording_is_put_after_the_first_with_room_before_it():
+def test_a_second_recording_is_put_after_the_first_with_room_before_it() -> None:
     flight = flight_of(SPREAD)
     first, second = flight.recordings
     room = second.put - first.put_end
@@ -141,7 +153,7 @@ def test_a_second_recording_is_put_after_the_first_with_room_before_it():
     assert flight.curves["ALT"].time[-10:].tolist() == [second.put + at * clock.FRAME + 9 * 16 for at in range(10)]
 
 
-def test_shaded_spans():
+def test_shaded_spans() -> None:
     flight = flight_of(SPREAD)
     axes = picture.figure_of(flight).axes[0]
     room = round((45 * 4 + 10 * 4) / curves.ROOMS)
@@ -160,7 +172,7 @@ def test_shaded_spans():
     assert numbers == ["1", "2", "3", "4"]
 
 
-def test_time_labels_are_each_recording_s_own():
+def test_time_labels_are_each_recording_s_own() -> None:
     figure = picture.figure_of(flight_of("".join(f"row,{at},1,10,ALT,1\n" for at in [*range(300), *range(200)])))
     axes = figure.axes[-1]
     labels = [axes.xaxis.get_major_formatter()(place) for place in axes.xaxis.get_major_locator()()]
@@ -168,7 +180,7 @@ def test_time_labels_are_each_recording_s_own():
     assert "of each recording" in axes.get_xlabel()
 
 
-def test_exceedances_are_marked():
+def test_exceedances_are_marked() -> None:
     flight = flight_of(SPREAD, exceedances=[rule("HI", 12), rule("G", 3, 2, 5), rule("TWICE", 5)])
     found = [(one.exceedance.name, len(one.times), one.parameters) for one in flight.exceedings]
     assert found == [("HI", 1, ("ALT",)), ("G", 1, ("GEAR",)), ("TWICE", 2, ("ALT",))]
@@ -187,7 +199,7 @@ def test_exceedances_are_marked():
     assert numbers[texts["HI of ALT: 2 samples, peak 9"]] == 12 * 4 + 9 / 64
 
 
-def test_events_are_listed_below():
+def test_events_are_listed_below() -> None:
     lines = [text.get_text().split("  ") for text in picture.figure_of(flight_of(SPREAD)).texts]
     assert [[part.strip() for part in line if part.strip()] for line in lines] == [
         ["1", "recording 1, 0:00:00", "session 1 from block 0"],
@@ -197,7 +209,7 @@ def test_events_are_listed_below():
     ]  # fmt: skip
 
 
-def test_numbers_that_are_close_are_above_one_another():
+def test_numbers_that_are_close_are_above_one_another() -> None:
     text = "".join(f"row,{at},1,10,ALT,{at}\n" for at in range(1000))
     exceedances = [rule(f"R{at}", at, length=1, peak=str(at)) for at in range(100, 112, 2)]
     figure = picture.figure_of(flight_of(text, exceedances=exceedances))
@@ -205,31 +217,31 @@ def test_numbers_that_are_close_are_above_one_another():
     assert len(heights) == 6 and all(one != other for one, other in zip(heights, heights[1:]))
 
 
-def own_time(flight, tick):
+def own_time(flight: curves.Flight, tick: int) -> tuple[int, int]:
     """The recording that a place of the axis is in, and its own second there."""
     number = max(at for at, recording in enumerate(flight.recordings) if recording.put <= tick)
     found = flight.recordings[number]
     return number, (tick - found.put + found.first) // clock.SECOND
 
 
-def begins(*exceedances):
+def begins(*exceedances: listing.Exceedance) -> list[list[tuple[int, int]]]:
     """The recordings and the own seconds at which exceedances of SPREAD began."""
     flight = flight_of(SPREAD, exceedances=exceedances)
     return [[own_time(flight, time) for time in one.times] for one in flight.exceedings]
 
 
-def test_the_peak_tells_where_an_exceedance_was():
+def test_the_peak_tells_where_an_exceedance_was() -> None:
     assert begins(rule("A", 5, peak="36")) == [[(0, 20)]]
     assert begins(rule("A", 5, peak="5")) == [[(1, 20)]]
     assert begins(rule("A", 5, peak="1000")) == [[(0, 20), (1, 20)]]
 
 
-def test_a_stretch_has_all_samples_of_an_exceedance():
+def test_a_stretch_has_all_samples_of_an_exceedance() -> None:
     assert begins(rule("A", 8, peak="1000", length=12)) == [[(0, 32)]]
     assert begins(rule("A", 8, peak="1000", length=13)) == [[]]
 
 
-def test_the_order_of_a_rule_s_exceedances_decides():
+def test_the_order_of_a_rule_s_exceedances_decides() -> None:
     assert begins(rule("A", 8, peak="99"), rule("A", 5, peak="99")) == [[(0, 32)], [(1, 20)]]
     assert begins(rule("A", 8, peak="99"), rule("B", 5, peak="99")) == [[(0, 32)], [(1, 20)]]
     assert begins(rule("A", 5, peak="99"), rule("B", 8, peak="99")) == [[(0, 20), (1, 20)], [(0, 32), (1, 32)]]
@@ -239,7 +251,7 @@ def test_the_order_of_a_rule_s_exceedances_decides():
     ]  # a difference of 9, it seems
 
 
-def test_samples_of_an_exceedance_over_pieces():
+def test_samples_of_an_exceedance_over_pieces() -> None:
     rows = "".join(f"row,{at % 4096},1,10,ALT,{at}\n" for at in range(60_000))
     one = rule("A", 100, length=50_000, peak=str(4096 + 100 + 49_999))
     assert [one.times for one in flight_of(rows, exceedances=[one]).exceedings] == [
@@ -247,19 +259,19 @@ def test_samples_of_an_exceedance_over_pieces():
     ]
 
 
-def test_a_lone_sample_is_a_dot():
+def test_a_lone_sample_is_a_dot() -> None:
     axes = picture.figure_of(flight_of("row,0,1,10,ALT,5\ngap,3072,3072\nrow,2,1,10,ALT,5\nrow,3,1,10,ALT,5\n")).axes[0]
     assert [line.get_xdata().tolist() for line in axes.get_lines() if line.get_marker() == "."] == [[9 / 64]]
 
 
-def test_many_gaps_are_seen_as_one():
+def test_many_gaps_are_seen_as_one() -> None:
     text = "".join(f"row,{at % 4096},1,10,ALT,1\ngap,{at},5\n" for at in range(5000))
     shades = naming.seen(flight_of(text).spans, 5000 * clock.FRAME / 600)
     assert len(shades) < 10
     assert shades[0].name == "gaps"
 
 
-def test_very_many_recordings_take_no_time():
+def test_very_many_recordings_take_no_time() -> None:
     flight = flight_of("row,0,1,10,ALT,5\n" * 30_000)
     assert len(flight.recordings) == 30_000
     assert flight.recordings[-1].put_end <= 1.2 * 30_000 * clock.FRAME
@@ -267,12 +279,12 @@ def test_very_many_recordings_take_no_time():
     assert len(axes.xaxis.get_major_locator()()) < 20
 
 
-def test_nothing_to_draw():
+def test_nothing_to_draw() -> None:
     assert len(picture.figure_of(flight_of("")).axes) == 1
     assert len(picture.figure_of(flight_of("gap,0,100\n")).axes) == 1
 
 
-def test_too_many_curves():
+def test_too_many_curves() -> None:
     text = "".join(f"row,0,1,{at + 2},N{at},1\n" for at in range(101))
     with pytest.raises(
         Fault, match="101 parameters are too many for a picture, which has up to 100: choose with --only"
@@ -284,7 +296,7 @@ HEADS = {".png": b"\x89PNG", ".svg": b"<?xml", ".pdf": b"%PDF"}
 
 
 @pytest.mark.parametrize("ending", HEADS)
-def test_files(flight, write, tmp_path, ending):
+def test_files(flight: Tool, write: Write, tmp_path: pathlib.Path, ending: str) -> None:
     path = tmp_path / f"flight{ending}"
     assert flight("plot", write("l", SPREAD), "--words", 64, "-o", path) == (0, b"", "")
     first = path.read_bytes()
@@ -303,20 +315,20 @@ def test_files(flight, write, tmp_path, ending):
         (("-o", "{}/flight.png", "--exceed", "{}/l"), "exceedances line 1: 'session,1,0' is no line of an exceedance"),
     ],
 )
-def test_refused(flight, write, tmp_path, words, fault):
+def test_refused(flight: Tool, write: Write, tmp_path: pathlib.Path, words: tuple[str, ...], fault: str) -> None:
     answer = flight("plot", write("l", SPREAD), "--words", 64, *(word.format(tmp_path) for word in words))
     assert (answer.status, answer.out) == (1, b"")
     assert re.fullmatch(f"flight: {fault}\n".replace(r"\{}", str(tmp_path)), answer.error)
     assert [one.name for one in tmp_path.iterdir()] == ["l"]
 
 
-def test_a_bad_listing_leaves_the_old_picture(flight, write, tmp_path):
+def test_a_bad_listing_leaves_the_old_picture(flight: Tool, write: Write, tmp_path: pathlib.Path) -> None:
     path = write("flight.png", "old")
     assert flight("plot", write("l", SPREAD + "row\n"), "--words", 64, "-o", path).status == 1
     assert path.read_text() == "old"
 
 
-def test_an_exceedance_that_is_not_there_is_told(flight, write, tmp_path):
+def test_an_exceedance_that_is_not_there_is_told(flight: Tool, write: Write, tmp_path: pathlib.Path) -> None:
     answer = flight(
         "plot",
         write("l", SPREAD),
@@ -330,7 +342,7 @@ def test_an_exceedance_that_is_not_there_is_told(flight, write, tmp_path):
     assert answer == (0, b"", "flight: exceedance HI isn't in the listing: counter 99, subframe 1, word 10\n")
 
 
-def test_the_example(flight, write, hour, tmp_path):
+def test_the_example(flight: Tool, write: Write, hour: str, tmp_path: pathlib.Path) -> None:
     path = write("l", hour)
     assert flight("plot", path, "--table", TOP / "examples" / "ordinary.csv", "-o", tmp_path / "f.png") == (0, b"", "")
     drawn = flight_of(hour, words=256)

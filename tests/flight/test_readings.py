@@ -6,14 +6,14 @@ import pathlib
 import re
 import subprocess
 import sys
-from typing import Any
+from typing import Any, Callable
 
 import numpy as np
 import pandas
 import pytest
 
 import encoder
-from conftest import ORDINARY, T1, TOP
+from conftest import ORDINARY, T1, TOP, Tool, Write
 
 sys.path.insert(0, str(TOP / "tests"))
 
@@ -43,12 +43,12 @@ def table_of(out: bytes) -> pandas.DataFrame:
         (row(0) + "row,1,1,10,IAS,5\n", "listing line 2: the table has no parameter IAS"),
     ],
 )
-def test_a_row_that_is_not_in_the_table(flight, write, text, fault):
+def test_a_row_that_is_not_in_the_table(flight: Tool, write: Write, text: str, fault: str) -> None:
     for words in ((), ("--wide",), ("--every", "1s")):
         assert flight("table", write("l", text), "--table", T1, *words) == (1, b"", f"flight: {fault}\n")
 
 
-def test_a_place_of_another_cycle(flight, write):
+def test_a_place_of_another_cycle(flight: Tool, write: Write) -> None:
     path = write("t.csv", SPREAD)
     assert flight("table", write("l", row(1) + row(5)), "--table", path).status == 0
     assert flight("table", write("l", row(1) + row(2)), "--table", path).error == (
@@ -56,13 +56,13 @@ def test_a_place_of_another_cycle(flight, write):
     )
 
 
-def test_the_earliest_part_has_the_place(flight, write):
+def test_the_earliest_part_has_the_place(flight: Tool, write: Write) -> None:
     table = write("t.csv", "F,64,2,1\nP,POS,1,310,,9,20,U,1,1,0,0,1\nL,POS,1,1,20,0,1,12,0,16\nL,POS,2,1,18,0,1,8,0,16\n")
     assert flight("table", write("l", "row,16,1,18,POS,5\n"), "--table", table).status == 0
     assert flight("table", write("l", "row,16,1,20,POS,5\n"), "--table", table).status == 1
 
 
-def test_a_word_above_those_of_words(flight, write):
+def test_a_word_above_those_of_words(flight: Tool, write: Write) -> None:
     answer = flight("table", write("l", row(0) + row(1, 65)), "--words", 64)
     assert answer == (1, b"", "flight: listing line 2: word 65, and a subframe has 64 by --words\n")
 
@@ -71,7 +71,7 @@ TWO_FRAMES = row(0) + row(1) + "gap,6144,1536\n"
 
 
 @pytest.mark.parametrize("shape", [("--words", 128), ("--words", 256), ("--table", "wider")])
-def test_gaps_that_do_not_fit_the_frames(flight, write, shape):
+def test_gaps_that_do_not_fit_the_frames(flight: Tool, write: Write, shape: str) -> None:
     """All rows are at a place of both tables; the gap behind two frames says which it is."""
     wider = write("wider.csv", WIDER)
     words = [wider if one == "wider" else one for one in shape]
@@ -83,7 +83,7 @@ def test_gaps_that_do_not_fit_the_frames(flight, write, shape):
     assert flight("plot", write("l", TWO_FRAMES), *words, "-o", write("f.svg", "")).error == answer.error
 
 
-def test_fewer_words_than_the_frames_have(flight, write):
+def test_fewer_words_than_the_frames_have(flight: Tool, write: Write) -> None:
     text = "".join(map(row, range(20))) + "gap,122880,8\n"  # 20 frames of 128 words
     assert flight("table", write("l", text), "--words", 64).error.endswith("subframes of 128 words fit\n")
     assert flight("table", write("l", text), "--words", 128).status == 0
@@ -98,19 +98,19 @@ def test_fewer_words_than_the_frames_have(flight, write):
         row(5) + row(5) + row(900) + row(7) + "gap,12288,8\n",
     ],
 )
-def test_gaps_that_fit(flight, write, text):
+def test_gaps_that_fit(flight: Tool, write: Write, text: str) -> None:
     assert flight("table", write("l", text), "--table", T1).status == 0
     assert flight("table", write("l", text), "--words", 64).status == 0
 
 
-def test_frames_without_rows_beside_gaps(flight, write):
+def test_frames_without_rows_beside_gaps(flight: Tool, write: Write) -> None:
     text = "gap,0,5\n" + "".join(map(row, range(1, 41, 4))) + f"gap,{5 + 41 * 3072},7\n"  # frames 0 to 40
     assert flight("table", write("l", text), "--table", write("t.csv", SPREAD)).status == 0
     assert flight("table", write("l", text), "--words", 64).status == 0
     assert flight("table", write("l", text), "--words", 128).status == 1
 
 
-def test_two_listings_in_one(flight, write):
+def test_two_listings_in_one(flight: Tool, write: Write) -> None:
     answer = flight("table", write("l", (row(0) + "gap,3072,8\n") * 2), "--table", T1)
     assert answer.error == "flight: listing line 4: the gap at bit 3072 is before bit 3080: several listings in one?\n"
 
@@ -118,7 +118,7 @@ def test_two_listings_in_one(flight, write):
 # --- Lines of damaged images, and of later versions
 
 
-def test_a_salvaged_image(flight, write):
+def test_a_salvaged_image(flight: Tool, write: Write) -> None:
     """The damaged image of the examples, by the second reader."""
     image = (TOP / "examples" / "damaged.img").read_bytes()
     listing = reader.salvage(T1.read_bytes(), image).output
@@ -134,7 +134,7 @@ def test_a_salvaged_image(flight, write):
     assert table["recording"].nunique() == len(runs)
 
 
-def test_lines_of_later_versions_are_passed_over(flight, write):
+def test_lines_of_later_versions_are_passed_over(flight: Tool, write: Write) -> None:
     text = row(0) + "later,1,2\n" + row(1) + "later,3,4\n"
     answer = flight("table", write("l", text), "--table", T1)
     assert (answer.status, answer.out.count(b"ALT")) == (0, 2)
@@ -161,7 +161,7 @@ def dump_of(frames: list[int], begin: int) -> str:
 
 
 @pytest.mark.parametrize("standard_input", [False, True])
-def test_a_memory_that_wraps_is_in_the_order_of_the_counter(piped, write, standard_input):
+def test_a_memory_that_wraps_is_in_the_order_of_the_counter(piped: Tool, write: Write, standard_input: bool) -> None:
     text = dump_of(FULL, 3000)
     path = "-" if standard_input else write("l", text)
     answer = piped("table", path, "--table", T1, given=text.encode() if standard_input else b"")
@@ -174,7 +174,7 @@ def test_a_memory_that_wraps_is_in_the_order_of_the_counter(piped, write, standa
     assert wraps == ["the memory wraps here: what follows is older", "the listing begins here: what follows is newer"]
 
 
-def test_a_memory_that_wraps_as_it_was_recorded(flight, write):
+def test_a_memory_that_wraps_as_it_was_recorded(flight: Tool, write: Write) -> None:
     path = write("l", dump_of(FULL, 3000))
     table = table_of(flight("table", path, "--table", T1, "--as-recorded").out)
     counters = table["counter"].dropna().astype(int).tolist()
@@ -184,12 +184,12 @@ def test_a_memory_that_wraps_as_it_was_recorded(flight, write):
     assert wraps["recording"].tolist() == [2]
 
 
-def test_a_memory_that_wraps_is_drawn_in_the_order_of_the_counter(flight, write, tmp_path):
+def test_a_memory_that_wraps_is_drawn_in_the_order_of_the_counter(flight: Tool, write: Write, tmp_path: pathlib.Path) -> None:
     path = write("l", dump_of(FULL[:600], 200))
     for words, recordings in (((), 1), (("--as-recorded",), 2)):
         page = tmp_path / "f.html"
         assert flight("plot", path, "--table", T1, "-o", page, *words) == (0, b"", "")
-        data = json.loads(re.search(r'(?s)id="flight">(.*?)</script>', page.read_text()).group(1))
+        data = json.loads(re.findall(r'(?s)id="flight">(.*?)</script>', page.read_text())[0])
         assert len(data["recordings"]) == recordings
         assert "the memory wraps here" in {span["name"] for span in data["spans"]}
 
@@ -197,10 +197,12 @@ def test_a_memory_that_wraps_is_drawn_in_the_order_of_the_counter(flight, write,
 # --- Parts of a listing, dates
 
 
-def test_windows_of_time(flight, write):
+def test_windows_of_time(flight: Tool, write: Write) -> None:
     path = write("l", "".join(map(row, range(1000, 1100))))
     def times(*words: object) -> list[float]:
-        return table_of(flight("table", path, "--table", T1, *words).out)["time"].tolist()
+        found: list[float] = table_of(flight("table", path, "--table", T1, *words).out)["time"].tolist()
+        return found
+
     assert times("--from", "4040.2s", "--to", "1:07:30") == [4 * at + 9 / 64 for at in range(1011, 1013)]
     assert times("--zero", "--to", 8) == [9 / 64, 4 + 9 / 64]
     begin = "2026-05-04T10:00:00Z"
@@ -208,7 +210,7 @@ def test_windows_of_time(flight, write):
     assert times("--recording", 2) == []
 
 
-def test_dates(flight, write):
+def test_dates(flight: Tool, write: Write) -> None:
     path = write("l", row(0) + row(1) + row(0))
     out = flight("table", path, "--table", T1, "--start", "2026-05-04T12:00:00+02:00", "--start", "2=2027-01-01T00:00:00Z").out
     table = pandas.read_csv(io.BytesIO(out), parse_dates=["date"])
@@ -229,11 +231,11 @@ def test_dates(flight, write):
         (("--bits", "--wide"), "--bits and --raw are columns of a long table"),
     ],
 )
-def test_refused_words(flight, write, words, fault):
+def test_refused_words(flight: Tool, write: Write, words: tuple[str, ...], fault: str) -> None:
     assert flight("table", write("l", row(0)), "--table", T1, *words) == (1, b"", f"flight: {fault}\n")
 
 
-def test_a_name_that_a_column_has_anyway(flight, write):
+def test_a_name_that_a_column_has_anyway(flight: Tool, write: Write) -> None:
     answer = flight("table", write("l", "row,0,1,10,time,5\nrow,0,1,11,note,6\n"), "--words", 64, "--wide")
     assert answer.out.decode().splitlines()[0] == "recording,session,time,(time),(note),note"
 
@@ -241,13 +243,19 @@ def test_a_name_that_a_column_has_anyway(flight, write):
 # --- Exceedances
 
 
-def exceedances_of(listing_text: str, *lines: str, flight: Any, write: Any, words: tuple = ()) -> pandas.DataFrame:
+def made_image(answer: reader.Answer) -> bytes:
+    """The image that a command of the second reader left."""
+    assert answer.image is not None
+    return answer.image
+
+
+def exceedances_of(listing_text: str, *lines: str, flight: Any, write: Any, words: tuple[object, ...] = ()) -> pandas.DataFrame:
     answer = flight("table", write("l", listing_text), "--table", T1, "--exceed", write("e", "".join(line + "\n" for line in lines)), *words)
     assert answer.status == 0, answer.error
     return table_of(answer.out)
 
 
-def test_times_of_exceedances(flight, write):
+def test_times_of_exceedances(flight: Tool, write: Write) -> None:
     """The rules and the image of the pages' example, in two sessions: by the second reader."""
     values = [5, 7, 9, 3, 8]
     frames = "".join(f"row,{at},1,10,ALT,{value}\n" for at, value in enumerate(values))
@@ -261,7 +269,7 @@ def test_times_of_exceedances(flight, write):
     assert found["places"].tolist() == [1] * 6
 
 
-def test_an_exceedance_that_may_stand_at_several_places(flight, write):
+def test_an_exceedance_that_may_stand_at_several_places(flight: Tool, write: Write) -> None:
     text = "session,1,0\n" + "".join(map(row, range(9))) + "session,2,30\n" + "".join(map(row, range(9)))
     found = exceedances_of(text, "exceed,HI,3,1,10,2,4", "exceed,NO,100,1,10,2,4", flight=flight, write=write)
     assert found["recording"].tolist()[:2] == [1, 2] and np.isnan(found["recording"].tolist()[2])
@@ -269,15 +277,15 @@ def test_an_exceedance_that_may_stand_at_several_places(flight, write):
     assert found["places"].tolist() == [2, 2, 0]
 
 
-def test_exceedances_of_drawn_recordings_stand_where_the_second_reader_has_them(flight, write):
+def test_exceedances_of_drawn_recordings_stand_where_the_second_reader_has_them(flight: Tool, write: Write) -> None:
     """Every exceedance that stands at one place alone stands at the right one."""
     table = encoder.read_table(T1)
-    header = reader.format_image(T1.read_bytes(), b"", 4096, 64).image
+    header = made_image(reader.format_image(T1.read_bytes(), b"", 4096, 64))
     rules = b"HI,ALT,above,2500,1\nLO,ALT,below,900,2\nSTEP,ALT,change,2800,2\n"
     image = header
     for session in (1, 2, 3):
         words = encoder.generated(table, 60, session)
-        image = reader.record(T1.read_bytes(), image, encoder.trace_of(words, 240_000_000)).image
+        image = made_image(reader.record(T1.read_bytes(), image, encoder.trace_of(words, 240_000_000)))
     listing_bytes = reader.list_image(T1.read_bytes(), image).output
     lines = reader.exceed(T1.read_bytes(), image, rules).output.decode().splitlines()
     session_of_line = _sessions_of(lines, image, rules)
@@ -291,7 +299,7 @@ def test_exceedances_of_drawn_recordings_stand_where_the_second_reader_has_them(
 def _sessions_of(lines: list[str], image: bytes, rules: bytes) -> list[int]:
     """The session of each line of exceedances, by images that end earlier: each session's lines come after those before."""
     ring = reader.ring_for(reader.table_of(T1.read_bytes()), image)
-    sessions = []
+    sessions: list[int] = []
     for session in (1, 2, 3):
         shorter = bytearray(image)
         for block in reader.valid_blocks(image, ring).values():
@@ -306,7 +314,7 @@ def _sessions_of(lines: list[str], image: bytes, rules: bytes) -> list[int]:
 # --- From a row to its bits
 
 
-def test_bits_and_words_of_rows(flight, write):
+def test_bits_and_words_of_rows(flight: Tool, write: Write) -> None:
     table = encoder.read_table(ORDINARY)
     recording = encoder.recording_of(table, encoder.generated(table, 40, 3), 160_000_000)
     bits = recording.bits()
@@ -329,13 +337,14 @@ def test_bits_and_words_of_rows(flight, write):
     assert alt["value"].tolist() == [one - (1 << 18) if one >> 17 else one for one in raw]
 
 
-def test_words_of_sessions(flight, write):
+def test_words_of_sessions(flight: Tool, write: Write) -> None:
     """Bits count from each session's first; the words are found in what fdr recover writes."""
-    header = reader.format_image(T1.read_bytes(), b"", 64, 64).image
+    header = made_image(reader.format_image(T1.read_bytes(), b"", 64, 64))
     table = encoder.read_table(T1)
     image = header
     for seed, end in ((1, 8_000_001), (2, 13_000_000)):
-        image = reader.record(T1.read_bytes(), image, encoder.trace_of(encoder.generated(table, 4, seed)[:30], end)).image
+        trace = encoder.trace_of(encoder.generated(table, 4, seed)[:30], end)
+        image = made_image(reader.record(T1.read_bytes(), image, trace))
     bits, listed = reader.recover(image).output, reader.list_image(T1.read_bytes(), image).output
     answer = flight("table", write("l", listed), "--table", T1, "--raw", write("b", bits))
     assert answer.status == 0, answer.error
@@ -345,7 +354,7 @@ def test_words_of_sessions(flight, write):
     assert found["value"].tolist() == [int(text, 8) for text in found["raw"]]
 
 
-def test_another_dump_is_refused(flight, write):
+def test_another_dump_is_refused(flight: Tool, write: Write) -> None:
     path = write("l", row(0) + row(1))
     for data in (b"", bytes(2000)):
         answer = flight("table", path, "--table", T1, "--raw", write("b", data))
@@ -355,7 +364,7 @@ def test_another_dump_is_refused(flight, write):
     )
 
 
-def test_a_frame_in_octal(flight, write):
+def test_a_frame_in_octal(flight: Tool, write: Write) -> None:
     table = encoder.read_table(ORDINARY)
     recording = encoder.recording_of(table, encoder.generated(table, 20, 3), 80_000_000)
     dump = write("b", b"\xff" * 3 + recording.bits())
@@ -379,7 +388,7 @@ def test_a_frame_in_octal(flight, write):
     )
 
 
-def test_frames_are_those_that_the_second_reader_accepts(flight, write):
+def test_frames_are_those_that_the_second_reader_accepts(flight: Tool, write: Write) -> None:
     import random
 
     from flight_recorder import frames
@@ -404,9 +413,10 @@ def test_frames_are_those_that_the_second_reader_accepts(flight, write):
 def damaged_flight() -> tuple[bytes, list[Any]]:
     """A listing with gaps, sessions, a hole and a frame cut by each end, and its lines by the second reader."""
     table = encoder.read_table(T1)
-    image = reader.format_image(T1.read_bytes(), b"", 4096, 64).image
+    image = made_image(reader.format_image(T1.read_bytes(), b"", 4096, 64))
     for seed, end in ((1, 160_000_000), (2, 83_000_000), (3, 120_000_001)):
-        image = reader.record(T1.read_bytes(), image, encoder.trace_of(encoder.generated(table, 20, seed), end)).image
+        trace = encoder.trace_of(encoder.generated(table, 20, seed), end)
+        image = made_image(reader.record(T1.read_bytes(), image, trace))
     ring = reader.ring_for(reader.table_of(T1.read_bytes()), image)
     broken = bytearray(image)
     for number in (40, 41, 150):
@@ -430,7 +440,7 @@ def wrapped_flight() -> tuple[bytes, list[Any]]:
 
 
 @pytest.mark.parametrize("made", [damaged_flight, wrapped_flight])
-def test_from_a_damaged_listing_to_pandas(flight, write, tmp_path, made):
+def test_from_a_damaged_listing_to_pandas(flight: Tool, write: Write, tmp_path: pathlib.Path, made: Callable[[], tuple[bytes, list[Any]]]) -> None:
     """CSV and HDF5 have the same numbers, which are the second reader's."""
     listed, lines = made()
     path, rows = write("l", listed), [line for line in lines if line[0] == "row"]
@@ -454,7 +464,7 @@ def test_from_a_damaged_listing_to_pandas(flight, write, tmp_path, made):
     assert all(str(kind) != "object" for frame in (from_hdf, notes) for kind in frame.dtypes)
 
 
-def test_recordings_of_a_damaged_listing(flight, write):
+def test_recordings_of_a_damaged_listing(flight: Tool, write: Write) -> None:
     listed, lines = damaged_flight()
     table = table_of(flight("table", write("l", listed), "--table", T1).out)
     recording, wanted, before = 0, [], ""
@@ -469,7 +479,7 @@ def test_recordings_of_a_damaged_listing(flight, write):
     assert len(set(wanted)) > 4
 
 
-def test_where_a_file_of_hdf5_came_from(flight, write, tmp_path):
+def test_where_a_file_of_hdf5_came_from(flight: Tool, write: Write, tmp_path: pathlib.Path) -> None:
     import hashlib
 
     path = write("l", row(0) + row(1))
@@ -482,7 +492,7 @@ def test_where_a_file_of_hdf5_came_from(flight, write, tmp_path):
             assert about["made_by"].startswith("flight ")
 
 
-def test_wide_tables_and_grids_as_hdf5(flight, write, hour, tmp_path):
+def test_wide_tables_and_grids_as_hdf5(flight: Tool, write: Write, hour: str, tmp_path: pathlib.Path) -> None:
     path = write("l", hour)
     for words in (("--wide",), ("--every", "700ms"), ("--every", "700ms", "--from", "100s", "--to", "1:00:00")):
         for out in ("f.csv", "f.h5"):
@@ -494,16 +504,16 @@ def test_wide_tables_and_grids_as_hdf5(flight, write, hour, tmp_path):
             assert np.allclose(found[name], wanted[name], equal_nan=True, atol=6e-7, rtol=0), name
 
 
-def test_a_bad_listing_leaves_no_file(flight, write, tmp_path):
+def test_a_bad_listing_leaves_no_file(flight: Tool, write: Write, tmp_path: pathlib.Path) -> None:
     path = write("l", row(0) * 2 + "row\n")
     for name in ("f.csv", "f.h5"):
         assert flight("table", path, "--table", T1, "-o", tmp_path / name).status == 1
     assert [one.name for one in tmp_path.iterdir()] == ["l"]
 
 
-def test_the_page_s_recipe_for_pandas(flight, write, tmp_path):
+def test_the_page_s_recipe_for_pandas(flight: Tool, write: Write, tmp_path: pathlib.Path) -> None:
     page = (TOP / "docs" / "FLIGHT_TOOLS.md").read_text()
-    recipe = re.search(r"(?s)```python\n(.*?)```", page).group(1)
+    recipe = re.findall(r"(?s)```python\n(.*?)```", page)[0]
     assert len(recipe.strip().splitlines()) == 5
     text = "".join(f"row,{at % 4096},1,10,ALT,{at}\n" for at in range(3000, 8000)) + "gap,15360000,3072\n" + (
         "".join(f"row,{at % 4096},1,10,ALT,{at}\n" for at in range(8001, 36_501)) + "gap,102915072,8\n"
@@ -518,7 +528,7 @@ def test_the_page_s_recipe_for_pandas(flight, write, tmp_path):
 # --- Output
 
 
-def test_output_to_a_file_is_not_held_in_temporary_ones(piped, write, tmp_path):
+def test_output_to_a_file_is_not_held_in_temporary_ones(piped: Tool, write: Write, tmp_path: pathlib.Path) -> None:
     folder = tmp_path / "temporary"
     folder.mkdir()
     path = write("l", "".join(row(at % 4096) for at in range(1_000_000)))

@@ -1,5 +1,6 @@
 """Goes the walk of docs/READOUT.md, line by line, in a folder that is like the top of the repository."""
 
+import pathlib
 import re
 import subprocess
 
@@ -20,7 +21,7 @@ def walk() -> list[tuple[str, str]]:
     return steps
 
 
-def test_the_walk_of_the_page(tmp_path):
+def test_the_walk_of_the_page(tmp_path: pathlib.Path) -> None:
     steps = walk()
     assert len(steps) == 14
     (tmp_path / "examples").symlink_to(TOP / "examples")

@@ -7,7 +7,7 @@ import pytest
 import drawn_dumps
 import encoder
 import reader
-from conftest import ORDINARY
+from conftest import ORDINARY, Tool, Write
 from drawn_dumps import low_first, word
 
 FRAMES = 40
@@ -44,13 +44,13 @@ def rows(bits: bytes) -> list[str]:
 SAID = "flight: 40 frames have a counter in word 256 of subframe 4, which wasn't recorded; 0 of them had something else there\n"
 
 
-def test_without_it_superframe_values_are_those_of_other_frames(recording):
+def test_without_it_superframe_values_are_those_of_other_frames(recording: encoder.Recording) -> None:
     listed = [line for line in rows(bits_of(as_recorded(recording, 0, 4))) if ",FLT," in line]
     assert len(listed) == FRAMES
     assert len([line for line in recording.listing().splitlines() if ",FLT," in line]) == 3
 
 
-def test_a_narrow_counter(flight, write, recording):
+def test_a_narrow_counter(flight: Tool, write: Write, recording: encoder.Recording) -> None:
     bits = bits_of(as_recorded(recording, 0, 4))
     answer = flight("recount", write("bits", bits), "--words", 256, "--from", "1,5,3,4", "--into", "4,256")
     assert (answer.status, answer.error) == (0, SAID)
@@ -65,7 +65,7 @@ def with_counter(recording: encoder.Recording, slots: list[int]) -> list[int]:
     return made
 
 
-def test_numbers_of_frames(flight, write, recording):
+def test_numbers_of_frames(flight: Tool, write: Write, recording: encoder.Recording) -> None:
     bits = bits_of(as_recorded(recording, 0, 1))
     answer = flight("recount", write("bits", bits), "--words", 256, "--frames", "--into", "4,256")
     assert (answer.status, answer.error) == (0, SAID)
@@ -73,7 +73,7 @@ def test_numbers_of_frames(flight, write, recording):
 
 
 @pytest.mark.parametrize("first, width", [(13, 4), (200, 8), (5, 3), (1, 1), (4090, 12)])
-def test_any_width_and_beginning(flight, write, recording, first, width):
+def test_any_width_and_beginning(flight: Tool, write: Write, recording: encoder.Recording, first: int, width: int) -> None:
     bits = bits_of(as_recorded(recording, first, width))
     if width == 12:
         bits = bits_of([slot if at % SLOTS != NARROW else (first + at // SLOTS) % 4096 for at, slot in enumerate(recording.slots)])
@@ -84,7 +84,7 @@ def test_any_width_and_beginning(flight, write, recording, first, width):
     assert counted == [(first % (1 << width) + frame) % 4096 for frame in range(FRAMES)]
 
 
-def test_over_gaps_the_counter_goes_on_by_the_bits(flight, write, recording):
+def test_over_gaps_the_counter_goes_on_by_the_bits(flight: Tool, write: Write, recording: encoder.Recording) -> None:
     """Frames that are lost, as damage and as bits that aren't there, at any bit."""
     slots = as_recorded(recording, 9, 4)
     lost = random.Random(4).randbytes(300)
@@ -102,7 +102,7 @@ def test_over_gaps_the_counter_goes_on_by_the_bits(flight, write, recording):
     assert ": 35 frames have a counter" in out.error
 
 
-def test_pieces_of_a_long_line(flight, write):
+def test_pieces_of_a_long_line(flight: Tool, write: Write) -> None:
     """Frames of 64 words, more than are held at once, after some bits."""
     chance = random.Random(1)
     frame = [drawn_dumps.word(int(drawn_dumps.SYNCS[at // 64], 16) if at % 64 == 0 else chance.randrange(4096)) for at in range(256)]
@@ -128,17 +128,17 @@ def test_pieces_of_a_long_line(flight, write):
         (("--from", "0,5,1,4", "--into", "4,256"), "--from: subframe 0 isn't 1 to 4"),
     ],
 )
-def test_places_that_no_frame_has(flight, write, how, fault):
+def test_places_that_no_frame_has(flight: Tool, write: Write, how: tuple[str, ...], fault: str) -> None:
     assert flight("recount", write("bits", b""), "--words", 256, *how) == (1, b"", f"flight: {fault}\n")
 
 
-def test_no_frames(flight, write):
+def test_no_frames(flight: Tool, write: Write) -> None:
     answer = flight("recount", write("bits", bytes(5000)), "--words", 64, "--frames", "--into", "4,64")
     assert (answer.status, answer.out) == (1, b"")
     assert answer.error.startswith("flight: no frame of 64 words in a subframe")
 
 
-def test_words_that_had_something_are_told(flight, write, recording):
+def test_words_that_had_something_are_told(flight: Tool, write: Write, recording: encoder.Recording) -> None:
     answer = flight("recount", write("bits", recording.bits()), "--words", 256, "--frames", "--into", "1,8")
     held = [slot for slot in recording.slots[7::SLOTS]]
     replaced = sum(slot != number and slot != 0 for number, slot in enumerate(held))

@@ -2,9 +2,11 @@
 
 import csv
 import io
+import pathlib
 
 import pytest
 
+from conftest import Tool, Write
 import encoder
 from flight_recorder import clock, durations, listing, tables
 from flight_recorder.faults import Fault
@@ -75,15 +77,16 @@ KINDS = [((), LONG), (("--wide",), WIDE), (("--every", "1500ms"), GRID), (("--wi
 
 
 @pytest.mark.parametrize("words, wanted", KINDS)
-def test_known_tables(flight, piped, write, words, wanted):
+def test_known_tables(flight: Tool, piped: Tool, write: Write, words: tuple[str, ...], wanted: str) -> None:
     assert flight("table", write("l", LISTING), "--words", 64, *words) == (0, wanted.encode(), "")
     assert piped("table", "-", "--words", 64, *words, given=LISTING.encode()) == (0, wanted.encode(), "")
 
 
 @pytest.mark.parametrize("size", range(1, 8))
 @pytest.mark.parametrize("words, wanted", KINDS[:3])
-def test_pieces_of_any_size_give_the_same(words, wanted, size):
+def test_pieces_of_any_size_give_the_same(words: tuple[str, ...], wanted: str, size: int) -> None:
     out, names, times = io.BytesIO(), listing.Names(["ALT", "IAS"]), clock.Clock(clock.shape_of(None, 64))
+    writer: tables.GridTable | tables.WideTable | tables.LongTable
     if "--every" in words:
         writer = tables.GridTable(out, names, tables.Columns(times.sessions), 1_500_000)
     else:
@@ -100,7 +103,7 @@ def test_pieces_of_any_size_give_the_same(words, wanted, size):
     ]
 
 
-def test_late_samples_are_put_in_order_when_wide(flight, write):
+def test_late_samples_are_put_in_order_when_wide(flight: Tool, write: Write) -> None:
     text = "row,0,1,10,A,1\nrow,1,1,10,A,2\nrow,0,1,20,P,9\nrow,2,1,10,A,3\n"
     rows = flight("table", write("l", text), "--words", 64, "--wide").out.decode().splitlines()
     assert rows[1:] == ["1,,0.140625,1,,", "1,,0.296875,,9,", "1,,4.140625,2,,", "1,,8.140625,3,,"]
@@ -108,7 +111,7 @@ def test_late_samples_are_put_in_order_when_wide(flight, write):
     assert grid[1:] == ["1,,4.000000,1,9,", "1,,8.000000,2,9,"]
 
 
-def test_a_sample_at_a_time_of_the_grid_counts_there(flight, write):
+def test_a_sample_at_a_time_of_the_grid_counts_there(flight: Tool, write: Write) -> None:
     text = "row,0,1,33,A,1\nrow,0,2,33,A,2\nrow,0,2,34,A,3\n"
     rows = flight("table", write("l", text), "--words", 64, "--every", "500ms").out.decode().splitlines()
     assert rows[1:] == [
@@ -122,7 +125,7 @@ def test_a_sample_at_a_time_of_the_grid_counts_there(flight, write):
     ]
 
 
-def test_columns_of_a_table_are_its_rows(flight, write):
+def test_columns_of_a_table_are_its_rows(flight: Tool, write: Write) -> None:
     table = (
         "F,64,2,1\nP,B,0,1,,11,1,U,1,1,0,0,16\nL,B,1,1,21,0,1,1,0,1\nP,A,0,2,,11,1,U,1,1,0,0,16\nL,A,1,1,20,0,1,1,0,1\n"
     )
@@ -130,7 +133,7 @@ def test_columns_of_a_table_are_its_rows(flight, write):
     assert out == b"recording,session,time,B,A,note\n1,,0.296875,,1,\n"
 
 
-def test_an_empty_listing(flight, write):
+def test_an_empty_listing(flight: Tool, write: Write) -> None:
     for words, header in (((), LONG), (("--wide",), "recording,session,time,note\n"), (("--every", "1s"), "recording,session,time,note\n")):
         assert (
             flight("table", write("l", ""), "--words", 64, *words).out.decode() == header.splitlines(keepends=True)[0]
@@ -138,7 +141,7 @@ def test_an_empty_listing(flight, write):
 
 
 @pytest.mark.parametrize("words", [kind for kind, _ in KINDS[:3]])
-def test_a_late_fault_leaves_nothing(flight, write, words):
+def test_a_late_fault_leaves_nothing(flight: Tool, write: Write, words: tuple[str, ...]) -> None:
     text = "".join(f"row,{at % 4096},1,10,ALT,5\n" for at in range(400_000)) + "row\n"
     assert flight("table", write("l", text), "--words", 64, *words) == (
         1,
@@ -147,14 +150,14 @@ def test_a_late_fault_leaves_nothing(flight, write, words):
     )
 
 
-def test_words_or_a_table_are_needed(flight, write):
+def test_words_or_a_table_are_needed(flight: Tool, write: Write) -> None:
     assert flight("table", write("l", LISTING)).status == 2
     assert flight("table", write("l", LISTING), "--words", 65).status == 2
     assert flight("table", write("l", LISTING), "--words", 64, "--table", "t").status == 2
 
 
 @pytest.mark.parametrize("text", ["0", "0s", "-1s", "1d", "", "1e3", "0.0000001s", "s"])
-def test_no_lengths_of_time(text):
+def test_no_lengths_of_time(text: str) -> None:
     with pytest.raises(Fault, match="is no length of time"):
         durations.microseconds(text)
 
@@ -163,11 +166,11 @@ def test_no_lengths_of_time(text):
     "text, length",
     [("1", 10**6), ("250ms", 250_000), ("0.25s", 250_000), ("2m", 120 * 10**6), ("1h", 3600 * 10**6), ("1us", 1)],
 )
-def test_lengths_of_time(text, length):
+def test_lengths_of_time(text: str, length: int) -> None:
     assert durations.microseconds(text) == length
 
 
-def test_a_flight_against_the_plain_recorder(flight, write):
+def test_a_flight_against_the_plain_recorder(flight: Tool, write: Write) -> None:
     table = encoder.read_table(encoder.TOP / "examples" / "ordinary.csv")
     recording = encoder.recording_of(table, encoder.generated(table, 300, 7), 300 * 4_000_000)
     path = write("l", recording.listing())
@@ -183,7 +186,7 @@ def test_a_flight_against_the_plain_recorder(flight, write):
     _check_grid(flight, path, wanted)
 
 
-def _check_grid(flight, path, wanted):
+def _check_grid(flight: Tool, path: pathlib.Path, wanted: list[tuple[float, int, int, int, str, str]]) -> None:
     """A grid of 0.7 seconds has of each parameter the last value."""
     out = flight("table", path, "--table", encoder.TOP / "examples" / "ordinary.csv", "--every", "700ms").out.decode()
     header, *rows = csv.reader(io.StringIO(out))

@@ -129,7 +129,7 @@ def damaged(bits: bytes, frame: int, chance: random.Random) -> bytes:
 
 
 @pytest.mark.parametrize("text", [POSITION, SPARSE, IN_TWO_FRAMES, IN_TURN])
-def test_no_damaged_listing_of_the_table_is_refused(flight, fdr, write, text):
+def test_no_damaged_listing_of_the_table_is_refused(flight: Tool, fdr: Fdr, write: Write, text: str) -> None:
     """The gaps of a damaged recording fit its frames, whatever the damage is, by its table and by its words."""
     path = write("t.csv", text)
     table = encoder.read_table(path)
