@@ -55,10 +55,12 @@ class Outcome:
 def parts(fdr: str, pair: str) -> Iterator[Part]:
     """All parts, the quick ones first."""
     yield Part("images of examples/", ["examples/make_images.py", "--check"], r"^(images: .*)$")
+    yield Part("cases by a second reader", ["tests/cases.py"], r"^cases: (.*)$")
     yield Part("`make streams`", ["tests/streams.sh", fdr], r"^(closed streams: .*)$")
     yield Part("`make walk`", ["tests/walk.py", fdr, pair], r"^walk: (.*)$")
     yield Part("calls of the system", ["tests/calls.py", fdr, pair, "--check"], r"^(\d+ runs: .*)$", ("strace",))
     yield Part("instructions", ["bench/count.py", fdr, pair, "--check"], r"^(\d+ counts: .*)$", ("valgrind",))
+    yield Part("`make laws`", ["tests/laws.py", fdr, pair], r"^(\d+ laws, .*)$")
     yield Part("`make compare`", ["tests/compare.py", "--program", fdr], r"^all +(.*)$")
     yield Part("`make crash-test`", ["tests/crashes.py", fdr], r"^ *(\d+ killed|\d+ runs)(?:$|,)")
     yield Part("`make crash-test`, two disks", ["tests/pair.py", pair, fdr, "--kills"], r"^ *(\d+ killed|\d+ runs)(?:$|,)")
@@ -66,6 +68,7 @@ def parts(fdr: str, pair: str) -> Iterator[Part]:
     yield Part("`make check-real`, two disks", ["tests/pair.py", pair, fdr, "--cases"], r"^(\d+ cases, .*|\d+ skipped)$", ("strace",))
     yield Part("`make check-memory`", ["tests/memory.py", fdr, pair], r"^([\d,]+ runs, .*)$", ("cc",))
     yield Part("`make fail-io`", ["tests/fail_io.py", fdr, pair], r"^([\d,]+ runs, .*)$", ("cc",))
+    yield Part("`make drawn-dumps`", ["tests/drawn_dumps.py"], r"^(\d+ dumps and .* wrong)")
     yield Part("`make demo`", ["make", "demo"], r"^(cases=\d+ .*no-answer=\d+)", ("rt",))
     yield Part("`make tools-test`", ["tests/flight/run"], r"^(.*\bpassed\b.*) in ")
 
