@@ -7,7 +7,7 @@ import pathlib
 import sys
 from typing import TYPE_CHECKING, BinaryIO, Callable
 
-from . import readout
+from . import readout, tabling
 from .faults import Fault, MissingPackage
 from .streams import Again, emptied, opened, opened_again, output, standard_output, whole_file
 
@@ -28,14 +28,15 @@ def main(words: list[str]) -> int:
     try:
         return given.run(given) or DONE
     except Fault as fault:
-        text = str(fault)
+        texts = fault.lines()
     except ImportError as error:
-        text = str(MissingPackage(f"python3-{(error.name or 'numpy').split('.')[0]}"))
+        texts = [str(MissingPackage(f"python3-{(error.name or 'numpy').split('.')[0]}"))]
     except OSError as error:
-        text = f"{error.filename}: {error.strerror}" if error.filename else str(error.strerror or error)
+        texts = [f"{error.filename}: {error.strerror}" if error.filename else str(error.strerror or error)]
     except KeyboardInterrupt:
         return STOPPED
-    print(f"flight: {text}", file=sys.stderr)
+    for text in texts:
+        print(f"flight: {text}", file=sys.stderr)
     return FAULT
 
 
@@ -47,6 +48,7 @@ def _parser() -> argparse.ArgumentParser:
     for add in (_add_trace, _add_words, _add_check_trace, _add_table, _add_frame, _add_plot):
         add(commands)
     readout.add_commands(commands, _command)
+    tabling.add_commands(commands, _command)
     return parser
 
 

@@ -10,6 +10,7 @@ import numpy as np
 
 from .arrays import Array
 from .faults import Fault
+from .scale import MOST, MOST_OFFSET, Scale
 
 WORDS = (64, 128, 256, 512, 1024)
 SUPERFRAME = 16  # frames
@@ -39,12 +40,15 @@ class Place:
 
 @dataclass
 class Parameter:
-    """A parameter's source, and its places."""
+    """A parameter's source, what its raw number means, and its places."""
 
     name: str
     bus: int
     label: int
     sdi: int | None
+    width: int
+    sign: str
+    scale: Scale
     places: list[Place] = field(default_factory=list)
 
     def is_prompt(self) -> bool:
@@ -116,7 +120,17 @@ def _parameter(row: list[str]) -> Parameter:
     if not re.fullmatch("[A-Za-z0-9_.-]{1,16}", row[1]):
         raise ValueError(row[1])
     sdi = _number(row[4], range(4)) if row[4] else None
-    return Parameter(row[1], _number(row[2], range(256)), _number(row[3], range(0o400), 8), sdi)
+    scale = Scale(
+        _signed(row[8], MOST), _number(row[9], range(1, MOST + 1)), _signed(row[10], MOST_OFFSET), _number(row[11], range(10))
+    )
+    if row[7] not in ("U", "S", "V"):
+        raise ValueError(row[7])
+    width = _number(row[6], range(1, 33))
+    return Parameter(row[1], _number(row[2], range(256)), _number(row[3], range(0o400), 8), sdi, width, row[7], scale)
+
+
+def _signed(text: str, most: int) -> int:
+    return -_number(text[1:], range(most + 1)) if text.startswith("-") else _number(text, range(most + 1))
 
 
 def _place(row: list[str]) -> Place:

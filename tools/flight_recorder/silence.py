@@ -7,6 +7,7 @@ import numpy as np
 import pandas
 
 from . import bus, trace
+from .aligned import aligned
 from .arrays import Array
 from .capture import MILLION
 from .parameters import Parameter, Table
@@ -110,7 +111,7 @@ def write_answer(table: Table, answer: Answer, out: BinaryIO) -> bool:
         rows.append((parameter.name, *_names(_source(parameter)), *_figures(heard, answer.length), note))
     for source, count in sorted(answer.others.items()):
         rows.append(("-", *_names(source), str(count), _rate(count, answer.length), "", "", "no parameter asks for it"))
-    _write_aligned(rows, out)
+    out.write(aligned(rows).encode())
     return not silent
 
 
@@ -124,13 +125,3 @@ def _figures(heard: Heard, length: int) -> tuple[str, str, str, str]:
 
 def _rate(count: int, length: int) -> str:
     return f"{count * MILLION / length:.2f}" if length else "-"
-
-
-def _write_aligned(rows: Iterable[tuple[str, ...]], out: BinaryIO) -> None:
-    """Writes rows in columns: the first one to the left, the others to the right, the last as it is."""
-    rows = list(rows)
-    widths = [max(len(row[at]) for row in rows) for at in range(len(rows[0]) - 1)]
-    for row in rows:
-        cells = [row[0].ljust(widths[0])]
-        cells += [cell.rjust(width) for cell, width in zip(row[1:-1], widths[1:])]
-        out.write("  ".join([*cells, row[-1]]).rstrip().encode() + b"\n")

@@ -1,0 +1,77 @@
+"""The commands that make a table of a frame layout and show one: their options, and what each runs."""
+
+from __future__ import annotations
+
+import argparse
+import pathlib
+from typing import Any, Callable
+
+from .faults import Fault
+from .streams import opened, output, standard_output, whole_file
+
+Add = Callable[..., argparse.ArgumentParser]
+Commands = Any  # what argparse adds commands to: its type has no public name
+
+
+def add_commands(commands: Commands, command: Add) -> None:
+    """Adds the commands, by what adds one with its example."""
+    for add in (_add_layout, _add_values):
+        add(commands, command)
+
+
+def _add_layout(commands: Commands, command: Add) -> None:
+    parser = command(
+        commands,
+        "layout",
+        _run_layout,
+        "make a table of a sheet of a frame layout, or say all that is wrong with the sheet",
+        "flight layout sheet.csv -o table.csv",
+    )
+    parser.add_argument("sheet", metavar="SHEET", help="rows under a header: name, subframes, word, bits, ..; - for standard input")
+    parser.add_argument(
+        "-o", "--output", metavar="TABLE", required=True, help="the table; units, titles and states go into a .describe.csv beside it"
+    )
+
+
+def _run_layout(given: argparse.Namespace) -> None:
+    from . import description, layout, program, sheet
+
+    faults = sheet.Gathered()
+    with opened(given.sheet) as source:
+        read = sheet.read_sheet(source.read(), faults)
+    made = layout.layout_of(read, faults)
+    path = pathlib.Path(given.output)
+    checker = program.fdr()
+    with whole_file(description.path_beside(path)) as beside, whole_file(path) as half, standard_output() as out:
+        beside.write_text(description.text_of(made.described), encoding="utf-8")
+        half.write_text(made.text(), encoding="ascii")
+        fault = program.first_fault(checker, half) if checker else None
+        if fault:
+            raise Fault(made.fault_text(fault.row, fault.text))
+        said = "fdr check accepts it" if checker else "fdr isn't here to check it"
+        out.write(f"{path.name}: {made.summary()}; {said}\n".encode())
+
+
+def _add_values(commands: Commands, command: Add) -> None:
+    parser = command(
+        commands,
+        "values",
+        _run_values,
+        "say which values the parameters of a table can have",
+        "flight values examples/ordinary.csv",
+    )
+    _add_table(parser)
+    parser.add_argument("-o", "--output", metavar="FILE", help="a file in place of standard output; CSV where it ends with .csv")
+
+
+def _add_table(parser: argparse.ArgumentParser) -> None:
+    parser.add_argument("table", metavar="TABLE", help="a table; units, titles and states are those of the .describe.csv beside it")
+
+
+def _run_values(given: argparse.Namespace) -> None:
+    from . import description, parameters, reach
+
+    rows = reach.rows_of(parameters.read_table(given.table), description.read_beside(pathlib.Path(given.table)))
+    is_csv = given.output is not None and given.output.endswith(".csv")
+    with output(given.output) as out:
+        out.write((reach.csv_of(rows) if is_csv else reach.text_of(rows)).encode())
