@@ -1,4 +1,5 @@
-"""`flight plot` as a page, opened in a headless Chromium without a network: its points, zooming, values, parameters."""
+"""`flight plot` as a page, opened in a headless Chromium without a network: its points, zooming, values, parameters; and the page of
+`flight map`."""
 
 import json
 import pathlib
@@ -10,6 +11,7 @@ import pytest
 from conftest import Tool, Write
 import browser
 import encoder
+from conftest import Tool
 from flight_recorder import page
 
 LISTING = "".join(f"row,{at},1,10,ALT,{100 * at}\nrow,{at},2,5,GEAR,{at % 2}\n" for at in range(50)) + (
@@ -213,3 +215,57 @@ def test_the_example_s_page(opened: Opened, hour: str, tmp_path: pathlib.Path) -
     shown.screenshot(tmp_path / "page.png")
     assert pathlib.Path(tmp_path / "page.png").stat().st_size > 20_000
     assert shown.faults() == []
+
+
+@pytest.fixture
+def map_page(flight: Tool, tmp_path: pathlib.Path, chromium: browser.Browser) -> browser.Browser:
+    """The grid of the sheet of sixty parameters as a page, opened."""
+    sheet = pathlib.Path(__file__).parent / "sheets" / "sixty.csv"
+    assert flight("layout", sheet, "-o", tmp_path / "t.csv").status == 0
+    assert flight("map", tmp_path / "t.csv", "-o", tmp_path / "map.html", "--title", "Sixty") == (0, b"", "")
+    chromium.events.clear()
+    chromium.session = None
+    chromium.open(tmp_path / "map.html")
+    return chromium
+
+
+ROWS_OF_WORD_11 = """[...document.querySelectorAll("tbody tr")].filter((row) => row.cells[0].textContent === "11")"""
+
+
+def test_a_grid_is_seen(map_page: browser.Browser, tmp_path: pathlib.Path) -> None:
+    assert map_page.value("[...document.querySelectorAll('thead th')].map((one) => one.textContent)") == [
+        "word", "frames", "subframe 1", "subframe 2", "subframe 3", "subframe 4",
+    ]  # fmt: skip
+    assert map_page.value(f"{ROWS_OF_WORD_11}.length") == 1
+    shown = map_page.value(f"[...{ROWS_OF_WORD_11}[0].cells[3].querySelectorAll('p')].map((one) => one.innerText)")
+    assert shown == ["12-11 SPOILER", "10 WOW", "9 AIR_GND", "8 GEAR_UP", "7 GEAR_DN", "6-1 ALT part 2"]
+    band = f"[...{ROWS_OF_WORD_11}[0].cells[3].querySelectorAll('.band i')].map((one) => one.getBoundingClientRect())"
+    widths = map_page.value(f"{band}.map((box) => box.width)")
+    assert [round(12 * width / sum(widths)) for width in widths] == [2, 1, 1, 1, 1, 6]
+    assert map_page.value(f"{band}.every((box, at, all) => at === 0 || Math.abs(box.left - all[at - 1].right) < 1)")
+    boxes = map_page.value(f"{ROWS_OF_WORD_11}[0].cells[3].getBoundingClientRect().toJSON()")
+    assert boxes["width"] > 150 and boxes["right"] <= browser.SIZE[0]
+    free = "getComputedStyle(document.querySelector('.band i.free')).backgroundImage"
+    held = "getComputedStyle(document.querySelector('.band i.parameter')).backgroundImage"
+    assert "gradient" in map_page.value(free) and map_page.value(held) == "none"
+    map_page.screenshot(tmp_path / "map.png")
+    assert (tmp_path / "map.png").stat().st_size > 20_000
+    assert map_page.faults() == []
+
+
+def test_a_parameter_is_found_in_a_grid(map_page: browser.Browser) -> None:
+    chosen = "[...document.querySelectorAll('td p.chosen')].map((one) => one.innerText)"
+    map_page.value("document.querySelector('nav button[data-name=FUEL]').click()")
+    assert map_page.value(chosen) == 2 * ["12-1 FUEL part 1", "6-1 FUEL part 2"]  # of frames 1, 2, 9 and 10
+    assert map_page.value("document.getElementById('found').textContent") == "FUEL: 4 in the grid"
+    inside = "(box => box.top >= 0 && box.bottom <= innerHeight)(document.querySelector('td p.chosen').getBoundingClientRect())"
+    assert map_page.value(inside)
+    map_page.value("document.querySelector('td p.chosen').click()")
+    assert map_page.value(chosen) == []
+    map_page.value("(box => { box.value = 'flt_1'; box.dispatchEvent(new Event('input')); })(page.box)")
+    assert map_page.value(chosen) == ["12-9 FLT_1000", "8-5 FLT_100", "4-1 FLT_10", "4-1 FLT_1"]
+    assert map_page.value("[...document.querySelectorAll('.band i.chosen')].length") == 4
+    map_page.value("(box => { box.value = ''; box.dispatchEvent(new Event('input')); })(page.box)")
+    assert map_page.value(chosen) == []
+    assert map_page.value("[...document.querySelectorAll('nav button')].map((one) => one.textContent)[3]") == "ALT Pressure altitude [ft]"
+    assert map_page.faults() == []

@@ -15,7 +15,7 @@ Commands = Any  # what argparse adds commands to: its type has no public name
 
 def add_commands(commands: Commands, command: Add) -> None:
     """Adds the commands, by what adds one with its example."""
-    for add in (_add_layout, _add_values):
+    for add in (_add_layout, _add_map, _add_values):
         add(commands, command)
 
 
@@ -50,6 +50,36 @@ def _run_layout(given: argparse.Namespace) -> None:
             raise Fault(made.fault_text(fault.row, fault.text))
         said = "fdr check accepts it" if checker else "fdr isn't here to check it"
         out.write(f"{path.name}: {made.summary()}; {said}\n".encode())
+
+
+def _add_map(commands: Commands, command: Add) -> None:
+    parser = command(
+        commands,
+        "map",
+        _run_map,
+        "show what is in each word of a table's frames, as text, CSV or a page",
+        "flight map examples/ordinary.csv -o ordinary.html",
+    )
+    _add_table(parser)
+    parser.add_argument(
+        "-o", "--output", metavar="FILE", help="a file in place of standard output; CSV where it ends with .csv, a page with .html"
+    )
+    parser.add_argument("--title", metavar="TEXT", default="", help="a title of the page; the table's name if it isn't given")
+
+
+def _run_map(given: argparse.Namespace) -> None:
+    from . import description, grid, grid_page, parameters
+
+    table = parameters.read_table(given.table)
+    made = grid.grid_of(table)
+    ending = pathlib.Path(given.output or "").suffix
+    if ending == ".html":
+        path = pathlib.Path(given.table)
+        text = grid_page.page_of(table, made, description.read_beside(path), given.title or path.name)
+    else:
+        text = grid.csv_of(made) if ending == ".csv" else grid.text_of(made)
+    with output(given.output) as out:
+        out.write(text.encode())
 
 
 def _add_values(commands: Commands, command: Add) -> None:
