@@ -137,7 +137,7 @@ def test_the_page_is_whole(flight: Tool, write: Write, tmp_path: pathlib.Path) -
     cells = [cell for line in re.split(r"\n(?=.*all|.* of )", TEXT)[1:] for cell in re.findall(r"\d+(?:-\d+)? (?!of )[A-Za-z]\w*(?: \w+)*", line)]
     assert sorted(shown) == sorted(cells)
     assert "<th>2-3,5-11,13-16 of 16</th>" in body
-    assert "64 words a subframe, the frame counter in word 2 of subframe 1; 4 parameters" in text
+    assert "64 words a subframe, the frame counter in word 2 of subframe 1; the counter is a multiple of 16 in frame 1; 4 parameters" in text
 
 
 def test_the_page_s_title_is_the_table_s_name(flight: Tool, tmp_path: pathlib.Path) -> None:

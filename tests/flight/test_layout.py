@@ -57,7 +57,7 @@ WRONG = [
     (
         "speed,64\nwords,64\ncounter,2,1\nname,subframes,word,bits\nA,all,10,1\n",
         [
-            "sheet line 1: 'speed' above the names of the columns is neither words nor counter",
+            "sheet line 1: 'speed' above the names of the columns is neither words, counter nor superframe",
         ],
     ),
     (SHAPE + "name,subframes,word\nA,all,10\n", ["sheet line 3, bits: this column is missing"]),
@@ -292,6 +292,31 @@ def test_the_bus_words_of_a_sheet(flight: Tool, write: Write, tmp_path: pathlib.
         "P,ALT_OK,1,203,,1,1,V,1,1,0,0,64,200000",
         "L,ALT_OK,1,1234,12,0,1,1,0,1",
     ]
+
+
+def test_a_superframe_that_begins_with_another_counter(flight: Tool, write: Write, tmp_path: pathlib.Path) -> None:
+    sheet = "superframe,1\n" + PLACES + "A,1,10,1,1 of 16,\nB,1,10,2,16 of 16,\nC,1,10,3,4/4,\nD,1,10,4,,\n"
+    assert flight("layout", write("s.csv", sheet), "-o", tmp_path / "t.csv").status == 0
+    places = [row.split(",") for row in (tmp_path / "t.csv").read_text().splitlines() if row.startswith("L")]
+    assert [row[8:] for row in places] == [["1", "16"], ["0", "16"], ["0", "4"], ["0", "1"]]
+    answer = flight("layout", write("s.csv", sheet + "E,1,10,2,16 of 16,\n"), "-o", tmp_path / "u.csv")
+    assert answer.error == "flight: sheet line 9, E, bits: bit 2 of word 10 of subframe 1 holds B too, of line 6\n"
+    answer = flight("layout", write("s.csv", sheet + "E,1,10,1,1 of 8,\n"), "-o", tmp_path / "u.csv")
+    assert answer.error == "flight: sheet line 9, E, bits: bit 1 of word 10 of subframe 1 of frame 1 of 16 holds A too, of line 5\n"
+    answer = flight("layout", write("s.csv", "superframe,16\n" + sheet[13:]), "-o", tmp_path / "u.csv")
+    assert answer.error == "flight: sheet line 1, superframe: '16' isn't a whole number from 0 to 15\n"
+
+
+def test_parts_over_the_end_of_a_superframe(flight: Tool, write: Write, tmp_path: pathlib.Path) -> None:
+    """The program joins parts between multiples of 16 of the counter, so what a sheet joins over them can't be read."""
+    begin = SHAPE + "superframe,1\nname,part,subframes,word,bits,superframe,resolution\n"
+    apart, together = "A,1,1,10,1-12,15 of 16,1\nA,2,1,10,1-12,16 of 16,\n", "A,1,1,10,1-12,14 of 16,1\nA,2,1,10,1-12,15 of 16,\n"
+    assert flight("layout", write("s.csv", begin + apart), "-o", tmp_path / "t.csv").error == (
+        "flight: sheet line 5, A, superframe: a superframe that begins with the counter 1 would have parts of it joined over "
+        "the counter's multiples of 16\n"
+    )
+    assert flight("layout", write("s.csv", begin + together), "-o", tmp_path / "t.csv").status == 0
+    assert flight("layout", write("s.csv", (begin + apart).replace("superframe,1", "superframe,0")), "-o", tmp_path / "t.csv").status == 0
 
 
 def test_the_description_of_a_sheet(flight: Tool, write: Write, tmp_path: pathlib.Path) -> None:

@@ -145,7 +145,7 @@ def _held(table: Table) -> dict[int, Cell]:
             slots = place.slots(table.words)
             clash = bits.claim(Owner(parameter.name), slots, place.lsb, place.width)
             if clash:
-                raise Fault(f"table: {clash.place(True)} holds both {parameter.name} and {_the(clash.owner)}")
+                raise Fault(f"table: bit {clash.bit} of {clash.word()} holds both {parameter.name} and {_the(clash.owner)}")
             item = Item(Kind.PARAMETER, place.lsb + place.width - 1, place.lsb, parameter.name, place.part * has_parts)
             for slot in slots:
                 items.setdefault(slot, []).append(item)

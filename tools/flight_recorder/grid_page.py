@@ -60,7 +60,8 @@ def _about(table: Table, grid: Grid) -> str:
     whole = SUPERFRAME * SUBFRAMES * table.words * WORD_BITS
     parameters = f"{len(table.parameters)} parameter{'s' * (len(table.parameters) != 1)}"
     counter = f"the frame counter in word {table.counter_word} of subframe {table.counter_subframe}"
-    return f"{table.words} words a subframe, {counter}; {parameters}; {100 * grid.free / whole:.1f} % of the bits are free"
+    frames = "; the counter is a multiple of 16 in frame 1" if grid.have_frames else ""
+    return f"{table.words} words a subframe, {counter}{frames}; {parameters}; {100 * grid.free / whole:.1f} % of the bits are free"
 
 
 def _name(name: str, described: Described) -> str:

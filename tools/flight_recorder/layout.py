@@ -90,6 +90,7 @@ def _shape(sheet: Sheet, faults: Gathered) -> FrameShape | None:
     """What the rows above the header say."""
     words = _setting(sheet, "words", [max(WORDS)], faults)
     counter = _setting(sheet, "counter", [max(WORDS), SUBFRAMES], faults)
+    begin = _setting(sheet, "superframe", [15], faults, 0) if "superframe" in sheet.settings else [0]
     if words and words[0] not in WORDS:
         faults.add(sheet.settings["words"][0], "", "words", f"{words[0]} isn't one of {', '.join(map(str, WORDS))}")
         words = None
@@ -97,12 +98,12 @@ def _shape(sheet: Sheet, faults: Gathered) -> FrameShape | None:
         faults.add(sheet.settings["counter"][0], "", "counter", "word 1 has the sync word")
     elif words and counter and counter[0] > words[0]:
         faults.add(sheet.settings["counter"][0], "", "counter", f"word {counter[0]}, and a subframe has {words[0]}")
-    elif words and counter:
-        return FrameShape(words[0], counter[0], counter[1])
+    elif words and counter and begin:
+        return FrameShape(words[0], counter[0], counter[1], begin[0])
     return None
 
 
-def _setting(sheet: Sheet, name: str, most: list[int], faults: Gathered) -> list[int] | None:
+def _setting(sheet: Sheet, name: str, most: list[int], faults: Gathered, least: int = 1) -> list[int] | None:
     """The numbers of a row above the header; None after a fault."""
     if name not in sheet.settings:
         form = {"words": "words,256", "counter": "counter,256,4"}[name]
@@ -110,7 +111,7 @@ def _setting(sheet: Sheet, name: str, most: list[int], faults: Gathered) -> list
         return None
     line, texts = sheet.settings[name]
     try:
-        return [cells.whole_of(text, 1, limit) for text, limit in zip(texts, most)] or None
+        return [cells.whole_of(text, least, limit) for text, limit in zip(texts, most)] or None
     except ValueError as error:
         faults.add(line, "", name, str(error))
         return None

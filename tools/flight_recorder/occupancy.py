@@ -29,13 +29,12 @@ class Clash:
     slot: int
     bit: int
 
-    def place(self, with_bit: bool) -> str:
-        """Where it is, in words."""
+    def word(self, begin: int = 0) -> str:
+        """Which word it is in, where the counter of frame 1 of a superframe is `begin`. Nothing is said of the first frame."""
         second, word = divmod(self.slot, self.words)
         frame, subframe = divmod(second, SUBFRAMES)
-        bit = f"bit {self.bit} of " if with_bit else ""
-        later = f" of frame {frame + 1} of {SUPERFRAME}" if frame else ""
-        return f"{bit}word {word + 1} of subframe {subframe + 1}{later}"
+        later = f" of frame {(frame - begin) % SUPERFRAME + 1} of {SUPERFRAME}" if frame else ""
+        return f"word {word + 1} of subframe {subframe + 1}{later}"
 
 
 class Occupancy:

@@ -12,11 +12,12 @@ MOST_PARTS, MOST_WIDTH = 4, 32
 
 @dataclass(frozen=True)
 class FrameShape:
-    """The words of a subframe, and the counter's word and subframe."""
+    """The words of a subframe, the counter's word and subframe, and what the counter is in frame 1 of a superframe, modulo 16."""
 
     words: int
     counter_word: int
     counter_subframe: int
+    begin: int = 0
 
 
 @dataclass(frozen=True)
@@ -53,6 +54,8 @@ def placed_of(row: Row, is_one_of_several: bool, shape: FrameShape | None, fault
     runs = faults.cell(row, "word", cells.runs_of)
     bits = faults.cell(row, "bits", cells.bits_of)
     recurrences = faults.cell(row, "superframe", cells.recurrences_of)
+    if recurrences and shape is not None:
+        recurrences = [cells.Recurrence((one.cycle + shape.begin) % one.period, one.period) for one in recurrences]
     are_inside = shape is None or _are_inside(row, runs or [], shape, faults)
     if not (part and subframes and runs and bits and recurrences and are_inside):
         return None
@@ -94,6 +97,9 @@ def parts_of(placed: list[Placed], shape: FrameShape | None, faults: Gathered) -
     if width > MOST_WIDTH:
         faults.complain(placed[0].row, "bits", f"{width} bits in all parts, and {MOST_WIDTH} can be read")
     rate = _rate(by_part, shape, faults) if shape is not None and 1 in by_part else 0
+    if shape is not None and not _are_joined_alike(by_part, shape):
+        text = f"a superframe that begins with the counter {shape.begin} would have parts of it joined over the counter's multiples of 16"
+        faults.complain(placed[0].row, "superframe", text)
     return Parts(len(by_part), width, rate) if len(faults.found) == before else None
 
 
@@ -107,6 +113,20 @@ def _rate(by_part: dict[int, list[Placed]], shape: FrameShape, faults: Gathered)
     return rates[1]
 
 
+def _are_joined_alike(by_part: dict[int, list[Placed]], shape: FrameShape) -> bool:
+    """Whether samples have the same parts in superframes that begin as the sheet says, and at multiples of 16 of the counter, as
+    they are read."""
+    length = SUPERFRAME * SUBFRAMES * shape.words
+    slots = [[slot for one in places for slot in one.slots(shape.words)] for places in by_part.values()]
+
+    def joined(begin: int) -> set[tuple[int, ...]]:
+        """Of each sample where its first part is, and how far from it the others are, in superframes that begin so."""
+        samples = zip(*(sorted((slot - begin) % length for slot in some) for some in slots))
+        return {((sample[0] + begin) % length, *(place - sample[0] for place in sample)) for sample in samples}
+
+    return joined(shape.begin * SUBFRAMES * shape.words) == joined(0)
+
+
 def check_bits(placed: list[Placed], shape: FrameShape, faults: Gathered) -> None:
     """No bit is held twice."""
     bits = Occupancy(shape.words, shape.counter_word, shape.counter_subframe)
@@ -116,9 +136,9 @@ def check_bits(placed: list[Placed], shape: FrameShape, faults: Gathered) -> Non
         if clash is None:
             continue
         if clash.owner in (SYNC, COUNTER):
-            faults.complain(one.row, "word", f"{clash.place(False)} has the {clash.owner.name}")
+            faults.complain(one.row, "word", f"{clash.word(shape.begin)} has the {clash.owner.name}")
         elif clash.owner == owner:
-            faults.complain(one.row, "word", f"{clash.place(False)} comes twice in this row")
+            faults.complain(one.row, "word", f"{clash.word(shape.begin)} comes twice in this row")
         else:
-            text = f"{clash.place(True)} holds {clash.owner.name} too, of line {clash.owner.line}"
+            text = f"bit {clash.bit} of {clash.word(shape.begin)} holds {clash.owner.name} too, of line {clash.owner.line}"
             faults.complain(one.row, "bits", text)

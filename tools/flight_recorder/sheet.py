@@ -36,7 +36,7 @@ COLUMNS = {
 }
 NAMED = {spelling: column for column, spellings in COLUMNS.items() for spelling in spellings}
 NEEDED = ("name", "subframes", "word", "bits")
-SETTINGS = {"words": 1, "counter": 2}  # rows above the header, and how many fields follow the name
+SETTINGS = {"words": 1, "counter": 2, "superframe": 1}  # rows above the header, and how many fields follow the name
 NOTE = "note"
 SEPARATORS = (",", ";", "\t")
 Said = TypeVar("Said")
@@ -199,12 +199,12 @@ def _add_setting(sheet: Sheet, line: int, fields: list[str], faults: Gathered) -
         fields.pop()
     name = fields[0].lower()
     if name not in SETTINGS:
-        faults.add(line, "", "", f"{fields[0]!r} above the names of the columns is neither words nor counter")
+        faults.add(line, "", "", f"{fields[0]!r} above the names of the columns is neither words, counter nor superframe")
     elif name in sheet.settings:
         faults.add(line, "", name, f"a second row of this kind, after line {sheet.settings[name][0]}")
     elif len(fields) != 1 + SETTINGS[name]:
-        example = {"words": "words,256", "counter": "counter,256,4 for word 256 of subframe 4"}[name]
-        faults.add(line, "", name, f"takes {SETTINGS[name]} field{'s' * (SETTINGS[name] > 1)}, as {example}")
+        examples = {"words": "words,256", "counter": "counter,256,4 for word 256 of subframe 4", "superframe": "superframe,0"}
+        faults.add(line, "", name, f"takes {SETTINGS[name]} field{'s' * (SETTINGS[name] > 1)}, as {examples[name]}")
         sheet.settings[name] = (line, [])
     else:
         sheet.settings[name] = (line, fields[1:])
