@@ -336,7 +336,7 @@ def test_the_description_of_a_sheet(flight: Tool, write: Write, tmp_path: pathli
 
 
 def test_a_fault_that_only_the_program_finds(flight: Tool, write: Write, tmp_path: pathlib.Path, monkeypatch: pytest.MonkeyPatch) -> None:
-    program = write("program", "#!/bin/sh\necho fdr: a note >&2\necho 'fdr: table row 4: overlap with row 2 at word 10 bit 3' >&2\nexit 2\n")
+    program = write("program", f"#!/bin/sh\necho fdr: a note >&2\necho 'fdr: table row {4}: overlap with row {2} at word 10 bit 3' >&2\nexit 2\n")
     program.chmod(0o755)
     monkeypatch.setenv("FDR", str(program))
     answer = flight("layout", write("s.csv", PLACES + "A,all,10,1,,\n\nB,all,11,1,,\n"), "-o", tmp_path / "t.csv")

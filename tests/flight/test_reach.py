@@ -65,4 +65,4 @@ def test_a_row_that_is_wrong(flight: Tool, write: Write, field: tuple[int, str])
     fields = "P,A,0,0,,1,12,U,1,8,0,1,64".split(",")
     fields[field[0]] = field[1]
     answer = flight("values", write("t.csv", "F,64,2,1\n" + ",".join(fields) + "\nL,A,1,1234,10,0,1,12,0,1\n"))
-    assert answer == (1, b"", "flight: table row 1: `fdr check` says what is wrong with it\n")
+    assert answer == (1, b"", f"flight: table row {1}: `fdr check` says what is wrong with it\n")

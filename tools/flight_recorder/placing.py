@@ -116,6 +116,8 @@ def _rate(by_part: dict[int, list[Placed]], shape: FrameShape, faults: Gathered)
 def _are_joined_alike(by_part: dict[int, list[Placed]], shape: FrameShape) -> bool:
     """Whether samples have the same parts in superframes that begin as the sheet says, and at multiples of 16 of the counter, as
     they are read."""
+    if not shape.begin:
+        return True
     length = SUPERFRAME * SUBFRAMES * shape.words
     slots = [[slot for one in places for slot in one.slots(shape.words)] for places in by_part.values()]
 

@@ -25,7 +25,7 @@ def _add_layout(commands: Commands, command: Add) -> None:
         "layout",
         _run_layout,
         "make a table of a sheet of a frame layout, or say all that is wrong with the sheet",
-        "flight layout sheet.csv -o table.csv",
+        "flight layout examples/layout.csv -o table.csv",
     )
     parser.add_argument("sheet", metavar="SHEET", help="rows under a header: name, subframes, word, bits, ..; - for standard input")
     parser.add_argument(
