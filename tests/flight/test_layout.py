@@ -2,10 +2,12 @@
 
 import os
 import pathlib
+import random
 from fractions import Fraction
 
 import pytest
 
+import drawn_sheets
 import sheet_frames
 from conftest import Fdr, Tool, Write
 from flight_recorder import scale
@@ -32,6 +34,20 @@ def test_a_sheet_of_60_parameters_means_what_it_says(flight: Tool, fdr: Fdr, wri
     listed = fdr("listbits", table, given=drawn.bits()).decode().splitlines()
     assert sorted(listed) == sorted(drawn.rows)
     assert len(listed) > 2 * 16 * 4 * 40
+
+
+DRAWN = int(os.environ.get("FLIGHT_DRAWN", "40"))  # sheets
+
+
+def test_drawn_sheets_mean_what_they_say(flight: Tool, fdr: Fdr, write: Write, tmp_path: pathlib.Path) -> None:
+    chance, parameters = random.Random(79), 0
+    for _ in range(DRAWN):
+        sheet = drawn_sheets.drawn_sheet(chance)
+        assert flight("layout", write("s.csv", sheet), "-o", tmp_path / "t.csv").error == ""
+        drawn = sheet_frames.drawn(sheet, 1, chance.randrange(1000))
+        assert sorted(fdr("listbits", tmp_path / "t.csv", given=drawn.bits()).decode().splitlines()) == sorted(drawn.rows)
+        parameters += len(sheet_frames.quantities(sheet)[2])
+    assert parameters > 5 * DRAWN
 
 
 SHAPE = "words,64\ncounter,2,1\n"
@@ -193,6 +209,12 @@ WRONG = [
         VALUES + "A,all,10,1-10,,,0..1023,,,\n",
         [
             "sheet line 4, A, range: with 10 bits a step of 0.9990234375 if its end is one step above all bits, and of 1 if it is all of them: give the resolution",
+        ],
+    ),
+    (
+        VALUES + "A,all,10,1-11,S,,-1024..1023,,,\n",
+        [
+            "sheet line 4, A, range: with 11 bits a step of 0.99951171875 if its end is one step above all bits, and of 1 if it is all of them: give the resolution",
         ],
     ),
     (VALUES + "A,all,10,1-12,,,512,,,\n", ["sheet line 4, A, range: '512' is no range, as 0..512 or +-180"]),

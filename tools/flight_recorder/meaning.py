@@ -79,7 +79,8 @@ def _ranged(
     length, steps = span.end - span.least, 1 << values.width
     if values.sign != "S" and span.least < 0 and not row.text("signed"):
         faults.complain(row, "signed", "the range goes below 0: signed, or unsigned with raw 0 as the least value?")
-    if decimals_of(length / (steps - 1)) is not None:
+    is_balanced = values.sign == "S" and span.least == -span.end  # two's complement has no such values with both ends
+    if not is_balanced and decimals_of(length / (steps - 1)) is not None:
         low, high = exact_text(length / steps), exact_text(length / (steps - 1))
         text = f"a step of {low} if its end is one step above all bits, and of {high} if it is all of them: give the resolution"
         faults.complain(row, "range", f"with {values.width} bit{'s' * (values.width > 1)} {text}")
