@@ -368,6 +368,21 @@ def test_a_fault_that_only_the_program_finds(flight: Tool, write: Write, tmp_pat
     assert flight("layout", tmp_path / "s.csv", "-o", tmp_path / "t.csv").error == f"flight: {program} check: status 3\n"
 
 
+def test_the_sheet_isn_t_written_over(flight: Tool, write: Write, tmp_path: pathlib.Path) -> None:
+    sheet = write("s.csv", SHAPE + ROWS)
+    assert flight("layout", sheet, "-o", sheet).error == f"flight: {sheet}: this is the sheet, which would be written over\n"
+    sheet = sheet.rename(tmp_path / "t.describe.csv")
+    assert flight("layout", sheet, "-o", tmp_path / "t.csv").error == f"flight: {sheet}: this is the sheet, which would be written over\n"
+    assert [path.name for path in tmp_path.iterdir()] == ["t.describe.csv"]
+    answer = flight("layout", sheet, "-o", "-")
+    assert answer == (1, b"", "flight: -o -: the table and its description are two files, so they need a name\n")
+
+
+def test_a_sheet_from_standard_input(piped: Tool, tmp_path: pathlib.Path) -> None:
+    answer = piped("layout", "-", "-o", tmp_path / "t.csv", given=(SHAPE + ROWS).encode())
+    assert (answer.status, answer.error, (tmp_path / "t.csv").read_bytes()) == (0, "", TABLE)
+
+
 def test_without_the_program(flight: Tool, write: Write, tmp_path: pathlib.Path, monkeypatch: pytest.MonkeyPatch) -> None:
     monkeypatch.delenv("FDR", raising=False)
     monkeypatch.setenv("PATH", os.defpath)

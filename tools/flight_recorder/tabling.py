@@ -7,7 +7,7 @@ import pathlib
 from typing import Any, Callable
 
 from .faults import Fault
-from .streams import opened, output, standard_output, whole_file
+from .streams import STANDARD, opened, output, standard_output, whole_file
 
 Add = Callable[..., argparse.ArgumentParser]
 Commands = Any  # what argparse adds commands to: its type has no public name
@@ -36,13 +36,15 @@ def _add_layout(commands: Commands, command: Add) -> None:
 def _run_layout(given: argparse.Namespace) -> None:
     from . import description, layout, program, sheet
 
+    path = pathlib.Path(given.output)
+    described = description.path_beside(path)
+    _check_output(given.sheet, path, described)
     faults = sheet.Gathered()
     with opened(given.sheet) as source:
         read = sheet.read_sheet(source.read(), faults)
     made = layout.layout_of(read, faults)
-    path = pathlib.Path(given.output)
     checker = program.fdr()
-    with whole_file(description.path_beside(path)) as beside, whole_file(path) as half, standard_output() as out:
+    with whole_file(described) as beside, whole_file(path) as half, standard_output() as out:
         beside.write_text(description.text_of(made.described), encoding="utf-8")
         half.write_text(made.text(), encoding="ascii")
         fault = program.first_fault(checker, half) if checker else None
@@ -50,6 +52,15 @@ def _run_layout(given: argparse.Namespace) -> None:
             raise Fault(made.fault_text(fault.row, fault.text))
         said = "fdr check accepts it" if checker else "fdr isn't here to check it"
         out.write(f"{path.name}: {made.summary()}; {said}\n".encode())
+
+
+def _check_output(sheet: str, *paths: pathlib.Path) -> None:
+    """What is written doesn't take the place of the sheet, and has names."""
+    if str(paths[0]) == STANDARD:
+        raise Fault("-o -: the table and its description are two files, so they need a name")
+    for path in paths:
+        if sheet != STANDARD and path.exists() and path.samefile(sheet):
+            raise Fault(f"{path}: this is the sheet, which would be written over")
 
 
 def _add_map(commands: Commands, command: Add) -> None:
