@@ -11,7 +11,7 @@ from typing import Callable, Iterator
 
 import pytest
 
-from conftest import T1, Write
+from conftest import T1
 from feeding import END, PATIENCE, Fed, Reading, is_even, lines_of, odd_words, program, records_of, words_in
 
 SOURCE = pathlib.Path(__file__).resolve().parent.parent.parent / "examples" / "recorder" / "source.c"
@@ -315,7 +315,7 @@ def test_beats_make_a_block_due_on_silent_buses(source: Start, tmp_path: pathlib
     recorder.let_go()
 
 
-WRONG = [
+WRONG: list[list[str]] = [
     [], ["--to"], ["--hold", "0", "0=-"], ["--hold", "x", "0=-"], ["--rotate", "6", "0=-"], ["--rotate", "400h", "0=-"],
     ["256=-"], ["x=-"], ["=-"], ["--none", "0=-"], ["--most", "4294967296", "0=-"],
 ]
@@ -328,6 +328,7 @@ def test_wrong_words(source: Start, words: list[str]) -> None:
     assert error.startswith("usage: source ")
 
 
-def test_an_input_that_is_not_there(source: Start, write: Write) -> None:
-    there = write("there", "")
+def test_an_input_that_is_not_there(source: Start, tmp_path: pathlib.Path) -> None:
+    there = tmp_path / "there"
+    there.touch()
     assert source(f"0={there}", f"1={there}x").ended() == (2, b"", f"source: {there}x: No such file or directory\n")

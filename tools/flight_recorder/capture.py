@@ -171,7 +171,7 @@ class Reader:
     def words(self) -> Iterator[Words]:
         """All words, some at a time."""
         for lines, is_plain in plain.pieces(self.source):
-            words = self._at_once(lines) if is_plain else None
+            words = self.at_once(lines) if is_plain else None
             if words is not None:
                 self.row += len(words.row)
                 yield words
@@ -179,7 +179,7 @@ class Reader:
             for batch in _batches(self._rows(lines.lines()), self.header.length):
                 yield self._one_by_one(batch)
 
-    def _at_once(self, lines: plain.Lines) -> Words | None:
+    def at_once(self, lines: plain.Lines) -> Words | None:
         """The words of lines of plain numbers; none where a line is another."""
         header, settings = self.header, self.settings
         known = self.clock.copy()
@@ -215,6 +215,10 @@ class Reader:
             if name in given and at is not None and ((given[name] != said) & (fields.column(at).length > 0)).any():
                 return None
         return words
+
+    def row_of(self, line: plain.Lines) -> Words:
+        """The word of a line alone, or none of a line of the end."""
+        return self._one_by_one(next(_batches(self._rows(line.lines()), self.header.length)))
 
     def _one_by_one(self, batch: Batch) -> Words:
         """The words of a batch of rows, and the end."""

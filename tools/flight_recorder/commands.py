@@ -12,7 +12,7 @@ from .faults import Fault, MissingPackage
 from .streams import Again, emptied, opened, opened_again, output, standard_output, whole_file
 
 if TYPE_CHECKING:
-    from . import curves, dates, listing, reading, tables, window
+    from . import capture, curves, dates, listing, reading, tables, window
 
 DONE, FAULT, SILENT, STOPPED = 0, 1, 2, 130
 WIDTHS = (64, 128, 256, 512, 1024)
@@ -107,16 +107,50 @@ def _add_trace(commands: "argparse._SubParsersAction[argparse.ArgumentParser]") 
         default=[],
         help="the number of a bus that the capture names, as RX1=0; or a number alone, for all rows",
     )
+    _add_live(parser)
 
 
-def _run_trace(given: argparse.Namespace) -> None:
+LIVE_OPTIONS = {"clock": False, "rotate": "6h", "beat": 255, "utc": None, "to": None}
+
+
+def _add_live(parser: argparse.ArgumentParser) -> None:
+    live = parser.add_argument_group("while the capture is written", "docs/ACQUISITION.md has more of it.")
+    live.add_argument("--live", action="store_true", help="write each row's record at once, until the capture's end or SIGTERM")
+    live.add_argument("--clock", action="store_true", help="times are when rows come, from the first one on")
+    live.add_argument("--rotate", metavar="TIME", help="how long a recording is, up to 399h; 6h if it isn't given")
+    live.add_argument("--beat", metavar="BUS", type=int, choices=range(256), help="the bus of the beats; 255 if it isn't given")
+    live.add_argument("--utc", metavar="BUS", type=int, choices=range(256), help="a bus for words of the time of day, label 150")
+    live.add_argument("--to", metavar="PIPE", help="a named pipe in place of standard output, a new one for each recording")
+
+
+def _run_trace(given: argparse.Namespace) -> int:
     from . import capture
 
     columns, buses = capture.columns_of(given.columns), capture.buses_of(given.bus)
     unit = capture.Unit(given.unit)
     settings = capture.Settings(unit, given.label_first, given.sort, given.end, columns, buses)
+    if given.live:
+        return _run_live(given, settings)
+    unused = [name for name in LIVE_OPTIONS if getattr(given, name) is not None and getattr(given, name) is not False]
+    if unused:
+        raise Fault(f"--{unused[0]} is for --live")
     with opened(given.capture) as source, standard_output() as out:
         capture.convert(source, out, settings)
+    return DONE
+
+
+def _run_live(given: argparse.Namespace, settings: capture.Settings) -> int:
+    from . import durations, live
+
+    if given.sort or given.end is not None:
+        raise Fault("--sort and --end are for captures that are whole, not for --live")
+    told = {name: getattr(given, name) for name in LIVE_OPTIONS}
+    how = {name: default if told[name] is None else told[name] for name, default in LIVE_OPTIONS.items()}
+    rotate = durations.microseconds(str(how["rotate"]))
+    if rotate > live.LONGEST:
+        raise Fault(f"--rotate {how['rotate']}: a recording has at most 399h")
+    settled = live.Live(bool(given.clock), rotate, how["beat"], how["utc"], how["to"])
+    return DONE if live.follow(given.capture, settings, settled) else FAULT
 
 
 def _add_words(commands: "argparse._SubParsersAction[argparse.ArgumentParser]") -> None:

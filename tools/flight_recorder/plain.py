@@ -51,12 +51,12 @@ def pieces(source: Input) -> Iterator[tuple[Lines, bool]]:
         whole = data.rfind(b"\n") + 1
         left = data[whole:]
         if whole:
-            yield _lines(data[:whole])
+            yield lines_of(data[:whole])
     if left:
         yield Lines(left), False
 
 
-def _lines(data: bytes) -> tuple[Lines, bool]:
+def lines_of(data: bytes) -> tuple[Lines, bool]:
     """Lines, and whether they may be plain; of lines that end as in a spreadsheet's file the ends are made plain."""
     plain = data.replace(b"\r\n", b"\n") if b"\r" in data else data
     is_plain = b"\r" not in plain and b"\n\n" not in plain and not plain.startswith(b"\n")
