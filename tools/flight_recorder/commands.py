@@ -9,7 +9,7 @@ from typing import TYPE_CHECKING, BinaryIO, Callable
 
 from . import readout, tabling
 from .faults import Fault, MissingPackage
-from .streams import Again, emptied, opened, opened_again, output, standard_output, whole_file
+from .streams import Again, drop_output, emptied, opened, opened_again, output, standard_output, whole_file
 
 if TYPE_CHECKING:
     from . import capture, curves, dates, listing, reading, tables, window
@@ -45,7 +45,7 @@ def _parser() -> argparse.ArgumentParser:
         prog="flight", description=ABOUT, formatter_class=argparse.RawDescriptionHelpFormatter, allow_abbrev=False
     )
     commands = parser.add_subparsers(metavar="COMMAND", required=True)
-    for add in (_add_trace, _add_words, _add_check_trace, _add_table, _add_frame, _add_plot):
+    for add in (_add_trace, _add_words, _add_check_trace, _add_watch, _add_table, _add_frame, _add_plot):
         add(commands)
     readout.add_commands(commands, _command)
     tabling.add_commands(commands, _command)
@@ -184,6 +184,32 @@ def _run_check_trace(given: argparse.Namespace) -> int:
     with opened(given.trace) as source, standard_output() as out:
         heard = silence.listen(table, source)
         return DONE if silence.write_answer(table, heard, out) else SILENT
+
+
+def _add_watch(commands: "argparse._SubParsersAction[argparse.ArgumentParser]") -> None:
+    parser = _command(
+        commands,
+        "watch",
+        _run_watch,
+        f"say each second what a trace has of each parameter; with --once status {SILENT} where one is silent",
+        "source 0=/run/bus0 | tee -p >(flight watch --table t1.csv > /dev/tty) | fdr record t1.csv flight.img",
+    )
+    parser.add_argument("--table", metavar="TABLE", required=True, help="the recording's table")
+    parser.add_argument("--once", metavar="TIME", help="write one table after so long, as 10s, or at the end of the trace")
+
+
+def _run_watch(given: argparse.Namespace) -> int:
+    from . import durations, parameters, watch
+
+    if sys.stdin is None:
+        raise Fault("standard input is closed")
+    once = None if given.once is None else durations.microseconds(given.once) / 1_000_000
+    try:
+        is_silent = watch.watch(parameters.read_table(given.table), watch.read_scales(given.table), once)
+    except BrokenPipeError:
+        drop_output()  # who reads has enough
+        return DONE
+    return SILENT if is_silent and once is not None else DONE
 
 
 def _add_listing(parser: argparse.ArgumentParser) -> None:

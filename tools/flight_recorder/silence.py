@@ -57,7 +57,7 @@ class Answer:
 
 def listen(table: Table, source: Input) -> Answer:
     """Reads a trace for the parameters of a table."""
-    asked = {_source(parameter): Heard() for parameter in table.parameters.values()}
+    asked = {source_of(parameter): Heard() for parameter in table.parameters.values()}
     by_label: dict[tuple[int, int], list[Source]] = {}
     for one in asked:
         by_label.setdefault((one.bus, one.label), []).append(one)
@@ -71,7 +71,7 @@ def listen(table: Table, source: Input) -> Answer:
     return answer
 
 
-def _source(parameter: Parameter) -> Source:
+def source_of(parameter: Parameter) -> Source:
     return Source(parameter.bus, parameter.label, parameter.sdi)
 
 
@@ -104,18 +104,18 @@ def write_answer(table: Table, answer: Answer, out: BinaryIO) -> bool:
     rows = [("parameter", "bus", "label", "sdi", "words", "a second", "longest silence", "even parity", "")]
     silent = False
     for parameter in table.parameters.values():
-        heard = answer.asked[_source(parameter)]
+        heard = answer.asked[source_of(parameter)]
         good = heard.words - heard.even
         silent |= good == 0
         note = "" if good else "NONE CAME" if not heard.words else "ALL OF EVEN PARITY"
-        rows.append((parameter.name, *_names(_source(parameter)), *_figures(heard, answer.length), note))
+        rows.append((parameter.name, *names_of(source_of(parameter)), *_figures(heard, answer.length), note))
     for source, count in sorted(answer.others.items()):
-        rows.append(("-", *_names(source), str(count), _rate(count, answer.length), "", "", "no parameter asks for it"))
+        rows.append(("-", *names_of(source), str(count), _rate(count, answer.length), "", "", "no parameter asks for it"))
     out.write(aligned(rows).encode())
     return not silent
 
 
-def _names(source: Source) -> tuple[str, str, str]:
+def names_of(source: Source) -> tuple[str, str, str]:
     return str(source.bus), f"{source.label:03o}", "any" if source.sdi is None else str(source.sdi)
 
 

@@ -133,9 +133,9 @@ def standard_output() -> Iterator[BinaryIO]:
             shutil.copyfileobj(held, sys.stdout.buffer, 1 << 20)
             sys.stdout.buffer.flush()
         except BrokenPipeError:
-            _drop_output()  # who reads has enough
+            drop_output()  # who reads has enough
         except OSError as error:
-            _drop_output()
+            drop_output()
             raise Fault(f"standard output: {error.strerror}") from None
 
 
@@ -157,7 +157,7 @@ def emptied(out: BinaryIO) -> BinaryIO:
     return out
 
 
-def _drop_output() -> None:
+def drop_output() -> None:
     """Lets what is left in the buffer of standard output go nowhere, since it is written once more at the end."""
     nowhere = os.open(os.devnull, os.O_WRONLY)
     os.dup2(nowhere, sys.stdout.fileno())
