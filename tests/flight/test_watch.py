@@ -12,11 +12,15 @@ import termios
 import time
 from typing import Callable, Iterator
 
+import numpy as np
 import pytest
 
 import encoder
 from conftest import FLIGHT, ORDINARY, T1
 from feeding import PATIENCE, RECORD, Fed, Reading
+from flight_recorder import parameters
+from flight_recorder import trace as trace_module
+from flight_recorder import watch as watch_module
 
 Start = Callable[..., Fed]
 FIVE, SEVEN, OTHER = 0x000014C1, 0x80001CC1, 0x12345678
@@ -32,11 +36,18 @@ def end(time_at: float) -> bytes:
     return RECORD.pack(2, 0, 0, 0, round(time_at * 1_000_000))
 
 
-def once(trace: bytes, *words: object, table: pathlib.Path = T1) -> tuple[int, list[str], str]:
-    """The table of a whole trace."""
-    command = [sys.executable, str(FLIGHT), "watch", "--table", str(table), "--once", "20s", *map(str, words)]
+def once(trace: bytes) -> tuple[int, list[str], str]:
+    """The table of a whole trace, by the tool as a program."""
+    command = [sys.executable, str(FLIGHT), "watch", "--table", str(T1), "--once", "20s"]
     ran = subprocess.run(command, input=trace, capture_output=True, timeout=PATIENCE)
     return ran.returncode, ran.stdout.decode().splitlines(), ran.stderr.decode()
+
+
+def table_of(trace: bytes, table: pathlib.Path = T1) -> tuple[list[str], bool]:
+    """The table of a whole trace, and whether a parameter is silent."""
+    watched = watch_module.Watch(parameters.read_table(str(table)), watch_module.read_scales(str(table)))
+    watched.take(np.frombuffer(trace, dtype=trace_module.RECORD))
+    return watched.lines()
 
 
 @pytest.fixture
@@ -83,8 +94,8 @@ def test_a_table_of_a_whole_trace() -> None:
     ids=range(9),
 )
 def test_what_is_silent(trace: bytes, note: str) -> None:
-    status, lines, _ = once(trace)
-    assert status == (2 if note else 0)
+    lines, is_silent = table_of(trace)
+    assert is_silent == bool(note)
     row = next(line for line in lines if line.startswith("ALT"))
     assert re.split(r"\d s|\d  ", row)[-1].strip() == note
 
@@ -97,7 +108,7 @@ def test_values_are_those_of_listings() -> None:
         for parameter in table.parameters:
             if encoder._is_of(one, parameter):
                 last[parameter.name] = parameter.value(one.word >> parameter.lsb - 1 & (1 << parameter.width) - 1)
-    _, lines, _ = once(encoder.trace_of(words, 8_000_000), table=ORDINARY)
+    lines, _ = table_of(encoder.trace_of(words, 8_000_000), ORDINARY)
     told = {line.split()[0]: line.split()[4] for line in lines[2:]}
     assert {name: told[name] for name in last} == last
     assert set(told) - {"-"} == {parameter.name for parameter in table.parameters}
@@ -108,8 +119,8 @@ def test_what_the_source_dropped_and_its_beats() -> None:
     beats = [number << 8 | number.bit_count() % 2 << 31 for number in (0, 5, 8_388_607)]
     for count, said in ((1, 0), (2, 5), (3, 8_388_607)):
         trace = b"".join(record(at, beat, 255) + record(at, FIVE) for at, beat in enumerate(beats[:count]))
-        status, lines, _ = once(trace + end(count - 1))
-        assert (status, len(lines)) == (0, 3)
+        lines, is_silent = table_of(trace + end(count - 1))
+        assert (is_silent, len(lines)) == (False, 3)
         assert f", {said} words dropped by the source" in lines[0]
 
 
@@ -188,12 +199,17 @@ def test_any_words_are_counted() -> None:
     """Each word is one of a parameter or one that no parameter asks for, whatever its bits."""
     chance = random.Random(4)
     words = [(chance.randrange(256), chance.getrandbits(32)) for _ in range(5_000)]
-    _, lines, _ = once(b"".join(record(at / 1000, word, bus) for at, (bus, word) in enumerate(words)) + end(5))
+    lines, _ = table_of(b"".join(record(at / 1000, word, bus) for at, (bus, word) in enumerate(words)) + end(5))
     beats = sum(word & 0xFF == 0 and word.bit_count() % 2 == 0 for _, word in words)
     named = {(bus, word & 0xFF, word >> 8 & 3) for bus, word in words if not (word & 0xFF == 0 and word.bit_count() % 2 == 0)}
     asked = {one for one in named if one[:2] == (0, 0xC1)}
     assert len(lines) == 2 + 1 + len(named - asked)
     assert beats > 0
+
+
+def test_a_silent_parameter_is_the_status_of_once() -> None:
+    status, lines, error = once(record(1, FIVE) + end(9))
+    assert (status, lines[2].split()[-1], error) == (2, "SILENT", "")
 
 
 def test_what_is_no_trace() -> None:
