@@ -159,7 +159,7 @@ def test_a_producer_that_dies_amid_a_row(live: Start) -> None:
     fed.close_input()
     status, out, error = fed.ended()
     assert (status, told(out), records_of(out)[-1].kind) == (1, [(0, FIVE)], END)
-    assert error.startswith("flight: row 3: it has no line feed; it is left out\n")
+    assert error.startswith(f"flight: row {3}: it has no line feed; it is left out\n")
 
 
 def test_a_closed_reader(live: Start) -> None:
