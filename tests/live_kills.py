@@ -2,7 +2,7 @@
 """Pulls the plug of a live recording: its source and its recorder are killed together at drawn moments, and examples/recorder/
 record.sh begins again.
 
-    tests/live_kills.py FDR FDRPAIR [--kills N] [--seed S]
+    tests/live_kills.py FDR FDRPAIR [--kills N] [--slots N] [--seed S]
 
 It does so on one image and on two. At each kill, while the script is held, every image must hold the last blocks of all that
 was recorded, with no number left out: each block that was acknowledged, unless the ring promises it no longer, one more at
@@ -33,9 +33,10 @@ from inputs import TOP
 from places import Mismatch
 
 RECORDER = TOP / "examples" / "recorder"
-SLOTS, PAYLOAD, PROMISED_LESS = 700, 64, 2
+PAYLOAD, PROMISED_LESS = 64, 2
 LONGEST = 1.6  # seconds from one kill to the next
 LIMIT = 60.0
+GONE = 1.0  # seconds without one of both
 ACK = re.compile(r"^\S+Z ack (\d+)$", re.M)
 
 
@@ -85,24 +86,29 @@ class Service:
         """The children of the script that still run, with their names."""
         found = {}
         for one in pathlib.Path(f"/proc/{self.child.pid}/task/{self.child.pid}/children").read_text().split():
-            text = pathlib.Path(f"/proc/{one}/stat").read_text()
-            name, state = text[text.index("(") + 1 : text.rindex(")")], text[text.rindex(")") + 2]
-            if state != "Z":
-                found[int(one)] = name
+            with contextlib.suppress(FileNotFoundError, ProcessLookupError):
+                text = pathlib.Path(f"/proc/{one}/stat").read_text()
+                name, state = text[text.index("(") + 1 : text.rindex(")")], text[text.rindex(")") + 2]
+                if state != "Z":
+                    found[int(one)] = name
         return found
 
     def kill(self, names: set[str]) -> set[str]:
-        """Kills source and recorder, and holds the script until they are gone and their lines are written."""
+        """Kills source and recorder, and holds the script until they are gone and their lines are written. What has the
+        script's name is what writes the lines, or what is just about to become one of both: then it is killed too. Where
+        the recorder wasn't started yet, what is to write its lines waits for it."""
         os.kill(self.child.pid, signal.SIGSTOP)
-        killed = {one: name for one, name in self.kin().items() if name in names}
-        for one in killed:
-            os.kill(one, signal.SIGKILL)
-        last = time.monotonic() + LIMIT
-        while any(name in names | {"record.sh"} for name in self.kin().values()):
-            if time.monotonic() > last:
-                raise Mismatch(f"still there: {self.kin()}")
+        killed: set[str] = set()
+        last = time.monotonic() + GONE
+        while time.monotonic() < last and (kin := self.kin()):
+            for one, name in kin.items():
+                if name in names:
+                    killed.add(name)
+                    with contextlib.suppress(ProcessLookupError):
+                        os.kill(one, signal.SIGKILL)
+                    last = time.monotonic() + GONE
             time.sleep(0.005)
-        return set(killed.values())
+        return killed
 
     def go_on(self) -> None:
         """Lets the script go on."""
@@ -163,14 +169,16 @@ def compare_sessions(service: Service, fdr: str, table: pathlib.Path) -> int:
     return len(listed)
 
 
-def trial(programs: dict[str, str], count: int, kills: int, chance: random.Random, room: pathlib.Path) -> None:
+def trial(
+    programs: dict[str, str], count: int, kills: int, slots: int, chance: random.Random, room: pathlib.Path
+) -> None:
     """Kills a recording on so many images so often."""
     table = room / "table.csv"
     table.write_text((TOP / "examples" / "t1.csv").read_text().replace("F,64,", "F,1024,"))
     subprocess.run(["cc", "-O2", "-o", room / "source", RECORDER / "source.c"], check=True)
     images = [room / f"image{number}" for number in range(count)]
     for image in images:
-        sizes = ["--slots", str(SLOTS), "--payload", str(PAYLOAD)]
+        sizes = ["--slots", str(slots), "--payload", str(PAYLOAD)]
         subprocess.run([programs["FDR"], "format", str(table), str(image), *sizes], check=True)
     feeder = Feeder(room / "bus")
     service = Service(programs, room, images)
@@ -196,7 +204,7 @@ def trial(programs: dict[str, str], count: int, kills: int, chance: random.Rando
     print(f"{count} image{'s' if count > 1 else ''}:")
     for name, number in counts.items():
         print(f"{number:8} {name}")
-    print(f"{max(service.recordings[-1]):8} blocks acknowledged, of which the rings promise {SLOTS - PROMISED_LESS}")
+    print(f"{max(service.recordings[-1]):8} blocks acknowledged, of which a ring promises the last {slots - PROMISED_LESS}")
     print(f"{sessions:8} sessions listed")
 
 
@@ -205,6 +213,7 @@ def main() -> int:
     words.add_argument("fdr")
     words.add_argument("fdrpair")
     words.add_argument("--kills", type=int, default=30)
+    words.add_argument("--slots", type=int, default=700, help="of the rings, which hold all of thirty kills by 700")
     words.add_argument("--seed", type=int, default=None)
     given = words.parse_args()
     seed = given.seed if given.seed is not None else random.randrange(1 << 32)
@@ -213,7 +222,7 @@ def main() -> int:
     for count in (1, 2):
         room = pathlib.Path(tempfile.mkdtemp(prefix="fdr_live_"))
         try:
-            trial(programs, count, given.kills, random.Random(seed), room)
+            trial(programs, count, given.kills, given.slots, random.Random(seed), room)
         except Mismatch as error:
             print(f"{count} images: {error}\nall of it is in {room}")
             return 1

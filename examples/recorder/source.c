@@ -47,6 +47,7 @@ static struct { uint64_t words, dropped, lost, bad, waited; } count, said;
 static uint64_t hold = 1000000, rotate = UINT64_C(21600000000), most = UINT64_C(4294967295);
 static int beat_bus = 255, utc_bus = -1;
 static bool stays;
+static int status;
 static volatile sig_atomic_t stopping;
 
 static void stop(int signal) { (void)signal; stopping = 1; }
@@ -209,6 +210,7 @@ static void lose_reader(void) {
     ioctl(out.fd, FIONREAD, &unread);
     count.lost += ((size_t)unread + out.filled - out.sent) / RECORD;
     out.is_open = false;
+    if (!out.path) status = 3;
     fprintf(stderr, "source: the reader of the trace is gone\n");
     say();
 }
@@ -263,7 +265,7 @@ static int record(void) {
         wait_for(next_beat, is_last);
     }
     if (ring.next != ring.first) fprintf(stderr, "source: %" PRIu64 " words had no recorder\n", ring.next - ring.first);
-    return !out.path && out.sent < out.filled ? 3 : 0;
+    return status;
 }
 
 /* ---- the words of the command */
@@ -306,7 +308,7 @@ int main(int words, char **word) {
         if (!strcmp(name, "stay")) { stays = true; continue; }
         if (!strcmp(name, "to")) out.path = *value ? value : (usage(), value);
         else if (!strcmp(name, "hold")) hold = number(value, false, ROOM / 2, UINT64_C(1) << 32);
-        else if (!strcmp(name, "rotate")) rotate = number(value, true, SECOND, UINT64_C(1436400000000));
+        else if (!strcmp(name, "rotate")) rotate = number(value, true, SECOND / 10, UINT64_C(1436400000000));
         else if (!strcmp(name, "most")) most = number(value, false, 2, UINT64_C(4294967295));
         else if (!strcmp(name, "beat")) beat_bus = (int)number(value, false, 0, 255);
         else if (!strcmp(name, "utc")) utc_bus = (int)number(value, false, 0, 255);

@@ -182,7 +182,7 @@ def test_beats_make_a_block_due_on_silent_buses(live: Start, tmp_path: pathlib.P
     assert fed.child.stdout
     recorder = Fed([fdr, "record", T1, image], given=fed.child.stdout.fileno())
     fed.give(HEADER + b"0,0,000014C1\n")
-    recorder.error.until(lambda error: b"ack 3\n" in error)
+    recorder.error.until(lambda error: b"ack 2\n" in error)
     fed.child.terminate()
     assert recorder.ended()[0] == 0
     recorder.let_go()

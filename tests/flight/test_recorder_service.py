@@ -101,7 +101,7 @@ def test_it_records_until_sigterm(service: Start, built: pathlib.Path, tmp_path:
     image = image_of(tmp_path / "a.img")
     fed = service(image.parent / "table.csv", image, "--", built, "--to", "{}", "0=-")
     fed.give(lines_of([FIVE]))
-    until(lambda: len(acks(tmp_path)) > 30)
+    until(lambda: len(acks(tmp_path)) > 20)
     fed.child.terminate()
     status, _, error = fed.ended()
     assert status == 0
@@ -114,9 +114,9 @@ def test_recordings_follow_each_other_and_lose_no_word(
 ) -> None:
     """What a recorder hadn't read, the source would count as lost, and what found no room as dropped."""
     image = image_of(tmp_path / "a.img")
-    fed = service(image.parent / "table.csv", image, "--", built, "--rotate", "1s", "--to", "{}", "0=-")
+    fed = service(image.parent / "table.csv", image, "--", built, "--rotate", "300ms", "--to", "{}", "0=-")
     given = 0
-    while len(acks(tmp_path)) < 80:
+    while len(acks(tmp_path)) < 40:
         fed.give(lines_of(odd_words(50, given)))
         given += 50
         time.sleep(0.05)
@@ -126,7 +126,7 @@ def test_recordings_follow_each_other_and_lose_no_word(
     assert status == 0
     assert f"source: {given} words, 0 dropped, 0 lost, 0 bad" in error
     sessions = [line.split(",") for line in listed(image) if line.startswith("session")]
-    assert len(sessions) >= 3
+    assert len(sessions) >= 2
     assert [int(one[1]) for one in sessions] == list(range(1, len(sessions) + 1))
     assert acks(tmp_path)[-1] >= int(sessions[-1][2])
 
@@ -135,7 +135,7 @@ def test_killed_ones_are_begun_again(service: Start, built: pathlib.Path, tmp_pa
     image = image_of(tmp_path / "a.img")
     fed = service(image.parent / "table.csv", image, "--", built, "--to", "{}", "0=/dev/ptmx")
     for count in range(1, 3):
-        until(lambda: bool(of_kin(fed.child.pid, "source")) and len(set(acks(tmp_path))) > 30 * count)
+        until(lambda: bool(of_kin(fed.child.pid, "source")) and len(set(acks(tmp_path))) > 20 * count)
         for one in (*of_kin(fed.child.pid, "source"), *of_kin(fed.child.pid, program().name)):
             os.kill(one, signal.SIGKILL)
         until(lambda: not of_kin(fed.child.pid, "source"))

@@ -164,11 +164,9 @@ def test_the_screen_of_a_terminal() -> None:
     shown = Reading(other)
     child.stdin.write(record(0, FIVE))
     shown.until(lambda data: any(line.startswith("ALT") and " 5 " in line for line in screen(data)))
-    child.stdin.write(record(1, SEVEN) + record(1, OTHER))
-    shown.until(lambda data: len(screen(data)) == 4 and " 7 " in screen(data)[2])
+    child.stdin.write(record(1, SEVEN) + record(1, OTHER) + record(9, OTHER))
+    shown.until(lambda data: len(screen(data)) == 4 and " 7 " in screen(data)[2] and "SILENT" in screen(data)[2])
     assert shown.data.count(b"\x1b[H") >= 2
-    child.stdin.write(record(9, OTHER))
-    shown.until(lambda data: len(screen(data)) == 4 and "SILENT" in screen(data)[2])
     child.stdin.close()
     assert child.wait(PATIENCE) == 0
     os.close(other)
