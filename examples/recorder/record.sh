@@ -28,7 +28,7 @@ say() { printf '%(%FT%TZ)T record.sh: %s\n' -1 "$*" >&2; }
 
 alarm() {
     say "ALARM: $*"
-    [ -z "${ALARM:-}" ] || $ALARM "$*" 3>&-
+    [ -z "${ALARM:-}" ] || $ALARM "$*" </dev/null 3>&- & # nothing waits for it
 }
 
 [ "${1:-}" != --once ] || { once=1 && shift; }

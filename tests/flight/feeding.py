@@ -6,7 +6,7 @@ import select
 import struct
 import subprocess
 import time
-from typing import Callable, NamedTuple, Sequence
+from typing import Callable, Mapping, NamedTuple, Sequence
 
 import pytest
 
@@ -98,9 +98,13 @@ class Reading:
 class Fed:
     """A process with pipes to all three of its streams."""
 
-    def __init__(self, words: Sequence[str | pathlib.Path], given: int = subprocess.PIPE) -> None:
+    def __init__(
+        self, words: Sequence[str | pathlib.Path], given: int = subprocess.PIPE, more: Mapping[str, str] = {}
+    ) -> None:
+        pipe = subprocess.PIPE
+        environment = {**os.environ, **more}
         self.child = subprocess.Popen(
-            [str(word) for word in words], stdin=given, stdout=subprocess.PIPE, stderr=subprocess.PIPE, bufsize=0
+            [str(word) for word in words], stdin=given, stdout=pipe, stderr=pipe, bufsize=0, env=environment
         )
         assert self.child.stdout and self.child.stderr
         self.out = Reading(self.child.stdout.fileno())

@@ -216,6 +216,25 @@ def test_rotation_loses_no_row(live: Start, tmp_path: pathlib.Path) -> None:
         os.close(trace.descriptor)
 
 
+def test_a_recorder_that_dies_and_the_next_one(live: Start, tmp_path: pathlib.Path) -> None:
+    path = tmp_path / "trace"
+    os.mkfifo(path)
+    fed = live("--to", path)
+    fed.give(HEADER + b"0,0,000014C1\n")
+    first = Reading(os.open(path, os.O_RDONLY))
+    first.until_words([FIVE])
+    os.close(first.descriptor)
+    os.mkfifo(tmp_path / "new")
+    (tmp_path / "new").rename(path)
+    fed.give(b"1,0,000014C1\n")
+    fed.error.until(lambda error: b"the reader of the trace is gone" in error)
+    fed.give(b"2,0,80001CC1\n")
+    second = Reading(os.open(path, os.O_RDONLY))
+    second.until_words([SEVEN])
+    assert told(second.data) == [(0, SEVEN)]
+    os.close(second.descriptor)
+
+
 @pytest.mark.parametrize(
     "words, fault",
     [

@@ -219,7 +219,8 @@ def test_it_waits_for_the_lock_of_a_reader(service: Start, built: pathlib.Path, 
         assert acks(tmp_path) == []
     until(lambda: len(acks(tmp_path)) > 1)
     fed.child.terminate()
-    assert fed.ended()[0] == 0
+    status, _, error = fed.ended()
+    assert (status, "the recorder ended with" in error) == (0, False)
 
 
 def test_one_disk_of_two_is_not_there(service: Start, built: pathlib.Path, tmp_path: pathlib.Path) -> None:

@@ -217,6 +217,33 @@ def test_a_reader_that_stops_for_a_while_costs_what_the_ring_has_no_room_for(sou
     assert beats[0] == 0 and beats == sorted(beats)
 
 
+SLOW = """
+#include <unistd.h>
+int fdatasync(int fd) { usleep(500000); return fsync(fd); }
+"""
+
+
+def test_a_recorder_that_syncs_slowly(source: Start, tmp_path: pathlib.Path) -> None:
+    """While it waits for its first sync it reads nothing, and the ring fills."""
+    (tmp_path / "slow.c").write_text(SLOW)
+    library = tmp_path / "slow.so"
+    subprocess.run(["cc", "-shared", "-fPIC", "-o", library, tmp_path / "slow.c"], check=True, timeout=PATIENCE)
+    fdr, image = program(), tmp_path / "a.img"
+    subprocess.run([fdr, "format", T1, image, "--slots", "16", "--payload", "4096"], check=True, timeout=PATIENCE)
+    fed = source("--hold", 8192, "0=-")
+    assert fed.child.stdout
+    recorder = Fed([fdr, "record", T1, image], fed.child.stdout.fileno(), {"LD_PRELOAD": str(library)})
+    begun = time.monotonic()
+    fed.give(lines_of(odd_words(30_000)))
+    fed.close_input()
+    status, _, error = recorder.ended()
+    assert (status, error) == (0, "ack 0\nack 1\n")
+    assert time.monotonic() - begun > 1.5  # of three syncs
+    said = fed.error.to_the_end().decode()
+    assert 0 < int(said.split(" dropped")[-2].split()[-1]) <= 30_000 - 8_192
+    recorder.let_go()
+
+
 def test_beats_say_what_was_dropped(source: Start) -> None:
     fed = source("--hold", 8192, "--beat", 9, "0=-")
     fed.give(lines_of(odd_words(20_000)))
