@@ -1,5 +1,6 @@
 """examples/recorder/record.sh and its units: one recording after another, what ends it for good, and one disk of two."""
 
+import contextlib
 import fcntl
 import os
 import pathlib
@@ -93,8 +94,12 @@ def until(is_so: Callable[[], bool]) -> None:
 
 def of_kin(parent: int, name: str) -> list[int]:
     """The children of a process that have this name."""
-    children = pathlib.Path(f"/proc/{parent}/task/{parent}/children").read_text().split()
-    return [int(one) for one in children if pathlib.Path(f"/proc/{one}/comm").read_text().strip() == name]
+    found = []
+    for one in pathlib.Path(f"/proc/{parent}/task/{parent}/children").read_text().split():
+        with contextlib.suppress(FileNotFoundError, ProcessLookupError):  # it has just ended
+            if pathlib.Path(f"/proc/{one}/comm").read_text().strip() == name:
+                found.append(int(one))
+    return found
 
 
 def test_it_records_until_sigterm(service: Start, built: pathlib.Path, tmp_path: pathlib.Path) -> None:
@@ -136,10 +141,10 @@ def test_killed_ones_are_begun_again(service: Start, built: pathlib.Path, tmp_pa
     fed = service(image.parent / "table.csv", image, "--", built, "--to", "{}", "0=/dev/ptmx")
     for count in range(1, 3):
         until(lambda: bool(of_kin(fed.child.pid, "source")) and len(set(acks(tmp_path))) > 20 * count)
-        for one in (*of_kin(fed.child.pid, "source"), *of_kin(fed.child.pid, program().name)):
+        killed = {*of_kin(fed.child.pid, "source"), *of_kin(fed.child.pid, program().name)}
+        for one in killed:
             os.kill(one, signal.SIGKILL)
-        until(lambda: not of_kin(fed.child.pid, "source"))
-    until(lambda: bool(of_kin(fed.child.pid, "source")))
+        until(lambda: bool(set(of_kin(fed.child.pid, "source")) - killed))
     fed.child.terminate()
     assert fed.ended()[0] == 0
     assert len([line for line in listed(image) if line.startswith("session")]) >= 2

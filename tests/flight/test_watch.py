@@ -114,6 +114,20 @@ def test_values_are_those_of_listings() -> None:
     assert set(told) - {"-"} == {parameter.name for parameter in table.parameters}
 
 
+@pytest.mark.parametrize(
+    "scale, word, value",
+    [
+        ((11, 12, "S", 1, 2, 0, 1), 0xFFF << 10, "-0.1"),
+        ((11, 12, "U", 1, 2, 0, 1), 0xFFF << 10, "204.7"),
+        ((11, 12, "U", 5, 1, -400, 1), 5 << 10 | 1 << 22, "-37.5"),
+        ((1, 32, "U", 1, 1, 7, 0), 0xFFFFFFFF, "4294967302"),
+        ((29, 1, "V", 1, 1, 0, 0), 0, "1"),
+    ],
+)
+def test_a_value_by_its_scale(scale: tuple[int, int, str, int, int, int, int], word: int, value: str) -> None:
+    assert watch_module.Scale(*scale).value(word) == value
+
+
 def test_what_the_source_dropped_and_its_beats() -> None:
     """A beat has label 000 and even parity, and bits 9 to 31 say how many words were dropped."""
     beats = [number << 8 | number.bit_count() % 2 << 31 for number in (0, 5, 8_388_607)]
