@@ -45,7 +45,7 @@ def once(trace: bytes) -> tuple[int, list[str], str]:
 
 def table_of(trace: bytes, table: pathlib.Path = T1) -> tuple[list[str], bool]:
     """The table of a whole trace, and whether a parameter is silent."""
-    watched = watch_module.Watch(parameters.read_table(str(table)), watch_module.read_scales(str(table)))
+    watched = watch_module.Watch(parameters.read_table(str(table)))
     watched.take(np.frombuffer(trace, dtype=trace_module.RECORD))
     return watched.lines()
 
@@ -115,17 +115,20 @@ def test_values_are_those_of_listings() -> None:
 
 
 @pytest.mark.parametrize(
-    "scale, word, value",
+    "fields, word, value",
     [
-        ((11, 12, "S", 1, 2, 0, 1), 0xFFF << 10, "-0.1"),
-        ((11, 12, "U", 1, 2, 0, 1), 0xFFF << 10, "204.7"),
-        ((11, 12, "U", 5, 1, -400, 1), 5 << 10 | 1 << 22, "-37.5"),
-        ((1, 32, "U", 1, 1, 7, 0), 0xFFFFFFFF, "4294967302"),
-        ((29, 1, "V", 1, 1, 0, 0), 0, "1"),
+        ("11,12,S,1,2,0,1", 0xFFF << 10, "-0.1"),
+        ("11,12,U,1,2,0,1", 0xFFF << 10, "204.7"),
+        ("11,12,U,5,1,-400,1", 5 << 10 | 1 << 22, "-37.5"),
+        ("1,32,U,1,1,7,0", 0xFFFFFFFF, "4294967302"),
+        ("29,1,V,1,1,0,0", 0, "1"),
     ],
 )
-def test_a_value_by_its_scale(scale: tuple[int, int, str, int, int, int, int], word: int, value: str) -> None:
-    assert watch_module.Scale(*scale).value(word) == value
+def test_a_value_by_its_scale(tmp_path: pathlib.Path, fields: str, word: int, value: str) -> None:
+    """Lowest bit, width, sign, numerator, denominator, offset, decimals."""
+    table = tmp_path / "table.csv"
+    table.write_text(f"F,64,2,1\nP,ALT,0,203,,{fields},16\n")
+    assert parameters.read_table(str(table)).parameters["ALT"].text_of(word) == value
 
 
 def test_what_the_source_dropped_and_its_beats() -> None:

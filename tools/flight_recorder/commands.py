@@ -205,7 +205,7 @@ def _run_watch(given: argparse.Namespace) -> int:
         raise Fault("standard input is closed")
     once = None if given.once is None else durations.microseconds(given.once) / 1_000_000
     try:
-        is_silent = watch.watch(parameters.read_table(given.table), watch.read_scales(given.table), once)
+        is_silent = watch.watch(parameters.read_table(given.table), once)
     except BrokenPipeError:
         drop_output()  # who reads has enough
         return DONE

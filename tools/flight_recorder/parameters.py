@@ -49,7 +49,16 @@ class Parameter:
     width: int
     sign: str
     scale: Scale
+    lsb: int  # the lowest bit of the field in the bus word
     places: list[Place] = field(default_factory=list)
+
+    def text_of(self, word: int) -> str:
+        """The value that a bus word has, as it is listed."""
+        raw = word >> self.lsb - 1 & (1 << self.width) - 1
+        if self.sign == "V":
+            return self.scale.text(1)  # the word is there
+        is_negative = self.sign == "S" and raw >> self.width - 1
+        return self.scale.text(raw - (1 << self.width) if is_negative else raw)
 
     def is_prompt(self) -> bool:
         """Whether all parts of a sample are in one frame, for certain: those of one cycle and period, as they mostly are."""
@@ -125,8 +134,10 @@ def _parameter(row: list[str]) -> Parameter:
     )
     if row[7] not in ("U", "S", "V"):
         raise ValueError(row[7])
-    width = _number(row[6], range(1, 33))
-    return Parameter(row[1], _number(row[2], range(256)), _number(row[3], range(0o400), 8), sdi, width, row[7], scale)
+    lsb, width = _number(row[5], range(1, 33)), _number(row[6], range(1, 33))
+    return Parameter(
+        row[1], _number(row[2], range(256)), _number(row[3], range(0o400), 8), sdi, width, row[7], scale, lsb
+    )
 
 
 def _signed(text: str, most: int) -> int:

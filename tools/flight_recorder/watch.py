@@ -1,11 +1,8 @@
 """What a trace has of each parameter while it is recorded: last values, words a second, and what has fallen silent."""
 
 import contextlib
-import csv
 import fcntl
-import io
 import os
-import pathlib
 import shutil
 import statistics
 import sys
@@ -33,41 +30,6 @@ INTERVALS = 32  # of which the middle one is the ordinary interval
 UNKNOWN = MILLION  # microseconds: the ordinary interval of one word alone
 TOO_LONG = 3  # ordinary intervals
 HOME, END_OF_LINE, END_OF_SCREEN = "\x1b[H", "\x1b[K", "\x1b[J"
-
-
-@dataclass(frozen=True)
-class Scale:
-    """Where a parameter is in its bus word, and what its number means."""
-
-    lsb: int
-    width: int
-    sign: str
-    num: int
-    den: int
-    offset: int
-    decimals: int
-
-    def value(self, word: int) -> str:
-        """The value that a word has, as a listing has it."""
-        raw = word >> (self.lsb - 1) & (1 << self.width) - 1
-        if self.sign == "V":
-            return "1"
-        if self.sign == "S" and raw >> self.width - 1:
-            raw -= 1 << self.width
-        units = self.offset + raw * self.num // self.den
-        digits = str(abs(units)).rjust(self.decimals + 1, "0")
-        whole, rest = digits[: len(digits) - self.decimals], digits[len(digits) - self.decimals :]
-        return ("-" if units < 0 else "") + whole + ("." + rest if self.decimals else "")
-
-
-def read_scales(path: str) -> dict[str, Scale]:
-    """The scales of a table, by parameter. What is wrong with a row is said by `parameters.read_table`, or by `fdr check`."""
-    text = pathlib.Path(path).read_bytes().decode("utf-8-sig", "surrogateescape")
-    rows = [row for row in csv.reader(io.StringIO(text, newline="")) if row and row[0] == "P"]
-    try:
-        return {row[1]: Scale(int(row[5]), int(row[6]), row[7], *map(int, row[8:12])) for row in rows}
-    except ValueError:
-        raise Fault("the table has a scale that isn't numbers: `fdr check` says where") from None
 
 
 @dataclass
@@ -102,9 +64,8 @@ class Heard:
 class Watch:
     """What came of the parameters of a table, and of all else."""
 
-    def __init__(self, table: Table, scales: dict[str, Scale]) -> None:
+    def __init__(self, table: Table) -> None:
         self.table = table
-        self.scales = scales
         self.asked = {source_of(one): Heard() for one in table.parameters.values()}
         self.by_label: dict[tuple[int, int], list[Source]] = {}
         for one in self.asked:
@@ -168,7 +129,7 @@ class Watch:
             heard = self.asked[source]
             note = _note(heard, at)
             is_silent |= bool(note)
-            value = "" if heard.time is None else self.scales[parameter.name].value(heard.last)
+            value = "" if heard.time is None else parameter.text_of(heard.last)
             silence = "" if heard.time is None else f"{(at - heard.time) / MILLION:.2f} s"
             rows.append((parameter.name, *names_of(source), value, _rate(heard, span), silence, note))
         for source, heard in sorted(self.others.items()):
@@ -227,9 +188,9 @@ class Reading:
         return lines
 
 
-def watch(table: Table, scales: dict[str, Scale], once: float | None) -> bool:
+def watch(table: Table, once: float | None) -> bool:
     """Writes a table each second until the trace ends, or one alone after so many seconds. Answers whether a parameter is silent."""
-    reading = Reading(Watch(table, scales), sys.stdin.fileno())
+    reading = Reading(Watch(table), sys.stdin.fileno())
     if once is not None:
         reading.ended.wait(once)
         lines, is_silent = reading.lines()
