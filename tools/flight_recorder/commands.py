@@ -45,7 +45,7 @@ def _parser() -> argparse.ArgumentParser:
         prog="flight", description=ABOUT, formatter_class=argparse.RawDescriptionHelpFormatter, allow_abbrev=False
     )
     commands = parser.add_subparsers(metavar="COMMAND", required=True)
-    for add in (_add_trace, _add_words, _add_check_trace, _add_watch, _add_table, _add_frame, _add_plot):
+    for add in (_add_trace, _add_words, _add_check_trace, _add_watch, _add_table, _add_frame, _add_parts, _add_plot):
         add(commands)
     readout.add_commands(commands, _command)
     tabling.add_commands(commands, _command)
@@ -398,6 +398,38 @@ def _run_frame(given: argparse.Namespace) -> None:
             frames.write_frame(text, bits, table, found, number)
             text.write("\n")
         out.write(text.getvalue().encode())
+
+
+def _add_parts(commands: "argparse._SubParsersAction[argparse.ArgumentParser]") -> None:
+    parser = _command(
+        commands,
+        "parts",
+        _run_parts,
+        "read the subframes that stand in the gaps of a listing, and name its doubtful frames",
+        "flight parts flight.img flight.listing --table examples/ordinary.csv > flight.parts",
+    )
+    parser.add_argument("dump", metavar="DUMP|IMAGE", help="packed bits, as fdr listbits reads them, or an image of fdr")
+    parser.add_argument("listing", metavar="LISTING", help="its listing; - for standard input")
+    parser.add_argument("--table", metavar="TABLE", required=True, help="the recording's table")
+    parser.add_argument(
+        "--syncs", type=int, choices=(2, 3), default=2,
+        help="how many sync words have to stand of a subframe's own, the one before and the one after; 2 if it isn't given",
+    )  # fmt: skip
+
+
+def _run_parts(given: argparse.Namespace) -> None:
+    import io
+
+    from . import outline, parameters, parts
+
+    table = parameters.read_table(given.table)
+    reader = parts.Reader(table, given.syncs)
+    with opened(given.dump) as dump, opened(given.listing) as source, standard_output() as out:
+        sections = outline.sections_of(source, table)
+        text = io.TextIOWrapper(out, "ascii", write_through=True)
+        for section, data in zip(sections, parts.lines_of_bits(dump.read(), sections)):
+            reader.write(section, data, text)
+        text.detach()
 
 
 def _add_plot(commands: "argparse._SubParsersAction[argparse.ArgumentParser]") -> None:

@@ -55,10 +55,16 @@ class Parameter:
     def text_of(self, word: int) -> str:
         """The value that a bus word has, as it is listed."""
         raw = word >> self.lsb - 1 & (1 << self.width) - 1
-        if self.sign == "V":
-            return self.scale.text(1)  # the word is there
-        is_negative = self.sign == "S" and raw >> self.width - 1
-        return self.scale.text(raw - (1 << self.width) if is_negative else raw)
+        return self.scale.text(1) if self.sign == "V" else self.text(raw)  # of V the word is there
+
+    def text(self, bits: int) -> str:
+        """The value of these bits of its field, as it is listed."""
+        is_negative = self.sign == "S" and bits >> (self.width - 1)
+        return self.scale.text(bits - (1 << self.width) if is_negative else bits)
+
+    def is_in_each_frame(self) -> bool:
+        """Whether all frames have it alike, whichever cycle they are of."""
+        return all(place.period == 1 for place in self.places)
 
     def is_prompt(self) -> bool:
         """Whether all parts of a sample are in one frame, for certain: those of one cycle and period, as they mostly are."""
