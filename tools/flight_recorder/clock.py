@@ -15,6 +15,7 @@ recording that the row is of.
 import dataclasses
 import enum
 from dataclasses import dataclass
+from typing import TYPE_CHECKING
 
 import numpy as np
 
@@ -22,6 +23,9 @@ from .arrays import Array
 from .faults import Fault
 from .listing import MOST_WORDS, ROUND, SUBFRAMES, Exceedance, Kind, Mark, Piece, Place
 from .parameters import SUPERFRAME, Table
+
+if TYPE_CHECKING:
+    from .beside import Placed
 
 SECOND = 1024  # ticks
 FRAME = SUBFRAMES * SECOND
@@ -73,6 +77,7 @@ class Event(enum.Enum):
     BREAK = "break"
     WRAP = "wrap"
     EXCEED = "exceed"
+    DOUBTFUL = "doubtful"
 
     @property
     def begins_recording(self) -> bool:
@@ -83,7 +88,8 @@ class Event(enum.Enum):
 @dataclass(frozen=True)
 class Between:
     """Something between rows: how many rows of the piece are before it, and the recording that it is in; where it begins
-    and ends, in ticks, as far as rows say; whether its length is known; and what there is to say."""
+    and ends, in ticks, as far as rows say; whether its length is known; what there is to say; of a gap its line in the
+    listing, and what was read out of it where that is given."""
 
     event: Event
     row: int
@@ -93,6 +99,12 @@ class Between:
     known: bool
     text: str
     exceedance: Exceedance | None = None
+    line: int = 0
+    placed: "Placed | None" = None
+
+    def with_parts(self, placed: "Placed") -> "Between":
+        """The same with what was read out of it."""
+        return dataclasses.replace(self, placed=placed)
 
 
 @dataclass
@@ -114,7 +126,7 @@ class Frames:
 class Timed:
     """A piece with its times: for each row the recording and the stretch it is of, and when its sample began. `sessions` has
     the session of each recording so far, where a line told it; `bit` where each row's first word begins, where it is wanted, and
-    `dump_bit` the same with the bits of all sessions before."""
+    `dump_bit` the same with the bits of all sessions before; `doubtful` which rows are, where a file of parts says it."""
 
     piece: Piece
     recording: Array
@@ -125,6 +137,7 @@ class Timed:
     sessions: list[int | None]
     bit: Array | None = None
     dump_bit: Array | None = None
+    doubtful: Array | None = None
 
 
 @dataclass
@@ -370,7 +383,7 @@ class Clock:
             return [Between(Event.BREAK, row, self.recording, begin, end, False, text)]
         by_bits, by_counter = about(bits * FRAME / self.shape.bits), about(missing * FRAME)
         text = f"bits of {by_bits} s, by the counter {by_counter} s: lost bits or another recording"
-        return [Between(Event.GAP, row, self.recording, begin, end, False, f"{_bits(gap)}: {text}") for gap in gaps]
+        return [self._gap(gap, row, begin, end, False, text) for gap in gaps]
 
     def _went_on(self, gaps: list[Mark], row: int, line: int, missing: int) -> list[Between]:
         """Time goes on after gaps of a known length."""
@@ -378,15 +391,15 @@ class Clock:
         begin, end = (before + 1) * FRAME, (before + 1 + missing) * FRAME
         self.shift = before + 1 + missing - line
         text = f"{seconds(missing * FRAME)} s"
-        return [Between(Event.GAP, row, self.recording, begin, end, True, f"{_bits(gap)}: {text}") for gap in gaps]
+        return [self._gap(gap, row, begin, end, True, text) for gap in gaps]
 
     def _anew(self, gaps: list[Mark], row: int, line: int, event: Event, text: str) -> list[Between]:
         """A recording begins anew after gaps of unknown length."""
         begin = (self.newest + self.shift + 1) * FRAME
         between = []
         for gap in gaps:
-            by_bits = f"{_bits(gap)}: bits of {about(gap.second * FRAME / self.shape.bits)} s, unknown length"
-            between.append(Between(Event.GAP, row, self.recording, begin, None, False, by_bits))
+            by_bits = f"bits of {about(gap.second * FRAME / self.shape.bits)} s, unknown length"
+            between.append(self._gap(gap, row, begin, None, False, by_bits))
         between.append(self._new_recording(event, row, line % ROUND * FRAME, text))
         self.shift = line % ROUND - line
         return between
@@ -406,8 +419,12 @@ class Clock:
         elif self.has_rows:
             begin = (self.newest + self.shift + 1) * FRAME
         after = None if begin is None else begin + length
-        text = f"{_bits(gap)}: {seconds(length)} s by its bits"
-        return Between(Event.GAP, row, max(self.recording, 0), begin, after, True, text)
+        return self._gap(gap, row, begin, after, True, f"{seconds(length)} s by its bits")
+
+    def _gap(self, gap: Mark, row: int, begin: int | None, end: int | None, known: bool, text: str) -> Between:
+        """A gap, with what there is to say of its length."""
+        where = f"from bit {gap.first}, {gap.second} bits: {text}"
+        return Between(Event.GAP, row, max(self.recording, 0), begin, end, known, where, line=gap.line)
 
     def _exceedances(self, marks: list[Mark], newest: list[tuple[int, int]], first: Array) -> list[Between]:
         """The exceedances among the rows. Each began in the last frame before it that has its counter; `newest` has for what is
@@ -446,10 +463,6 @@ def about(ticks: float) -> str:
     """Ticks as seconds, to a tenth, or to two digits where that is less."""
     length = ticks / SECOND
     return f"{length:.1f}".removesuffix(".0") if length >= 0.1 else f"{length:.2g}"
-
-
-def _bits(gap: Mark) -> str:
-    return f"from bit {gap.first}, {gap.second} bits"
 
 
 def _within(subframe: Array, word: Array) -> Array:

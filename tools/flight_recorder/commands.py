@@ -12,7 +12,7 @@ from .faults import Fault, MissingPackage
 from .streams import Again, drop_output, emptied, opened, opened_again, output, standard_output, whole_file
 
 if TYPE_CHECKING:
-    from . import capture, curves, dates, listing, reading, tables, window
+    from . import beside, capture, curves, dates, listing, parameters, reading, tables, window
 
 DONE, FAULT, SILENT, STOPPED = 0, 1, 2, 130
 WIDTHS = (64, 128, 256, 512, 1024)
@@ -243,7 +243,19 @@ def _reading(given: argparse.Namespace, with_bits: bool = False) -> tuple[readin
     wanted = window.Window(given.recording, begin, end, given.zero)
     how = reading.reading_of(given.table, given.words)
     how.window, how.as_recorded, how.with_bits = wanted, given.as_recorded, with_bits
+    if given.parts:
+        how.beside = _beside(given.parts, how.table)
     return how, starts
+
+
+def _beside(path: str, table: parameters.Table | None) -> beside.Beside:
+    """What a file of parts says."""
+    from . import beside
+
+    if table is None:
+        raise Fault("--parts needs --table, by which its rows were read")
+    with opened(path) as source:
+        return beside.read_beside(source, table)
 
 
 def _say_passed_over(passed: reading.PassedOver) -> None:
@@ -269,6 +281,7 @@ def _add_table(commands: "argparse._SubParsersAction[argparse.ArgumentParser]") 
     parser.add_argument("--bits", action="store_true", help="a column with the bit at which each sample's word begins")
     parser.add_argument("--raw", metavar="DUMP", help="a column with each sample's words in octal, of the listed bits")
     parser.add_argument("--exceed", metavar="FILE", help="a table of these exceedances alone, with their times")
+    parser.add_argument("--parts", metavar="FILE", help="what flight parts wrote of the listing: rows of gaps, and doubtful rows marked")
 
 
 def _run_table(given: argparse.Namespace) -> None:
@@ -338,6 +351,8 @@ def _check_table_words(given: argparse.Namespace) -> None:
         raise Fault("--bits and --raw are columns of a long table")
     if (given.bits or given.raw) and not given.table:
         raise Fault("--bits and --raw need --table, by which frames without rows are known")
+    if given.parts and (by_parameter or _is_hdf(given.output)):
+        raise Fault("--parts is for a long table, and for one of exceedances")
     if given.exceed and by_parameter:
         raise Fault("--exceed makes a table of its own, without --wide and --every")
 
@@ -349,7 +364,7 @@ def _columns(given: argparse.Namespace, one: reading.Pass, starts: dates.Dates |
     if (given.bits or given.raw) and not one.shape.every_frame:
         raise Fault("--bits and --raw: by this table frames may be without rows, so it isn't known where they are")
     words = raw.RawWords(given.raw, one.reading.table) if given.raw and one.reading.table else None
-    return tables.Columns(one.sessions, starts, given.bits, words, one.reading.window)
+    return tables.Columns(one.sessions, starts, given.bits, words, one.reading.beside is not None, one.reading.window)
 
 
 def _table_writer(
@@ -453,6 +468,7 @@ def _add_plot(commands: "argparse._SubParsersAction[argparse.ArgumentParser]") -
         help="parameters that go round, as HDG, or TRK=4096 where not in degrees; angles in degrees are mostly found",
     )
     parser.add_argument("--exceed", metavar="FILE", help="lines of exceedances to mark")
+    parser.add_argument("--parts", metavar="FILE", help="what flight parts wrote of the listing: curves of gaps, and doubtful frames")
     parser.add_argument("--title", metavar="TEXT", default="", help="a title")
 
 
@@ -519,7 +535,7 @@ def _flight(given: argparse.Namespace, points: int, exceedances: list[listing.Ex
                 collector.add(timed)
             flight = collector.end(one.rest)
         _say_passed_over(one.passed_over)
-    flight.together = [names.split(",") for names in given.together]
+    flight.put_together([names.split(",") for names in given.together])
     drawn = {name for name in flight.curves}
     missing = sorted(((only or set()) | {name for names in flight.together for name in names}) - drawn)
     if missing:

@@ -9,7 +9,7 @@ from typing import Mapping
 import numpy as np
 
 from .arrays import Array
-from .clock import FRAME, Between, Event, Timed
+from .clock import FRAME, SECOND, Between, Event, Timed
 from .exceedings import Finder
 from .listing import Exceedance, Names
 
@@ -19,6 +19,7 @@ MOST_ROOM = 5  # and all rooms together are this part at the most
 FULL_CIRCLE = 360
 ANGLES = ((0, FULL_CIRCLE), (-FULL_CIRCLE // 2, FULL_CIRCLE // 2))  # what angles in degrees are between
 MOST_OF_CIRCLE = 300  # degrees that values spread over, for them to be taken for an angle's
+PART, DOUBTFUL = " (part)", " (doubtful)"  # after the name of a curve of what was read out of gaps, or is doubtful
 CUT = 4  # points that a stretch of time is thinned to, at the most: the first, the least, the greatest and the last
 
 
@@ -65,6 +66,11 @@ def broken_at_wraps(points: Points, circle: float) -> Points:
     wraps = np.abs(np.diff(points.value, prepend=points.value[:1])) > circle / 2
     breaks = np.insert(np.diff(points.stretch) != 0, 0, False) if len(points) else wraps
     return Points(points.time, points.value, np.cumsum(wraps | breaks))
+
+
+def own_name(name: str) -> str:
+    """The parameter of a curve."""
+    return name.removesuffix(PART).removesuffix(DOUBTFUL)
 
 
 class Curve:
@@ -126,6 +132,7 @@ class Exceeding:
     exceedance: Exceedance
     times: tuple[int, ...]
     parameters: tuple[str, ...]
+    doubtful: bool = False
 
 
 @dataclass
@@ -164,6 +171,12 @@ class Flight:
                 groups.append(group)
         return groups
 
+    def put_together(self, wanted: list[list[str]]) -> None:
+        """Puts curves on one axis, each with that of its parts."""
+        beside = {own_name(names[0]): names for names in self.together}
+        groups = [[each for name in names for each in beside.pop(name, [name])] for names in wanted]
+        self.together = groups + list(beside.values())
+
     @property
     def end(self) -> int:
         """Where the axis ends."""
@@ -191,6 +204,7 @@ class Collector:
         self.recording_of = [0]  # by stretch
         self.between: list[Between] = []
         self.leading: dict[int, int] = {}  # where gaps before a recording's first row begin
+        self.apart: dict[str, Curve] = {}  # what was read out of gaps, and doubtful samples; a point's stretch is its recording
         self.finder = Finder(exceedances)
 
     def add(self, timed: Timed) -> None:
@@ -210,7 +224,16 @@ class Collector:
                 points = Points(time[rows], timed.piece.value[rows], timed.stretch[rows])
                 curve = self.curves.setdefault(name, Curve())
                 curve.add(points, int(timed.piece.decimals[rows].max()))
+                self._take_doubtful(timed, rows, time)
         self._thin()
+
+    def _take_doubtful(self, timed: Timed, rows: Array, time: Array) -> None:
+        """Takes the doubtful samples among these, of one parameter, once more."""
+        if timed.doubtful is not None and timed.doubtful[rows].any():
+            rows = rows[timed.doubtful[rows]]
+            name = self.names.names[int(timed.piece.name[rows[0]])] + DOUBTFUL
+            points = Points(time[rows], timed.piece.value[rows], timed.recording[rows].astype(np.int64))
+            self.apart.setdefault(name, Curve()).add(points, int(timed.piece.decimals[rows].max()))
 
     def _thin(self) -> None:
         """Thins the curves with more than their share, where all have half as many points again as they may."""
@@ -241,6 +264,8 @@ class Collector:
     def end(self, between: list[Between]) -> Flight:
         """All of it."""
         self.between += between
+        for one in self.between:
+            self._take_parts(one)
         length = sum(recording.end - recording.first for recording in self.recordings)
         room = length // max(ROOMS, MOST_ROOM * len(self.recordings))
         for number, recording in enumerate(self.recordings):
@@ -255,7 +280,47 @@ class Collector:
             circle = self.circles.get(name, circle_of(points))
             points = broken_at_wraps(points, circle) if circle else points
             flight.curves[name], flight.decimals[name], flight.counts[name] = points, curve.decimals, curve.count
+        for own, curve in self.apart.items():
+            points = self._in_pieces(curve.points(most), room)
+            flight.curves[own], flight.decimals[own], flight.counts[own] = points, curve.decimals, curve.count
+        beside = {name: [name + kind for kind in (PART, DOUBTFUL) if name + kind in self.apart] for name in self.names.names}
+        flight.together = [[name] * (name in flight.curves) + own for name, own in beside.items() if own]
         return flight
+
+    def _take_parts(self, one: Between) -> None:
+        """Takes what was read out of a gap."""
+        if one.placed is None:
+            return
+        parts = one.placed.parts
+        rows: dict[str, list[tuple[int, int, str]]] = {}
+        for number, recording, time in one.placed:
+            if time >= 0 and (self.only is None or parts.name[number] in self.only):
+                rows.setdefault(parts.name[number], []).append((recording, time, parts.value[number]))
+        for name, each in rows.items():
+            recording = np.array([row[0] for row in each], dtype=np.int64)
+            time = np.array([row[1] for row in each], dtype=np.int64)
+            put = time + np.array([self._shift(int(of), int(at)) for of, at in zip(recording, time)], dtype=np.int64)
+            value = np.array([float(row[2]) for row in each])
+            decimals = max(len(row[2].partition(".")[2]) for row in each)
+            self.apart.setdefault(name + PART, Curve()).add(Points(put, value, recording), decimals)
+
+    def _shift(self, number: int, time: int) -> int:
+        """What makes a time of a recording a place on the axis, without the room between recordings."""
+        while len(self.recordings) <= number:
+            after = self.recordings[-1].put_end if self.recordings else 0
+            first = time // FRAME * FRAME
+            self.recordings.append(Recording(first, first, after))
+        recording = self.recordings[number]
+        if number == len(self.recordings) - 1:
+            recording.end = max(recording.end, (time // SECOND + 1) * SECOND)
+        return recording.put - recording.first
+
+    def _in_pieces(self, points: Points, room: int) -> Points:
+        """Points on the axis, in pieces of which none goes over a time without samples."""
+        order = np.lexsort((points.time, points.stretch))
+        time, recording = points.time[order], points.stretch[order]
+        breaks = (np.diff(time, prepend=time[:1]) > FRAME) | (np.diff(recording, prepend=recording[:1]) != 0)
+        return Points(time + recording * room, points.value[order], np.cumsum(breaks))
 
     def _spans(self, room: int) -> list[Span]:
         """What is between samples, on the axis; a new recording has the room before it."""
@@ -276,7 +341,12 @@ class Collector:
     def _exceedings(self) -> list[Exceeding]:
         """The exceedances of the file, and those of the listing itself."""
         found = [
-            Exceeding(one.exceedance, tuple(self._on_axis(*begin) for begin in one.begins()), one.parameters(self.names))
+            Exceeding(
+                one.exceedance,
+                tuple(self._on_axis(*begin) for begin in one.begins()),
+                one.parameters(self.names),
+                any(place.doubtful for place in one.places),
+            )
             for one in self.finder.found()
         ]
         for one in self.between:

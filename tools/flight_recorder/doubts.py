@@ -103,7 +103,8 @@ def _alone(frames: Frames, run: list[int]) -> list[Doubt]:
     before = run[0] - 1 if run[0] else None
     after = run[-1] + 1 if run[-1] + 1 < len(frames) else None
     if before is not None and after is not None and frames.fit(before, after):
-        return [_doubt(frames, one, COUNTER, before, after) for one in run]
+        unfit = [one for one in run if not (frames.fit(before, one) and frames.fit(one, after))]
+        return [_doubt(frames, one, COUNTER, before, after) for one in unfit]
     if before is None and (after is None or frames.counter[after] == 0) or before is None and frames.comes_round():
         return []
     if after is None and frames.comes_round():

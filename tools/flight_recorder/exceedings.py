@@ -31,6 +31,7 @@ class Standing:
     least: float = math.inf
     greatest: float = -math.inf
     end: int | None = None
+    doubtful: bool = False  # one of its samples is
 
     def has(self, peak: float) -> bool:
         """Whether a peak is the greatest or the least of the samples."""
@@ -94,6 +95,7 @@ class Finder:
         in_stretch = int(np.searchsorted(timed.stretch, one.stretch, side="right"))
         rows = rows[: int(np.searchsorted(rows, in_stretch))]
         values = timed.piece.value[rows[: one.left]]
+        one.doubtful |= timed.doubtful is not None and bool(timed.doubtful[rows[: one.left]].any())
         if len(values):
             one.least, one.greatest = min(one.least, float(values.min())), max(one.greatest, float(values.max()))
             one.last = int(timed.time[rows[len(values) - 1]])
@@ -183,6 +185,7 @@ class ExceedanceTable:
             head += [self.columns.dates.text(recording, begin)] if self.columns.dates else []
             lengths = sorted({(place.last - begin) / SECOND for place in here})
             seconds = " or ".join(f"{length:.6f}" for length in lengths)
-            note = "" if count == 1 else f"may stand at {count} places"
+            notes = ["(doubtful): a sample of it is in a doubtful frame"] * any(place.doubtful for place in here)
+            note = "; ".join([*notes, *[f"may stand at {count} places"] * (count > 1)])
             if self.columns.window.has(recording, begin, begin):
                 self.out.write(row_text([*head, seconds, *said, parameter, str(count), note]))

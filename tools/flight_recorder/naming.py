@@ -52,6 +52,8 @@ def span_name(span: Span) -> str:
         return span.text.split(" from ")[0]
     if span.event in (Event.BACK, Event.WRAP):
         return re.split("[,:]", span.text)[0]
+    if span.event is Event.DOUBTFUL:
+        return f"({span.event.value})"
     if span.event in (Event.RUN, Event.HOLE):
         return span.text.split(": ")[-1]
     if not span.known:
@@ -107,7 +109,8 @@ def _exceeding_text(one: Exceeding) -> str:
     exceedance = one.exceedance
     where = f" of {' or '.join(one.parameters)}" if one.parameters else ""
     sure = "" if len(one.times) == 1 else f", at one of {len(one.times)} places"
-    return f"{exceedance.name}{where}: {exceedance.length} samples, peak {exceedance.peak}{sure}"
+    doubt = " (doubtful)" if one.doubtful else ""
+    return f"{exceedance.name}{where}{doubt}: {exceedance.length} samples, peak {exceedance.peak}{sure}"
 
 
 def own_clock(flight: Flight, place: int) -> str:

@@ -10,8 +10,11 @@ const MOST_LISTED = 500;
 const CURVE_COLOURS = ["#1f4e79", "#c0504d", "#4f8a3c", "#7a5195", "#d98c21", "#2a9d8f"];
 const RED = "217,83,79";
 const GREY = "108,117,125";
-const COLOURS = { gap: RED, break: RED, hole: RED, session: GREY, run: GREY, back: GREY, wrap: GREY };
+const VIOLET = "142,68,173";
+const COLOURS = { doubtful: VIOLET, gap: RED, break: RED, hole: RED, session: GREY, run: GREY, back: GREY, wrap: GREY };
 const EXCEED_COLOUR = "#b8860b";
+const APART = { "(part)": "#e67e22", "(doubtful)": `rgb(${VIOLET})` }; // by what a curve's name ends with
+const FRAME = 4; // seconds
 
 async function numbers(text, Kind) {
   const signs = atob(text);
@@ -32,6 +35,7 @@ class Curve {
     Object.assign(this, data);
     this.number = number;
     this.time = null;
+    this.apart = APART[this.name.split(" ")[1]];
   }
 
   // Reads the points.
@@ -106,7 +110,8 @@ class Curve {
   // The value that was sampled last at a time, as text; nothing between stretches.
   at(time) {
     const after = this.firstFrom(time + 1);
-    if (after === 0 || isBetween(time)) return "\u2013";
+    const isThere = this.apart ? after > 0 && time - this.time[after - 1] < FRAME * flight.second : after > 0 && !isBetween(time);
+    if (!isThere) return "\u2013";
     return this.value[after - 1].toFixed(this.decimals);
   }
 }
@@ -148,7 +153,7 @@ class Group {
 }
 
 function isBetween(time) {
-  return flight.spans.some((span) => span.begin < time && time < span.end);
+  return flight.spans.some((span) => span.event !== "doubtful" && span.begin < time && time < span.end);
 }
 
 // A place of the axis: which recording's it is, and the recording's own time there.
@@ -295,7 +300,7 @@ class Page {
     const y = { axisLabelWidth: LABEL_WIDTH - 8, axisLabelFontSize: 11, pixelsPerLabel: 24 };
     return {
       labels: ["time", ...group.curves.map((curve) => curve.name)],
-      colors: group.curves.map((_, at) => CURVE_COLOURS[at % CURVE_COLOURS.length]),
+      colors: group.curves.map((curve, at) => curve.apart || CURVE_COLOURS[at % CURVE_COLOURS.length]),
       connectSeparatedPoints: group.curves.length > 1,
       ...(group.isBand ? band : { yRangePad: 6 }),
       legend: "never",

@@ -12,7 +12,7 @@ from matplotlib.ticker import FixedLocator, FuncFormatter
 
 from .arrays import Array
 from .clock import SECOND, Event
-from .curves import Flight, Points
+from .curves import PART, Flight, Points, own_name
 from .faults import Fault
 from .naming import Happening, clock_text, happenings, is_discrete, own_clock, seen
 
@@ -29,10 +29,11 @@ MOST_CURVES = 100
 TICKS = 8  # on the axis of time, about
 STEPS = (1, 2, 5, 10, 15, 30, 60, 120, 300, 600, 900, 1800, 3600, 7200, 14400, 28800, 86400)  # seconds between them
 NARROWEST = 1 / 600  # of the axis, for a span to be seen
-RED, GREY = "#d9534f", "#6c757d"
+RED, GREY, VIOLET = "#d9534f", "#6c757d", "#8e44ad"
 COLOURS = {Event.GAP: RED, Event.BREAK: RED, Event.HOLE: RED} | dict.fromkeys(
     (Event.SESSION, Event.RUN, Event.BACK, Event.WRAP), GREY
-)
+) | {Event.DOUBTFUL: VIOLET}
+PART_COLOUR = "#e67e22"
 EXCEED_COLOUR = "#b8860b"
 CURVE_COLOUR = "#1f4e79"
 TOGETHER_COLOURS = (CURVE_COLOUR, "#c0504d", "#4f8a3c", "#7a5195", "#d98c21", "#2a9d8f")
@@ -99,12 +100,15 @@ def broken(points: Points) -> tuple[Array, Array]:
 
 def _draw_group(axes: Axes, curves: dict[str, Points]) -> None:
     """Draws the curves of one axis."""
-    for (name, points), colour in zip(curves.items(), itertools.cycle(TOGETHER_COLOURS)):
+    own = {name: points for name, points in curves.items() if own_name(name) == name}
+    for (name, points), colour in zip(own.items(), itertools.cycle(TOGETHER_COLOURS)):
         _draw(axes, name, points, colour)
-    if len(curves) == 1:
-        axes.set_ylabel(*curves, rotation=0, ha="right", va="center", fontsize=9)
-    elif curves:
-        axes.set_ylabel("\n".join(curves), rotation=0, ha="right", va="center", fontsize=9)
+    for name, points in curves.items():
+        if name not in own:
+            _draw(axes, name, points, PART_COLOUR if name.endswith(PART) else VIOLET)
+    names = list(dict.fromkeys(own_name(name) for name in curves))
+    axes.set_ylabel("\n".join(names), rotation=0, ha="right", va="center", fontsize=9)
+    if len(curves) > 1:
         lines = [line for line in axes.get_lines() if line.get_label() in curves]
         axes.legend(handles=lines, fontsize=7, loc="upper right", framealpha=0.6)
     axes.tick_params(labelsize=7)

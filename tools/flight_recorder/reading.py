@@ -8,6 +8,7 @@ import numpy as np
 from .arrays import Array
 from . import places
 from .addresses import Addresses
+from .beside import Beside, Placing, doubtful_between
 from .clock import Between, Clock, Timed, shape_of
 from .listing import Kind, Mark, Names, Piece, Place, empty_piece, read_listing
 from .parameters import Table, read_table
@@ -47,6 +48,7 @@ class Reading:
     cuts: bool = True  # pieces to the window; who needs what is before it cuts its own output
     as_recorded: bool = False
     with_bits: bool = False
+    beside: Beside | None = None
     names: Names = field(default_factory=Names)
 
     def passes(self, source: Again) -> Iterator["Pass"]:
@@ -78,6 +80,7 @@ class Pass:
         is_exact = reading.table is not None and self.shape.every_frame
         self.addresses = Addresses(self.shape, is_exact, wrap.bit if wrap and not in_order else 0)
         self.starts = places.starts_of(reading.table) if reading.table else None
+        self.placing = Placing(reading.beside, self.shape.bits) if reading.beside else None
         self.zero = Zero() if reading.window.from_zero else None
         self.sessions = self.clock.sessions
         self.rest: list[Between] = []
@@ -88,6 +91,7 @@ class Pass:
         for piece in self._pieces():
             yield self._timed(piece)
         self.rest = self.clock.end()
+        self.rest = self.placing.end(self.rest) if self.placing else self.rest
         self.rest = self.zero.betweens(self.rest) if self.zero else self.rest
         self.rest = self.reading.window.betweens(self.rest) if self.reading.cuts else self.rest
 
@@ -115,7 +119,7 @@ class Pass:
             self.starts.check(piece, self.reading.names)
         else:
             places.check_words(piece, self.shape.words)
-        timed = self.clock.times(piece, len(self.reading.names))
+        timed = self._on_the_clock(piece)
         bits = self.addresses.follow(timed)
         self._find(timed, bits)
         if self.reading.with_bits:
@@ -126,6 +130,19 @@ class Pass:
             self.source.forget()
         timed = self.zero.shift(timed) if self.zero else timed
         return self.reading.window.cut(timed) if self.reading.cuts else timed
+
+    def _on_the_clock(self, piece: Piece) -> Timed:
+        """The times of a piece, which go on over doubtful frames by the counters that fit."""
+        beside = self.reading.beside
+        if beside is None or self.placing is None:
+            return self.clock.times(piece, len(self.reading.names))
+        beside.follow(piece)
+        counter, doubtful, begins = beside.corrected(piece)
+        timed = self.clock.times(replace(piece, counter=counter), len(self.reading.names))
+        between = self.placing.place(timed)
+        between += [doubtful_between(row, one, timed) for row, one in begins]
+        between.sort(key=lambda one: one.row)
+        return replace(timed, between=between, doubtful=doubtful)
 
     def _find(self, timed: Timed, bits: Array) -> None:
         """Keeps where the memory may wrap, if that is in this piece."""

@@ -7,7 +7,7 @@ own: they have a text in the column `note`, and no value.
 import csv
 import io
 from dataclasses import dataclass, field
-from typing import BinaryIO, Protocol
+from typing import BinaryIO, Iterator, Protocol
 
 import numpy as np
 
@@ -22,6 +22,7 @@ from .window import Window
 MICRO = 1_000_000
 SECOND_BITS = SECOND.bit_length() - 1
 MOST_CELLS = 1 << 18  # of a grid that are written at once
+DOUBTFUL = b"(doubtful)"
 OWN = ("recording", "session", "time", "date", "note")  # columns that are no parameter's
 
 
@@ -40,6 +41,7 @@ class Columns:
     dates: Dates | None = None
     with_bits: bool = False
     raw: RawWords | None = None
+    with_marks: bool = False
     window: Window = field(default_factory=Window)
 
     def first(self) -> list[str]:
@@ -48,7 +50,8 @@ class Columns:
 
     def after_value(self) -> list[str]:
         """The names of the columns after the value of a long table."""
-        return [*(["bit"] if self.with_bits else []), *(["raw"] if self.raw else [])]
+        asked = {"mark": self.with_marks, "bit": self.with_bits, "raw": self.raw is not None}
+        return [name for name, is_asked in asked.items() if is_asked]
 
     def label(self, recording: int) -> str:
         """A recording and its session, as the first fields of a row."""
@@ -121,6 +124,8 @@ class LongTable:
         piece = timed.piece
         own = field_in(piece.text, piece.rest_start, piece.end - 1 - piece.rest_start, more=2)
         fields = [own]
+        if self.columns.with_marks and timed.doubtful is not None:
+            fields.append(texts_field(np.where(timed.doubtful, DOUBTFUL, b"")))
         if self.columns.with_bits and timed.bit is not None:
             bits = np.where(timed.bit >= 0, timed.bit.astype("S20"), b"")
             fields.append(texts_field(bits))
@@ -136,6 +141,22 @@ class LongTable:
         return fields
 
     def _between(self, one: Between) -> bytes:
+        return self._note(one) + b"".join(self._parts(one))
+
+    def _parts(self, one: Between) -> Iterator[bytes]:
+        """The rows of what was read out of a gap."""
+        if one.placed is None:
+            return
+        parts, after = one.placed.parts, len(self.columns.after_value()) - 1
+        for number, recording, time in one.placed:
+            head = [*self.columns.label(recording).split(","), time_text(time if time >= 0 else None)]
+            head += [self.columns.dates.text(recording, time)] if self.columns.dates else []
+            place = [str(column[number]) for column in (parts.counter, parts.subframe, parts.word)]
+            mark = f"part {parts.syncs[number]}"
+            yield row_text([*head, *place, parts.name[number], parts.value[number], mark, *[""] * after, ""])
+
+    def _note(self, one: Between) -> bytes:
+        """The row that says what is between rows."""
         place = ["", "", ""]
         if one.exceedance:
             place = [str(number) for number in (one.exceedance.counter, one.exceedance.subframe, one.exceedance.word)]

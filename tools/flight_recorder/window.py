@@ -41,7 +41,13 @@ class Window:
 
     def betweens(self, between: list[Between]) -> list[Between]:
         """What is wanted of what is between rows."""
-        return [one for one in between if self.has(one.recording, one.begin, one.end)]
+        return [self._with_parts(one) for one in between if self.has(one.recording, one.begin, one.end)]
+
+    def _with_parts(self, one: Between) -> Between:
+        """The same, with what is wanted of what was read out of it."""
+        if one.placed is None:
+            return one
+        return one.with_parts(one.placed.chosen(self.rows(one.placed.recording, one.placed.time)))
 
     def cut(self, timed: Timed) -> Timed:
         """What is wanted of a piece."""
@@ -61,6 +67,7 @@ class Window:
             between=between,
             bit=None if timed.bit is None else timed.bit[which],
             dump_bit=None if timed.dump_bit is None else timed.dump_bit[which],
+            doubtful=None if timed.doubtful is None else timed.doubtful[which],
         )
 
 
@@ -84,7 +91,12 @@ class Zero:
     def betweens(self, between: list[Between]) -> list[Between]:
         """The same of what is between rows; what is before the first frame has no time."""
         return [
-            dataclasses.replace(one, begin=self._time(one.begin, one.recording), end=self._time(one.end, one.recording))
+            dataclasses.replace(
+                one,
+                begin=self._time(one.begin, one.recording),
+                end=self._time(one.end, one.recording),
+                placed=one.placed and one.placed.shifted(self.first),
+            )
             for one in between
         ]
 
