@@ -1,8 +1,7 @@
 #!/usr/bin/python3
 """Recordings that are damaged on purpose, whose samples are known: what a listing says of them, and what `flight parts` adds.
 
-    tests/flight/damaged.py            # prints the table of docs/PARTS.md
-    tests/flight/damaged.py COUNT SEED  # looks for false marks in so many undamaged frames
+    tests/flight/damaged.py  # prints the table of docs/PARTS.md
 
 The recordings are made by encoder.py and listed by tests/reader.py, which share no code with the tools.
 """
@@ -58,14 +57,12 @@ class Row(NamedTuple):
 
 @dataclass
 class Run:
-    """A damaged recording: what was done to it, its table, its bits, and what was sampled. `is_kept` says of a slot of the
-    recording whether its subframe is whole and undamaged."""
+    """A damaged recording: what was done to it, its table, its bits, and what was sampled."""
 
     name: str
     table: pathlib.Path
     bits: bytes
     sampled: list[tuple[float, int, int, int, str, str]]
-    whole: bool = True  # whether the samples are those of whole frames alone
 
     def truth(self) -> set[Row]:
         """What was sampled."""
@@ -78,7 +75,7 @@ class Run:
 
 def flight_of(begin: float, end: float) -> encoder.Recording:
     """A part of the example's flight, by the ordinary table."""
-    program = [sys.executable, TOP / "examples" / "make_flight.py", "--from", str(begin), "--to", str(end)]
+    program = [sys.executable, str(TOP / "examples" / "make_flight.py"), "--from", str(begin), "--to", str(end)]
     rows = subprocess.run(program, capture_output=True, text=True, check=True).stdout
     return encoder.recording_of(encoder.read_table(ORDINARY), *encoder.words_of_capture(rows))
 
@@ -114,19 +111,20 @@ def runs_in(folder: pathlib.Path) -> Iterator[Run]:
     yield Run("cut at 403.9 s", ORDINARY, cut.bits(), all_rows(cut))
     ordinary = flight_of(2600, 3400)
     frame = 48 * 256
-    stuck = [at * frame + 24 * 256 + 1 - 1 for at in range(200)]
-    third = [place + 3 for place in stuck]  # a 0 of the third sync word, 0xA47
+    third = [at * frame + 24 * 256 + 3 for at in range(200)]  # a bit of the third sync word that is 0
     yield Run("a bit stuck in each third sync", ORDINARY, with_bits_set(ordinary.bits(), third, False), ordinary.rows())
     chance = random.Random(76)
     count = 8 * len(ordinary.bits())
     wrong = [place for place in range(count) if chance.random() < 1e-3]
     yield Run("one bit of 1,000 wrong", ORDINARY, with_bits_set(ordinary.bits(), wrong, True), ordinary.rows())
     small = small_of(folder / "small.csv", 400, 7)
-    yield Run("40 bytes put in, W 64", folder / "small.csv", _put_in(small.bits(), 64, 40, chance, 400), small.rows())
-    yield Run("40 bytes lost, W 64", folder / "small.csv", _lost(small.bits(), 64, 40, chance, 400), small.rows())
-    yield Run("20 bytes put in, W 256", ORDINARY, _put_in(ordinary.bits(), 256, 20, chance, 200), ordinary.rows())
-    yield Run("20 bytes lost, W 256", ORDINARY, _lost(ordinary.bits(), 256, 20, chance, 200), ordinary.rows())
-    counter = 77 * frame + 47 * 256 - 1 + 0
+    yield Run("40 bytes put in in subframe 4, W 64", folder / "small.csv", _put_in(small.bits(), 64, 40, chance, 400), small.rows())
+    yield Run("40 bytes lost in subframe 4, W 64", folder / "small.csv", _lost(small.bits(), 64, 40, chance, 400), small.rows())
+    for in_frame, name in ((0, "anywhere"), (3, "in subframe 4")):
+        put_in = _put_in(ordinary.bits(), 256, 20, chance, 200, in_frame)
+        yield Run(f"20 bytes put in {name}, W 256", ORDINARY, put_in, ordinary.rows())
+        lost = _lost(ordinary.bits(), 256, 20, chance, 200, in_frame)
+        yield Run(f"20 bytes lost {name}, W 256", ORDINARY, lost, ordinary.rows())
     counter = 77 * frame + (4 * 256 - 1) * 12 + 6
     yield Run("one bit of one counter wrong", ORDINARY, with_bits_set(ordinary.bits(), [counter], True), ordinary.rows())
     zeroed = bytearray(ordinary.bits())
@@ -136,25 +134,26 @@ def runs_in(folder: pathlib.Path) -> Iterator[Run]:
     yield Run("200 bytes zeroed at 48 places", ORDINARY, bytes(zeroed), ordinary.rows())
 
 
-def _places(words: int, count: int, chance: random.Random, frames: int) -> list[int]:
-    """Bytes of fourth subframes, one of a frame each, the last ones first."""
+def _places(words: int, count: int, chance: random.Random, frames: int, subframes: int) -> list[int]:
+    """Bytes behind so many subframes of a frame, one of a frame each, the last ones first."""
     frame = 6 * words
+    before = frame * subframes // 4 + 2
     chosen = sorted(chance.sample(range(1, frames - 2), count), reverse=True)
-    return [at * frame + frame * 3 // 4 + 2 + chance.randrange(frame // 4 - 4) for at in chosen]
+    return [at * frame + before + chance.randrange(frame - before - 2) for at in chosen]
 
 
-def _put_in(bits: bytes, words: int, count: int, chance: random.Random, frames: int) -> bytes:
-    """A byte put into so many fourth subframes."""
+def _put_in(bits: bytes, words: int, count: int, chance: random.Random, frames: int, subframes: int = 3) -> bytes:
+    """A byte put into so many frames, behind so many of their subframes."""
     made = bytearray(bits)
-    for place in _places(words, count, chance, frames):
+    for place in _places(words, count, chance, frames, subframes):
         made.insert(place, chance.randrange(256))
     return bytes(made)
 
 
-def _lost(bits: bytes, words: int, count: int, chance: random.Random, frames: int) -> bytes:
-    """A byte lost out of so many fourth subframes."""
+def _lost(bits: bytes, words: int, count: int, chance: random.Random, frames: int, subframes: int = 3) -> bytes:
+    """A byte lost out of so many frames."""
     made = bytearray(bits)
-    for place in _places(words, count, chance, frames):
+    for place in _places(words, count, chance, frames, subframes):
         del made[place]
     return bytes(made)
 
@@ -230,7 +229,9 @@ def main() -> None:
     with tempfile.TemporaryDirectory() as name:
         for run in runs_in(pathlib.Path(name)):
             figures = figures_of(run, pathlib.Path(name), by_program)
-            print(figures.cells(run.name), figures.recordings, figures.wrong_times)
+            print(figures.cells(run.name))
+            if (figures.recordings, figures.wrong_times) != (1, 0):
+                print(f"{figures.recordings} recordings, {figures.wrong_times} wrong times")
 
 
 if __name__ == "__main__":

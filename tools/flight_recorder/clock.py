@@ -180,6 +180,7 @@ class Clock:
         self.furthest = NONE  # the greatest of them
         self.first_counter, self.leading = 0, 0  # of the first row, and the bits before it
         self.backs, self.unknown = Odd(), Odd()
+        self.has_short_gap = False
 
     def times(self, piece: Piece, names: int) -> Timed:
         """The times of a piece; `names` is how many names there are so far."""
@@ -213,6 +214,11 @@ class Clock:
     def end(self) -> list[Between]:
         """What is after the last row."""
         return self._begin(self.waiting, 0, None, None)
+
+    @property
+    def is_odd(self) -> bool:
+        """Whether there is a place where time doesn't go on, as far as can be told, or goes on over less than a frame."""
+        return self.backs.count + self.unknown.count > 0 or self.has_short_gap
 
     def wrap(self) -> Place | None:
         """Where the memory wraps, once all pieces came: there is one place alone where time doesn't go on, and the end of the
@@ -387,6 +393,7 @@ class Clock:
 
     def _went_on(self, gaps: list[Mark], row: int, line: int, missing: int) -> list[Between]:
         """Time goes on after gaps of a known length."""
+        self.has_short_gap |= bool(gaps) and missing == 0
         before = self.newest + self.shift
         begin, end = (before + 1) * FRAME, (before + 1 + missing) * FRAME
         self.shift = before + 1 + missing - line

@@ -364,7 +364,7 @@ def _columns(given: argparse.Namespace, one: reading.Pass, starts: dates.Dates |
     if (given.bits or given.raw) and not one.shape.every_frame:
         raise Fault("--bits and --raw: by this table frames may be without rows, so it isn't known where they are")
     words = raw.RawWords(given.raw, one.reading.table) if given.raw and one.reading.table else None
-    return tables.Columns(one.sessions, starts, given.bits, words, one.reading.beside is not None, one.reading.window)
+    return tables.Columns(one.sessions, starts, given.bits, words, given.parts is not None, one.reading.window)
 
 
 def _table_writer(

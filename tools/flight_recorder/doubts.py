@@ -56,26 +56,23 @@ class Frames:
 
     def fit(self, first: int, second: int) -> bool:
         """Whether the counters of two frames differ by as much as their bits, to within a frame."""
-        return bool(_fit(self.distance(first, second), int(self.counter[second]) - int(self.counter[first])))
-
-    def is_behind_gap(self, frame: int) -> bool:
-        """Whether a gap is before a frame."""
-        return bool(self.bit[frame] > (self.bit[frame - 1] + self.length if frame else 0))
+        return bool(fit(self.distance(first, second), int(self.counter[second]) - int(self.counter[first])))
 
     def has_gap_beside(self, frame: int) -> bool:
         """Whether a gap is before a frame or after it."""
-        end = self.bit[frame] + self.length
-        return self.is_behind_gap(frame) or bool(end < (self.bit[frame + 1] if frame + 1 < len(self) else self.bits))
+        before = int(self.bit[frame - 1]) + self.length if frame else 0
+        after = int(self.bit[frame + 1]) if frame + 1 < len(self) else self.bits
+        return before < int(self.bit[frame]) or int(self.bit[frame]) + self.length < after
 
     def comes_round(self) -> bool:
         """Whether the first frame goes on from the last one, as in a memory that wraps."""
         around = (self.bits - int(self.bit[-1]) + int(self.bit[0])) / self.length
-        return bool(_fit(around, int(self.counter[0]) - int(self.counter[-1])))
+        return bool(fit(around, int(self.counter[0]) - int(self.counter[-1])))
 
 
-def _fit(distance: "Array | float", counters: "Array | int") -> Array:
+def fit(distance: "Array | float", counters: "Array | int") -> Array:
     """Whether a distance by bits and one by counters are less than a frame apart, whole rounds of the counter aside."""
-    off = (counters - np.asarray(distance) + ROUND / 2) % ROUND - ROUND / 2
+    off: Array = np.asarray(counters - np.asarray(distance) + ROUND / 2) % ROUND - ROUND / 2
     return np.asarray(np.abs(off) < 1)
 
 
@@ -83,12 +80,11 @@ def of_counters(frames: Frames) -> list[Doubt]:
     """The frames whose counters don't fit."""
     if len(frames) < 2:
         return []
-    fit = _fit(np.diff(frames.bit) / frames.length, np.diff(frames.counter.astype(np.int64)))
-    cuts = np.flatnonzero(~fit) + 1
+    goes_on = fit(np.diff(frames.bit) / frames.length, np.diff(frames.counter.astype(np.int64)))
+    cuts = np.flatnonzero(~goes_on) + 1
     if not len(cuts):
         return []
-    first = np.insert(cuts, 0, 0).tolist()
-    end = np.append(cuts, len(frames)).tolist()
+    first, end = np.insert(cuts, 0, 0).tolist(), np.append(cuts, len(frames)).tolist()
     doubts: list[Doubt] = []
     alone = [one for one, after in zip(first, end) if after - one == 1]
     for _, together in groupby(enumerate(alone), key=lambda each: each[1] - each[0]):

@@ -14,7 +14,7 @@ from .arrays import Array
 from .blocks import Line, is_image, runs_of
 from .clock import WORD_BITS
 from .counters import Beside, Known, counters_of
-from .doubts import LAST, LONE, Doubt, Frames, merged, of_counters, slip
+from .doubts import LAST, LONE, Doubt, Frames, fit, merged, of_counters, slip
 from .faults import Fault
 from .frames import SYNCS
 from .listing import ROUND, SUBFRAMES, Kind, Mark
@@ -39,6 +39,16 @@ class Part:
     def line(self) -> str:
         """Its line."""
         return f"part,{self.counter},{self.subframe},{self.word},{self.name},{self.value},{self.syncs}\n"
+
+
+@dataclass(frozen=True)
+class Found:
+    """A gap, the frames right before and after it, by their numbers, and the subframes that stand in it."""
+
+    mark: Mark
+    before: int | None
+    after: int | None
+    subframes: list[Subframe]
 
 
 def lines_of_bits(data: bytes, sections: list[Section]) -> list[bytes]:
@@ -78,20 +88,23 @@ class Reader:
         """Writes the lines of a section."""
         bits = np.frombuffer(data, dtype=np.uint8)
         outline = outline_of(section, bits, self.table, self.samples)
-        doubts = {one.frame: one for one in of_counters(outline.frames)}
-        slips: list[Doubt] = []
-        texts: list[tuple[Mark, list[Part]]] = []
-        for gap, frame in outline.gaps:
-            parts, doubt = self._gap(bits, outline.frames, gap, frame, doubts)
-            texts.append((gap, parts))
-            slips += [doubt] if doubt else []
+        frames = outline.frames
+        gaps = [self._gap(bits, frames, mark, frame) for mark, frame in outline.gaps]
+        doubts = {one.frame: one for one in of_counters(frames) if not self._has_parts_beside(one, frames, gaps)}
+        slips = [doubt for gap in gaps for doubt in [self._slip(bits, frames, gap, doubts)] if doubt]
         for head in section.heads:
             out.write(f"{head.kind.value},{head.first},{head.second}\n")
         for one in merged([*doubts.values(), *slips]):
             out.write(self._doubtful(one, outline))
-        for gap, parts in texts:
-            out.write(f"gap,{gap.first},{gap.second}\n")
-            out.writelines(part.line() for part in parts)
+        for gap in gaps:
+            out.write(f"gap,{gap.mark.first},{gap.mark.second}\n")
+            out.writelines(part.line() for part in self._parts_of(bits, frames, gap, doubts))
+
+    def _has_parts_beside(self, doubt: Doubt, frames: Frames, gaps: list[Found]) -> bool:
+        """Whether subframes that stand beside a lone frame are of its phase: it is one of several then."""
+        own = [gap for gap in gaps if doubt.frame in (gap.before, gap.after)] if LONE in doubt.rules else []
+        begin = int(frames.bit[doubt.frame])
+        return any((one.frame(self.width) - begin) % frames.length == 0 for gap in own for one in gap.subframes)
 
     def _doubtful(self, one: Doubt, outline: Outline) -> str:
         """The line of a doubtful frame."""
@@ -99,48 +112,50 @@ class Reader:
         place = f"{line},{outline.rows[one.frame]}"
         return f"doubtful,{counter},{one.subframes},{one.fitting},{place},{one.reason.replace(',', ';')}\n"
 
-    def _gap(
-        self, bits: Array, frames: Frames, gap: Mark, frame: int, doubts: dict[int, Doubt]
-    ) -> tuple[list[Part], Doubt | None]:
-        """What is read out of a gap before which are so many frames, and the doubt of the frame before it."""
-        end = gap.first + gap.second
-        before = self._beside(frames, frame - 1, doubts) if frame and frames.bit[frame - 1] + frames.length == gap.first else None
-        after = self._beside(frames, frame, doubts) if frame < len(frames) and frames.bit[frame] == end else None
-        first = before.bit + frames.length - self.width + WORD_BITS if before else gap.first
-        where = Gap(first, gap.first, end, before.bit if before else None, after.bit if after else None)
-        found = standing(bits, where, self.table.words, self.least)
-        doubt = self._slip(bits, frames, frame, found, doubts, before, after)
-        is_lone = frame - 1 in doubts and LONE in doubts[frame - 1].rules
-        known = counters_of(bits, found, self.table, None if is_lone else before, after)
-        return list(self._parts(bits, found, known)), doubt
+    def _gap(self, bits: Array, frames: Frames, mark: Mark, frame: int) -> Found:
+        """What stands in a gap before which are so many frames."""
+        end = mark.first + mark.second
+        before = frame - 1 if frame and frames.bit[frame - 1] + frames.length == mark.first else None
+        after = frame if frame < len(frames) and frames.bit[frame] == end else None
+        first = mark.first if before is None else mark.first - self.width + WORD_BITS
+        places = [None if one is None else int(frames.bit[one]) for one in (before, after)]
+        where = Gap(first, mark.first, end, *places)
+        return Found(mark, before, after, standing(bits, where, self.table.words, self.least))
 
-    def _beside(self, frames: Frames, frame: int, doubts: dict[int, Doubt]) -> Beside:
+    def _beside(self, frames: Frames, frame: int | None, doubts: dict[int, Doubt]) -> Beside | None:
         """A frame beside a gap."""
+        if frame is None:
+            return None
         counter = doubts[frame].fitting if frame in doubts else int(frames.counter[frame])
         return Beside(int(frames.bit[frame]), counter)
 
-    def _slip(
-        self,
-        bits: Array,
-        frames: Frames,
-        frame: int,
-        found: list[Subframe],
-        doubts: dict[int, Doubt],
-        before: Beside | None,
-        after: Beside | None,
-    ) -> Doubt | None:
+    def _is_lone(self, frame: int | None, doubts: dict[int, Doubt]) -> bool:
+        """Whether a frame's counter says nothing of others."""
+        return frame in doubts and LONE in doubts[frame].rules
+
+    def _slip(self, bits: Array, frames: Frames, gap: Found, doubts: dict[int, Doubt]) -> Doubt | None:
         """The doubt of the last subframe of the frame before a gap: the first phase that stands in it, or after it, is another."""
-        if before is None:
+        before, after = (None if self._is_lone(one, doubts) else self._beside(frames, one, doubts) for one in (gap.before, gap.after))
+        if before is None or gap.before is None:
             return None
-        evidence = [(one.bit - (0 if one.own else self.width), one.frame(self.width)) for one in found[:1]]
+        evidence = [(one.bit - (0 if one.own else self.width), one.frame(self.width)) for one in gap.subframes[:1]]
         evidence += [(one.bit, one.bit) for one in (after,) if one is not None]
         if not evidence or (evidence[0][1] - before.bit) % frames.length == 0:
             return None
         end = before.bit + frames.length
+        is_other = after is not None and not fit((after.bit - before.bit) / frames.length, after.counter - before.counter)
+        if is_other and evidence[0][0] > end:
+            return None  # another recording
         stands = end + WORD_BITS <= frames.bits and int(words_at(bits, np.array([end]))[0]) == SYNCS[0]
         goes_on = after is not None and (after.counter - before.counter) % ROUND == 1
-        seen = slip(frames, frame - 1, evidence[0][0], stands, goes_on)
-        return None if seen is None else Doubt(frame - 1, LAST, before.counter, (seen[0],), seen[1])
+        seen = slip(frames, gap.before, evidence[0][0], stands, goes_on)
+        return None if seen is None else Doubt(gap.before, LAST, before.counter, (seen[0],), seen[1])
+
+    def _parts_of(self, bits: Array, frames: Frames, gap: Found, doubts: dict[int, Doubt]) -> list[Part]:
+        """What is read out of a gap."""
+        beside = [None if self._is_lone(one, doubts) else self._beside(frames, one, doubts) for one in (gap.before, gap.after)]
+        known = counters_of(bits, gap.subframes, self.table, *beside)
+        return list(self._parts(bits, gap.subframes, known))
 
     def _parts(self, bits: Array, found: list[Subframe], known: dict[int, Known]) -> Iterator[Part]:
         """The samples whose parts all are in subframes that stand."""

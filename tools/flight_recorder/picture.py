@@ -110,7 +110,7 @@ def _draw_group(axes: Axes, curves: dict[str, Points]) -> None:
     axes.set_ylabel("\n".join(names), rotation=0, ha="right", va="center", fontsize=9)
     if len(curves) > 1:
         lines = [line for line in axes.get_lines() if line.get_label() in curves]
-        axes.legend(handles=lines, fontsize=7, loc="upper right", framealpha=0.6)
+        axes.legend(handles=lines, fontsize=7, loc="upper right" if len(names) == len(curves) else "upper left", framealpha=0.6)
     axes.tick_params(labelsize=7)
     axes.grid(True, linewidth=0.3, alpha=0.6)
     axes.margins(y=0.1)

@@ -10,6 +10,7 @@ from . import places
 from .addresses import Addresses
 from .beside import Beside, Placing, doubtful_between
 from .clock import Between, Clock, Timed, shape_of
+from .listed_doubts import beside_of
 from .listing import Kind, Mark, Names, Piece, Place, empty_piece, read_listing
 from .parameters import Table, read_table
 from .streams import Again
@@ -52,10 +53,15 @@ class Reading:
     names: Names = field(default_factory=Names)
 
     def passes(self, source: Again) -> Iterator["Pass"]:
-        """The listing, from its beginning to its end. Where it turns out then that the memory wraps, once more, and this is the
-        one that counts."""
+        """The listing, from its beginning to its end. Where it turns out then that frames are doubtful or that the memory wraps, once
+        more, and the last one is the one that counts."""
         first = Pass(self, source, None)
         yield first
+        if self.beside is None and self.table is not None and first.clock.is_odd:
+            self.beside = beside_of(source, self.table, first.shape)
+            if self.beside is not None:
+                first = Pass(self, source, None)
+                yield first
         wrap = first.wrap()
         if wrap is not None:
             yield Pass(self, source, wrap)
@@ -126,8 +132,6 @@ class Pass:
             bit = self._bits(timed, bits)
             origins = np.repeat(self.addresses.origins, np.diff(timed.frames.first, append=len(piece)))
             timed = replace(timed, bit=bit, dump_bit=np.where(bit >= 0, bit + origins, -1))
-        if self.clock.has_lines:
-            self.source.forget()
         timed = self.zero.shift(timed) if self.zero else timed
         return self.reading.window.cut(timed) if self.reading.cuts else timed
 
@@ -142,7 +146,7 @@ class Pass:
         between = self.placing.place(timed)
         between += [doubtful_between(row, one, timed) for row, one in begins]
         between.sort(key=lambda one: one.row)
-        return replace(timed, between=between, doubtful=doubtful)
+        return replace(timed, piece=piece, between=between, doubtful=doubtful)
 
     def _find(self, timed: Timed, bits: Array) -> None:
         """Keeps where the memory may wrap, if that is in this piece."""

@@ -107,12 +107,6 @@ class Again:
             self.source.copy = cast(BinaryIO, self.stack.enter_context(tempfile.TemporaryFile(prefix="flight-")))
         return self.source
 
-    def forget(self) -> None:
-        """It isn't read again."""
-        if self.source.copy is not None:
-            self.source.copy.close()
-            self.source.copy = None
-
 
 @contextlib.contextmanager
 def opened_again(path: str) -> Iterator[Again]:
