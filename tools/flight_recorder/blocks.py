@@ -1,19 +1,15 @@
 """Images of `fdr`: the bytes of their blocks, as `fdr list` and `fdr salvage` read them."""
 
-import struct
 from dataclasses import dataclass
 from itertools import groupby
 from typing import NamedTuple
 
 from .faults import Fault
+from .images import HEAD, HEADER, LEAST_SLOTS, LETTERS, MOST_SLOTS, OPEN, PAYLOAD, VERSION
 from .parameters import WORDS
 
-HEADER = struct.Struct(">BB6sIII44x")  # gate, version, letters, slots, payload, words
-HEAD = struct.Struct(">BxHIQ")  # gate, length, session, number
-OPEN, SECOND_VERSION = 0x5A, 0xA5
-LETTERS = b"FDR717"
 NUMBERS = 1 << 48
-SLOTS, PAYLOADS = range(4, 65_537), range(64, 4_097)
+SLOTS, PAYLOADS = range(LEAST_SLOTS, MOST_SLOTS + 1), range(64, PAYLOAD + 1)
 
 
 class Block(NamedTuple):
@@ -47,7 +43,7 @@ def runs_of(image: bytes) -> list[list[Line]]:
         raise Fault("image: shorter than its ring")
     blocks = sorted(_blocks(image, slots, payload))
     runs = groupby(enumerate(blocks), key=lambda each: each[1].number - each[0])
-    return [_lines([block for _, block in run], version == SECOND_VERSION) for _, run in runs]
+    return [_lines([block for _, block in run], version == VERSION) for _, run in runs]
 
 
 def _blocks(image: bytes, slots: int, payload: int) -> list[Block]:
