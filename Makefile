@@ -6,7 +6,7 @@ PROGRAM = crates/fdr_prog
 PAIR_PROGRAM = crates/fdr_pair_prog
 SOURCES = crates.txt $(shell find crates -name out -prune -o -type f \( -name '*.rt' -o -name '*.antt' \) -print)
 
-.PHONY: build demo check walk compare laws streams crash-test live-test check-real check-memory fail-io calls count verify bench tools-test drawn-dumps test install install-tools clean help
+.PHONY: build demo check walk compare laws streams crash-test live-test check-real check-memory fail-io calls count verify bench tools-test drawn-dumps undamaged test install install-tools clean help
 
 # Proves both programs and everything below them, and puts them at bin/fdr and bin/fdrpair.
 # After `make test` they are there already.
@@ -106,6 +106,10 @@ tools-test:
 # Draws foreign dumps in many forms and files that are none, looks at them, and reads each by the line that look prints.
 drawn-dumps: build
 	FDR=bin/fdr tests/drawn_dumps.py
+
+# Draws a million frames that nothing damaged, of which no tool may take one for doubtful: half a minute.
+undamaged: build
+	FDR=bin/fdr tests/flight/undamaged.py 1000000
 
 # The gate: every proof, must-fail edit, test and program, and the tests of the tools.
 test:

@@ -197,6 +197,21 @@ def test_events_are_numbered_with_a_list(opened: Opened, write: Write) -> None:
     assert shown.faults() == []
 
 
+def test_parts_and_doubtful_frames(opened: Opened, write: Write) -> None:
+    table = write("t.csv", "F,64,2,1\nP,ALT,0,203,,11,12,U,1,1,0,0,64\nL,ALT,1,1234,10,0,1,12,0,1\n")
+    rows = [f"row,{at},{sub},10,ALT,{at}\n" for at in (5, 6, 99, 8, 9) for sub in range(1, 5)]
+    listing = "".join(rows) + "gap,15360,1600\n"
+    parts = "doubtful,99,1234,7,9,4,counter that doesn't fit\ngap,15360,1600\npart,10,1,10,ALT,70,3\npart,10,2,10,ALT,71,3\n"
+    shown = opened(listing, "--table", table, "--parts", write("p", parts))
+    assert shown.value("page.groups.map(group => group.name)") == ["ALT, ALT (part), ALT (doubtful)"]
+    assert shown.value("page.curves.map(curve => [...curve.value])[1]") == [70, 71]
+    assert shown.value("page.curves.map(curve => curve.at((41.5 - 20) * 1024))") == ["\u2013", "71", "\u2013"]
+    assert shown.value("page.curves.map(curve => curve.at((29.5 - 20) * 1024))") == ["99", "\u2013", "99"]
+    assert len(set(shown.value("page.groups[0].curves.map(curve => curve.apart || 'own')"))) == 3
+    assert shown.value("flight.events.map(one => one.event)") == ["doubtful", "gap"]
+    assert shown.faults() == []
+
+
 def test_no_extreme_of_a_long_flight_is_lost(opened: Opened) -> None:
     values = {33_333: 500, 55_555: -500}
     shown = opened(

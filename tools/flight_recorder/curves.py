@@ -280,7 +280,8 @@ class Collector:
             circle = self.circles.get(name, circle_of(points))
             points = broken_at_wraps(points, circle) if circle else points
             flight.curves[name], flight.decimals[name], flight.counts[name] = points, curve.decimals, curve.count
-        for own, curve in self.apart.items():
+        for own in sorted(self.apart, reverse=True):  # parts first
+            curve = self.apart[own]
             points = self._in_pieces(curve.points(most), room)
             flight.curves[own], flight.decimals[own], flight.counts[own] = points, curve.decimals, curve.count
         beside = {name: [name + kind for kind in (PART, DOUBTFUL) if name + kind in self.apart] for name in self.names.names}

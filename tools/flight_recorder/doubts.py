@@ -73,7 +73,8 @@ class Frames:
 def fit(distance: "Array | float", counters: "Array | int") -> Array:
     """Whether a distance by bits and one by counters are less than a frame apart, whole rounds of the counter aside."""
     off: Array = np.asarray(counters - np.asarray(distance) + ROUND / 2) % ROUND - ROUND / 2
-    return np.asarray(np.abs(off) < 1)
+    is_close: Array = np.asarray(np.abs(off) < 1)
+    return is_close
 
 
 def of_counters(frames: Frames) -> list[Doubt]:
