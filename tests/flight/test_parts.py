@@ -167,6 +167,9 @@ LACK = bytes(100)
         ([4094, 4095, 0, 1], {}, []),
         ([5, 6, 99, 8, 9], {}, [("99", "1234", "7", "counter that doesn't fit")]),
         ([5, 6, 99, 77, 9, 10], {}, [("99", "1234", "7", "counter that doesn't fit"), ("77", "1234", "8", "counter that doesn't fit")]),
+        ([5, 99, 7, 88, 9], {}, [("99", "1234", "6", "counter that doesn't fit"), ("88", "1234", "8", "counter that doesn't fit")]),
+        ([40, 41, 34, 35, 44], {}, [("34", "1234", "42", "counter that doesn't fit"), ("35", "1234", "43", "counter that doesn't fit")]),
+        ([4095, 0, 0, 1, 2], {}, []),  # two recordings begin
         ([99, 6, 7, 8], {}, [("99", "1234", "5", "counter that doesn't fit")]),
         ([5, 6, 7, 99], {}, [("99", "1234", "8", "counter that doesn't fit")]),
         ([5, 6, 0, 1, 2], {}, []),  # another recording begins

@@ -85,9 +85,8 @@ def of_counters(frames: Frames) -> list[Doubt]:
     cuts = np.flatnonzero(~goes_on) + 1
     if not len(cuts):
         return []
-    first, end = np.insert(cuts, 0, 0).tolist(), np.append(cuts, len(frames)).tolist()
-    doubts: list[Doubt] = []
-    alone = [one for one, after in zip(first, end) if after - one == 1]
+    chains, doubts = _bridged(frames, list(zip(np.insert(cuts, 0, 0).tolist(), np.append(cuts, len(frames)).tolist())))
+    alone: list[int] = [first for first, end in chains if end - first == 1]
     for _, together in groupby(enumerate(alone), key=lambda each: each[1] - each[0]):
         run = [frame for _, frame in together]
         if len(run) <= MOST_IN_A_ROW:
@@ -95,13 +94,30 @@ def of_counters(frames: Frames) -> list[Doubt]:
     return doubts
 
 
+def _bridged(frames: Frames, pieces: list[tuple[int, int]]) -> tuple[list[tuple[int, int]], list[Doubt]]:
+    """Pieces of frames that fit, the first frame and the one after the last of each, put together where one fits a later one, with
+    few frames between; and the doubts of those between."""
+    chains: list[tuple[int, int]] = []
+    doubts: list[Doubt] = []
+    at = 0
+    while at < len(pieces):
+        first, end = pieces[at]
+        later = at + 1
+        while later < len(pieces) and pieces[later][0] - end <= MOST_IN_A_ROW:
+            after = pieces[later][0]
+            if frames.fit(end - 1, after) and not (frames.counter[end] == 0 and frames.counter[after] == 0):
+                doubts += [_doubt(frames, one, COUNTER, end - 1, after) for one in range(end, after)]
+                at, end = later, pieces[later][1]
+            later += 1
+        chains.append((first, end))
+        at += 1
+    return chains, doubts
+
+
 def _alone(frames: Frames, run: list[int]) -> list[Doubt]:
-    """The doubts of frames that fit no neighbour, one after another."""
+    """The doubts of frames that fit no neighbour, one after another, which don't fit each other."""
     before = run[0] - 1 if run[0] else None
     after = run[-1] + 1 if run[-1] + 1 < len(frames) else None
-    if before is not None and after is not None and frames.fit(before, after):
-        unfit = [one for one in run if not (frames.fit(before, one) and frames.fit(one, after))]
-        return [_doubt(frames, one, COUNTER, before, after) for one in unfit]
     if before is None and (after is None or frames.counter[after] == 0) or before is None and frames.comes_round():
         return []
     if after is None and frames.comes_round():
