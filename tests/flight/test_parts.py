@@ -253,6 +253,27 @@ def test_zero_and_windows(flight: Tool, write: Write) -> None:
     assert flight(*words, "--start", "2026-05-04T10:00:00Z").out.decode().count("2026-05-04T10:00:32.140625Z,8,1,10,ALT,1,part 3,\n") == 1
 
 
+def test_hdf(flight: Tool, write: Write, runs: Runs, tmp_path: pathlib.Path) -> None:
+    """The same rows as the table as text has."""
+    run = runs["20 bytes lost anywhere, W 256"]
+    (tmp_path / "b").write_bytes(run.bits)
+    (tmp_path / "l").write_bytes(damaged.reader.listbits(run.table.read_bytes(), run.bits).output)
+    parts = write("p", flight("parts", tmp_path / "b", tmp_path / "l", "--table", run.table).out)
+    words = ("table", tmp_path / "l", "--table", run.table, "--parts", parts)
+    text = table_of(flight(*words).out)
+    assert flight(*words, "-o", tmp_path / "t.h5").status == 0
+    stored = pandas.read_hdf(tmp_path / "t.h5", "samples")
+    samples = text[text["note"] == ""]
+    columns = ["time", "counter", "subframe", "word", "name", "value", "mark"]
+    wanted = {(round(time, 5), int(counter), int(sub), int(word), name, float(value), mark)
+              for time, counter, sub, word, name, value, mark in samples[columns].itertuples(index=False)}  # fmt: skip
+    seen = [(round(time, 5), *rest) for time, *rest in stored[columns].itertuples(index=False)]
+    assert (set(seen), len(seen)) == (wanted, len(samples))
+    assert {mark for *_, mark in seen} == {"", "(doubtful)", "part 2", "part 3"}
+    notes = pandas.read_hdf(tmp_path / "t.h5", "notes")
+    assert (notes["kind"] == "doubtful").sum() == (text["name"] == "(doubtful)").sum() > 0
+
+
 def test_exceedances_of_doubtful_samples(flight: Tool, write: Write) -> None:
     dump, text = listed(write, frames_of([5, 6, 99, 8, 9]))
     lines = write("e", "exceed,HIGH,5,1,10,2,6\nexceed,ODD,99,1,10,1,1\n")

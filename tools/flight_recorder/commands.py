@@ -351,7 +351,7 @@ def _check_table_words(given: argparse.Namespace) -> None:
         raise Fault("--bits and --raw are columns of a long table")
     if (given.bits or given.raw) and not given.table:
         raise Fault("--bits and --raw need --table, by which frames without rows are known")
-    if given.parts and (by_parameter or _is_hdf(given.output)):
+    if given.parts and by_parameter:
         raise Fault("--parts is for a long table, and for one of exceedances")
     if given.exceed and by_parameter:
         raise Fault("--exceed makes a table of its own, without --wide and --every")

@@ -11,6 +11,7 @@ import pandas
 import tables as pytables
 
 from .arrays import Array
+from .beside import Placed
 from .clock import SECOND, Between, Event, Timed
 from .faults import Fault
 from .listing import Names
@@ -18,6 +19,7 @@ from .tables import MICRO, Columns, GridTable, Samples, WideTable, column_names
 
 SAMPLES, NOTES = "samples", "notes"
 NO_SESSION = -1
+MARKS = ["", "(doubtful)", "part 2", "part 3"]
 PACKING = {"complevel": 1, "complib": "zlib"}
 assert pytables  # pandas needs it
 
@@ -99,12 +101,35 @@ class LongStore:
             "name": pandas.Categorical.from_codes(piece.name, self.names.names),
             "value": piece.value.astype(np.float64),
         }
+        if self.store.columns.with_marks and timed.doubtful is not None:
+            place["mark"] = pandas.Categorical.from_codes(timed.doubtful.astype(np.int8), MARKS)
         self.store.add(pandas.DataFrame({**self.store.first(timed.recording, timed.time), **place}))
-        self.store.notes += timed.between
+        self._take(timed.between)
 
     def end(self, between: list[Between]) -> None:
         """Takes what is after the last row."""
+        self._take(between)
+
+    def _take(self, between: list[Between]) -> None:
+        """Takes what is between rows, and writes what was read out of gaps."""
         self.store.notes += between
+        for one in between:
+            if one.placed is not None:
+                self._write_parts(one.placed)
+
+    def _write_parts(self, placed: Placed) -> None:
+        """Writes what was read out of a gap, as far as its times are known."""
+        which = np.flatnonzero(placed.wanted & (placed.time >= 0))
+        parts, numbers = placed.parts, self.names.names
+        place = {
+            "counter": np.array(parts.counter, dtype=np.int16)[which],
+            "subframe": np.array(parts.subframe, dtype=np.int8)[which],
+            "word": np.array(parts.word, dtype=np.int16)[which],
+            "name": pandas.Categorical([parts.name[at] for at in which.tolist()], numbers),
+            "value": np.array([float(parts.value[at]) for at in which.tolist()]),
+            "mark": pandas.Categorical([f"part {parts.syncs[at]}" for at in which.tolist()], MARKS),
+        }
+        self.store.add(pandas.DataFrame({**self.store.first(placed.recording[which], placed.time[which]), **place}))
 
 
 def _frame(store: Store, names: Names, recording: Array, ticks: Array, values: Array) -> pandas.DataFrame:
