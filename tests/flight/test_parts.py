@@ -253,6 +253,26 @@ def test_zero_and_windows(flight: Tool, write: Write) -> None:
     assert flight(*words, "--start", "2026-05-04T10:00:00Z").out.decode().count("2026-05-04T10:00:32.140625Z,8,1,10,ALT,1,part 3,\n") == 1
 
 
+def test_wide(flight: Tool, write: Write, runs: Runs, tmp_path: pathlib.Path) -> None:
+    """The same samples as the long table has, with the mark of each time."""
+    run = runs["20 bytes lost anywhere, W 256"]
+    (tmp_path / "b").write_bytes(run.bits)
+    (tmp_path / "l").write_bytes(damaged.reader.listbits(run.table.read_bytes(), run.bits).output)
+    parts = write("p", flight("parts", tmp_path / "b", tmp_path / "l", "--table", run.table).out)
+    words = ("table", tmp_path / "l", "--table", run.table, "--parts", parts)
+    long = table_of(flight(*words).out)
+    long = long[long["note"] == ""]
+    wide = pandas.read_csv(io.BytesIO(flight(*words, "--wide").out), dtype=str, keep_default_na=False)
+    wide = wide[wide["note"] == ""]
+    names = [name for name in wide.columns if name not in ("recording", "session", "time", "mark", "note")]
+    seen = {(float(row["time"]), name, row[name]) for _, row in wide.iterrows() for name in names if row[name]}
+    assert seen == set(long[["time", "name", "value"]].itertuples(index=False, name=None))
+    for kind in ("", "(doubtful)", "part 2", "part 3"):
+        times = set(wide[wide["mark"] == kind]["time"].astype(float))
+        of_kind = set(long[long["mark"] == kind]["time"])
+        assert times == (of_kind - set(long[long["mark"] == "(doubtful)"]["time"]) if kind == "" else of_kind) != set()
+
+
 def test_hdf(flight: Tool, write: Write, runs: Runs, tmp_path: pathlib.Path) -> None:
     """The same rows as the table as text has."""
     run = runs["20 bytes lost anywhere, W 256"]
@@ -392,7 +412,7 @@ def test_a_file_of_parts_of_another_listing(flight: Tool, write: Write) -> None:
     words = ("table", text, "--table", T1, "--parts")
     assert flight(*words, other).error == "flight: listing line 2: the file of parts has no such gap here: of another listing?\n"
     assert flight(*words, write("q", "row,0,1\n")).error == "flight: parts line 1: 'row,0,1' is no line that flight parts writes\n"
-    assert flight(*words, other, "--wide").error == "flight: --parts is for a long table, and for one of exceedances\n"
+    assert flight(*words, other, "--every", "1s").error.startswith("flight: --parts is for a table with a row for each sample")
     assert flight("table", text, "--words", 64, "--parts", other).error == "flight: --parts needs --table, by which its rows were read\n"
 
 

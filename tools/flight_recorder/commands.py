@@ -351,8 +351,8 @@ def _check_table_words(given: argparse.Namespace) -> None:
         raise Fault("--bits and --raw are columns of a long table")
     if (given.bits or given.raw) and not given.table:
         raise Fault("--bits and --raw need --table, by which frames without rows are known")
-    if given.parts and by_parameter:
-        raise Fault("--parts is for a long table, and for one of exceedances")
+    if given.parts and (given.every is not None or given.wide and _is_hdf(given.output)):
+        raise Fault("--parts is for a table with a row for each sample or each time, without --every, and as HDF5 without --wide")
     if given.exceed and by_parameter:
         raise Fault("--exceed makes a table of its own, without --wide and --every")
 

@@ -7,6 +7,7 @@ own: they have a text in the column `note`, and no value.
 import csv
 import io
 from dataclasses import dataclass, field
+from itertools import groupby
 from typing import BinaryIO, Iterator, Protocol
 
 import numpy as np
@@ -176,20 +177,22 @@ class Samples:
     start: Array
     length: Array
     value: Array
+    doubtful: Array
 
     def __len__(self) -> int:
         return len(self.time)
 
     def only(self, which: Array) -> "Samples":
         """Some of them, in this order, with the text as it is."""
-        columns = (self.recording, self.stretch, self.time, self.name, self.start, self.length, self.value)
+        columns = (self.recording, self.stretch, self.time, self.name, self.start, self.length, self.value, self.doubtful)
         return Samples(self.text, *(column[which] for column in columns))
 
     def alone(self) -> "Samples":
         """The same, with a text that has nothing but their values."""
         text = np.frombuffer(joined(self.text, Places(self.start, self.length)), dtype=np.uint8)
         start = np.cumsum(self.length) - self.length
-        return Samples(text, self.recording, self.stretch, self.time, self.name, start, self.length, self.value)
+        places = (self.recording, self.stretch, self.time, self.name, start, self.length)
+        return Samples(text, *places, self.value, self.doubtful)
 
     def followed_by(self, timed: Timed) -> "Samples":
         """These, and after them those of a piece."""
@@ -203,13 +206,14 @@ class Samples:
             np.concatenate((self.start, piece.value_start + shift)),
             np.concatenate((self.length, piece.end - 1 - piece.value_start)),
             np.concatenate((self.value, piece.value)),
+            np.concatenate((self.doubtful, np.zeros(len(piece), dtype=bool) if timed.doubtful is None else timed.doubtful)),
         )
 
 
 def no_samples() -> Samples:
     nothing = np.zeros(0, dtype=np.int64)
     text = np.zeros(0, dtype=np.uint8)
-    return Samples(text, nothing, nothing, nothing, nothing, nothing, nothing, np.zeros(0))
+    return Samples(text, nothing, nothing, nothing, nothing, nothing, nothing, np.zeros(0), np.zeros(0, dtype=bool))
 
 
 class InTime:
@@ -279,11 +283,26 @@ class ByParameter:
         self.columns = columns
         self.in_time = InTime()
         self.waiting = Waiting()
-        out.write(row_text([*columns.first(), *column_names(names), "note"]))
+        self.names = names
+        out.write(row_text([*columns.first(), *column_names(names), *["mark"] * columns.with_marks, "note"]))
 
     def between(self, one: Between) -> bytes:
-        """The row of something between samples."""
-        return row_text([*self.columns.between(one), *[""] * self.count, f"{one.event.value}: {one.text}"])
+        """The row of something between samples, and those of what was read out of it."""
+        empty = [""] * (self.count + self.columns.with_marks)
+        return row_text([*self.columns.between(one), *empty, f"{one.event.value}: {one.text}"]) + b"".join(self._parts(one))
+
+    def _parts(self, one: Between) -> Iterator[bytes]:
+        """The rows of what was read out of a gap, one for each time."""
+        if one.placed is None:
+            return
+        parts, each = one.placed.parts, sorted(one.placed, key=lambda row: row[1:])
+        for (recording, time), together in groupby(each, key=lambda row: row[1:]):
+            cells, numbers = [""] * self.count, [number for number, _, _ in together]
+            for number in numbers:
+                cells[self.names.numbers[parts.name[number].encode()]] = parts.value[number]
+            head = [*self.columns.label(recording).split(","), time_text(time if time >= 0 else None)]
+            head += [self.columns.dates.text(recording, time)] if self.columns.dates else []
+            yield row_text([*head, *cells, f"part {min(parts.syncs[number] for number in numbers)}", ""])
 
 
 class WideTable(ByParameter):
@@ -304,7 +323,7 @@ class WideTable(ByParameter):
         if not len(samples):
             return
         text = Text(samples.text)
-        commas = text.add(b"," * (self.count + 1) + b"\n")
+        commas = text.add(b"," * (self.count + 1) + b"\n" + DOUBTFUL + b",\n")
         begins = np.diff(samples.time, prepend=-1) != 0
         begins[1:] |= np.diff(samples.stretch) != 0
         first = np.flatnonzero(begins)
@@ -317,7 +336,11 @@ class WideTable(ByParameter):
         left = self.count - 1 - samples.name
         everywhere = np.full(len(samples), commas)
         starts = [start, everywhere, samples.start, everywhere + self.count - left]
-        lengths = [length, samples.name - before, samples.length, (left + 2) * ends]
+        lengths = [length, samples.name - before, samples.length, (left + 2 - self.columns.with_marks) * ends]
+        if self.columns.with_marks:
+            marked = np.logical_or.reduceat(samples.doubtful, first)[np.cumsum(begins) - 1]
+            starts.append(everywhere + self.count + 2 + len(DOUBTFUL) * ~marked)
+            lengths.append((len(DOUBTFUL) * marked + 2) * ends)
         ready = self.waiting.before(int(samples.stretch[-1]))
         others = text.add_each([self.between(one) for _, one in ready])
         at = np.searchsorted(samples.stretch, [stretch for stretch, _ in ready]).astype(np.int64) * len(starts)
