@@ -242,6 +242,17 @@ def test_a_wrong_counter_in_a_session_of_standard_input(piped: Tool, write: Writ
         assert "back" not in out and "break" not in out
 
 
+def test_a_wrong_counter_in_a_memory_that_wraps(flight: Tool, write: Write) -> None:
+    """The older part comes first, and time goes on over the frame and over the wrap."""
+    _, text = listed(write, frames_of([10, 11, 12, 3, 4, 99, 6, 7, 8, 9]))
+    table = table_of(flight("table", text, "--table", T1).out)
+    rows = table[table["note"] == ""]
+    assert list(rows["counter"]) == ["3", "4", "99", "6", "7", "8", "9", "10", "11", "12"]
+    assert list(rows["time"]) == [frame * 4 + 0.140625 for frame in range(3, 13)]
+    assert set(table["recording"]) == {1}
+    assert list(table[table["note"] != ""]["name"]) == ["(wrap)", "(doubtful)", "(wrap)"]
+
+
 def test_zero_and_windows(flight: Tool, write: Write) -> None:
     bits = frames_of([5, 6, 7, 9, 10], {2: damaged.with_bits_set(frames_of([8]), [24 * 64], True)})
     dump, text = listed(write, bits)
