@@ -15,15 +15,13 @@ import pytest
 
 import damaged
 import encoder
+import reader
 import undamaged
-from conftest import ORDINARY, T1, TOP, Ran
+from conftest import T1, TOP, Fdr, Ran, Tool, Write
 
 PAGE = (TOP / "docs" / "PARTS.md").read_text()
 CUT = TOP / "examples" / "cut.img"
 FRAME = 3072  # bits of t1.csv
-Tool = Callable[..., Ran]
-Write = Callable[[str, "str | bytes"], pathlib.Path]
-Fdr = Callable[..., bytes]
 Runs = dict[str, damaged.Run]
 
 
@@ -95,7 +93,7 @@ def test_each_whole_subframe_of_a_cut_end(runs: Runs, flight: Tool, tmp_path: pa
     """All samples of the three whole subframes behind the last frame, and none of the fourth."""
     run = runs["cut at 403.9 s"]
     (tmp_path / "b").write_bytes(run.bits)
-    (tmp_path / "l").write_bytes(damaged.reader.listbits(run.table.read_bytes(), run.bits).output)
+    (tmp_path / "l").write_bytes(reader.listbits(run.table.read_bytes(), run.bits).output)
     out = tool_of(flight)("parts", tmp_path / "b", tmp_path / "l", "--table", run.table).decode().splitlines()
     wanted = [
         f"part,{counter},{sub},{word},{name},{value},3"
@@ -110,7 +108,7 @@ def test_each_whole_subframe_of_a_cut_end(runs: Runs, flight: Tool, tmp_path: pa
 
 
 def test_the_tail_of_the_example(flight: Tool, write: Write) -> None:
-    listing = damaged.reader.list_image(T1.read_bytes(), CUT.read_bytes()).output
+    listing = reader.list_image(T1.read_bytes(), CUT.read_bytes()).output
     text = write("l", listing)
     answer = flight("parts", CUT, text, "--table", T1)
     assert answer.out.decode() == "session,1,9\ngap,0,1536\nsession,2,12\ngap,3072,2560\npart,1,1,10,ALT,7,3\n"
@@ -128,7 +126,7 @@ def test_two_syncs_or_three(flight: Tool, write: Write) -> None:
     table = encoder.read_table(T1)
     recording = encoder.recording_of(table, encoder.generated(table, 3, 5), 12_000_000)
     bits = damaged.with_bits_set(recording.bits(), [FRAME + 12 * 64 + 3], True)
-    listing = write("l", damaged.reader.listbits(T1.read_bytes(), bits).output)
+    listing = write("l", reader.listbits(T1.read_bytes(), bits).output)
     value = recording.rows()[1][5]
     dump = write("b", bits)
     assert flight("parts", dump, listing, "--table", T1).out.decode() == f"gap,3072,3072\npart,1,1,10,ALT,{value},2\n"
@@ -151,7 +149,7 @@ def frames_of(counters: list[int], between: dict[int, bytes] | None = None) -> b
 
 def doubtful_of(flight: Tool, write: Write, bits: bytes) -> list[tuple[str, str, str, str]]:
     """The counter, the subframes, the fitting counter and the rule of each doubtful frame."""
-    listing = write("l", damaged.reader.listbits(T1.read_bytes(), bits).output)
+    listing = write("l", reader.listbits(T1.read_bytes(), bits).output)
     out = tool_of(flight)("parts", write("b", bits), listing, "--table", T1).decode()
     fields = [line.split(",", 6) for line in out.splitlines() if line.startswith("doubtful")]
     return [(one[1], one[2], one[3], one[6].split(":")[0]) for one in fields]
@@ -170,6 +168,7 @@ LACK = bytes(100)
         ([5, 99, 7, 88, 9], {}, [("99", "1234", "6", "counter that doesn't fit"), ("88", "1234", "8", "counter that doesn't fit")]),
         ([40, 41, 34, 35, 44], {}, [("34", "1234", "42", "counter that doesn't fit"), ("35", "1234", "43", "counter that doesn't fit")]),
         ([4095, 0, 0, 1, 2], {}, []),  # two recordings begin
+        ([4, 5, 8, 9, 10, 11, 10, 11, 12], {1: bytes(231)}, []),  # two frames are there twice
         ([99, 6, 7, 8], {}, [("99", "1234", "5", "counter that doesn't fit")]),
         ([5, 6, 7, 99], {}, [("99", "1234", "8", "counter that doesn't fit")]),
         ([5, 6, 0, 1, 2], {}, []),  # another recording begins
@@ -185,7 +184,9 @@ LACK = bytes(100)
         ([5, 6, 7, 300, 301], {2: b"\x01"}, []),
     ],
 )
-def test_rules(flight: Tool, write: Write, counters: list[int], between: dict[int, bytes], wanted: list[tuple[str, str, str, str]]) -> None:
+def test_rules(
+    flight: Tool, write: Write, counters: list[int], between: dict[int, bytes], wanted: list[tuple[str, str, str, str]]
+) -> None:
     assert doubtful_of(flight, write, frames_of(counters, between)) == wanted
 
 
@@ -194,7 +195,7 @@ def test_a_lost_byte(flight: Tool, write: Write) -> None:
     bits = bytearray(frames_of([5, 6, 7, 8]))
     del bits[2 * 384 - 50]
     assert doubtful_of(flight, write, bytes(bits)) == [("6", "4", "6", "bits lost")]
-    out = flight("parts", write("b", bytes(bits)), write("l", damaged.reader.listbits(T1.read_bytes(), bytes(bits)).output), "--table", T1).out
+    out = flight("parts", write("b", bytes(bits)), write("l", reader.listbits(T1.read_bytes(), bytes(bits)).output), "--table", T1).out
     assert out.decode().splitlines()[1:] == ["gap,6144,3064", "part,7,1,10,ALT,0,2"]
 
 
@@ -215,7 +216,7 @@ def test_each_rule_is_in_the_page() -> None:
 
 
 def listed(write: Write, bits: bytes) -> tuple[pathlib.Path, pathlib.Path]:
-    return write("b", bits), write("l", damaged.reader.listbits(T1.read_bytes(), bits).output)
+    return write("b", bits), write("l", reader.listbits(T1.read_bytes(), bits).output)
 
 
 def test_time_goes_on_over_a_wrong_counter(flight: Tool, write: Write) -> None:
@@ -235,8 +236,9 @@ def test_time_goes_on_over_a_wrong_counter(flight: Tool, write: Write) -> None:
 
 
 def test_a_wrong_counter_in_a_session_of_standard_input(piped: Tool, write: Write) -> None:
-    text = "session,1,0\n" + damaged.reader.listbits(T1.read_bytes(), frames_of([5, 6, 99, 8, 9])).output.decode()
-    for words in (["--wide"], ["--every", "4s"], []):
+    text = "session,1,0\n" + reader.listbits(T1.read_bytes(), frames_of([5, 6, 99, 8, 9])).output.decode()
+    shapes: list[tuple[str, ...]] = [("--wide",), ("--every", "4s"), ()]
+    for words in shapes:
         out = piped("table", "-", "--table", T1, *words, given=text.encode()).out.decode()
         assert out.count("doubtful") == 1
         assert "back" not in out and "break" not in out
@@ -268,7 +270,7 @@ def test_wide(flight: Tool, write: Write, runs: Runs, tmp_path: pathlib.Path) ->
     """The same samples as the long table has, with the mark of each time."""
     run = runs["20 bytes lost anywhere, W 256"]
     (tmp_path / "b").write_bytes(run.bits)
-    (tmp_path / "l").write_bytes(damaged.reader.listbits(run.table.read_bytes(), run.bits).output)
+    (tmp_path / "l").write_bytes(reader.listbits(run.table.read_bytes(), run.bits).output)
     parts = write("p", flight("parts", tmp_path / "b", tmp_path / "l", "--table", run.table).out)
     words = ("table", tmp_path / "l", "--table", run.table, "--parts", parts)
     long = table_of(flight(*words).out)
@@ -288,7 +290,7 @@ def test_hdf(flight: Tool, write: Write, runs: Runs, tmp_path: pathlib.Path) -> 
     """The same rows as the table as text has."""
     run = runs["20 bytes lost anywhere, W 256"]
     (tmp_path / "b").write_bytes(run.bits)
-    (tmp_path / "l").write_bytes(damaged.reader.listbits(run.table.read_bytes(), run.bits).output)
+    (tmp_path / "l").write_bytes(reader.listbits(run.table.read_bytes(), run.bits).output)
     parts = write("p", flight("parts", tmp_path / "b", tmp_path / "l", "--table", run.table).out)
     words = ("table", tmp_path / "l", "--table", run.table, "--parts", parts)
     text = table_of(flight(*words).out)
@@ -339,7 +341,7 @@ def test_zeros_between_sync_words_are_listed() -> None:
     """As COMMANDS.md and EXCEEDANCES.md say."""
     bits = bytearray(frames_of([5, 6, 7]))
     bits[384 + 6 : 384 + 90] = bytes(84)
-    listing = damaged.reader.listbits(T1.read_bytes(), bytes(bits)).output.decode()
+    listing = reader.listbits(T1.read_bytes(), bytes(bits)).output.decode()
     assert listing.splitlines()[1] == "row,6,1,10,ALT,0"
 
 
@@ -351,7 +353,7 @@ def test_a_picture_has_parts_in_another_colour(flight: Tool, write: Write, runs:
 
     run = runs["20 bytes lost in subframe 4, W 256"]
     (tmp_path / "b").write_bytes(run.bits)
-    (tmp_path / "l").write_bytes(damaged.reader.listbits(run.table.read_bytes(), run.bits).output)
+    (tmp_path / "l").write_bytes(reader.listbits(run.table.read_bytes(), run.bits).output)
     parts = write("p", flight("parts", tmp_path / "b", tmp_path / "l", "--table", run.table).out)
     words = ["plot", str(tmp_path / "l"), "--table", str(run.table), "--parts", str(parts), "-o", str(tmp_path / "f.html")]
     drawn = commands._flight(commands._parser().parse_args([*words, "--only", "ALT,IAS"]), 100_000, [])
@@ -376,7 +378,7 @@ def test_a_picture_has_parts_in_another_colour(flight: Tool, write: Write, runs:
 def test_a_picture_of_parts_alone(flight: Tool, write: Write, runs: Runs, tmp_path: pathlib.Path) -> None:
     run = runs["a bit stuck in each third sync"]
     (tmp_path / "b").write_bytes(run.bits)
-    (tmp_path / "l").write_bytes(damaged.reader.listbits(run.table.read_bytes(), run.bits).output)
+    (tmp_path / "l").write_bytes(reader.listbits(run.table.read_bytes(), run.bits).output)
     parts = write("p", flight("parts", tmp_path / "b", tmp_path / "l", "--table", run.table).out)
     answer = flight("plot", tmp_path / "l", "--table", run.table, "--parts", parts, "-o", tmp_path / "f.svg", "--together", "ALT,IAS")
     assert answer.status == 0
@@ -400,7 +402,7 @@ def test_sessions_and_runs_of_an_image(flight: Tool, write: Write, fdr: Fdr) -> 
 
 def faults() -> list[tuple[bytes, str, str]]:
     good = frames_of([5, 6, 7]) + b"\x47\x02"
-    listing = damaged.reader.listbits(T1.read_bytes(), good).output.decode()
+    listing = reader.listbits(T1.read_bytes(), good).output.decode()
     return [
         (good, "session,1,0\n" + listing + "session,2,9\n" + listing, "listing line 6: of several sessions or runs the image itself is needed"),
         (good[:-3], listing, "listing line 4: the gap doesn't fit the 9208 bits of the dump: a listing of others, or by another table?"),

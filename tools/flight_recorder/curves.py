@@ -298,12 +298,11 @@ class Collector:
             if time >= 0 and (self.only is None or parts.name[number] in self.only):
                 rows.setdefault(parts.name[number], []).append((recording, time, parts.value[number]))
         for name, each in rows.items():
-            recording = np.array([row[0] for row in each], dtype=np.int64)
-            time = np.array([row[1] for row in each], dtype=np.int64)
-            put = time + np.array([self._shift(int(of), int(at)) for of, at in zip(recording, time)], dtype=np.int64)
-            value = np.array([float(row[2]) for row in each])
-            decimals = max(len(row[2].partition(".")[2]) for row in each)
-            self.apart.setdefault(name + PART, Curve()).add(Points(put, value, recording), decimals)
+            put = np.array([time + self._shift(recording, time) for recording, time, _ in each], dtype=np.int64)
+            values = np.array([float(value) for _, _, value in each])
+            recordings = np.array([recording for recording, _, _ in each], dtype=np.int64)
+            decimals = max(len(value.partition(".")[2]) for _, _, value in each)
+            self.apart.setdefault(name + PART, Curve()).add(Points(put, values, recordings), decimals)
 
     def _shift(self, number: int, time: int) -> int:
         """What makes a time of a recording a place on the axis, without the room between recordings."""

@@ -105,13 +105,37 @@ def _bridged(frames: Frames, pieces: list[tuple[int, int]]) -> tuple[list[tuple[
         later = at + 1
         while later < len(pieces) and pieces[later][0] - end <= MOST_IN_A_ROW:
             after = pieces[later][0]
-            if frames.fit(end - 1, after) and not (frames.counter[end] == 0 and frames.counter[after] == 0):
-                doubts += [_doubt(frames, one, COUNTER, end - 1, after) for one in range(end, after)]
+            is_single = later - at == after - end + 1
+            if _is_bridge(frames, end - 1, after, is_single):
+                fitting = _between(frames, end - 1, after)
+                doubts += [_doubt(frames, one, COUNTER, end - 1, after, fitting[one - end]) for one in range(end, after)]
                 at, end = later, pieces[later][1]
             later += 1
         chains.append((first, end))
         at += 1
     return chains, doubts
+
+
+def _is_bridge(frames: Frames, before: int, after: int, is_single: bool) -> bool:
+    """Whether two frames fit so that those between don't count. Where some of these fit each other, the bits have to be exactly as
+    many as the counters say: frames that are there twice have true counters."""
+    steps = (int(frames.counter[after]) - int(frames.counter[before])) % ROUND
+    if steps < after - before or frames.counter[before + 1] == 0 and frames.counter[after] == 0:
+        return False
+    return frames.fit(before, after) if is_single else frames.distance(before, after) == steps
+
+
+def _between(frames: Frames, before: int, after: int) -> list[int]:
+    """Counters that fit for the frames between two, each greater than the one before: by the bits to either, whichever are whole
+    frames."""
+    steps = (int(frames.counter[after]) - int(frames.counter[before])) % ROUND
+    fitting = []
+    for one in range(before + 1, after):
+        own, rest = frames.distance(before, one), frames.distance(one, after)
+        step = round(steps - rest) if rest == round(rest) else round(own)
+        step = min(max(step, one - before), steps - (after - one))
+        fitting.append((int(frames.counter[before]) + step) % ROUND)
+    return fitting
 
 
 def _alone(frames: Frames, run: list[int]) -> list[Doubt]:
@@ -126,11 +150,14 @@ def _alone(frames: Frames, run: list[int]) -> list[Doubt]:
     return [_doubt(frames, one, LONE if frames.has_gap_beside(one) else COUNTER, before, after) for one in doubtful]
 
 
-def _doubt(frames: Frames, one: int, rule: str, before: int | None, after: int | None) -> Doubt:
-    """A doubt of a counter, with the one that fits a neighbour."""
+def _doubt(
+    frames: Frames, one: int, rule: str, before: int | None, after: int | None, fitting: int | None = None
+) -> Doubt:
+    """A doubt of a counter, with the one that fits a neighbour where none is given."""
     by_after = None if after is None else (int(frames.counter[after]) - round(frames.distance(one, after))) % ROUND
     by_before = None if before is None else (int(frames.counter[before]) + round(frames.distance(before, one))) % ROUND
-    fitting = by_after if by_before is None or by_after == 0 else by_before
+    if fitting is None:
+        fitting = by_after if by_before is None or by_after == 0 else by_before
     beside = [f"{frames.counter[near]} {where}" for near, where in ((before, "before"), (after, "after")) if near is not None]
     return Doubt(one, ALL, fitting or 0, (rule,), f"the counter is {frames.counter[one]} beside {' and '.join(beside)}")
 
