@@ -70,6 +70,7 @@ def parts(fdr: str, pair: str) -> Iterator[Part]:
     yield Part("`make check-memory`", ["tests/memory.py", fdr, pair], r"^([\d,]+ runs, .*)$", ("cc",))
     yield Part("`make fail-io`", ["tests/fail_io.py", fdr, pair], r"^([\d,]+ runs, .*)$", ("cc",))
     yield Part("`make drawn-dumps`", ["tests/drawn_dumps.py"], r"^(\d+ dumps and .* wrong)")
+    yield Part("`make undamaged`", ["tests/flight/undamaged.py", "1000000"], r"^(\d+ undamaged frames) in .*marked$")
     yield Part("`make demo`", ["make", "demo"], r"^(cases=\d+ .*no-answer=\d+)", ("rt",))
     yield Part("`make tools-test`", ["tests/flight/run"], r"^(.*\bpassed\b.*) in ")
 
