@@ -7,7 +7,7 @@ import pathlib
 import sys
 from typing import TYPE_CHECKING, BinaryIO, Callable
 
-from . import readout, tabling
+from . import readout, report_command, tabling
 from .faults import Fault, MissingPackage
 from .streams import Again, drop_output, emptied, opened, opened_again, output, standard_output, whole_file
 
@@ -49,6 +49,7 @@ def _parser() -> argparse.ArgumentParser:
         add(commands)
     readout.add_commands(commands, _command)
     tabling.add_commands(commands, _command)
+    report_command.add_commands(commands, _command)
     return parser
 
 

@@ -33,15 +33,17 @@ PAGE = """\
 <style>{style}</style>
 </head>
 <body>
+{body}
+</body>
+</html>
+"""
+CHARTS = """\
 <header><h1>{title}</h1><p id="help">Drag to zoom, shift-drag to move, double-click for the whole flight.</p><p id="where"></p></header>
 <main><nav id="parameters"></nav><section><div id="charts"></div><ol id="events"></ol></section></main>
 <script type="application/json" id="flight">{data}</script>
 {curves}
 <script>{library}</script>
-<script>{script}</script>
-</body>
-</html>
-"""
+<script>{script}</script>"""
 
 
 def save(flight: Flight, path: pathlib.Path, title: str) -> None:
@@ -51,10 +53,19 @@ def save(flight: Flight, path: pathlib.Path, title: str) -> None:
 
 def page_of(flight: Flight, title: str = "") -> str:
     """The page."""
-    return PAGE.format(
-        policy=POLICY,
-        title=html.escape(title or "Flight"),
-        style=_library("dygraph.min.css") + (HERE / "page.css").read_text(),
+    name = title or "Flight"
+    return PAGE.format(policy=POLICY, title=html.escape(name), style=style_of_charts(), body=charts_of(flight, name))
+
+
+def style_of_charts() -> str:
+    """The style of the charts."""
+    return _library("dygraph.min.css") + (HERE / "page.css").read_text()
+
+
+def charts_of(flight: Flight, title: str) -> str:
+    """The charts with their data and their scripts, which stand once in a page."""
+    return CHARTS.format(
+        title=html.escape(title),
         data=json.dumps(data_of(flight), separators=(",", ":")).replace("<", "\\u003c"),
         curves="\n".join(_points_of(flight)),
         library=_library("dygraph.min.js"),

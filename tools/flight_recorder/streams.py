@@ -179,3 +179,30 @@ def _umask() -> int:
     mask = os.umask(0o022)
     os.umask(mask)
     return mask
+
+
+@contextlib.contextmanager
+def whole_folder(path: pathlib.Path) -> Iterator[pathlib.Path]:
+    """A folder to write into; it becomes `path` at the end, once all in it is on the disk, and is removed after a fault."""
+    if path.exists() and not (path.is_dir() and not any(path.iterdir())):
+        raise Fault(f"{path}: it is there already, and nothing is written over it")
+    half = pathlib.Path(tempfile.mkdtemp(prefix=".flight-", dir=path.parent))
+    try:
+        yield half
+        os.chmod(half, 0o777 & ~_umask())
+        for one in [*half.iterdir(), half]:
+            _sync(one)
+        os.rename(half, path)
+    except BaseException:
+        shutil.rmtree(half, ignore_errors=True)
+        raise
+    _sync(path.parent)
+
+
+def _sync(path: pathlib.Path) -> None:
+    """Has a file or a folder on the disk."""
+    handle = os.open(path, os.O_RDONLY)
+    try:
+        os.fsync(handle)
+    finally:
+        os.close(handle)
