@@ -26,7 +26,8 @@ FULL = formats.HEAD.size + PAYLOAD
 @dataclass(frozen=True)
 class Damaged:
     """An image: its name, its bytes, its runs and holes as first and last block, the counters of its whole frames run by run,
-    the sessions run by run, and the number of slots; or else what the program says of it, and its status."""
+    the sessions run by run, a block that was being written, the runs with a wrong number, and those that are
+    too far from the greatest number; or else what the program says of it, and its status."""
 
     name: str
     image: bytes
@@ -35,6 +36,7 @@ class Damaged:
     counters: list[list[int]] = field(default_factory=list)
     sessions: list[list[int | None]] = field(default_factory=list)
     pending: int | None = None
+    misnumbered: list[int] = field(default_factory=list)
     far: list[int] = field(default_factory=list)
     refusal: tuple[int, str] | None = None
     hint: str = ""
@@ -119,6 +121,7 @@ def heads() -> list[Damaged]:
             [*others.holes, (BLOCKS, far - 1)],
             [*others.counters, []],
             [*others.sessions, [1]],
+            misnumbered=[2],
             far=[0, 1],
         ),
     ]

@@ -66,6 +66,7 @@ def test_the_numbers_are_those_of_what_was_done(
     assert [[session["number"] for session in run["sessions"]] for run in found["runs"]] == one.sessions
     assert [run["listed"] for run in found["runs"]] == [False] * (len(one.runs) - 1) + [True]
     assert (found["pending"], found["far"], found["as_salvaged"]) == (one.pending, one.far, True)
+    assert [number for number, run in enumerate(found["runs"]) if run["misnumbered"]] == one.misnumbered
     assert found["frames"] == found["rows"] == sum(map(len, one.counters))
     table = pandas.read_csv(tmp_path / "r" / "values.csv")
     rows = table[table["note"].isna()]

@@ -35,6 +35,7 @@ class RunFact:
     last: int | None
     is_listed: bool
     sessions: list[SessionFact]
+    is_misnumbered: bool = False  # one block, which may be a missing one with a wrong bit in its number
 
     @property
     def blocks(self) -> int:
@@ -100,6 +101,9 @@ def facts_of_image(slots: Slots, table: Table, survey: Survey) -> Facts:
     runs = slots.runs()
     found = [_run(run, run is runs[-1], slots, table) for run in runs]
     facts = Facts(found, holes_of(runs, slots), far_of(runs, slots.count))
+    missing = [(hole.first, hole.first + hole.blocks) for hole in facts.holes]
+    for fact in facts.runs:
+        fact.is_misnumbered = fact.blocks == 1 and fact.first is not None and slots.is_misnumbered(fact.first, missing)
     facts.is_as_salvaged = survey.heads == heads_of(runs, slots.version)
     facts.pending = slots.pending(runs[-1].last + 1) if runs else slots.pending(0)
     _give_times(facts, survey)

@@ -38,7 +38,13 @@ def write(report: Report, folder: pathlib.Path) -> None:
 def _of(facts: Facts) -> dict[str, Any]:
     acks = {"newest": facts.acks.newest, "held": _is_held(facts)} if facts.acks else None
     runs = [
-        {"first": run.first, "last": run.last, "listed": run.is_listed, "sessions": [asdict(one) for one in run.sessions]}
+        {
+            "first": run.first,
+            "last": run.last,
+            "listed": run.is_listed,
+            "misnumbered": run.is_misnumbered,
+            "sessions": [asdict(one) for one in run.sessions],
+        }
         for run in facts.runs
     ]
     holes = [asdict(one) for one in facts.holes]

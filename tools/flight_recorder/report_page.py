@@ -16,6 +16,7 @@ from .report import COMMANDS, COPIES, PAGE, Report
 from .survey import Absence, Values
 
 MOST_ROWS = 200  # of a table of the page
+SECONDS, MICROSECONDS = len("2026-05-04T10:00:00"), len("2026-05-04T10:00:00.000000")  # of a date
 FILES = {
     "values.csv": "each value with its time and its place in the bits, and what is between",
     "values.h5": "the same, for pandas",
@@ -160,13 +161,16 @@ def _blocks(report: Report, facts: Facts) -> list[str]:
         parts.append(_said("A second reading of the slots gives other runs than fdr salvage: trust neither before it is known why.", report.listing, True))
     if facts.left_out and not report.settings.shape:
         parts.append(_said(_left_out(facts.left_out), "listing.txt", True))
+    for run in (one for one in facts.runs if one.is_misnumbered):
+        text = f"Block {run.first} may be one of those that are missing, with a wrong bit in its number: see the hole."
+        parts.append(_said(text, report.listing, True))
     for number in facts.far:
         run = facts.runs[number]
         text = f"Blocks {run.first} to {run.last} and block {facts.newest} can't be in one ring of these slots: the number of one of them is wrong."
         parts.append(_said(text, report.listing, True))
     for hole in facts.holes:
         blocks = f"block {hole.first} is" if hole.blocks == 1 else f"blocks {hole.first} to {hole.first + hole.blocks - 1}, {hole.blocks} in all, are"
-        why = "; ".join(hole.reasons)
+        why = "; ".join(hole.reasons) + (", and so on" if hole.blocks > len(hole.reasons) else "")
         parts.append(_said(f"A hole: {blocks} missing. {why[:1].upper()}{why[1:]}.", report.listing, True))
     return parts
 
@@ -197,14 +201,17 @@ def _when(report: Report, recording: int, ticks: int | None) -> str:
     if ticks is None:
         return "unknown"
     date = report.dates.text(recording - 1, ticks) if report.dates else ""
+    date = date[:SECONDS] + date[MICROSECONDS:]
     return f"{clock_text(round(ticks / SECOND, 3))}{f' ({date})' if date else ''}"
 
 
 def _ending(report: Report, facts: Facts) -> list[str]:
     if not facts.runs:
         return [_said("The image has no block.", report.listing)]
-    last = facts.runs[-1].sessions[-1]
-    parts = [_said(_end_text(last, report.is_image), report.listing)]
+    parts = [_said(_end_text(facts.runs[-1].sessions[-1], report.is_image), report.listing)]
+    if facts.runs[-1].is_misnumbered and len(facts.runs) > 1:
+        parts.append(_said(f"But block {facts.newest} may be an older one with a wrong bit in its number. Without it:", report.listing, True))
+        parts.append(_said(_end_text(facts.runs[-2].sessions[-1], True), report.listing))
     if facts.pending is not None:
         parts.append(_said(f"Block {facts.pending} was being written when the recording stopped: its head is there, and its gate isn't open."))
     if facts.acks is not None:

@@ -14,8 +14,14 @@ from .parameters import WORDS
 
 NUMBERS = 1 << 48
 LEAST_PAYLOAD, MOST_PAYLOAD = 64, 4096
-MOST_REASONS = 5  # of a hole that are said one by one
+MOST_REASONS = 3  # of a hole that are said one by one
+MOST_ROUNDS = 4  # of a ring, in which a wrong number is looked for
 FIELDS = np.dtype([("gate", "u1"), ("zero", "u1"), ("length", ">u2"), ("session", ">u4"), ("number", ">u8")])
+
+
+def is_one_bit_apart(one: int, other: int) -> bool:
+    """Whether two numbers differ in one bit."""
+    return bin(one ^ other).count("1") == 1
 
 
 @dataclass(frozen=True)
@@ -128,6 +134,15 @@ class Slots:
         """Why the slots of missing blocks don't hold them, of the first few."""
         return [self._why(number) for number in range(first, first + min(count, MOST_REASONS))]
 
+    def is_misnumbered(self, number: int, missing: list[tuple[int, int]]) -> bool:
+        """Whether a block may be one of those that are missing, from one number up to before another, with a wrong bit."""
+        slot = number % self.count
+        for begin, end in missing:
+            first = begin + (slot - begin) % self.count
+            if any(is_one_bit_apart(number, one) for one in range(first, min(end, first + MOST_ROUNDS * self.count), self.count)):
+                return True
+        return False
+
     def _why(self, number: int) -> str:
         slot = number % self.count
         where = f"block {number} belongs into slot {slot}, at byte {HEADER.size + slot * (HEAD.size + self.payload)}"
@@ -141,6 +156,8 @@ class Slots:
             said = f"its number is {holds}, which no block in this slot has"
         elif not 1 <= length <= self.payload:
             said = f"its length is {length}, which isn't 1 to {self.payload}"
+        elif is_one_bit_apart(holds, number):
+            said = f"it holds block {holds}; the two numbers differ in one bit, so this may be the missing block"
         else:
             said = f"it holds block {holds}"
         return f"{where}: {said}"
