@@ -64,7 +64,15 @@ def flipped(image: bytes, number: int, bit: int) -> bytes:
     return image[:begin] + bytes([image[begin] ^ 0x80 >> bit % 8]) + image[begin + 1 :]
 
 
-def left(name: str, image: bytes, struck: Iterable[int], lost: Iterable[int] = (), first: int = 0, **more: object) -> Damaged:
+def left(
+    name: str,
+    image: bytes,
+    struck: Iterable[int],
+    lost: Iterable[int] = (),
+    first: int = 0,
+    sessions: list[list[int | None]] | None = None,
+    pending: int | None = None,
+) -> Damaged:
     """What is left of one recording of which these blocks are struck out, and these frames besides."""
     gone = set(struck)
     numbers = [number for number in range(first, BLOCKS) if number not in gone]
@@ -74,8 +82,7 @@ def left(name: str, image: bytes, struck: Iterable[int], lost: Iterable[int] = (
     holes = [(end + 1, begin - 1) for end, begin in zip([first - 1, *ends], begins) if begin > end + 1]
     whole = [frame for frame in range(FRAMES) if frame not in lost]
     counters = [[one for one in whole if a <= one * IN_FRAME and (one + 1) * IN_FRAME - 1 <= b] for a, b in runs]
-    sessions: list[list[int | None]] = [[1] for _ in runs]
-    return Damaged(name, image, runs, holes, counters, **{"sessions": sessions, **more})  # type: ignore[arg-type]
+    return Damaged(name, image, runs, holes, counters, sessions or [[1] for _ in runs], pending)
 
 
 def closed(image: bytes, numbers: Iterable[int]) -> bytes:

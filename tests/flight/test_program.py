@@ -14,7 +14,7 @@ import pytest
 from conftest import FLIGHT, T1, Tool, Write
 from flight_recorder import commands
 
-COMMANDS = ["trace", "words", "check-trace", "pack", "unpack", "table", "frame", "plot", "layout", "map", "values"]
+COMMANDS = ["trace", "words", "check-trace", "pack", "unpack", "table", "frame", "plot", "layout", "map", "values", "report"]
 ROW = b"row,0,1,10,ALT,5\n"
 ROWS = b"".join(b"row,%d,1,10,ALT,5\n" % (1000 + number % 3000) for number in range(200_000))  # 20 bytes each
 

@@ -7,9 +7,12 @@ import hashlib
 import json
 import os
 import pathlib
+import pty
+import random
 import re
 import subprocess
-from typing import Any, Callable
+import sys
+from typing import Any
 
 import pandas
 import pytest
@@ -19,18 +22,18 @@ import encoder
 import formats
 import inputs
 import reader
-from conftest import ORDINARY, T1, TOP, Ran
+from conftest import FLIGHT, ORDINARY, T1, TOP, Tool, Write
+from test_with_program import damaged
 
-Flight = Callable[..., Ran]
-Write = Callable[[str, "str | bytes"], pathlib.Path]
 PROGRAM = pathlib.Path(os.environ.get("FDR", TOP / "bin" / "fdr")).resolve()
 EXAMPLES = sorted((TOP / "examples").glob("*.img"))
+DAMAGED = damaged_images.damaged_images()
 RULES = "HIGH,ALT,above,120,3\nLONG,ALT,above,100,12\n"
 TIMES = ("begun", "ended", "seconds", "modified", "changed")
 pytestmark = pytest.mark.skipif(not PROGRAM.is_file(), reason="no program: FDR names none, and there is no bin/fdr")
 
 
-def reported(flight: Flight, source: pathlib.Path, folder: pathlib.Path, *words: object, status: int = 0) -> dict[str, Any]:
+def reported(flight: Tool, source: pathlib.Path, folder: pathlib.Path, *words: object, status: int = 0) -> dict[str, Any]:
     """Makes a report, and answers its findings."""
     answer = flight("report", source, "--table", T1, "--fdr", PROGRAM, "-o", folder, *words)
     assert answer.status == status, answer.error
@@ -49,9 +52,9 @@ def counters_of(run: dict[str, Any], rows: pandas.DataFrame) -> list[int]:
     return [int(counter) for counter in rows[rows["recording"].isin(recordings)]["counter"]]
 
 
-@pytest.mark.parametrize("one", damaged_images.damaged_images(), ids=lambda one: one.name)
+@pytest.mark.parametrize("one", DAMAGED, ids=[one.name for one in DAMAGED])
 def test_the_numbers_are_those_of_what_was_done(
-    flight: Flight, write: Write, tmp_path: pathlib.Path, one: damaged_images.Damaged
+    flight: Tool, write: Write, tmp_path: pathlib.Path, one: damaged_images.Damaged
 ) -> None:
     source = write("x.img", one.image)
     found = reported(flight, source, tmp_path / "r", status=2 if one.refusal else 0)
@@ -65,7 +68,7 @@ def test_the_numbers_are_those_of_what_was_done(
     assert [(hole["first"], hole["first"] + hole["blocks"] - 1) for hole in found["holes"]] == one.holes
     assert [[session["number"] for session in run["sessions"]] for run in found["runs"]] == one.sessions
     assert [run["listed"] for run in found["runs"]] == [False] * (len(one.runs) - 1) + [True]
-    assert (found["pending"], found["far"], found["as_salvaged"]) == (one.pending, one.far, True)
+    assert (found["pending"], found["far"], found["as_salvaged"], found["as_listed"]) == (one.pending, one.far, True, True)
     assert [number for number, run in enumerate(found["runs"]) if run["misnumbered"]] == one.misnumbered
     assert found["frames"] == found["rows"] == sum(map(len, one.counters))
     table = pandas.read_csv(tmp_path / "r" / "values.csv")
@@ -80,8 +83,8 @@ def test_the_numbers_are_those_of_what_was_done(
     assert (tmp_path / "r" / "salvage.txt").read_bytes() == reader.salvage(T1.read_bytes(), one.image).output
 
 
-@pytest.mark.parametrize("path", EXAMPLES, ids=lambda path: path.stem)
-def test_the_images_of_the_examples(flight: Flight, tmp_path: pathlib.Path, path: pathlib.Path) -> None:
+@pytest.mark.parametrize("path", EXAMPLES, ids=[path.stem for path in EXAMPLES])
+def test_the_images_of_the_examples(flight: Tool, tmp_path: pathlib.Path, path: pathlib.Path) -> None:
     """What the program wrote stands there word for word, by the second reader; and the input is as it was."""
     before = os.stat(path)
     is_headless = path.stem == "headless"
@@ -101,14 +104,14 @@ def test_the_images_of_the_examples(flight: Flight, tmp_path: pathlib.Path, path
     assert (folder / "exceed.txt").read_bytes() == reader.exceed(table, image, rules).output
 
 
-def test_an_image_whose_header_is_gone(flight: Flight, tmp_path: pathlib.Path) -> None:
+def test_an_image_whose_header_is_gone(flight: Tool, tmp_path: pathlib.Path) -> None:
     words = ("--slots", 16, "--payload", 64, "--rules", TOP / "examples" / "rules.csv")
     found = reported(flight, TOP / "examples" / "headless.img", tmp_path / "r", *words)
     assert [(run["first"], run["last"]) for run in found["runs"]] == [(0, 7), (9, 11)]
     assert [(one["name"], one["begins"]) for one in found["exceedances"]] == [("ALT_LOW", [{"recording": 1, "time": 0.140625}])]
 
 
-def test_an_image_that_another_process_has_locked(flight: Flight, write: Write, tmp_path: pathlib.Path) -> None:
+def test_an_image_that_another_process_has_locked(flight: Tool, write: Write, tmp_path: pathlib.Path) -> None:
     source = write("x.img", damaged_images.whole_image())
     with open(source, "rb") as held:
         fcntl.flock(held, fcntl.LOCK_EX)
@@ -119,7 +122,7 @@ def test_an_image_that_another_process_has_locked(flight: Flight, write: Write, 
         fcntl.flock(free, fcntl.LOCK_EX | fcntl.LOCK_NB)
 
 
-def test_the_newest_announcement(flight: Flight, write: Write, tmp_path: pathlib.Path) -> None:
+def test_the_newest_announcement(flight: Tool, write: Write, tmp_path: pathlib.Path) -> None:
     last = damaged_images.BLOCKS
     image = damaged_images.closed(damaged_images.whole_image(), [last - 1])
     acks = write("acks", "".join(f"ack {number}\n" for number in range(last + 1)) + "fdr: disk fault\n")
@@ -130,7 +133,7 @@ def test_the_newest_announcement(flight: Flight, write: Write, tmp_path: pathlib
     assert whole["acks"] == {"newest": last, "held": True}
 
 
-def test_how_a_recording_ends(flight: Flight, write: Write, tmp_path: pathlib.Path) -> None:
+def test_how_a_recording_ends(flight: Tool, write: Write, tmp_path: pathlib.Path) -> None:
     """Two frames, then two subframes and 100 words of the third, whatever is after that in the last block."""
     part = inputs.t1_frame(2, 9)[:192] + inputs.t1_frame(2, 9)[192:254]
     bits = inputs.t1_frame(0, 5) + inputs.t1_frame(1, 7) + part
@@ -143,7 +146,7 @@ def test_how_a_recording_ends(flight: Flight, write: Write, tmp_path: pathlib.Pa
     assert "The last whole frame has counter 1 and begins at bit 3072. After it are 2 whole subframes" in text_of(tmp_path / "r")
 
 
-def test_bits(flight: Flight, write: Write, tmp_path: pathlib.Path) -> None:
+def test_bits(flight: Tool, write: Write, tmp_path: pathlib.Path) -> None:
     """Bits with foreign bytes in them: listed by listbits, and events of an image that is made of them."""
     frames = [inputs.t1_frame(counter, 100 + counter) for counter in range(30)]
     bits = b"".join(frames[:10]) + b"\x11" * 40 + b"".join(frames[10:])
@@ -157,7 +160,23 @@ def test_bits(flight: Flight, write: Write, tmp_path: pathlib.Path) -> None:
     assert "made an image by flight image" in text_of(tmp_path / "r")
 
 
-def test_how_long_each_rule_was_watched(flight: Flight, write: Write, tmp_path: pathlib.Path) -> None:
+@pytest.mark.parametrize("seed", range(4))
+def test_bits_with_drawn_damage(flight: Tool, write: Write, tmp_path: pathlib.Path, seed: int) -> None:
+    """A second search for the frames finds those of the program, and every gap has its place."""
+    table = encoder.read_table(ORDINARY)
+    bits = encoder.recording_of(table, encoder.generated(table, 30, 3), 120_000_000).bits()
+    data = damaged(bits, 6 * table.words, random.Random(seed))
+    answer = flight("report", write("x.bits", data), "--table", ORDINARY, "--fdr", PROGRAM, "-o", tmp_path / "r")
+    assert (answer.status, answer.error) == (0, "")
+    found = json.loads((tmp_path / "r" / "findings.json").read_text())
+    listing = reader.listbits(ORDINARY.read_bytes(), data).output.decode().splitlines()
+    gaps = [tuple(map(int, line.split(",")[1:])) for line in listing if line.startswith("gap,")]
+    assert [(one["bit"], one["bits"]) for one in found["missing"] if one["event"] == "gap"] == gaps
+    assert (found["as_listed"], found["rows"]) == (True, len(listing) - len(gaps))
+    assert found["frames"] == (8 * len(data) - sum(size for _, size in gaps)) // (48 * table.words)
+
+
+def test_how_long_each_rule_was_watched(flight: Tool, write: Write, tmp_path: pathlib.Path) -> None:
     """A byte is put in after every fifth frame, so no rule of twelve values can be seen; one of three is watched all the time."""
     frames = [inputs.t1_frame(counter, 150) for counter in range(40)]
     bits = b"".join(frame + (b"\x11" if number % 5 == 4 else b"") for number, frame in enumerate(frames))
@@ -168,7 +187,7 @@ def test_how_long_each_rule_was_watched(flight: Flight, write: Write, tmp_path: 
     assert "Could not be seen at all: LONG." in text_of(tmp_path / "r")
 
 
-def test_exceedances_of_runs_that_list_leaves_out(flight: Flight, write: Write, tmp_path: pathlib.Path) -> None:
+def test_exceedances_of_runs_that_list_leaves_out(flight: Tool, write: Write, tmp_path: pathlib.Path) -> None:
     image = damaged_images.closed(damaged_images.whole_image(), [200])
     found = reported(flight, write("x.img", image), tmp_path / "r", "--rules", write("rules", RULES))
     assert (tmp_path / "r" / "exceed.txt").read_text() == "exceed,HIGH,34,1,10,6,139\n"
@@ -176,7 +195,7 @@ def test_exceedances_of_runs_that_list_leaves_out(flight: Flight, write: Write, 
     assert said == [("HIGH", 21, 12, "132", 1), ("LONG", 1, 32, "132", 1), ("HIGH", 34, 6, "139", 1)]
 
 
-def test_values_that_never_change_or_are_at_an_end(flight: Flight, write: Write, tmp_path: pathlib.Path) -> None:
+def test_values_that_never_change_or_are_at_an_end(flight: Tool, write: Write, tmp_path: pathlib.Path) -> None:
     table = write("t.csv", T1.read_text() + "P,STILL,0,204,,11,4,S,1,1,0,0,16\nL,STILL,2,1,11,0,1,4,0,1\n".replace("STILL,2,1", "STILL,1,2"))
     frames = b"".join(formats.frame({(1, 2): at, (1, 10): 4095 if at < 3 else 7, (2, 11): 0b1000}) for at in range(10))
     image = formats.recorded(formats.empty_image(64, 64), frames)
@@ -188,7 +207,7 @@ def test_values_that_never_change_or_are_at_an_end(flight: Flight, write: Write,
     assert "never changes; 10 values at the least of its range, -8" in page and "3 values at the greatest of its range, 4095" in page
 
 
-def test_the_sums_are_checked_by_sha256sum(flight: Flight, write: Write, tmp_path: pathlib.Path) -> None:
+def test_the_sums_are_checked_by_sha256sum(flight: Tool, write: Write, tmp_path: pathlib.Path) -> None:
     source = write("x.img", damaged_images.whole_image())
     folder = tmp_path / "r"
     reported(flight, source, folder, "--rules", write("rules", RULES))
@@ -212,7 +231,7 @@ def without_times(value: Any) -> Any:
     return [without_times(one) for one in value] if isinstance(value, list) else value
 
 
-def test_two_reports_differ_in_times_alone(flight: Flight, write: Write, tmp_path: pathlib.Path) -> None:
+def test_two_reports_differ_in_times_alone(flight: Tool, write: Write, tmp_path: pathlib.Path) -> None:
     source, rules = write("x.img", damaged_images.closed(damaged_images.whole_image(), [100])), write("rules", RULES)
     for name in ("r", "s"):
         reported(flight, source, tmp_path / name, "--rules", rules, "--start", "2026-05-04T10:00:00Z")
@@ -231,7 +250,7 @@ def test_two_reports_differ_in_times_alone(flight: Flight, write: Write, tmp_pat
         pandas.testing.assert_frame_equal(pandas.read_hdf(one / "values.h5", key), pandas.read_hdf(other / "values.h5", key))
 
 
-def test_inputs_stay_as_they_are(flight: Flight, write: Write, tmp_path: pathlib.Path) -> None:
+def test_inputs_stay_as_they_are(flight: Tool, write: Write, tmp_path: pathlib.Path) -> None:
     source, rules, acks = write("x.img", damaged_images.whole_image()), write("rules", RULES), write("acks", "ack 0\n")
     paths = [source, rules, acks]
     for path in paths:
@@ -244,7 +263,23 @@ def test_inputs_stay_as_they_are(flight: Flight, write: Write, tmp_path: pathlib
         fcntl.flock(free, fcntl.LOCK_EX | fcntl.LOCK_NB)
 
 
-def test_a_step_that_fails_leaves_nothing(flight: Flight, write: Write, tmp_path: pathlib.Path) -> None:
+def test_a_bar_on_a_terminal_alone(write: Write, tmp_path: pathlib.Path) -> None:
+    source = write("x.img", damaged_images.whole_image())
+    words = [sys.executable, str(FLIGHT), "report", str(source), "--table", str(T1), "--fdr", str(PROGRAM), "-o"]
+    quiet = subprocess.run([*words, tmp_path / "r"], capture_output=True)
+    assert (quiet.returncode, quiet.stdout, quiet.stderr) == (0, b"", b"")
+    main, other = pty.openpty()
+    assert subprocess.run([*words, tmp_path / "s"], stderr=other).returncode == 0
+    os.close(other)
+    said = os.read(main, 10_000).decode()
+    os.close(main)
+    steps = re.findall(r"\[(#*) *\] ([a-z ]+?) (?=\r)", said)
+    assert [name for _, name in steps] == ["sums", "fdr check", "fdr salvage", "fdr list", "fdr recover", "values", "page"]
+    assert [len(bar) for bar, _ in steps] == sorted(len(bar) for bar, _ in steps)
+    assert said.endswith("\r\x1b[K")
+
+
+def test_a_step_that_fails_leaves_nothing(flight: Tool, write: Write, tmp_path: pathlib.Path) -> None:
     """A program that changes what it is given: there is no report of that."""
     source = write("x.img", damaged_images.whole_image())
     program = write("fdr", f'#!/bin/sh\nprintf x >> {source}\nexec {PROGRAM} "$@"\n')
@@ -255,7 +290,7 @@ def test_a_step_that_fails_leaves_nothing(flight: Flight, write: Write, tmp_path
     assert sorted(path.name for path in tmp_path.iterdir()) == ["fdr", "x.img"]
 
 
-def test_wrong_words(flight: Flight, write: Write, tmp_path: pathlib.Path) -> None:
+def test_wrong_words(flight: Tool, write: Write, tmp_path: pathlib.Path) -> None:
     source = write("x.img", damaged_images.whole_image())
     (tmp_path / "there").mkdir()
     write("there/file", "")
@@ -267,7 +302,7 @@ def test_wrong_words(flight: Flight, write: Write, tmp_path: pathlib.Path) -> No
     assert not (tmp_path / "r").exists()
 
 
-def test_a_refused_table_and_refused_rules(flight: Flight, write: Write, tmp_path: pathlib.Path) -> None:
+def test_a_refused_table_and_refused_rules(flight: Tool, write: Write, tmp_path: pathlib.Path) -> None:
     source = write("x.img", damaged_images.whole_image())
     answer = flight("report", source, "--table", write("t", "F,64,2\n"), "--fdr", PROGRAM, "-o", tmp_path / "r")
     assert (answer.status, answer.error) == (2, "flight: fdr check refused: fdr: table row 0: shape; the report says what to try\n")
@@ -276,7 +311,7 @@ def test_a_refused_table_and_refused_rules(flight: Flight, write: Write, tmp_pat
     assert (found["rows"], found["watched"]) == (40, [])
 
 
-def test_a_recording_of_two_flights_by_the_ordinary_table(flight: Flight, write: Write, tmp_path: pathlib.Path) -> None:
+def test_a_recording_of_two_flights_by_the_ordinary_table(flight: Tool, write: Write, tmp_path: pathlib.Path) -> None:
     """Values, times and dates of a table with several parameters are those that were sampled."""
     table = encoder.read_table(ORDINARY)
     recordings = [encoder.recording_of(table, encoder.generated(table, count, count), count * 4_000_000) for count in (8, 5)]

@@ -5,13 +5,13 @@ from __future__ import annotations
 import base64
 import os
 import pathlib
-from typing import Callable, Iterator
+from typing import Iterator
 
 import pytest
 
 import browser
 import damaged_images
-from conftest import T1, TOP, Ran
+from conftest import T1, TOP, Tool, Write
 from flight_recorder import page
 
 PROGRAM = pathlib.Path(os.environ.get("FDR", TOP / "bin" / "fdr")).resolve()
@@ -33,7 +33,7 @@ def chromium() -> Iterator[browser.Browser]:
 
 @pytest.fixture
 def opened(
-    flight: Callable[..., Ran], write: Callable[[str, "str | bytes"], pathlib.Path], tmp_path: pathlib.Path, chromium: browser.Browser
+    flight: Tool, write: Write, tmp_path: pathlib.Path, chromium: browser.Browser
 ) -> browser.Browser:
     """The page of an image with a hole."""
     source = write("x.img", damaged_images.closed(damaged_images.whole_image(), [100]))

@@ -6,7 +6,9 @@ import re
 from dataclasses import dataclass, field
 
 from .arrays import Array
+from .clock import WORD_BITS
 from .endings import Ending, ending_of
+from .listing import SUBFRAMES
 from .parameters import Table
 from .slots import Run, Slots, heads_of
 from .survey import Survey
@@ -72,7 +74,8 @@ class Facts:
     runs: list[RunFact]
     holes: list[Hole] = field(default_factory=list)
     far: list[int] = field(default_factory=list)  # runs that can't be beside the greatest number in one ring
-    is_as_salvaged: bool = True
+    is_as_salvaged: bool = True  # the program's listing has the same runs,
+    are_as_listed: bool = True  # and the same frames
     pending: int | None = None  # a block that was being written
     acks: Acks | None = None
 
@@ -106,7 +109,7 @@ def facts_of_image(slots: Slots, table: Table, survey: Survey) -> Facts:
         fact.is_misnumbered = fact.blocks == 1 and fact.first is not None and slots.is_misnumbered(fact.first, missing)
     facts.is_as_salvaged = survey.heads == heads_of(runs, slots.version)
     facts.pending = slots.pending(runs[-1].last + 1) if runs else slots.pending(0)
-    _give_times(facts, survey)
+    _compare(facts, table, survey)
     return facts
 
 
@@ -114,7 +117,7 @@ def facts_of_bits(data: Array, table: Table, survey: Survey) -> Facts:
     """What is in bits."""
     whole = SessionFact(None, None, None, len(data), ending_of(data, table))
     facts = Facts([RunFact(None, None, True, [whole])])
-    _give_times(facts, survey)
+    _compare(facts, table, survey)
     return facts
 
 
@@ -126,7 +129,17 @@ def _run(run: Run, is_listed: bool, slots: Slots, table: Table) -> RunFact:
     return RunFact(run.first, run.last, is_listed, sessions)
 
 
-def _give_times(facts: Facts, survey: Survey) -> None:
+def _compare(facts: Facts, table: Table, survey: Survey) -> None:
+    """Gives sessions their times, and compares their frames with the listing: what is in no gap is in a frame."""
+    gaps: dict[tuple[int, int], int] = {}
+    for one in survey.absences:
+        gaps[one.run, one.session] = gaps.get((one.run, one.session), 0) + (one.bits or 0)
+    frame = SUBFRAMES * table.words * WORD_BITS
+    facts.are_as_listed = all(
+        8 * session.bytes == frame * session.ending.frames + gaps.get((run, number), 0)
+        for run, one_run in enumerate(facts.runs)
+        for number, session in enumerate(one_run.sessions)
+    )
     for number, extent in enumerate(survey.extents):
         if extent.begin is not None and extent.end is not None and extent.run < len(facts.runs):
             sessions = facts.runs[extent.run].sessions

@@ -48,7 +48,7 @@ def _of(facts: Facts) -> dict[str, Any]:
         for run in facts.runs
     ]
     holes = [asdict(one) for one in facts.holes]
-    more = {"frames": facts.frames, "far": facts.far, "pending": facts.pending, "as_salvaged": facts.is_as_salvaged}
+    more = {"frames": facts.frames, "far": facts.far, "pending": facts.pending, "as_salvaged": facts.is_as_salvaged, "as_listed": facts.are_as_listed}
     return {"runs": runs, "holes": holes, **more, "acks": acks}
 
 

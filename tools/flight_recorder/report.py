@@ -12,10 +12,11 @@ from dataclasses import dataclass, field
 
 import numpy as np
 
-from . import curves, dates, exceedings, facts, hdf, images, listing, manifest, reading, tables, watching
+from . import curves, dates, exceedings, facts, hdf, images, manifest, reading, tables, watching
 from .clock import shape_of
-from .evidence import Inputs, holder_of
+from .evidence import Inputs, holder_of, sum_of
 from .faults import Fault
+from .listing import Exceedance, Names, read_exceedances
 from .parameters import Table, read_table
 from .running import Program, Ran, Runner, program_at
 from .scales import ranges_of
@@ -72,9 +73,9 @@ class Report:
     listing: str = ""  # the file that the table is made of
 
     @property
-    def names(self) -> listing.Names:
+    def names(self) -> Names:
         """The names of the parameters."""
-        return self.survey.names if self.survey else listing.Names()
+        return self.survey.names if self.survey else Names()
 
 
 class Steps:
@@ -206,7 +207,7 @@ def _slots(report: Report, source: str) -> Slots:
     return Slots(source, slots, payload, header.version)
 
 
-def _exceedances(report: Report, maker: Maker, table: Table, slots: Slots | None) -> list[listing.Exceedance]:
+def _exceedances(report: Report, maker: Maker, table: Table, slots: Slots | None) -> list[Exceedance]:
     """Runs `fdr exceed`, of several runs also on an image of all of them, and answers the exceedances that are told."""
     table_path, source = report.inputs.path("table"), report.inputs.path("source")
     rules = COPIES["rules"]
@@ -224,16 +225,17 @@ def _exceedances(report: Report, maker: Maker, table: Table, slots: Slots | None
     if report.made_image and not maker.run(["exceed", table_path, report.made_image], report.exceed_source, rules):
         return []
     if not (maker.folder / report.exceed_source).is_file():
+        report.exceed_source = ""  # there was nothing to look at
         return []
     with opened(str(maker.folder / report.exceed_source)) as file:
-        every = listing.read_exceedances(file)
+        every = read_exceedances(file)
     report.untold = max(0, len(every) - MOST_EXCEEDANCES)
     return every[:MOST_EXCEEDANCES]
 
 
 def _write_runs(folder: pathlib.Path, slots: Slots, words: int) -> None:
     """Writes an image with a session for each session of each run."""
-    parts = []
+    parts: list[pathlib.Path] = []
     for run in slots.runs():
         for session in run.sessions:
             parts.append(folder / f".part-{len(parts)}")
@@ -250,7 +252,7 @@ def _write_image(path: pathlib.Path, parts: list[str], words: int) -> None:
         images.write_image(parts, words, out)
 
 
-def _read(report: Report, folder: pathlib.Path, table: Table, exceedances: list[listing.Exceedance]) -> None:
+def _read(report: Report, folder: pathlib.Path, table: Table, exceedances: list[Exceedance]) -> None:
     """Reads the listing once, for the table as text and as HDF5, the curves, and what is missing."""
     how = reading.reading_of(report.inputs.path("table"), None)
     how.with_bits = shape_of(table, None).every_frame
@@ -272,7 +274,7 @@ def _read(report: Report, folder: pathlib.Path, table: Table, exceedances: list[
                 for writer in writers:
                     writer.end(one.rest)
                 survey.end(one.rest)
-                sums = (report.listing, manifest.sum_of(str(path)), COPIES["table"])
+                sums = (report.listing, sum_of(str(path)), COPIES["table"])
                 store.end(hdf.about(*sums, table.words, manifest.version()))
     report.survey, report.flight = survey, collector.end(one.rest)
     report.found = collector.finder.found()

@@ -127,6 +127,8 @@ def _found(report: Report) -> str:
         return _section(2, "What was found", _said("Nothing could be read: see above.", COMMANDS, True))
     name = report.listing
     parts = [_said(_sum(report, facts), name)]
+    if not facts.are_as_listed:
+        parts.append(_said("A second search for the frames gives others than fdr: trust neither before it is known why.", name, True))
     if not facts.frames:
         look = "flight look on the file says which form its frames have." if not report.is_image else "Is it another table's recording?"
         parts.append(_said(f"No whole frame was found. {look}", name, True))
