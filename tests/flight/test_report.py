@@ -199,12 +199,15 @@ def test_values_that_never_change_or_are_at_an_end(flight: Tool, write: Write, t
     table = write("t.csv", T1.read_text() + "P,STILL,0,204,,11,4,S,1,1,0,0,16\nL,STILL,2,1,11,0,1,4,0,1\n".replace("STILL,2,1", "STILL,1,2"))
     frames = b"".join(formats.frame({(1, 2): at, (1, 10): 4095 if at < 3 else 7, (2, 11): 0b1000}) for at in range(10))
     image = formats.recorded(formats.empty_image(64, 64), frames)
+    write("t.describe.csv", "unit,ALT,ft,Pressure altitude\n")
     answer = flight("report", write("x.img", image), "--table", table, "--fdr", PROGRAM, "-o", tmp_path / "r")
     assert (answer.status, answer.error) == (0, "")
+    assert json.loads((tmp_path / "r" / "manifest.json").read_text())["inputs"]["description"]["path"] == str(tmp_path / "t.describe.csv")
     found = json.loads((tmp_path / "r" / "findings.json").read_text())["parameters"]
     assert (found["ALT"]["at_greatest"], found["STILL"]["at_least"], found["STILL"]["least"], found["STILL"]["greatest"]) == (3, 10, -8, -8)
     page = text_of(tmp_path / "r")
     assert "never changes; 10 values at the least of its range, -8" in page and "3 values at the greatest of its range, 4095" in page
+    assert "ALT: Pressure altitude" in page and " ft " in page
 
 
 def test_the_sums_are_checked_by_sha256sum(flight: Tool, write: Write, tmp_path: pathlib.Path) -> None:

@@ -38,9 +38,12 @@ def text_of(described: dict[str, Described]) -> str:
 def read_beside(table: pathlib.Path) -> dict[str, Described]:
     """The description beside a table, by the names of its parameters; empty where there is none."""
     path = path_beside(table)
+    return read(path) if path.is_file() else {}
+
+
+def read(path: pathlib.Path) -> dict[str, Described]:
+    """A description, by the names of the parameters."""
     described: dict[str, Described] = {}
-    if not path.is_file():
-        return described
     text = path.read_bytes().decode("utf-8-sig", "surrogateescape")
     reader = csv.reader(io.StringIO(text, newline=""))
     for row in reader:

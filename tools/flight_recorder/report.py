@@ -12,14 +12,14 @@ from dataclasses import dataclass, field
 
 import numpy as np
 
-from . import curves, dates, exceedings, facts, hdf, images, manifest, reading, tables, watching
+from . import curves, dates, description, exceedings, facts, hdf, images, manifest, reading, tables, watching
 from .clock import shape_of
 from .evidence import Inputs, holder_of, sum_of
 from .faults import Fault
 from .listing import Exceedance, Names, read_exceedances
 from .parameters import Table, read_table
+from .ranges import ranges_of
 from .running import Program, Ran, Runner, program_at
-from .scales import ranges_of
 from .slots import Header, Slots, header_of, likely_shape
 from .streams import opened, opened_again, whole_folder
 from .survey import Survey
@@ -27,7 +27,7 @@ from .survey import Survey
 POINTS = 2_000_000  # of the curves of the page
 MOST_EXCEEDANCES = 10_000  # whose times are told
 PAGE, COMMANDS = "report.html", "commands.json"
-COPIES = {"table": "table.csv", "rules": "rules.csv", "acks": "acks.txt"}
+COPIES = {"table": "table.csv", "rules": "rules.csv", "acks": "acks.txt", "description": "table.describe.csv"}
 
 
 @dataclass(frozen=True)
@@ -44,6 +44,14 @@ class Settings:
     kind: str | None = None  # image or bits
     shape: tuple[int, int] | None = None  # slots and payload, where the header isn't to be looked at
     title: str = ""
+    describe: str | None = None
+
+    def paths(self) -> dict[str, str | None]:
+        """The inputs. A description beside the table is one."""
+        beside = description.path_beside(pathlib.Path(self.table))
+        described = self.describe or (str(beside) if beside.is_file() else None)
+        given = {"source": self.source, "table": self.table, "rules": self.rules, "acks": self.acks}
+        return {**given, "description": described}
 
 
 @dataclass
@@ -61,6 +69,7 @@ class Report:
     runs: list[Ran] = field(default_factory=list)
     refusals: list[Ran] = field(default_factory=list)
     dates: dates.Dates | None = None
+    described: dict[str, description.Described] = field(default_factory=dict)
     words: int = 0
     facts: facts.Facts | None = None
     survey: Survey | None = None
@@ -110,8 +119,7 @@ def make(settings: Settings) -> Report:
     steps = Steps(9)
     with whole_folder(pathlib.Path(settings.output)) as folder:
         steps.next("sums")
-        named = {"source": settings.source, "table": settings.table, "rules": settings.rules, "acks": settings.acks}
-        inputs = Inputs(named)
+        inputs = Inputs(settings.paths())
         report = _begin(settings, inputs, program, begun.strftime("%Y-%m-%dT%H:%M:%SZ"))
         for role, name in COPIES.items():
             if role in inputs.seen:
@@ -138,6 +146,8 @@ def _begin(settings: Settings, inputs: Inputs, program: Program, begun: str) -> 
         raise Fault("--slots and --payload are of an image")
     report = Report(settings, inputs, program, is_image, header, likely, holder_of(source), begun)
     report.dates = dates.dates_of(list(settings.start))
+    if "description" in inputs.seen:
+        report.described = description.read(pathlib.Path(inputs.path("description")))
     return report
 
 
@@ -258,7 +268,7 @@ def _read(report: Report, folder: pathlib.Path, table: Table, exceedances: list[
     how.with_bits = shape_of(table, None).every_frame
     path = folder / report.listing
     rules = watching.rules_of(report.inputs.path("rules")) if report.settings.rules else []
-    ranges = ranges_of(report.inputs.path("table"))
+    ranges = ranges_of(table)
     with opened_again(str(path)) as source:
         for one in how.passes(source):
             columns = tables.Columns(one.sessions, report.dates, how.with_bits)

@@ -28,6 +28,7 @@ def add_commands(commands: Commands, command: Add) -> None:
     parser.add_argument("--table", metavar="TABLE", required=True, help="the recording's table")
     parser.add_argument("-o", "--output", metavar="FOLDER", required=True, help="the folder, which isn't there yet")
     parser.add_argument("--rules", metavar="RULES", help="rules of fdr exceed")
+    parser.add_argument("--describe", metavar="FILE", help="units, titles and states; if not given, the .describe.csv beside the table")
     parser.add_argument("--acks", metavar="FILE", help="the recorder's standard error, with its announcements")
     parser.add_argument("--fdr", metavar="PROGRAM", help="the program; if not given, the one beside the tools or on the path")
     parser.add_argument(
@@ -52,7 +53,7 @@ def _settings(given: argparse.Namespace) -> Settings:
     if shape and not (4 <= shape[0] <= 65_536 and 64 <= shape[1] <= 4096):
         raise Fault("--slots is 4 to 65536, and --payload 64 to 4096")
     words = (given.source, given.table, given.output, given.rules, given.acks, given.fdr)
-    return Settings(*words, tuple(given.start), given.kind, shape, given.title)
+    return Settings(*words, tuple(given.start), given.kind, shape, given.title, given.describe)
 
 
 def _run_report(given: argparse.Namespace) -> int:

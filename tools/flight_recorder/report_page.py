@@ -30,6 +30,7 @@ FILES = {
     "check.txt": "what fdr check wrote",
     "table.csv": "the table",
     "rules.csv": "the rules",
+    "table.describe.csv": "units, titles and states of the table's parameters",
     "acks.txt": "the recorder's standard error",
     COMMANDS: "each command with its answer",
     "findings.json": "the numbers of this page for programs",
@@ -266,10 +267,17 @@ def _parameters(report: Report) -> str:
     for name in report.survey.ranges:
         values = report.survey.values.get(name)
         if values is None:
-            rows.append([name, 0, None, None, "no value"])
+            rows.append([_title_of(report, name), 0, None, None, None, "no value"])
         else:
-            rows.append([name, values.count, values.least, values.greatest, "; ".join(_remarks(report, name, values))])
-    return _table(["parameter", "values", "least", "greatest", "remarks"], rows, "values.csv")
+            unit = report.described[name].unit if name in report.described else ""
+            ends = [values.least, values.greatest, unit]
+            rows.append([_title_of(report, name), values.count, *ends, "; ".join(_remarks(report, name, values))])
+    return _table(["parameter", "values", "least", "greatest", "unit", "remarks"], rows, "values.csv")
+
+
+def _title_of(report: Report, name: str) -> str:
+    title = report.described[name].title if name in report.described else ""
+    return f"{name}: {title}" if title else name
 
 
 def _remarks(report: Report, name: str, values: Values) -> list[str]:

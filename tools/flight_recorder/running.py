@@ -6,16 +6,13 @@ import datetime
 import os
 import pathlib
 import shlex
-import shutil
 import subprocess
 import time
 from dataclasses import asdict, dataclass
 
+from . import program
 from .evidence import sum_of
 from .faults import Fault
-
-NAME = "fdr"
-HERE = pathlib.Path(__file__).resolve()
 
 
 @dataclass(frozen=True)
@@ -28,13 +25,14 @@ class Program:
 
 
 def program_at(given: str | None) -> Program:
-    """The program of this path; if none is given that of the repository or of the installation, or else the first on the path."""
-    beside = [str(HERE.parents[above] / "bin" / NAME) for above in (2, 3)]
-    for path in [given] if given else [*beside, shutil.which(NAME) or ""]:
-        if os.path.isfile(path) and os.access(path, os.X_OK):
-            whole = os.path.abspath(path)
-            return Program(whole, os.path.getsize(whole), sum_of(whole))
-    raise Fault(f"{given}: no program" if given else "no program fdr was found: --fdr PROGRAM names it")
+    """The program of this path; if none is given the one that the tools find."""
+    path = given or program.fdr()
+    if path is None:
+        raise Fault("no program fdr was found: --fdr PROGRAM names it")
+    if not os.path.isfile(path) or not os.access(path, os.X_OK):
+        raise Fault(f"{given}: no program")
+    whole = os.path.abspath(path)
+    return Program(whole, os.path.getsize(whole), sum_of(whole))
 
 
 @dataclass(frozen=True)

@@ -11,7 +11,7 @@ import numpy as np
 from .arrays import Array
 from .clock import FRAME, Between, Event, Timed
 from .listing import Names
-from .scales import Range
+from .ranges import Range
 
 MISSING = (Event.GAP, Event.BREAK, Event.BACK, Event.HOLE, Event.WRAP)
 BITS = re.compile(r"from bit (\d+), (\d+) bits")
