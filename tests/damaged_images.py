@@ -169,13 +169,16 @@ def refused() -> list[Damaged]:
     """What the program refuses."""
     image = whole_image()
     words = image[:16] + struct.pack(">I", 128) + image[20:]
+    letters = image[:3] + b"X" + image[4:]
+    no_image = (4, "fdr: image: not a recorder image")
     by_slots = f"--slots {SLOTS} --payload {PAYLOAD}"
     return [
         Damaged("another_number_of_words", words, refusal=(6, "fdr: image has 128 words, table has 64"), hint="table of the recording"),
         Damaged("cut", image[:-5000], refusal=(4, "fdr: image: shorter than its ring"), hint=f"truncate -s {len(image)} "),
+        Damaged("letters_and_cut", letters[: 64 + 10 * FULL + 36], refusal=no_image, hint=f"--slots 10 --payload {PAYLOAD}"),
         Damaged("empty", b"", refusal=(4, "fdr: image: too small"), hint="Copy it again"),
         Damaged("headless", bytes(64) + image[64:], refusal=(4, "fdr: image: header closed"), hint=by_slots),
-        Damaged("other_letters", image[:3] + b"X" + image[4:], refusal=(4, "fdr: image: not a recorder image"), hint=by_slots),
+        Damaged("other_letters", letters, refusal=no_image, hint=by_slots),
     ]
 
 

@@ -140,7 +140,7 @@ def _begin(settings: Settings, inputs: Inputs, program: Program, begun: str) -> 
     header = header_of(source)
     is_small = inputs.seen["source"].size == 0
     likely = None if header and header.is_sound else likely_shape(source)
-    seems = bool(settings.shape or likely or is_small or header and header.has_letters)
+    seems = bool(settings.shape or likely or is_small or header and header.has_most_letters)
     is_image = settings.kind == "image" if settings.kind else seems
     if settings.shape and not is_image:
         raise Fault("--slots and --payload are of an image")

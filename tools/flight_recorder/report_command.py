@@ -30,7 +30,7 @@ def add_commands(commands: Commands, command: Add) -> None:
     parser.add_argument("--rules", metavar="RULES", help="rules of fdr exceed")
     parser.add_argument("--describe", metavar="FILE", help="units, titles and states; if not given, the .describe.csv beside the table")
     parser.add_argument("--acks", metavar="FILE", help="the recorder's standard error, with its announcements")
-    parser.add_argument("--fdr", metavar="PROGRAM", help="the program; if not given, the one beside the tools or on the path")
+    parser.add_argument("--fdr", metavar="PROGRAM", help="the program; if not given, what FDR names, fdr on the path, or the one that is built here")
     parser.add_argument(
         "--start",
         metavar="DATE",

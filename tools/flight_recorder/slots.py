@@ -14,6 +14,7 @@ from .parameters import WORDS
 
 NUMBERS = 1 << 48
 LEAST_PAYLOAD, MOST_PAYLOAD = 64, 4096
+MOST_LETTERS = 4  # of six, by which a damaged header is known
 MOST_REASONS = 3  # of a hole that are said one by one
 MOST_ROUNDS = 4  # of a ring, in which a wrong number is looked for
 FIELDS = np.dtype([("gate", "u1"), ("zero", "u1"), ("length", ">u2"), ("session", ">u4"), ("number", ">u8")])
@@ -30,10 +31,20 @@ class Header:
 
     is_open: bool
     version: int
-    has_letters: bool
+    letters: bytes
     slots: int
     payload: int
     words: int
+
+    @property
+    def has_letters(self) -> bool:
+        """Whether the letters are an image's."""
+        return self.letters == LETTERS
+
+    @property
+    def has_most_letters(self) -> bool:
+        """Whether most of them are, as where a bit is wrong."""
+        return sum(one == other for one, other in zip(self.letters, LETTERS)) >= MOST_LETTERS
 
     @property
     def is_sound(self) -> bool:
@@ -49,7 +60,7 @@ def header_of(path: str) -> Header | None:
     if len(data) < HEADER.size:
         return None
     gate, version, letters, slots, payload, words = HEADER.unpack(data)
-    return Header(gate == OPEN, 2 if version == VERSION else 1, letters == LETTERS, slots, payload, words)
+    return Header(gate == OPEN, 2 if version == VERSION else 1, letters, slots, payload, words)
 
 
 @dataclass(frozen=True)
