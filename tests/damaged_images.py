@@ -10,6 +10,7 @@ that are struck out and the frames that lie within those that are left; no reade
 from __future__ import annotations
 
 import pathlib
+import random
 import struct
 import sys
 from collections.abc import Iterable
@@ -180,6 +181,28 @@ def refused() -> list[Damaged]:
         Damaged("headless", bytes(64) + image[64:], refusal=(4, "fdr: image: header closed"), hint=by_slots),
         Damaged("other_letters", letters, refusal=no_image, hint=by_slots),
     ]
+
+
+def drawn_image(seed: int) -> bytes:
+    """An image of up to three recordings, in some ring, with wrong bits and bytes anywhere behind its header."""
+    chance = random.Random(seed)
+    slots = chance.choice([4, 64, 128, 250, 256])
+    image = formats.empty_image(slots, PAYLOAD, version=chance.choice([formats.VERSION_1, formats.VERSION_2, formats.VERSION_2]))
+    for _ in range(chance.randrange(1, 4)):
+        image = formats.recorded(image, bits_of(chance.randrange(1, FRAMES))[: chance.choice([None, -100, -333])])
+    broken = bytearray(image)
+    for _ in range(chance.randrange(12)):
+        kind, at, slot = chance.randrange(4), chance.randrange(64, len(broken)), 64 + FULL * chance.randrange(slots)
+        if kind == 0:
+            broken[at] ^= 1 << chance.randrange(8)
+        elif kind == 1:
+            broken[slot + chance.randrange(formats.HEAD.size)] ^= 1 << chance.randrange(8)
+        elif kind == 2:
+            broken[slot] = formats.CLOSED
+        else:
+            count = min(chance.randrange(1, 300), len(broken) - at)
+            broken[at : at + count] = chance.randbytes(count)
+    return bytes(broken)
 
 
 def main() -> None:

@@ -28,6 +28,7 @@ from test_with_program import damaged
 PROGRAM = pathlib.Path(os.environ.get("FDR", TOP / "bin" / "fdr")).resolve()
 EXAMPLES = sorted((TOP / "examples").glob("*.img"))
 DAMAGED = damaged_images.damaged_images()
+DRAWN = int(os.environ.get("FLIGHT_DRAWN", "40")) // 5  # images
 RULES = "HIGH,ALT,above,120,3\nLONG,ALT,above,100,12\n"
 TIMES = ("begun", "ended", "seconds", "modified", "changed")
 pytestmark = pytest.mark.skipif(not PROGRAM.is_file(), reason="no program: FDR names none, and there is no bin/fdr")
@@ -81,6 +82,20 @@ def test_the_numbers_are_those_of_what_was_done(
     left_out = sum(last + 1 - first for first, last in one.runs[:-1])
     assert (f"fdr list leaves out {left_out} valid block" in page) is (left_out > 0)
     assert (tmp_path / "r" / "salvage.txt").read_bytes() == reader.salvage(T1.read_bytes(), one.image).output
+
+
+def test_drawn_images(flight: Tool, write: Write, tmp_path: pathlib.Path) -> None:
+    """Of images with drawn damage the runs are those of the valid slots, and all is told that salvage lists."""
+    for seed in range(DRAWN):
+        image = damaged_images.drawn_image(seed)
+        found = reported(flight, write("x.img", image), tmp_path / f"r{seed}")
+        numbers = formats.valid_blocks(image)
+        begins = sorted(number for number in numbers if number - 1 not in numbers)
+        ends = sorted(number for number in numbers if number + 1 not in numbers)
+        assert [(run["first"], run["last"]) for run in found["runs"]] == list(zip(begins, ends))
+        lines = reader.salvage(T1.read_bytes(), image).output
+        assert (found["as_salvaged"], found["as_listed"], found["rows"]) == (True, True, lines.count(b"row,"))
+        assert len([one for one in found["missing"] if one["event"] == "gap"]) == lines.count(b"gap,")
 
 
 @pytest.mark.parametrize("path", EXAMPLES, ids=[path.stem for path in EXAMPLES])
