@@ -292,7 +292,7 @@ def test_a_bar_on_a_terminal_alone(write: Write, tmp_path: pathlib.Path) -> None
     said = os.read(main, 10_000).decode()
     os.close(main)
     steps = re.findall(r"\[(#*) *\] ([a-z ]+?) (?=\r)", said)
-    assert [name for _, name in steps] == ["sums", "fdr check", "fdr salvage", "fdr list", "fdr recover", "values", "page"]
+    assert [name for _, name in steps] == ["sums", "fdr check", "fdr salvage", "fdr list", "fdr recover", "parts", "values", "page"]
     assert [len(bar) for bar, _ in steps] == sorted(len(bar) for bar, _ in steps)
     assert said.endswith("\r\x1b[K")
 

@@ -3,6 +3,7 @@ was made of. The folder is there once it is whole."""
 
 from __future__ import annotations
 
+import collections
 import json
 import pathlib
 import shutil
@@ -12,7 +13,7 @@ from dataclasses import dataclass, field
 
 import numpy as np
 
-from . import curves, dates, description, exceedings, facts, hdf, images, manifest, reading, tables, watching
+from . import curves, dates, description, exceedings, facts, hdf, images, manifest, outline, parts, reading, tables, watching
 from .clock import shape_of
 from .evidence import Inputs, holder_of, sum_of
 from .faults import Fault
@@ -26,6 +27,7 @@ from .survey import Survey
 
 POINTS = 2_000_000  # of the curves of the page
 MOST_EXCEEDANCES = 10_000  # whose times are told
+SYNCS_OF_PARTS = 2  # that have to stand, as of `flight parts`
 PAGE, COMMANDS = "report.html", "commands.json"
 COPIES = {"table": "table.csv", "rules": "rules.csv", "acks": "acks.txt", "description": "table.describe.csv"}
 
@@ -77,6 +79,7 @@ class Report:
     found: list[exceedings.Found] = field(default_factory=list)
     watched: list[watching.Watched] = field(default_factory=list)
     exceed_source: str = ""  # the file whose exceedances are told
+    parts: "collections.Counter[str]" = field(default_factory=collections.Counter)  # lines of parts.txt by their kinds
     untold: int = 0  # exceedances beyond those whose times are told
     made_image: str = ""  # the image that was made for fdr exceed
     listing: str = ""  # the file that the table is made of
@@ -116,7 +119,7 @@ def make(settings: Settings) -> Report:
 
     begun = manifest.now()
     program = program_at(settings.program)
-    steps = Steps(9)
+    steps = Steps(10)
     with whole_folder(pathlib.Path(settings.output)) as folder:
         steps.next("sums")
         inputs = Inputs(settings.paths())
@@ -182,6 +185,9 @@ def _fill(report: Report, maker: Maker) -> None:
     report.listing = "salvage.txt" if report.is_image else "listing.txt"
     slots = _slots(report, source) if report.is_image else None
     exceedances = _exceedances(report, maker, table, slots) if report.settings.rules else []
+    if not report.settings.shape:
+        maker.steps.next("parts")
+        _write_parts(report, maker.folder, table)
     maker.steps.next("values")
     _read(report, maker.folder, table, exceedances)
     assert report.survey is not None
@@ -192,6 +198,18 @@ def _fill(report: Report, maker: Maker) -> None:
         report.facts = facts.facts_of_bits(data, table, report.survey)
     if report.settings.acks:
         report.facts.acks = facts.acks_of(report.inputs.path("acks"))
+
+
+def _write_parts(report: Report, folder: pathlib.Path, table: Table) -> None:
+    """Writes what `flight parts` reads of the gaps, and counts its lines by their kinds."""
+    reader = parts.Reader(table, SYNCS_OF_PARTS)
+    with opened(report.inputs.path("source")) as dump, opened(str(folder / report.listing)) as source:
+        sections = outline.sections_of(source, table)
+        with open(folder / "parts.txt", "w", encoding="ascii", newline="") as out:
+            for section, data in zip(sections, parts.lines_of_bits(dump.read(), sections)):
+                reader.write(section, data, out)
+    with open(folder / "parts.txt", encoding="ascii") as lines:
+        report.parts = collections.Counter(line.partition(",")[0] for line in lines)
 
 
 def _run_image(report: Report, maker: Maker, table: str, source: str) -> bool:

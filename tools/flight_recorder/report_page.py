@@ -27,6 +27,7 @@ FILES = {
     "exceed-runs.txt": "what fdr exceed wrote of runs.img",
     "runs.img": "all runs as sessions of one image",
     "dump.img": "the bits as an image",
+    "parts.txt": "what flight parts read of the gaps, and doubtful frames",
     "check.txt": "what fdr check wrote",
     "table.csv": "the table",
     "rules.csv": "the rules",
@@ -252,8 +253,15 @@ def _missing(report: Report) -> str:
     header = ["what", "recording", "from", "length", "bit of the session", "bits", "said"]
     parts = [_table(header, rows, "values.csv") if rows else _said("No gap and no break.", "values.csv")]
     parts.append(_said("A frame whose four sync words stand is listed whatever is between them, so wrong bits in it aren't seen here."))
+    if not report.settings.shape:
+        parts.append(_said(f"flight parts read of the gaps, and found doubtful: {_kinds(report)}.", "parts.txt"))
     parts.append(_parameters(report))
     return _section(3, "What is missing or doubtful", *parts)
+
+
+def _kinds(report: Report) -> str:
+    """The lines of parts.txt by their kinds."""
+    return ", ".join(f"{count} lines {kind}" for kind, count in sorted(report.parts.items())) or "nothing"
 
 
 def _absence(report: Report, one: Absence) -> list[object]:
