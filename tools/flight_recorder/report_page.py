@@ -261,7 +261,7 @@ def _missing(report: Report) -> str:
 
 def _kinds(report: Report) -> str:
     """The lines of parts.txt by their kinds."""
-    return ", ".join(f"{count} lines {kind}" for kind, count in sorted(report.parts.items())) or "nothing"
+    return ", ".join(f"{count} lines {kind}" for kind, count in sorted(report.parts.items()) if kind not in ("run", "session")) or "nothing"
 
 
 def _absence(report: Report, one: Absence) -> list[object]:
