@@ -175,6 +175,19 @@ def test_bits(flight: Tool, write: Write, tmp_path: pathlib.Path) -> None:
     assert "made an image by flight image" in text_of(tmp_path / "r")
 
 
+def test_doubtful_frames_are_named(flight: Tool, write: Write, tmp_path: pathlib.Path) -> None:
+    """A byte is put into subframe 4 of a frame, which is listed all the same, since its four sync words stand."""
+    frames = [inputs.t1_frame(counter, 100 + counter) for counter in range(20)]
+    at = len(frames[7]) * 7 // 8
+    frames[7] = frames[7][:at] + b"\x11" + frames[7][at:]
+    reported(flight, write("x.bits", b"".join(frames)), tmp_path / "r")
+    said = text_of(tmp_path / "r")
+    [line] = [line for line in (tmp_path / "r" / "parts.txt").read_text().splitlines() if line.startswith("doubtful,")]
+    assert line.split(",")[1:3] == ["7", "4"]
+    assert "These frames are doubtful" in said and line.split(",", 6)[6] in said
+    assert said.index("What is missing or doubtful") < said.index("These frames are doubtful") < said.index("What this rests on")
+
+
 @pytest.mark.parametrize("seed", range(4))
 def test_bits_with_drawn_damage(flight: Tool, write: Write, tmp_path: pathlib.Path, seed: int) -> None:
     """A second search for the frames finds those of the program, and every gap has its place."""

@@ -80,6 +80,7 @@ class Report:
     watched: list[watching.Watched] = field(default_factory=list)
     exceed_source: str = ""  # the file whose exceedances are told
     parts: "collections.Counter[str]" = field(default_factory=collections.Counter)  # lines of parts.txt by their kinds
+    doubtful: list[list[str]] = field(default_factory=list)  # the fields of its lines on frames, which docs/PARTS.md names
     untold: int = 0  # exceedances beyond those whose times are told
     made_image: str = ""  # the image that was made for fdr exceed
     listing: str = ""  # the file that the table is made of
@@ -201,7 +202,7 @@ def _fill(report: Report, maker: Maker) -> None:
 
 
 def _write_parts(report: Report, folder: pathlib.Path, table: Table) -> None:
-    """Writes what `flight parts` reads of the gaps, and counts its lines by their kinds."""
+    """Writes what `flight parts` reads of the gaps, counts its lines by their kinds, and keeps those on doubtful frames."""
     reader = parts.Reader(table, SYNCS_OF_PARTS)
     with opened(report.inputs.path("source")) as dump, opened(str(folder / report.listing)) as source:
         sections = outline.sections_of(source, table)
@@ -209,7 +210,10 @@ def _write_parts(report: Report, folder: pathlib.Path, table: Table) -> None:
             for section, data in zip(sections, parts.lines_of_bits(dump.read(), sections)):
                 reader.write(section, data, out)
     with open(folder / "parts.txt", encoding="ascii") as lines:
-        report.parts = collections.Counter(line.partition(",")[0] for line in lines)
+        for kind, _, fields in (line.rstrip("\n").partition(",") for line in lines):
+            report.parts[kind] += 1
+            if kind == "doubtful":
+                report.doubtful.append(fields.split(",", 5))
 
 
 def _run_image(report: Report, maker: Maker, table: str, source: str) -> bool:

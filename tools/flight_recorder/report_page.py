@@ -15,6 +15,7 @@ from .naming import clock_text
 from .report import COMMANDS, COPIES, PAGE, Report
 from .survey import Absence, Values
 
+DOUBTFUL = ["counter of the frame", "doubtful subframes", "counter that fits", "first line in the listing", "rows", "why"]
 MOST_ROWS = 200  # of a table of the page
 SECONDS, MICROSECONDS = len("2026-05-04T10:00:00"), len("2026-05-04T10:00:00.000000")  # of a date
 FILES = {
@@ -255,6 +256,9 @@ def _missing(report: Report) -> str:
     parts.append(_said("A frame whose four sync words stand is listed whatever is between them, so wrong bits in it aren't seen here."))
     if not report.settings.shape:
         parts.append(_said(f"flight parts read of the gaps, and found doubtful: {_kinds(report)}.", "parts.txt"))
+        if report.doubtful:
+            parts.append(_said("These frames are doubtful: by their rows nothing should be decided alone.", "parts.txt", True))
+            parts.append(_table(DOUBTFUL, [[*fields] for fields in report.doubtful], "parts.txt"))
     parts.append(_parameters(report))
     return _section(3, "What is missing or doubtful", *parts)
 
