@@ -6,7 +6,7 @@ PROGRAM = crates/fdr_prog
 PAIR_PROGRAM = crates/fdr_pair_prog
 SOURCES = crates.txt $(shell find crates -name out -prune -o -type f \( -name '*.rt' -o -name '*.antt' \) -print)
 
-.PHONY: build demo check walk compare laws streams crash-test live-test check-real check-memory fail-io calls count verify bench tools-test drawn-dumps undamaged test install install-tools clean help
+.PHONY: build demo check walk compare laws streams crash-test live-test check-real check-memory fail-io calls count verify bench tools-test drawn-dumps undamaged test install stage install-tools dist dist-test clean help
 
 # Proves both programs and everything below them, and puts them at bin/fdr and bin/fdrpair.
 # After `make test` they are there already.
@@ -119,7 +119,10 @@ test:
 	cp $(PAIR_PROGRAM)/out/fdr_pair_prog bin/fdrpair
 
 # Puts the programs, the tools, their man pages and the pages below PREFIX, which is /usr/local where it isn't given.
-install: build install-tools
+install: build stage
+
+# Puts the same there of programs that are built already.
+stage: install-tools
 	install -d $(DESTDIR)$(PREFIX)/bin $(DESTDIR)$(PREFIX)/share/man/man1
 	install -m 755 bin/fdr bin/fdrpair $(DESTDIR)$(PREFIX)/bin
 	install -m 644 docs/fdr.1 docs/fdrpair.1 $(DESTDIR)$(PREFIX)/share/man/man1
@@ -135,9 +138,17 @@ install-tools:
 	ln -sf ../lib/fdr/flight $(DESTDIR)$(PREFIX)/bin/flight
 	install -m 644 docs/flight.1 $(DESTDIR)$(PREFIX)/share/man/man1
 
+# Makes an archive and a Debian package of the built programs, the tools and the pages, with their sums, in dist/.
+dist: build
+	tools/dist.py
+
+# Tries both in a fresh Debian, which takes root, debootstrap and a way to Debian's packages.
+dist-test: dist
+	tests/installed.py dist
+
 # Removes what was built.
 clean:
-	rm -rf bin crates/*/out
+	rm -rf bin dist crates/*/out
 
 # Lists the targets.
 help:
