@@ -6,9 +6,9 @@ the kit.
 
 It makes fdr-VERSION-x86_64-linux.tar.gz, fdr_VERSION_amd64.deb, PROVENANCE.json and SHA256SUMS. All but the programs is that
 of the last commit, so the tree may have no changes that aren't committed; the times in the files are the commit's. Made
-again from one commit and the same programs they are the same bytes. PROVENANCE.json says what they were made from: the
-commit, the kit that `rt version` names, the last line of the gate where out/gate.txt begins with this commit, what the
-programs need, and their sums.
+again from one commit and the same programs, with the same kit on the path and the same out/gate.txt, they are the same
+bytes. PROVENANCE.json says what they were made from: the commit, the kit that `rt version` names, the last line of the gate
+where out/gate.txt begins with this commit, what the programs need, and their sums.
 
 The programs go in as the gate left them, with their symbols. It takes git, make, tar, gzip, objdump and dpkg-deb.
 """
