@@ -2,6 +2,7 @@
 
 import csv
 import io
+import os
 import pathlib
 
 import pytest
@@ -101,6 +102,16 @@ def test_pieces_of_any_size_give_the_same(words: tuple[str, ...], wanted: str, s
     assert [line for line in out.getvalue().decode().splitlines() if "exceed" not in line] == [
         line for line in wanted.splitlines() if "exceed" not in line
     ]
+
+
+def test_a_pipe_that_is_named_as_the_output_stays_one(flight: Tool, write: Write, tmp_path: pathlib.Path) -> None:
+    pipe = tmp_path / "pipe"
+    os.mkfifo(pipe)
+    with open(os.open(pipe, os.O_RDWR), "rb") as held:
+        ran = flight("table", write("l", LISTING), "--words", 64, "-o", pipe)
+        assert (ran.status, ran.error) == (0, "")
+        assert os.read(held.fileno(), 1 << 16) == LONG.encode()
+    assert pipe.is_fifo() and [one.name for one in tmp_path.iterdir() if one.name.startswith(".flight")] == []
 
 
 def test_late_samples_are_put_in_order_when_wide(flight: Tool, write: Write) -> None:

@@ -160,18 +160,32 @@ def drop_output() -> None:
 
 @contextlib.contextmanager
 def whole_file(path: pathlib.Path) -> Iterator[pathlib.Path]:
-    """A path to write to, with the same ending; it becomes `path` at the end, and is removed after a fault."""
-    folder = path.parent
-    handle, name = tempfile.mkstemp(prefix=".flight-", suffix=path.suffix, dir=folder)
+    """A path to write to, with the same ending; it becomes `path` at the end, and is removed after a fault. A device or a pipe
+    of that name stays one, and gets the bytes."""
+    is_file = path.is_file() or not path.exists()
+    handle, name = tempfile.mkstemp(prefix=".flight-", suffix=path.suffix, dir=path.parent if is_file else None)
     os.close(handle)
     try:
         yield pathlib.Path(name)
-        os.chmod(name, 0o666 & ~_umask())
-        os.replace(name, path)
+        if is_file:
+            os.chmod(name, 0o666 & ~_umask())
+            os.replace(name, path)
+        else:
+            _hand_over(pathlib.Path(name), path)
     except BaseException:
         with contextlib.suppress(FileNotFoundError):
             os.unlink(name)
         raise
+
+
+def _hand_over(made: pathlib.Path, to: pathlib.Path) -> None:
+    """Writes the bytes of a file to a device or a pipe, and removes the file."""
+    try:
+        with open(made, "rb") as source, open(to, "wb") as sink:
+            shutil.copyfileobj(source, sink, 1 << 20)
+    except BrokenPipeError:
+        pass  # who reads has enough
+    made.unlink()
 
 
 def _umask() -> int:
