@@ -2,6 +2,7 @@
 use Rattle.std.proofs.Common.{◌≡◌, ℕ, suc, ◌+◌, ◌*◌, ◌%◌, ◌^◌, ◌<◌, ◌≤◌, Bool, List, [], ◌∷◌, ◌++◌, length, take, drop, get_or}
 use Rattle.std.proofs.Common.{refl, sym, ap, ◌∙◌, arith, drop-cons}
 use Rattle.std.specs.Prelude.{◌==◌}
+use Rattle.std.proofs.lemmas.List.{take_all}
 use Rattle.std.proofs.lemmas.List.FromFn.{length-map-range_with_len}
 use Rattle.fdr_bits.specs.Bits.{bits_in, bit_at}
 use Rattle.fdr_biphase.specs.Cells.{bits_of_bytes}
@@ -16,7 +17,7 @@ taken_more xs i j n next within =
     let e : suc i ≡ j = omega arith in
     ap (take (suc n)) (drop-cons xs i 0 within) ∙ ap (λ (k : ℕ). get_or xs i 0 ∷ take n (drop k xs)) e
 
-pub eight_taken : (xs : List ℕ) (i : ℕ) → i + 8 ≤ length xs
+eight_taken : (xs : List ℕ) (i : ℕ) → i + 8 ≤ length xs
     → take 8 (drop i xs) ≡ get_or xs i 0 ∷ get_or xs (i + 1) 0 ∷ get_or xs (i + 2) 0 ∷ get_or xs (i + 3) 0
     ∷ get_or xs (i + 4) 0 ∷ get_or xs (i + 5) 0 ∷ get_or xs (i + 6) 0 ∷ get_or xs (i + 7) 0 ∷ []
 eight_taken xs i within =
@@ -29,6 +30,17 @@ eight_taken xs i within =
     ∙ ap (λ (ys : List ℕ). g 4 ∷ ys) (taken_more xs (i + 5) (i + 6) 2 (omega arith) (omega arith)
     ∙ ap (λ (ys : List ℕ). g 5 ∷ ys) (taken_more xs (i + 6) (i + 7) 1 (omega arith) (omega arith)
     ∙ ap (λ (ys : List ℕ). g 6 ∷ ys) (taken_more xs (i + 7) (i + 8) 0 (omega arith) (omega arith))))))))
+
+pub eight_elements : (xs : List ℕ) → length xs ≡ 8
+    → xs ≡ get_or xs 0 0 ∷ get_or xs 1 0 ∷ get_or xs 2 0 ∷ get_or xs 3 0 ∷ get_or xs 4 0 ∷ get_or xs 5 0 ∷ get_or xs 6 0 ∷ get_or xs 7 0 ∷ []
+eight_elements xs eight = sym (take_all 8 xs (omega arith)) ∙ eight_taken xs 0 (omega arith)
+
+pub four_elements : (xs : List ℕ) → length xs ≡ 4 → xs ≡ get_or xs 0 0 ∷ get_or xs 1 0 ∷ get_or xs 2 0 ∷ get_or xs 3 0 ∷ []
+four_elements xs four =
+    sym (take_all 4 xs (omega arith)) ∙ taken_more xs 0 1 3 refl (omega arith)
+    ∙ ap (λ (ys : List ℕ). get_or xs 0 0 ∷ ys) (taken_more xs 1 2 2 refl (omega arith)
+    ∙ ap (λ (ys : List ℕ). get_or xs 1 0 ∷ ys) (taken_more xs 2 3 1 refl (omega arith)
+    ∙ ap (λ (ys : List ℕ). get_or xs 2 0 ∷ ys) (taken_more xs 3 4 0 refl (omega arith))))
 
 packed_byte : (b : ℕ) → b < 256 → packed_bits (byte_bits b) ≡ b
 unfolding word_bits

@@ -9,7 +9,7 @@ ghost use Rattle.fdr_biphase.specs.Reading.{MissesLevel, ReadsLevels, Represents
 use crate::Missing;
 use crate::decoder::Decoder;
 use crate::packer::BitPacker;
-use crate::words::word_at;
+use crate::words::word_of;
 
 /// Reads bits from the levels that bytes pack, and packs them. Both begin at the least significant bit of a byte.
 #[derive(Drop)]
@@ -96,14 +96,14 @@ impl LevelReader {
         ensures kept { result ≡ false → room.new ≡ room.old }
         ensures length { length room.new ≡ length room.old }
     {
-        if levels.len() - at < 8 {
+        let Some((eight, _)) = levels[at..].split_first_chunk::<8>() else {
             return false;
-        }
-        let Some(bits) = self.decoder.word(word_at(levels, at)) else {
+        };
+        let Some(bits) = self.decoder.word(word_of(eight)) else {
             return false;
         };
         let four = self.packer.word(bits);
-        room[count..count + 4].copy_from_slice(&four);
+        put_four(&mut room[count..], four);
         true
     }
 
@@ -203,5 +203,16 @@ fn put_byte(room: &mut [u8], at: usize, byte: Option<u8>) -> usize
             at + 1
         }
         None => at,
+    }
+}
+
+/// Puts four bytes at the front of a room for them.
+#[inline(always)]
+fn put_four(room: &mut [u8], four: [u8; 4])
+    requires { 4 ≤ length room.old }
+    ensures { room.new ≡ four ++ drop 4 room.old }
+{
+    if let Some(front) = room.first_chunk_mut::<4>() {
+        *front = four;
     }
 }

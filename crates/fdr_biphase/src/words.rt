@@ -30,20 +30,10 @@ pub(crate) fn even_bits(word: u64) -> u32
     ((sixteens | (sixteens >> 16)) & 0xffff_ffff) as u32
 }
 
-/// The word of the eight bytes from byte `at` on.
+/// The word of eight bytes.
 #[inline(always)]
-pub(crate) fn word_at(bytes: &[u8], at: usize) -> u64
-    requires { at + 8 ≤ length bytes.now }
-    ensures { word_bits 64 result ≡ bits_of_bytes (take 8 (drop at bytes.now)) }
+pub(crate) fn word_of(eight: &[u8; 8]) -> u64
+    ensures { word_bits 64 result ≡ bits_of_bytes eight.now }
 {
-    u64::from_le_bytes([
-        bytes[at],
-        bytes[at + 1],
-        bytes[at + 2],
-        bytes[at + 3],
-        bytes[at + 4],
-        bytes[at + 5],
-        bytes[at + 6],
-        bytes[at + 7],
-    ])
+    u64::from_le_bytes(*eight)
 }

@@ -1,4 +1,4 @@
-use Rattle.std.proofs.Common.{◌≡◌, ◌+◌, ◌*◌, ◌^◌, ◌%◌, ◌++◌, ◌∷◌, [], Bool, List, ℕ, true, false, refl, ◌∙◌, ap, arith}
+use Rattle.std.proofs.Common.{◌≡◌, ◌+◌, ◌*◌, ◌^◌, ◌%◌, ◌++◌, ◌∷◌, [], Bool, List, ℕ, true, false, refl, arith}
 use Rattle.fdr_biphase.specs.Packed.{packed_bits}
 use Rattle.fdr_biphase.specs.Reading.{RepresentsPacker}
 use Rattle.fdr_biphase.proofs.Packers.{packer_full, packer_more, pushed_bit, pushed_fits}

@@ -1,5 +1,5 @@
-use Rattle.std.proofs.Common.{◌≡◌, ◌++◌, ◌∷◌, ◌<◌, [], ap, sym, subst, ◌∙◌, refl, List, ℕ, Bool, Option, arith, take, take_all, append-nil, None}
-use Rattle.std.specs.Prelude.{IfSome, IsSome}
+use Rattle.std.proofs.Common.{◌≡◌, ◌++◌, ◌∷◌, [], ap, subst, ◌∙◌, refl, List, Bool, Option, arith, take}
+use Rattle.std.specs.Prelude.{IfSome}
 use Rattle.fdr_biphase.specs.Cells.{bits_of_bytes}
 use Rattle.fdr_biphase.specs.Packed.{answered_byte, byte_bits}
 use Rattle.fdr_biphase.specs.Reading.{MissesLevel, ReadsLevels}

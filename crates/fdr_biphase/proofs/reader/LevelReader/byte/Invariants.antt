@@ -1,4 +1,4 @@
-use Rattle.std.proofs.Common.{◌≡◌, ◌+◌, ◌≤◌, ◌<◌, ◌*◌, ◌^◌, List, [], ℕ, ◌++◌, length, take}
+use Rattle.std.proofs.Common.{◌<◌, List, ℕ, ◌++◌, take}
 use Rattle.std.specs.Prelude.{IsSome}
 use Rattle.fdr_biphase.specs.Cells.{bits_of_bytes}
 use Rattle.fdr_biphase.specs.Packed.{answered_byte, byte_bits}

@@ -1,4 +1,4 @@
-use Rattle.std.proofs.Common.{◌≡◌, ◌+◌, ◌++◌, ◌∷◌, [], List, Bool, ℕ, false, Option, None, Some, sym, ◌∙◌, refl, subst, arith, take, drop, get_or, length}
+use Rattle.std.proofs.Common.{◌≡◌, ◌+◌, ◌++◌, ◌∷◌, [], List, Bool, ℕ, false, Option, None, Some, sym, ◌∙◌, refl, subst, arith, take, drop, get_or}
 use Rattle.std.proofs.Common.{length-append, append-nil}
 use Rattle.std.specs.Prelude.{is_some}
 use Rattle.std.proofs.lemmas.List.{length-take, take_all}
@@ -6,7 +6,7 @@ use Rattle.fdr_biphase.specs.Cells.{bits_of_bytes}
 use Rattle.fdr_biphase.specs.Reading.{MissesLevel, ReadsLevels}
 use Rattle.fdr_biphase.specs.declared.Missing.{Missing}
 use Rattle.fdr_biphase.specs.declared.reader.LevelReader.{LevelReader}
-use Rattle.fdr_biphase.proofs.Filling.{next_taken, rest_taken, eight_taken_more}
+use Rattle.fdr_biphase.proofs.Filling.{next_taken, rest_taken, more_taken}
 use Rattle.fdr_biphase.proofs.Texts.{misses_more}
 use Rattle.fdr_biphase.proofs.reader.LevelReader.bytes.Goals as goal
 
@@ -85,7 +85,7 @@ loop-at-preserved-then-word c =
     record {
       reads = λ came bytes st.
           subst (λ (xs : List ℕ). ReadsLevels c.word.new.self (bits_of_bytes xs) (bytes ++ take (c.loop-at.count + 4) c.word.new.room))
-          (eight_taken_more came levels at)
+          (more_taken came levels at 8)
           (c.word.ensures.stands (came ++ take at levels) bytes (c.loop-at.invariant.reads came bytes st) c.if-word.true);
       within = c.word.ensures.within c.if-word.true;
       few = omega (arith, c.loop-at.invariant.few);

@@ -1,4 +1,4 @@
-use Rattle.std.proofs.Common.{◌≡◌, ◌++◌, ◌∷◌, [], ap, sym, ◌∙◌, List, ℕ, append-nil, append_assoc}
+use Rattle.std.proofs.Common.{◌++◌, ◌∷◌, [], ap, sym, ◌∙◌, List, ℕ, append-nil, append_assoc}
 use Rattle.fdr_biphase.specs.Past.{DecoderPast}
 use Rattle.fdr_biphase.specs.Packed.{answered_byte, bytes_of_bits}
 use Rattle.fdr_biphase.specs.Cells.{bits_of_bytes}
