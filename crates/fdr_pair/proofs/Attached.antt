@@ -30,6 +30,8 @@ use Rattle.fdr_pair.specs.Attaching.{IsNotGoneOn, HasGoneOnFrom, IsGoingFault}
 use Rattle.fdr_pair.proofs.Sides.{settled_on}
 use Rattle.fdr_pair.proofs.Going.{known, ring_left}
 use Rattle.fdr_pair.proofs.PairWorks.{work_here, work_of, work_then}
+use Rattle.fdr_pair.proofs.SideCounts.{counted_then}
+use Rattle.fdr_pair.specs.SideCounts.{CountsBoth}
 
 -- an image that is as it was
 attaching_same : (h : Header) (image : List ℕ) → IsAttaching h image image
@@ -42,7 +44,7 @@ attaching_same h image = record {
 pub with_moments : (tells : Tells) (P Q : PairMoment → Type 0) (old new : Pair) → PairWork tells P old new → EachPairMoment tells old new Q
     → PairWork tells Q old new
 with_moments tells P Q old new work each =
-    record { time = work.time; line = work.line; line_moments = work.line_moments; moments = each }
+    record { time = work.time; counts = work.counts; line = work.line; line_moments = work.line_moments; moments = each }
 
 -- a moment at which a side is as it was on a disk that was as before
 stays_before : (side : Side) (old mid : Pair) (m : PairMoment) → IsSameDisk (disk_on side old) (disk_on side mid) → StaysOn side mid m → StaysOn side old m
@@ -63,9 +65,9 @@ module _ (tells : Tells) (h : Header) (side : Side) where
 
   -- an attach
   pub attach_work : (old new : Pair) → IsSoundPair tells old → Serves tells side (OfSettled (seen side old) (IsAttaching h)) old new
-      → PairWork tells (AttachMoment h side follower.Level old) old new
-  attach_work old new sound served =
-      work_of tells side (OfSettled (seen side old) (IsAttaching h)) (AttachMoment h side follower.Level old) old new sound served
+      → CountsBoth old new → PairWork tells (AttachMoment h side follower.Level old) old new
+  attach_work old new sound served counts =
+      work_of tells side (OfSettled (seen side old) (IsAttaching h)) (AttachMoment h side follower.Level old) old new sound served counts
       (λ stops m own other. inr own)
 
   -- a side is as ready as it was, where its disk is as it was
@@ -188,7 +190,7 @@ module _ (tells : Tells) (h : Header) (lead : Side) (other start_first start_sec
         (moment_before tells h Second start_second old mid m sound_mid one_work.time one_left (two_work.moments stops m since))
 
     pub both_attached : PairWork tells (AreAttachMoments h lead other old) old new
-    both_attached = work_then tells (AreAttachMoments h lead other old) (AreAttachMoments h lead other old) (AreAttachMoments h lead other old) old mid new
+    both_attached = work_then tells (AreAttachMoments h lead other old) (AreAttachMoments h lead other old) (AreAttachMoments h lead other old) old mid new sound_mid
         (with_moments tells (AttachMoment h First start_first old) (AreAttachMoments h lead other old) old mid one_work one_moments)
         (with_moments tells (AttachMoment h Second start_second mid) (AreAttachMoments h lead other old) mid new two_work two_moments)
         (λ stops m at. at) (λ stops m at. at)
@@ -259,6 +261,7 @@ module _ (tells : Tells) (h : Header) (joined : Joined) (old mid : Pair) (sound_
       second = subst (λ (x : Option Ring). AttachedNow tells h Second (start_on Second joined.lead joined.follower) x old new) (sym is_second)
           (now_then tells h Second (start_on Second joined.lead joined.follower) u old mid new same_second second);
       time = PairElapses-then old mid new work.time tell.time;
+      counts = counted_then tells old mid new sound_mid work.time tell.time work.counts tell.counts;
       line = record {
         input = tell.line.input ∙ work.line.input;
         taken = tell.line.taken ∙ work.line.taken;

@@ -127,7 +127,7 @@ module _ (tells : Tells) (rings mid : PairRings) (new more : List Block) (p q r 
     second = λ few. moments_on tells Second new more p q r sound first.numbers.time next.numbers.time rings.second mid.second all.second
         (first.second few) (next.second (let most = first.numbers.greatest few in omega (arith, most, all.next)));
     numbers = counts_more tells rings.next (length new + length more) (length (new ++ more)) p r (omega (arith, length-append new more))
-        (counts_then tells rings.next mid.next (length new) (length more) p q r all.next first.numbers next.numbers);
+        (counts_then tells rings.next mid.next (length new) (length more) p q r sound all.next first.numbers next.numbers);
   }
 
 -- all of the first, and then what became of the others

@@ -32,6 +32,7 @@ use Rattle.fdr_pair.specs.Bringing.{IsBringing, HasNoFault, HasFailedAlone, HasB
 use Rattle.fdr_pair.proofs.Going.{stands, may_stand, ring_left, exact_none, exact_on}
 use Rattle.fdr_pair.proofs.PairWorks.{work_of, work_then, work_here, work_weaken, content_of, content_then}
 use Rattle.fdr_pair.proofs.BroughtRuns.{missing_between, in_run}
+use Rattle.fdr_pair.specs.SideCounts.{CountsBoth}
 
 pub other_twice : (side : Side) → other_side (other_side side) ≡ side
 other_twice First = refl
@@ -80,9 +81,9 @@ brings_here tells h Second blocks p sound settled = work_here tells (IsBringing 
 -- while the lead is looked at
 pub brings_looked : (tells : Tells) (h : Header) (lead : Side) (blocks : List Block) (p q : Pair) → IsSoundPair tells p
     → (IsTrue tells.stops → IsSettled (seen (other_side lead) p)) → Serves tells lead (disk_on lead p).may_leave p q
-    → PairWork tells (IsBringing h lead blocks p) p q
-brings_looked tells h lead blocks p q sound settled served =
-    work_of tells lead (disk_on lead p).may_leave (IsBringing h lead blocks p) p q sound served
+    → CountsBoth p q → PairWork tells (IsBringing h lead blocks p) p q
+brings_looked tells h lead blocks p q sound settled served counts =
+    work_of tells lead (disk_on lead p).may_leave (IsBringing h lead blocks p) p q sound served counts
     (λ stops m own other. stands_still h lead blocks p m own (settled stops (image_on (other_side lead) m) other))
 
 -- the next block of the ring
@@ -93,9 +94,9 @@ module _ (tells : Tells) (lead : Side) (r : Ring) (session : ℕ) (bytes : List 
   lead_left = subst (λ (side : Side). LeavesSide side p q) (other_twice lead) served.other
 
   -- while it is put
-  pub brings_put : PairWork tells (IsBringing r.header lead blocks p) p q
-  brings_put = work_of tells (other_side lead) (OfSettled (seen (other_side lead) p) (MayPut r.header (next_block r session bytes)))
-      (IsBringing r.header lead blocks p) p q sound served
+  pub brings_put : CountsBoth p q → PairWork tells (IsBringing r.header lead blocks p) p q
+  brings_put counts = work_of tells (other_side lead) (OfSettled (seen (other_side lead) p) (MayPut r.header (next_block r session bytes)))
+      (IsBringing r.header lead blocks p) p q sound served counts
       (λ stops m own other. record {
         lead_image = subst (λ (side : Side). (disk_on side p).may_leave (image_on side m)) (other_twice lead) other;
         follower = subst (λ (l : List Block). RecoversPrefix r.header (disk_on (other_side lead) p).held
@@ -146,7 +147,7 @@ module _ (tells : Tells) (lead : Side) (r s : Ring) (blocks more : List Block) (
   pub brings_on : PairWork tells (IsBringing r.header lead blocks start) start p → PairWork tells (IsBringing s.header lead more p) p q
       → PairWork tells (IsBringing r.header lead (blocks ++ more) start) start q
   brings_on one two = work_then tells (IsBringing r.header lead blocks start) (IsBringing s.header lead more p)
-      (IsBringing r.header lead (blocks ++ more) start) start p q one two
+      (IsBringing r.header lead (blocks ++ more) start) start p q sound one two
       (λ stops m is. bringing_more r.header lead blocks more start m is)
       (λ stops m is. bringing_on m ((sound.sides First).stops_need_bytes stops) is)
 
@@ -175,9 +176,9 @@ module _ (tells : Tells) (lead : Side) (r : Ring) (blocks : List Block) (p mid q
         served.other.disk.held is.follower;
   }
 
-  pub looks_then_brings : PairWork tells (IsBringing r.header lead blocks mid) mid q → PairWork tells (IsBringing r.header lead blocks p) p q
-  looks_then_brings work = work_then tells (IsBringing r.header lead blocks p) (IsBringing r.header lead blocks mid) (IsBringing r.header lead blocks p)
-      p mid q (brings_looked tells r.header lead blocks p mid sound settled served) work (λ stops m is. is) (λ stops m is. looked_bringing m is)
+  pub looks_then_brings : IsSoundPair tells mid → CountsBoth p mid → PairWork tells (IsBringing r.header lead blocks mid) mid q → PairWork tells (IsBringing r.header lead blocks p) p q
+  looks_then_brings sound_mid counts work = work_then tells (IsBringing r.header lead blocks p) (IsBringing r.header lead blocks mid) (IsBringing r.header lead blocks p)
+      p mid q sound_mid (brings_looked tells r.header lead blocks p mid sound settled served counts) work (λ stops m is. is) (λ stops m is. looked_bringing m is)
 
   pub looked_brought : (s : Ring) → (disk_on lead mid).faults ≡ (disk_on lead p).faults → HasBrought tells lead r s blocks mid q
       → HasBrought tells lead r s blocks p q
@@ -228,9 +229,9 @@ module _ (tells : Tells) (lead side : Side) (r : Ring) (session : ℕ) (bytes : 
   ring_mid : IsSettledRing tells (other_side lead) r mid
   ring_mid = ring_left tells (other_side lead) r p mid served.other.disk ring
 
-  pub put_work : PairWork tells (IsBringing r.header lead blocks p) p q
-  put_work = looks_then_brings tells lead r blocks p mid q sound ring.settled served same
-      (brings_put tells lead r session bytes blocks mid q sound_mid ring_mid.settled is put_there)
+  pub put_work : CountsBoth p mid → CountsBoth mid q → PairWork tells (IsBringing r.header lead blocks p) p q
+  put_work looked counts = looks_then_brings tells lead r blocks p mid q sound ring.settled served same sound_mid looked
+      (brings_put tells lead r session bytes blocks mid q sound_mid ring_mid.settled is put_there counts)
 
   pub put_brought : (s : Ring) → s.header ≡ r.header
       → (IsTrue tells.bytes → HasPut r.header (next_block r session bytes) (disk_on side mid).held (disk_on side q).held)

@@ -13,6 +13,7 @@ use Rattle.fdr_pair.specs.SidePuts.{PutsUnlessFailed}
 use Rattle.fdr_twin.specs.declared.side.Side.{Side}
 use Rattle.fdr_pair.proofs.Going.{on}
 use Rattle.fdr_pair.proofs.Servings.{line_here, now_quiet}
+use Rattle.fdr_pair.proofs.SideCounts.{counted_here, counted_then}
 
 pub line_then : (a b c : Pair) → KeepsLine a b → KeepsLine b c → KeepsLine a c
 line_then a b c one two = record {
@@ -29,6 +30,7 @@ pulled_then a b m line at = record { taken = at.taken ∙ line.taken; pulled_bef
 pub counts_here : (tells : Tells) (next count : ℕ) (p : Pair) → IsSoundPair tells p → CountsOn tells next count p p
 counts_here tells next count p sound = record {
   time = PairElapses-here p sound.falls;
+  counts = counted_here p;
   line = line_here p;
   pulled = λ stops m since. (now_quiet tells First p sound stops m since).pulled;
   told = λ few stops m since. (now_quiet tells First p sound stops m since).least;
@@ -37,10 +39,11 @@ counts_here tells next count p sound = record {
 }
 
 -- blocks, and then more of them
-pub counts_then : (tells : Tells) (next middle count more : ℕ) (a b c : Pair) → middle ≡ next + count → CountsOn tells next count a b
+pub counts_then : (tells : Tells) (next middle count more : ℕ) (a b c : Pair) → IsSoundPair tells b → middle ≡ next + count → CountsOn tells next count a b
     → CountsOn tells middle more b c → CountsOn tells next (count + more) a c
-counts_then tells next middle count more a b c at one two = record {
+counts_then tells next middle count more a b c sound at one two = record {
   time = PairElapses-then a b c one.time two.time;
+  counts = counted_then tells a b c sound one.time two.time one.counts two.counts;
   line = line_then a b c one.line two.line;
   pulled = on tells (HasPulled a) a b c one.time two.time one.pulled (λ stops m since. pulled_then a b m one.line (two.pulled stops m since));
   told = λ few. on tells (λ m. a.least ≤ m.announced) a b c one.time two.time (one.told few)
@@ -64,6 +67,7 @@ counts_then tells next middle count more a b c at one two = record {
 pub counts_more : (tells : Tells) (next count more : ℕ) (a b : Pair) → count ≤ more → CountsOn tells next count a b → CountsOn tells next more a b
 counts_more tells next count more a b le one = record {
   time = one.time;
+  counts = one.counts;
   line = one.line;
   pulled = one.pulled;
   told = one.told;
@@ -76,6 +80,7 @@ counts_put : (tells : Tells) (side : Side) (next session : ℕ) (bytes : List �
     → PutsUnlessFailed tells side o o' session bytes p q → CountsOn tells next 0 p q
 counts_put tells side next session bytes o o' p q puts = record {
   time = puts.time;
+  counts = puts.counts;
   line = puts.line;
   pulled = λ stops m since. (puts.moments stops m since).pulled;
   told = λ few stops m since. (puts.moments stops m since).least;
@@ -88,6 +93,7 @@ counts_announced : (tells : Tells) (side : Side) (next : ℕ) (p q : Pair) → I
     → CountsOn tells next 1 p q
 counts_announced tells side next p q sound tell = record {
   time = tell.time;
+  counts = tell.counts;
   line = tell.line;
   pulled = λ stops m since. (tell.moments stops m since).pulled;
   told = λ few stops m since.
@@ -103,6 +109,7 @@ counts_told tells next (Some r) u p q sound tell = counts_announced tells First 
 counts_told tells next None (Some s) p q sound tell = counts_announced tells Second next p q sound tell
 counts_told tells next None None p q sound tell = record {
   time = tell.time;
+  counts = tell.counts;
   line = tell.line;
   pulled = λ stops m since. (now_quiet tells First p sound stops m (tell.moments m since)).pulled;
   told = λ few stops m since. (now_quiet tells First p sound stops m (tell.moments m since)).least;
@@ -111,13 +118,13 @@ counts_told tells next None None p q sound tell = record {
 }
 
 -- a block on both sides, and its announcement
-pub counts_block : (tells : Tells) (next session : ℕ) (bytes : List ℕ) (o o' u u' : Option Ring) (p0 p1 p2 p3 : Pair) → IsSoundPair tells p2
+pub counts_block : (tells : Tells) (next session : ℕ) (bytes : List ℕ) (o o' u u' : Option Ring) (p0 p1 p2 p3 : Pair) → IsSoundPair tells p1 → IsSoundPair tells p2
     → PutsUnlessFailed tells First o o' session bytes p0 p1 → PutsUnlessFailed tells Second u u' session bytes p1 p2
     → AnnouncesLiving tells o' u' (next + 1) p2 p3 → CountsOn tells next 1 p0 p3
-counts_block tells next session bytes o o' u u' p0 p1 p2 p3 sound one two tell =
+counts_block tells next session bytes o o' u u' p0 p1 p2 p3 sound_one sound one two tell =
     counts_more tells next (0 + 0 + 1) 1 p0 p3 (omega arith)
-    (counts_then tells next next (0 + 0) 1 p0 p2 p3 (omega arith)
-    (counts_then tells next next 0 0 p0 p1 p2 (omega arith) (counts_put tells First next session bytes o o' p0 p1 one)
+    (counts_then tells next next (0 + 0) 1 p0 p2 p3 sound (omega arith)
+    (counts_then tells next next 0 0 p0 p1 p2 sound_one (omega arith) (counts_put tells First next session bytes o o' p0 p1 one)
     (counts_put tells Second next session bytes u u' p1 p2 two))
     (counts_told tells next o' u' p2 p3 sound tell))
 

@@ -22,6 +22,7 @@ use Rattle.fdr_pair.specs.declared.runs.SideRuns.{SideRuns}
 use Rattle.fdr_pair.specs.declared.runs.SideRuns.TheVariants as runs
 use Rattle.fdr_pair.proofs.PairWorks.{content_of, content_then, looked_first, looked_second, looked_then}
 use Rattle.fdr_pair.proofs.Bringing.{no_fault_on, no_fault_of, no_fault_then, failed_after}
+use Rattle.fdr_pair.specs.SideCounts.{CountsBoth}
 
 -- a run on a disk that holds what it held
 pub run_back : (tells : Tells) (h : Header) (side : Side) (found : Found) (p q : Pair) → IsSameContent (disk_on side p) (disk_on side q)
@@ -35,23 +36,24 @@ run_back tells h side found p q same is = record {
 
 -- a side that is only looked at, and the other, which is left
 pub looks_scanned : (tells : Tells) (side : Side) (p q : Pair) → IsSoundPair tells p → Serves tells side (disk_on side p).may_leave p q
+    → CountsBoth p q
     → IsSameContent (disk_on side p) (disk_on side q) → LooksAtBoth tells p q
-looks_scanned tells First p q sound served same = record {
+looks_scanned tells First p q sound served counts same = record {
   first = same;
   second = content_of p.second q.second served.other.disk;
-  work = looked_first tells p q sound served;
+  work = looked_first tells p q sound served counts;
 }
-looks_scanned tells Second p q sound served same = record {
+looks_scanned tells Second p q sound served counts same = record {
   first = content_of p.first q.first served.other.disk;
   second = same;
-  work = looked_second tells p q sound served;
+  work = looked_second tells p q sound served counts;
 }
 
-pub looks_then : (tells : Tells) (p mid q : Pair) → LooksAtBoth tells p mid → LooksAtBoth tells mid q → LooksAtBoth tells p q
-looks_then tells p mid q one two = record {
+pub looks_then : (tells : Tells) (p mid q : Pair) → IsSoundPair tells mid → LooksAtBoth tells p mid → LooksAtBoth tells mid q → LooksAtBoth tells p q
+looks_then tells p mid q sound one two = record {
   first = content_then p.first mid.first q.first one.first two.first;
   second = content_then p.second mid.second q.second one.second two.second;
-  work = looked_then tells p mid q one.first one.second one.work two.work;
+  work = looked_then tells p mid q sound one.first one.second one.work two.work;
 }
 
 -- no fault, where the side that was served has none

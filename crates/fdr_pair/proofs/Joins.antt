@@ -29,6 +29,7 @@ use Rattle.fdr_pair.specs.declared.outcome.PairOutcome.{PairOutcome}
 use Rattle.fdr_pair.specs.declared.outcome.PairOutcome.TheVariants as outcome
 use Rattle.fdr_pair.proofs.PairWorks.{work_of, work_then, work_here, content_of}
 use Rattle.fdr_pair.proofs.Bringing.{other_twice, no_fault_on, no_fault_then, failed_after}
+use Rattle.fdr_pair.specs.SideCounts.{CountsBoth}
 
 -- at least N - 1 blocks are at least N - 2
 weaker : (h : Header) (old new : List ℕ) → KeepsRun h (h.slots - 1) old new → KeepsRun h (h.slots - 2) old new
@@ -89,8 +90,8 @@ module _ (tells : Tells) (h : Header) (lead side : Side) (p mid : Pair) (is_side
   lead_attached = content_of (disk_on lead p) (disk_on lead mid) left.disk
 
   module _ (sound : IsSoundPair tells p) (near : IsTrue tells.bytes → IsFarBehind h (disk_on lead p).held (disk_on (other_side lead) p).held → ⊥) where
-    pub joins_attached : PairWork tells (IsJoining h lead p) p mid
-    joins_attached = work_of tells (other_side lead) (OfSettled (seen (other_side lead) p) (IsAttaching h)) (IsJoining h lead p) p mid sound served
+    pub joins_attached : CountsBoth p mid → PairWork tells (IsJoining h lead p) p mid
+    joins_attached counts = work_of tells (other_side lead) (OfSettled (seen (other_side lead) p) (IsAttaching h)) (IsJoining h lead p) p mid sound served counts
         (λ stops m own other. record {
           lead_image = subst (λ (s : Side). (disk_on s p).may_leave (image_on s m)) (other_twice lead) other;
           follower = λ settled. keeps_run h (disk_on (other_side lead) p).held (image_on (other_side lead) m)
@@ -123,10 +124,10 @@ module _ (tells : Tells) (h : Header) (lead side : Side) (p mid : Pair) (is_side
         far = λ far. absurd (near told far);
       }
 
-      pub joins_brought : (q : Pair) → PairWork tells (IsBringing r.header lead
+      pub joins_brought : (q : Pair) → IsSoundPair tells mid → CountsBoth p mid → PairWork tells (IsBringing r.header lead
           (missing_blocks r.header (disk_on lead mid).held (disk_on (other_side lead) mid).held) mid) mid q → PairWork tells (IsJoining h lead p) p q
-      joins_brought q work = work_then tells (IsJoining h lead p) (IsBringing r.header lead
-          (missing_blocks r.header (disk_on lead mid).held (disk_on (other_side lead) mid).held) mid) (IsJoining h lead p) p mid q joins_attached work
+      joins_brought q sound_mid counts work = work_then tells (IsJoining h lead p) (IsBringing r.header lead
+          (missing_blocks r.header (disk_on lead mid).held (disk_on (other_side lead) mid).held) mid) (IsJoining h lead p) p mid q sound_mid (joins_attached counts) work
           (λ stops m is. is)
           (λ stops m is. bringing m ((sound.sides First).stops_need_bytes stops) is)
 

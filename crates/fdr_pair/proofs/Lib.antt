@@ -1,5 +1,6 @@
 pub mod Puts
 pub mod Sides
+pub mod SideCounts
 pub mod Servings
 pub mod Told
 pub mod Going

@@ -35,6 +35,7 @@ use Rattle.fdr_pair.specs.declared.open.Opened.{Opened}
 use Rattle.fdr_pair.specs.Opening.{side_header, header_or_fault, header_read, header_after, same_header, common_header}
 use Rattle.fdr_pair.specs.Opening.{opened_unless, checked, opening, IsReadOf, FitsExtent, IsCountedAs}
 use Rattle.fdr_pair.specs.Opening.{LooksAtSide, ReadsHeader, AreLiving, OnLiving, IsHeaderOn, HasLivingSide, IsOpeningRefusal}
+use Rattle.fdr_pair.specs.SideCounts.{CountsBoth}
 
 -- reading the header of an image, as it is on the deck of a twin that is turned to a side
 module _ (tells : Tells) (side : Side) (s t : State) (p q : Pair) (before : IsSameState s (seen side p)) (after : IsSameState t (seen side q))
@@ -134,10 +135,11 @@ then_reads tells side r p q t left reads = record {
 
 -- the disks of both sides are looked at, one after the other
 pub both_looked : (tells : Tells) (old mid new : Pair) → IsSoundPair tells old → IsSoundPair tells mid → KeepsDisk (seen First old) (seen First mid)
-    → Serves tells First old.first.may_leave old mid → Serves tells Second mid.second.may_leave mid new → PairWork tells (IsLookedAt old) old new
-both_looked tells old mid new sound sound_mid keeps one two =
-    work_then tells (IsLookedAt old) (IsLookedAt mid) (IsLookedAt old) old mid new (looked_first tells old mid sound one)
-    (looked_second tells mid new sound_mid two) (λ stops m is. is)
+    → Serves tells First old.first.may_leave old mid → CountsBoth old mid → Serves tells Second mid.second.may_leave mid new → CountsBoth mid new
+    → PairWork tells (IsLookedAt old) old new
+both_looked tells old mid new sound sound_mid keeps one counts_one two counts_two =
+    work_then tells (IsLookedAt old) (IsLookedAt mid) (IsLookedAt old) old mid new sound_mid (looked_first tells old mid sound one counts_one)
+    (looked_second tells mid new sound_mid two counts_two) (λ stops m is. is)
     (λ stops m is. record { first = keeps.no_more m.first is.first; second = one.other.disk.no_more m.second is.second })
 
 -- what was read of a side is shown by its counts and its bytes

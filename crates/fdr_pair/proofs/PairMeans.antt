@@ -1,14 +1,8 @@
 -- A recording on two disks does what it means.
-use Rattle.std.proofs.Common.{◌≡◌, ◌≢◌, ⊎_elim, inl, inr, ℕ, List, Some, refl, sym, subst}
-use Rattle.fdr_deck.specs.State.{Tells}
+use Rattle.std.proofs.Common.{◌≡◌, ◌≢◌, inl, inr, ℕ, List, Some, refl, sym, subst}
 use Rattle.fdr_io.specs.declared.Input.TheVariants as input
 use Rattle.fdr_load.specs.Tables.{IsAccepted, table_in}
-use Rattle.fdr_twin.specs.Pair.{Pair}
-use Rattle.fdr_pair.specs.PairRun.{OnlyLooksAtPair, PairRun, RecordsPair, RunsPair}
-use Rattle.fdr_pair.specs.Bringing.{HasNoFault}
-use Rattle.fdr_pair.proofs.PairTable.{only_looks_here}
-use Rattle.fdr_twin.specs.Sound.{IsSoundPair}
-use Rattle.fdr_table.specs.Rows.{TableRows}
+use Rattle.fdr_pair.specs.PairRun.{PairRun, RecordsPair, RunsPair}
 use Rattle.fdr_pair.specs.PairStages.{EndsBeforeDisks, IsPastPairTable, LeavesPairLine, WritesOnNeither}
 use Rattle.fdr_pair.specs.declared.outcome.PairOutcome.{PairOutcome}
 use Rattle.fdr_pair.specs.declared.outcome.PairOutcome.TheVariants as outcome

@@ -29,6 +29,8 @@ use Rattle.fdr_pair.specs.PairStages.{EndsBeforeDisks, IsPastPairTable}
 use Rattle.fdr_pair.specs.declared.outcome.PairOutcome.{PairOutcome}
 use Rattle.fdr_pair.specs.declared.outcome.PairOutcome.TheVariants as outcome
 use Rattle.fdr_pair.proofs.PairWorks.{looked_here}
+use Rattle.fdr_pair.specs.SideCounts.{CountsBoth}
+use Rattle.fdr_pair.proofs.SideCounts.{counted_here}
 
 -- ---- a source that tells its bytes
 
@@ -173,13 +175,14 @@ module _ (old new : Option (List ℕ)) (t : TableRows)
       → IsPastPairTable answer ⊎ (answer ≡ outcome.NoMemory)
       → RecordsPair t
       (record { rest_before = old; rest_now = new; table_before = before; table_now = now; tells = tells; old = p; new = q; answer = answer })
-      → (answer ≡ outcome.NoMemory → OnlyLooksAtPair tells p q answer)
+      → (answer ≡ outcome.NoMemory → OnlyLooksAtPair tells p q answer) → CountsBoth p q
       → RunsPair (record { rest_before = old; rest_now = new; table_before = before; table_now = now; tells = tells; old = p; new = q; answer = answer })
-  runs_accepted before now tells p q answer bounded quiet either records memory = record {
+  runs_accepted before now tells p q answer bounded quiet either records memory counts = record {
     table = reads_accepted answer either;
     bounded = bounded;
     table_cause = λ e. absurd (not_failed answer either e);
     no_table_fault = λ not. quiet;
+    counts = counts;
     before = λ early. absurd (not_before answer either early);
     records = λ past. (t, told_table, sound, records);
     memory = memory;
@@ -281,6 +284,7 @@ module _ {R : Type 0} (old new : Option (List ℕ)) (before now : ℕ) (f : Load
     bounded = bounded;
     table_cause = λ e. fault (ap Err (was_failed f e));
     no_table_fault = λ not. quiet (λ e. not (failed_answer e));
+    counts = counted_here p;
     before = λ early. (only_looks_here tells p (table_refusal_of f) sound, record { first = refl; second = refl });
     records = λ past. absurd (refusal_not_past f past);
     memory = λ e. only_looks_here tells p (table_refusal_of f) sound;
@@ -315,6 +319,7 @@ runs_unread rest faults tells p sound = record {
   bounded = ([], omega arith, preceded_none rest);
   table_cause = λ e. absurd (cc);
   no_table_fault = λ not. refl;
+  counts = counted_here p;
   before = λ early. absurd early;
   records = λ past. absurd past;
   memory = λ e. only_looks_here tells p outcome.NoMemory sound;

@@ -18,6 +18,8 @@ use Rattle.fdr_twin.proofs.Serves.{other_left}
 use Rattle.fdr_twin.proofs.Turns.{Turns-disk}
 use Rattle.fdr_pair.proofs.Sides.{facing_side}
 use Rattle.fdr_pair.specs.PairWork.{IsSameContent, LeavesLine, PairWork, IsLookedAt}
+use Rattle.fdr_pair.proofs.SideCounts.{counted_here, counted_then}
+use Rattle.fdr_pair.specs.SideCounts.{CountsBoth}
 
 -- a disk that is as it was
 pub content_here : (d : Disk) → IsSameContent d d
@@ -68,11 +70,12 @@ line_left tells side P old new sound served = let passes = served.disk_work.pass
 
 -- calls that serve one side
 pub work_of : (tells : Tells) (side : Side) (P : List ℕ → Type 0) (Q : PairMoment → Type 0) (old new : Pair) → IsSoundPair tells old
-    → Serves tells side P old new
+    → Serves tells side P old new → CountsBoth old new
     → (IsTrue tells.stops → (m : PairMoment) → P (image_on side m) → (disk_on (other_side side) old).may_leave (image_on (other_side side) m) → Q m)
     → PairWork tells Q old new
-work_of tells side P Q old new sound served holds = record {
+work_of tells side P Q old new sound served counts holds = record {
   time = served.time;
+  counts = counts;
   line = line_left tells side P old new sound served;
   line_moments = λ stops m since. let at = served.moments stops m since in
       record { least = at.least; greatest = at.greatest; taken = at.taken; pulled_before = at.pulled_before };
@@ -84,6 +87,7 @@ pub work_here : (tells : Tells) (Q : PairMoment → Type 0) (p : Pair) → IsSou
     → (IsTrue tells.stops → (m : PairMoment) → p.first.may_leave m.first → p.second.may_leave m.second → Q m) → PairWork tells Q p p
 work_here tells Q p sound holds = record {
   time = PairElapses-here p sound.falls;
+  counts = counted_here p;
   line = record {
     input = refl;
     taken = refl;
@@ -102,10 +106,11 @@ work_here tells Q p sound holds = record {
 }
 
 -- one work after another
-pub work_then : (tells : Tells) (P Q R : PairMoment → Type 0) (old mid new : Pair) → PairWork tells P old mid → PairWork tells Q mid new
+pub work_then : (tells : Tells) (P Q R : PairMoment → Type 0) (old mid new : Pair) → IsSoundPair tells mid → PairWork tells P old mid → PairWork tells Q mid new
     → (IsTrue tells.stops → (m : PairMoment) → P m → R m) → (IsTrue tells.stops → (m : PairMoment) → Q m → R m) → PairWork tells R old new
-work_then tells P Q R old mid new one two first second = record {
+work_then tells P Q R old mid new sound one two first second = record {
   time = PairElapses-then old mid new one.time two.time;
+  counts = counted_then tells old mid new sound one.time two.time one.counts two.counts;
   line = record {
     input = two.line.input ∙ one.line.input;
     taken = two.line.taken ∙ one.line.taken;
@@ -134,6 +139,7 @@ pub work_weaken : (tells : Tells) (P Q : PairMoment → Type 0) (old new : Pair)
     → (IsTrue tells.stops → (m : PairMoment) → P m → Q m) → PairWork tells Q old new
 work_weaken tells P Q old new work holds = record {
   time = work.time;
+  counts = work.counts;
   line = work.line;
   line_moments = work.line_moments;
   moments = λ stops m since. holds stops m (work.moments stops m since);
@@ -147,18 +153,18 @@ looked_before old mid first second m is = record { first = first.no_more m.first
 pub looked_here : (tells : Tells) (p : Pair) → IsSoundPair tells p → PairWork tells (IsLookedAt p) p p
 looked_here tells p sound = work_here tells (IsLookedAt p) p sound (λ stops m first second. record { first = first; second = second })
 
-pub looked_then : (tells : Tells) (old mid new : Pair) → IsSameContent old.first mid.first → IsSameContent old.second mid.second
+pub looked_then : (tells : Tells) (old mid new : Pair) → IsSoundPair tells mid → IsSameContent old.first mid.first → IsSameContent old.second mid.second
     → PairWork tells (IsLookedAt old) old mid → PairWork tells (IsLookedAt mid) mid new → PairWork tells (IsLookedAt old) old new
-looked_then tells old mid new first second one two =
-    work_then tells (IsLookedAt old) (IsLookedAt mid) (IsLookedAt old) old mid new one two (λ stops m is. is) (λ stops m is. looked_before old mid first second
+looked_then tells old mid new sound first second one two =
+    work_then tells (IsLookedAt old) (IsLookedAt mid) (IsLookedAt old) old mid new sound one two (λ stops m is. is) (λ stops m is. looked_before old mid first second
     m is)
 
 pub looked_first : (tells : Tells) (old new : Pair) → IsSoundPair tells old → Serves tells First old.first.may_leave old new
-    → PairWork tells (IsLookedAt old) old new
-looked_first tells old new sound served =
-    work_of tells First old.first.may_leave (IsLookedAt old) old new sound served (λ stops m own other. record { first = own; second = other })
+    → CountsBoth old new → PairWork tells (IsLookedAt old) old new
+looked_first tells old new sound served counts =
+    work_of tells First old.first.may_leave (IsLookedAt old) old new sound served counts (λ stops m own other. record { first = own; second = other })
 
 pub looked_second : (tells : Tells) (old new : Pair) → IsSoundPair tells old → Serves tells Second old.second.may_leave old new
-    → PairWork tells (IsLookedAt old) old new
-looked_second tells old new sound served =
-    work_of tells Second old.second.may_leave (IsLookedAt old) old new sound served (λ stops m own other. record { first = other; second = own })
+    → CountsBoth old new → PairWork tells (IsLookedAt old) old new
+looked_second tells old new sound served counts =
+    work_of tells Second old.second.may_leave (IsLookedAt old) old new sound served counts (λ stops m own other. record { first = other; second = own })

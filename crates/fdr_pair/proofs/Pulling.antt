@@ -15,7 +15,7 @@ use Rattle.fdr_ring.specs.declared.ring.Ring.{Ring}
 use Rattle.fdr_trace.specs.Moments.{IsTraceMoment, PullsForRecord}
 use Rattle.fdr_trace.specs.Pulls.{PullsUntilDecided}
 use Rattle.fdr_twin.specs.declared.side.Side.{Side}
-use Rattle.fdr_twin.specs.declared.side.Side.TheVariants.{First, Second}
+use Rattle.fdr_twin.specs.declared.side.Side.TheVariants.{First}
 use Rattle.fdr_twin.specs.Pair.{Pair, PairMoment, other_side, disk_on, image_on, seen}
 use Rattle.fdr_twin.specs.Same.{IsSameDisk, IsSameState}
 use Rattle.fdr_twin.specs.Rest.{HasSameRest, LeavesSide, StaysOn}
@@ -32,6 +32,7 @@ use Rattle.fdr_pair.specs.Traces.{IsPairLagMoment, shown_on}
 use Rattle.fdr_pair.proofs.Going.{exact_none, ring_left}
 use Rattle.fdr_pair.proofs.Idling.{IsIdleUntilPull}
 use Rattle.fdr_pair.proofs.Told.{shows}
+use Rattle.fdr_pair.proofs.Sides.{either_side}
 
 -- A side is as it was. At each new moment, where stops are told, it has an image that a stop could leave before, and the count of
 -- faults that it had.
@@ -41,12 +42,6 @@ pub record IsLeft (tells : Tells) (side : Side) (p q : Pair) : Type 0 where
 
 other_left : (tells : Tells) (side : Side) (p q : Pair) → LeavesSide side p q → IsLeft tells side p q
 other_left tells side p q leaves = record { disk = leaves.disk; moments = λ stops m since. leaves.moments m since }
-
-either_side : (P : Side → Type 0) (side turned : Side) → P turned → P (other_side turned) → P side
-either_side P First First own other = own
-either_side P First Second own other = other
-either_side P Second First own other = other
-either_side P Second Second own other = own
 
 module _ (tells : Tells) (s t : State) (p q : Pair) (sound : IsSoundPair tells p) (here : IsSameState s (seen p.turned p))
     (there : IsSameState t (seen q.turned q)) (rest : HasSameRest p q) (leaves : LeavesDisk s t) where

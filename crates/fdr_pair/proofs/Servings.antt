@@ -15,6 +15,8 @@ use Rattle.fdr_twin.specs.RestSound.{PairElapses-here, LeavesSide-here}
 use Rattle.fdr_pair.specs.Numbers.{KeepsLine}
 use Rattle.fdr_pair.specs.Putting.{AddsExactly, HasPut, MayPut}
 use Rattle.fdr_pair.specs.SidePuts.{next_block, IsQuiet, IsSettledRing, PutsUnlessFailed}
+use Rattle.fdr_pair.proofs.SideCounts.{counted_here}
+use Rattle.fdr_pair.specs.SideCounts.{CountsBoth}
 
 -- the moments of a twin now have a told number no greater than the greatest
 pub now_told : (tells : Tells) (side : Side) (p : Pair) → IsSoundPair tells p → EachPairMoment tells p p (λ m. m.announced ≤ p.greatest)
@@ -37,6 +39,7 @@ pub puts_none : (tells : Tells) (side : Side) (session : ℕ) (bytes : List ℕ)
     → PutsUnlessFailed tells side None None session bytes p p
 puts_none tells side session bytes p sound = record {
   time = PairElapses-here p sound.falls;
+  counts = counted_here p;
   away = LeavesSide-here (other_side side) p;
   line = line_here p;
   told = refl;
@@ -48,7 +51,8 @@ puts_none tells side session bytes p sound = record {
 
 module _ (tells : Tells) (side : Side) (r : Ring) (session : ℕ) (bytes : List ℕ) (old new : Pair) (sound : IsSoundPair tells old)
     (settled : IsTrue tells.stops → IsSettled (seen side old))
-    (served : Serves tells side (OfSettled (seen side old) (MayPut r.header (next_block r session bytes))) old new) where
+    (served : Serves tells side (OfSettled (seen side old) (MayPut r.header (next_block r session bytes))) old new)
+    (counts : CountsBoth old new) where
   own_moments : EachPairMoment tells old new (λ m. MayPut r.header (next_block r session bytes) (disk_on side old).held (image_on side m))
   own_moments stops m since = (served.moments stops m since).image (settled stops)
 
@@ -76,6 +80,7 @@ module _ (tells : Tells) (side : Side) (r : Ring) (session : ℕ) (bytes : List 
   pub puts_failed : Rose (disk_on side old).faults (disk_on side new).faults → PutsUnlessFailed tells side (Some r) None session bytes old new
   puts_failed rose = record {
     time = served.time;
+    counts = counts;
     away = served.other;
     line = line;
     told = told;
@@ -91,6 +96,7 @@ module _ (tells : Tells) (side : Side) (r : Ring) (session : ℕ) (bytes : List 
       → IsSettledRing tells side s new → PutsUnlessFailed tells side (Some r) (Some s) session bytes old new
   puts_put s header next faults put exact ring = record {
     time = served.time;
+    counts = counts;
     away = served.other;
     line = line;
     told = told;

@@ -10,7 +10,7 @@ use Rattle.fdr_ring.specs.Gates.{IsClosed}
 use Rattle.fdr_ring.specs.Rings.{IsRing, IsSureRing, OfSettled}
 use Rattle.fdr_twin.specs.declared.side.Side.{Side}
 use Rattle.fdr_twin.specs.declared.side.Side.TheVariants.{First, Second}
-use Rattle.fdr_twin.specs.Pair.{Pair, disk_on, seen}
+use Rattle.fdr_twin.specs.Pair.{Pair, disk_on, other_side, seen}
 use Rattle.fdr_twin.specs.Same.{IsSameState, IsSameDisk, Turns}
 use Rattle.fdr_twin.specs.Sound.{IsSoundPair}
 use Rattle.fdr_twin.specs.Serving.{EachPairMoment, Serves}
@@ -118,3 +118,10 @@ module _ (tells : Tells) (h k : Header) (b c : Block) (old mid new : Pair)
             (at.image (settled_on old mid Second one.other.disk (second_settled stops)));
       })
       (two.time.no_more old.clock m one.time.later since)
+
+-- what holds of a side and of the other one holds of each
+pub either_side : (P : Side → Type 0) (side turned : Side) → P turned → P (other_side turned) → P side
+either_side P First First own other = own
+either_side P First Second own other = other
+either_side P Second First own other = other
+either_side P Second Second own other = own

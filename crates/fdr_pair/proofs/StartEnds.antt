@@ -50,6 +50,7 @@ use Rattle.fdr_pair.proofs.StartCounts.{counts_none, none_rose}
 use Rattle.fdr_pair.proofs.StartJoined.{on_both, lead_start, other_start, AreJoined, HasOther, header_limits, each_counted, counted_by_ring}
 use Rattle.fdr_pair.proofs.StartRefusals.{sides, work_joined}
 use Rattle.fdr_pair.proofs.StartSteps.{HasOpened, HasFoundRuns, HasJoinedSides}
+use Rattle.fdr_pair.proofs.SideCounts.{counted_then}
 
 -- two sides are the same, or one is the other of the second
 side_cases : (a b : Side) → (a ≡ b) ⊎ (a ≡ other_side b)
@@ -307,6 +308,7 @@ module _ (t : TableRows) (tells : Tells) (o : Opened) (found : SideRuns) (j : Jo
           announced = gone.announced ∙ ap (λ (r : PairRings). r.next) (sym same);
         };
         time = PairElapses-then p0 p3 p5 work.time gone.time;
+        counted = counted_then tells p0 p3 p5 joins.sound work.time gone.time work.counts gone.counts;
         line = line_then p0 p3 p5 (record {
           input = work.line.input;
           taken = work.line.taken;

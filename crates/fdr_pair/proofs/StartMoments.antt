@@ -401,7 +401,7 @@ module _ (tells : Tells) (words : ℕ) (o : Opened) (p0 p1 : Pair) (opened : Has
     held_then side = (looked_content_of tells side p1 p2 looks).held ∙ opened_held tells words o p0 p1 opened side
 
     searched_images : PairWork tells (StartImages words p0) p0 p2
-    searched_images = work_then tells (StartImages words p0) (IsLookedAt p1) (StartImages words p0) p0 p1 p2
+    searched_images = work_then tells (StartImages words p0) (IsLookedAt p1) (StartImages words p0) p0 p1 p2 opened.sound
         (looked_images words tells p0 p1 opened.work) looks.work (λ stops m is. is)
         (λ stops m is. record {
           first = inr (inl (opened.first.disk.no_more m.first is.first));
@@ -580,11 +580,11 @@ module _ (tells : Tells) (words : ℕ) (o : Opened) (p0 p1 : Pair) (opened : Has
     joined_images : (found : SideRuns) → HasFoundRuns tells o found p1 p2 → PairWork tells (JoinMoment o.header found p2) p2 p3
         → PairWork tells (StartImages words p0) p0 p3
     joined_images (runs.Both first second) found work =
-        work_then tells (StartImages words p0) (JoinMoment o.header (runs.Both first second) p2) (StartImages words p0) p0 p2 p3
+        work_then tells (StartImages words p0) (JoinMoment o.header (runs.Both first second) p2) (StartImages words p0) p0 p2 p3 found.sound
         (searched_images p2 found.looks) work (λ stops m is. is)
         (λ stops m is. joining p2 first second found ((sound.sides First).stops_need_bytes stops) (lead_by_found first second) refl m is)
     joined_images (runs.Alone side run) found work =
-        work_then tells (StartImages words p0) (JoinMoment o.header (runs.Alone side run) p2) (StartImages words p0) p0 p2 p3
+        work_then tells (StartImages words p0) (JoinMoment o.header (runs.Alone side run) p2) (StartImages words p0) p0 p2 p3 found.sound
         (searched_images p2 found.looks) work (λ stops m is. is)
         (λ stops m is. looked_join p2 found.looks m is)
 
@@ -618,7 +618,7 @@ module _ (tells : Tells) (words : ℕ) (o : Opened) (p0 p1 : Pair) (opened : Has
       -- and not attached
       pub keeps_not_going : (why : PairOutcome) → IsGoingRefused tells o.header j why p3 q → KeepsAtStart words tells p0 q
       keeps_not_going why refused = keeps_at_start words tells p0 q (worked words tells p0 q (work_then tells (StartImages words p0)
-          (AreAttachMoments o.header j.lead j.follower p3) (StartImages words p0) p0 p3 q before refused.work (λ stops m is. is)
+          (AreAttachMoments o.header j.lead j.follower p3) (StartImages words p0) p0 p3 q sound_then before refused.work (λ stops m is. is)
           (λ stops m is. attach_images tells words o.header j p0 p3 m stops (ready_now stops) is (λ since. was_image stops m since))))
 
       -- and attached

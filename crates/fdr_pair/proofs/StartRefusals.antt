@@ -38,14 +38,15 @@ use Rattle.fdr_pair.proofs.StartCounts.{KeepsCounts, counts_none, counts_failed,
 use Rattle.fdr_pair.proofs.StartJoined.{on_both, AreJoined, HasOther, found_images, counts_found, are_joined, leads_alike, counts_sides}
 use Rattle.fdr_pair.proofs.StartJoined.{each_counted, rose_attached, counts_attached, image_of}
 use Rattle.fdr_pair.proofs.StartSteps.{HasOpened, HasFoundRuns, HasJoinedSides}
+use Rattle.fdr_twin.specs.Sound.{IsSoundPair}
 
 -- calls that work on both disks, whatever their moments are
 pub any_work : (tells : Tells) (P : PairMoment → Type 0) (old new : Pair) → PairWork tells P old new → PairWork tells (λ m. ⊤) old new
 any_work tells P old new work = work_weaken tells P (λ m. ⊤) old new work (λ stops m is. tt)
 
-pub any_then : (tells : Tells) (old mid new : Pair) → PairWork tells (λ m. ⊤) old mid → PairWork tells (λ m. ⊤) mid new → PairWork tells (λ m. ⊤) old new
-any_then tells old mid new one two =
-    work_then tells (λ m. ⊤) (λ m. ⊤) (λ m. ⊤) old mid new one two (λ stops m is. tt) (λ stops m is. tt)
+pub any_then : (tells : Tells) (old mid new : Pair) → IsSoundPair tells mid → PairWork tells (λ m. ⊤) old mid → PairWork tells (λ m. ⊤) mid new → PairWork tells (λ m. ⊤) old new
+any_then tells old mid new sound one two =
+    work_then tells (λ m. ⊤) (λ m. ⊤) (λ m. ⊤) old mid new sound one two (λ stops m is. tt) (λ stops m is. tt)
 
 -- a side that is only looked at, and then as it was
 pub looks_on : (tells : Tells) (side : Side) (p q r : Pair) → LooksAtSide tells side p q → IsSameContent (disk_on side q) (disk_on side r)
@@ -76,7 +77,7 @@ pub record IsPastHeaders (words : ℕ) (tells : Tells) (old new : Pair) : Type 0
 pub past_headers : (tells : Tells) (words : ℕ) (o : Opened) (p0 p1 q : Pair) → HasOpened tells words o p0 p1 → KeepsCounts p1 q
     → PairWork tells (λ m. ⊤) p1 q → IsPastHeaders words tells p0 q
 past_headers tells words o p0 p1 q opened keeps work = record {
-  work = any_then tells p0 p1 q (any_work tells (IsLookedAt p0) p0 p1 opened.work) work;
+  work = any_then tells p0 p1 q opened.sound (any_work tells (IsLookedAt p0) p0 p1 opened.work) work;
   opened = still_opened tells words o p0 p1 q opened keeps;
 }
 
@@ -145,6 +146,7 @@ module _ (t : TableRows) (tells : Tells) (p q : Pair) where
       record {
         past = inl (past_of why cause);
         time = work.time;
+        counts = work.counts;
         line = line_of why cause;
         unpulled = work.line;
         keeps = keeps;
@@ -180,6 +182,7 @@ module _ (t : TableRows) (tells : Tells) (p q : Pair) where
       record {
         past = inr refl;
         time = work.time;
+        counts = work.counts;
         line = inl tt;
         unpulled = work.line;
         keeps = keeps;
@@ -205,6 +208,7 @@ module _ (t : TableRows) (tells : Tells) (p q : Pair) where
   refused_fault past rose keeps = record {
     past = inl tt;
     time = past.work.time;
+    counts = past.work.counts;
     line = inr refl;
     unpulled = past.work.line;
     keeps = keeps;
@@ -227,6 +231,7 @@ module _ (t : TableRows) (tells : Tells) (p q : Pair) where
   refused_blocks seq past none different looks keeps = record {
     past = inl tt;
     time = past.work.time;
+    counts = past.work.counts;
     line = inl tt;
     unpulled = past.work.line;
     keeps = keeps;
@@ -256,6 +261,7 @@ module _ (t : TableRows) (tells : Tells) (p q : Pair) where
   refused_lead s past failed keeps = record {
     past = inl tt;
     time = past.work.time;
+    counts = past.work.counts;
     line = inl tt;
     unpulled = past.work.line;
     keeps = keeps;
@@ -284,6 +290,7 @@ module _ (t : TableRows) (tells : Tells) (p q : Pair) where
   refused_far s past none far looks keeps = record {
     past = inl tt;
     time = past.work.time;
+    counts = past.work.counts;
     line = inl tt;
     unpulled = past.work.line;
     keeps = keeps;
@@ -432,7 +439,7 @@ module _ (t : TableRows) (tells : Tells) (o : Opened) (p0 p1 p2 p3 : Pair) (open
   refused_join found why has is work = unjoined found why has is
       (λ counts. past_headers tells t.frame.words o p0 p1 p3 opened
       (counts_then p1 p2 p3 (counts_found tells o.header o.living found p1 p2 has.runs) counts)
-      (any_then tells p1 p2 p3 (any_work tells (IsLookedAt p1) p1 p2 has.looks.work) (any_work tells (JoinMoment o.header found p2) p2 p3 work)))
+      (any_then tells p1 p2 p3 has.sound (any_work tells (IsLookedAt p1) p1 p2 has.looks.work) (any_work tells (JoinMoment o.header found p2) p2 p3 work)))
 
 -- the recording doesn't go on
 module _ (t : TableRows) (tells : Tells) (o : Opened) (found : SideRuns) (j : Joined) (p0 p1 p2 p3 p5 : Pair)
@@ -447,16 +454,16 @@ module _ (t : TableRows) (tells : Tells) (o : Opened) (found : SideRuns) (j : Jo
   counts_through = counts_then p1 p2 p3 (counts_found tells o.header o.living found p1 p2 has.runs) (counts_sides tells o.header found j p2 p3 joins.joined)
 
   work_through : PairWork tells (λ m. ⊤) p1 p3
-  work_through = any_then tells p1 p2 p3 (any_work tells (IsLookedAt p1) p1 p2 has.looks.work)
+  work_through = any_then tells p1 p2 p3 has.sound (any_work tells (IsLookedAt p1) p1 p2 has.looks.work)
       (any_work tells (JoinMoment o.header found p2) p2 p3 joins.work)
 
   -- the whole work so far
   pub work_joined : PairWork tells (λ m. ⊤) p0 p3
-  work_joined = any_then tells p0 p1 p3 (any_work tells (IsLookedAt p0) p0 p1 opened.work) work_through
+  work_joined = any_then tells p0 p1 p3 opened.sound (any_work tells (IsLookedAt p0) p0 p1 opened.work) work_through
 
   past_going : (P : PairMoment → Type 0) → KeepsCounts p3 p5 → PairWork tells P p3 p5 → IsPastHeaders t.frame.words tells p0 p5
   past_going P counts work = past_headers tells t.frame.words o p0 p1 p5 opened (counts_then p1 p3 p5 counts_through counts)
-      (any_then tells p1 p3 p5 work_through (any_work tells P p3 p5 work))
+      (any_then tells p1 p3 p5 joins.sound work_through (any_work tells P p3 p5 work))
 
   rose_going : (side : Side) → AttachedNow tells o.header side (start_on side j.lead j.follower) None p3 p5
       → Rose (disk_on side p0).faults (disk_on side p5).faults

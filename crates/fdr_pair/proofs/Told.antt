@@ -15,6 +15,7 @@ use Rattle.fdr_twin.proofs.Turns.{Turns-disk, Turns-time, Turns-leaves}
 use Rattle.fdr_pair.proofs.Servings.{line_here}
 use Rattle.fdr_pair.proofs.Sides.{facing_side}
 use Rattle.fdr_pair.specs.Announcing.{PairAnnounces, PairStays}
+use Rattle.fdr_pair.proofs.SideCounts.{counted_here, counted_turned}
 
 -- What holds of each moment of calls of the side that the twin is turned to holds of each moment of the pair, as that side shows it.
 pub shows : (tells : Tells) (P : Moment → Type 0) (side : Side) (s t : State) (old new : Pair) → IsSameState s (seen side old) → IsSameState t (seen side new)
@@ -31,6 +32,7 @@ pub announced : (tells : Tells) (side : Side) (count : ℕ) (s t : State) (old m
     → PairAnnounces tells side count old new
 announced tells side count s t old mid new sound sound_mid turns same_mid same_new rest tell leaves kept faults moments = record {
   time = PairElapses-then old mid new (Turns-time side old mid tells sound turns) rest.time;
+  counts = counted_turned tells side old mid new sound sound_mid turns rest;
   away = LeavesSide-then (other_side side) old mid new sound_mid.falls (Turns-time side old mid tells sound turns) rest.time
       (Turns-leaves (other_side side) side old mid turns) (subst (λ (x : Side). LeavesSide (other_side x) mid new) turns.turned rest.other);
   own = own;
@@ -74,6 +76,7 @@ announced tells side count s t old mid new sound sound_mid turns same_mid same_n
 pub stays : (tells : Tells) (p : Pair) → IsSoundPair tells p → PairStays p p
 stays tells p sound = record {
   time = PairElapses-here p sound.falls;
+  counts = counted_here p;
   first = LeavesSide-here _ p;
   second = LeavesSide-here _ p;
   line = line_here p;

@@ -48,7 +48,7 @@ use Rattle.fdr_pair.specs.declared.session.PairSession.{PairSession}
 use Rattle.fdr_pair.proofs.BothSides.{BothFailed-then, PairRecordsAll-then}
 use Rattle.fdr_pair.proofs.Idling.{IsIdleUntilPull}
 use Rattle.fdr_pair.proofs.Onward.{moment_more}
-use Rattle.fdr_pair.proofs.Tracing.{first_after, in_time_after, pulls_after, second_after, time_after, idle_after}
+use Rattle.fdr_pair.proofs.Tracing.{first_after, in_time_after, pulls_after, second_after, time_after, counts_after, idle_after}
 
 -- ---- how the trace ended
 
@@ -257,6 +257,7 @@ module _ (tells : Tells) (past : RecordingPast) (rings : PairRings) (s : PairSes
         pulled = bytes;
         pulls = pulls_after tells before rings s bytes start p sound begins has q blocks wrote;
         time = time_after tells before rings s bytes start p sound begins has q blocks wrote;
+        counts = counts_after tells before rings s bytes start p sound begins has q blocks wrote;
         first = λ stops m since few. subst (λ (l : List Block). SideMoment First rings.first l start m) (sym parts)
             (moment_more First rings.first so_far later start m
             (first_after tells before rings s bytes start p sound begins has q blocks wrote stops m since few));
@@ -308,6 +309,7 @@ module _ (tells : Tells) (past : RecordingPast) (rings : PairRings) (s : PairSes
         pulled = whole.pulled;
         pulls = pulls_after tells before rings s whole.pulled start p sound begins whole.has q (rest_of before) wrote;
         time = time_after tells before rings s whole.pulled start p sound begins whole.has q (rest_of before) wrote;
+        counts = counts_after tells before rings s whole.pulled start p sound begins whole.has q (rest_of before) wrote;
         first = λ stops m since few. subst (λ (l : List Block). SideMoment First rings.first l start m) (sym parts)
             (first_after tells before rings s whole.pulled start p sound begins whole.has q (rest_of before) wrote stops m since few);
         second = λ stops m since few. subst (λ (l : List Block). SideMoment Second rings.second l start m) (sym parts)

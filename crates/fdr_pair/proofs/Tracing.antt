@@ -40,6 +40,8 @@ use Rattle.fdr_pair.proofs.Idling.{IsIdleUntilPull, idle_now, idle_on, still_her
 use Rattle.fdr_pair.proofs.Pulling.{IsLeft, left, moments_left, now_left, pull_announced, pull_greatest, pull_idle, pull_in_time}
 use Rattle.fdr_pair.proofs.Pulling.{pull_least, pull_told, pulls_seen}
 use Rattle.fdr_pair.proofs.Servings.{now_quiet}
+use Rattle.fdr_pair.proofs.SideCounts.{counted_here, counted_rest, counted_then}
+use Rattle.fdr_pair.specs.SideCounts.{CountsBoth}
 
 -- nothing was pulled yet
 few_first : (past : RecordingPast) (start : Pair) (n : ℕ) → n ≡ start.taken → TellsOnlySince past.first start n → start.greatest ≤ past.first
@@ -58,6 +60,7 @@ fed_none tells s past p sound is stands =
     record {
       pulls = PullsUntilDecided-none tells (seen First p) [];
       time = PairElapses-here p sound.falls;
+      counts = counted_here p;
       recorded = subst (λ (l : List Block). PairRecordsAll tells s.rings s.rings l p p) (sym empty) (PairRecordsAll-here tells s.rings p is.settled);
       greatest = λ few. let most = few_first past p p.taken (omega arith) few in omega (arith, most);
       first = λ stops m since few. moment_here tells First s.rings.first s.rings.header s.rings.next (recorded_of (past_fed past [])) p sound
@@ -153,6 +156,7 @@ module _ (tells : Tells) (past : RecordingPast) (rings : PairRings) (s : PairSes
     fed_pull = record {
       pulls = pulled;
       time = PairElapses-then start p q has.time rest.time;
+      counts = counted_then tells start p q sound has.time rest.time has.counts (counted_rest p q rest);
       recorded = record {
         first = side_now First rings.first s.rings.first has.recorded.first
             (now_left tells First s.rings.first p q (is_left First) settled_fed.first);
@@ -218,6 +222,9 @@ module _ (tells : Tells) (past : RecordingPast) (rings : PairRings) (s : PairSes
     pub time_after : PairElapses start q
     time_after = PairElapses-then start p q has.time records.numbers.time
 
+    pub counts_after : CountsBoth start q
+    counts_after = counted_then tells start p q sound has.time records.numbers.time has.counts records.numbers.counts
+
     pub pulls_after : PullsUntilDecided tells (seen First start) (seen First q) [] bytes
     pulls_after =
         let line = records.numbers.line in
@@ -247,6 +254,7 @@ module _ (tells : Tells) (past : RecordingPast) (rings : PairRings) (s : PairSes
     fed_record = record {
       pulls = pulls_after q (blocks_due_at past r) records;
       time = time_after q (blocks_due_at past r) records;
+      counts = counts_after q (blocks_due_at past r) records;
       recorded = subst (λ (l : List Block). PairRecordsAll tells rings s'.rings l start q) joined
           (PairRecordsAll-then tells rings s.rings (recorded_of past) start p q has.recorded s'.rings (blocks_due_at past r) recorded);
       greatest = λ few.

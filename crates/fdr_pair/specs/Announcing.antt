@@ -9,6 +9,7 @@ use Rattle.fdr_twin.specs.Same.{IsSameDisk}
 use Rattle.fdr_twin.specs.Rest.{PairElapses, LeavesSide}
 use Rattle.fdr_twin.specs.Serving.{EachPairMoment}
 use Rattle.fdr_pair.specs.Numbers.{KeepsLine, HasPulled}
+use Rattle.fdr_pair.specs.SideCounts.{CountsBoth}
 
 -- A moment of an announcement of this count: its number is no less and no greater than one could be before or than the count, the
 -- side's image is one that a stop could leave, and nothing was pulled.
@@ -21,6 +22,7 @@ pub record IsAnnouncedMoment (side : Side) (count : ℕ) (old : Pair) (m : PairM
 -- A twin that is turned to this side announced this count, and both sides are left.
 pub record PairAnnounces (tells : Tells) (side : Side) (count : ℕ) (old new : Pair) : Type 0 where
   pub time : PairElapses old new
+  pub counts : CountsBoth old new
   pub away : LeavesSide (other_side side) old new
   pub own : IsSameDisk (disk_on side old) (disk_on side new)
   pub line : KeepsLine old new
@@ -32,6 +34,7 @@ pub record PairAnnounces (tells : Tells) (side : Side) (count : ℕ) (old new : 
 -- Nothing was announced, and both sides are left.
 pub record PairStays (old new : Pair) : Type 0 where
   pub time : PairElapses old new
+  pub counts : CountsBoth old new
   pub first : LeavesSide First old new
   pub second : LeavesSide Second old new
   pub line : KeepsLine old new

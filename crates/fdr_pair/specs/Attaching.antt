@@ -24,6 +24,7 @@ use Rattle.fdr_pair.specs.declared.join.Joined.{Joined}
 use Rattle.fdr_pair.specs.declared.outcome.PairOutcome.{PairOutcome}
 use Rattle.fdr_pair.specs.declared.outcome.PairOutcome.TheVariants as outcome
 use Rattle.fdr_pair.specs.declared.rings.PairRings.{PairRings}
+use Rattle.fdr_pair.specs.SideCounts.{CountsBoth}
 
 -- what a side is attached from, where this side leads and the other is this: the lead as a side whose ring isn't attached yet
 abbrev pub start_on : Side → Side → Follower → Follower
@@ -113,6 +114,7 @@ pub record HasGoneOnFrom (tells : Tells) (h : Header) (joined : Joined) (rings :
   pub first : AttachedNow tells h First (start_on First joined.lead joined.follower) rings.first old new
   pub second : AttachedNow tells h Second (start_on Second joined.lead joined.follower) rings.second old new
   pub time : PairElapses old new
+  pub counts : CountsBoth old new
   pub line : KeepsLine old new
   pub announced : new.announced ≡ rings.next
   pub least : min old.least rings.next ≤ new.least

@@ -1,4 +1,5 @@
 pub mod Putting
+pub mod SideCounts
 pub mod Numbers
 pub mod SidePuts
 pub mod Announcing

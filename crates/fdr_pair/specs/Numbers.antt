@@ -4,6 +4,7 @@ use Rattle.fdr_deck.specs.State.{Tells}
 use Rattle.fdr_twin.specs.Pair.{Pair, PairMoment}
 use Rattle.fdr_twin.specs.Rest.{PairElapses}
 use Rattle.fdr_twin.specs.Serving.{EachPairMoment}
+use Rattle.fdr_pair.specs.SideCounts.{CountsBoth}
 
 -- Nothing was pulled: the rest of the input, the numbers of bytes pulled and the input's count of faults are as they were.
 pub record KeepsLine (old new : Pair) : Type 0 where
@@ -21,6 +22,7 @@ pub record HasPulled (p : Pair) (m : PairMoment) : Type 0 where
 -- before, they announce none below those from before, and none above the number after the blocks.
 pub record CountsOn (tells : Tells) (next count : ℕ) (old new : Pair) : Type 0 where
   pub time : PairElapses old new
+  pub counts : CountsBoth old new
   pub line : KeepsLine old new
   pub pulled : EachPairMoment tells old new (HasPulled old)
   pub told : old.greatest ≤ next → EachPairMoment tells old new (λ m. old.least ≤ m.announced)

@@ -1,7 +1,7 @@
 -- What `fdrpair record` means: an equation, of what it answers and makes of the images on both disks, by what it is given. A side
 -- that fails before anything is pulled is among what is given. What a disk that fails later, want of memory and a stop make of it
 -- is in PairDoing.antt, where the statement is that `run_pair` promises.
-use Rattle.std.specs.Prelude.{◌+◌, ◌-◌, ◌&&◌, ℕ, not, nat_eq, nat_le, nat_lt, bytes_eq, if◌then◌else◌, Bool, true, List, [], ◌∷◌, ◌++◌, length, take, Option}
+use Rattle.std.specs.Prelude.{◌+◌, ◌-◌, ◌&&◌, ℕ, not, nat_eq, nat_lt, bytes_eq, if◌then◌else◌, Bool, true, List, [], ◌∷◌, ◌++◌, length, take, Option}
 use Rattle.std.specs.Prelude.{Some, None}
 use Rattle.std.specs.Option.{option_map}
 use Rattle.std.specs.List.{find, list_any}

@@ -35,6 +35,7 @@ use Rattle.fdr_pair.specs.PairMoments.{MayRecordPair, KeepsOwnRun, KeepsRunUntil
 use Rattle.fdr_pair.specs.PairEnds.{GoesOnWithLead, GoesOnWithoutLead}
 use Rattle.fdr_pair.specs.declared.outcome.PairOutcome.{PairOutcome}
 use Rattle.fdr_pair.specs.declared.outcome.PairOutcome.TheVariants as outcome
+use Rattle.fdr_pair.specs.SideCounts.{CountsBoth}
 
 -- what a recording on two disks saw: of the table's source the bytes that were left, where it tells them, and the count of
 -- faults, before and after; what the twin tells, and what it meant before and after; and the answer
@@ -196,6 +197,8 @@ pub record RunsPair (r : PairRun) : Type 0 where
   pub bounded : TakesAtMost (most_table_bytes + piece_bytes) r.rest_before r.rest_now
   pub table_cause : r.answer ≡ outcome.ReadFault input.Table → Rose r.table_before r.table_now
   pub no_table_fault : r.answer ≢ outcome.ReadFault input.Table → r.table_now ≡ r.table_before
+  -- No count of faults of a disk falls, and at no moment is it above the one in the end.
+  pub counts : CountsBoth r.old r.new
   -- Before the disks are asked for anything both hold what they held, and neither failed.
   pub before : EndsBeforeDisks r.answer → OnlyLooksAtPair r.tells r.old r.new r.answer × HasNoFault r.old r.new
   pub records : IsPastPairTable r.answer → ByPairTable r.rest_before (λ (t : TableRows). RecordsPair t r)

@@ -37,6 +37,7 @@ use Rattle.fdr_pair.specs.declared.outcome.PairOutcome.{PairOutcome}
 use Rattle.fdr_pair.specs.declared.outcome.PairOutcome.TheVariants as outcome
 use Rattle.fdr_pair.specs.declared.rings.PairRings.{PairRings}
 use Rattle.fdr_pair.specs.declared.start.PairStart.{PairStart}
+use Rattle.fdr_pair.specs.SideCounts.{CountsBoth}
 
 -- the ring of a side, or None where it has failed
 abbrev pub ring_on : Side → PairRings → Option Ring
@@ -100,6 +101,7 @@ pub record HaveRightHeader (words : ℕ) (h : Header) (old new : Pair) : Type 0 
 pub record IsStartRefused (t : TableRows) (tells : Tells) (old new : Pair) (why : PairOutcome) : Type 0 where
   pub past : IsPastPairTable why ⊎ (why ≡ outcome.NoMemory)
   pub time : PairElapses old new
+  pub counts : CountsBoth old new
   pub line : LeavesPairLine why ⊎ (why ≡ outcome.DiskFault)
   pub unpulled : LeavesLine old new
   pub keeps : KeepsAtStart t.frame.words tells old new
@@ -120,6 +122,7 @@ pub record IsPairStarted (t : TableRows) (tells : Tells) (s : PairStart) (old ne
   pub trace : RepresentsTrace s.trace [] []
   pub begun : IsPairBegun tells s.session (past_at_start t s.session.rings.header s.session.rings.next s.session.session) new
   pub time : PairElapses old new
+  pub counted : CountsBoth old new
   pub line : KeepsLine old new
   pub greatest : new.greatest ≤ max old.greatest s.session.rings.next
   pub counts : (side : Side) → IsCountedByRing (ring_on side s.session.rings) (disk_on side old).faults (disk_on side new).faults

@@ -4,6 +4,7 @@ use Rattle.fdr_deck.specs.State.{Tells}
 use Rattle.fdr_twin.specs.Pair.{Pair, PairMoment, Disk}
 use Rattle.fdr_twin.specs.Rest.{PairElapses}
 use Rattle.fdr_twin.specs.Serving.{EachPairMoment}
+use Rattle.fdr_pair.specs.SideCounts.{CountsBoth}
 
 -- A disk is as it was, except for its count of faults.
 pub record IsSameContent (old new : Disk) : Type 0 where
@@ -34,6 +35,7 @@ pub record IsLineMoment (old : Pair) (m : PairMoment) : Type 0 where
 -- Calls worked on the disks of both sides, and announced and pulled nothing: each of their moments has the property P.
 pub record PairWork (tells : Tells) (P : PairMoment → Type 0) (old new : Pair) : Type 0 where
   pub time : PairElapses old new
+  pub counts : CountsBoth old new
   pub line : LeavesLine old new
   pub line_moments : EachPairMoment tells old new (IsLineMoment old)
   pub moments : EachPairMoment tells old new P

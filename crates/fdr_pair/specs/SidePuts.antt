@@ -13,6 +13,7 @@ use Rattle.fdr_twin.specs.Rest.{PairElapses, LeavesSide}
 use Rattle.fdr_twin.specs.Serving.{EachPairMoment}
 use Rattle.fdr_pair.specs.Putting.{AddsExactly, HasPut, MayPut}
 use Rattle.fdr_pair.specs.Numbers.{KeepsLine, HasPulled}
+use Rattle.fdr_pair.specs.SideCounts.{CountsBoth}
 
 -- the next block of a ring, of the session with this number and with these bytes
 abbrev pub next_block : Ring → ℕ → List ℕ → Block
@@ -76,6 +77,7 @@ pub record IsQuiet (old : Pair) (m : PairMoment) : Type 0 where
 -- A block was put on a side unless that has failed; the other side is left, and nothing was announced or pulled.
 pub record PutsUnlessFailed (tells : Tells) (side : Side) (ring result : Option Ring) (session : ℕ) (bytes : List ℕ) (old new : Pair) : Type 0 where
   pub time : PairElapses old new
+  pub counts : CountsBoth old new
   pub away : LeavesSide (other_side side) old new
   pub line : KeepsLine old new
   pub told : new.announced ≡ old.announced

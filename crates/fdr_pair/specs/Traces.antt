@@ -30,6 +30,7 @@ use Rattle.fdr_pair.specs.declared.fault.PairFault.{PairFault}
 use Rattle.fdr_pair.specs.declared.fault.PairFault.TheVariants as fault
 use Rattle.fdr_pair.specs.declared.rings.PairRings.{PairRings}
 use Rattle.fdr_pair.specs.declared.session.PairSession.{PairSession}
+use Rattle.fdr_pair.specs.SideCounts.{CountsBoth}
 
 -- The session was just started, its rings are on settled disks, and their next number is announced.
 pub record IsPairBegun (tells : Tells) (s : PairSession) (past : RecordingPast) (p : Pair) : Type 0 where
@@ -66,6 +67,7 @@ pub record HasFedPair (tells : Tells) (past : RecordingPast) (rings : PairRings)
     : Type 0 where
   pub pulls : PullsUntilDecided tells (seen First old) (seen First now) [] bytes
   pub time : PairElapses old now
+  pub counts : CountsBoth old now
   pub idle : EachPairMoment tells old now (λ m. IsIdleMoment old m ⊎ (old.taken < m.taken))
   pub still : length bytes ≡ 0 → (side : Side) → IsSameDisk (disk_on side old) (disk_on side now)
   pub recorded : PairRecordsAll tells rings s.rings (recorded_of past) old now
@@ -105,6 +107,7 @@ pub record PairRecordsTrace (tells : Tells) (past : RecordingPast) (rings : Pair
   pub pulled : List ℕ
   pub pulls : PullsUntilDecided tells (seen First old) (seen First now) [] pulled
   pub time : PairElapses old now
+  pub counts : CountsBoth old now
   pub idle : EachPairMoment tells old now (λ m. IsIdleMoment old m ⊎ (old.taken < m.taken))
   pub first : EachPairMoment tells old now
       (λ m. TellsOnlySince past.first old m.taken → SideMoment First rings.first (trace_blocks past pulled) old m)

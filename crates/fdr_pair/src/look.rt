@@ -13,6 +13,7 @@ ghost use Rattle.fdr_twin.specs.Pair.{seen, disk_on};
 ghost use Rattle.fdr_twin.specs.Serving.{Serves};
 ghost use Rattle.fdr_pair.specs.PairWork.{IsSameContent};
 ghost use Rattle.fdr_pair.specs.Differ.{HasFound};
+ghost use Rattle.fdr_pair.specs.SideCounts.{CountsBoth};
 
 use fdr_io::Failed;
 use fdr_recover::{Found, RingFault, scan};
@@ -35,6 +36,7 @@ pub fn scan_on<T: Twin>(twin: &mut T, side: Side, h: &Header) -> Result<Found, F
     ensures no_fault { OnOk result ((disk_on side (T.pair twin.new)).faults ≡ (disk_on side (T.pair twin.old)).faults) }
     ensures held { (disk_on side (T.pair twin.new)).held ≡ (disk_on side (T.pair twin.old)).held }
     ensures serves { Serves T.tells side (disk_on side (T.pair twin.old)).may_leave (T.pair twin.old) (T.pair twin.new) }
+    ensures counts { CountsBoth (T.pair twin.old) (T.pair twin.new) }
     ensures cause { OnErr result (Rose (disk_on side (T.pair twin.old)).faults (disk_on side (T.pair twin.new)).faults) }
 {
     twin.turn(side);
@@ -52,6 +54,7 @@ pub fn attach_on<T: Twin>(twin: &mut T, side: Side, h: Header) -> Result<Ring, R
     ensures old_version { h.version ≡ 1 → IfOk result (λ r. r.session ≡ 0) }
     ensures fact { IfOk result (λ r. IsSureRing T.tells r.header r.next (seen side (T.pair twin.new))) }
     ensures serves { Serves T.tells side (OfSettled (seen side (T.pair twin.old)) (IsAttaching h)) (T.pair twin.old) (T.pair twin.new) }
+    ensures counts { CountsBoth (T.pair twin.old) (T.pair twin.new) }
     ensures extent { (disk_on side (T.pair twin.new)).extent ≡ (disk_on side (T.pair twin.old)).extent }
     ensures keeps { IsTrue T.tells.bytes
         → IsAttaching h (disk_on side (T.pair twin.old)).held (disk_on side (T.pair twin.new)).held }

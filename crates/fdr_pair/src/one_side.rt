@@ -9,6 +9,7 @@ ghost use Rattle.fdr_twin.specs.Pair.{seen, disk_on};
 ghost use Rattle.fdr_twin.specs.Serving.{Serves};
 ghost use Rattle.fdr_pair.specs.Putting.{AddsExactly, HasPut, MayPut};
 ghost use Rattle.fdr_pair.specs.SidePuts.{IsPutReady, PutsUnlessFailed};
+ghost use Rattle.fdr_pair.specs.SideCounts.{CountsBoth};
 
 use crate::put::put_block;
 use fdr_recover::RingFault;
@@ -42,6 +43,7 @@ pub fn put_on<T: Twin>(
     ensures serves { Serves T.tells side
         (OfSettled (seen side (T.pair twin.old)) (MayPut ring.header (record { number = ring.next; session = session; payload = bytes.now })))
         (T.pair twin.old) (T.pair twin.new) }
+    ensures counts { CountsBoth (T.pair twin.old) (T.pair twin.new) }
     ensures no_fault { OnOk result ((disk_on side (T.pair twin.new)).faults ≡ (disk_on side (T.pair twin.old)).faults) }
     ensures cause { result ≡ Err RingFault.DiskFault
         → Rose (disk_on side (T.pair twin.old)).faults (disk_on side (T.pair twin.new)).faults }

@@ -7,6 +7,7 @@ ghost use Rattle.fdr_twin.specs.declared.side.Side.TheVariants as side;
 ghost use Rattle.fdr_pair.specs.PairWork.{PairWork, IsLookedAt};
 ghost use Rattle.fdr_pair.specs.Opening.{side_header, header_after, common_header, frame_refusal, opening, LooksAtSide, ReadsHeader};
 ghost use Rattle.fdr_pair.specs.Opening.{AreCountsBelowMost, AreLiving, OnLiving, IsHeaderOn, IsOpeningRefusal};
+ghost use Rattle.fdr_pair.specs.SideCounts.{CountsBoth};
 
 use crate::outcome::PairOutcome;
 use fdr_recover::{RingFault, read_image_header};
@@ -60,6 +61,7 @@ fn side_header(read: Result<Header, RingFault>) -> SideHeader
 pub fn header_on<T: Twin>(twin: &mut T, side: Side) -> SideHeader
     ensures reads { ReadsHeader T.tells side result (T.pair twin.old) (T.pair twin.new) }
     ensures serves { Serves T.tells side (disk_on side (T.pair twin.old)).may_leave (T.pair twin.old) (T.pair twin.new) }
+    ensures counts { CountsBoth (T.pair twin.old) (T.pair twin.new) }
 {
     twin.turn(side);
     let read = read_image_header(twin);

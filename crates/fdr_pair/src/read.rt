@@ -8,6 +8,7 @@ ghost use Rattle.fdr_recover.specs.Images.{block_numbered, payload_at, session_a
 ghost use Rattle.fdr_twin.specs.Pair.{disk_on};
 ghost use Rattle.fdr_twin.specs.Serving.{Serves};
 ghost use Rattle.fdr_pair.specs.PairWork.{IsSameContent};
+ghost use Rattle.fdr_pair.specs.SideCounts.{CountsBoth};
 
 use fdr_io::Failed;
 use fdr_recover::{BlockInfo, block};
@@ -37,6 +38,7 @@ pub fn block_on<T: Twin>(
     ensures old_version { h.now.version ≡ 1 → IfOk result (λ info. info.session ≡ 0) }
     ensures content { IsSameContent (disk_on side (T.pair twin.old)) (disk_on side (T.pair twin.new)) }
     ensures serves { Serves T.tells side (disk_on side (T.pair twin.old)).may_leave (T.pair twin.old) (T.pair twin.new) }
+    ensures counts { CountsBoth (T.pair twin.old) (T.pair twin.new) }
     ensures no_fault { OnOk result ((disk_on side (T.pair twin.new)).faults ≡ (disk_on side (T.pair twin.old)).faults) }
     ensures cause { OnErr result (Rose (disk_on side (T.pair twin.old)).faults (disk_on side (T.pair twin.new)).faults) }
 {

@@ -5,6 +5,7 @@ ghost use Rattle.fdr_pair.specs.PairWords.{fits_pair_form};
 ghost use Rattle.fdr_pair.specs.PairAnswers.{table_refusal_of, recording_answer_of};
 ghost use Rattle.fdr_pair.specs.PairStages.{EndsBeforeDisks, IsPastPairTable};
 ghost use Rattle.fdr_pair.specs.PairDoing.{DoesPairAsMeant, IsPairTold};
+ghost use Rattle.fdr_pair.specs.SideCounts.{CountsBoth};
 ghost use Rattle.fdr_pair.specs.PairRun.{OnlyLooksAtPair, PairRun, RecordsPair, RunsPair};
 
 use crate::fault::PairFault;
@@ -59,6 +60,7 @@ fn record_pair<T: Twin>(alloc: Global, sound: &Sound, twin: &mut T) -> PairOutco
       answer = result;
     }) }
     ensures past { IsPastPairTable result ⊎ (result ≡ PairOutcome.NoMemory) }
+    ensures counts { CountsBoth (T.pair twin.old) (T.pair twin.new) }
     ensures memory { result ≡ PairOutcome.NoMemory → OnlyLooksAtPair T.tells (T.pair twin.old) (T.pair twin.new) result }
 {
     match start_pair(alloc, sound, twin) {

@@ -35,4 +35,5 @@ returns-in-Ok-clause-work g c =
     let p = g.T.Twin.pair c.args.twin.now in
     let q = g.T.Twin.pair c.attach_on.new.twin in
     subst (λ (f : Follower). PairWork g.T.Deck.tells (AttachMoment c.args.h c.args.side f p) p q) (sym c.in-Level.is)
-    (attach_work g.T.Deck.tells c.args.h c.args.side p q (g.met.T.Twin.sound_pair c.args.twin.now) c.attach_on.ensures.serves)
+    (attach_work g.T.Deck.tells c.args.h c.args.side p q (g.met.T.Twin.sound_pair c.args.twin.now) c.attach_on.ensures.serves
+    c.attach_on.ensures.counts)

@@ -24,10 +24,12 @@ returns-in_default-clause-lead_failed g c fails = record { rose = c.in_default.e
 pub returns-in_default-clause-work : goal.returns-in_default-clause-work
 returns-in_default-clause-work g c =
     brings_looked _ _ _ _ _ _ (g.met.T.Twin.sound_pair c.args.twin.now) c.requires.ring.settled c.block_on.ensures.serves
+    c.block_on.ensures.counts
 
 pub returns-then-info-eq0-clause-work : goal.returns-then-info-eq0-clause-work
 returns-then-info-eq0-clause-work g c =
     brings_looked _ _ _ _ _ _ (g.met.T.Twin.sound_pair c.args.twin.now) c.requires.ring.settled c.block_on.ensures.serves
+    c.block_on.ensures.counts
 
 -- the block that was read is the one that is put
 is_read : (g : Over) (c : After-put_on g) → IsTrue g.T.Deck.tells.bytes
@@ -46,7 +48,7 @@ pub returns-in_default-put_on-clause-work : goal.returns-in_default-put_on-claus
 returns-in_default-put_on-clause-work g c =
     put_work _ _ _ _ _ _ _ _ _ _ (g.met.T.Twin.sound_pair c.args.twin.now) (g.met.T.Twin.sound_pair c.block_on.new.twin) c.other_side-follower.ensures
     c.requires.ring c.block_on.ensures.serves c.block_on.ensures.content
-    (is_read g (goal.at.returns-in_default-put_on-clause-work g c).After-put_on) c.put_on.ensures.serves
+    (is_read g (goal.at.returns-in_default-put_on-clause-work g c).After-put_on) c.put_on.ensures.serves c.block_on.ensures.counts c.put_on.ensures.counts
 
 pub returns-clause-lead : goal.returns-clause-lead
 returns-clause-lead g c =
@@ -56,7 +58,7 @@ pub returns-clause-work : goal.returns-clause-work
 returns-clause-work g c =
     put_work _ _ _ _ _ _ _ _ _ _ (g.met.T.Twin.sound_pair c.args.twin.now) (g.met.T.Twin.sound_pair c.block_on.new.twin) c.other_side-follower.ensures
     c.requires.ring c.block_on.ensures.serves c.block_on.ensures.content
-    (is_read g (goal.at.returns-clause-work g c).After-put_on) c.put_on.ensures.serves
+    (is_read g (goal.at.returns-clause-work g c).After-put_on) c.put_on.ensures.serves c.block_on.ensures.counts c.put_on.ensures.counts
 
 pub returns-clause-brought : goal.returns-clause-brought
 returns-clause-brought g c =

@@ -23,7 +23,7 @@ returns-in_err-is_alike-clause-second g c = content_then _ _ _ c.loop-seq.invari
 pub returns-in_err-is_alike-clause-work : goal.returns-in_err-is_alike-clause-work
 returns-in_err-is_alike-clause-work g c =
     let inv = c.loop-seq.invariant in
-    looked_then _ _ _ _ inv.first inv.second inv.work c.is_alike.ensures.work
+    looked_then _ _ _ _ (g.met.T.Twin.sound_pair c.loop-seq.twin) inv.first inv.second inv.work c.is_alike.ensures.work
 
 pub returns-then-not-branch-clause-first : goal.returns-then-not-branch-clause-first
 returns-then-not-branch-clause-first g c = content_then _ _ _ c.loop-seq.invariant.first c.is_alike.ensures.first
@@ -34,7 +34,7 @@ returns-then-not-branch-clause-second g c = content_then _ _ _ c.loop-seq.invari
 pub returns-then-not-branch-clause-work : goal.returns-then-not-branch-clause-work
 returns-then-not-branch-clause-work g c =
     let inv = c.loop-seq.invariant in
-    looked_then _ _ _ _ inv.first inv.second inv.work c.is_alike.ensures.work
+    looked_then _ _ _ _ (g.met.T.Twin.sound_pair c.loop-seq.twin) inv.first inv.second inv.work c.is_alike.ensures.work
 
 pub returns-then-not-branch-clause-no_fault : goal.returns-then-not-branch-clause-no_fault
 returns-then-not-branch-clause-no_fault g c = no_fault_then _ _ _ c.loop-seq.invariant.no_fault c.in_ok-is_alike.ensures.no_fault
@@ -47,7 +47,7 @@ loop-seq-preserved g c =
           (alike_held _ _ _ _ _ _ inv.first.held inv.second.held ((c.in_ok-is_alike.ensures.alike told).0 c.if-not-branch.false));
       first = content_then _ _ _ inv.first c.is_alike.ensures.first;
       second = content_then _ _ _ inv.second c.is_alike.ensures.second;
-      work = looked_then _ _ _ _ inv.first inv.second inv.work c.is_alike.ensures.work;
+      work = looked_then _ _ _ _ (g.met.T.Twin.sound_pair c.loop-seq.twin) inv.first inv.second inv.work c.is_alike.ensures.work;
       no_fault = no_fault_then _ _ _ inv.no_fault c.in_ok-is_alike.ensures.no_fault;
     }
 

@@ -28,21 +28,21 @@ returns-in_default-block_on-clause-cause g c = record {
 
 pub returns-in_default-block_on-clause-work : goal.returns-in_default-block_on-clause-work
 returns-in_default-block_on-clause-work g c =
-    looked_then _ _ _ _ c.block_on.ensures.content (content_of _ _ c.block_on.ensures.serves.other.disk)
-    (looked_first _ _ _ (g.met.T.Twin.sound_pair c.args.twin.now) c.block_on.ensures.serves)
-    (looked_second _ _ _ (g.met.T.Twin.sound_pair c.block_on.new.twin) c.block_on-2.ensures.serves)
+    looked_then _ _ _ _ (g.met.T.Twin.sound_pair c.block_on.new.twin) c.block_on.ensures.content (content_of _ _ c.block_on.ensures.serves.other.disk)
+    (looked_first _ _ _ (g.met.T.Twin.sound_pair c.args.twin.now) c.block_on.ensures.serves c.block_on.ensures.counts)
+    (looked_second _ _ _ (g.met.T.Twin.sound_pair c.block_on.new.twin) c.block_on-2.ensures.serves c.block_on-2.ensures.counts)
 
 pub returns-then-one-other-clause-work : goal.returns-then-one-other-clause-work
 returns-then-one-other-clause-work g c =
-    looked_then _ _ _ _ c.block_on.ensures.content (content_of _ _ c.block_on.ensures.serves.other.disk)
-    (looked_first _ _ _ (g.met.T.Twin.sound_pair c.args.twin.now) c.block_on.ensures.serves)
-    (looked_second _ _ _ (g.met.T.Twin.sound_pair c.block_on.new.twin) c.block_on-2.ensures.serves)
+    looked_then _ _ _ _ (g.met.T.Twin.sound_pair c.block_on.new.twin) c.block_on.ensures.content (content_of _ _ c.block_on.ensures.serves.other.disk)
+    (looked_first _ _ _ (g.met.T.Twin.sound_pair c.args.twin.now) c.block_on.ensures.serves c.block_on.ensures.counts)
+    (looked_second _ _ _ (g.met.T.Twin.sound_pair c.block_on.new.twin) c.block_on-2.ensures.serves c.block_on-2.ensures.counts)
 
 pub returns-else-one-other-clause-work : goal.returns-else-one-other-clause-work
 returns-else-one-other-clause-work g c =
-    looked_then _ _ _ _ c.block_on.ensures.content (content_of _ _ c.block_on.ensures.serves.other.disk)
-    (looked_first _ _ _ (g.met.T.Twin.sound_pair c.args.twin.now) c.block_on.ensures.serves)
-    (looked_second _ _ _ (g.met.T.Twin.sound_pair c.block_on.new.twin) c.block_on-2.ensures.serves)
+    looked_then _ _ _ _ (g.met.T.Twin.sound_pair c.block_on.new.twin) c.block_on.ensures.content (content_of _ _ c.block_on.ensures.serves.other.disk)
+    (looked_first _ _ _ (g.met.T.Twin.sound_pair c.args.twin.now) c.block_on.ensures.serves c.block_on.ensures.counts)
+    (looked_second _ _ _ (g.met.T.Twin.sound_pair c.block_on.new.twin) c.block_on-2.ensures.serves c.block_on-2.ensures.counts)
 
 pub returns-in_default-block_on-clause-first : goal.returns-in_default-block_on-clause-first
 returns-in_default-block_on-clause-first g c =

@@ -14,11 +14,13 @@ returns-in-Err-clause-lead g c = lead_attached _ _ _ _ _ _ c.other_side.ensures 
 pub returns-in-Ok-clause-work : goal.returns-in-Ok-clause-work
 returns-in-Ok-clause-work g c =
     joins_brought _ _ _ _ _ _ c.other_side.ensures c.attach_on.ensures.serves (g.met.T.Twin.sound_pair c.args.twin.now) c.requires.near c.in-Ok.ring
-    c.in-Ok.ensures.header c.attach_on.ensures.keeps (g.T.Twin.pair c.bring.new.twin) c.bring.ensures.work
+    c.in-Ok.ensures.header c.attach_on.ensures.keeps (g.T.Twin.pair c.bring.new.twin) (g.met.T.Twin.sound_pair c.attach_on.new.twin)
+    c.attach_on.ensures.counts c.bring.ensures.work
 
 pub returns-in-Err-clause-work : goal.returns-in-Err-clause-work
 returns-in-Err-clause-work g c =
     joins_attached _ _ _ _ _ _ c.other_side.ensures c.attach_on.ensures.serves (g.met.T.Twin.sound_pair c.args.twin.now) c.requires.near
+    c.attach_on.ensures.counts
 
 pub returns-in-Ok-clause-joined : goal.returns-in-Ok-clause-joined
 returns-in-Ok-clause-joined g c =

@@ -12,6 +12,7 @@ use Rattle.fdr_pair.proofs.Sides.{serves_side, facing_side, turned_side, rose_si
 use Rattle.fdr_pair.proofs.look.attach_on.Given.{Over}
 use Rattle.fdr_pair.proofs.look.attach_on.Goals.{After-turn}
 use Rattle.fdr_pair.proofs.look.attach_on.Goals as goal
+use Rattle.fdr_pair.proofs.SideCounts.{counted_turned}
 
 -- the twin's deck, once it is turned to the side
 turned : (g : Over) (c : After-turn g) → IsSameState (seen c.args.side (g.T.Twin.pair c.args.twin.now)) (g.T.Deck.state c.turn.new.self)
@@ -85,3 +86,8 @@ pub returns-clause-cause : goal.returns-clause-cause
 returns-clause-cause g c =
     on_err_weaker c.attach.result (rose_side _ _ _ _ _ _ c.turn.ensures.turns (g.met.T.Twin.faces c.turn.new.self) (g.met.T.Twin.faces c.attach.new.deck)
     (g.met.T.Twin.leaves_rest c.turn.new.self c.attach.new.deck c.attach.ensures.rest)) c.attach.ensures.cause
+
+pub returns-clause-counts : goal.returns-clause-counts
+returns-clause-counts g c =
+    counted_turned _ c.args.side _ _ _ (g.met.T.Twin.sound_pair c.args.twin.now) (g.met.T.Twin.sound_pair c.turn.new.self) c.turn.ensures.turns
+    (g.met.T.Twin.leaves_rest c.turn.new.self c.attach.new.deck c.attach.ensures.rest)

@@ -8,6 +8,7 @@ use Rattle.fdr_pair.specs.declared.open.SideHeader.{SideHeader}
 use Rattle.fdr_pair.proofs.Sides.{looks_side, facing_side}
 use Rattle.fdr_pair.proofs.Opening.{reads_as}
 use Rattle.fdr_pair.proofs.open.header_on.Goals as goal
+use Rattle.fdr_pair.proofs.SideCounts.{counted_turned}
 
 pub returns-clause-serves : goal.returns-clause-serves
 returns-clause-serves g c =
@@ -32,3 +33,8 @@ returns-clause-reads g c =
     let e = c.read_image_header-read.ensures in
     subst (λ (r : SideHeader). ReadsHeader g.T.Deck.tells side r p q) (sym c.side_header.ensures)
     (reads_as g.T.Deck.tells side s t p q before after e.learns e.disk _ e.read e.good e.first_fault e.small e.only e.limits e.whole e.succeeds e.cause)
+
+pub returns-clause-counts : goal.returns-clause-counts
+returns-clause-counts g c =
+    counted_turned _ c.args.side _ _ _ (g.met.T.Twin.sound_pair c.args.twin.now) (g.met.T.Twin.sound_pair c.turn.new.self) c.turn.ensures.turns
+    (g.met.T.Twin.leaves_rest c.turn.new.self c.read_image_header-read.new.deck c.read_image_header-read.ensures.rest)

@@ -85,4 +85,5 @@ returns-clause-second g c = (second_read g (goal.at.returns-clause-second g c).A
 pub returns-clause-work : goal.returns-clause-work
 returns-clause-work g c =
     both_looked _ _ _ _ (g.met.T.Twin.sound_pair c.args.twin.now) (g.met.T.Twin.sound_pair c.header_on-first.new.twin)
-    c.header_on-first.ensures.reads.looks.disk c.header_on-first.ensures.serves c.header_on-second.ensures.serves
+    c.header_on-first.ensures.reads.looks.disk c.header_on-first.ensures.serves c.header_on-first.ensures.counts c.header_on-second.ensures.serves
+    c.header_on-second.ensures.counts

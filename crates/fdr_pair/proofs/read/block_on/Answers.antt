@@ -9,6 +9,7 @@ use Rattle.fdr_pair.proofs.PairWorks.{looked_content}
 use Rattle.fdr_pair.proofs.read.block_on.Given.{Over}
 use Rattle.fdr_pair.proofs.read.block_on.Goals.{After-turn}
 use Rattle.fdr_pair.proofs.read.block_on.Goals as goal
+use Rattle.fdr_pair.proofs.SideCounts.{counted_turned}
 
 -- the twin's deck, once it is turned to the side
 turned : (g : Over) (c : After-turn g) → IsSameState (seen c.args.side (g.T.Twin.pair c.args.twin.now)) (g.T.Deck.state c.turn.new.self)
@@ -52,3 +53,8 @@ pub returns-clause-cause : goal.returns-clause-cause
 returns-clause-cause g c =
     on_err_weaker c.block.result (rose_side _ _ _ _ _ _ c.turn.ensures.turns (g.met.T.Twin.faces c.turn.new.self) (g.met.T.Twin.faces c.block.new.deck)
     (g.met.T.Twin.leaves_rest c.turn.new.self c.block.new.deck c.block.ensures.rest)) c.block.ensures.cause
+
+pub returns-clause-counts : goal.returns-clause-counts
+returns-clause-counts g c =
+    counted_turned _ c.args.side _ _ _ (g.met.T.Twin.sound_pair c.args.twin.now) (g.met.T.Twin.sound_pair c.turn.new.self) c.turn.ensures.turns
+    (g.met.T.Twin.leaves_rest c.turn.new.self c.block.new.deck c.block.ensures.rest)

@@ -5,6 +5,7 @@ use Rattle.fdr_pair.specs.declared.outcome.PairOutcome.{PairOutcome}
 use Rattle.fdr_pair.proofs.PairComplete.{records_refused, records_started}
 use Rattle.fdr_pair.proofs.PairGoing.{keeps_as_answered, refused_keeps}
 use Rattle.fdr_pair.proofs.run.record_pair.Goals as goal
+use Rattle.fdr_pair.proofs.SideCounts.{counted_then}
 
 pub returns-in-Ok-clause-records : goal.returns-in-Ok-clause-records
 returns-in-Ok-clause-records g c = λ rest faults.
@@ -24,3 +25,14 @@ returns-in-Err-clause-records g c = λ rest faults.
     let refused = c.in-Err.ensures.refused in
     records_refused c.args.sound.now _ refused
     (refused_keeps c.args.sound.now g.T.Deck.tells (g.T.Twin.pair c.args.twin.now) (g.T.Twin.pair c.start_pair.new.twin) c.in-Err.answer refused)
+
+pub returns-in-Ok-clause-counts : goal.returns-in-Ok-clause-counts
+returns-in-Ok-clause-counts g c =
+    let s = c.in-Ok.start in
+    let started = c.in-Ok.ensures.started in
+    let records = c.record_trace.ensures (past_at_start c.args.sound.now s.session.rings.header s.session.rings.next s.session.session) started.trace
+    started.begun in
+    counted_then _ _ _ _ (g.met.T.Twin.sound_pair c.start_pair.new.twin) started.time records.time started.counted records.counts
+
+pub returns-in-Err-clause-counts : goal.returns-in-Err-clause-counts
+returns-in-Err-clause-counts g c = c.in-Err.ensures.refused.counts

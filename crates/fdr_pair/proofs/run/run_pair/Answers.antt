@@ -17,7 +17,7 @@ returns-in-Ok-load_table-clause-runs g c = λ fits.
     let q = g.D.Twin.pair c.record_pair.new.twin in
     runs_accepted old new c.in-Ok-load_table.sound e.table e.end e.sound before now g.D.Deck.tells p q c.record_pair.result e.bounded
     (e.no_fault (λ x. absurd (cc))) r.past
-    (records_by c.in-Ok-load_table.sound old old new before before now g.D.Deck.tells p q c.record_pair.result (r.records old before)) r.memory
+    (records_by c.in-Ok-load_table.sound old old new before before now g.D.Deck.tells p q c.record_pair.result (r.records old before)) r.memory r.counts
 
 pub returns-in-Ok-clause-runs : goal.returns-in-Ok-clause-runs
 returns-in-Ok-clause-runs g c = λ fits.

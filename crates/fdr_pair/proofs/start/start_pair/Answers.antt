@@ -38,15 +38,16 @@ opened_at g c = let e = c.in_ok-opened.ensures in record {
   first = e.first;
   second = e.second;
   work = e.work;
+  sound = g.met.T.Twin.sound_pair c.open_sides.new.twin;
 }
 
 found_at : (g : Over) (c : After-join_sides g) → HasFoundRuns g.T.Deck.tells c.in_ok-opened.opened c.in_ok-runs.runs
     (g.T.Twin.pair c.open_sides.new.twin) (g.T.Twin.pair c.find_runs.new.twin)
-found_at g c = record { runs = c.in_ok-runs.ensures.found; looks = c.find_runs.ensures.looks }
+found_at g c = record { runs = c.in_ok-runs.ensures.found; looks = c.find_runs.ensures.looks; sound = g.met.T.Twin.sound_pair c.find_runs.new.twin }
 
 joined_at : (g : Over) (c : After-go_on g) → HasJoinedSides g.T.Deck.tells c.in_ok-opened.opened.header c.in_ok-runs.runs c.in_ok-joined.joined
     (g.T.Twin.pair c.find_runs.new.twin) (g.T.Twin.pair c.join_sides.new.twin)
-joined_at g c = record { joined = c.in_ok-joined.ensures.joined; work = c.join_sides.ensures.work }
+joined_at g c = record { joined = c.in_ok-joined.ensures.joined; work = c.join_sides.ensures.work; sound = g.met.T.Twin.sound_pair c.join_sides.new.twin }
 
 pub returns-in_err-opened-clause-refused : goal.returns-in_err-opened-clause-refused
 returns-in_err-opened-clause-refused g c =

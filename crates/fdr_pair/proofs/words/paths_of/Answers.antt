@@ -1,4 +1,4 @@
-use Rattle.std.proofs.Common.{rules, ◌≡◌, ◌∙◌, sym, codes, string_bytes, Global, arith}
+use Rattle.std.proofs.Common.{rules, ◌≡◌, sym, codes, string_bytes, Global, arith}
 use Rattle.std.proofs.lemmas.Grind.{common_steps}
 use Rattle.fdr_pair.proofs.FourWords.{four_words}
 use Rattle.fdr_pair.proofs.words.paths_of.Goals as goal
