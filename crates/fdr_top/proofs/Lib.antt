@@ -26,6 +26,7 @@ pub mod Coding
 pub mod Coded
 pub mod ListedImages
 pub mod Salvages
+pub mod Sizes
 pub mod Drills
 pub mod Drilled
 pub mod RunSizes

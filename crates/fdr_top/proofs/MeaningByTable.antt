@@ -1,5 +1,5 @@
 -- What commands mean by their table.
-use Rattle.std.proofs.Common.{◌≡◌, ◌≢◌, ◌⊎◌, inl, inr, ℕ, ◌≤◌, true, false, List, [], length, Option, Some, None, IfSome, IsSome, refl, sym, ◌∙◌, subst}
+use Rattle.std.proofs.Common.{◌≡◌, ◌≢◌, ◌⊎◌, inl, inr, ℕ, ◌≤◌, true, false, List, [], length, Option, Some, None, IfSome, IsSome, refl, sym, ◌∙◌, subst, ap}
 use Rattle.std.proofs.Common.{le-leb, IsTrue}
 use Rattle.fdr_io.specs.Told.{preceded_by}
 use Rattle.fdr_io.specs.declared.Input.TheVariants as input
@@ -16,7 +16,7 @@ use Rattle.fdr_top.specs.Stages.{IsPastTable}
 use Rattle.fdr_top.specs.Tables.{ByTable, ReadsItsTable}
 use Rattle.fdr_top.specs.declared.outcome.Outcome.{Outcome}
 use Rattle.fdr_top.specs.declared.outcome.Outcome.TheVariants as outcome
-use Rattle.fdr_top.proofs.MeaningWords.{Core}
+use Rattle.fdr_top.proofs.MeaningWords.{Core, IsPulled}
 use Rattle.fdr_top.specs.Meaning.{Effect, Given, answers, at_table, by_table, meaning, with_all}
 use Rattle.fdr_top.specs.Doing.{GaveInput, GaveTable, IsTold, Refines, WasGiven}
 use Rattle.fdr_top.proofs.MeaningInputs.{came_all}
@@ -24,7 +24,7 @@ use Rattle.fdr_top.proofs.MeaningLeft.{no_memory, refused}
 use Rattle.fdr_top.proofs.TableAnswers.{taken_is_all}
 
 -- nothing came
-pub nothing : Supplied
+abbrev pub nothing : Supplied
 nothing = record { bytes = []; failed = false }
 
 -- ---- how the table decides
@@ -68,27 +68,36 @@ past_own form a past may = may
 
 -- ---- a command with a table
 
--- what is known where the work was done: what came of the input, and that the work refines its meaning by that
-pub record MeansWork (form : Form) (work : Supplied → List ℕ → Effect) (r : CommandRun) : Type 0 where
+-- what was given besides a table
+pub record GaveRest (form : Form) (r : CommandRun) : Type 0 where
   pub came : Supplied
   pub image : List ℕ
   pub given : PullsInput form → GaveInput came r.work
   pub held : HasImage form → image ≡ r.work.old.held
-  pub does : Refines form (work came image) r.work
-  pub all : IsTrue r.work.tells.input → came.failed ≡ false → r.work.answer ≢ outcome.DiskFault → Refines form (work (came_all r.work) image) r.work
+  pub pulled : IsPulled form came.bytes r
+
+-- what was given of an input to a command without an image
+abbrev pub line_rest : (form : Form) (r : CommandRun) (came : Supplied) → GaveInput came r.work → (HasImage form → ⊥)
+    → IsPulled form came.bytes r → GaveRest form r
+line_rest form r came given none pulled = record { came = came; image = []; given = λ yes. given; held = λ has. absurd (none has); pulled = pulled }
+
+-- what is known where the work was done: what was given for it, and that it refines its meaning by that
+pub record MeansWork (form : Form) (work : Supplied → List ℕ → Effect) (r : CommandRun) : Type 0 where
+  pub rest : GaveRest form r
+  pub does : Refines form (work rest.came rest.image) r.work
+  pub all : IsTrue r.work.tells.input → rest.came.failed ≡ false → r.work.answer ≢ outcome.DiskFault
+      → Refines form (work (came_all r.work) rest.image) r.work
 
 module _ (form : Form) (work : TableRows → Supplied → List ℕ → Effect) (r : CommandRun) (told : IsTold form r) (runs : RunsCommand form r)
     (reads : ReadsTable form)
     (same : (g : Given) → meaning form g ≡ by_table g.table (λ t. work t g.input g.image))
-    (idle : (r.work.answer ≡ outcome.NoMemory) ⊎ ((IsPastTable r.work.answer → ⊥) × (r.work.answer ≢ outcome.NoMemory))
-    → (came : Supplied) × (image : List ℕ) × (PullsInput form → GaveInput came r.work) × (HasImage form → image ≡ r.work.old.held))
+    (idle : (r.work.answer ≡ outcome.NoMemory) ⊎ ((IsPastTable r.work.answer → ⊥) × (r.work.answer ≢ outcome.NoMemory)) → GaveRest form r)
     (by : ByTable r.rest_before r.rest_now r.work.answer (λ t. DoesWork form t r.work))
-    (does : (bytes : List ℕ) → DoesWork form (table_in bytes) r.work → IsPastTable r.work.answer → IsOwn form r.work.answer
-    → MeansWork form (work (table_in bytes)) r) where
+    (does : IsPastTable r.work.answer → IsOwn form r.work.answer → MeansWork form (work by.0) r) where
   -- the answer is that of the table
-  given_of : (table came : Supplied) (image : List ℕ) → GaveTable table r → (PullsInput form → GaveInput came r.work)
-      → (HasImage form → image ≡ r.work.old.held) → WasGiven form (record { table = table; input = came; image = image }) r
-  given_of table came image of_table of_input of_image = record { table = λ yes. of_table; input = of_input; image = of_image }
+  given_of : (table : Supplied) (rest : GaveRest form r) → GaveTable table r
+      → WasGiven form (record { table = table; input = rest.came; image = rest.image }) r
+  given_of table rest of_table = record { table = λ yes. of_table; input = rest.given; image = rest.held }
 
   whole : (bytes : List ℕ) → IfSome r.rest_before (λ all. bytes ≡ all) → GaveTable (record { bytes = bytes; failed = false }) r
   whole bytes is = record { whole = λ no. is; cut = λ yes. absurd (cc) }
@@ -99,17 +108,18 @@ module _ (form : Form) (work : TableRows → Supplied → List ℕ → Effect) (
       let bytes = read.0 in
       let accepted = read.1 in
       let is = taken_told r.rest_before r.rest_now bytes read.3 ((runs.table reads).accepted_at_end past) in
-      let w = does bytes (subst (λ (t : TableRows). DoesWork form t r.work) read.2 by.3) past (past_own form r.work.answer past runs.answers) in
-      let g : Given = record { table = record { bytes = bytes; failed = false }; input = w.came; image = w.image } in
-      let meant : meaning form g ≡ work (table_in bytes) w.came w.image =
-      same g ∙ by_accepted bytes (λ (t : TableRows). work t w.came w.image) accepted in
+      let w = does past (past_own form r.work.answer past runs.answers) in
+      let rest = w.rest in
+      let g : Given = record { table = record { bytes = bytes; failed = false }; input = rest.came; image = rest.image } in
+      let by_it = λ (came : Supplied). by_accepted bytes (λ (t : TableRows). work t came rest.image) accepted
+      ∙ ap (λ (t : TableRows). work t came rest.image) (sym read.2) in
       record {
         g = g;
-        given = given_of (record { bytes = bytes; failed = false }) w.came w.image (whole bytes is) w.given w.held;
-        does = subst (λ (m : Effect). Refines form m r.work) (sym meant) w.does;
+        given = given_of (record { bytes = bytes; failed = false }) rest (whole bytes is);
+        pulled = rest.pulled;
+        does = subst (λ (m : Effect). Refines form m r.work) (sym (same g ∙ by_it rest.came)) w.does;
         all = λ line uncut disk. subst (λ (m : Effect). Refines form m r.work)
-            (sym (same (with_all r.work.old.input g) ∙ by_accepted bytes (λ (t : TableRows). work t (came_all r.work) w.image) accepted))
-            (w.all line uncut disk);
+            (sym (same (with_all r.work.old.input g) ∙ by_it (came_all r.work))) (w.all line uncut disk);
       }
 
   -- what was given where the work wasn't done
@@ -119,11 +129,13 @@ module _ (form : Form) (work : TableRows → Supplied → List ℕ → Effect) (
   means_idle table of_table why refines =
       let i = idle why in
       record {
-        g = record { table = table; input = i.0; image = i.1 };
-        given = given_of table i.0 i.1 of_table i.2 i.3;
-        does = subst (λ (m : Effect). Refines form m r.work) (sym (same (record { table = table; input = i.0; image = i.1 }))) (refines i.0 i.1);
+        g = record { table = table; input = i.came; image = i.image };
+        given = given_of table i of_table;
+        pulled = i.pulled;
+        does = subst (λ (m : Effect). Refines form m r.work) (sym (same (record { table = table; input = i.came; image = i.image })))
+            (refines i.came i.image);
         all = λ line uncut disk. subst (λ (m : Effect). Refines form m r.work)
-            (sym (same (record { table = table; input = came_all r.work; image = i.1 }))) (refines (came_all r.work) i.1);
+            (sym (same (record { table = table; input = came_all r.work; image = i.image }))) (refines (came_all r.work) i.image);
       }
 
   means_refused : (row : ℕ) (f : TableFault) → r.work.answer ≡ outcome.TableRefused row f → Core form r
@@ -166,3 +178,14 @@ module _ (form : Form) (work : TableRows → Supplied → List ℕ → Effect) (
   -- a command with a table means what its work means
   pub means_by_table : Core form r
   means_by_table = means_at r.work.answer refl runs.answers
+
+-- a command that pulls nothing: what is given of an input says nothing
+pub means_unpulled : (form : Form) (work : TableRows → List ℕ → Effect) (r : CommandRun) → IsTold form r → RunsCommand form r → ReadsTable form
+    → ((g : Given) → meaning form g ≡ by_table g.table (λ t. work t g.image)) → (PullsInput form → ⊥) → IsPulled form [] r
+    → (image : List ℕ) → (HasImage form → image ≡ r.work.old.held)
+    → (by : ByTable r.rest_before r.rest_now r.work.answer (λ t. DoesWork form t r.work))
+    → (IsPastTable r.work.answer → IsOwn form r.work.answer → Refines form (work by.0 image) r.work) → Core form r
+means_unpulled form work r told runs reads same none pulled image held by does =
+    let rest : GaveRest form r = record { came = nothing; image = image; given = λ pulls. absurd (none pulls); held = held; pulled = pulled } in
+    means_by_table form (λ t came i. work t i) r told runs reads same (λ why. rest) by
+    (λ past own. let d = does past own in record { rest = rest; does = d; all = λ line uncut disk. d })

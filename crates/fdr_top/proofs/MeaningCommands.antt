@@ -37,4 +37,4 @@ pub means : (form : Form) (r : CommandRun) → RunsCommand form r → IsSoundDec
     → DoesAsMeant form r
 means form r runs sound told =
     let c = core form r runs sound told in
-    record { g = c.g; given = c.given; does = c.does; all = c.all; stops = stops form r runs told c.g c.given }
+    record { g = c.g; given = c.given; does = c.does; all = c.all; stops = stops form r runs told c.g c.given c.pulled }

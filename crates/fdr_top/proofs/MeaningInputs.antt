@@ -69,7 +69,7 @@ pub record MeansInput (form : Form) (does : Supplied → Effect) (r : WorkRun) :
   pub all : IsTrue r.tells.input → came.failed ≡ false → r.answer ≢ outcome.DiskFault → Refines form (does (came_all r)) r
 
 -- it refines it by anything
-pub by_any : (form : Form) (does : Supplied → Effect) (r : WorkRun) (pulled : List ℕ) → TakesInput r.tells r.old r.new pulled
+unfoldable pub by_any : (form : Form) (does : Supplied → Effect) (r : WorkRun) (pulled : List ℕ) → TakesInput r.tells r.old r.new pulled
     → ((came : Supplied) → Refines form (does came) r) → MeansInput form does r
 by_any form does r pulled takes refines = record {
   came = came_part pulled;

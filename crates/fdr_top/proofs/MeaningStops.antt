@@ -3,12 +3,11 @@ use Rattle.std.proofs.Common.{◌≡◌, ◌⊎◌, ⊎_elim, inl, inr, ℕ, zer
 use Rattle.std.proofs.Common.{Option, Some, None, IfSome, IsSome, IsTrue, refl, sym, ap, ◌∙◌, subst, arith, length-take}
 use Rattle.std.proofs.lemmas.Bool.{cases_Bool, cases_lt}
 use Rattle.std.proofs.lemmas.Bool.Decides.{nat_tests}
-use Rattle.std.proofs.lemmas.List.{take-append-le, take-take, take_all}
+use Rattle.std.proofs.lemmas.List.{take-take}
 use Rattle.std.specs.Prelude.{nat_lt}
 use Rattle.fdr_bus.specs.Records.{good_prefix}
 use Rattle.fdr_deck.specs.Moments.{EachMoment}
-use Rattle.fdr_deck.specs.Pull.{TakesInput}
-use Rattle.fdr_deck.specs.State.{Moment, State, Tells}
+use Rattle.fdr_deck.specs.State.{Moment, State}
 use Rattle.fdr_gen.specs.Trace.{generated_trace}
 use Rattle.fdr_load.specs.Tables.{fault_in, table_in}
 use Rattle.fdr_recorder.specs.NewBlocks.{MayRecord, new_blocks, next_in}
@@ -27,7 +26,7 @@ use Rattle.fdr_table.specs.Faults.{table_bytes_fault}
 use Rattle.fdr_table.specs.Rows.{TableRows}
 use Rattle.fdr_load.specs.Supplies.{Supplied}
 use Rattle.fdr_top.specs.Commands.{RunsCommand}
-use Rattle.fdr_top.specs.Answers.{HasImage, PullsInput}
+use Rattle.fdr_top.specs.Answers.{HasImage}
 use Rattle.fdr_top.specs.Exceed.{exceedances_in}
 use Rattle.fdr_top.specs.Format.{new_header}
 use Rattle.fdr_top.specs.List.{listing_in}
@@ -38,6 +37,7 @@ use Rattle.fdr_top.specs.declared.outcome.Outcome.TheVariants as outcome
 use Rattle.fdr_top.specs.declared.outcome.Outcome.{Outcome}
 use Rattle.fdr_words.specs.Forms.{Form, check_table, stream_line, list_bits, encode_bytes, decode_levels, writes_image}
 use Rattle.fdr_words.specs.Forms.{format_image, record_line, recover_image, list_image, upgrade_image, salvage_image, exceed_image, drill_image}
+use Rattle.fdr_top.proofs.MeaningWords.{IsPulled}
 use Rattle.fdr_top.specs.Meaning.{Change, Effect, Given, Step, answers, at_start, at_table, at_work, bad_header, bad_rules, bad_table, by_table}
 use Rattle.fdr_top.specs.Meaning.{changes, drilled, gets, made, meaning, not_empty, old_version, or_answers, other_words, raised, records, stays}
 use Rattle.fdr_top.specs.Meaning.{trace_answer}
@@ -132,20 +132,10 @@ records_stops old blocks text answer m keeps = either (nat_lt sequence_end (next
     either true some all s a = s
     either false some all s a = a
 
--- what was taken of an input that is told
-taken_same : (tells : Tells) (old new : State) (a b : List ℕ) → TakesInput tells old new a → TakesInput tells old new b → IsTrue tells.input → a ≡ b
-taken_same tells old new a b x y told =
-    let n : length a ≡ length b = omega (arith, x.taken, y.taken) in
-    sym (front a new.input) ∙ ap (take (length a)) (sym (x.input told) ∙ y.input told)
-    ∙ ap (λ (k : ℕ). take k (b ++ new.input)) n ∙ front b new.input
-  where
-    front : (xs ys : List ℕ) → take (length xs) (xs ++ ys) ≡ xs
-    front xs ys = take-append-le (length xs) xs ys (omega arith) ∙ take_all (length xs) xs (omega arith)
-
 -- ---- each command that writes its image
 
 at_moments : (form : Form) (r : CommandRun) → RunsCommand form r → IsTold form r → (g : Given) → WasGiven form g r
-    → (PullsInput form → IsTrue r.work.tells.input) → IsTrue (writes_image form)
+    → IsPulled form g.input.bytes r → IsTrue (writes_image form)
     → (meaning form g).step ≡ at_work → EachMoment r.work.tells r.work.old r.work.new (MayLeave (meaning form g).image r.work.old)
 at_moments (check_table path) r runs told g given line writes at = absurd (cc)
 at_moments (stream_line path) r runs told g given line writes at = absurd (cc)
@@ -169,22 +159,21 @@ at_moments (format_image path image slots payload) r runs told g given line writ
     (subst (λ (t : TableRows). MayLeave (made (new_header slots payload t.frame.words)) r.work.old m) same
     ((runs.carries_out.3).disk_work.moments tells m since).image)
 at_moments (record_line path image) r runs told g given line writes at = λ tells m since.
-    let d = runs.carries_out.3 in
+    let by = line.0.carries_out in
     let work : TableRows → Effect = λ t. unless (bad_header g.image ∷ other_words t g.image ∷ old_version g.image ∷ [])
     (records g.image (new_blocks t g.image (good_prefix g.input.bytes)) [] (trace_answer g.input)) in
     let past = table_works g.table work at in
     let t = table_in g.table.bytes in
-    let same = runs.carries_out.1 g.table.bytes (worked_table g.table r (given.table refl) past.1 (told.table tt refl)) in
+    let same = by.1 g.table.bytes (worked_table g.table r (given.table refl) past.1 (told.table tt refl)) in
     let is = past.0 ∙ unless_works (bad_header g.image ∷ other_words t g.image ∷ old_version g.image ∷ [])
     (records g.image (new_blocks t g.image (good_prefix g.input.bytes)) [] (trace_answer g.input)) (subst (λ (e : Effect). e.step ≡ at_work) past.0 at) in
     let held = given.image tt in
-    let pulled = taken_same r.work.tells r.work.old r.work.new g.input.bytes d.pulled (given.input tt).takes d.pulls.takes (line tt) in
     subst (λ (e : Effect). MayLeave e.image r.work.old m)
     (sym (is ∙ ap (λ (x : List ℕ). records x (new_blocks t x (good_prefix g.input.bytes)) [] (trace_answer g.input)) held))
     (records_stops r.work.old (new_blocks t r.work.old.held (good_prefix g.input.bytes)) [] (trace_answer g.input) m (λ may.
-    subst (λ (x : List ℕ). KeepsBlocks (new_blocks t r.work.old.held (good_prefix x)) r.work.old m) (sym pulled)
-    (subst (λ (u : TableRows). KeepsBlocks (new_blocks u r.work.old.held (good_prefix d.pulled)) r.work.old m) same
-    (let b = d.blocks.moments may tells m since in record { keeps = b.keeps; close = b.close }))))
+    subst (λ (x : List ℕ). KeepsBlocks (new_blocks t r.work.old.held (good_prefix x)) r.work.old m) (sym line.1)
+    (subst (λ (u : TableRows). KeepsBlocks (new_blocks u r.work.old.held (good_prefix by.3.pulled)) r.work.old m) same
+    (let b = by.3.blocks.moments may tells m since in record { keeps = b.keeps; close = b.close }))))
 at_moments (drill_image path image seed frames) r runs told g given line writes at = λ tells m since.
     let d = runs.carries_out.3 in
     let of : TableRows → List ℕ → Effect = λ t x. records x (new_blocks t x (generated_trace t seed frames))
@@ -255,7 +244,7 @@ works_or_stays form g writes = absurd (cc)
 
 -- a command that writes its image: it comes to its work, or its image stays
 writing : (form : Form) → IsTrue (writes_image form) → (r : CommandRun) → RunsCommand form r → IsTold form r → (g : Given) → WasGiven form g r
-    → (PullsInput form → IsTrue r.work.tells.input) → HasImage form → ((meaning form g).step ≡ at_work) ⊎ WritesNothing r.work.answer
+    → IsPulled form g.input.bytes r → HasImage form → ((meaning form g).step ≡ at_work) ⊎ WritesNothing r.work.answer
     → EachMoment r.work.tells r.work.old r.work.new (MayLeave (meaning form g).image r.work.old)
 writing form writes r runs told g given line has when = ⊎_elim
     (λ (at : (meaning form g).step ≡ at_work). at_moments form r runs told g given line writes at)
@@ -269,7 +258,7 @@ writing form writes r runs told g given line has when = ⊎_elim
 -- ---- all commands with an image
 
 pub stops : (form : Form) (r : CommandRun) → RunsCommand form r → IsTold form r → (g : Given) → WasGiven form g r
-    → (PullsInput form → IsTrue r.work.tells.input) → HasImage form → ((meaning form g).step ≡ at_work) ⊎ WritesNothing r.work.answer
+    → IsPulled form g.input.bytes r → HasImage form → ((meaning form g).step ≡ at_work) ⊎ WritesNothing r.work.answer
     → EachMoment r.work.tells r.work.old r.work.new (MayLeave (meaning form g).image r.work.old)
 stops (check_table path) r runs told g given line has when = absurd has
 stops (stream_line path) r runs told g given line has when = absurd has

@@ -25,7 +25,7 @@ use Rattle.fdr_top.proofs.MeaningWords.{Core}
 use Rattle.fdr_top.specs.Meaning.{Effect, as_bits, bits_answer, levels_answer, stays, writes}
 use Rattle.fdr_top.specs.Doing.{Becomes, IsTold}
 use Rattle.fdr_top.proofs.MeaningLeft.{idle_keeps, no_memory, stays_unused}
-use Rattle.fdr_top.proofs.MeaningByTable.{means_by_table, nothing}
+use Rattle.fdr_top.proofs.MeaningByTable.{line_rest, means_by_table, nothing}
 use Rattle.fdr_top.proofs.MeaningImages.{none_left}
 use Rattle.fdr_top.proofs.MeaningInputs.{MeansInput, by_any, came_part, gave_none, take_more, takes_none}
 use Rattle.fdr_top.proofs.MeaningBits.{all_taken, bits_cut, bits_ended, bits_failed, ends_done, ends_failed, ends_long, longer, most_taken}
@@ -74,6 +74,7 @@ module _ (r : CommandRun) (told : IsTold encode_bytes r) (runs : RunsCommand enc
       record {
         g = record { table = nothing; input = i.came; image = [] };
         given = record { table = λ no. absurd (cc); input = λ yes. i.given; image = λ no. absurd no };
+        pulled = tt;
         does = i.refines;
         all = i.all;
       }
@@ -111,11 +112,10 @@ module _ (path : List ℕ) (r : CommandRun) (told : IsTold (list_bits path) r) (
 
   pub means_listbits : Core (list_bits path) r
   means_listbits = means_by_table (list_bits path) (λ t came image. writes (listing_of t (as_bits came)) (bits_answer came)) r told runs refl (λ g. refl)
-      (λ why. (came_part [], [], λ yes. gave_none r.work (idle_keeps (list_bits path) r runs tt why), λ no. absurd no))
-      runs.carries_out (λ bytes did past own.
-      let does = did past in
-      let i = listbits_at (table_in bytes) does.lists r.work.answer refl own in
-      record { came = i.came; image = []; given = λ yes. i.given; held = λ no. absurd no; does = i.refines; all = i.all })
+      (λ why. line_rest (list_bits path) r (came_part []) (gave_none r.work (idle_keeps (list_bits path) r runs tt why)) (λ no. no) tt)
+      runs.carries_out (λ past own.
+      let i = listbits_at runs.carries_out.0 (runs.carries_out.3 past).lists r.work.answer refl own in
+      record { rest = line_rest (list_bits path) r i.came i.given (λ no. no) tt; does = i.refines; all = i.all })
 
 -- ---- decode
 
@@ -211,6 +211,7 @@ module _ (r : CommandRun) (told : IsTold decode_levels r) (runs : RunsCommand de
       record {
         g = record { table = nothing; input = i.came; image = [] };
         given = record { table = λ no. absurd (cc); input = λ yes. i.given; image = λ no. absurd no };
+        pulled = tt;
         does = i.refines;
         all = i.all;
       }

@@ -15,7 +15,7 @@ use Rattle.fdr_top.proofs.MeaningWords.{Core}
 use Rattle.fdr_top.specs.Meaning.{writes}
 use Rattle.fdr_top.specs.Doing.{IsTold, Refines}
 use Rattle.fdr_top.proofs.MeaningLeft.{stays_unused}
-use Rattle.fdr_top.proofs.MeaningByTable.{means_by_table, nothing}
+use Rattle.fdr_top.proofs.MeaningByTable.{means_unpulled}
 
 module _ (path : List ℕ) (r : CommandRun) (told : IsTold (check_table path) r) (runs : RunsCommand (check_table path) r) where
   refines : (t : TableRows) → Reports t r.work.written_before r.work.written_now r.work.answer → (a : Outcome) → r.work.answer ≡ a
@@ -36,14 +36,5 @@ module _ (path : List ℕ) (r : CommandRun) (told : IsTold (check_table path) r)
   refines t reports a e own = absurd own
 
   pub means_check : Core (check_table path) r
-  means_check = means_by_table (check_table path) (λ t came image. writes (report_of t) outcome.Done) r told runs refl (λ g. refl)
-      (λ why. (nothing, [], λ no. absurd no, λ no. absurd no))
-      runs.carries_out (λ bytes did past own. let d = refines (table_in bytes) (did past)
-      r.work.answer refl own in record {
-        came = nothing;
-        image = [];
-        given = λ no. absurd no;
-        held = λ no. absurd no;
-        does = d;
-        all = λ line uncut disk. d;
-      })
+  means_check = means_unpulled (check_table path) (λ t image. writes (report_of t) outcome.Done) r told runs refl (λ g. refl) (λ no. no) tt
+      [] (λ no. absurd no) runs.carries_out (λ past own. refines runs.carries_out.0 (runs.carries_out.3 past) r.work.answer refl own)

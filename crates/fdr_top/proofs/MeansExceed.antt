@@ -159,8 +159,15 @@ module _ (table path : List ℕ) (r : CommandRun) (told : IsTold (exceed_image t
   pub means_exceed : Core (exceed_image table path) r
   means_exceed = means_by_table (exceed_image table path)
       (λ t came image. by_image t image (by_rules t came (writes (exceedances_in t came.bytes image) outcome.Done))) r told runs refl (λ g. refl)
-      (λ why. let d = runs.carries_out.3 in (came_part d.pulled, r.work.old.held, λ yes. gave_part r.work d.pulled d.pieces.takes, λ yes. refl))
-      runs.carries_out (λ bytes did past own.
-      let i = exceed_at (table_in bytes) did
-      r.work.answer refl own in
-      record { came = i.came; image = r.work.old.held; given = λ yes. i.given; held = λ yes. refl; does = i.refines; all = i.all })
+      (λ why. let d = runs.carries_out.3 in record {
+        came = came_part d.pulled;
+        image = r.work.old.held;
+        given = λ yes. gave_part r.work d.pulled d.pieces.takes;
+        held = λ yes. refl;
+        pulled = tt;
+      })
+      runs.carries_out (λ past own. let i = exceed_at runs.carries_out.0 runs.carries_out.3 r.work.answer refl own in record {
+        rest = record { came = i.came; image = r.work.old.held; given = λ yes. i.given; held = λ yes. refl; pulled = tt };
+        does = i.refines;
+        all = i.all;
+      })

@@ -20,7 +20,7 @@ use Rattle.fdr_top.specs.Meaning.{Effect, answers, at_start, changes, raised, st
 use Rattle.fdr_top.specs.Doing.{Becomes, IsTold, Refines}
 use Rattle.fdr_top.proofs.MeaningWords.{Core, by_header, by_image}
 use Rattle.fdr_top.proofs.MeaningLeft.{no_memory, refused, wrote_nothing, front_nothing}
-use Rattle.fdr_top.proofs.MeaningByTable.{means_by_table, nothing}
+use Rattle.fdr_top.proofs.MeaningByTable.{means_unpulled, nothing}
 use Rattle.fdr_top.proofs.MeaningImages.{IsImageRefusal, header_or, header_reads, none_left, header_refuses, image_or, image_reads, image_refuses}
 use Rattle.fdr_top.proofs.MeaningImages.{words_refuse, read_all, read_cut, read_failed}
 
@@ -80,6 +80,7 @@ module _ (path : List ℕ) (r : CommandRun) (told : IsTold (recover_image path) 
   means_recover = record {
     g = record { table = nothing; input = nothing; image = r.work.old.held };
     given = record { table = λ no. absurd (cc); input = λ no. absurd no; image = λ yes. refl };
+    pulled = tt;
     does = recover_at r.work.answer refl runs.answers;
     all = λ line uncut disk. recover_at r.work.answer refl runs.answers;
   }
@@ -135,6 +136,7 @@ module _ (path : List ℕ) (r : CommandRun) (told : IsTold (upgrade_image path) 
   means_upgrade = record {
     g = record { table = nothing; input = nothing; image = r.work.old.held };
     given = record { table = λ no. absurd (cc); input = λ no. absurd no; image = λ yes. refl };
+    pulled = tt;
     does = upgrade_at (runs.carries_out (table_in [])) r.work.answer refl runs.answers;
     all = λ line uncut disk. upgrade_at (runs.carries_out (table_in [])) r.work.answer refl runs.answers;
   }
@@ -171,15 +173,6 @@ module _ (table path : List ℕ) (r : CommandRun) (told : IsTold (list_image tab
     list_at a e own = absurd own
 
   pub means_list : Core (list_image table path) r
-  means_list = means_by_table (list_image table path) (λ t came image. by_image t image (writes (listing_in t image) outcome.Done)) r told runs refl
-      (λ g. refl)
-      (λ why. (nothing, r.work.old.held, λ no. absurd no, λ yes. refl))
-      runs.carries_out (λ bytes did past own. let d = list_at (table_in bytes) did
-      r.work.answer refl own in record {
-        came = nothing;
-        image = r.work.old.held;
-        given = λ no. absurd no;
-        held = λ yes. refl;
-        does = d;
-        all = λ line uncut disk. d;
-      })
+  means_list = means_unpulled (list_image table path) (λ t image. by_image t image (writes (listing_in t image) outcome.Done)) r told runs refl
+      (λ g. refl) (λ no. no) tt r.work.old.held (λ yes. refl) runs.carries_out
+      (λ past own. list_at runs.carries_out.0 runs.carries_out.3 r.work.answer refl own)

@@ -30,7 +30,7 @@ use Rattle.fdr_top.specs.Meaning.{Effect, at_work, drilled, gets, records, trace
 use Rattle.fdr_top.specs.Doing.{IsTold, Refines}
 use Rattle.fdr_top.proofs.MeaningWords.{Core, in_image}
 use Rattle.fdr_top.proofs.MeaningLeft.{wrote_nothing}
-use Rattle.fdr_top.proofs.MeaningByTable.{means_by_table, nothing}
+use Rattle.fdr_top.proofs.MeaningByTable.{means_by_table, means_unpulled}
 use Rattle.fdr_top.proofs.MeaningInputs.{MeansInput, by_any, came_all, came_cut, came_part, gave_cut, gave_part}
 use Rattle.fdr_top.proofs.MeaningTraces.{IsSameTrace, done_ends, done_same, failed_ends, refused_ends, refused_same}
 use Rattle.fdr_slot.specs.Limits.{sequence_end}
@@ -60,6 +60,10 @@ module _ (table path : List ℕ) (r : CommandRun) (told : IsTold (record_line ta
         × (take (sequence_end - next_in r.work.old.held) (new_blocks t r.work.old.held (good_prefix bytes))
         ≡ take (sequence_end - next_in r.work.old.held) (new_blocks t r.work.old.held (good_prefix pulled)))
 
+    -- it means what is recorded of what was pulled
+    abbrev MeansPulled : Type 0
+    MeansPulled = (i : MeansInput (record_line table path) (recorded t) r.work) × (i.came.bytes ≡ pulled)
+
     -- all was recorded of the trace that these bytes have
     all_recorded : (came : Supplied) (a : Outcome) → r.work.answer ≡ a → EndsRecording a → good_prefix came.bytes ≡ good_prefix pulled → trace_answer came ≡ a
         → Refines (record_line table path) (recorded t came) r.work
@@ -77,57 +81,69 @@ module _ (table path : List ℕ) (r : CommandRun) (told : IsTold (record_line ta
 
     record_ended : (a : Outcome) → r.work.answer ≡ a → EndsRecording a
         → ((bytes : List ℕ) → IsSameTrace pulled bytes → trace_answer (record { bytes = bytes; failed = false }) ≡ a)
-        → (IsTrue r.work.tells.input → IsSameTrace pulled r.work.old.input) → MeansInput (record_line table path) (recorded t) r.work
-    record_ended a e all ends same = record {
-      came = came_part pulled;
-      given = gave_part r.work pulled does.pulls.takes;
-      refines = all_recorded (came_part pulled) a e all refl (ends pulled (refl, refl));
-      all = λ line uncut disk. let so = same line in all_recorded (came_all r.work) a e all so.0 (ends r.work.old.input so);
-    }
+        → (IsTrue r.work.tells.input → IsSameTrace pulled r.work.old.input) → MeansPulled
+    record_ended a e all ends same = (
+      record {
+        came = came_part pulled;
+        given = gave_part r.work pulled does.pulls.takes;
+        refines = all_recorded (came_part pulled) a e all refl (ends pulled (refl, refl));
+        all = λ line uncut disk. let so = same line in all_recorded (came_all r.work) a e all so.0 (ends r.work.old.input so);
+      },
+      refl,
+    )
 
     -- the image was refused, whatever came
-    record_any : ((came : Supplied) → Refines (record_line table path) (recorded t came) r.work) → MeansInput (record_line table path) (recorded t) r.work
-    record_any = by_any (record_line table path) (recorded t) r.work pulled does.pulls.takes
+    record_any : ((came : Supplied) → Refines (record_line table path) (recorded t came) r.work) → MeansPulled
+    unfolding by_any
+    record_any refines = (by_any (record_line table path) (recorded t) r.work pulled does.pulls.takes refines, refl)
 
-    record_at : (a : Outcome) → r.work.answer ≡ a → IsOwn (record_line table path) a → MeansInput (record_line table path) (recorded t) r.work
+    record_at : (a : Outcome) → r.work.answer ≡ a → IsOwn (record_line table path) a → MeansPulled
     record_at outcome.Done e own = record_ended outcome.Done e tt
         (λ bytes. done_ends r.work.tells r.work.old r.work.new pulled r.work.answer does.pulls does.trace bytes e)
         (done_same r.work.tells r.work.old r.work.new pulled r.work.answer does.pulls does.trace e)
     record_at (outcome.TraceRefused index why) e own = record_ended (outcome.TraceRefused index why) e tt
         (λ bytes. refused_ends r.work.tells r.work.old r.work.new pulled r.work.answer does.pulls does.trace bytes index why e)
         (refused_same r.work.tells r.work.old r.work.new pulled r.work.answer does.pulls does.trace index why e)
-    record_at (outcome.ReadFault input.Line) e own = record {
-      came = came_cut pulled;
-      given = gave_cut r.work pulled does.pulls.takes (runs.causes.input e);
-      refines = all_recorded (came_cut pulled) (outcome.ReadFault input.Line) e tt refl
-          (failed_ends r.work.tells r.work.old r.work.new pulled r.work.answer does.pulls does.trace e);
-      all = λ line uncut disk. absurd (cc);
-    }
+    record_at (outcome.ReadFault input.Line) e own = (
+      record {
+        came = came_cut pulled;
+        given = gave_cut r.work pulled does.pulls.takes (runs.causes.input e);
+        refines = all_recorded (came_cut pulled) (outcome.ReadFault input.Line) e tt refl
+            (failed_ends r.work.tells r.work.old r.work.new pulled r.work.answer does.pulls does.trace e);
+        all = λ line uncut disk. absurd (cc);
+      },
+      refl,
+    )
     record_at outcome.SeqEnd e own =
         let held = r.work.old.held in
         let limits = limits_in held (does.blocks.good (inr e) (told.image tt)).no_fault in
-        let few : sequence_end - next_in held ≤ length (new_blocks t held (good_prefix pulled)) - 1 = omega (arith, does.blocks.beyond e (told.image tt)) in
-        record {
-          came = came_part pulled;
-          given = gave_part r.work pulled does.pulls.takes;
-          refines = record_some (record_line table path) r told runs tt t does.image does.old_image (good_prefix pulled) does.blocks []
-              (trace_answer (came_part pulled))
-              (new_blocks t held (good_prefix pulled)) e silent (omega arith) refl;
-          all = λ line uncut disk.
-              let so : IsMore r.work.old.input = subst IsMore (sym (does.pulls.takes.input line))
-              (first_fewer t held pulled r.work.new.input limits, first_same t held pulled r.work.new.input limits (sequence_end - next_in held) few) in
-              record_some (record_line table path) r told runs tt t does.image does.old_image (good_prefix pulled) does.blocks []
-              (trace_answer (came_all r.work))
-              (new_blocks t held (good_prefix r.work.old.input)) e silent so.0 so.1;
-        }
-    record_at outcome.DiskFault e own = record {
-      came = came_part pulled;
-      given = gave_part r.work pulled does.pulls.takes;
-      refines = record_failed (record_line table path) r told runs tt t does.image does.old_image (recording t (came_part pulled))
-          (records_works r.work.old.held (new_blocks t r.work.old.held (good_prefix pulled)) [] (trace_answer (came_part pulled))) e
-          silent;
-      all = λ line uncut disk. absurd (disk e);
-    }
+        let few : sequence_end - next_in held ≤ length (new_blocks t held (good_prefix pulled)) - 1 = omega (arith, does.blocks.beyond e (told.image tt)) in (
+          record {
+            came = came_part pulled;
+            given = gave_part r.work pulled does.pulls.takes;
+            refines = record_some (record_line table path) r told runs tt t does.image does.old_image (good_prefix pulled) does.blocks []
+                (trace_answer (came_part pulled))
+                (new_blocks t held (good_prefix pulled)) e silent (omega arith) refl;
+            all = λ line uncut disk.
+                let so : IsMore r.work.old.input = subst IsMore (sym (does.pulls.takes.input line))
+                (first_fewer t held pulled r.work.new.input limits, first_same t held pulled r.work.new.input limits (sequence_end - next_in held) few) in
+                record_some (record_line table path) r told runs tt t does.image does.old_image (good_prefix pulled) does.blocks []
+                (trace_answer (came_all r.work))
+                (new_blocks t held (good_prefix r.work.old.input)) e silent so.0 so.1;
+          },
+          refl,
+        )
+    record_at outcome.DiskFault e own = (
+      record {
+        came = came_part pulled;
+        given = gave_part r.work pulled does.pulls.takes;
+        refines = record_failed (record_line table path) r told runs tt t does.image does.old_image (recording t (came_part pulled))
+            (records_works r.work.old.held (new_blocks t r.work.old.held (good_prefix pulled)) [] (trace_answer (came_part pulled))) e
+            silent;
+        all = λ line uncut disk. absurd (disk e);
+      },
+      refl,
+    )
     record_at (outcome.ImageRefused why) e own =
         record_any (λ came. record_refused (record_line table path) r told runs tt t does.image does.old_image (recording t came) why e)
     record_at (outcome.WordsDiffer image words) e own =
@@ -137,13 +153,22 @@ module _ (table path : List ℕ) (r : CommandRun) (told : IsTold (record_line ta
     record_at a e own = absurd own
 
   pub means_record : Core (record_line table path) r
-  means_record = means_by_table (record_line table path)
+  means_record =
+      let d = runs.carries_out.3 in
+      means_by_table (record_line table path)
       (λ t came image. in_image t image (records image (new_blocks t image (good_prefix came.bytes)) [] (trace_answer came))) r told runs refl (λ g. refl)
-      (λ why. let d = runs.carries_out.3 in (came_part d.pulled, r.work.old.held, λ yes. gave_part r.work d.pulled d.pulls.takes, λ yes. refl))
-      runs.carries_out (λ bytes did past own.
-      let i = record_at (table_in bytes) did
-      r.work.answer refl own in
-      record { came = i.came; image = r.work.old.held; given = λ yes. i.given; held = λ yes. refl; does = i.refines; all = i.all })
+      (λ why. record {
+        came = came_part d.pulled;
+        image = r.work.old.held;
+        given = λ yes. gave_part r.work d.pulled d.pulls.takes;
+        held = λ yes. refl;
+        pulled = (runs, refl);
+      })
+      runs.carries_out (λ past own. let i = record_at runs.carries_out.0 d r.work.answer refl own in record {
+        rest = record { came = i.0.came; image = r.work.old.held; given = λ yes. i.0.given; held = λ yes. refl; pulled = (runs, i.1) };
+        does = i.0.refines;
+        all = i.0.all;
+      })
 
 -- ---- drill
 
@@ -217,16 +242,8 @@ module _ (table path : List ℕ) (seed frames : ℕ) (r : CommandRun) (told : Is
     drill_at a e own = absurd own
 
   pub means_drill : Core (drill_image table path seed frames) r
-  means_drill = means_by_table (drill_image table path seed frames)
-      (λ t came image. in_image t image (records image (new_blocks t image (generated_trace t seed frames))
-      (drilled t image (new_blocks t image (generated_trace t seed frames))) outcome.Done)) r told runs refl (λ g. refl)
-      (λ why. (nothing, r.work.old.held, λ no. absurd no, λ yes. refl))
-      runs.carries_out (λ bytes did past own. let d = drill_at (table_in bytes) did
-      r.work.answer refl own in record {
-        came = nothing;
-        image = r.work.old.held;
-        given = λ no. absurd no;
-        held = λ yes. refl;
-        does = d;
-        all = λ line uncut disk. d;
-      })
+  means_drill = means_unpulled (drill_image table path seed frames)
+      (λ t image. in_image t image (records image (new_blocks t image (generated_trace t seed frames))
+      (drilled t image (new_blocks t image (generated_trace t seed frames))) outcome.Done)) r told runs refl (λ g. refl) (λ no. no) tt
+      r.work.old.held (λ yes. refl) runs.carries_out
+      (λ past own. drill_at runs.carries_out.0 runs.carries_out.3 r.work.answer refl own)

@@ -19,7 +19,7 @@ use Rattle.fdr_top.specs.Meaning.{Effect, answers, at_start, changes, made, or_a
 use Rattle.fdr_top.specs.Doing.{Becomes, IsTold, Refines}
 use Rattle.fdr_top.proofs.MeaningWords.{Core, by_ring, on_empty}
 use Rattle.fdr_top.proofs.MeaningLeft.{refused, wrote_nothing, front_nothing}
-use Rattle.fdr_top.proofs.MeaningByTable.{means_by_table, nothing}
+use Rattle.fdr_top.proofs.MeaningByTable.{means_unpulled}
 use Rattle.fdr_top.proofs.MeaningImages.{IsImageRefusal, image_or, image_reads, image_refuses, none_or, words_refuse, read_all, read_cut, read_failed}
 use Rattle.fdr_top.proofs.MeansImages.{looked}
 
@@ -89,17 +89,9 @@ module _ (table path : List ℕ) (ring : Option (ℕ × ℕ)) (r : CommandRun) (
   pub means_salvaged : ((t : TableRows) → SalvagesImage t ring r.work.tells r.work.old r.work.new r.work.written_before r.work.written_now r.work.answer
       → IsOwn (salvage_image table path ring) r.work.answer → Refines (salvage_image table path ring) (salvages t) r.work)
       → Core (salvage_image table path ring) r
-  means_salvaged at = means_by_table (salvage_image table path ring) (λ t came image. by_ring ring t image (writes (salvage_in t ring image) outcome.Done)) r
-      told runs refl (λ g. refl)
-      (λ why. (nothing, r.work.old.held, λ no. absurd no, λ yes. refl))
-      runs.carries_out (λ bytes did past own. let d = at (table_in bytes) did own in record {
-        came = nothing;
-        image = r.work.old.held;
-        given = λ no. absurd no;
-        held = λ yes. refl;
-        does = d;
-        all = λ line uncut disk. d;
-      })
+  means_salvaged at = means_unpulled (salvage_image table path ring) (λ t image. by_ring ring t image (writes (salvage_in t ring image) outcome.Done)) r
+      told runs refl (λ g. refl) (λ no. no) tt r.work.old.held (λ yes. refl) runs.carries_out
+      (λ past own. at runs.carries_out.0 runs.carries_out.3 own)
 
 pub means_salvage : (table path : List ℕ) (ring : Option (ℕ × ℕ)) (r : CommandRun) → IsTold (salvage_image table path ring) r
     → IsSoundDeck r.work.tells r.work.old → RunsCommand (salvage_image table path ring) r → Core (salvage_image table path ring) r
@@ -181,15 +173,7 @@ module _ (table path : List ℕ) (slots payload : ℕ) (r : CommandRun) (told : 
     format_at a e own = absurd own
 
   pub means_format : Core (format_image table path slots payload) r
-  means_format = means_by_table (format_image table path slots payload)
-      (λ t came image. on_empty image (changes (made (new_header slots payload t.frame.words)))) r told runs refl (λ g. refl)
-      (λ why. (nothing, r.work.old.held, λ no. absurd no, λ yes. refl))
-      runs.carries_out (λ bytes did past own. let d = format_at (table_in bytes) did
-      r.work.answer refl own in record {
-        came = nothing;
-        image = r.work.old.held;
-        given = λ no. absurd no;
-        held = λ yes. refl;
-        does = d;
-        all = λ line uncut disk. d;
-      })
+  means_format = means_unpulled (format_image table path slots payload)
+      (λ t image. on_empty image (changes (made (new_header slots payload t.frame.words)))) r told runs refl (λ g. refl) (λ no. no) tt
+      r.work.old.held (λ yes. refl) runs.carries_out
+      (λ past own. format_at runs.carries_out.0 runs.carries_out.3 r.work.answer refl own)

@@ -20,7 +20,7 @@ use Rattle.fdr_top.proofs.MeaningWords.{Core}
 use Rattle.fdr_top.specs.Meaning.{Effect, stays, trace_answer, writes}
 use Rattle.fdr_top.specs.Doing.{Becomes, IsTold}
 use Rattle.fdr_top.proofs.MeaningLeft.{idle_keeps, stays_unused}
-use Rattle.fdr_top.proofs.MeaningByTable.{means_by_table}
+use Rattle.fdr_top.proofs.MeaningByTable.{line_rest, means_by_table}
 use Rattle.fdr_top.proofs.MeaningInputs.{MeansInput, came_cut, came_part, gave_cut, gave_none, gave_part, rose_or}
 use Rattle.fdr_top.proofs.MeaningTraces.{IsSameTrace, done_ends, done_same, failed_ends, refused_ends, refused_same}
 
@@ -93,8 +93,7 @@ module _ (path : List ℕ) (r : CommandRun) (told : IsTold (stream_line path) r)
   pub means_stream : Core (stream_line path) r
   means_stream = means_by_table (stream_line path) (λ t came image. writes (stream_of t (good_prefix came.bytes)) (trace_answer came)) r told runs refl
       (λ g. refl)
-      (λ why. (came_part [], [], λ yes. gave_none r.work (idle_keeps (stream_line path) r runs tt why), λ no. absurd no))
-      runs.carries_out (λ bytes did past own.
-      let i = stream_at (table_in bytes) (did past)
-      r.work.answer refl own in
-      record { came = i.came; image = []; given = λ yes. i.given; held = λ no. absurd no; does = i.refines; all = i.all })
+      (λ why. line_rest (stream_line path) r (came_part []) (gave_none r.work (idle_keeps (stream_line path) r runs tt why)) (λ no. no) tt)
+      runs.carries_out (λ past own.
+      let i = stream_at runs.carries_out.0 (runs.carries_out.3 past) r.work.answer refl own in
+      record { rest = line_rest (stream_line path) r i.came i.given (λ no. no) tt; does = i.refines; all = i.all })

@@ -2,8 +2,13 @@
 --
 --     run .. ensures means: where the words have a form and what is handed in is told (`IsTold`), `DoesAsMeant form r`
 --
+-- and of each disk, told or not, what its length decides:
+--
+--     run .. ensures size: where the words have a form, `SizeDecides` of its image
+--
 -- Not here: words of no form (Usage), standard error, time, how far an input is read ahead, and which counts of faults rise.
-use Rattle.std.specs.Prelude.{◌≡◌, ◌≢◌, ◌⊎◌, true, false, List, IfSome, IsTrue, IsSome}
+use Rattle.std.specs.Prelude.{◌≡◌, ◌≢◌, ◌⊎◌, ◌==◌, ℕ, nat_lt, if◌then◌else◌, true, false, List, Option, Some, None, IfSome, IsTrue, IsSome}
+use Rattle.std.specs.Option.{option_map}
 use Rattle.fdr_io.specs.Faults.{Rose}
 use Rattle.fdr_io.specs.Told.{followed_by, preceded_by}
 use Rattle.fdr_deck.specs.State.{Moment, State, Tells}
@@ -11,6 +16,8 @@ use Rattle.fdr_deck.specs.Disk.{IsSettled, KeepsDisk}
 use Rattle.fdr_deck.specs.Moments.{EachMoment}
 use Rattle.fdr_deck.specs.Pull.{TakesInput}
 use Rattle.fdr_slot.specs.Places.{image_size}
+use Rattle.fdr_slot.specs.declared.image.ImageFault.{ImageFault}
+use Rattle.fdr_slot.specs.declared.image.ImageFault.TheVariants as fault
 use Rattle.fdr_recover.specs.Blocks.{Block}
 use Rattle.fdr_recover.specs.ImageHeader.{header_in}
 use Rattle.fdr_recover.specs.Payloads.{run_in}
@@ -19,13 +26,15 @@ use Rattle.fdr_ring.specs.Rings.{OfSettled}
 use Rattle.fdr_recorder.specs.Keeping.{RecoversPrefix}
 use Rattle.fdr_recorder.specs.NewBlocks.{AddsToRun, MayRecord, next_in}
 use Rattle.fdr_recorder.specs.Recording.{IsClose}
-use Rattle.fdr_words.specs.Forms.{Form}
+use Rattle.fdr_words.specs.Forms.{Form, ImageUse, has_no_image, makes_image}
 use Rattle.fdr_load.specs.Supplies.{Supplied}
 use Rattle.fdr_top.specs.Answers.{HasImage, PullsInput, ReadsTable, WritesText}
 use Rattle.fdr_top.specs.InputTexts.{WritesFront}
 use Rattle.fdr_top.specs.Runs.{CommandRun, WorkRun}
-use Rattle.fdr_top.specs.Stages.{WritesNothing}
+use Rattle.fdr_top.specs.Refusals.{ring_fault}
+use Rattle.fdr_top.specs.Stages.{IsPastTable, WritesNothing}
 use Rattle.fdr_top.specs.Upgrade.{UpgradingStop, upgraded}
+use Rattle.fdr_top.specs.declared.outcome.Outcome.{Outcome}
 use Rattle.fdr_top.specs.declared.outcome.Outcome.TheVariants as outcome
 use Rattle.fdr_top.specs.Meaning.{Change, Effect, Given, at_table, at_work, gets, made, meaning, raised, stays, with_all}
 
@@ -125,6 +134,29 @@ pub record DoesAsMeant (form : Form) (r : CommandRun) : Type 0 where
   pub does : Refines form (meaning form g) r.work
   pub all : IsTrue r.work.tells.input → g.input.failed ≡ false → r.work.answer ≢ outcome.DiskFault
       → Refines form (meaning form (with_all r.work.old.input g)) r.work
-  pub stops : (PullsInput form → IsTrue r.work.tells.input) → HasImage form → ((meaning form g).step ≡ at_work)
-      ⊎ WritesNothing r.work.answer
+  pub stops : HasImage form → ((meaning form g).step ≡ at_work) ⊎ WritesNothing r.work.answer
       → EachMoment r.work.tells r.work.old r.work.new (MayLeave (meaning form g).image r.work.old)
+
+-- ---- what a length decides
+
+-- why an image of this length refuses a command, if it does, whatever its bytes are: one that is to be made has none, a header
+-- takes 64, and a ring that is taken in place of a header takes all of its slots
+abbrev pub bad_size : ImageUse → Option (ℕ × ℕ) → ℕ → Option Outcome
+bad_size has_no_image ring size = None
+bad_size makes_image ring size = if size == 0 then None else Some outcome.NotEmpty
+bad_size kind (Some ring) size = option_map outcome.ImageRefused (ring_fault ring size)
+bad_size kind None size = if nat_lt size 64 then Some (outcome.ImageRefused fault.Small) else None
+
+-- the length by which an image is refused: as it was asked for; of one that is made, as it was before
+abbrev pub size_asked : ImageUse → WorkRun → ℕ
+size_asked makes_image r = r.old.extent
+size_asked kind r = r.new.extent
+
+-- What the length of a disk decides, told or not: an image that it refuses is refused so, unless the disk failed; and NotEmpty, a
+-- refusal as too small and any refusal by a ring come from the length alone.
+pub record SizeDecides (kind : ImageUse) (ring : Option (ℕ × ℕ)) (r : WorkRun) : Type 0 where
+  pub refused : (why : Outcome) → IsPastTable r.answer → bad_size kind ring (size_asked kind r) ≡ Some why
+      → (r.answer ≡ why) ⊎ (r.answer ≡ outcome.DiskFault)
+  pub not_empty : r.answer ≡ outcome.NotEmpty → bad_size kind ring r.new.extent ≡ Some outcome.NotEmpty
+  pub too_short : (why : ImageFault) → r.answer ≡ outcome.ImageRefused why → (why ≡ fault.Small) ⊎ IsSome ring
+      → bad_size kind ring r.new.extent ≡ Some (outcome.ImageRefused why)

@@ -8,7 +8,7 @@ ghost use Rattle.fdr_words.specs.Forms.{command_uses, form_of, IsInBounds};
 ghost use Rattle.fdr_top.specs.Stages.{EndsBeforeDeck};
 ghost use Rattle.fdr_top.specs.Answers.{ReadsTable, UsesDeck, WritesText, ReadsImage};
 ghost use Rattle.fdr_top.specs.Commands.{Works, RunsCommand};
-ghost use Rattle.fdr_top.specs.Doing.{DoesAsMeant, IsTold};
+ghost use Rattle.fdr_top.specs.Doing.{DoesAsMeant, IsTold, SizeDecides};
 ghost use Rattle.fdr_top.specs.Runs.{CommandRun};
 ghost use Rattle.fdr_table.specs.Ranges.{IsInRange};
 ghost use Rattle.fdr_check.specs.Soundness.{IsSound};
@@ -175,6 +175,18 @@ pub fn run<T: Source, D: Deck, O: Sink>(
         answer = result;
       };
     } in IsTold form r → DoesAsMeant form r) }
+
+    // The length of a disk decides, whatever the disk holds or tells.
+    ensures size { IfSome (form_of (map string_bytes args.now)) (λ form. SizeDecides (command_uses form).work (command_uses form).ring (record {
+      tells = D.tells;
+      old = D.state deck.old;
+      new = D.state deck.new;
+      written_before = O.written out.old;
+      written_now = O.written out.new;
+      sink_before = O.faults out.old;
+      sink_now = O.faults out.new;
+      answer = result;
+    })) }
 
     // What is promised of the command that they ask for.
     ensures runs { IfSome (form_of (map string_bytes args.now)) (λ form. RunsCommand form (record {

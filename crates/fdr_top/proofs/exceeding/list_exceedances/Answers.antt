@@ -8,7 +8,6 @@ use Rattle.fdr_top.specs.declared.outcome.Outcome.TheVariants as outcome
 use Rattle.fdr_top.proofs.Answering.{memory_writes, passes_keeps}
 use Rattle.fdr_top.proofs.ExceededImages.{blocks_exceeded, long_image, no_room_to_watch, of_rules, opening_own, rules_refused, rules_unread, unopened}
 use Rattle.fdr_top.proofs.ListedImages.{of_blocks, of_blocks_begun}
-use Rattle.fdr_top.proofs.RecordLines.{refuses_nothing}
 use Rattle.fdr_top.proofs.Results.{bounded_between, err_same, kept_bounded, memory_not_disk, memory_not_input, memory_not_write, ok_not_err}
 use Rattle.fdr_top.proofs.Results.{rose_after, rose_later}
 use Rattle.fdr_top.proofs.Openings.{shut_unpulled, shut_unwritten}

@@ -1,9 +1,10 @@
-use Rattle.std.proofs.Common.{refl, arith}
+use Rattle.std.proofs.Common.{None, refl, arith}
 use Rattle.fdr_readout.proofs.ListedEvents.{lists_events}
 use Rattle.fdr_top.proofs.Carrying.{nothing_done}
 use Rattle.fdr_top.proofs.Commands.{of_form}
 use Rattle.fdr_top.proofs.MeaningCommands.{means}
 use Rattle.fdr_top.proofs.OneRun.{one_run}
+use Rattle.fdr_top.proofs.Sizes.{sizes}
 use Rattle.fdr_top.proofs.top.run.Goals as goal
 
 pub returns-in-Err-NoMemory-clause-runs : goal.returns-in-Err-NoMemory-clause-runs
@@ -37,3 +38,11 @@ returns-in-Err-NoMemory-clause-means g c = of_form _ _ (λ form. means form _
 
 pub returns-in-Ok-clause-means : goal.returns-in-Ok-clause-means
 returns-in-Ok-clause-means g c = rw c.in-Ok.ensures.form (means _ _ c.carry_out.ensures.runs (g.met.D.Deck.sound c.args.deck.now))
+
+pub returns-in-Err-NoMemory-clause-size : goal.returns-in-Err-NoMemory-clause-size
+returns-in-Err-NoMemory-clause-size g c = of_form _ _ (λ form.
+    sizes form (record { rest_before = None; rest_now = None; table_before = 0; table_now = 0; work = _ })
+    (nothing_done form _ _ _ _ _ refl refl refl (g.met.D.Deck.sound c.args.deck.now)))
+
+pub returns-in-Ok-clause-size : goal.returns-in-Ok-clause-size
+returns-in-Ok-clause-size g c = rw c.in-Ok.ensures.form (sizes _ _ c.carry_out.ensures.runs)
