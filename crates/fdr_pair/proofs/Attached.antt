@@ -32,6 +32,7 @@ use Rattle.fdr_pair.proofs.Going.{known, ring_left}
 use Rattle.fdr_pair.proofs.PairWorks.{work_here, work_of, work_then}
 use Rattle.fdr_pair.proofs.SideCounts.{counted_then}
 use Rattle.fdr_pair.specs.SideCounts.{CountsBoth}
+use Rattle.fdr_pair.proofs.KeptSides.{of_now}
 
 -- an image that is as it was
 attaching_same : (h : Header) (image : List ℕ) → IsAttaching h image image
@@ -68,7 +69,7 @@ module _ (tells : Tells) (h : Header) (side : Side) where
       → CountsBoth old new → PairWork tells (AttachMoment h side follower.Level old) old new
   attach_work old new sound served counts =
       work_of tells side (OfSettled (seen side old) (IsAttaching h)) (AttachMoment h side follower.Level old) old new sound served counts
-      (λ stops m own other. inr own)
+      (λ stops m own other. own)
 
   -- a side is as ready as it was, where its disk is as it was
   pub ready_left : (start : Follower) (p q : Pair) → IsSameDisk (disk_on side p) (disk_on side q) → IsAttachReady tells h side start p
@@ -104,7 +105,7 @@ module _ (tells : Tells) (h : Header) (side : Side) where
   moment_left follower.Failed old new sound leaves stops m since = leaves.moments m since
   moment_left follower.Level old new sound leaves stops m since =
       let image = other_left tells side old new sound leaves stops m since in
-      inr (λ settled. subst (λ (l : List ℕ). IsAttaching h (disk_on side old).held l) (sym (settled (image_on side m) image))
+      (λ settled. subst (λ (l : List ℕ). IsAttaching h (disk_on side old).held l) (sym (settled (image_on side m) image))
       (attaching_same h (disk_on side old).held))
   moment_left (follower.Brought r) old new sound leaves stops m since = other_left tells side old new sound leaves stops m since
 
@@ -115,11 +116,8 @@ module _ (tells : Tells) (h : Header) (side : Side) where
       (λ now. leaves.moments m (sound.falls old.clock mid.clock m time.later (omega arith) now))
       (λ stays. inr (stays_before side old mid m leaves.disk stays))
       at
-  moment_before follower.Level old mid m sound time leaves at = ⊎_elim
-      (λ rose. inl (subst (λ (n : ℕ). Rose n (faults_on side m)) leaves.disk.faults rose))
-      (λ left. inr (λ settled. subst (λ (l : List ℕ). IsAttaching h l (image_on side m)) leaves.disk.held
-      (left (settled_on old mid side leaves.disk settled))))
-      at
+  moment_before follower.Level old mid m sound time leaves at =
+      λ settled. subst (λ (l : List ℕ). IsAttaching h l (image_on side m)) leaves.disk.held (at (settled_on old mid side leaves.disk settled))
   moment_before (follower.Brought r) old mid m sound time leaves at = leaves.disk.no_more (image_on side m) at
 
   -- a moment of a side that has a ring now, at which its image is one that a stop could leave
@@ -127,7 +125,7 @@ module _ (tells : Tells) (h : Header) (side : Side) where
       → IsTrue tells.stops → (disk_on side mid).may_leave (image_on side m) → AttachMoment h side start old m
   moment_now follower.Failed r old mid m sound now stops image = absurd now
   moment_now follower.Level r old mid m sound now stops image =
-      inr (λ settled. subst (λ (l : List ℕ). IsAttaching h (disk_on side old).held l) (sym (now.ring.settled stops (image_on side m) image))
+      (λ settled. subst (λ (l : List ℕ). IsAttaching h (disk_on side old).held l) (sym (now.ring.settled stops (image_on side m) image))
       (now.keeps ((sound.sides side).stops_need_bytes stops)))
   moment_now (follower.Brought s) r old mid m sound now stops image = now.disk.no_more (image_on side m) image
 
@@ -141,10 +139,10 @@ module _ (tells : Tells) (h : Header) (side : Side) where
       (λ here. known tells (AttachMoment h side follower.Failed old) old mid sound time was stops m here)
       (λ stays. inr (stays_before side old mid m (still refl) stays))
       (leaves.moments m since)
-  moment_then follower.Level None old mid new sound time now still was leaves stops m since = ⊎_elim
-      (λ here. known tells (AttachMoment h side follower.Level old) old mid sound time was stops m here)
-      (λ stays. inl (subst (λ (n : ℕ). Rose (disk_on side old).faults n) (sym stays.faults) now))
-      (leaves.moments m since)
+  moment_then follower.Level None old mid new sound time now still was leaves stops m since =
+      of_now tells side (OfSettled (seen side old) (IsAttaching h)) mid m sound stops
+      (λ x here. known tells (AttachMoment h side follower.Level old) old mid sound time was stops x here)
+      (other_left tells side mid new sound leaves stops m since)
   moment_then (follower.Brought r) None old mid new sound time now still was leaves stops m since = absurd now
 
   -- the ring that a side has now goes on with the number that was found

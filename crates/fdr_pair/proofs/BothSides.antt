@@ -21,6 +21,7 @@ use Rattle.fdr_pair.proofs.Counting.{counts_here, counts_more, counts_then}
 use Rattle.fdr_pair.proofs.Going.{exact_none}
 use Rattle.fdr_pair.proofs.Onward.{moment_more, moments_on, now_on}
 use Rattle.fdr_pair.proofs.Servings.{now_told}
+use Rattle.fdr_pair.proofs.KeptSides.{kept_here, kept_more, kept_then}
 
 -- ---- one side
 
@@ -96,6 +97,8 @@ pub PairRecordsFirst-here : (tells : Tells) (rings : PairRings) (new : List Bloc
 PairRecordsFirst-here tells rings new p sound settled = record {
   first = moment_here tells First rings.first rings.header rings.next new p sound rings.first_follows settled.first;
   second = moment_here tells Second rings.second rings.header rings.next new p sound rings.second_follows settled.second;
+  first_kept = kept_here tells First rings.first new p sound settled.first;
+  second_kept = kept_here tells Second rings.second new p sound settled.second;
   numbers = counts_here tells rings.next (length new) p sound;
 }
 
@@ -114,6 +117,8 @@ pub PairRecordsFirst-more : (tells : Tells) (rings : PairRings) (new more : List
 PairRecordsFirst-more tells rings new more p q is = record {
   first = λ few stops m since. moment_more First rings.first new more p m (is.first few stops m since);
   second = λ few stops m since. moment_more Second rings.second new more p m (is.second few stops m since);
+  first_kept = λ stops m since. kept_more First rings.first new more p m (is.first_kept stops m since);
+  second_kept = λ stops m since. kept_more Second rings.second new more p m (is.second_kept stops m since);
   numbers = counts_more tells rings.next (length new) (length (new ++ more)) p q (omega (arith, length-append new more)) is.numbers;
 }
 
@@ -126,6 +131,10 @@ module _ (tells : Tells) (rings mid : PairRings) (new more : List Block) (p q r 
         (next.first (let most = first.numbers.greatest few in omega (arith, most, all.next)));
     second = λ few. moments_on tells Second new more p q r sound first.numbers.time next.numbers.time rings.second mid.second all.second
         (first.second few) (next.second (let most = first.numbers.greatest few in omega (arith, most, all.next)));
+    first_kept = kept_then tells First new more p q r sound first.numbers.time next.numbers.time rings.first mid.first all.first first.first_kept
+        next.first_kept;
+    second_kept = kept_then tells Second new more p q r sound first.numbers.time next.numbers.time rings.second mid.second all.second first.second_kept
+        next.second_kept;
     numbers = counts_more tells rings.next (length new + length more) (length (new ++ more)) p r (omega (arith, length-append new more))
         (counts_then tells rings.next mid.next (length new) (length more) p q r sound all.next first.numbers next.numbers);
   }

@@ -6,6 +6,7 @@ pub mod Told
 pub mod Going
 pub mod Both
 pub mod Onward
+pub mod KeptSides
 pub mod PairWorks
 pub mod Opening
 mod FourWords
@@ -35,7 +36,9 @@ pub mod Alikes
 pub mod StartMoments
 pub mod Attached
 pub mod Leading
+pub mod Limits
 pub mod PairKeeping
+pub mod PairHaving
 pub mod PairGoing
 pub mod PairTables
 pub mod PairFirstBlocks

@@ -147,6 +147,7 @@ keeps_idle r g line idle = record {
   pulls = takes_none r line;
   front = (g.input.bytes, refl);
   each = λ side none may stops m since pulled. absurd (omega (arith, (idle stops m since).taken, pulled));
+  failed = λ side none may stops m since pulled. absurd (omega (arith, (idle stops m since).taken, pulled));
   in_time = λ may stops m since. record {
     pulled = inl (record { taken = (idle stops m since).taken; pulled_before = (idle stops m since).pulled_before });
   };

@@ -47,8 +47,10 @@ use Rattle.fdr_pair.specs.declared.outcome.PairOutcome.TheVariants as outcome
 use Rattle.fdr_pair.specs.declared.rings.PairRings.{PairRings}
 use Rattle.fdr_pair.specs.declared.start.PairStart.{PairStart}
 use Rattle.fdr_pair.proofs.Leading.{one_header}
-use Rattle.fdr_pair.proofs.PairKeeping.{blocks_same, failed_by, follows_on, follower_kept, from_image, keeps_first, kept_on, lead_kept, over, over_pulled}
+use Rattle.fdr_pair.proofs.PairKeeping.{blocks_same, failed_by, follows_on, follower_kept, from_image, keeps_first, kept_on, lead_kept, lead_run_kept, over}
+use Rattle.fdr_pair.proofs.PairKeeping.{over_pulled}
 use Rattle.fdr_pair.proofs.PairKeeping.{rose_before, unread_kept}
+use Rattle.fdr_pair.proofs.PairHaving.{kept_with_lead, kept_without_lead}
 
 -- ---- sides
 
@@ -324,6 +326,7 @@ module _ (t : TableRows) (tells : Tells) (s : PairStart) (p0 p5 p6 : Pair) (end 
           ))
           (λ failed. inr (failed_before_pull (follower_on p0) failed.0))
           w.follower;
+      kept = λ side read may. kept_with_lead t tells s p0 p5 p6 end sound started recorded may w side read;
       in_time = λ may. keeps_up (lead_image p0) w.header w.next;
       ends = ended_by (λ done. HoldWithLead tells done p0 p6) (lead_image p0) w.header w.next w.after
           (have_ended (λ done. HoldWithLead tells done p0 p6) (λ left done all. hold_with_lead told left done all w));
@@ -339,6 +342,7 @@ module _ (t : TableRows) (tells : Tells) (s : PairStart) (p0 p5 p6 : Pair) (end 
           (λ late. inr (from_image t tells s p0 p5 p6 end sound started recorded (follower_on p0) (run_in (follower_image p0)) (follower_image p0) m
           w.header w.next w.after late))
           (kept_on t tells s p0 p5 p6 end sound started recorded (follower_on p0) (run_in (follower_image p0)) w.follower stops m since (inr some)));
+      kept = λ side read may. kept_without_lead t tells s p0 p5 p6 end sound started recorded may w side read;
       in_time = λ may. keeps_up (follower_image p0) w.header w.next;
       ends = ended_by (λ done. HoldWithoutLead tells done p0 p6) (follower_image p0) w.header w.next w.after
           (have_ended (λ done. HoldWithoutLead tells done p0 p6) (λ left done all. hold_without_lead told left done all w));
@@ -348,6 +352,7 @@ module _ (t : TableRows) (tells : Tells) (s : PairStart) (p0 p5 p6 : Pair) (end 
     pub keeps_pair : KeepsPair t tells recorded.pulled p0 p6 answer
     keeps_pair = record {
       lead = lead_kept t tells s p0 p5 p6 end sound started recorded;
+      lead_run = lead_run_kept t tells s p0 p5 p6 end sound started recorded;
       follower = follower_kept t tells s p0 p5 p6 end sound started recorded;
       unread = unread_kept t tells s p0 p5 p6 end sound started recorded;
       goes_on = λ later told. ⊎_elim (λ w. inl (with_lead told w)) (λ w. inr (without_lead told w)) (started.goes_on told);
@@ -391,6 +396,7 @@ module _ (t : TableRows) (tells : Tells) (p0 p : Pair) (why : PairOutcome) (refu
           now = rose_on is (follower_on p0);
           moments = λ stops m since some. let none = (refused.keeps.unpulled stops m since).taken in absurd (omega (arith, some, none));
         });
+        kept = λ side read may stops m since some. let none = (refused.keeps.unpulled stops m since).taken in absurd (omega (arith, some, none));
         in_time = λ may stops m since.
             let at = refused.keeps.unpulled stops m since in
             record { pulled = inl (record { taken = at.taken; pulled_before = at.pulled_before }) };
@@ -409,6 +415,7 @@ module _ (t : TableRows) (tells : Tells) (p0 p : Pair) (why : PairOutcome) (refu
         (λ keeps. inr (keeps_first (header_in (lead_image p0)) (lead_image p0) (run_in (lead_image p0)) (next_in (lead_image p0))
         (new_blocks t (lead_image p0) (good_prefix [])) m.announced (image_on (lead_on p0) m) keeps))
         (refused.keeps.lead read may stops m since);
+    lead_run = λ read may stops m since _. refused.keeps.lead_run read may stops m since;
     follower = λ read may stops m since _. refused.keeps.follower read may stops m since;
     unread = refused.keeps.unread;
     goes_on = λ later told. inl (both_failed (⊎_elim (λ line. absurd (later line)) (λ is. is) refused.line));

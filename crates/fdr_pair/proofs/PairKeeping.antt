@@ -29,7 +29,7 @@ use Rattle.fdr_recorder.specs.Past.{all_blocks, past_at_start, session_of}
 use Rattle.fdr_recorder.specs.declared.source.SourceEnd.{SourceEnd}
 use Rattle.fdr_pair.specs.Brought.{brought_run, missing_blocks}
 use Rattle.fdr_pair.specs.Alike.{AreAlike, lead_on, follower_on, lead_image, follower_image}
-use Rattle.fdr_pair.specs.Living.{Follows, SideMoment}
+use Rattle.fdr_pair.specs.Living.{Follows, SideKept, SideMoment}
 use Rattle.fdr_pair.specs.PairRecording.{IsSettledSide}
 use Rattle.fdr_pair.specs.PairMoments.{MayRecordPair, HasFailedBy, KeepsOwnRun, KeepsRunUntilPull, KeepsRunWith, StaysAsAtEntry}
 use Rattle.fdr_pair.specs.SideKeeping.{HasFailedOrKeeps, KeepsRecording}
@@ -39,7 +39,8 @@ use Rattle.fdr_pair.specs.declared.fault.PairFault.{PairFault}
 use Rattle.fdr_pair.specs.declared.rings.PairRings.{PairRings}
 use Rattle.fdr_pair.specs.declared.start.PairStart.{PairStart}
 use Rattle.fdr_pair.proofs.Going.{on, known}
-use Rattle.fdr_pair.proofs.Keeps.{keeps_since}
+use Rattle.fdr_pair.proofs.Keeps.{keeps_since, kept_since}
+use Rattle.fdr_pair.proofs.KeptSides.{of_now}
 use Rattle.fdr_pair.proofs.Leading.{brought_next, one_header}
 
 -- ---- lists of blocks
@@ -205,94 +206,49 @@ module _ (t : TableRows) (tells : Tells) (s : PairStart) (p0 p5 p6 : Pair) (end 
       (started.keeps.lead read may stops m since))
       (lead_late may)
 
-  -- ---- the side that doesn't lead
+  -- ---- whether a side has failed or not
 
-  -- its disk holds the run that it had, with these blocks
-  held_with : (added : List Block) (m : PairMoment) → rings.header ≡ header_in (follower_image p0)
-      → next_in (follower_image p0) + length added ≡ rings.next
-      → HoldsRun rings.header (follower_on p0) (recovered_run rings.header (follower_image p0) ++ added) rings.next p0 p5
-      → image_on (follower_on p0) m ≡ (disk_on (follower_on p0) p5).held → KeepsRunWith added p0 m
-  held_with added m header number holds is =
-      let h = header_in (follower_image p0) in
-      let held = (disk_on (follower_on p0) p5).held in
-      let tail : IsTail (h.slots - 2) (run_in (follower_image p0) ++ added) (recovered_run h held) =
-      subst (λ (x : Header). IsTail (x.slots - 2) (recovered_run x (follower_image p0) ++ added) (recovered_run x held)) header
-      (tail_of rings.header (recovered_run rings.header (follower_image p0) ++ added) held holds.last) in
-      let at : next_of h held ≡ rings.next = ap (λ (x : Header). next_of x held) (sym header) ∙ holds.number in
-      subst (λ (l : List ℕ). KeepsRecording h (follower_image p0) (run_in (follower_image p0)) (next_in (follower_image p0)) added 0 l) (sym is)
-      (record {
-        kept = holds.kept;
-        count = length added;
-        fits = omega arith;
-        run = subst (λ (l : List Block). IsTail (h.slots - 2) (run_in (follower_image p0) ++ l) (recovered_run h held))
-            (sym (take_all (length added) added (omega arith))) tail;
-        next = omega (arith, at, number);
-        announced = omega arith;
-      })
+  -- the image of a side keeps its run and these blocks
+  abbrev pub RunWith : Side → List Block → List ℕ → Type 0
+  RunWith side added image = KeepsRecording (header_in (disk_on side p0).held) (disk_on side p0).held (run_in (disk_on side p0).held)
+      (next_in (disk_on side p0).held) added 0 image
 
-  -- until bytes are pulled
-  module _ (m : PairMoment) (stays : StaysOn (follower_on p0) p5 m) (stops : IsTrue tells.stops) where
-    still_as : (o : Option Ring) → IsCountedByRing o (disk_on (follower_on p0) p0).faults (disk_on (follower_on p0) p5).faults
-        → IsSettledSide tells (follower_on p0) o p5 → HasFailedBy (follower_on p0) p0 m
-        ⊎ ((r : Ring) × (o ≡ Some r) × (image_on (follower_on p0) m ≡ (disk_on (follower_on p0) p5).held))
-    still_as None rose settled = inl (subst (λ (n : ℕ). Rose (disk_on (follower_on p0) p0).faults n) (sym stays.faults) rose)
-    still_as (Some r) counts settled = inr (r, refl, settled.settled stops (image_on (follower_on p0) m) stays.image)
+  side_kept : (side : Side) → EachPairMoment tells p5 p6 (SideKept side (ring_on side rings) blocks p5)
+  side_kept First = recorded.first_kept
+  side_kept Second = recorded.second_kept
 
-    still : HasFailedBy (follower_on p0) p0 m
-        ⊎ ((r : Ring) × (ring_on (follower_on p0) rings ≡ Some r) × (image_on (follower_on p0) m ≡ (disk_on (follower_on p0) p5).held))
-    still = still_as (ring_on (follower_on p0) rings) (started.counts (follower_on p0)) (settled_now (follower_on p0))
+  -- what held of a side's image at each moment of the start holds of what a stop may leave of it then
+  still_so : (side : Side) (Q : List ℕ → Type 0) → EachPairMoment tells p0 p5 (λ m. Q (image_on side m)) → IsTrue tells.stops → (m : PairMoment)
+      → (disk_on side p5).may_leave (image_on side m) → Q (image_on side m)
+  still_so side Q was stops m leaves =
+      of_now tells side Q p5 m sound stops (λ x here. known tells (λ y. Q (image_on side y)) p0 p5 sound started.time was stops x here) leaves
 
-    brought_still : AreAlike t.frame.words p0 → rings.header ≡ header_in (lead_image p0) → rings.next ≡ next_in (lead_image p0)
-        → StartsOnRun (ring_on (follower_on p0) rings) rings.header (follower_on p0)
-        (brought_run rings.header (lead_image p0) (follower_image p0)) rings.next p0 p5 → KeepsRunUntilPull t.frame.words p0 m
-    brought_still alike header number begins = ⊎_elim (λ rose. inl rose)
-        (λ ring.
-        let holds = subst (λ o. StartsOnRun o rings.header (follower_on p0) (brought_run rings.header (lead_image p0) (follower_image p0)) rings.next p0 p5)
-        ring.1 begins in
-        let limits : IsInLimits (header_in (lead_image p0)) = subst (λ (h : Header). IsInLimits h) header rings.limits in
-        let long = ap (λ (h : Header). length (missing_blocks h (lead_image p0) (follower_image p0))) header in
-        let count = brought_next t.frame.words p0 alike limits in
-        inr (inr (
-          alike,
-          subst (λ (h : Header). KeepsRunWith (missing_blocks h (lead_image p0) (follower_image p0)) p0 m) header
-              (held_with (missing_blocks rings.header (lead_image p0) (follower_image p0)) m
-              (header ∙ sym (one_header t.frame.words p0 alike.header)) (omega (arith, count, long, number)) holds ring.2),
-        )))
-        still
+  -- so it does of the image of a side without a ring
+  pub none_kept : (side : Side) → ring_on side rings ≡ None → (Q : List ℕ → Type 0) → EachPairMoment tells p0 p5 (λ m. Q (image_on side m))
+      → EachPairMoment tells p5 p6 (λ m. Q (image_on side m))
+  none_kept side none Q was stops m since =
+      still_so side Q was stops m (subst (λ o. SideKept side o blocks p5 m) none (side_kept side stops m since))
 
-    own_still : rings.header ≡ header_in (follower_image p0) → rings.next ≡ next_in (follower_image p0)
-        → StartsOnRun (ring_on (follower_on p0) rings) rings.header (follower_on p0) (run_in (follower_image p0)) rings.next p0 p5
-        → KeepsRunUntilPull t.frame.words p0 m
-    own_still header number begins = ⊎_elim (λ rose. inl rose)
-        (λ ring.
-        let run : run_in (follower_image p0) ≡ recovered_run rings.header (follower_image p0) ++ [] =
-        ap (λ (h : Header). recovered_run h (follower_image p0)) (sym header) ∙ sym (append-nil (recovered_run rings.header (follower_image p0))) in
-        let holds = subst (λ (l : List Block). HoldsRun rings.header (follower_on p0) l rings.next p0 p5) run
-        (subst (λ o. StartsOnRun o rings.header (follower_on p0) (run_in (follower_image p0)) rings.next p0 p5) ring.1 begins) in
-        inr (inl (held_with [] m header (omega (arith, number)) holds ring.2)))
-        still
+  -- and until bytes are pulled
+  idle_kept : (side : Side) (Q : List ℕ → Type 0) → EachPairMoment tells p0 p5 (λ m. Q (image_on side m))
+      → EachPairMoment tells p0 p6 (λ m. m.taken ≡ p0.taken → Q (image_on side m))
+  idle_kept side Q was = over (λ m. m.taken ≡ p0.taken → Q (image_on side m)) (λ stops m since _. was stops m since)
+      (λ stops m since. ⊎_elim
+      (λ idle. ⊎_elim (λ now. inl now) (λ stays. inr (λ _. still_so side Q was stops m stays.image)) (idle.sides side))
+      (λ some. inr (λ none. let line = started.line.taken in absurd (omega (arith, some, none, line))))
+      (recorded.idle stops m since))
 
-  follower_late : EachPairMoment tells p5 p6 (λ m. p5.since p5.clock m ⊎ (m.taken ≡ p0.taken → KeepsRunUntilPull t.frame.words p0 m))
-  follower_late stops m since =
-      let line = started.line.taken in
-      ⊎_elim
-      (λ idle. ⊎_elim (λ now. inl now)
-      (λ stays. inr (λ _. ⊎_elim
-      (λ w. ⊎_elim
-      (λ both. brought_still m stays stops both.0 w.header w.next both.1)
-      (λ failed. ⊎_elim (λ rose. inl rose) (λ ring. absurd (let no : None ≡ Some ring.0 = sym failed.0 ∙ ring.1 in cc)) (still m stays stops))
-      w.follower)
-      (λ w. own_still m stays stops w.header w.next w.follower)
-      (started.goes_on (bytes_told stops))))
-      (idle.sides (follower_on p0)))
-      (λ some. inr (λ none. absurd (omega (arith, some, none, line))))
-      (recorded.idle stops m since)
+  -- Until bytes are pulled the lead's image keeps its run.
+  pub lead_run_kept : image_fault_of (lead_image p0) ≡ None → MayRecordPair p0
+      → EachPairMoment tells p0 p6 (λ m. m.taken ≡ p0.taken → KeepsRunWith (lead_on p0) [] p0 m)
+  lead_run_kept read may = idle_kept (lead_on p0) (λ l. RunWith (lead_on p0) [] l) (started.keeps.lead_run read may)
 
   -- Until bytes are pulled the other side's image keeps its run; where both are alike, with the first of the missing blocks.
   pub follower_kept : image_fault_of (follower_image p0) ≡ None → MayRecordPair p0
       → EachPairMoment tells p0 p6 (λ m. m.taken ≡ p0.taken → KeepsRunUntilPull t.frame.words p0 m)
-  follower_kept read may = over (λ m. m.taken ≡ p0.taken → KeepsRunUntilPull t.frame.words p0 m)
-      (λ stops m since _. started.keeps.follower read may stops m since) follower_late
+  follower_kept read may = idle_kept (follower_on p0) (λ l. RunWith (follower_on p0) [] l ⊎ (AreAlike t.frame.words p0
+      × RunWith (follower_on p0) (missing_blocks (header_in (lead_image p0)) (lead_image p0) (follower_image p0)) l))
+      (started.keeps.follower read may)
 
   -- An image whose header doesn't read stays as it was.
   pub unread_kept : (side : Side) (why : ImageFault) → image_fault_of (disk_on side p0).held ≡ Some why → IsSettled (seen side p0)
@@ -300,4 +256,29 @@ module _ (t : TableRows) (tells : Tells) (s : PairStart) (p0 p5 p6 : Pair) (end 
   unread_kept side why fault settled = over (StaysAsAtEntry side p0) (started.keeps.unread side why fault settled)
       (λ stops m since.
       let none = no_ring (ring_on side rings) (image_fault_of (disk_on side p0).held) why (started.read (bytes_told stops) side) fault in
-      ⊎_elim (λ now. inl now) (λ rose. inr (inl rose)) (failed_by side none stops m since))
+      inr (none_kept side none (λ l. l ≡ (disk_on side p0).held) (started.keeps.unread side why fault settled) stops m since))
+
+  -- a side with a ring, that starts on a run
+  pub ring_kept : (side : Side) (run : List Block) (r : Ring) → ring_on side rings ≡ Some r
+      → StartsOnRun (ring_on side rings) rings.header side run rings.next p0 p5
+      → EachPairMoment tells p5 p6 (λ m. KeepsRecording rings.header (disk_on side p0).held run rings.next blocks 0 (image_on side m))
+  ring_kept side run r is begins stops m since =
+      let held = (disk_on side p5).held in
+      let holds : HoldsRun rings.header side run rings.next p0 p5 = subst (λ o. StartsOnRun o rings.header side run rings.next p0 p5) is begins in
+      let same : r.header ≡ rings.header = (follows_on side r is).0 in
+      let tail : IsTail (r.header.slots - 2) run (recovered_run r.header held) =
+      subst (λ (h : Header). IsTail (h.slots - 2) run (recovered_run h held)) (sym same) (tail_of rings.header run held holds.last) in
+      let at : next_of r.header held ≡ rings.next = ap (λ (h : Header). next_of h held) same ∙ holds.number in
+      subst (λ (h : Header). KeepsRecording h (disk_on side p0).held run rings.next blocks 0 (image_on side m)) same
+      (kept_since side r run blocks rings.next p0 p5 m holds.kept tail at (subst (λ o. SideKept side o blocks p5 m) is (side_kept side stops m since)))
+
+  -- the session goes on from this image
+  pub recording_from : (side : Side) (run : Header → List Block) (image held : List ℕ) → rings.header ≡ header_in image
+      → rings.next ≡ next_in image → s.session.session ≡ session_of (run_in image)
+      → KeepsRecording rings.header (disk_on side p0).held (run rings.header) rings.next blocks 0 held
+      → KeepsRecording (header_in image) (disk_on side p0).held (run (header_in image)) (next_in image) (new_blocks t image (good_prefix recorded.pulled)) 0 held
+  recording_from side run image held header number after is =
+      subst (λ (l : List Block). KeepsRecording (header_in image) (disk_on side p0).held (run (header_in image)) (next_in image) l 0 held)
+      (blocks_same t rings.header rings.next s.session.session image recorded.pulled header number after)
+      (subst (λ (n : ℕ). KeepsRecording (header_in image) (disk_on side p0).held (run (header_in image)) n blocks 0 held) number
+      (subst (λ (h : Header). KeepsRecording h (disk_on side p0).held (run h) rings.next blocks 0 held) header is))

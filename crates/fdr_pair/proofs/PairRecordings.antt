@@ -26,7 +26,7 @@ use Rattle.fdr_pair.specs.Opening.{AreCountsBelowMost, HasLivingSide, common_hea
 use Rattle.fdr_pair.specs.Opening.{same_header}
 use Rattle.fdr_pair.specs.Opening as pair
 use Rattle.fdr_pair.specs.PairEnds.{GoesOnWithLead, GoesOnWithoutLead, HasFailedSince, HaveEnded, HoldWithLead, HoldWithoutLead}
-use Rattle.fdr_pair.specs.PairMoments.{HasFailedBeforePull, HasPulledBytes, KeepsBroughtRun, KeepsUpBy, MayRecordPair}
+use Rattle.fdr_pair.specs.PairMoments.{HasFailedBeforePull, HasPulledBytes, KeepsBroughtRun, KeepsRunWith, KeepsUpBy, MayRecordPair, blocks_to_get}
 use Rattle.fdr_pair.specs.SideKeeping.{HasFailedOrKeeps}
 use Rattle.fdr_twin.specs.Serving.{EachPairMoment}
 use Rattle.fdr_pair.specs.PairRun.{IsHeaderAnswer, PairRun, RecordsPair}
@@ -45,7 +45,8 @@ use Rattle.fdr_load.specs.Supplies.{Supplied}
 use Rattle.fdr_pair.proofs.PairFirstBlocks.{first_fewer, first_same}
 use Rattle.fdr_pair.proofs.PairGivens.{all_elim, all_of, came_all, came_cut, came_part, front_all, front_same, gave_all, gave_cut, gave_part, given_by}
 use Rattle.fdr_pair.proofs.PairGivens.{higher, not_higher, rose_not, was_given, whole}
-use Rattle.fdr_pair.proofs.PairGrowth.{grown_brought, grown_own, keeps_base, keeps_brought, limits_in}
+use Rattle.fdr_pair.proofs.PairGrowth.{grown_brought, grown_own, keeps_base, keeps_brought}
+use Rattle.fdr_pair.proofs.Limits.{limits_in}
 use Rattle.fdr_pair.proofs.PairHeaders.{first_after, header_list, opens, read_unless, refusal_of}
 use Rattle.fdr_pair.proofs.PairRefusals.{alike_passes, meant_recorded, step_meant, step_recorded}
 use Rattle.fdr_pair.proofs.PairTraces.{IsSameTrace, done_ends, done_same, failed_ends, refused_ends, refused_same}
@@ -158,6 +159,10 @@ module _ (r : PairRun) (told : IsPairTold r) (bytes : List ℕ) (is : r.rest_bef
       (run_in (disk_on side r.old).held ++ blocks_not_below (next_in (disk_on side r.old).held) (run_in (disk_on b r.old).held))
       (next_in (disk_on b r.old).held) (new_blocks (table_in bytes) (disk_on b r.old).held (good_prefix rec.pulled)) r.old m)
 
+  abbrev KeptFrom : Side → Type 0
+  KeptFrom b = (side : Side) → image_fault_of (disk_on side r.old).held ≡ None → MayRecordPair r.old → EachPairMoment r.tells r.old r.new (λ m.
+      HasPulledBytes r.old m → KeepsRunWith side (blocks_to_get b side (table_in bytes) (good_prefix rec.pulled) r.old) r.old m)
+
   abbrev KeepsUpFrom : Side → Type 0
   KeepsUpFrom b = MayRecordPair r.old → KeepsUpBy (disk_on b r.old).held (table_in bytes) r.tells rec.pulled r.old r.new
 
@@ -166,11 +171,12 @@ module _ (r : PairRun) (told : IsPairTold r) (bytes : List ℕ) (is : r.rest_bef
     pub failed : Option Side
     pub before : (side : Side) → failed ≡ Some side → HasFailedBeforePull r.tells side r.old r.new
     pub each : KeepsFrom (left_or failed (lead_on r.old))
+    pub had : KeptFrom (left_or failed (lead_on r.old))
     pub in_time : KeepsUpFrom (left_or failed (lead_on r.old))
     pub alike : failed ≡ None → AreAlike words r.old
 
   keeps_of : (k : KeptOn) (came : Supplied) → (rest : List ℕ) × (came.bytes ≡ rec.pulled ++ rest) → KeepsOn (given_by r table came k.failed) r
-  keeps_of k came front = record { pulled = rec.pulled; pulls = rec.pulls.takes; front = front; each = k.each; in_time = k.in_time }
+  keeps_of k came front = record { pulled = rec.pulled; pulls = rec.pulls.takes; front = front; each = k.each; failed = k.had; in_time = k.in_time }
 
   only_this : (s : Side) → HasFailedBeforePull r.tells s r.old r.new → (side : Side) → Some s ≡ Some side → HasFailedBeforePull r.tells side r.old r.new
   only_this s failed side same = let this : s ≡ side = cc in subst (λ (x : Side). HasFailedBeforePull r.tells x r.old r.new) this failed
@@ -206,6 +212,7 @@ module _ (r : PairRun) (told : IsPairTold r) (bytes : List ℕ) (is : r.rest_bef
     before = λ side never. absurd (cc);
     each = from_lead (λ m none may stops since pulled.
         keeps_brought (table_in bytes) (good_prefix rec.pulled) r.old m alike (moments may stops m since pulled));
+    had = w.kept;
     in_time = w.in_time;
     alike = λ none. alike;
   }
@@ -215,6 +222,7 @@ module _ (r : PairRun) (told : IsPairTold r) (bytes : List ℕ) (is : r.rest_bef
     failed = Some (follower_on r.old);
     before = only_this (follower_on r.old) failed;
     each = subst KeepsFrom (sym (twice (lead_on r.old))) (from_lead (λ m none may stops since pulled. inl (failed.moments stops m since pulled)));
+    had = subst KeptFrom (sym (twice (lead_on r.old))) w.kept;
     in_time = subst KeepsUpFrom (sym (twice (lead_on r.old))) w.in_time;
     alike = λ none. absurd (cc);
   }
@@ -230,6 +238,7 @@ module _ (r : PairRun) (told : IsPairTold r) (bytes : List ℕ) (is : r.rest_bef
         (λ none may stops m since pulled. inl (w.lead.moments stops m since pulled))
         (λ none may stops m since pulled. keeps_base (table_in bytes) (good_prefix rec.pulled) r.old (follower_on r.old) m none
         (w.follower may stops m since pulled));
+    had = w.kept;
     in_time = w.in_time;
     alike = λ none. absurd (cc);
   }

@@ -42,7 +42,7 @@ use Rattle.fdr_pair.specs.PairDoing.{DoesAllOnBoth, FailsOnly, IsPairTold, DoesP
 use Rattle.fdr_load.specs.Supplies.{Supplied}
 use Rattle.fdr_pair.proofs.PairDifferences.{least_is, one_least}
 use Rattle.fdr_pair.proofs.PairGivens.{came_all, failed_by, failed_of, fails_by, fails_none, gave_none, given_by, keeps_idle, reads_by, was_given, whole}
-use Rattle.fdr_pair.proofs.PairGrowth.{limits_in}
+use Rattle.fdr_pair.proofs.Limits.{limits_in}
 use Rattle.fdr_pair.proofs.PairHeaders.{first_after, first_append, header_list, opens, read_unless, refusal_of}
 use Rattle.fdr_pair.proofs.PairTables.{by_accepted, by_failed, by_refused}
 

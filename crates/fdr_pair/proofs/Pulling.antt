@@ -15,7 +15,7 @@ use Rattle.fdr_ring.specs.declared.ring.Ring.{Ring}
 use Rattle.fdr_trace.specs.Moments.{IsTraceMoment, PullsForRecord}
 use Rattle.fdr_trace.specs.Pulls.{PullsUntilDecided}
 use Rattle.fdr_twin.specs.declared.side.Side.{Side}
-use Rattle.fdr_twin.specs.declared.side.Side.TheVariants.{First}
+use Rattle.fdr_twin.specs.declared.side.Side.TheVariants.{First, Second}
 use Rattle.fdr_twin.specs.Pair.{Pair, PairMoment, other_side, disk_on, image_on, seen}
 use Rattle.fdr_twin.specs.Same.{IsSameDisk, IsSameState}
 use Rattle.fdr_twin.specs.Rest.{HasSameRest, LeavesSide, StaysOn}
@@ -194,7 +194,7 @@ module _ (tells : Tells) (s t : State) (p q : Pair) (sound : IsSoundPair tells p
 
 -- ---- a side that is left
 
-image_left : (tells : Tells) (side : Side) (p q : Pair) → IsSoundPair tells p → IsLeft tells side p q → IsTrue tells.stops → (m : PairMoment)
+pub image_left : (tells : Tells) (side : Side) (p q : Pair) → IsSoundPair tells p → IsLeft tells side p q → IsTrue tells.stops → (m : PairMoment)
     → q.since p.clock m → (disk_on side p).may_leave (image_on side m)
 image_left tells side p q sound is stops m since = ⊎_elim
     (λ was. ((sound.sides side).only_now stops (shown_on side m)

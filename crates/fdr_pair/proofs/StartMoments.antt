@@ -54,6 +54,7 @@ use Rattle.fdr_pair.proofs.BroughtRuns.{missing_count}
 use Rattle.fdr_pair.proofs.Going.{known, on}
 use Rattle.fdr_pair.proofs.PairWorks.{work_then, work_weaken}
 use Rattle.fdr_pair.proofs.StartSteps.{HasOpened, HasFoundRuns, HasJoinedSides}
+use Rattle.fdr_pair.proofs.KeptSides.{moment_of_image}
 
 -- ---- sides
 
@@ -85,13 +86,33 @@ pub record IsBroughtOn (words : ℕ) (side : Side) (entry : Pair) (m : PairMomen
   pub follower : side ≡ follower_on entry
   pub alike : AreAlike words entry
   pub keeps : MayRecordPair entry
-      → KeepsRunWith (missing_blocks (header_in (lead_image entry)) (lead_image entry) (follower_image entry)) entry m
+      → KeepsRunWith (follower_on entry) (missing_blocks (header_in (lead_image entry)) (lead_image entry) (follower_image entry)) entry m
 
--- What a side's image is at a moment of a start: the side has failed, or the image is one that a stop could leave at entry, keeps
--- its own run, or is brought on.
+-- What a side's image is at a moment of a start, whether the side has failed or not: one that a stop could leave at entry, one that
+-- keeps its own run, or one that is brought on.
 abbrev pub StartImage : ℕ → Side → Pair → PairMoment → Type 0
-StartImage words side entry m = HasFailedBy side entry m
-    ⊎ ((disk_on side entry).may_leave (image_on side m) ⊎ (IsOwnKept side entry m ⊎ IsBroughtOn words side entry m))
+StartImage words side entry m = (disk_on side entry).may_leave (image_on side m) ⊎ (IsOwnKept side entry m ⊎ IsBroughtOn words side entry m)
+
+-- it is so of an image that is the same
+image_as : (words : ℕ) (side : Side) (entry : Pair) (a b : PairMoment) → image_on side a ≡ image_on side b → StartImage words side entry a
+    → StartImage words side entry b
+image_as words side entry a b same is = ⊎_elim
+    (λ leaves. inl (subst (λ (l : List ℕ). (disk_on side entry).may_leave l) same leaves))
+    (λ more. ⊎_elim
+    (λ own. inr (inl (record {
+      no_fault = own.no_fault;
+      keeps = λ settled. subst (λ (l : List ℕ). KeepsRun (header_in (disk_on side entry).held) ((header_in (disk_on side entry).held).slots - 1)
+          (disk_on side entry).held l) same (own.keeps settled);
+    })))
+    (λ brought. inr (inr (record {
+      follower = brought.follower;
+      alike = brought.alike;
+      keeps = λ may. subst (λ (l : List ℕ). KeepsRecording (header_in (follower_image entry)) (follower_image entry) (run_in (follower_image entry))
+          (next_in (follower_image entry)) (missing_blocks (header_in (lead_image entry)) (lead_image entry) (follower_image entry)) 0 l)
+          (subst (λ (x : Side). image_on x a ≡ image_on x b) brought.follower same) (brought.keeps may);
+    })))
+    more)
+    is
 
 pub record StartImages (words : ℕ) (entry : Pair) (m : PairMoment) : Type 0 where
   pub first : StartImage words First entry m
@@ -155,55 +176,48 @@ own_image side entry m new told settled le is = ⊎_elim
 -- ---- what a start keeps, by its moments
 
 module _ (words : ℕ) (entry : Pair) (m : PairMoment) (at : StartMoment words entry m) where
-  lead_keeps : MayRecordPair entry → HasFailedBy (lead_on entry) entry m ⊎ KeepsRecording (header_in (lead_image entry)) (lead_image entry)
-      (run_in (lead_image entry)) (next_in (lead_image entry)) [] m.announced (image_on (lead_on entry) m)
-  lead_keeps may =
+  lead_kept : (told : ℕ) → MayRecordPair entry → told ≤ next_in (lead_image entry) → KeepsRecording (header_in (lead_image entry)) (lead_image entry)
+      (run_in (lead_image entry)) (next_in (lead_image entry)) [] told (image_on (lead_on entry) m)
+  lead_kept told may le =
       let settled = settled_side (lead_on entry) entry may in
       ⊎_elim
-      (λ failed. inl failed)
-      (λ number. ⊎_elim
-      (λ failed. inl failed)
-      (λ image. inr (⊎_elim
-      (λ leaves. own_image (lead_on entry) entry m [] m.announced settled (number may.greatest) (inl leaves))
+      (λ leaves. own_image (lead_on entry) entry m [] told settled le (inl leaves))
       (λ more. ⊎_elim
-      (λ own. own_image (lead_on entry) entry m [] m.announced settled (number may.greatest) (inr own))
+      (λ own. own_image (lead_on entry) entry m [] told settled le (inr own))
       (λ brought. absurd (not_other (lead_on entry) brought.follower))
       more)
-      image))
-      (image_of words (lead_on entry) entry m at.images))
-      at.number
+      (image_of words (lead_on entry) entry m at.images)
+
+  lead_keeps : MayRecordPair entry → HasFailedBy (lead_on entry) entry m ⊎ KeepsRecording (header_in (lead_image entry)) (lead_image entry)
+      (run_in (lead_image entry)) (next_in (lead_image entry)) [] m.announced (image_on (lead_on entry) m)
+  lead_keeps may = ⊎_elim (λ failed. inl failed) (λ number. inr (lead_kept m.announced may (number may.greatest))) at.number
 
   follower_keeps : MayRecordPair entry → KeepsRunUntilPull words entry m
   follower_keeps may =
       let settled = settled_side (follower_on entry) entry may in
       ⊎_elim
-      (λ failed. inl failed)
-      (λ image. inr (⊎_elim
       (λ leaves. inl (own_image (follower_on entry) entry m [] 0 settled (omega arith) (inl leaves)))
       (λ more. ⊎_elim
       (λ own. inl (own_image (follower_on entry) entry m [] 0 settled (omega arith) (inr own)))
       (λ brought. inr (brought.alike, brought.keeps may))
       more)
-      image))
       (image_of words (follower_on entry) entry m at.images)
 
   unread_stays : (side : Side) (why : ImageFault) → image_fault_of (disk_on side entry).held ≡ Some why → IsSettled (seen side entry)
       → StaysAsAtEntry side entry m
   unread_stays side why fault settled = ⊎_elim
-      (λ failed. inl failed)
-      (λ image. ⊎_elim
-      (λ leaves. inr (settled (image_on side m) leaves))
+      (λ leaves. settled (image_on side m) leaves)
       (λ more. ⊎_elim
       (λ own. let none = own.no_fault in absurd (cc))
       (λ brought. let none = no_fault_of_side words entry side brought.alike.header in absurd (cc))
       more)
-      image)
       (image_of words side entry m at.images)
 
 pub keeps_at_start : (words : ℕ) (tells : Tells) (entry q : Pair) → EachPairMoment tells entry q (StartMoment words entry)
     → KeepsAtStart words tells entry q
 keeps_at_start words tells entry q each = record {
   lead = λ none may stops m since. lead_keeps words entry m (each stops m since) may;
+  lead_run = λ none may stops m since. lead_kept words entry m (each stops m since) 0 may (omega arith);
   follower = λ none may stops m since. follower_keeps words entry m (each stops m since) may;
   unread = λ side why fault settled stops m since. unread_stays words entry m (each stops m since) side why fault settled;
   unpulled = λ stops m since. (each stops m since).pulled;
@@ -265,7 +279,7 @@ record IsBroughtNow (tells : Tells) (words : ℕ) (side : Side) (entry now : Pai
   pub alike : AreAlike words entry
   pub settled : IsTrue tells.stops → IsSettled (seen side now)
   pub keeps : (m : PairMoment) → image_on side m ≡ (disk_on side now).held
-      → KeepsRunWith (missing_blocks (header_in (lead_image entry)) (lead_image entry) (follower_image entry)) entry m
+      → KeepsRunWith (follower_on entry) (missing_blocks (header_in (lead_image entry)) (lead_image entry) (follower_image entry)) entry m
 
 -- What is so of a side that is attached from this: it has failed, is as it was, or was brought up.
 abbrev IsReadyFrom : Tells → ℕ → Header → Side → Follower → Pair → Pair → Type 0
@@ -275,28 +289,23 @@ IsReadyFrom tells words h side (Brought r) entry now = IsBroughtNow tells words 
 
 -- the image while it is attached
 attach_image : (tells : Tells) (words : ℕ) (h : Header) (side : Side) (start : Follower) (entry now : Pair) (m : PairMoment) → IsTrue tells.stops
-    → IsReadyFrom tells words h side start entry now → (now.since now.clock m → StartImage words side entry m) → AttachMoment h side start now m
+    → IsReadyFrom tells words h side start entry now → (now.since now.clock m → StartImage words side entry m)
+    → ((disk_on side now).may_leave (image_on side m) → StartImage words side entry m) → AttachMoment h side start now m
     → StartImage words side entry m
-attach_image tells words h side Failed entry now m stops ready was is = ⊎_elim
-    (λ since. was since)
-    (λ stays. inl (subst (λ (n : ℕ). Rose (disk_on side entry).faults n) (sym stays.faults) ready))
-    is
-attach_image tells words h side Level entry now m stops ready was is = ⊎_elim
-    (λ rose. inl (subst (λ (n : ℕ). Rose n (faults_on side m)) ready.faults rose))
-    (λ attaching. inr (inr (inl (record {
-      no_fault = ready.no_fault;
-      keeps = λ settled.
-          let settled_now : IsSettled (seen side now) = λ image leaves. settled image (ready.no_more image leaves) ∙ sym ready.held in
-          let keeps : KeepsRun h (h.slots - 1) (disk_on side now).held (image_on side m) = (attaching settled_now).run in
-          subst (λ (k : Header). KeepsRun k (k.slots - 1) (disk_on side entry).held (image_on side m)) (sym ready.header)
-          (subst (λ (l : List ℕ). KeepsRun h (h.slots - 1) l (image_on side m)) ready.held keeps);
-    }))))
-    is
-attach_image tells words h side (Brought r) entry now m stops ready was is = inr (inr (inr (record {
+attach_image tells words h side Failed entry now m stops ready was left is = ⊎_elim (λ since. was since) (λ stays. left stays.image) is
+attach_image tells words h side Level entry now m stops ready was left attaching = inr (inl (record {
+  no_fault = ready.no_fault;
+  keeps = λ settled.
+      let settled_now : IsSettled (seen side now) = λ image leaves. settled image (ready.no_more image leaves) ∙ sym ready.held in
+      let keeps : KeepsRun h (h.slots - 1) (disk_on side now).held (image_on side m) = (attaching settled_now).run in
+      subst (λ (k : Header). KeepsRun k (k.slots - 1) (disk_on side entry).held (image_on side m)) (sym ready.header)
+      (subst (λ (l : List ℕ). KeepsRun h (h.slots - 1) l (image_on side m)) ready.held keeps);
+}))
+attach_image tells words h side (Brought r) entry now m stops ready was left is = inr (inr (record {
   follower = ready.follower;
   alike = ready.alike;
   keeps = λ may. ready.keeps m (ready.settled stops (image_on side m) is);
-})))
+}))
 
 -- What is so of both sides once they are joined: the lead is as it was, the other is ready too, and the next number is that of
 -- the side that led at entry, or that side has failed.
@@ -321,12 +330,13 @@ attach_on_side h lead Second other old m is = is.second
 module _ (tells : Tells) (words : ℕ) (h : Header) (j : Joined) (entry now : Pair) (m : PairMoment) (stops : IsTrue tells.stops)
     (ready : AreReady tells words h j entry now) (is : AreAttachMoments h j.lead j.follower now m) where
   -- both images, while the sides are attached
-  attach_images : (now.since now.clock m → StartImages words entry m) → StartImages words entry m
-  attach_images was = record {
+  attach_images : (now.since now.clock m → StartImages words entry m)
+      → ((side : Side) → (disk_on side now).may_leave (image_on side m) → StartImage words side entry m) → StartImages words entry m
+  attach_images was left = record {
     first = attach_image tells words h First (start_on First j.lead j.follower) entry now m stops
-        (ready_on tells words h j.lead First j.follower entry now ready.lead ready.other) (λ since. (was since).first) is.first;
+        (ready_on tells words h j.lead First j.follower entry now ready.lead ready.other) (λ since. (was since).first) (left First) is.first;
     second = attach_image tells words h Second (start_on Second j.lead j.follower) entry now m stops
-        (ready_on tells words h j.lead Second j.follower entry now ready.lead ready.other) (λ since. (was since).second) is.second;
+        (ready_on tells words h j.lead Second j.follower entry now ready.lead ready.other) (λ since. (was since).second) (left Second) is.second;
   }
 
   -- the announced number, which is none above the next
@@ -383,7 +393,7 @@ start_other Second f = refl
 
 looked_images : (words : ℕ) (tells : Tells) (p0 p1 : Pair) → PairWork tells (IsLookedAt p0) p0 p1 → PairWork tells (StartImages words p0) p0 p1
 looked_images words tells p0 p1 work = work_weaken tells (IsLookedAt p0) (StartImages words p0) p0 p1 work
-    (λ stops m is. record { first = inr (inl is.first); second = inr (inl is.second) })
+    (λ stops m is. record { first = inl is.first; second = inl is.second })
 
 -- while the disks are looked at for the headers
 pub keeps_looked : (words : ℕ) (tells : Tells) (p0 p1 : Pair) → PairWork tells (IsLookedAt p0) p0 p1 → KeepsAtStart words tells p0 p1
@@ -404,8 +414,8 @@ module _ (tells : Tells) (words : ℕ) (o : Opened) (p0 p1 : Pair) (opened : Has
     searched_images = work_then tells (StartImages words p0) (IsLookedAt p1) (StartImages words p0) p0 p1 p2 opened.sound
         (looked_images words tells p0 p1 opened.work) looks.work (λ stops m is. is)
         (λ stops m is. record {
-          first = inr (inl (opened.first.disk.no_more m.first is.first));
-          second = inr (inl (opened.second.disk.no_more m.second is.second));
+          first = inl (opened.first.disk.no_more m.first is.first);
+          second = inl (opened.second.disk.no_more m.second is.second);
         })
 
     -- whether they are found or not
@@ -413,7 +423,7 @@ module _ (tells : Tells) (words : ℕ) (o : Opened) (p0 p1 : Pair) (opened : Has
     keeps_searched = keeps_at_start words tells p0 p2 (worked words tells p0 p2 searched_images)
 
     looked_join : (m : PairMoment) → IsLookedAt p2 m → StartImages words p0 m
-    looked_join m is = record { first = inr (inl (left_then First m.first is.first)); second = inr (inl (left_then Second m.second is.second)) }
+    looked_join m is = record { first = inl (left_then First m.first is.first); second = inl (left_then Second m.second is.second) }
 
   -- and the runs of both sides were found, by which this side leads
   module _ (p2 : Pair) (first second : Found) (found : HasFoundRuns tells o (runs.Both first second) p1 p2) (told : IsTrue tells.bytes) (lead : Side)
@@ -432,7 +442,7 @@ module _ (tells : Tells) (words : ℕ) (o : Opened) (p0 p1 : Pair) (opened : Has
 
     -- what is so of what the side that follows held before holds of what it held at entry
     at_entry : (m : PairMoment) → KeepsWith o.header o.header (disk_on lead p2).held (disk_on (other_side lead) p2).held (image_on (other_side lead) m)
-        → KeepsRunWith (missing_blocks (header_in (lead_image p0)) (lead_image p0) (follower_image p0)) p0 m
+        → KeepsRunWith (follower_on p0) (missing_blocks (header_in (lead_image p0)) (lead_image p0) (follower_image p0)) p0 m
     at_entry m keeps =
         let one = subst (λ (l : List ℕ). KeepsWith o.header o.header (disk_on lead p2).held l (image_on (other_side lead) m))
         (held_then p2 found.looks (other_side lead)) keeps in
@@ -456,15 +466,15 @@ module _ (tells : Tells) (words : ℕ) (o : Opened) (p0 p1 : Pair) (opened : Has
     -- a moment while the side that follows is brought up
     joining : (m : PairMoment) → IsJoining o.header lead p2 m → StartImages words p0 m
     joining m at = images_by words lead p0 m
-        (inr (inl (left_then p2 found.looks lead (image_on lead m) at.lead_image)))
+        (inl (left_then p2 found.looks lead (image_on lead m) at.lead_image))
         (⊎_elim
-        (λ far. inr (inl (left_then p2 found.looks (other_side lead) (image_on (other_side lead) m) (at.far far))))
-        (λ near. inr (inr (inr (record {
+        (λ far. inl (left_then p2 found.looks (other_side lead) (image_on (other_side lead) m) (at.far far)))
+        (λ near. inr (inr (record {
           follower = ap other_side is_lead;
           alike = alike_if (λ far. omega (arith, far, near));
           keeps = λ may. at_entry m (with_prefix o.header (disk_on lead p2).held (disk_on (other_side lead) p2).held (image_on (other_side lead) m)
               (at.follower (settled_then (other_side lead) may)));
-        }))))
+        })))
         (cases_lt (next_of o.header (disk_on (other_side lead) p2).held) (first_of o.header (disk_on lead p2).held)))
 
     none_then : HasNoFault p0 p2
@@ -611,6 +621,11 @@ module _ (tells : Tells) (words : ℕ) (o : Opened) (p0 p1 : Pair) (opened : Has
       was_image : IsTrue tells.stops → (m : PairMoment) → p3.since p3.clock m → StartImages words p0 m
       was_image stops m since = known tells (StartImages words p0) p0 p3 sound_then before.time before.moments stops m since
 
+      left_image : IsTrue tells.stops → (m : PairMoment) (side : Side) → (disk_on side p3).may_leave (image_on side m) → StartImage words side p0 m
+      left_image stops m side leaves =
+          let now = moment_of_image tells side p3 m sound_then stops leaves in
+          image_as words side p0 now.0 m now.2 (image_of words side p0 now.0 (was_image stops now.0 now.1))
+
       was_moment : IsTrue tells.stops → (m : PairMoment) → p3.since p3.clock m → StartMoment words p0 m
       was_moment stops m since =
           known tells (StartMoment words p0) p0 p3 sound_then before.time (worked words tells p0 p3 before) stops m since
@@ -619,7 +634,8 @@ module _ (tells : Tells) (words : ℕ) (o : Opened) (p0 p1 : Pair) (opened : Has
       pub keeps_not_going : (why : PairOutcome) → IsGoingRefused tells o.header j why p3 q → KeepsAtStart words tells p0 q
       keeps_not_going why refused = keeps_at_start words tells p0 q (worked words tells p0 q (work_then tells (StartImages words p0)
           (AreAttachMoments o.header j.lead j.follower p3) (StartImages words p0) p0 p3 q sound_then before refused.work (λ stops m is. is)
-          (λ stops m is. attach_images tells words o.header j p0 p3 m stops (ready_now stops) is (λ since. was_image stops m since))))
+          (λ stops m is. attach_images tells words o.header j p0 p3 m stops (ready_now stops) is (λ since. was_image stops m since)
+          (λ side leaves. left_image stops m side leaves))))
 
       -- and attached
       pub keeps_going : (rings : PairRings) → HasGoneOnFrom tells o.header j rings p3 q → KeepsAtStart words tells p0 q
@@ -628,7 +644,8 @@ module _ (tells : Tells) (words : ℕ) (o : Opened) (p0 p1 : Pair) (opened : Has
           let is = gone.moments stops m since in
           let told = (sound.sides First).stops_need_bytes stops in
           record {
-            images = attach_images tells words o.header j p0 p3 m stops (ready_now stops) is.sides (λ since. was_image stops m since);
+            images = attach_images tells words o.header j p0 p3 m stops (ready_now stops) is.sides (λ since. was_image stops m since)
+                (λ side leaves. left_image stops m side leaves);
             number = going_number tells words o.header j p0 p3 m stops (ready_now stops) is.sides before.line.greatest
                 (subst (λ (n : ℕ). m.announced ≤ max p3.greatest n) (gone.next told) is.announced) (λ since. was_moment stops m since);
             pulled = record {

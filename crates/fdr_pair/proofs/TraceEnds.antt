@@ -37,7 +37,7 @@ use Rattle.fdr_recorder.specs.declared.source.SourceEnd.TheVariants as source
 use Rattle.fdr_recorder.proofs.Joined.{recorded_of-fed}
 use Rattle.fdr_recorder.proofs.NewBlocks.{new_blocks-begin}
 use Rattle.fdr_recorder.proofs.Supplies.{supplied_records-rises}
-use Rattle.fdr_pair.specs.Living.{SideMoment}
+use Rattle.fdr_pair.specs.Living.{SideKept, SideMoment}
 use Rattle.fdr_pair.specs.PairPast.{RepresentsPair}
 use Rattle.fdr_pair.specs.PairRecording.{BothFailed, PairHasEnded, PairRecordsAll, PairRecordsFirst}
 use Rattle.fdr_pair.specs.Traces.{HasFedPair, HasFedTrace, PairRecordsTrace, recording_end, trace_blocks}
@@ -48,7 +48,8 @@ use Rattle.fdr_pair.specs.declared.session.PairSession.{PairSession}
 use Rattle.fdr_pair.proofs.BothSides.{BothFailed-then, PairRecordsAll-then}
 use Rattle.fdr_pair.proofs.Idling.{IsIdleUntilPull}
 use Rattle.fdr_pair.proofs.Onward.{moment_more}
-use Rattle.fdr_pair.proofs.Tracing.{first_after, in_time_after, pulls_after, second_after, time_after, counts_after, idle_after}
+use Rattle.fdr_pair.proofs.Tracing.{first_after, in_time_after, pulls_after, second_after, time_after, counts_after, first_kept_after, second_kept_after, idle_after}
+use Rattle.fdr_pair.proofs.KeptSides.{kept_more}
 
 -- ---- how the trace ended
 
@@ -264,6 +265,12 @@ module _ (tells : Tells) (past : RecordingPast) (rings : PairRings) (s : PairSes
         second = λ stops m since few. subst (λ (l : List Block). SideMoment Second rings.second l start m) (sym parts)
             (moment_more Second rings.second so_far later start m
             (second_after tells before rings s bytes start p sound begins has q blocks wrote stops m since few));
+        first_kept = λ stops m since. subst (λ (l : List Block). SideKept First rings.first l start m) (sym parts)
+            (kept_more First rings.first so_far later start m
+            (first_kept_after tells before rings s bytes start p sound begins has q blocks wrote stops m since));
+        second_kept = λ stops m since. subst (λ (l : List Block). SideKept Second rings.second l start m) (sym parts)
+            (kept_more Second rings.second so_far later start m
+            (second_kept_after tells before rings s bytes start p sound begins has q blocks wrote stops m since));
         in_time = in_time_after tells before rings s bytes start p sound begins has q blocks wrote;
         idle = idle;
         recorded = λ whole. absurd (cut_short f whole);
@@ -314,6 +321,10 @@ module _ (tells : Tells) (past : RecordingPast) (rings : PairRings) (s : PairSes
             (first_after tells before rings s whole.pulled start p sound begins whole.has q (rest_of before) wrote stops m since few);
         second = λ stops m since few. subst (λ (l : List Block). SideMoment Second rings.second l start m) (sym parts)
             (second_after tells before rings s whole.pulled start p sound begins whole.has q (rest_of before) wrote stops m since few);
+        first_kept = λ stops m since. subst (λ (l : List Block). SideKept First rings.first l start m) (sym parts)
+            (first_kept_after tells before rings s whole.pulled start p sound begins whole.has q (rest_of before) wrote stops m since);
+        second_kept = λ stops m since. subst (λ (l : List Block). SideKept Second rings.second l start m) (sym parts)
+            (second_kept_after tells before rings s whole.pulled start p sound begins whole.has q (rest_of before) wrote stops m since);
         in_time = in_time_after tells before rings s whole.pulled start p sound begins whole.has q (rest_of before) wrote;
         idle = idle_whole;
         recorded = λ done. (left, all);

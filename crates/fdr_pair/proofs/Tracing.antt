@@ -27,7 +27,7 @@ use Rattle.fdr_recorder.proofs.Joined.{recorded_of-fed}
 use Rattle.fdr_recorder.proofs.NewBlocks.{recorded-long}
 use Rattle.fdr_recorder.proofs.ReadRecords.{PullsUntilDecided-next}
 use Rattle.fdr_recorder.proofs.Sessions.{lag_more, lag_still}
-use Rattle.fdr_pair.specs.Living.{Follows, SideMoment, SideNow}
+use Rattle.fdr_pair.specs.Living.{Follows, SideKept, SideMoment, SideNow}
 use Rattle.fdr_pair.specs.PairPast.{RepresentsPair}
 use Rattle.fdr_pair.specs.PairRecording.{AreSettled, IsSettledSide, PairRecordsAll, PairRecordsFirst}
 use Rattle.fdr_pair.specs.Traces.{HasFedPair, IsPairBegun, IsPairLagMoment, TellsOnlySince, shown_on}
@@ -37,11 +37,12 @@ use Rattle.fdr_pair.proofs.BothSides.{PairRecordsAll-here, PairRecordsAll-then, 
 use Rattle.fdr_pair.proofs.Going.{on}
 use Rattle.fdr_pair.proofs.Onward.{moments_where, now_on}
 use Rattle.fdr_pair.proofs.Idling.{IsIdleUntilPull, idle_now, idle_on, still_here, still_then}
-use Rattle.fdr_pair.proofs.Pulling.{IsLeft, left, moments_left, now_left, pull_announced, pull_greatest, pull_idle, pull_in_time}
+use Rattle.fdr_pair.proofs.Pulling.{IsLeft, image_left, left, moments_left, now_left, pull_announced, pull_greatest, pull_idle, pull_in_time}
 use Rattle.fdr_pair.proofs.Pulling.{pull_least, pull_told, pulls_seen}
 use Rattle.fdr_pair.proofs.Servings.{now_quiet}
 use Rattle.fdr_pair.proofs.SideCounts.{counted_here, counted_rest, counted_then}
 use Rattle.fdr_pair.specs.SideCounts.{CountsBoth}
+use Rattle.fdr_pair.proofs.KeptSides.{kept_here, kept_left, kept_then}
 
 -- nothing was pulled yet
 few_first : (past : RecordingPast) (start : Pair) (n : ℕ) → n ≡ start.taken → TellsOnlySince past.first start n → start.greatest ≤ past.first
@@ -71,6 +72,8 @@ fed_none tells s past p sound is stands =
           s.rings.second_follows is.settled.second
           (let most = few_first past p m.taken (now_quiet tells First p sound stops m since).pulled.taken few in omega (arith, most, is.number))
           stops m since;
+      first_kept = kept_here tells First s.rings.first (recorded_of (past_fed past [])) p sound is.settled.first;
+      second_kept = kept_here tells Second s.rings.second (recorded_of (past_fed past [])) p sound is.settled.second;
       in_time = λ stops m since few. let at = (now_quiet tells First p sound stops m since).pulled in
           record { pulled = inl (record { taken = at.taken; pulled_before = at.pulled_before }) };
       up = λ few. record {
@@ -174,6 +177,10 @@ module _ (tells : Tells) (past : RecordingPast) (rings : PairRings) (s : PairSes
           (moments_pull First s.rings.first s.rings.first_follows settled_fed.first);
       second = side_moments Second rings.second s.rings.second has.recorded.second has.second
           (moments_pull Second s.rings.second s.rings.second_follows settled_fed.second);
+      first_kept = kept_left tells First rings.first (recorded_of past) start p q sound has.time rest.time has.first_kept
+          (λ stops m since. image_left tells First p q sound (is_left First) stops m since);
+      second_kept = kept_left tells Second rings.second (recorded_of past) start p q sound has.time rest.time has.second_kept
+          (λ stops m since. image_left tells Second p q sound (is_left Second) stops m since);
       in_time = on tells (λ m. TellsOnlySince past.first start m.taken → IsPairLagMoment (owed_number_by past) start (bytes ++ more) m) start p q has.time
           rest.time
           (λ stops m since few. lag_more (owed_number_by past) (seen First start) bytes more (shown_on First m) (has.in_time stops m since few)) lag_pull;
@@ -204,6 +211,14 @@ module _ (tells : Tells) (past : RecordingPast) (rings : PairRings) (s : PairSes
     second_after = moments_where tells (λ m. TellsOnlySince past.first start m.taken) Second (recorded_of past) blocks start p q sound has.time
         records.numbers.time rings.second s.rings.second has.recorded.second has.second
         (λ stops m since few. records.second (few_now (few_still stops m since few)) stops m since)
+
+    pub first_kept_after : EachPairMoment tells start q (SideKept First rings.first (recorded_of past ++ blocks) start)
+    first_kept_after = kept_then tells First (recorded_of past) blocks start p q sound has.time records.numbers.time rings.first s.rings.first
+        has.recorded.first has.first_kept records.first_kept
+
+    pub second_kept_after : EachPairMoment tells start q (SideKept Second rings.second (recorded_of past ++ blocks) start)
+    second_kept_after = kept_then tells Second (recorded_of past) blocks start p q sound has.time records.numbers.time rings.second s.rings.second
+        has.recorded.second has.second_kept records.second_kept
 
     pub in_time_after : EachPairMoment tells start q
         (λ m. TellsOnlySince past.first start m.taken → IsPairLagMoment (owed_number_by past) start bytes m)
@@ -265,6 +280,10 @@ module _ (tells : Tells) (past : RecordingPast) (rings : PairRings) (s : PairSes
           (λ m. TellsOnlySince past.first start m.taken → SideMoment First rings.first l start m)) joined (first_after q (blocks_due_at past r) records);
       second = subst (λ (l : List Block). EachPairMoment tells start q
           (λ m. TellsOnlySince past.first start m.taken → SideMoment Second rings.second l start m)) joined (second_after q (blocks_due_at past r) records);
+      first_kept = subst (λ (l : List Block). EachPairMoment tells start q (SideKept First rings.first l start)) joined
+          (first_kept_after q (blocks_due_at past r) records);
+      second_kept = subst (λ (l : List Block). EachPairMoment tells start q (SideKept Second rings.second l start)) joined
+          (second_kept_after q (blocks_due_at past r) records);
       in_time = in_time_after q (blocks_due_at past r) records;
       up = λ few. record {
         pulls = pulls_after q (blocks_due_at past r) records;

@@ -10,7 +10,7 @@ use Rattle.fdr_ring.specs.Runs.{last_blocks}
 use Rattle.fdr_ring.specs.declared.ring.Ring.{Ring}
 use Rattle.fdr_twin.specs.declared.side.Side.{Side}
 use Rattle.fdr_twin.specs.declared.side.Side.TheVariants.{First, Second}
-use Rattle.fdr_twin.specs.Pair.{Pair, PairMoment, disk_on, image_on, faults_on, seen}
+use Rattle.fdr_twin.specs.Pair.{Pair, PairMoment, disk_on, image_on, seen}
 use Rattle.fdr_twin.specs.Same.{IsSameDisk}
 use Rattle.fdr_twin.specs.Rest.{PairElapses, StaysOn}
 use Rattle.fdr_twin.specs.Serving.{EachPairMoment}
@@ -72,12 +72,12 @@ AttachedNow tells h side follower.Level (Some r) old new = HasAttachedOn tells h
 AttachedNow tells h side (follower.Brought r) None old new = ⊥
 AttachedNow tells h side (follower.Brought r) (Some s) old new = HasRingStill tells side r s old new
 
--- A moment of a side while both are attached and the next number is announced. One that had failed is left. One that is attached
--- has failed by then, or its image is what `attach` may leave of a settled disk. One that has its ring already is left.
+-- A moment of a side while both are attached and the next number is announced. One that had failed is left. The
+-- image of one that is attached, whether it has failed or not, is what `attach` may leave of a settled disk. One that has its ring
+-- already is left.
 abbrev pub AttachMoment : Header → Side → Follower → Pair → PairMoment → Type 0
 AttachMoment h side follower.Failed old m = old.since old.clock m ⊎ StaysOn side old m
-AttachMoment h side follower.Level old m =
-    Rose (disk_on side old).faults (faults_on side m) ⊎ OfSettled (seen side old) (IsAttaching h) (image_on side m)
+AttachMoment h side follower.Level old m = OfSettled (seen side old) (IsAttaching h) (image_on side m)
 AttachMoment h side (follower.Brought r) old m = (disk_on side old).may_leave (image_on side m)
 
 -- A moment of both sides while they are attached, where this side leads and the other is this.

@@ -35,6 +35,14 @@ SideMoment side None new old m = old.since old.clock m ⊎ (faults_on side m ≡
 SideMoment side (Some r) new old m = Rose (disk_on side old).faults (faults_on side m)
     ⊎ RecoversPrefix r.header (disk_on side old).held (recovered_run r.header (disk_on side old).held) new m.announced (image_on side m)
 
+-- What the image of a side keeps at a moment after the old pair, whether the side has failed by then or not. One that had a ring
+-- keeps the run that it had and the first of these new blocks, announced or not. One that had failed has an image that a stop
+-- could leave before.
+abbrev pub SideKept : Side → Option Ring → List Block → Pair → PairMoment → Type 0
+SideKept side None new old m = (disk_on side old).may_leave (image_on side m)
+SideKept side (Some r) new old m =
+    RecoversPrefix r.header (disk_on side old).held (recovered_run r.header (disk_on side old).held) new 0 (image_on side m)
+
 -- From the old pair to the new one the ring r has become the ring s, by these blocks: they are recovered after the run, of which
 -- the last N - 1 blocks are left, the next number is higher by their number, and the side is settled.
 pub record HasGoneOn (tells : Tells) (side : Side) (r s : Ring) (done : List Block) (old new : Pair) : Type 0 where

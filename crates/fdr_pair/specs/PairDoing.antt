@@ -7,6 +7,7 @@
 use Rattle.std.specs.Prelude.{◌≡◌, ◌≢◌, ◌⊎◌, ◌<◌, ℕ, true, false, List, ◌++◌, Some, None, IsTrue, IsSome}
 use Rattle.fdr_io.specs.Faults.{Rose}
 use Rattle.fdr_io.specs.Told.{preceded_by}
+use Rattle.fdr_io.specs.declared.Input.TheVariants as input
 use Rattle.fdr_deck.specs.Pull.{TakesInput}
 use Rattle.fdr_bus.specs.Records.{good_prefix}
 use Rattle.fdr_recover.specs.Blocks.{Block}
@@ -23,13 +24,13 @@ use Rattle.fdr_pair.specs.Alike.{HaveOneHeader}
 use Rattle.fdr_pair.specs.Bringing.{HasFailedAlone}
 use Rattle.fdr_pair.specs.Opening.{AreCountsBelowMost, LooksAtSide}
 use Rattle.fdr_pair.specs.PairEnds.{HasFailedSince}
-use Rattle.fdr_pair.specs.PairMoments.{HasFailedBeforePull, HasPulledBytes, KeepsUpBy, MayRecordPair}
+use Rattle.fdr_pair.specs.PairMoments.{HasFailedBeforePull, HasPulledBytes, KeepsRunWith, KeepsUpBy, MayRecordPair}
 use Rattle.fdr_pair.specs.PairRun.{PairRun}
 use Rattle.fdr_pair.specs.SideKeeping.{HasFailedOrKeeps}
 use Rattle.fdr_pair.specs.PairWork.{LeavesLine}
 use Rattle.fdr_pair.specs.declared.outcome.PairOutcome.TheVariants as outcome
 use Rattle.fdr_load.specs.Supplies.{Supplied}
-use Rattle.fdr_pair.specs.PairMeaning.{PairGiven, PairChange, PairEffect, lead, base, brought, pair_meaning, to_table, to_work, stay}
+use Rattle.fdr_pair.specs.PairMeaning.{PairGiven, PairChange, PairEffect, pair_unless, lead, base, brought, grown, pair_meaning, to_table, to_work, stay}
 use Rattle.fdr_pair.specs.PairMeaning.{grow}
 
 -- ---- what a run was given
@@ -123,6 +124,11 @@ pub record IsPairTold (r : PairRun) : Type 0 where
 
 -- ---- what a run keeps
 
+-- At this moment the image of a side, whether the side has failed or not, keeps its own run and the first of what it is to get:
+-- what it is brought of the base's, and these new blocks.
+abbrev pub KeepsFirst : PairGiven → List Block → Side → Pair → PairMoment → Type 0
+KeepsFirst g blocks side entry m = KeepsRunWith side (brought g side ++ blocks) entry m
+
 -- At this moment a side has failed, or its image keeps its own run, what it was brought of the base's, the first of these new
 -- blocks, and every announced one.
 abbrev pub KeepsAll : PairGiven → List Block → Side → Pair → PairMoment → Type 0
@@ -131,14 +137,17 @@ KeepsAll g blocks side entry m =
     (next_in (g.image (base g))) blocks entry m
 
 -- From the first pulled byte on each side whose header reads keeps all that, so either disk may be lost whole while the other
--- hasn't failed. What is announced keeps up with what was pulled, by the base's image. What was pulled is a front part of what
--- came.
+-- hasn't failed; and one that has failed keeps what it had. What is announced keeps up with what was pulled, by the base's image.
+-- What was pulled is a front part of what came.
 pub record KeepsOn (g : PairGiven) (r : PairRun) : Type 0 where
   pub pulled : List ℕ
   pub pulls : Pulls pulled r
   pub front : (rest : List ℕ) × (g.input.bytes ≡ pulled ++ rest)
   pub each : (side : Side) → image_fault_of (g.image side) ≡ None → MayRecordPair r.old → EachPairMoment r.tells r.old r.new (λ m.
       HasPulledBytes r.old m → KeepsAll g (new_blocks (table_in g.table.bytes) (g.image (base g))
+      (good_prefix pulled)) side r.old m)
+  pub failed : (side : Side) → image_fault_of (g.image side) ≡ None → MayRecordPair r.old → EachPairMoment r.tells r.old r.new (λ m.
+      HasPulledBytes r.old m → KeepsFirst g (new_blocks (table_in g.table.bytes) (g.image (base g))
       (good_prefix pulled)) side r.old m)
   pub in_time : MayRecordPair r.old → KeepsUpBy (g.image (base g)) (table_in g.table.bytes) r.tells pulled r.old r.new
 

@@ -1,5 +1,5 @@
 -- How a recording on two disks went on once bytes were pulled, and what both sides hold in the end.
-use Rattle.std.specs.Prelude.{◌≡◌, ◌⊎◌, ◌<◌, ◌≤◌, ◌+◌, ◌-◌, ℕ, List, ◌++◌, length, take, IsTrue}
+use Rattle.std.specs.Prelude.{◌≡◌, ◌⊎◌, ◌<◌, ◌≤◌, ◌+◌, ◌-◌, ℕ, List, ◌++◌, length, take, None, IsTrue}
 use Rattle.fdr_io.specs.Faults.{Rose}
 use Rattle.fdr_bus.specs.declared.BusRecord.{BusRecord}
 use Rattle.fdr_deck.specs.State.{Tells}
@@ -8,7 +8,7 @@ use Rattle.fdr_slot.specs.Limits.{sequence_end}
 use Rattle.fdr_slot.specs.declared.image.Header.{Header}
 use Rattle.fdr_recover.specs.Blocks.{Block}
 use Rattle.fdr_recover.specs.Images.{recovered_run, next_of}
-use Rattle.fdr_recover.specs.ImageHeader.{header_in}
+use Rattle.fdr_recover.specs.ImageHeader.{header_in, image_fault_of}
 use Rattle.fdr_recover.specs.Payloads.{run_in}
 use Rattle.fdr_ring.specs.Runs.{last_blocks}
 use Rattle.fdr_table.specs.Rows.{TableRows}
@@ -18,7 +18,7 @@ use Rattle.fdr_twin.specs.Serving.{EachPairMoment}
 use Rattle.fdr_recorder.specs.NewBlocks.{new_blocks, next_in}
 use Rattle.fdr_pair.specs.Brought.{brought_run}
 use Rattle.fdr_pair.specs.Alike.{AreAlike, lead_on, follower_on, lead_image, follower_image}
-use Rattle.fdr_pair.specs.PairMoments.{MayRecordPair, HasPulledBytes, HasFailedBeforePull, KeepsBroughtRun, KeepsOwnRun, KeepsUpBy}
+use Rattle.fdr_pair.specs.PairMoments.{MayRecordPair, HasPulledBytes, HasFailedBeforePull, KeepsBroughtRun, KeepsOwnRun, KeepsRunWith, KeepsUpBy, blocks_to_get}
 
 -- In the end a side holds the last N - 1 blocks of a run, whose next number was `next`, with these blocks after it. Its header
 -- says what it said, and where stops are told, the disk is settled.
@@ -69,22 +69,27 @@ pub record HaveEnded (next : ℕ) (blocks : List Block) (Hold : List Block → T
   pub beyond : used_up → sequence_end < next + length blocks
 
 -- The recording went on from the lead's run. From the first pulled byte on, the other side keeps its brought run and what is
--- recorded, or it failed before. The recording keeps up, and in the end all blocks are on each side that hasn't failed.
+-- recorded, or it failed before. Each side, also one that has failed, keeps its run and the first of what it is to get. The
+-- recording keeps up, and in the end all blocks are on each side that hasn't failed.
 pub record GoesOnWithLead (t : TableRows) (tells : Tells) (records : List BusRecord) (pulled : List ℕ) (old new : Pair)
     (all used_up : Type 0) : Type 0 where
   pub follower : (AreAlike t.frame.words old
       × (MayRecordPair old → EachPairMoment tells old new (λ m. HasPulledBytes old m → KeepsBroughtRun t records old m)))
       ⊎ HasFailedBeforePull tells (follower_on old) old new
+  pub kept : (side : Side) → image_fault_of (disk_on side old).held ≡ None → MayRecordPair old → EachPairMoment tells old new
+      (λ m. HasPulledBytes old m → KeepsRunWith side (blocks_to_get (lead_on old) side t records old) old m)
   pub in_time : MayRecordPair old → KeepsUpBy (lead_image old) t tells pulled old new
   pub ends : HaveEnded (next_in (lead_image old)) (new_blocks t (lead_image old) records)
       (λ blocks. HoldWithLead tells blocks old new) all used_up
 
 -- The lead failed before anything was pulled, and the recording went on from the run of the other side, which keeps it and what
--- is recorded. The recording keeps up, and in the end all blocks are on that side, unless it failed too.
+-- is recorded. Each side, also one that has failed, keeps its run and the first of what it is to get. The recording keeps up, and in the end all blocks are on that side, unless it failed too.
 pub record GoesOnWithoutLead (t : TableRows) (tells : Tells) (records : List BusRecord) (pulled : List ℕ) (old new : Pair)
     (all used_up : Type 0) : Type 0 where
   pub lead : HasFailedBeforePull tells (lead_on old) old new
   pub follower : MayRecordPair old → EachPairMoment tells old new (λ m. HasPulledBytes old m → KeepsOwnRun (follower_on old) t records old m)
+  pub kept : (side : Side) → image_fault_of (disk_on side old).held ≡ None → MayRecordPair old → EachPairMoment tells old new
+      (λ m. HasPulledBytes old m → KeepsRunWith side (blocks_to_get (follower_on old) side t records old) old m)
   pub in_time : MayRecordPair old → KeepsUpBy (follower_image old) t tells pulled old new
   pub ends : HaveEnded (next_in (follower_image old)) (new_blocks t (follower_image old) records)
       (λ blocks. HoldWithoutLead tells blocks old new) all used_up

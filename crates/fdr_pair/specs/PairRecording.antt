@@ -10,7 +10,7 @@ use Rattle.fdr_twin.specs.Pair.{Pair}
 use Rattle.fdr_twin.specs.Serving.{EachPairMoment}
 use Rattle.fdr_pair.specs.SidePuts.{IsSettledRing}
 use Rattle.fdr_pair.specs.Numbers.{CountsOn}
-use Rattle.fdr_pair.specs.Living.{SideMoment, SideNow}
+use Rattle.fdr_pair.specs.Living.{SideKept, SideMoment, SideNow}
 use Rattle.fdr_pair.specs.declared.rings.PairRings.{PairRings}
 
 -- The ring of a side is on a settled disk, or the side has failed.
@@ -25,10 +25,12 @@ pub record AreSettled (tells : Tells) (rings : PairRings) (p : Pair) : Type 0 wh
 
 -- What calls that record these blocks on both sides leave whatever they answer. At each moment each side has failed by then, or
 -- its image keeps its run, the first of these blocks and every announced one, where no number above the first could be
--- announced before. Nothing is pulled.
+-- announced before; and whether it has failed or not, its image keeps the run and the first of the blocks. Nothing is pulled.
 pub record PairRecordsFirst (tells : Tells) (rings : PairRings) (new : List Block) (old now : Pair) : Type 0 where
   pub first : old.greatest ≤ rings.next → EachPairMoment tells old now (SideMoment First rings.first new old)
   pub second : old.greatest ≤ rings.next → EachPairMoment tells old now (SideMoment Second rings.second new old)
+  pub first_kept : EachPairMoment tells old now (SideKept First rings.first new old)
+  pub second_kept : EachPairMoment tells old now (SideKept Second rings.second new old)
   pub numbers : CountsOn tells rings.next (length new) old now
 
 -- All of these blocks are on each side that hasn't failed, and are announced. The rings are those of `left` now.

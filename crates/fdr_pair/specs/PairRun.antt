@@ -31,7 +31,7 @@ use Rattle.fdr_pair.specs.Bringing.{HasNoFault, HasFailedAlone}
 use Rattle.fdr_pair.specs.Opening.{opening, header_after, AreCountsBelowMost, HasLivingSide, IsOpeningRefusal, LooksAtSide}
 use Rattle.fdr_pair.specs.Alike.{AreAlike, HaveOneHeader, HaveDifferentBlocks, IsSideFarBehind, lead_on, follower_on, lead_image, follower_image}
 use Rattle.fdr_pair.specs.PairStages.{EndsBeforeDisks, EndsPairTrace, IsPastPairTable, LeavesPairLine, WritesOnNeither}
-use Rattle.fdr_pair.specs.PairMoments.{MayRecordPair, KeepsOwnRun, KeepsRunUntilPull, StaysAsAtEntry}
+use Rattle.fdr_pair.specs.PairMoments.{MayRecordPair, KeepsOwnRun, KeepsRunUntilPull, KeepsRunWith, StaysAsAtEntry}
 use Rattle.fdr_pair.specs.PairEnds.{GoesOnWithLead, GoesOnWithoutLead}
 use Rattle.fdr_pair.specs.declared.outcome.PairOutcome.{PairOutcome}
 use Rattle.fdr_pair.specs.declared.outcome.PairOutcome.TheVariants as outcome
@@ -120,6 +120,8 @@ pub record EndsPairLine (tells : Tells) (old new : Pair) (pulled : List ℕ) (an
 pub record KeepsPair (t : TableRows) (tells : Tells) (pulled : List ℕ) (old new : Pair) (answer : PairOutcome) : Type 0 where
   pub lead : image_fault_of (lead_image old) ≡ None → MayRecordPair old
       → EachPairMoment tells old new (KeepsOwnRun (lead_on old) t (good_prefix pulled) old)
+  pub lead_run : image_fault_of (lead_image old) ≡ None → MayRecordPair old
+      → EachPairMoment tells old new (λ m. m.taken ≡ old.taken → KeepsRunWith (lead_on old) [] old m)
   pub follower : image_fault_of (follower_image old) ≡ None → MayRecordPair old
       → EachPairMoment tells old new (λ m. m.taken ≡ old.taken → KeepsRunUntilPull t.frame.words old m)
   pub unread : (side : Side) (why : ImageFault) → image_fault_of (disk_on side old).held ≡ Some why → IsSettled (seen side old)

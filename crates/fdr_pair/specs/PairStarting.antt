@@ -25,7 +25,7 @@ use Rattle.fdr_recorder.specs.Past.{past_at_start, session_of}
 use Rattle.fdr_pair.specs.Numbers.{KeepsLine, HasPulled}
 use Rattle.fdr_pair.specs.Brought.{brought_run}
 use Rattle.fdr_pair.specs.Alike.{AreAlike, lead_on, follower_on, lead_image, follower_image}
-use Rattle.fdr_pair.specs.PairMoments.{MayRecordPair, HasFailedBy, KeepsRunUntilPull, StaysAsAtEntry}
+use Rattle.fdr_pair.specs.PairMoments.{MayRecordPair, HasFailedBy, KeepsRunUntilPull, KeepsRunWith, StaysAsAtEntry}
 use Rattle.fdr_pair.specs.SideKeeping.{KeepsRecording}
 use Rattle.fdr_pair.specs.Traces.{IsPairBegun}
 use Rattle.fdr_pair.specs.Bringing.{HasNoFault}
@@ -79,6 +79,7 @@ pub record KeepsAtStart (words : ℕ) (tells : Tells) (old new : Pair) : Type 0 
   pub lead : image_fault_of (lead_image old) ≡ None → MayRecordPair old → EachPairMoment tells old new
       (λ m. HasFailedBy (lead_on old) old m ⊎ KeepsRecording (header_in (lead_image old)) (lead_image old) (run_in (lead_image old))
       (next_in (lead_image old)) [] m.announced (image_on (lead_on old) m))
+  pub lead_run : image_fault_of (lead_image old) ≡ None → MayRecordPair old → EachPairMoment tells old new (KeepsRunWith (lead_on old) [] old)
   pub follower : image_fault_of (follower_image old) ≡ None → MayRecordPair old → EachPairMoment tells old new (KeepsRunUntilPull words old)
   pub unread : (side : Side) (why : ImageFault) → image_fault_of (disk_on side old).held ≡ Some why → IsSettled (seen side old)
       → EachPairMoment tells old new (StaysAsAtEntry side old)

@@ -23,7 +23,7 @@ use Rattle.fdr_recorder.specs.declared.error.SessionFault.TheVariants as session
 use Rattle.fdr_recorder.specs.declared.source.SourceEnd.{SourceEnd}
 use Rattle.fdr_recorder.specs.declared.source.SourceEnd.TheVariants as source
 use Rattle.fdr_pair.specs.Numbers.{HasPulled}
-use Rattle.fdr_pair.specs.Living.{SideMoment}
+use Rattle.fdr_pair.specs.Living.{SideKept, SideMoment}
 use Rattle.fdr_pair.specs.PairPast.{RepresentsPair}
 use Rattle.fdr_pair.specs.PairRecording.{AreSettled, BothFailed, PairHasEnded, PairRecordsAll}
 use Rattle.fdr_pair.specs.declared.fault.PairFault.{PairFault}
@@ -74,6 +74,8 @@ pub record HasFedPair (tells : Tells) (past : RecordingPast) (rings : PairRings)
   pub greatest : TellsOnlySince past.first old now.taken → now.greatest ≤ past.first + length (recorded_of past)
   pub first : EachPairMoment tells old now (λ m. TellsOnlySince past.first old m.taken → SideMoment First rings.first (recorded_of past) old m)
   pub second : EachPairMoment tells old now (λ m. TellsOnlySince past.first old m.taken → SideMoment Second rings.second (recorded_of past) old m)
+  pub first_kept : EachPairMoment tells old now (SideKept First rings.first (recorded_of past) old)
+  pub second_kept : EachPairMoment tells old now (SideKept Second rings.second (recorded_of past) old)
   pub in_time : EachPairMoment tells old now
       (λ m. TellsOnlySince past.first old m.taken → IsPairLagMoment (owed_number_by past) old bytes m)
   pub up : TellsOnlySince past.first old now.taken → KeepsUp (owed_number_by past) tells (seen First old) (seen First now) bytes past.records
@@ -113,6 +115,8 @@ pub record PairRecordsTrace (tells : Tells) (past : RecordingPast) (rings : Pair
       (λ m. TellsOnlySince past.first old m.taken → SideMoment First rings.first (trace_blocks past pulled) old m)
   pub second : EachPairMoment tells old now
       (λ m. TellsOnlySince past.first old m.taken → SideMoment Second rings.second (trace_blocks past pulled) old m)
+  pub first_kept : EachPairMoment tells old now (SideKept First rings.first (trace_blocks past pulled) old)
+  pub second_kept : EachPairMoment tells old now (SideKept Second rings.second (trace_blocks past pulled) old)
   pub in_time : EachPairMoment tells old now
       (λ m. TellsOnlySince past.first old m.taken → IsPairLagMoment (owed_number_by past) old pulled m)
   pub recorded : HasRecordedSource (recording_end end)

@@ -5,7 +5,7 @@ ghost use Rattle.fdr_slot.specs.Limits.{sequence_end};
 ghost use Rattle.fdr_twin.specs.Serving.{EachPairMoment};
 ghost use Rattle.fdr_twin.specs.declared.side.Side.TheVariants as side;
 ghost use Rattle.fdr_pair.specs.Numbers.{CountsOn};
-ghost use Rattle.fdr_pair.specs.Living.{IsReadyFor, HasLiving, SideMoment, SideNow};
+ghost use Rattle.fdr_pair.specs.Living.{IsReadyFor, HasLiving, SideKept, SideMoment, SideNow};
 
 use crate::announce::announce_living;
 use crate::one_side::put_unless_failed;
@@ -32,6 +32,10 @@ pub fn record_block<T: Twin>(
         (SideMoment side.First first (record { number = next; session = session; payload = bytes.now } ∷ []) (T.pair twin.old)) }
     ensures second_moments { (T.pair twin.old).greatest ≤ next → EachPairMoment T.tells (T.pair twin.old) (T.pair twin.new)
         (SideMoment side.Second second (record { number = next; session = session; payload = bytes.now } ∷ []) (T.pair twin.old)) }
+    ensures first_kept { EachPairMoment T.tells (T.pair twin.old) (T.pair twin.new)
+        (SideKept side.First first (record { number = next; session = session; payload = bytes.now } ∷ []) (T.pair twin.old)) }
+    ensures second_kept { EachPairMoment T.tells (T.pair twin.old) (T.pair twin.new)
+        (SideKept side.Second second (record { number = next; session = session; payload = bytes.now } ∷ []) (T.pair twin.old)) }
     ensures first_now { SideNow T.tells side.First first result.0 (record { number = next; session = session; payload = bytes.now } ∷ [])
         (T.pair twin.old) (T.pair twin.new) }
     ensures second_now { SideNow T.tells side.Second second result.1 (record { number = next; session = session; payload = bytes.now } ∷ [])
