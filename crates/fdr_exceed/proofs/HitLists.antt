@@ -1,19 +1,18 @@
 -- One row more of a rule's parameter.
-use Rattle.std.proofs.Common.{◌≡◌, ◌∙◌, ap, sym, refl, subst, ℕ, zero, suc, ◌+◌, ◌-◌, ◌<◌, ◌≤◌, List, [], ◌∷◌, ◌++◌, length}
+use Rattle.std.proofs.Common.{◌≡◌, ◌∙◌, ap, refl, ℕ, zero, suc, ◌+◌, ◌-◌, ◌<◌, ◌≤◌, List, [], ◌∷◌, ◌++◌, length}
 use Rattle.std.proofs.Common.{take, get_or}
-use Rattle.std.proofs.Common.{Option, Some, None, arith, length-append, ◌⊎◌, inl, inr}
+use Rattle.std.proofs.Common.{Option, Some, None, arith, length-append}
 use Rattle.std.specs.Prelude.{ℤ}
 use Rattle.std.specs.Option.{option_map_or}
 use Rattle.std.proofs.lemmas.List.{take-append-le, take_all, length-map, map-append, get_or_append_left}
-use Rattle.std.proofs.Math.Seq.{get_or-append_seam, drop-nil}
-use Rattle.circular_buffer.specs.Buffer.{Buffer, buffer}
+use Rattle.std.proofs.Math.Seq.{get_or-append_seam}
 use Rattle.fdr_recon.specs.declared.Row.{Row}
 use Rattle.fdr_exceed.specs.declared.hits.HitList.{HitList}
 use Rattle.fdr_exceed.specs.declared.rule.Rule.{Rule}
 use Rattle.fdr_exceed.specs.declared.rule.RuleKind.{RuleKind}
 use Rattle.fdr_exceed.specs.declared.rule.RuleKind.TheVariants as kind
 use Rattle.fdr_exceed.specs.Exceedances.{ended_before, exceedance_of, furthest, hit_at, hits_to, values_of, no_row, list_of_hits, hit_list}
-use Rattle.fdr_exceed.specs.Watching.{HasWindow, further, one_longer}
+use Rattle.fdr_exceed.specs.Watching.{further, one_longer}
 use Rattle.fdr_exceed.proofs.Greatests.{greatest-cons, least-cons}
 
 -- the hits that end with a value don't depend on later ones
@@ -133,13 +132,3 @@ pub ended-none : (rule : Rule) (rows : List Row) (r : Row) → hit_at rule (valu
 unfolding ended_before
 ended-none rule rows r is =
     ap (λ (o : Option ℤ). option_map_or (λ y. None) o (exceedance_of rule (hit_list rule rows))) (hit_of rule rows r None is)
-
-pub window-none : (k : RuleKind) (count : ℕ) (o : Option (Buffer ℤ)) → (k ≡ kind.Above) ⊎ (k ≡ kind.Below) → o ≡ None → HasWindow k count o []
-window-none k count o (inl above) none = subst (λ q. HasWindow q count o []) (sym above) (subst (λ p. HasWindow kind.Above count p []) (sym none) tt)
-window-none k count o (inr below) none = subst (λ q. HasWindow q count o []) (sym below) (subst (λ p. HasWindow kind.Below count p []) (sym none) tt)
-
-pub window-new : (k : RuleKind) (count : ℕ) (o : Option (Buffer ℤ)) (w : Buffer ℤ) → k ≡ kind.Change → o ≡ Some w → w ≡ buffer [] count
-    → HasWindow k count o []
-window-new k count o w change some empty =
-    subst (λ q. HasWindow q count o []) (sym change) (subst (λ p. HasWindow kind.Change count p []) (sym some)
-    (ap (λ (b : Buffer ℤ). b.capacity) empty, ap (λ (b : Buffer ℤ). b.items) empty ∙ sym (drop-nil (length {A = ℤ} [] - count))))

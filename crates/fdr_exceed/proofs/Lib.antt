@@ -2,9 +2,10 @@ pub mod RuleRecords
 pub mod RuleChecks
 pub mod Greatests
 pub mod Falling
-pub mod Windows
+pub mod Signs
 pub mod HitLists
 pub mod Nexts
 pub mod Stepping
+pub mod Sharing
 pub mod Standing
 pub mod LineLengths

@@ -13,7 +13,7 @@ use Rattle.fdr_exceed.specs.declared.rule.Rule.{Rule}
 use Rattle.fdr_exceed.specs.declared.hits.Hits.{Hits}
 use Rattle.fdr_exceed.specs.declared.watch.Exceedance.{Exceedance}
 use Rattle.fdr_exceed.specs.Exceedances.{WatchStep, exceedances}
-use Rattle.fdr_exceed.specs.Watching.{AreHits, IsWatchKept, RepresentsWatch, WatchKept, line_due, due_to}
+use Rattle.fdr_exceed.specs.Watching.{AreHits, AreWindows, IsWatchKept, RepresentsWatch, WatchKept, line_due, due_to}
 use Rattle.fdr_exceed.proofs.Stepping.{due-lines, exceedances-push, lines_of_step}
 
 kept_hits : (w next : WatchKept) (steps : List WatchStep) → next.rules ≡ w.rules → next.hits ≡ w.hits → AreHits w.rules steps w.hits
@@ -21,14 +21,21 @@ kept_hits : (w next : WatchKept) (steps : List WatchStep) → next.rules ≡ w.r
 kept_hits w next steps rules hits are =
     subst (λ (rs : List Rule). AreHits rs steps next.hits) (sym rules) (subst (AreHits w.rules steps) (sym hits) are)
 
+kept_windows : (w next : WatchKept) (steps : List WatchStep) → next.rules ≡ w.rules → next.windows ≡ w.windows → next.sources ≡ w.sources
+    → AreWindows w.rules w.sources steps w.windows → AreWindows next.rules next.sources steps next.windows
+kept_windows w next steps rules windows sources are =
+    subst (λ (rs : List Rule). AreWindows rs next.sources steps next.windows) (sym rules)
+    (subst (λ (xs : List ℕ). AreWindows w.rules xs steps next.windows) (sym sources) (subst (AreWindows w.rules w.sources steps) (sym windows) are))
+
 no_exceedances : (rules : List Rule) → exceedances rules [] ≡ []
 unfolding exceedances
 no_exceedances rules = refl
 
 -- before the first step
-pub stands-first : (w : WatchKept) → AreHits w.rules [] w.hits → w.due ≡ [] → RepresentsWatch w [] 0
-stands-first w hits due = record {
+pub stands-first : (w : WatchKept) → AreHits w.rules [] w.hits → AreWindows w.rules w.sources [] w.windows → w.due ≡ [] → RepresentsWatch w [] 0
+stands-first w hits windows due = record {
   hits = hits;
+  windows = windows;
   due = ap (map (line_due w.rules)) due ∙ sym (no_exceedances w.rules);
   within = omega arith;
 }
@@ -40,9 +47,10 @@ all_taken lines taken nothing within =
 
 -- a step more, where no line was due
 pub stands-step : (w next : WatchKept) (steps : List WatchStep) (s : WatchStep) (taken : ℕ) → RepresentsWatch w steps taken → w.due ≡ []
-    → next.rules ≡ w.rules
-    → AreHits w.rules (steps ++ s ∷ []) next.hits → next.due ≡ due_to w.rules steps s (length w.rules) → RepresentsWatch next (steps ++ s ∷ []) taken
-stands-step w next steps s taken stands nothing rules hits due =
+    → next.rules ≡ w.rules → next.sources ≡ w.sources
+    → AreHits w.rules (steps ++ s ∷ []) next.hits → AreWindows w.rules w.sources (steps ++ s ∷ []) next.windows
+    → next.due ≡ due_to w.rules steps s (length w.rules) → RepresentsWatch next (steps ++ s ∷ []) taken
+stands-step w next steps s taken stands nothing rules sources hits windows due =
     let before = exceedances w.rules steps in
     let lines = lines_of_step w.rules steps s in
     let all : exceedances next.rules (steps ++ s ∷ []) ≡ before ++ lines =
@@ -50,6 +58,8 @@ stands-step w next steps s taken stands nothing rules hits due =
     let count : taken ≡ length before = all_taken before taken (ap (map (line_due w.rules)) (sym nothing) ∙ stands.due) stands.within in
     record {
       hits = subst (λ (rs : List Rule). AreHits rs (steps ++ s ∷ []) next.hits) (sym rules) hits;
+      windows = subst (λ (rs : List Rule). AreWindows rs next.sources (steps ++ s ∷ []) next.windows) (sym rules)
+          (subst (λ (xs : List ℕ). AreWindows w.rules xs (steps ++ s ∷ []) next.windows) (sym sources) windows);
       due = ap (λ (rs : List Rule). map (line_due rs) next.due) rules ∙ ap (map (line_due w.rules)) due ∙ due-lines w.rules steps s
           ∙ sym (ap (drop taken) all ∙ ap (λ n. drop n (before ++ lines)) count ∙ drop-append_seam before lines);
       within = omega (arith, count, ap (length {A = List ℕ}) all, length-append before lines);
@@ -66,8 +76,8 @@ pub record TakesInput (w next : WatchKept) (steps : List WatchStep) (taken : ℕ
 
 takes_by : (w next : WatchKept) (steps : List WatchStep) (taken : ℕ) (due : List Exceedance) → RepresentsWatch w steps taken → w.due ≡ due
     → next.rules ≡ w.rules
-    → next.hits ≡ w.hits → next.due ≡ drop 1 due → TakesInput w next steps taken (option_map (line_due w.rules) (slice_get due 0))
-takes_by w next steps taken [] stands due_is rules hits left =
+    → next.hits ≡ w.hits → next.windows ≡ w.windows → next.sources ≡ w.sources → next.due ≡ drop 1 due → TakesInput w next steps taken (option_map (line_due w.rules) (slice_get due 0))
+takes_by w next steps taken [] stands due_is rules hits windows sources left =
     let lines = exceedances w.rules steps in
     let nothing : drop taken lines ≡ [] = sym stands.due ∙ ap (map (line_due w.rules)) due_is in
     let same : taken + length (option_to_list {X = List ℕ} None) ≡ taken = omega arith in
@@ -75,12 +85,13 @@ takes_by w next steps taken [] stands due_is rules hits left =
       here = sym (ap (λ (xs : List (List ℕ)). slice_get xs 0) nothing) ∙ first_left lines taken;
       stands = subst (RepresentsWatch next steps) (sym same) (record {
         hits = kept_hits w next steps rules hits stands.hits;
+        windows = kept_windows w next steps rules windows sources stands.windows;
         due = ap (λ (rs : List Rule). map (line_due rs) next.due) rules ∙ ap (map (line_due w.rules)) left ∙ sym nothing
             ∙ ap (λ (rs : List Rule). drop taken (exceedances rs steps)) (sym rules);
         within = subst (λ (rs : List Rule). taken ≤ length (exceedances rs steps)) (sym rules) stands.within;
       });
     }
-takes_by w next steps taken (e ∷ rest) stands due_is rules hits left =
+takes_by w next steps taken (e ∷ rest) stands due_is rules hits windows sources left =
     let lines = exceedances w.rules steps in
     let some : drop taken lines ≡ line_due w.rules e ∷ map (line_due w.rules) rest = sym stands.due ∙ ap (map (line_due w.rules)) due_is in
     let more : length (drop taken lines) ≡ 1 + length (map (line_due w.rules) rest) = omega (arith, ap (length {A = List ℕ}) some) in
@@ -88,6 +99,7 @@ takes_by w next steps taken (e ∷ rest) stands due_is rules hits left =
       here = sym (ap (λ (xs : List (List ℕ)). slice_get xs 0) some) ∙ first_left lines taken;
       stands = record {
         hits = kept_hits w next steps rules hits stands.hits;
+        windows = kept_windows w next steps rules windows sources stands.windows;
         due = ap (λ (rs : List Rule). map (line_due rs) next.due) rules ∙ ap (map (line_due w.rules)) left
             ∙ sym (ap (drop 1) some) ∙ drop-drop 1 taken lines
             ∙ ap (λ (rs : List Rule). drop (taken + 1) (exceedances rs steps)) (sym rules);
@@ -97,8 +109,9 @@ takes_by w next steps taken (e ∷ rest) stands due_is rules hits left =
 
 -- the line of the first exceedance that is due is taken
 pub stands-take : (w next : WatchKept) (steps : List WatchStep) (taken : ℕ) → RepresentsWatch w steps taken → next.rules ≡ w.rules
-    → next.hits ≡ w.hits → next.due ≡ drop 1 w.due → TakesInput w next steps taken (option_map (line_due w.rules) (slice_get w.due 0))
-stands-take w next steps taken stands rules hits left = takes_by w next steps taken w.due stands refl rules hits left
+    → next.hits ≡ w.hits → next.windows ≡ w.windows → next.sources ≡ w.sources → next.due ≡ drop 1 w.due
+    → TakesInput w next steps taken (option_map (line_due w.rules) (slice_get w.due 0))
+stands-take w next steps taken stands rules hits windows sources left = takes_by w next steps taken w.due stands refl rules hits windows sources left
 
 pub due-first : (n : ℕ) (due : List Exceedance) (e : Exceedance) → All (λ (x : Exceedance). x.rule < n) due → slice_get due 0 ≡ Some e → e.rule < n
 due-first n due e inside first =
@@ -108,14 +121,16 @@ due-first n due e inside first =
 -- a step that was given to all rules, where no line was due
 pub stands-given : (w next : WatchKept) (rules : List Rule) (hits later : List Hits) (due : List Exceedance) (steps : List WatchStep) (s : WatchStep)
     (taken : ℕ)
-    → RepresentsWatch w steps taken → w.due ≡ [] → rules ≡ w.rules → hits ≡ w.hits → next.rules ≡ w.rules → next.hits ≡ later → next.due ≡ due
+    → RepresentsWatch w steps taken → w.due ≡ [] → rules ≡ w.rules → hits ≡ w.hits → next.rules ≡ w.rules → next.sources ≡ w.sources
+    → AreWindows w.rules w.sources (steps ++ s ∷ []) next.windows → next.hits ≡ later → next.due ≡ due
     → (AreHits rules steps hits → AreHits rules (steps ++ s ∷ []) later) → (AreHits rules steps hits → due ≡ due_to rules steps s (length rules))
     → RepresentsWatch next (steps ++ s ∷ []) taken
-stands-given w next rules hits later due steps s taken stands nothing rules_is hits_is next_rules next_hits next_due goes ends =
+stands-given w next rules hits later due steps s taken stands nothing rules_is hits_is next_rules next_sources next_windows next_hits next_due goes ends =
     let are : AreHits rules steps hits = subst (λ (rs : List Rule). AreHits rs steps hits) (sym rules_is) (subst (AreHits w.rules steps)
     (sym hits_is) stands.hits) in
-    stands-step w next steps s taken stands nothing next_rules
+    stands-step w next steps s taken stands nothing next_rules next_sources
     (subst (AreHits w.rules (steps ++ s ∷ [])) (sym next_hits) (subst (λ (rs : List Rule). AreHits rs (steps ++ s ∷ []) later) rules_is (goes are)))
+    next_windows
     (next_due ∙ ends are ∙ ap (λ (rs : List Rule). due_to rs steps s (length rs)) rules_is)
 
 -- nothing was due, and nothing is
@@ -133,10 +148,13 @@ due-one-less due left e first is = omega (arith, slice_get_within due 0 e first,
 -- what holds of a watch still holds with fewer due
 pub kept-less : (w : WatchKept) (capacity : ℕ) (first_of next_of : List ℕ) (due : Buffer Exceedance) → IsWatchKept w capacity first_of next_of
     → due ≡ buffer (drop 1 w.due) capacity
-    → IsWatchKept (record { rules = w.rules; hits = w.hits; due = due.items; rows = w.rows }) due.capacity first_of next_of
+    → IsWatchKept (record { rules = w.rules; hits = w.hits; windows = w.windows; sources = w.sources; due = due.items; rows = w.rows }) due.capacity first_of
+    next_of
 kept-less w capacity first_of next_of due kept is = record {
   rules = kept.rules;
   hits = kept.hits;
+  windows = kept.windows;
+  sources = kept.sources;
   first = kept.first;
   next = kept.next;
   room = ap (λ (b : Buffer Exceedance). b.capacity) is ∙ kept.room;

@@ -231,16 +231,18 @@ read-at xs i x d within at = sym (get_or_from_slice_get xs i x d (slice_get-get_
 pub given-on : (rules : List Rule) (steps : List WatchStep) (s : WatchStep) (i : ℕ) (hits : List Hits) (due later : List Exceedance) (rule : Rule)
     (old new : Hits)
     (ended : Option HitList) → IsGivenTo rules steps s i hits due → i < length rules → length hits ≡ length rules → rule ≡ rule_at rules i
-    → old ≡ hits_of_rule hits i → ((rows : List Row) → IsHits rule rows old → IsHits rule (with_step rule rows s) new)
-    → ((rows : List Row) → IsHits rule rows old → ended ≡ ended_by rule rows s) → later ≡ with_ended due i ended
+    → old ≡ hits_of_rule hits i
+    → (IsHits rule (rows_since (rule_at rules i) steps) old → IsHits rule (with_step rule (rows_since (rule_at rules i) steps) s) new)
+    → (IsHits rule (rows_since (rule_at rules i) steps) old → ended ≡ ended_by rule (rows_since (rule_at rules i) steps) s)
+    → later ≡ with_ended due i ended
     → IsGivenTo rules steps s (i + 1) (set hits i new) later
 given-on rules steps s i hits due later rule old new ended given within count rule_is old_is goes ends later_is =
     let rows = rows_since (rule_at rules i) steps in
     let at : IsHits rule rows old = subst (λ (q : Rule). IsHits q rows old) (sym rule_is)
     (subst (IsHits (rule_at rules i) rows) (sym old_is) (given.rest i (omega arith) within)) in
     let now : IsHits (rule_at rules i) (with_step (rule_at rules i) rows s) new =
-    subst (λ (q : Rule). IsHits q (with_step q rows s) new) rule_is (goes rows at) in
-    let is : ended ≡ ended_by (rule_at rules i) rows s = ends rows at ∙ ap (λ (q : Rule). ended_by q rows s) rule_is in
+    subst (λ (q : Rule). IsHits q (with_step q rows s) new) rule_is (goes at) in
+    let is : ended ≡ ended_by (rule_at rules i) rows s = ends at ∙ ap (λ (q : Rule). ended_by q rows s) rule_is in
     subst (IsGivenTo rules steps s (i + 1) (set hits i new)) (sym later_is)
     (one-given rules steps s i hits due new ended given within count
     (subst (λ (xs : List Row). IsHits (rule_at rules i) xs new) (sym (rows_since-push (rule_at rules i) steps s)) now) is)
@@ -249,17 +251,20 @@ own_param : (a b : ℕ) → b ≡ a → (a == b) ≡ true
 own_param a b same = grind (arith, nat_tests)
 
 -- a row of the rule's parameter is one of its rows
-pub row-goes : (rule : Rule) (r : Row) (old new : Hits) → rule.param ≡ r.param
-    → ((rows : List Row) → IsHits rule rows old → IsHits rule (rows ++ r ∷ []) new)
-    → (rows : List Row) → IsHits rule rows old → IsHits rule (with_step rule rows (RowStep r)) new
-row-goes rule r old new same goes rows at =
-    subst (λ (xs : List Row). IsHits rule xs new) (sym (cond-true _ (rows ++ r ∷ []) rows (own_param r.param rule.param same))) (goes rows at)
+pub row-goes : (rule : Rule) (r : Row) (old new : Hits) (rows : List Row) → rule.param ≡ r.param
+    → (IsHits rule rows old → IsHits rule (rows ++ r ∷ []) new) → IsHits rule rows old → IsHits rule (with_step rule rows (RowStep r)) new
+row-goes rule r old new rows same goes at =
+    subst (λ (xs : List Row). IsHits rule xs new) (sym (cond-true _ (rows ++ r ∷ []) rows (own_param r.param rule.param same))) (goes at)
 
-pub row-ends : (rule : Rule) (r : Row) (old : Hits) (ended : Option HitList) → rule.param ≡ r.param
-    → ((rows : List Row) → IsHits rule rows old → ended ≡ ended_before rule rows r)
-    → (rows : List Row) → IsHits rule rows old → ended ≡ ended_by rule rows (RowStep r)
-row-ends rule r old ended same ends rows at =
-    ends rows at ∙ sym (cond-true _ (ended_before rule rows r) None (own_param r.param rule.param same))
+pub row-ends : (rule : Rule) (r : Row) (old : Hits) (ended : Option HitList) (rows : List Row) → rule.param ≡ r.param
+    → (IsHits rule rows old → ended ≡ ended_before rule rows r) → IsHits rule rows old → ended ≡ ended_by rule rows (RowStep r)
+row-ends rule r old ended rows same ends at =
+    ends at ∙ sym (cond-true _ (ended_before rule rows r) None (own_param r.param rule.param same))
+
+-- the rows of a rule with one of its parameter
+pub rows-own : (rule : Rule) (steps : List WatchStep) (r : Row) → rule.param ≡ r.param → rows_since rule (steps ++ RowStep r ∷ []) ≡ rows_since rule steps ++ r ∷ []
+rows-own rule steps r same =
+    rows_since-push rule steps (RowStep r) ∙ cond-true _ (rows_since rule steps ++ r ∷ []) (rows_since rule steps) (own_param r.param rule.param same)
 
 -- the exceedance that was added, where there was room
 pub due-pushed : (due new : Buffer Exceedance) (k : ℕ) (ended : Option HitList) (list : HitList) → ended ≡ Some list → length due.items < due.capacity

@@ -1,9 +1,9 @@
 -- What a watch keeps, and which steps it represents.
-use Rattle.std.specs.Prelude.{ℕ, ◌≡◌, ◌≢◌, ◌+◌, ◌≤◌, ◌<◌, ℤ, pos, List, [], ◌++◌, length, map, drop, filter_map, Option, Some, None, option_map}
+use Rattle.std.specs.Prelude.{ℕ, ◌≡◌, ◌≢◌, ◌+◌, ◌≤◌, ◌<◌, ℤ, pos, List, [], ◌∷◌, ◌++◌, length, map, drop, filter_map, Option, Some, None, option_map}
 use Rattle.std.specs.Prelude.{slice_index, slice_index_or, All, IfSome}
 use Rattle.std.specs.Int.{int_max, int_min}
 use Rattle.std.specs.List.{cons_option, range_with_len}
-use Rattle.circular_buffer.specs.Buffer.{Buffer, keep_last}
+use Rattle.circular_buffer.specs.Buffer.{Buffer, buffer, keep_last}
 use Rattle.fdr_recon.specs.declared.Row.{Row}
 use Rattle.fdr_exceed.specs.declared.hits.HitList.{HitList}
 use Rattle.fdr_exceed.specs.declared.hits.Hits.{Hits}
@@ -21,7 +21,7 @@ no_rule = record { name = []; param = 0; decimals = 0; kind = kind.Above; limit 
 
 -- what is kept for a rule of which no row came
 abbrev pub no_hits : Hits
-no_hits = record { list = None; window = None }
+no_hits = record { list = None }
 
 -- rule k of a list, counted from 0
 abbrev pub rule_at : List Rule → ℕ → Rule
@@ -42,20 +42,30 @@ abbrev pub one_longer : RuleKind → Option HitList → Row → ℤ → HitList
 one_longer k None r x = record { first = r; length = 1; peak = x }
 one_longer k (Some list) r x = record { first = list.first; length = list.length + 1; peak = further k x list.peak }
 
--- What is kept of these values for a rule of this kind: a rule for changes has a window with the last of them, and no other rule
--- has one.
+-- the window at a place, where there is one
+abbrev pub window_at : List (Option (Buffer ℤ)) → ℕ → Option (Buffer ℤ)
+window_at windows j = slice_index_or windows j None
+
+-- a window with one value more
+abbrev pub pushed : ℤ → Option (Buffer ℤ) → Option (Buffer ℤ)
+pushed v None = None
+pushed v (Some w) = Some (buffer (keep_last w.capacity (w.items ++ v ∷ [])) w.capacity)
+
+-- a window whose values were forgotten
+abbrev pub cleared : Option (Buffer ℤ) → Option (Buffer ℤ)
+cleared None = None
+cleared (Some w) = Some (buffer [] w.capacity)
+
+-- What is kept of these values for a rule of this kind: for a rule for changes a window with the last of them.
 abbrev pub HasWindow : RuleKind → ℕ → Option (Buffer ℤ) → List ℤ → Type 0
-HasWindow kind.Above count None values = Unit {0}
-HasWindow kind.Above count (Some w) values = ⊥
-HasWindow kind.Below count None values = Unit {0}
-HasWindow kind.Below count (Some w) values = ⊥
+HasWindow kind.Above count w values = Unit {0}
+HasWindow kind.Below count w values = Unit {0}
 HasWindow kind.Change count None values = ⊥
 HasWindow kind.Change count (Some w) values = (w.capacity ≡ count) × (w.items ≡ keep_last count values)
 
 -- What is kept for the rule is that of these rows of its parameter.
 pub record IsHits (rule : Rule) (rows : List Row) (h : Hits) : Type 0 where
   pub list : h.list ≡ hit_list rule rows
-  pub window : HasWindow rule.kind rule.count h.window (values_of rows)
 
 -- The list that is kept for a rule has no more hits than this.
 abbrev pub IsWithinHits : ℕ → Hits → Type 0
@@ -64,6 +74,25 @@ IsWithinHits n h = IfSome h.list (λ (list : HitList). list.length ≤ n)
 -- What is kept for each rule is that of the steps.
 abbrev pub AreHits : List Rule → List WatchStep → List Hits → Type 0
 AreHits rules steps hits = (k : ℕ) → k < length rules → IsHits (rule_at rules k) (rows_since (rule_at rules k) steps) (hits_of_rule hits k)
+
+-- The numbers say for each rule at which place its window is. Rules for changes of one parameter within as many rows share one.
+pub record AreSources (rules : List Rule) (sources : List ℕ) : Type 0 where
+  pub count : length sources ≡ length rules
+  pub within : (k : ℕ) → k < length rules → slice_index sources k < length rules
+  pub same : (k : ℕ) → k < length rules → (rule_at rules (slice_index sources k)).param ≡ (rule_at rules k).param
+
+-- The window of each rule is that of the steps.
+abbrev pub AreWindows : List Rule → List ℕ → List WatchStep → List (Option (Buffer ℤ)) → Type 0
+AreWindows rules sources steps windows = (k : ℕ) → k < length rules
+    → HasWindow (rule_at rules k).kind (rule_at rules k).count (window_at windows (slice_index sources k)) (values_of (rows_since (rule_at rules k) steps))
+
+-- The first n rules have windows without values.
+pub record HaveWindows (rules : List Rule) (n : ℕ) (windows : List (Option (Buffer ℤ))) (sources : List ℕ) : Type 0 where
+  pub count : length windows ≡ n
+  pub places : length sources ≡ n
+  pub within : (k : ℕ) → k < n → slice_index sources k < n
+  pub same : (k : ℕ) → k < n → (rule_at rules (slice_index sources k)).param ≡ (rule_at rules k).param
+  pub has : (k : ℕ) → k < n → HasWindow (rule_at rules k).kind (rule_at rules k).count (window_at windows (slice_index sources k)) []
 
 -- Rule i is the first one from `start` on for this parameter, or i is how many rules there are.
 pub record IsNextOf (rules : List Rule) (start param i : ℕ) : Type 0 where
@@ -94,10 +123,13 @@ with_ended due k ended = due ++ cons_option (option_map (λ (list : HitList). re
 abbrev pub line_due : List Rule → Exceedance → List ℕ
 line_due rules e = exceed_text (rule_at rules e.rule) e.list
 
--- what a watch keeps: the rules, what is kept for each, the exceedances whose lines weren't taken, and how many rows were given
+-- what a watch keeps: the rules, what is kept for each, the windows and where that of each rule is, the exceedances whose lines
+-- weren't taken, and how many rows were given
 pub record WatchKept : Type 0 where
   pub rules : List Rule
   pub hits : List Hits
+  pub windows : List (Option (Buffer ℤ))
+  pub sources : List ℕ
   pub due : List Exceedance
   pub rows : ℕ
 
@@ -105,6 +137,8 @@ pub record WatchKept : Type 0 where
 pub record IsWatchKept (w : WatchKept) (capacity : ℕ) (first_of next_of : List ℕ) : Type 0 where
   pub rules : AreRulesInRange (length first_of) w.rules
   pub hits : length w.hits ≡ length w.rules
+  pub windows : length w.windows ≡ length w.rules
+  pub sources : AreSources w.rules w.sources
   pub first : (p : ℕ) → p < length first_of → IsNextOf w.rules 0 p (slice_index first_of p)
   pub next : AreNexts w.rules next_of
   pub room : capacity ≡ length w.rules
@@ -115,5 +149,6 @@ pub record IsWatchKept (w : WatchKept) (capacity : ℕ) (first_of next_of : List
 -- steps, and what waits are the exceedances beyond those taken.
 pub record RepresentsWatch (w : WatchKept) (steps : List WatchStep) (taken : ℕ) : Type 0 where
   pub hits : AreHits w.rules steps w.hits
+  pub windows : AreWindows w.rules w.sources steps w.windows
   pub due : map (line_due w.rules) w.due ≡ drop taken (exceedances w.rules steps)
   pub within : taken ≤ length (exceedances w.rules steps)

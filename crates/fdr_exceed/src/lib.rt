@@ -11,6 +11,7 @@ mod rules;
 mod text;
 mod watch;
 mod window;
+mod windows;
 
 pub use fault::{RuleFault, RulesError};
 pub use rules::Rules;

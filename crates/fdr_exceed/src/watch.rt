@@ -9,12 +9,14 @@ ghost use Rattle.fdr_exceed.specs.declared.rule.Rule.{Rule};
 ghost use Rattle.fdr_exceed.specs.declared.watch.Exceedance.{Exceedance};
 ghost use Rattle.fdr_exceed.specs.Windows.{IsWatched};
 ghost use Rattle.fdr_exceed.specs.Exceedances.{WatchStep, RowStep, ResetStep, exceedances};
-ghost use Rattle.fdr_exceed.specs.Watching.{AreHits, AreNexts, IsNextOf, IsWithinHits, RepresentsWatch, due_to, rule_at, with_ended};
+ghost use Rattle.fdr_exceed.specs.Watching.{AreHits, AreNexts, AreSources, AreWindows, IsNextOf, IsWithinHits, RepresentsWatch, due_to, rule_at, with_ended};
 
 use crate::hits::{HitList, Hits};
 use crate::rule::Rule;
 use crate::rules::Rules;
 use crate::text::exceed_line;
+use crate::window::Window;
+use crate::windows::{Windows, all_windows, clear_windows, compared, push_windows};
 use circular_buffer::HeapCircularBuffer;
 use fdr_listing::Line;
 use fdr_recon::Row;
@@ -35,6 +37,9 @@ struct Exceedance {
 pub struct Watch {
     rules: Vec<Rule>,
     hits: Vec<Hits>,
+    // Windows for changes, and for each rule the place of its own.
+    windows: Vec<Option<Window>>,
+    sources: Vec<usize>,
     // The first rule of each parameter, and for each rule the next one of its parameter; the number of rules where
     // there is none.
     first: Vec<usize>,
@@ -65,12 +70,15 @@ impl Watch {
     {
         let Rules { rules, params } = rules;
         let hits = all_hits(alloc, &rules)?;
+        let Windows { windows, sources } = all_windows(alloc, &rules)?;
         let first = first_rules(alloc, &rules, params)?;
         let next = next_rules(alloc, &rules)?;
         let due = HeapCircularBuffer::with_capacity(alloc, rules.len())?;
         Ok(Watch {
             rules,
             hits,
+            windows,
+            sources,
             first,
             next,
             due,
@@ -89,11 +97,14 @@ impl Watch {
         ensures rows { self.new.rows ≡ self.old.rows + 1 }
     {
         let start = start_of(&self.rules, &self.first, row.param);
+        push_windows(&self.rules, &self.next, start, row, &mut self.windows);
         step_rules(
             &self.rules,
             &self.next,
             start,
             row,
+            &self.windows,
+            &self.sources,
             &mut self.hits,
             &mut self.due,
         );
@@ -107,6 +118,7 @@ impl Watch {
         ensures rules { self.new.rules ≡ self.old.rules }
         ensures rows { self.new.rows ≡ self.old.rows }
     {
+        clear_windows(&mut self.windows);
         reset_rules(&self.rules, &mut self.hits, &mut self.due);
     }
 
@@ -127,14 +139,13 @@ impl Watch {
 
 /// What is kept for each rule before the first row.
 fn all_hits(alloc: Global, rules: &[Rule]) -> Result<Vec<Hits>, NoMemory>
-    requires { All (λ (r : Rule). 1 ≤ r.count) rules.now }
     ensures count { IfOk result (λ v. length v.items ≡ length rules.now) }
     ensures hits { IfOk result (λ v. AreHits rules.now [] v.items) }
     ensures short { IfOk result (λ v. All (IsWithinHits 0) v.items) }
 {
     let mut hits = Vec::new(alloc);
-    for rule in rules {
-        if hits.push(Hits::new(alloc, rule)?).is_err() {
+    for _rule in rules {
+        if hits.push(Hits::new()).is_err() {
             return Err(NoMemory);
         }
     }
@@ -210,6 +221,8 @@ fn step_rules(
     next: &[usize],
     start: usize,
     row: &Row,
+    windows: &[Option<Window>],
+    sources: &[usize],
     hits: &mut [Hits],
     due: &mut HeapCircularBuffer<Exceedance>,
 )
@@ -218,17 +231,22 @@ fn step_rules(
     requires count { length hits.old ≡ length rules.now }
     requires nothing_due { due.old.items ≡ [] }
     requires room { due.old.capacity ≡ length rules.now }
+    requires sources { AreSources rules.now sources.now }
+    requires windows { length windows.now ≡ length rules.now }
     requires watched { IsWatched row.now.value }
     requires few { All (λ (h : Hits). IfSome h.list (λ list. list.length < 2 ^ 63)) hits.old }
-    ensures hits { (steps : List WatchStep) → AreHits rules.now steps hits.old → AreHits rules.now (steps ++ RowStep row.now ∷ []) hits.new }
-    ensures due { (steps : List WatchStep) → AreHits rules.now steps hits.old → due.new.items ≡ due_to rules.now steps (RowStep row.now) (length rules.now) }
+    ensures hits { (steps : List WatchStep) → AreWindows rules.now sources.now (steps ++ RowStep row.now ∷ []) windows.now
+        → AreHits rules.now steps hits.old → AreHits rules.now (steps ++ RowStep row.now ∷ []) hits.new }
+    ensures due { (steps : List WatchStep) → AreWindows rules.now sources.now (steps ++ RowStep row.now ∷ []) windows.now
+        → AreHits rules.now steps hits.old → due.new.items ≡ due_to rules.now steps (RowStep row.now) (length rules.now) }
     ensures room { due.new.capacity ≡ due.old.capacity }
     ensures longer { (n : ℕ) → All (IsWithinHits n) hits.old → All (IsWithinHits (n + 1)) hits.new }
     ensures within { All (λ (e : Exceedance). e.rule < length rules.now) due.new.items }
 {
     let mut i = start;
     while i < rules.len() {
-        let ended = hits[i].row(&rules[i], row);
+        let x = compared(&rules[i], &windows[sources[i]], row.value);
+        let ended = hits[i].row(&rules[i], row, x);
         add(due, i, ended);
         i = next[i];
     }

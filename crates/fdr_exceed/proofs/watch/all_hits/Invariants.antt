@@ -5,7 +5,7 @@ use Rattle.fdr_exceed.proofs.watch.all_hits.Given as goal
 
 abbrev pub invariant-loop-rule : goal.invariant-loop-rule
 invariant-loop-rule l = record {
-  count : length l.hits.items ≡ l.rule-index;
-  each : (k : ℕ) → k < l.rule-index → IsHits (rule_at l.rules k) [] (hits_of_rule l.hits.items k);
+  count : length l.hits.items ≡ l._rule-index;
+  each : (k : ℕ) → k < l._rule-index → IsHits (rule_at l.rules k) [] (hits_of_rule l.hits.items k);
   short : All (IsWithinHits 0) l.hits.items;
 }

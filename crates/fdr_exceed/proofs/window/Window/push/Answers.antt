@@ -1,7 +1,7 @@
 use Rattle.std.proofs.Common.{sym, subst}
 use Rattle.std.proofs.lemmas.Int.{to_z-of_z}
 use Rattle.fdr_exceed.specs.Windows.{IsWatched}
-use Rattle.fdr_exceed.proofs.Windows.{other-sign, window-push}
+use Rattle.fdr_exceed.proofs.Signs.{other-sign, window-push}
 use mir.Syntax.{w64}
 use mir.Val.{to_z, of_z}
 use Rattle.fdr_exceed.proofs.window.Window.push.Goals as goal

@@ -5,7 +5,7 @@ use Rattle.std.proofs.lemmas.Bool.Decides.{nat_tests}
 use Rattle.std.proofs.lemmas.Int.{to_z-of_z}
 use Rattle.circular_buffer.specs.Buffer.{Buffer}
 use Rattle.fdr_exceed.specs.Exceedances.{spread}
-use Rattle.fdr_exceed.proofs.Windows.{signs-spread, sum-fits}
+use Rattle.fdr_exceed.proofs.Signs.{signs-spread, sum-fits}
 use Rattle.fdr_exceed.proofs.Greatests.{watched-fits}
 use mir.Syntax.{w64}
 use mir.Val.{to_z, of_z}
