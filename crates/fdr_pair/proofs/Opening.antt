@@ -1,5 +1,5 @@
 -- What was read of the headers of both sides.
-use Rattle.std.proofs.Common.{◌≡◌, ◌≢◌, inl, inr, ℕ, ◌-◌, ◌^◌, ◌<◌, ◌≤◌, Bool, true, false, List, refl, sym, ◌∙◌, ap, arith, subst}
+use Rattle.std.proofs.Common.{◌≡◌, ◌≢◌, ◌⊎◌, inl, inr, ⊎_elim, ℕ, ◌-◌, ◌^◌, ◌<◌, ◌≤◌, Bool, true, false, List, refl, sym, ◌∙◌, ap, arith, subst}
 use Rattle.std.proofs.Common.{Option, Some, None}
 use Rattle.std.proofs.lemmas.Bool.{cond-true, cond-false, lt-ltb, le-ltb, eqb-true, eqb-false, and_parts}
 use Rattle.std.specs.Prelude.{IsTrue, IfOk, OnOk, IfErr, Result, Ok, Err, nat_lt, nat_eq, if◌then◌else◌, ◌&&◌, ◌↔◌}
@@ -35,6 +35,7 @@ use Rattle.fdr_pair.specs.declared.open.Opened.{Opened}
 use Rattle.fdr_pair.specs.Opening.{side_header, header_or_fault, header_read, header_after, same_header, common_header}
 use Rattle.fdr_pair.specs.Opening.{opened_unless, checked, opening, IsReadOf, FitsExtent, IsCountedAs}
 use Rattle.fdr_pair.specs.Opening.{LooksAtSide, ReadsHeader, AreLiving, OnLiving, IsHeaderOn, HasLivingSide, IsOpeningRefusal}
+use Rattle.fdr_pair.specs.Opening.{AreCountsBelowMost, IsHeaderAnswer, IsRefusedByHeaders, read_unless}
 use Rattle.fdr_pair.specs.SideCounts.{CountsBoth}
 
 -- reading the header of an image, as it is on the deck of a twin that is turned to a side
@@ -340,3 +341,103 @@ if_ok (Err e) P holds = tt
 pub if_err : (r : Result Opened PairOutcome) (P : PairOutcome → Type 0) → ((e : PairOutcome) → r ≡ Err e → P e) → IfErr r P
 if_err (Ok o) P holds = tt
 if_err (Err e) P holds = holds e refl
+
+-- both failed, which isn't an answer of the headers
+no_disk_fault : IsHeaderAnswer outcome.DiskFault → ⊥
+no_disk_fault is = ⊎_elim
+    (λ refused. let never = refused.2 in absurd (cc))
+    (λ more. ⊎_elim
+    (λ differ. absurd (cc))
+    (λ rest. ⊎_elim (λ words. let never = words.2 in absurd (cc)) (λ version. absurd (cc)) rest)
+    more)
+    is
+
+of_both_sides : (P : Side → Type 0) → P First → P Second → (side : Side) → P side
+of_both_sides P first second First = first
+of_both_sides P first second Second = second
+
+unless_this : (failed : Option Side) (side : Side) (read : SideHeader) → failed ≡ Some side → read_unless failed side read ≡ Failed
+unless_this None side read is = absurd (cc)
+unless_this (Some First) First read is = refl
+unless_this (Some First) Second read is = absurd (cc)
+unless_this (Some Second) First read is = absurd (cc)
+unless_this (Some Second) Second read is = refl
+
+unless_other : (failed : Option Side) (side : Side) (read : SideHeader) → (failed ≡ Some side → ⊥) → read_unless failed side read ≡ read
+unless_other None side read not = refl
+unless_other (Some First) First read not = absurd (not refl)
+unless_other (Some First) Second read not = refl
+unless_other (Some Second) First read not = refl
+unless_other (Some Second) Second read not = absurd (not refl)
+
+-- what was read of a side, and its count: it failed and its count rose, or its image was read
+read_or_failed : (tells : Tells) (side : Side) (r : SideHeader) (p q : Pair) → ReadsHeader tells side r p q → IsTrue tells.bytes
+    → ((r ≡ Failed) × Rose (disk_on side p).faults (disk_on side q).faults)
+    ⊎ ((r ≡ header_read (disk_on side p).held) × ((disk_on side q).faults ≡ (disk_on side p).faults))
+read_or_failed tells side Failed p q reads told = inl (refl, reads.faults)
+read_or_failed tells side (Refused why) p q reads told = inr (reads.read told, reads.faults)
+read_or_failed tells side (Read h) p q reads told = inr (reads.read told, reads.faults)
+
+-- a refusal by the headers, by the side that failed
+pub refused_as_read : (tells : Tells) (words : ℕ) (a b : SideHeader) (p q : Pair) (why : PairOutcome) → ReadsHeader tells First a p q
+    → ReadsHeader tells Second b p q → opening words a b ≡ Err why → IsHeaderAnswer why → IsTrue tells.bytes → IsRefusedByHeaders words p q why
+refused_as_read tells words a b p q why first second is answer told = ⊎_elim
+    (λ one. ⊎_elim
+    (λ other.
+    let e : Err outcome.DiskFault ≡ Err why = subst (λ (x : SideHeader). opening words x Failed ≡ Err why) one.0
+    (subst (λ (x : SideHeader). opening words a x ≡ Err why) other.0 is) in
+    let fault : outcome.DiskFault ≡ why = cc in
+    absurd (no_disk_fault (subst IsHeaderAnswer (sym fault) answer)))
+    (λ other. record {
+      failed = Some First;
+      rose = λ side e. let same : First ≡ side = cc in subst (λ (x : Side). Rose (disk_on x p).faults (disk_on x q).faults) same one.1;
+      only = of_both_sides (λ (x : Side). (Some First ≡ Some x) ⊎ ((disk_on x q).faults ≡ (disk_on x p).faults)) (inl refl) (inr other.1);
+      refused = subst (λ (x : SideHeader). opening words x (header_read p.second.held) ≡ Err why) one.0
+          (subst (λ (x : SideHeader). opening words a x ≡ Err why) other.0 is);
+    })
+    (read_or_failed tells Second b p q second told))
+    (λ one. ⊎_elim
+    (λ other. record {
+      failed = Some Second;
+      rose = λ side e. let same : Second ≡ side = cc in subst (λ (x : Side). Rose (disk_on x p).faults (disk_on x q).faults) same other.1;
+      only = of_both_sides (λ (x : Side). (Some Second ≡ Some x) ⊎ ((disk_on x q).faults ≡ (disk_on x p).faults)) (inr one.1) (inl refl);
+      refused = subst (λ (x : SideHeader). opening words x Failed ≡ Err why) one.0
+          (subst (λ (x : SideHeader). opening words a x ≡ Err why) other.0 is);
+    })
+    (λ other. record {
+      failed = None;
+      rose = λ side e. absurd (cc);
+      only = of_both_sides (λ (x : Side). (None ≡ Some x) ⊎ ((disk_on x q).faults ≡ (disk_on x p).faults)) (inr one.1) (inr other.1);
+      refused = subst (λ (x : SideHeader). opening words x (header_read p.second.held) ≡ Err why) one.0
+          (subst (λ (x : SideHeader). opening words a x ≡ Err why) other.0 is);
+    })
+    (read_or_failed tells Second b p q second told))
+    (read_or_failed tells First a p q first told)
+
+-- where no count is at its greatest, the counts show which side failed
+pub refused_after : (words : ℕ) (p q : Pair) (why : PairOutcome) → IsRefusedByHeaders words p q why → AreCountsBelowMost q
+    → opening words (header_after p.first q.first) (header_after p.second q.second) ≡ Err why
+refused_after words p q why by below =
+    subst (λ (x : SideHeader). opening words x (header_after p.second q.second) ≡ Err why) (sym (shows First below.first))
+    (subst (λ (x : SideHeader). opening words (read_unless by.failed First (header_read p.first.held)) x ≡ Err why) (sym (shows Second below.second))
+    by.refused)
+  where
+    shows_same : (side : Side) → (disk_on side q).faults < 2 ^ 64 - 1 → (disk_on side q).faults ≡ (disk_on side p).faults
+        → header_after (disk_on side p) (disk_on side q) ≡ read_unless by.failed side (header_read (disk_on side p).held)
+    shows_same side most same =
+        cond-false (nat_lt (disk_on side p).faults (disk_on side q).faults) Failed (header_read (disk_on side p).held)
+        (le-ltb (disk_on side p).faults (disk_on side q).faults (omega (arith, same)))
+        ∙ sym (unless_other by.failed side (header_read (disk_on side p).held)
+        (λ failed. let rose = by.rose side failed in omega (arith, rose, same, most)))
+
+    shows : (side : Side) → (disk_on side q).faults < 2 ^ 64 - 1
+        → header_after (disk_on side p) (disk_on side q) ≡ read_unless by.failed side (header_read (disk_on side p).held)
+    shows side most = ⊎_elim
+        (λ failed.
+        let rose = by.rose side failed in
+        let more : (disk_on side p).faults < (disk_on side q).faults = omega (arith, rose, most) in
+        cond-true (nat_lt (disk_on side p).faults (disk_on side q).faults) Failed (header_read (disk_on side p).held)
+        (lt-ltb (disk_on side p).faults (disk_on side q).faults more)
+        ∙ sym (unless_this by.failed side (header_read (disk_on side p).held) failed))
+        (λ same. shows_same side most same)
+        (by.only side)

@@ -26,7 +26,7 @@ use Rattle.fdr_pair.specs.Living.{HasLiving, SideNow}
 use Rattle.fdr_pair.specs.Opening.{AreCountsBelowMost, HasLivingSide, checked, frame_refusal, header_after, header_or_fault, header_read, opening}
 use Rattle.fdr_pair.specs.Opening.{same_header, opened_unless}
 use Rattle.fdr_pair.specs.PairAnswers.{recording_answer_of}
-use Rattle.fdr_pair.specs.PairRun.{HasPairCause, IsHeaderAnswer, LeavesPair, RefusesHeaders, RefusesRuns}
+use Rattle.fdr_pair.specs.PairRun.{HasPairCause, LeavesPair, RefusesHeaders, RefusesRuns}
 use Rattle.fdr_pair.specs.PairRecording.{PairRecordsAll}
 use Rattle.fdr_pair.specs.PairStages.{EndsPairTrace, IsPastPairTable, LeavesPairLine, WritesOnNeither}
 use Rattle.fdr_pair.specs.PairStarting.{HasHeaderUnlessFailed, IsCountedByRing, IsPairStarted, ring_on}
@@ -41,6 +41,7 @@ use Rattle.fdr_pair.specs.declared.outcome.PairOutcome.{PairOutcome}
 use Rattle.fdr_pair.specs.declared.outcome.PairOutcome.TheVariants as outcome
 use Rattle.fdr_pair.specs.declared.rings.PairRings.{PairRings}
 use Rattle.fdr_pair.specs.declared.start.PairStart.{PairStart}
+use Rattle.fdr_pair.specs.Opening.{IsHeaderAnswer}
 
 -- ---- the answers of a recording that was started
 
@@ -264,7 +265,7 @@ module _ (t : TableRows) (tells : Tells) (s : PairStart) (old start new : Pair) 
   pub recorded_headers : RefusesHeaders t.frame.words tells old new (recording_answer_of end)
   recorded_headers = record {
     cause = λ by. absurd (recording_writes end (header_writes (recording_answer_of end) by));
-    only = λ by told below. absurd (recording_writes end (header_writes (recording_answer_of end) by));
+    only = λ by told. absurd (recording_writes end (header_writes (recording_answer_of end) by));
     always = λ why by past told below first.
         let right = is.header told in
         absurd (no_header_refusal t.frame.words s.session.rings.header right.count right.version (header_after old.first new.first)

@@ -28,7 +28,7 @@ use Rattle.fdr_recorder.proofs.NewBlocks.{blocks-fewer}
 use Rattle.fdr_pair.specs.Alike.{lead_image, lead_on}
 use Rattle.fdr_pair.specs.Opening.{AreCountsBelowMost, HasLivingSide, header_after}
 use Rattle.fdr_pair.specs.PairAnswers.{recording_answer_of}
-use Rattle.fdr_pair.specs.PairRun.{CountsNoPairFault, EndsPairLine, HasPairCause, IsHeaderAnswer, IsWholePair, KeepsPair, LeavesPair, PairRun, RecordsPair}
+use Rattle.fdr_pair.specs.PairRun.{CountsNoPairFault, EndsPairLine, HasPairCause, IsWholePair, KeepsPair, LeavesPair, PairRun, RecordsPair}
 use Rattle.fdr_pair.specs.PairRun.{RefusesHeaders, RefusesRuns}
 use Rattle.fdr_pair.specs.PairStages.{EndsPairTrace, LeavesPairLine}
 use Rattle.fdr_pair.specs.PairStarting.{IsPairStarted, IsStartRefused, StartsWithLead, StartsWithoutLead}
@@ -42,6 +42,8 @@ use Rattle.fdr_pair.proofs.PairAnswering.{LaterCount, header_unfailed, later, no
 use Rattle.fdr_pair.proofs.PairAnswering.{recorded_leaves, recorded_lives, recorded_runs}
 use Rattle.fdr_pair.proofs.PairLine.{ended_not_refused, ends_by_answer, ends_unpulled, pulls_none, pulls_since, refused_no_end}
 use Rattle.fdr_pair.proofs.PairTable.{not_before}
+use Rattle.fdr_pair.specs.Opening.{IsHeaderAnswer}
+use Rattle.fdr_pair.proofs.Opening.{refused_after}
 
 -- ---- where no count of faults rose
 
@@ -70,7 +72,7 @@ module _ (t : TableRows) (tells : Tells) (old new : Pair) (whole : IsWholePair t
       (inr (header_unfailed h old.first new.first (omega (arith, below_next old.first.faults new.first.faults faultless.first)) right.first refl))
       (inr (header_unfailed h old.second new.second (omega (arith, below_next old.second.faults new.second.faults faultless.second)) right.second
       (sym right.same)))
-      by (is.headers.only by whole.bytes (counts_below old new faultless))
+      by (refused_after t.frame.words old new why (is.headers.only by whole.bytes) (counts_below old new faultless))
 
   pub refused_whole : (why : PairOutcome) → IsStartRefused t tells old new why → (why ≡ outcome.Done) ⊎ (why ≡ outcome.NoMemory)
   refused_whole outcome.Done is = inl refl

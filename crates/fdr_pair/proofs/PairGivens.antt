@@ -10,7 +10,6 @@ use Rattle.fdr_twin.specs.declared.side.Side.{Side}
 use Rattle.fdr_twin.specs.declared.side.Side.TheVariants.{First, Second}
 use Rattle.fdr_twin.specs.Pair.{Pair, disk_on}
 use Rattle.fdr_twin.specs.Serving.{EachPairMoment}
-use Rattle.fdr_pair.specs.Opening.{header_after, header_read, AreCountsBelowMost}
 use Rattle.fdr_pair.specs.PairMoments.{HasFailedBeforePull}
 use Rattle.fdr_pair.specs.Bringing.{HasNoFault}
 use Rattle.fdr_pair.specs.PairEnds.{HasFailedSince}
@@ -20,7 +19,6 @@ use Rattle.fdr_pair.specs.declared.outcome.PairOutcome.TheVariants as outcome
 use Rattle.fdr_pair.specs.PairMeaning.{PairGiven}
 use Rattle.fdr_pair.specs.PairDoing.{GavePairInput, GavePairTable, FailsOnly, KeepsOn, Pulls, WasPairGiven}
 use Rattle.fdr_load.specs.Supplies.{Supplied}
-use Rattle.fdr_pair.proofs.PairHeaders.{read_unless}
 
 -- ---- the input
 
@@ -101,43 +99,6 @@ pub failed_idle : (tells : Tells) (side : Side) (old new : Pair) → EachPairMom
 failed_idle tells side old new idle rose =
     record { now = rose; moments = λ stops m since pulled. absurd (omega (arith, (idle stops m since).taken, pulled)) }
 
--- a count that is higher than it was rose
-pub rose_by : (before now : ℕ) → nat_lt before now ≡ true → Rose before now
-rose_by before now is = let less : before < now = grind (arith, nat_tests) in omega (arith, less)
-
--- one that rose is higher, if it isn't at its greatest
-pub higher : (before now : ℕ) → now < 2 ^ 64 - 1 → Rose before now → nat_lt before now ≡ true
-higher before now most rose = let less : before < now = omega (arith, most, rose) in grind (arith, nat_tests)
-
-pub not_higher : (before now : ℕ) → now ≡ before → nat_lt before now ≡ false
-not_higher before now is = grind (arith, nat_tests)
-
--- the side whose count rose alone, if there is one
-abbrev pub failed_by : Bool → Bool → Option Side
-failed_by true second = Some First
-failed_by false true = Some Second
-failed_by false false = None
-
--- both sides failed, or what was read of the headers goes by the side that failed alone
-pub reads_by : (old new : Pair) (b1 b2 : Bool) → nat_lt old.first.faults new.first.faults ≡ b1 → nat_lt old.second.faults new.second.faults ≡ b2
-    → ((b1 ≡ true) × (b2 ≡ true)) ⊎ ((header_after old.first new.first ≡ read_unless (failed_by b1 b2) First (header_read old.first.held))
-    × (header_after old.second new.second ≡ read_unless (failed_by b1 b2) Second (header_read old.second.held))
-    × ((b1 ≡ true) × (b2 ≡ true) → ⊥))
-reads_by old new true true e1 e2 = inl (refl, refl)
-reads_by old new true false e1 e2 = inr (rw e1 refl, rw e2 refl, λ both. let never : false ≡ true = both.1 in cc)
-reads_by old new false true e1 e2 = inr (rw e1 refl, rw e2 refl, λ both. let never : false ≡ true = both.0 in cc)
-reads_by old new false false e1 e2 = inr (rw e1 refl, rw e2 refl, λ both. let never : false ≡ true = both.0 in cc)
-
--- the side that failed alone, by the counts
-pub failed_of : (r : PairRun) (b1 b2 : Bool) → nat_lt r.old.first.faults r.new.first.faults ≡ b1 → nat_lt r.old.second.faults r.new.second.faults ≡ b2
-    → EachPairMoment r.tells r.old r.new (IsLineMoment r.old)
-    → (side : Side) → failed_by b1 b2 ≡ Some side → HasFailedBeforePull r.tells side r.old r.new
-failed_of r true b2 e1 e2 idle First is = failed_idle r.tells First r.old r.new idle (rose_by r.old.first.faults r.new.first.faults e1)
-failed_of r true b2 e1 e2 idle Second is = absurd (cc)
-failed_of r false true e1 e2 idle Second is = failed_idle r.tells Second r.old r.new idle (rose_by r.old.second.faults r.new.second.faults e2)
-failed_of r false true e1 e2 idle First is = absurd (cc)
-failed_of r false false e1 e2 idle side is = absurd (cc)
-
 -- ---- nothing was pulled
 
 -- where nothing is pulled, there is nothing to keep from the first pulled byte on
@@ -155,31 +116,9 @@ keeps_idle r g line idle = record {
 
 -- ---- no further side failed
 
-below : (r : PairRun) → AreCountsBelowMost r.new → (s : Side) → (disk_on s r.new).faults < 2 ^ 64 - 1
-below r counts First = counts.first
-below r counts Second = counts.second
-
-pub rose_not : (r : PairRun) → AreCountsBelowMost r.new → (s : Side) → HasFailedSince s r.old r.new → (disk_on s r.new).faults ≡ (disk_on s r.old).faults → ⊥
-rose_not r counts s rose same = omega (arith, rose, same, below r counts s)
-
 pub none_failed : (r : PairRun) → HasNoFault r.old r.new → (s : Side) → (disk_on s r.new).faults ≡ (disk_on s r.old).faults
 none_failed r none First = none.first
 none_failed r none Second = none.second
 
-pub fails_none : (r : PairRun) (g : PairGiven) → AreCountsBelowMost r.new → HasNoFault r.old r.new → FailsOnly g r
-fails_none r g counts none side rose = absurd (rose_not r counts side rose (none_failed r none side))
-
--- the counts show which side failed
-pub fails_by : (r : PairRun) (table came : Supplied) (b1 b2 : Bool) → AreCountsBelowMost r.new → nat_lt r.old.first.faults r.new.first.faults ≡ b1
-    → nat_lt r.old.second.faults r.new.second.faults ≡ b2 → ((b1 ≡ true) × (b2 ≡ true) → ⊥) → FailsOnly (given_by r table came (failed_by b1 b2)) r
-fails_by r table came true true counts e1 e2 one side rose = absurd (one (refl, refl))
-fails_by r table came true false counts e1 e2 one First rose = refl
-fails_by r table came true false counts e1 e2 one Second rose =
-    let never : true ≡ false = sym (higher r.old.second.faults r.new.second.faults counts.second rose) ∙ e2 in absurd (cc)
-fails_by r table came false true counts e1 e2 one First rose =
-    let never : true ≡ false = sym (higher r.old.first.faults r.new.first.faults counts.first rose) ∙ e1 in absurd (cc)
-fails_by r table came false true counts e1 e2 one Second rose = refl
-fails_by r table came false false counts e1 e2 one First rose =
-    let never : true ≡ false = sym (higher r.old.first.faults r.new.first.faults counts.first rose) ∙ e1 in absurd (cc)
-fails_by r table came false false counts e1 e2 one Second rose =
-    let never : true ≡ false = sym (higher r.old.second.faults r.new.second.faults counts.second rose) ∙ e2 in absurd (cc)
+pub fails_none : (r : PairRun) (g : PairGiven) → HasNoFault r.old r.new → FailsOnly g r
+fails_none r g none side = inr (none_failed r none side)

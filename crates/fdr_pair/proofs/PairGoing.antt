@@ -50,7 +50,7 @@ use Rattle.fdr_pair.proofs.Leading.{one_header}
 use Rattle.fdr_pair.proofs.PairKeeping.{blocks_same, failed_by, follows_on, follower_kept, from_image, keeps_first, kept_on, lead_kept, lead_run_kept, over}
 use Rattle.fdr_pair.proofs.PairKeeping.{over_pulled}
 use Rattle.fdr_pair.proofs.PairKeeping.{rose_before, unread_kept}
-use Rattle.fdr_pair.proofs.PairHaving.{kept_with_lead, kept_without_lead}
+use Rattle.fdr_pair.proofs.PairHaving.{kept_with_lead, kept_without_lead, right_lead, right_other}
 
 -- ---- sides
 
@@ -94,12 +94,13 @@ header_kept old new keeps = ap header_of keeps.header
 
 module _ (tells : Tells) (side : Side) (h : Header) (run : List Block) (next : ℕ) (done : List Block) (p0 p5 p6 : Pair) (told : IsTrue tells.bytes)
     (header : header_in (disk_on side p0).held ≡ h) where
-  holds_after : (r s : Ring) → r.header ≡ h → HoldsRun h side run next p0 p5 → HasGoneOn tells side r s done p5 p6
-      → HoldsAfter tells side h run next done p6
-  holds_after r s same begins gone =
+  holds_after : (r s : Ring) → r.header ≡ h → (disk_on side p5).faults ≡ (disk_on side p0).faults → HoldsRun h side run next p0 p5
+      → HasGoneOn tells side r s done p5 p6 → HoldsAfter tells side h run next done p0 p6
+  holds_after r s same counts begins gone =
       let held = (disk_on side p6).held in
       let keeps = gone.keeps told in
       record {
+        faults = gone.faults ∙ counts;
         header = header_kept (disk_on side p5).held held keeps.kept ∙ header_kept (disk_on side p0).held (disk_on side p5).held begins.kept ∙ header;
         last = subst (λ (x : Header). recovered_run x held ≡ last_blocks (x.slots - 1) (run ++ done)) same
             (gone.exact told run (subst (λ (x : Header). recovered_run x (disk_on side p5).held ≡ last_blocks (x.slots - 1) run) (sym same) begins.last));
@@ -112,17 +113,18 @@ module _ (tells : Tells) (side : Side) (h : Header) (run : List Block) (next : �
 
   -- unless it failed
   pub holds_unless : (o o' : Option Ring) → Follows h next o → IsCountedByRing o (disk_on side p0).faults (disk_on side p5).faults
-      → StartsOnRun o h side run next p0 p5 → SideNow tells side o o' done p5 p6 → HasFailedSince side p0 p6 ⊎ HoldsAfter tells side h run next done p6
+      → StartsOnRun o h side run next p0 p5 → SideNow tells side o o' done p5 p6 → HasFailedSince side p0 p6 ⊎ HoldsAfter tells side h run next done p0 p6
   holds_unless None None follows counts rose now = inl (subst (λ (n : ℕ). Rose (disk_on side p0).faults n) (sym now) rose)
   holds_unless None (Some s) follows counts rose now = absurd now
   holds_unless (Some r) None follows counts begins now = inl (subst (λ (n : ℕ). Rose n (disk_on side p6).faults) counts now)
-  holds_unless (Some r) (Some s) follows counts begins now = inr (holds_after r s (follows r refl).0 begins now)
+  holds_unless (Some r) (Some s) follows counts begins now = inr (holds_after r s (follows r refl).0 counts begins now)
 
   -- where it has a ring still
-  pub holds_living : (o : Option Ring) (s : Ring) → Follows h next o → StartsOnRun o h side run next p0 p5 → SideNow tells side o (Some s) done p5 p6
-      → HoldsAfter tells side h run next done p6
-  holds_living None s follows begins now = absurd now
-  holds_living (Some r) s follows begins now = holds_after r s (follows r refl).0 begins now
+  pub holds_living : (o : Option Ring) (s : Ring) → Follows h next o → IsCountedByRing o (disk_on side p0).faults (disk_on side p5).faults
+      → StartsOnRun o h side run next p0 p5 → SideNow tells side o (Some s) done p5 p6
+      → HoldsAfter tells side h run next done p0 p6
+  holds_living None s follows counts begins now = absurd now
+  holds_living (Some r) s follows counts begins now = holds_after r s (follows r refl).0 counts begins now
 
 -- ---- the call
 
@@ -206,15 +208,15 @@ module _ (t : TableRows) (tells : Tells) (s : PairStart) (p0 p5 p6 : Pair) (end 
 
     side_holds : (side : Side) (run : List Block) → header_in (disk_on side p0).held ≡ rings.header
         → StartsOnRun (ring_on side rings) rings.header side run rings.next p0 p5
-        → HasFailedSince side p0 p6 ⊎ HoldsAfter tells side rings.header run rings.next done p6
+        → HasFailedSince side p0 p6 ⊎ HoldsAfter tells side rings.header run rings.next done p0 p6
     side_holds side run header begins = holds_unless tells side rings.header run rings.next done p0 p5 p6 told header (ring_on side rings)
         (ring_on side left) (follows_on t tells s p0 p5 p6 end sound started recorded side) (started.counts side) begins (side_now side)
 
     -- of a side that hasn't failed
     side_lives : (side : Side) (run : List Block) (r : Ring) → ring_on side left ≡ Some r → header_in (disk_on side p0).held ≡ rings.header
-        → StartsOnRun (ring_on side rings) rings.header side run rings.next p0 p5 → HoldsAfter tells side rings.header run rings.next done p6
+        → StartsOnRun (ring_on side rings) rings.header side run rings.next p0 p5 → HoldsAfter tells side rings.header run rings.next done p0 p6
     side_lives side run r is header begins = holds_living tells side rings.header run rings.next done p0 p5 p6 told header (ring_on side rings) r
-        (follows_on t tells s p0 p5 p6 end sound started recorded side) begins
+        (follows_on t tells s p0 p5 p6 end sound started recorded side) (started.counts side) begins
         (subst (λ o. SideNow tells side (ring_on side rings) o done p5 p6) is (side_now side))
 
     had_ring : (side : Side) (r : Ring) → ring_on side left ≡ Some r → ring_on side rings ≡ None → ⊥
@@ -223,17 +225,17 @@ module _ (t : TableRows) (tells : Tells) (s : PairStart) (p0 p5 p6 : Pair) (end 
 
     -- by the header and the next number of an image
     by_image : (side : Side) (run : Header → List Block) (image : List ℕ) → rings.header ≡ header_in image → rings.next ≡ next_in image
-        → HoldsAfter tells side rings.header (run rings.header) rings.next done p6
-        → HoldsAfter tells side (header_in image) (run (header_in image)) (next_in image) done p6
+        → HoldsAfter tells side rings.header (run rings.header) rings.next done p0 p6
+        → HoldsAfter tells side (header_in image) (run (header_in image)) (next_in image) done p0 p6
     by_image side run image header number holds =
-        subst (λ (n : ℕ). HoldsAfter tells side (header_in image) (run (header_in image)) n done p6) number
-        (subst (λ (h : Header). HoldsAfter tells side h (run h) rings.next done p6) header holds)
+        subst (λ (n : ℕ). HoldsAfter tells side (header_in image) (run (header_in image)) n done p0 p6) number
+        (subst (λ (h : Header). HoldsAfter tells side h (run h) rings.next done p0 p6) header holds)
 
     module _ (w : StartsWithLead t.frame.words rings s.session.session p0 p5) where
-      lead_holds : HoldsAfter tells (lead_on p0) rings.header (run_in (lead_image p0)) rings.next done p6 → LeadHolds tells done p0 p6
+      lead_holds : HoldsAfter tells (lead_on p0) rings.header (run_in (lead_image p0)) rings.next done p0 p6 → LeadHolds tells done p0 p6
       lead_holds holds = by_image (lead_on p0) (λ h. run_in (lead_image p0)) (lead_image p0) w.header w.next holds
 
-      brought_holds : HoldsAfter tells (follower_on p0) rings.header (brought_run rings.header (lead_image p0) (follower_image p0)) rings.next done p6
+      brought_holds : HoldsAfter tells (follower_on p0) rings.header (brought_run rings.header (lead_image p0) (follower_image p0)) rings.next done p0 p6
           → FollowerHoldsBrought tells done p0 p6
       brought_holds holds = by_image (follower_on p0) (λ h. brought_run h (lead_image p0) (follower_image p0)) (lead_image p0) w.header w.next holds
 
@@ -256,6 +258,16 @@ module _ (t : TableRows) (tells : Tells) (s : PairStart) (p0 p5 p6 : Pair) (end 
           w.follower)
           (either side (lead_on p0))
 
+      -- where the other side had failed before, the lead holds them
+      pub lead_alone : ring_on (follower_on p0) rings ≡ None → LeadHolds tells done p0 p6
+      lead_alone none =
+          let living = living_side left in
+          ⊎_elim
+          (λ is. lead_holds (side_lives (lead_on p0) (run_in (lead_image p0)) living.1.0
+          (subst (λ x. ring_on x left ≡ Some living.1.0) is living.1.1) (sym w.header) w.lead))
+          (λ is. absurd (had_ring (follower_on p0) living.1.0 (subst (λ x. ring_on x left ≡ Some living.1.0) is living.1.1) none))
+          (either living.0 (lead_on p0))
+
       pub hold_with_lead : HoldWithLead tells done p0 p6
       hold_with_lead = record {
         lead = ⊎_elim (λ rose. inl rose) (λ holds. inr (lead_holds holds)) (side_holds (lead_on p0) (run_in (lead_image p0)) (sym w.header) w.lead);
@@ -269,7 +281,7 @@ module _ (t : TableRows) (tells : Tells) (s : PairStart) (p0 p5 p6 : Pair) (end 
       }
 
     module _ (w : StartsWithoutLead t.frame.words rings s.session.session p0 p5) where
-      own_holds : HoldsAfter tells (follower_on p0) rings.header (run_in (follower_image p0)) rings.next done p6 → FollowerHoldsOwn tells done p0 p6
+      own_holds : HoldsAfter tells (follower_on p0) rings.header (run_in (follower_image p0)) rings.next done p0 p6 → FollowerHoldsOwn tells done p0 p6
       own_holds holds = by_image (follower_on p0) (λ h. run_in (follower_image p0)) (follower_image p0) w.header w.next holds
 
       pub hold_without_lead : HoldWithoutLead tells done p0 p6
@@ -324,8 +336,13 @@ module _ (t : TableRows) (tells : Tells) (s : PairStart) (p0 p5 p6 : Pair) (end 
                 (brought_run h (lead_image p0) (follower_image p0)) rings.next p0 p5) w.header both.1)
                 stops m since (inr some))),
           ))
-          (λ failed. inr (failed_before_pull (follower_on p0) failed.0))
+          (λ failed. inr (
+            failed_before_pull (follower_on p0) failed.0,
+            ended_by (λ done. LeadHolds tells done p0 p6) (lead_image p0) w.header w.next w.after
+                (have_ended (λ done. LeadHolds tells done p0 p6) (λ left done all. lead_alone told left done all w failed.0)),
+          ))
           w.follower;
+      read = λ late. right_lead t tells s p0 p5 p6 end sound started recorded told w;
       kept = λ side read may. kept_with_lead t tells s p0 p5 p6 end sound started recorded may w side read;
       in_time = λ may. keeps_up (lead_image p0) w.header w.next;
       ends = ended_by (λ done. HoldWithLead tells done p0 p6) (lead_image p0) w.header w.next w.after
@@ -337,6 +354,7 @@ module _ (t : TableRows) (tells : Tells) (s : PairStart) (p0 p5 p6 : Pair) (end 
         → GoesOnWithoutLead t tells (good_prefix recorded.pulled) recorded.pulled p0 p6 (EndsPairTrace answer) (answer ≡ outcome.SeqEnd)
     without_lead told w = record {
       lead = failed_before_pull (lead_on p0) w.lead.0;
+      read = λ late. right_other t tells s p0 p5 p6 end sound started recorded told w;
       follower = λ may. over_pulled t tells s p0 p5 p6 end sound started recorded (KeepsOwnRun (follower_on p0) t (good_prefix recorded.pulled) p0)
           (λ stops m since some. ⊎_elim (λ now. inl now)
           (λ late. inr (from_image t tells s p0 p5 p6 end sound started recorded (follower_on p0) (run_in (follower_image p0)) (follower_image p0) m
@@ -395,7 +413,13 @@ module _ (t : TableRows) (tells : Tells) (p0 p : Pair) (why : PairOutcome) (refu
         follower = inr (record {
           now = rose_on is (follower_on p0);
           moments = λ stops m since some. let none = (refused.keeps.unpulled stops m since).taken in absurd (omega (arith, some, none));
+        }, record {
+          recorded = λ all. absurd (open_end all);
+          within = λ all. absurd (open_end all);
+          seq_end = λ ends. absurd (no_end ends);
+          beyond = λ ends. absurd (no_end ends);
         });
+        read = λ late. absurd (⊎_elim (λ all. open_end all) (λ ends. no_end ends) late);
         kept = λ side read may stops m since some. let none = (refused.keeps.unpulled stops m since).taken in absurd (omega (arith, some, none));
         in_time = λ may stops m since.
             let at = refused.keeps.unpulled stops m since in

@@ -36,7 +36,7 @@ use Rattle.fdr_pair.proofs.Limits.{brought_nothing, limits_in}
 module _ (tells : Tells) (blocks : List Block) (old new : Pair) where
   -- a side that goes on from its own run
   pub grown_own : (side : Side) → IsInLimits (header_in (disk_on side old).held)
-      → HoldsAfter tells side (header_in (disk_on side old).held) (run_in (disk_on side old).held) (next_in (disk_on side old).held) blocks new
+      → HoldsAfter tells side (header_in (disk_on side old).held) (run_in (disk_on side old).held) (next_in (disk_on side old).held) blocks old new
       → new.announced ≡ next_in (disk_on side old).held + length blocks
       → AddsToRun tells (blocks_not_below (next_in (disk_on side old).held) (run_in (disk_on side old).held) ++ blocks) (seen side old) (seen side new)
   grown_own side limits holds announced =

@@ -32,6 +32,7 @@ use Rattle.fdr_pair.proofs.Keeps.{keeps_moved, keeps_with_more}
 use Rattle.fdr_pair.proofs.Leading.{brought_next, one_header}
 use Rattle.fdr_pair.proofs.Limits.{brought_nothing, limits_in}
 use Rattle.fdr_pair.proofs.PairKeeping.{RunWith, keeps_first, none_kept, over_pulled, recording_from, ring_kept}
+use Rattle.fdr_pair.specs.Opening.{IsRightImage}
 
 -- a side has a ring, or it has none
 ring_or : (o : Option Ring) → (o ≡ None) ⊎ ((r : Ring) × (o ≡ Some r))
@@ -54,6 +55,43 @@ of_sides P First own other First = own
 of_sides P First own other Second = other
 of_sides P Second own other First = other
 of_sides P Second own other Second = own
+
+-- images that are alike have no fault
+no_fault_alike : {words : ℕ} {p : Pair} → AreAlike words p → (side : Side) → image_fault_of (disk_on side p).held ≡ None
+no_fault_alike alike First = alike.header.first
+no_fault_alike alike Second = alike.header.second
+
+module _ (t : TableRows) (tells : Tells) (s : PairStart) (p0 p5 p6 : Pair) (end : Result SourceEnd PairFault) (sound : IsSoundPair tells p5)
+    (started : IsPairStarted t tells s p0 p5)
+    (recorded : PairRecordsTrace tells (past_at_start t s.session.rings.header s.session.rings.next s.session.session) s.session.rings p5 p6 end) where
+  header_right : IsTrue tells.bytes → (side : Side) → s.session.rings.header ≡ header_in (disk_on side p0).held
+      → image_fault_of (disk_on side p0).held ≡ None → IsRightImage t.frame.words (disk_on side p0).held
+  header_right told side header none = record {
+    no_fault = none;
+    count = ap (λ (h : Header). h.words) (sym header) ∙ (started.header told).count;
+    version = ap (λ (h : Header). h.version) (sym header) ∙ (started.header told).version;
+  }
+
+  -- a side with a ring has an image without a fault
+  read_by_ring : IsTrue tells.bytes → (side : Side) → ring_on (other_side side) s.session.rings ≡ None → image_fault_of (disk_on side p0).held ≡ None
+  read_by_ring told side other = ⊎_elim
+      (λ none. absurd (no_rings s.session.rings side none other))
+      (λ ring. started.read told side ring.0 ring.1)
+      (ring_or (ring_on side s.session.rings))
+
+  pub right_lead : IsTrue tells.bytes → StartsWithLead t.frame.words s.session.rings s.session.session p0 p5
+      → IsRightImage t.frame.words (lead_image p0)
+  right_lead told w = header_right told (lead_on p0) w.header (⊎_elim
+      (λ both. no_fault_alike both.0 (lead_on p0))
+      (λ failed. read_by_ring told (lead_on p0) failed.0)
+      w.follower)
+
+  pub right_other : IsTrue tells.bytes → StartsWithoutLead t.frame.words s.session.rings s.session.session p0 p5
+      → IsRightImage t.frame.words (follower_image p0)
+  right_other told w = header_right told (follower_on p0) w.header (⊎_elim
+      (λ none. absurd (no_rings s.session.rings (lead_on p0) w.lead.0 none))
+      (λ ring. started.read told (follower_on p0) ring.0 ring.1)
+      (ring_or (ring_on (follower_on p0) s.session.rings)))
 
 module _ (t : TableRows) (tells : Tells) (s : PairStart) (p0 p5 p6 : Pair) (end : Result SourceEnd PairFault) (sound : IsSoundPair tells p5)
     (started : IsPairStarted t tells s p0 p5)
@@ -138,14 +176,11 @@ module _ (t : TableRows) (tells : Tells) (s : PairStart) (p0 p5 p6 : Pair) (end 
       let at : KeepsRecording (header_in own) own (run_in own ++ missing) (next_in lead) new 0 image =
       subst (λ (h : Header). KeepsRecording h own (recovered_run h own ++ blocks_not_below (next_of h own) (run_in lead)) (next_in lead) new 0 image) (sym same)
       kept in
-      let limits = limits_in lead (lead_fault alike) in
+      let limits = limits_in lead (no_fault_alike alike (lead_on p0)) in
       let long : next_in own + length missing ≡ next_in lead =
       subst (λ (h : Header). next_in own + length (blocks_not_below (next_of h own) (run_in lead)) ≡ next_in lead) (sym same)
       (brought_next t.frame.words p0 alike limits) in
       keeps_moved (header_in own) own (run_in own) missing (next_in own) (next_in lead) new 0 image long at
-    where
-      lead_fault : AreAlike t.frame.words p0 → image_fault_of (lead_image p0) ≡ None
-      lead_fault alike = of_sides (λ (x : Side). image_fault_of (disk_on x p0).held ≡ None) First alike.header.first alike.header.second (lead_on p0)
 
   follower_has : StartsWithLead t.frame.words rings s.session.session p0 p5 → image_fault_of (follower_image p0) ≡ None
       → Has (lead_on p0) (follower_on p0)

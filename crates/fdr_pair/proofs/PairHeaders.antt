@@ -9,7 +9,7 @@ use Rattle.fdr_recover.specs.ImageHeader.{image_fault_of, header_in}
 use Rattle.fdr_table.specs.Reading.{first_some}
 use Rattle.fdr_twin.specs.declared.side.Side.{Side}
 use Rattle.fdr_twin.specs.declared.side.Side.TheVariants.{First, Second}
-use Rattle.fdr_pair.specs.Opening.{frame_refusal, header_or_fault, header_read, opening, same_header}
+use Rattle.fdr_pair.specs.Opening.{frame_refusal, header_or_fault, header_read, opening, read_unless, same_header}
 use Rattle.fdr_pair.specs.Opening as pair
 use Rattle.fdr_pair.specs.declared.open.LivingSides.TheVariants as living
 use Rattle.fdr_pair.specs.declared.open.Opened.{Opened}
@@ -37,12 +37,6 @@ first_after (Some b ∷ xs) ys none = absurd (cc)
 abbrev pub refusal_of : {A : Type 0} → Result A PairOutcome → Option PairOutcome
 refusal_of (Ok a) = None
 refusal_of (Err why) = Some why
-
--- what is read of the header of a side, that failed or has this image
-abbrev pub read_unless : Option Side → Side → SideHeader → SideHeader
-read_unless (Some First) First read = header.Failed
-read_unless (Some Second) Second read = header.Failed
-read_unless failed side read = read
 
 -- the refusals of headers with these faults
 abbrev header_refusals : ℕ → Option Side → Option ImageFault → Option ImageFault → Header → Header → Header → List (Option PairOutcome)

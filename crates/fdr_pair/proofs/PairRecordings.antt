@@ -22,14 +22,12 @@ use Rattle.fdr_twin.specs.declared.side.Side.TheVariants.{First, Second}
 use Rattle.fdr_twin.specs.Pair.{PairMoment, disk_on, other_side}
 use Rattle.fdr_pair.specs.Alike.{AreAlike, lead_on, follower_on, lead_image, follower_image}
 use Rattle.fdr_pair.specs.Brought.{blocks_not_below}
-use Rattle.fdr_pair.specs.Opening.{AreCountsBelowMost, HasLivingSide, common_header, frame_refusal, header_after, header_or_fault, header_read, opening}
-use Rattle.fdr_pair.specs.Opening.{same_header}
-use Rattle.fdr_pair.specs.Opening as pair
-use Rattle.fdr_pair.specs.PairEnds.{GoesOnWithLead, GoesOnWithoutLead, HasFailedSince, HaveEnded, HoldWithLead, HoldWithoutLead}
+use Rattle.fdr_pair.specs.Opening.{IsRightImage, frame_refusal}
+use Rattle.fdr_pair.specs.PairEnds.{FollowerHoldsBrought, GoesOnWithLead, GoesOnWithoutLead, HasFailedSince, HaveEnded, HoldWithLead, HoldWithoutLead, LeadHolds}
 use Rattle.fdr_pair.specs.PairMoments.{HasFailedBeforePull, HasPulledBytes, KeepsBroughtRun, KeepsRunWith, KeepsUpBy, MayRecordPair, blocks_to_get}
 use Rattle.fdr_pair.specs.SideKeeping.{HasFailedOrKeeps}
 use Rattle.fdr_twin.specs.Serving.{EachPairMoment}
-use Rattle.fdr_pair.specs.PairRun.{IsHeaderAnswer, PairRun, RecordsPair}
+use Rattle.fdr_pair.specs.PairRun.{PairRun, RecordsPair}
 use Rattle.fdr_pair.specs.PairStages.{EndsPairTrace, IsPastPairTable, LeavesPairLine}
 use Rattle.fdr_pair.specs.declared.open.Opened.{Opened}
 use Rattle.fdr_pair.specs.declared.open.SideHeader.{SideHeader}
@@ -44,12 +42,13 @@ use Rattle.fdr_pair.specs.PairDoing.{GavePairInput, DoesAllOnBoth, Grows, HasGro
 use Rattle.fdr_load.specs.Supplies.{Supplied}
 use Rattle.fdr_pair.proofs.PairFirstBlocks.{first_fewer, first_same}
 use Rattle.fdr_pair.proofs.PairGivens.{all_elim, all_of, came_all, came_cut, came_part, front_all, front_same, gave_all, gave_cut, gave_part, given_by}
-use Rattle.fdr_pair.proofs.PairGivens.{higher, not_higher, rose_not, was_given, whole}
+use Rattle.fdr_pair.proofs.PairGivens.{was_given, whole}
 use Rattle.fdr_pair.proofs.PairGrowth.{grown_brought, grown_own, keeps_base, keeps_brought}
 use Rattle.fdr_pair.proofs.Limits.{limits_in}
-use Rattle.fdr_pair.proofs.PairHeaders.{first_after, header_list, opens, read_unless, refusal_of}
-use Rattle.fdr_pair.proofs.PairRefusals.{alike_passes, meant_recorded, step_meant, step_recorded}
+use Rattle.fdr_pair.proofs.PairHeaders.{first_after, header_list}
+use Rattle.fdr_pair.proofs.PairRefusals.{alike_passes, frame_fits, meant_recorded, none_first, step_meant, step_recorded}
 use Rattle.fdr_pair.proofs.PairTraces.{IsSameTrace, done_ends, done_same, failed_ends, refused_ends, refused_same}
+use Rattle.fdr_pair.specs.Opening.{IsHeaderAnswer}
 
 -- ---- sides
 
@@ -63,61 +62,6 @@ of_each P First one other Second = other
 of_each P Second one other First = other
 of_each P Second one other Second = one
 
--- ---- what the headers answer
-
--- a refusal for the frames is an answer of the headers
-frame_answer : (words : ℕ) (h : Header) (o : Opened) (why : PairOutcome) (b c : Bool) → nat_eq h.words words ≡ b → nat_eq h.version 1 ≡ c
-    → pair.opened_unless (frame_refusal words h) o ≡ Err why → IsHeaderAnswer why
-frame_answer words h o why true true one other is =
-    let e : pair.opened_unless (Some outcome.OldVersion) o ≡ Err why = sym (rw (one, other) refl) ∙ is in
-    let same : why ≡ outcome.OldVersion = cc in inr (inr (inr same))
-frame_answer words h o why true false one other is =
-    let e : pair.opened_unless None o ≡ Err why = sym (rw (one, other) refl) ∙ is in absurd (cc)
-frame_answer words h o why false c one other is =
-    let e : pair.opened_unless (Some (outcome.WordsDiffer h.words words)) o ≡ Err why = sym (rw one refl) ∙ is in
-    let same : why ≡ outcome.WordsDiffer h.words words = cc in inr (inr (inl (h.words, words, same)))
-
-both_answer : (words : ℕ) (h k : Header) (why : PairOutcome) (b : Bool) → same_header h k ≡ b
-    → opening words (header.Read h) (header.Read k) ≡ Err why → IsHeaderAnswer why
-both_answer words h k why false test is =
-    let e : Err outcome.HeadersDiffer ≡ Err why = sym (rw test refl) ∙ is in
-    let same : why ≡ outcome.HeadersDiffer = cc in inr (inl same)
-both_answer words h k why true test is =
-    let o : Opened = record { header = h; living = Rattle.fdr_pair.specs.declared.open.LivingSides.TheVariants.Both } in
-    frame_answer words h o why _ _ refl refl (sym (rw test refl) ∙ is)
-
--- a refusal of both headers is an answer of theirs, or both sides failed
-opening_answer : (words : ℕ) (a b : SideHeader) (why : PairOutcome) → opening words a b ≡ Err why
-    → ((a ≡ header.Failed) × (b ≡ header.Failed)) ⊎ IsHeaderAnswer why
-opening_answer words header.Failed header.Failed why is = inl (refl, refl)
-opening_answer words (header.Refused fault) b why is =
-    let same : why ≡ outcome.ImageRefused First fault = cc in inr (inl (First, fault, same))
-opening_answer words header.Failed (header.Refused fault) why is =
-    let same : why ≡ outcome.ImageRefused Second fault = cc in inr (inl (Second, fault, same))
-opening_answer words (header.Read h) (header.Refused fault) why is =
-    let same : why ≡ outcome.ImageRefused Second fault = cc in inr (inl (Second, fault, same))
-opening_answer words (header.Read h) header.Failed why is =
-    inr (frame_answer words h (record { header = h; living = Rattle.fdr_pair.specs.declared.open.LivingSides.TheVariants.OnlyFirst }) why _ _ refl refl is)
-opening_answer words header.Failed (header.Read h) why is =
-    inr (frame_answer words h (record { header = h; living = Rattle.fdr_pair.specs.declared.open.LivingSides.TheVariants.OnlySecond }) why _ _ refl refl is)
-opening_answer words (header.Read h) (header.Read k) why is = inr (both_answer words h k why _ refl is)
-
-read_something : (fault : Option ImageFault) (h : Header) → header_or_fault fault h ≢ header.Failed
-read_something None h is = absurd (cc)
-read_something (Some why) h is = absurd (cc)
-
-opened_or : {A : Type 0} (x : Result A PairOutcome) → (refusal_of x ≡ None) ⊎ ((why : PairOutcome) × (x ≡ Err why))
-opened_or (Ok a) = inl refl
-opened_or (Err why) = inr (why, refl)
-
-pub first_none : {A : Type 0} (x : Option A) (xs : List (Option A)) → first_some (x ∷ xs) ≡ None → (x ≡ None) × (first_some xs ≡ None)
-first_none None xs is = (refl, is)
-first_none (Some a) xs is = absurd (cc)
-
-pub unmapped : {A B : Type 0} (f : A → B) (o : Option A) → option_map f o ≡ None → o ≡ None
-unmapped f None is = refl
-unmapped f (Some a) is = absurd (cc)
-
 module _ (r : PairRun) (told : IsPairTold r) (bytes : List ℕ) (is : r.rest_before ≡ Some bytes) (accepted : IsAccepted bytes)
     (rec : RecordsPair (table_in bytes) r) where
   -- the answer is one of a recording that went on
@@ -129,27 +73,6 @@ module _ (r : PairRun) (told : IsPairTold r) (bytes : List ℕ) (is : r.rest_bef
 
   abbrev table : Supplied
   table = record { bytes = bytes; failed = false }
-
-  -- no header was refused
-  not_header : IsRecorded → IsHeaderAnswer r.answer → ⊥
-  not_header ended answer = by r.answer (of_headers r.answer answer) ended
-    where
-      by : (a : PairOutcome) → IsOfHeaders a → EndsPairTrace a ⊎ (a ≡ outcome.SeqEnd) → ⊥
-      by (outcome.ImageRefused s why) of ends = ⊎_elim (λ e. absurd e) (λ (e : outcome.ImageRefused s why ≡ outcome.SeqEnd). absurd (cc)) ends
-      by outcome.HeadersDiffer of ends = ⊎_elim (λ e. absurd e) (λ (e : outcome.HeadersDiffer ≡ outcome.SeqEnd). absurd (cc)) ends
-      by (outcome.WordsDiffer i t) of ends = ⊎_elim (λ e. absurd e) (λ (e : outcome.WordsDiffer i t ≡ outcome.SeqEnd). absurd (cc)) ends
-      by outcome.OldVersion of ends = ⊎_elim (λ e. absurd e) (λ (e : outcome.OldVersion ≡ outcome.SeqEnd). absurd (cc)) ends
-      by a of ends = absurd of
-
-  -- ---- the counts
-
-  -- the side that is left where one failed
-  living : (s : Side) → HasFailedSince s r.old r.new → HasLivingSide r.old r.new
-      → (disk_on (other_side s) r.new).faults ≡ (disk_on (other_side s) r.old).faults
-  living First rose (inl same) = absurd (rose_not r told.counts First rose same)
-  living First rose (inr same) = same
-  living Second rose (inl same) = same
-  living Second rose (inr same) = absurd (rose_not r told.counts Second rose same)
 
   -- ---- what both sides keep once bytes are pulled
 
@@ -244,7 +167,7 @@ module _ (r : PairRun) (told : IsPairTold r) (bytes : List ℕ) (is : r.rest_bef
   }
 
   kept_on : (LeavesPairLine r.answer → ⊥) → KeptOn
-  kept_on not_left = ⊎_elim (λ w. ⊎_elim (λ alike. kept_both w alike.0 alike.1) (λ failed. kept_lead w failed) w.follower) (λ w. kept_other w)
+  kept_on not_left = ⊎_elim (λ w. ⊎_elim (λ alike. kept_both w alike.0 alike.1) (λ failed. kept_lead w failed.0) w.follower) (λ w. kept_other w)
       (rec.keeps.goes_on not_left told.bytes)
 
   -- both disks failed
@@ -273,53 +196,22 @@ module _ (r : PairRun) (told : IsPairTold r) (bytes : List ℕ) (is : r.rest_bef
 
   -- ---- one side alone
 
-  not_both : (s : Side) → read_unless (Some s) First (header_read r.old.first.held) ≡ header.Failed
-      → read_unless (Some s) Second (header_read r.old.second.held) ≡ header.Failed → ⊥
-  not_both First one other = read_something (image_fault_of r.old.second.held) (header_in r.old.second.held) other
-  not_both Second one other = read_something (image_fault_of r.old.first.held) (header_in r.old.first.held) one
-
   module _ (past : IsPastPairTable r.answer) (ended : IsRecorded) where
-    alone_by : (s : Side) (came : Supplied) → header_after r.old.first r.new.first ≡ read_unless (Some s) First (header_read r.old.first.held)
-        → header_after r.old.second r.new.second ≡ read_unless (Some s) Second (header_read r.old.second.held)
+    -- the image of the side that is left is right
+    alone : (s : Side) (came : Supplied) → IsRightImage words (disk_on (other_side s) r.old).held
         → first_some (header_list words (given_by r table came (Some s))) ≡ None
-    alone_by s came first second = ⊎_elim
-        (λ none.
-        let opened : refusal_of (opening words (read_unless (Some s) First (header_read r.old.first.held))
-        (read_unless (Some s) Second (header_read r.old.second.held)))
-        ≡ None =
-        ap (λ x. refusal_of (opening words x (read_unless (Some s) Second (header_read r.old.second.held)))) (sym first)
-        ∙ ap (λ x. refusal_of (opening words (header_after r.old.first r.new.first) x)) (sym second) ∙ none in
-        sym (opens words (given_by r table came (Some s))) ∙ opened)
-        (λ some. absurd (⊎_elim
-        (λ both. not_both s (sym first ∙ both.0) (sym second ∙ both.1))
-        (λ answer.
-        let same : r.answer ≡ some.0 = rec.headers.always some.0 answer past told.bytes told.counts some.1 in
-        not_header ended (subst IsHeaderAnswer (sym same) answer))
-        (opening_answer words (header_after r.old.first r.new.first) (header_after r.old.second r.new.second) some.0 some.1)))
-        (opened_or (opening words (header_after r.old.first r.new.first) (header_after r.old.second r.new.second)))
+    alone First came right = none_first None (option_map (outcome.ImageRefused Second) (image_fault_of r.old.second.held)) None
+        (frame_refusal words (header_in r.old.second.held)) refl (ap (option_map (outcome.ImageRefused Second)) right.no_fault) refl
+        (frame_fits words (header_in r.old.second.held) right.count right.version)
+    alone Second came right = none_first (option_map (outcome.ImageRefused First) (image_fault_of r.old.first.held)) None None
+        (frame_refusal words (header_in r.old.first.held)) (ap (option_map (outcome.ImageRefused First)) right.no_fault) refl refl
+        (frame_fits words (header_in r.old.first.held) right.count right.version)
 
-    alone : (s : Side) (came : Supplied) → HasFailedSince s r.old r.new → first_some (header_list words (given_by r table came (Some s))) ≡ None
-    alone First came rose =
-        let e1 = higher r.old.first.faults r.new.first.faults told.counts.first rose in
-        let e2 = not_higher r.old.second.faults r.new.second.faults (living First rose (rec.lives ended)) in
-        alone_by First came (rw e1 refl) (rw e2 refl)
-    alone Second came rose =
-        let e1 = not_higher r.old.first.faults r.new.first.faults (living Second rose (rec.lives ended)) in
-        let e2 = higher r.old.second.faults r.new.second.faults told.counts.second rose in
-        alone_by Second came (rw e1 refl) (rw e2 refl)
-
-    passes_alone : (s : Side) (came : Supplied) → HasFailedSince s r.old r.new → refused_images (table_in bytes) (given_by r table came (Some s)) ≡ None
-    passes_alone s came rose = first_after (header_list words (given_by r table came (Some s)))
+    passes_alone : (s : Side) (came : Supplied) → IsRightImage words (disk_on (other_side s) r.old).held
+        → refused_images (table_in bytes) (given_by r table came (Some s)) ≡ None
+    passes_alone s came right = first_after (header_list words (given_by r table came (Some s)))
         (of_both (Some s) (refused_blocks r.old.first.held r.old.second.held) ∷ of_both (Some s) (refused_far (given_by r table came (Some s))) ∷ [])
-        (alone s came rose)
-
-    no_fault_left : (s : Side) → HasFailedSince s r.old r.new → image_fault_of (disk_on (other_side s) r.old).held ≡ None
-    no_fault_left First rose =
-        let passes = alone First (came_part []) rose in
-        unmapped (outcome.ImageRefused Second) (image_fault_of r.old.second.held) (first_none _ _ passes).0
-    no_fault_left Second rose =
-        let passes = alone Second (came_part []) rose in
-        unmapped (outcome.ImageRefused First) (image_fault_of r.old.first.held) (first_none _ _ passes).0
+        (alone s came right)
 
     -- ---- what stands in the end
 
@@ -333,40 +225,37 @@ module _ (r : PairRun) (told : IsPairTold r) (bytes : List ℕ) (is : r.rest_bef
     abbrev HoldsOn : Side → List Block → Side → Type 0
     HoldsOn b blocks side = HasFailedSince side r.old r.new ⊎ HasGrown (added b blocks) side r
 
-    -- one side at least hasn't failed, and so holds what each holds
-    grows : (b : Side) (blocks : List Block) → ((side : Side) → HoldsOn b blocks side) → Holds b blocks
-    grows b blocks each = record { each = each; one = ⊎_elim (λ same. of First same) (λ same. of Second same) (rec.lives ended) }
-      where
-        of : (side : Side) → (disk_on side r.new).faults ≡ (disk_on side r.old).faults
-            → (x : Side) × ((disk_on x r.new).faults ≡ (disk_on x r.old).faults) × HasGrown (added b blocks) x r
-        of side same = (side, same, ⊎_elim (λ rose. absurd (rose_not r told.counts side rose same)) (λ holds. holds) (each side))
+    -- a side whose count is as it was, and that holds all
+    abbrev HoldsOne : Side → List Block → Type 0
+    HoldsOne b blocks = (x : Side) × ((disk_on x r.new).faults ≡ (disk_on x r.old).faults) × HasGrown (added b blocks) x r
 
     with_both : (blocks : List Block) → AreAlike words r.old → HoldWithLead r.tells blocks r.old r.new → Holds (lead_on r.old) blocks
     with_both blocks alike h =
         let b = lead_on r.old in
         let limits = limits_in (lead_image r.old) (no_fault_of_side words r.old b alike.header) in
-        grows b blocks (of_each (HoldsOn b blocks) b
-        (⊎_elim (λ rose. inl rose) (λ holds. inr (grown_own r.tells blocks r.old r.new b limits holds h.announced)) h.lead)
-        (⊎_elim (λ rose. inl rose) (λ holds. inr (grown_brought r.tells blocks r.old r.new words alike limits holds h.announced)) h.follower))
+        let own : LeadHolds r.tells blocks r.old r.new → HasGrown (added b blocks) b r =
+        λ holds. grown_own r.tells blocks r.old r.new b limits holds h.announced in
+        let other : FollowerHoldsBrought r.tells blocks r.old r.new → HasGrown (added b blocks) (follower_on r.old) r =
+        λ holds. grown_brought r.tells blocks r.old r.new words alike limits holds h.announced in
+        record {
+          each = of_each (HoldsOn b blocks) b (⊎_elim (λ rose. inl rose) (λ holds. inr (own holds)) h.lead)
+              (⊎_elim (λ rose. inl rose) (λ holds. inr (other holds)) h.follower);
+          one = ⊎_elim {C = HoldsOne b blocks} (λ holds. (b, holds.faults, own holds)) (λ holds. (follower_on r.old, holds.faults, other holds)) h.one;
+        }
 
-    with_lead : (blocks : List Block) → HasFailedSince (follower_on r.old) r.old r.new → HoldWithLead r.tells blocks r.old r.new
-        → Holds (lead_on r.old) blocks
-    with_lead blocks rose h =
+    with_lead : (blocks : List Block) → HasFailedSince (follower_on r.old) r.old r.new → IsRightImage words (lead_image r.old)
+        → LeadHolds r.tells blocks r.old r.new → HoldWithLead r.tells blocks r.old r.new → Holds (lead_on r.old) blocks
+    with_lead blocks rose right holds h =
         let b = lead_on r.old in
-        let no_fault : image_fault_of (lead_image r.old) ≡ None =
-        subst (λ (s : Side). image_fault_of (disk_on s r.old).held ≡ None) (twice b) (no_fault_left (follower_on r.old) rose) in
-        grows b blocks (of_each (HoldsOn b blocks) b
-        (⊎_elim (λ failed. inl failed) (λ holds. inr (grown_own r.tells blocks r.old r.new b
-        (limits_in (lead_image r.old) no_fault) holds h.announced)) h.lead)
-        (inl rose))
+        let own = grown_own r.tells blocks r.old r.new b (limits_in (lead_image r.old) right.no_fault) holds h.announced in
+        record { each = of_each (HoldsOn b blocks) b (inr own) (inl rose); one = (b, holds.faults, own) }
 
-    without_lead : (blocks : List Block) → HasFailedSince (lead_on r.old) r.old r.new → HoldWithoutLead r.tells blocks r.old r.new
-        → Holds (follower_on r.old) blocks
-    without_lead blocks rose h =
+    without_lead : (blocks : List Block) → HasFailedSince (lead_on r.old) r.old r.new → IsRightImage words (follower_image r.old)
+        → HoldWithoutLead r.tells blocks r.old r.new → Holds (follower_on r.old) blocks
+    without_lead blocks rose right h =
         let b = lead_on r.old in
-        let limits = limits_in (follower_image r.old) (no_fault_left b rose) in
-        grows (other_side b) blocks (of_each (HoldsOn (other_side b) blocks) b (inl rose)
-        (inr (grown_own r.tells blocks r.old r.new (other_side b) limits h.follower h.announced)))
+        let own = grown_own r.tells blocks r.old r.new (other_side b) (limits_in (follower_image r.old) right.no_fault) h.follower h.announced in
+        record { each = of_each (HoldsOn (other_side b) blocks) b (inl rose) (inr own); one = (other_side b, h.follower.faults, own) }
 
     abbrev Ends : Side → Type 0
     Ends b = HaveEnded (next_in (disk_on b r.old).held) (new_blocks (table_in bytes) (disk_on b r.old).held (good_prefix rec.pulled)) (Holds b)
@@ -388,6 +277,19 @@ module _ (r : PairRun) (told : IsPairTold r) (bytes : List ℕ) (is : r.rest_bef
       pub no_fault : image_fault_of (disk_on (left_or kept.failed (lead_on r.old)) r.old).held ≡ None
       pub ends : Ends (left_or kept.failed (lead_on r.old))
 
+    -- the image of the lead, as that of the other's other
+    right_lead : GoesWith → IsRightImage words (disk_on (other_side (follower_on r.old)) r.old).held
+    right_lead w = subst (λ (x : Side). IsRightImage words (disk_on x r.old).held) (sym (twice (lead_on r.old))) (w.read ended)
+
+    both_ended : {next : ℕ} {blocks : List Block} {H K : List Block → Type 0} {all used : Type 0} → HaveEnded next blocks H all used
+        → HaveEnded next blocks K all used → HaveEnded next blocks (λ (bs : List Block). H bs × K bs) all used
+    both_ended one two = record {
+      recorded = λ is_all. (one.recorded is_all, two.recorded is_all);
+      within = one.within;
+      seq_end = λ is_used. (one.seq_end is_used, two.seq_end is_used);
+      beyond = one.beyond;
+    }
+
     went_with : GoesWith → WentOn
     unfolding kept_both kept_lead
     went_with w = ⊎_elim
@@ -399,12 +301,12 @@ module _ (r : PairRun) (told : IsPairTold r) (bytes : List ℕ) (is : r.rest_bef
               (λ blocks h. with_both blocks alike.0 h) w.ends;
         })
         (λ failed. record {
-          kept = kept_lead w failed;
-          passes = λ came. passes_alone (follower_on r.old) came failed.now;
-          no_fault = no_fault_left (follower_on r.old) failed.now;
-          ends = subst Ends (sym (twice (lead_on r.old))) (carry _ _ (λ (blocks : List Block). HoldWithLead r.tells blocks r.old r.new)
-              (Holds (lead_on r.old)) _ _
-              (λ blocks h. with_lead blocks failed.now h) w.ends);
+          kept = kept_lead w failed.0;
+          passes = λ came. passes_alone (follower_on r.old) came (right_lead w);
+          no_fault = subst (λ (x : Side). image_fault_of (disk_on x r.old).held ≡ None) (sym (twice (lead_on r.old))) (w.read ended).no_fault;
+          ends = subst Ends (sym (twice (lead_on r.old))) (carry _ _ (λ (blocks : List Block). LeadHolds r.tells blocks r.old r.new
+              × HoldWithLead r.tells blocks r.old r.new) (Holds (lead_on r.old)) _ _
+              (λ blocks h. with_lead blocks failed.0.now (w.read ended) h.0 h.1) (both_ended failed.1 w.ends));
         })
         w.follower
 
@@ -412,10 +314,10 @@ module _ (r : PairRun) (told : IsPairTold r) (bytes : List ℕ) (is : r.rest_bef
     unfolding kept_other
     went_without w = record {
       kept = kept_other w;
-      passes = λ came. passes_alone (lead_on r.old) came w.lead.now;
-      no_fault = no_fault_left (lead_on r.old) w.lead.now;
+      passes = λ came. passes_alone (lead_on r.old) came (w.read ended);
+      no_fault = (w.read ended).no_fault;
       ends = carry _ _ (λ (blocks : List Block). HoldWithoutLead r.tells blocks r.old r.new) (Holds (follower_on r.old)) _ _
-          (λ blocks h. without_lead blocks w.lead.now h) w.ends;
+          (λ blocks h. without_lead blocks w.lead.now (w.read ended) h) w.ends;
     }
 
     went_on : (LeavesPairLine r.answer → ⊥) → WentOn

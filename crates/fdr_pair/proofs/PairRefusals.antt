@@ -22,9 +22,9 @@ use Rattle.fdr_recorder.specs.NewBlocks.{new_blocks, next_in}
 use Rattle.fdr_twin.specs.declared.side.Side.{Side}
 use Rattle.fdr_twin.specs.declared.side.Side.TheVariants.{First, Second}
 use Rattle.fdr_pair.specs.Alike.{AreAlike, HaveOneHeader, IsFollowerFar, IsLeastDifferent, lead_on, follower_on, lead_image, follower_image}
-use Rattle.fdr_pair.specs.Opening.{frame_refusal, header_after, header_read, opening, same_header}
+use Rattle.fdr_pair.specs.Opening.{frame_refusal, same_header}
 use Rattle.fdr_pair.specs.PairMoments.{HasFailedBeforePull}
-use Rattle.fdr_pair.specs.PairRun.{IsHeaderAnswer, LeavesPair, PairRun, RecordsPair, RunsPair}
+use Rattle.fdr_pair.specs.PairRun.{LeavesPair, PairRun, RecordsPair, RunsPair}
 use Rattle.fdr_twin.specs.Serving.{EachPairMoment}
 use Rattle.fdr_pair.specs.Bringing.{HasNoFault}
 use Rattle.fdr_pair.specs.PairWork.{IsLineMoment}
@@ -41,10 +41,11 @@ use Rattle.fdr_pair.specs.PairMeaning.{pair_unless}
 use Rattle.fdr_pair.specs.PairDoing.{DoesAllOnBoth, FailsOnly, IsPairTold, DoesPairAsMeant, Stays, WasPairGiven}
 use Rattle.fdr_load.specs.Supplies.{Supplied}
 use Rattle.fdr_pair.proofs.PairDifferences.{least_is, one_least}
-use Rattle.fdr_pair.proofs.PairGivens.{came_all, failed_by, failed_of, fails_by, fails_none, gave_none, given_by, keeps_idle, reads_by, was_given, whole}
+use Rattle.fdr_pair.proofs.PairGivens.{came_all, failed_idle, fails_none, gave_none, given_by, keeps_idle, was_given, whole}
 use Rattle.fdr_pair.proofs.Limits.{limits_in}
-use Rattle.fdr_pair.proofs.PairHeaders.{first_after, first_append, header_list, opens, read_unless, refusal_of}
+use Rattle.fdr_pair.proofs.PairHeaders.{first_after, first_append, header_list, opens, refusal_of}
 use Rattle.fdr_pair.proofs.PairTables.{by_accepted, by_failed, by_refused}
+use Rattle.fdr_pair.specs.Opening.{IsHeaderAnswer}
 
 -- ---- what is meant once the table is accepted
 
@@ -88,10 +89,10 @@ module _ (bytes : List ℕ) (accepted : IsAccepted bytes) (g : PairGiven) (table
 
 -- ---- images that are alike, or nearly
 
-none_first : {A : Type 0} (a b c d : Option A) → a ≡ None → b ≡ None → c ≡ None → d ≡ None → first_some (a ∷ b ∷ c ∷ d ∷ []) ≡ None
+pub none_first : {A : Type 0} (a b c d : Option A) → a ≡ None → b ≡ None → c ≡ None → d ≡ None → first_some (a ∷ b ∷ c ∷ d ∷ []) ≡ None
 none_first a b c d ea eb ec ed = rw (ea, eb, ec, ed) refl
 
-frame_fits : (words : ℕ) (h : Header) → h.words ≡ words → h.version ≡ 2 → frame_refusal words h ≡ None
+pub frame_fits : (words : ℕ) (h : Header) → h.words ≡ words → h.version ≡ 2 → frame_refusal words h ≡ None
 frame_fits words h same version =
     let one : nat_eq h.words words ≡ true = grind (arith, nat_tests) in
     let other : nat_eq h.version 1 ≡ false = grind (arith, nat_tests) in
@@ -212,7 +213,7 @@ module _ (r : PairRun) (runs : RunsPair r) (told : IsPairTold r) (bytes : List �
       (by_refused bytes (λ (t : TableRows). pair_unless to_images (refused_images t given_both)
       (records_on_both given_both (new_blocks t (given_both.image (base given_both)) (good_prefix given_both.input.bytes))
       (trace_end given_both.input))) row f
-      (runs.table.refused row f bytes e is)) stays idle (fails_none r given_both told.counts none)
+      (runs.table.refused row f bytes e is)) stays idle (fails_none r given_both none)
 
   pub means_unread : r.answer ≡ outcome.ReadFault input.Table → Stays r → EachPairMoment r.tells r.old r.new (IsLineMoment r.old) → HasNoFault r.old r.new
       → DoesPairAsMeant r
@@ -225,7 +226,7 @@ module _ (r : PairRun) (runs : RunsPair r) (told : IsPairTold r) (bytes : List �
       to_table (outcome.ReadFault input.Table) e
       (by_failed cut.0 (λ (t : TableRows). pair_unless to_images (refused_images t g)
       (records_on_both g (new_blocks t (g.image (base g)) (good_prefix g.input.bytes)) (trace_end g.input))) cut.1) stays idle
-      (fails_none r g told.counts none)
+      (fails_none r g none)
 
   pub means_memory : r.answer ≡ outcome.NoMemory → DoesPairAsMeant r
   means_memory e =
@@ -244,7 +245,7 @@ module _ (r : PairRun) (runs : RunsPair r) (told : IsPairTold r) (bytes : List �
     means_refused why e refused line neither none =
         let stays = stays_by rec.leaves (subst LeavesPairLine (sym e) line) (subst WritesOnNeither (sym e) neither) in
         refuses r given_both (was_given_both stays) to_images why e (meant_refused bytes accepted given_both refl why refused) stays
-        (rec.leaves.line_moments (subst LeavesPairLine (sym e) line)) (fails_none r given_both told.counts none)
+        (rec.leaves.line_moments (subst LeavesPairLine (sym e) line)) (fails_none r given_both none)
 
     pub means_differ : (seq : ℕ) → r.answer ≡ outcome.BlocksDiffer seq → DoesPairAsMeant r
     means_differ seq e =
@@ -280,35 +281,20 @@ module _ (r : PairRun) (runs : RunsPair r) (told : IsPairTold r) (bytes : List �
         }
 
     -- ImageRefused, HeadersDiffer, WordsDiffer and OldVersion
-    by_counts : IsHeaderAnswer r.answer → LeavesPairLine r.answer → WritesOnNeither r.answer → (b1 b2 : Bool)
-        → nat_lt r.old.first.faults r.new.first.faults ≡ b1 → nat_lt r.old.second.faults r.new.second.faults ≡ b2 → DoesPairAsMeant r
-    by_counts answer line neither b1 b2 e1 e2 =
-        let only = rec.headers.only answer told.bytes told.counts in
+    by_header : IsHeaderAnswer r.answer → LeavesPairLine r.answer → WritesOnNeither r.answer → DoesPairAsMeant r
+    by_header answer line neither =
+        let by = rec.headers.only answer told.bytes in
         let words = (table_in bytes).frame.words in
         let stays = stays_by rec.leaves line neither in
-        let failed = failed_by b1 b2 in
-        let g = given_by r whole_table came_none failed in ⊎_elim
-        (λ both.
-        let first : header_after r.old.first r.new.first ≡ header.Failed = rw (e1 ∙ both.0) refl in
-        let second : header_after r.old.second r.new.second ≡ header.Failed = rw (e2 ∙ both.1) refl in
-        let no : Err outcome.DiskFault ≡ Err r.answer =
-        ap (λ x. opening words x header.Failed) (sym first) ∙ ap (opening words (header_after r.old.first r.new.first)) (sym second) ∙ only in
-        let disks : outcome.DiskFault ≡ r.answer = cc in
-        absurd (of_headers outcome.DiskFault (subst IsHeaderAnswer (sym disks) answer)))
-        (λ reads.
-        let opened : opening words (read_unless failed First (header_read r.old.first.held)) (read_unless failed Second (header_read r.old.second.held))
-        ≡ Err r.answer =
-        ap (λ x. opening words x (read_unless failed Second (header_read r.old.second.held))) (sym reads.0)
-        ∙ ap (opening words (header_after r.old.first r.new.first)) (sym reads.1) ∙ only in
-        let refused = sym (opens words g) ∙ ap refusal_of opened in
-        refuses r g (was_given r whole_table came_none failed (whole r bytes is) (gave_none r stays.line)
-        (failed_of r b1 b2 e1 e2 (rec.leaves.line_moments line)))
+        let idle = rec.leaves.line_moments line in
+        let g = given_by r whole_table came_none by.failed in
+        refuses r g (was_given r whole_table came_none by.failed (whole r bytes is) (gave_none r stays.line)
+        (λ side failed. failed_idle r.tells side r.old r.new idle (by.rose side failed)))
         to_images r.answer refl
-        (meant_refused bytes accepted g refl r.answer (first_append (header_list words g) (of_both failed (refused_blocks r.old.first.held r.old.second.held)
-        ∷ of_both failed (refused_far g) ∷ []) r.answer refused)) stays (rec.leaves.line_moments line)
-        (fails_by r whole_table came_none b1 b2 told.counts e1 e2 reads.2))
-        (reads_by r.old r.new b1 b2 e1 e2)
+        (meant_refused bytes accepted g refl r.answer (first_append (header_list words g) (of_both by.failed
+        (refused_blocks r.old.first.held r.old.second.held)
+        ∷ of_both by.failed (refused_far g) ∷ []) r.answer (sym (opens words g) ∙ ap refusal_of by.refused))) stays idle by.only
 
     pub means_headers : (why : PairOutcome) → r.answer ≡ why → IsHeaderAnswer why → LeavesPairLine why → WritesOnNeither why → DoesPairAsMeant r
-    means_headers why e answer line neither = by_counts (subst IsHeaderAnswer (sym e) answer) (subst LeavesPairLine (sym e) line)
-        (subst WritesOnNeither (sym e) neither) _ _ refl refl
+    means_headers why e answer line neither = by_header (subst IsHeaderAnswer (sym e) answer) (subst LeavesPairLine (sym e) line)
+        (subst WritesOnNeither (sym e) neither)

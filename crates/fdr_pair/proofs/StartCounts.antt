@@ -15,7 +15,6 @@ use Rattle.fdr_pair.specs.Alike.{HaveOneHeader}
 use Rattle.fdr_pair.specs.Bringing.{HasNoFault, HasFailedAlone}
 use Rattle.fdr_pair.specs.Opening.{header_or_fault, header_read, header_after, same_header, frame_refusal, opened_unless, checked, opening}
 use Rattle.fdr_pair.specs.Opening.{AreCountsBelowMost, AreLiving, OnLiving, IsHeaderOn}
-use Rattle.fdr_pair.specs.PairRun.{IsHeaderAnswer}
 use Rattle.fdr_pair.specs.declared.open.LivingSides.{LivingSides}
 use Rattle.fdr_pair.specs.declared.open.LivingSides.TheVariants.{Both, OnlyFirst, OnlySecond}
 use Rattle.fdr_pair.specs.declared.open.Opened.{Opened}
@@ -24,6 +23,7 @@ use Rattle.fdr_pair.specs.declared.open.SideHeader.TheVariants.{Read, Refused, F
 use Rattle.fdr_pair.specs.declared.outcome.PairOutcome.{PairOutcome}
 use Rattle.fdr_pair.specs.declared.outcome.PairOutcome.TheVariants as outcome
 use Rattle.fdr_pair.proofs.StartSteps.{HasOpened}
+use Rattle.fdr_pair.specs.Opening.{IsHeaderAnswer}
 
 -- Below 2^64 - 1 the count is no less than before.
 abbrev pub KeepsCount : ℕ → ℕ → Type 0

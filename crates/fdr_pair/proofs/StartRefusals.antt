@@ -16,7 +16,7 @@ use Rattle.fdr_pair.specs.Attaching.{start_on, AttachedNow, AreAttachMoments, Is
 use Rattle.fdr_pair.specs.Bringing.{HasNoFault, HasFailedAlone}
 use Rattle.fdr_pair.specs.Joining.{IsJoinRefusal, JoinMoment, AreNotJoined, lead_by_found, found_on}
 use Rattle.fdr_pair.specs.Opening.{opening, header_after, AreCountsBelowMost, AreLiving, IsOpeningRefusal, LooksAtSide}
-use Rattle.fdr_pair.specs.PairRun.{IsHeaderAnswer, RefusesHeaders, HasLeadFailed, LeavesPair}
+use Rattle.fdr_pair.specs.PairRun.{RefusesHeaders, HasLeadFailed, LeavesPair}
 use Rattle.fdr_pair.specs.PairStages.{IsPastPairTable, LeavesPairLine, WritesOnNeither}
 use Rattle.fdr_pair.specs.PairStarting.{KeepsAtStart, IsStartRefused}
 use Rattle.fdr_pair.specs.PairWork.{IsSameContent, PairWork, IsLookedAt}
@@ -39,6 +39,8 @@ use Rattle.fdr_pair.proofs.StartJoined.{on_both, AreJoined, HasOther, found_imag
 use Rattle.fdr_pair.proofs.StartJoined.{each_counted, rose_attached, counts_attached, image_of}
 use Rattle.fdr_pair.proofs.StartSteps.{HasOpened, HasFoundRuns, HasJoinedSides}
 use Rattle.fdr_twin.specs.Sound.{IsSoundPair}
+use Rattle.fdr_pair.specs.Opening.{IsHeaderAnswer}
+use Rattle.fdr_pair.specs.Opening.{IsRefusedByHeaders}
 
 -- calls that work on both disks, whatever their moments are
 pub any_work : (tells : Tells) (P : PairMoment → Type 0) (old new : Pair) → PairWork tells P old new → PairWork tells (λ m. ⊤) old new
@@ -92,7 +94,7 @@ module _ (t : TableRows) (tells : Tells) (p q : Pair) where
   no_headers : (why : PairOutcome) → (IsHeaderAnswer why → ⊥) → IsPastHeaders t.frame.words tells p q → RefusesHeaders t.frame.words tells p q why
   no_headers why never past = record {
     cause = λ is. absurd (never is);
-    only = λ is told below. absurd (never is);
+    only = λ is told. absurd (never is);
     always = λ other header stage told below is. absurd (past.opened told below other header is);
   }
 
@@ -138,9 +140,10 @@ module _ (t : TableRows) (tells : Tells) (p q : Pair) where
   pub refused_opening : (why : PairOutcome) → IsOpeningRefusal t.frame.words why p q
       → (IsTrue tells.bytes → AreCountsBelowMost q
       → opening t.frame.words (header_after p.first q.first) (header_after p.second q.second) ≡ Err why)
+      → (IsHeaderAnswer why → IsTrue tells.bytes → IsRefusedByHeaders t.frame.words p q why)
       → LooksAtSide tells First p q → LooksAtSide tells Second p q → PairWork tells (IsLookedAt p) p q → KeepsAtStart t.frame.words tells p q
       → IsStartRefused t tells p q why
-  refused_opening why cause exact first second work keeps =
+  refused_opening why cause exact refused first second work keeps =
       let at : (x : PairOutcome) → why ≡ x → IsOpeningRefusal t.frame.words x p q =
       λ x is. subst (λ (y : PairOutcome). IsOpeningRefusal t.frame.words y p q) is cause in
       record {
@@ -152,7 +155,7 @@ module _ (t : TableRows) (tells : Tells) (p q : Pair) where
         keeps = keeps;
         headers = record {
           cause = λ is. cause;
-          only = λ is told below. exact told below;
+          only = refused;
           always = λ other header stage told below is.
               let both : Err why ≡ Err other = sym (exact told below) ∙ is in
               cc;
@@ -188,7 +191,7 @@ module _ (t : TableRows) (tells : Tells) (p q : Pair) where
         keeps = keeps;
         headers = record {
           cause = λ is. absurd (of_headers outcome.NoMemory is);
-          only = λ is told below. absurd (of_headers outcome.NoMemory is);
+          only = λ is told. absurd (of_headers outcome.NoMemory is);
           always = λ other header stage. absurd stage;
         };
         runs = record {

@@ -120,6 +120,32 @@ pub record AreCountsBelowMost (p : Pair) : Type 0 where
   pub first : p.first.faults < 2 ^ 64 - 1
   pub second : p.second.faults < 2 ^ 64 - 1
 
+-- The answer is one that the headers of the images give.
+abbrev pub IsHeaderAnswer : PairOutcome → Type 0
+IsHeaderAnswer answer = ((s : Side) × (why : ImageFault) × (answer ≡ outcome.ImageRefused s why)) ⊎ ((answer ≡ outcome.HeadersDiffer)
+    ⊎ (((image : ℕ) × (table : ℕ) × (answer ≡ outcome.WordsDiffer image table)) ⊎ (answer ≡ outcome.OldVersion)))
+
+-- what is read of the header of a side, unless this is the side that failed
+abbrev pub read_unless : Option Side → Side → SideHeader → SideHeader
+read_unless (Some side.First) side.First read = header.Failed
+read_unless (Some side.Second) side.Second read = header.Failed
+read_unless failed side read = read
+
+-- The headers give this refusal, by which side failed, if one did: its count of faults rose, and the other's is as it was. It is
+-- so whatever the counts are.
+pub record IsRefusedByHeaders (words : ℕ) (old new : Pair) (why : PairOutcome) : Type 0 where
+  pub failed : Option Side
+  pub rose : (side : Side) → failed ≡ Some side → Rose (disk_on side old).faults (disk_on side new).faults
+  pub only : (side : Side) → (failed ≡ Some side) ⊎ ((disk_on side new).faults ≡ (disk_on side old).faults)
+  pub refused : opening words (read_unless failed side.First (header_read old.first.held))
+      (read_unless failed side.Second (header_read old.second.held)) ≡ Err why
+
+-- An image has no fault, and is of version 2 and for frames of this count of words in a subframe.
+pub record IsRightImage (words : ℕ) (image : List ℕ) : Type 0 where
+  pub no_fault : image_fault_of image ≡ None
+  pub count : (header_in image).words ≡ words
+  pub version : (header_in image).version ≡ 2
+
 -- Exactly these sides haven't failed: the count of each of the others rose.
 abbrev pub AreLiving : LivingSides → Pair → Pair → Type 0
 AreLiving living.Both old new = HasNoFault old new

@@ -22,7 +22,7 @@ use Rattle.fdr_twin.specs.Pair.{Pair, PairMoment, disk_on, other_side, seen}
 use Rattle.fdr_twin.specs.Serving.{EachPairMoment}
 use Rattle.fdr_pair.specs.Alike.{HaveOneHeader}
 use Rattle.fdr_pair.specs.Bringing.{HasFailedAlone}
-use Rattle.fdr_pair.specs.Opening.{AreCountsBelowMost, LooksAtSide}
+use Rattle.fdr_pair.specs.Opening.{LooksAtSide}
 use Rattle.fdr_pair.specs.PairEnds.{HasFailedSince}
 use Rattle.fdr_pair.specs.PairMoments.{HasFailedBeforePull, HasPulledBytes, KeepsRunWith, KeepsUpBy, MayRecordPair}
 use Rattle.fdr_pair.specs.PairRun.{PairRun}
@@ -79,9 +79,9 @@ abbrev pub PairBecomes : PairChange → PairRun → Type 0
 PairBecomes stay r = Stays r
 PairBecomes (grow added) r = Grows added r
 
--- No side failed but the one that was given as failed.
+-- No side failed but the one that was given as failed: the count of faults of any other is as it was.
 abbrev pub FailsOnly : PairGiven → PairRun → Type 0
-FailsOnly g r = (side : Side) → HasFailedSince side r.old r.new → g.failed ≡ Some side
+FailsOnly g r = (side : Side) → (g.failed ≡ Some side) ⊎ ((disk_on side r.new).faults ≡ (disk_on side r.old).faults)
 
 -- All was done that is meant. Where images or a table are refused, no further side failed.
 pub record DoesAllOnBoth (g : PairGiven) (m : PairEffect) (r : PairRun) : Type 0 where
@@ -116,11 +116,10 @@ pub record IsPairCutByMemory (r : PairRun) : Type 0 where
 abbrev pub RefinesPair : PairGiven → PairEffect → PairRun → Type 0
 RefinesPair g m r = DoesAllOnBoth g m r ⊎ (IsCutByDisks g m r ⊎ (IsCutByLead g m r ⊎ IsPairCutByMemory r))
 
--- The source of the table tells what it gives, and the disks what they hold; and no count of faults is at its greatest.
+-- The source of the table tells what it gives, and the disks what they hold.
 pub record IsPairTold (r : PairRun) : Type 0 where
   pub table : IsSome r.rest_before
   pub bytes : IsTrue r.tells.bytes
-  pub counts : AreCountsBelowMost r.new
 
 -- ---- what a run keeps
 

@@ -28,7 +28,8 @@ use Rattle.fdr_twin.specs.Serving.{EachPairMoment}
 use Rattle.fdr_recorder.specs.NewBlocks.{new_blocks, next_in}
 use Rattle.fdr_pair.specs.PairWork.{LeavesLine, IsLineMoment, IsLookedAt}
 use Rattle.fdr_pair.specs.Bringing.{HasNoFault, HasFailedAlone}
-use Rattle.fdr_pair.specs.Opening.{opening, header_after, AreCountsBelowMost, HasLivingSide, IsOpeningRefusal, LooksAtSide}
+use Rattle.fdr_pair.specs.Opening.{opening, header_after, AreCountsBelowMost, HasLivingSide, IsHeaderAnswer, IsOpeningRefusal, IsRefusedByHeaders}
+use Rattle.fdr_pair.specs.Opening.{LooksAtSide}
 use Rattle.fdr_pair.specs.Alike.{AreAlike, HaveOneHeader, HaveDifferentBlocks, IsSideFarBehind, lead_on, follower_on, lead_image, follower_image}
 use Rattle.fdr_pair.specs.PairStages.{EndsBeforeDisks, EndsPairTrace, IsPastPairTable, LeavesPairLine, WritesOnNeither}
 use Rattle.fdr_pair.specs.PairMoments.{MayRecordPair, KeepsOwnRun, KeepsRunUntilPull, KeepsRunWith, StaysAsAtEntry}
@@ -49,17 +50,11 @@ pub record PairRun : Type 1 where
   pub new : Pair
   pub answer : PairOutcome
 
--- The answer is one that the headers of the images give.
-abbrev pub IsHeaderAnswer : PairOutcome → Type 0
-IsHeaderAnswer answer = ((s : Side) × (why : ImageFault) × (answer ≡ outcome.ImageRefused s why)) ⊎ ((answer ≡ outcome.HeadersDiffer)
-    ⊎ (((image : ℕ) × (table : ℕ) × (answer ≡ outcome.WordsDiffer image table)) ⊎ (answer ≡ outcome.OldVersion)))
-
 -- Which answer the headers of both images give, by a table with this count of words in a subframe: exactly the first refusal,
--- over the sides that haven't failed, where no count of faults is at its greatest.
+-- over the sides that haven't failed. By the counts alone it comes always where none of them is at its greatest.
 pub record RefusesHeaders (words : ℕ) (tells : Tells) (old new : Pair) (answer : PairOutcome) : Type 0 where
   pub cause : IsHeaderAnswer answer → IsOpeningRefusal words answer old new
-  pub only : IsHeaderAnswer answer → IsTrue tells.bytes → AreCountsBelowMost new
-      → opening words (header_after old.first new.first) (header_after old.second new.second) ≡ Err answer
+  pub only : IsHeaderAnswer answer → IsTrue tells.bytes → IsRefusedByHeaders words old new answer
   pub always : (why : PairOutcome) → IsHeaderAnswer why → IsPastPairTable answer → IsTrue tells.bytes → AreCountsBelowMost new
       → opening words (header_after old.first new.first) (header_after old.second new.second) ≡ Err why → answer ≡ why
 

@@ -6,7 +6,7 @@ ghost use Rattle.fdr_twin.specs.Serving.{Serves};
 ghost use Rattle.fdr_twin.specs.declared.side.Side.TheVariants as side;
 ghost use Rattle.fdr_pair.specs.PairWork.{PairWork, IsLookedAt};
 ghost use Rattle.fdr_pair.specs.Opening.{side_header, header_after, common_header, frame_refusal, opening, LooksAtSide, ReadsHeader};
-ghost use Rattle.fdr_pair.specs.Opening.{AreCountsBelowMost, AreLiving, OnLiving, IsHeaderOn, IsOpeningRefusal};
+ghost use Rattle.fdr_pair.specs.Opening.{AreCountsBelowMost, AreLiving, OnLiving, IsHeaderAnswer, IsHeaderOn, IsOpeningRefusal, IsRefusedByHeaders};
 ghost use Rattle.fdr_pair.specs.SideCounts.{CountsBoth};
 
 use crate::outcome::PairOutcome;
@@ -144,6 +144,8 @@ pub fn open_sides<T: Twin>(twin: &mut T, words: u32) -> Result<Opened, PairOutco
     ensures exact { IsTrue T.tells.bytes → AreCountsBelowMost (T.pair twin.new) → result ≡ opening words
         (header_after (T.pair twin.old).first (T.pair twin.new).first)
         (header_after (T.pair twin.old).second (T.pair twin.new).second) }
+    ensures refused { IfErr result (λ why. IsHeaderAnswer why → IsTrue T.tells.bytes
+        → IsRefusedByHeaders words (T.pair twin.old) (T.pair twin.new) why) }
     ensures living { IfOk result (λ o. AreLiving o.living (T.pair twin.old) (T.pair twin.new)) }
     ensures header { IfOk result (λ o. OnLiving o.living
         (λ side. IsHeaderOn T.tells o.header side (T.pair twin.old) (T.pair twin.new))) }

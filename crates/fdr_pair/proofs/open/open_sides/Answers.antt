@@ -1,11 +1,12 @@
 use Rattle.std.proofs.Common.{◌≡◌, ◌∙◌, sym, ap}
-use Rattle.std.specs.Prelude.{Ok}
+use Rattle.std.specs.Prelude.{IsTrue, Ok}
 use Rattle.fdr_twin.specs.declared.side.Side.TheVariants.{First, Second}
 use Rattle.fdr_pair.specs.declared.open.Opened.{Opened}
 use Rattle.fdr_pair.specs.declared.open.SideHeader.{SideHeader}
 use Rattle.fdr_pair.specs.declared.outcome.PairOutcome.{PairOutcome}
-use Rattle.fdr_pair.specs.Opening.{ReadsHeader, AreLiving, OnLiving, IsHeaderOn, IsOpeningRefusal, header_after, common_header, opening}
-use Rattle.fdr_pair.proofs.Opening.{reads_then, then_reads, both_looked, header_shown, living_sides, living_header, second_version, not_opened, opened_by}
+use Rattle.fdr_pair.specs.Opening.{ReadsHeader, AreLiving, OnLiving, IsHeaderOn, IsHeaderAnswer, IsOpeningRefusal, IsRefusedByHeaders, header_after}
+use Rattle.fdr_pair.specs.Opening.{common_header, opening}
+use Rattle.fdr_pair.proofs.Opening.{reads_then, then_reads, both_looked, header_shown, living_sides, living_header, second_version, not_opened, opened_by, refused_as_read}
 use Rattle.fdr_pair.proofs.Opening.{IsOpenedBy, if_ok, if_err}
 use Rattle.fdr_pair.proofs.open.open_sides.Given.{Over}
 use Rattle.fdr_pair.proofs.open.open_sides.Goals.{After-opening}
@@ -87,3 +88,12 @@ returns-clause-work g c =
     both_looked _ _ _ _ (g.met.T.Twin.sound_pair c.args.twin.now) (g.met.T.Twin.sound_pair c.header_on-first.new.twin)
     c.header_on-first.ensures.reads.looks.disk c.header_on-first.ensures.serves c.header_on-first.ensures.counts c.header_on-second.ensures.serves
     c.header_on-second.ensures.counts
+
+pub returns-clause-refused : goal.returns-clause-refused
+returns-clause-refused g c =
+    let d = (goal.at.returns-clause-refused g c).After-opening in
+    let p = g.T.Twin.pair c.args.twin.now in
+    let q = g.T.Twin.pair c.header_on-second.new.twin in
+    if_err c.opening.result (λ (why : PairOutcome). IsHeaderAnswer why → IsTrue g.T.Deck.tells.bytes → IsRefusedByHeaders c.args.words p q why)
+    (λ why is. refused_as_read g.T.Deck.tells c.args.words c.header_on-first.result c.header_on-second.result p q why (first_read g d) (second_read g d)
+    (sym c.opening.ensures ∙ is))

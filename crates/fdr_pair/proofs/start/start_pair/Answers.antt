@@ -3,7 +3,7 @@ use Rattle.std.specs.Prelude.{IfErr, IfOk}
 use Rattle.std.proofs.lemmas.Result.{err_from_is_err_and}
 use Rattle.fdr_slot.specs.declared.image.Header.{Header}
 use Rattle.fdr_table.specs.Rows.{FrameRow, TableRows}
-use Rattle.fdr_pair.specs.Opening.{IsOpeningRefusal, opening, header_after}
+use Rattle.fdr_pair.specs.Opening.{IsOpeningRefusal, IsRefusedByHeaders, opening, header_after}
 use Rattle.fdr_pair.specs.Room.{IsRoomFor}
 use Rattle.fdr_pair.specs.declared.outcome.PairOutcome.{PairOutcome}
 use Rattle.fdr_pair.specs.declared.start.PairStart.{PairStart}
@@ -61,6 +61,7 @@ returns-in_err-opened-clause-refused g c =
     (refused_opening c.args.sound.now g.T.Deck.tells p0 p1 why
     (subst (λ (n : ℕ). IsOpeningRefusal n why p0 p1) words e.cause)
     (λ told below. subst (λ (n : ℕ). opening n (header_after p0.first p1.first) (header_after p0.second p1.second) ≡ Err why) words (sym (e.exact told below)))
+    (λ answer told. subst (λ (n : ℕ). IsRefusedByHeaders n p0 p1 why) words (e.refused answer told))
     e.first e.second e.work (keeps_looked c.args.sound.now.frame.words g.T.Deck.tells p0 p1 e.work))
 
 pub returns-in_default-clause-refused : goal.returns-in_default-clause-refused
