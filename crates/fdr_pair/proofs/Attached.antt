@@ -10,7 +10,7 @@ use Rattle.fdr_ring.specs.declared.ring.Ring.{Ring}
 use Rattle.fdr_recorder.proofs.Steps.{tail_same}
 use Rattle.fdr_twin.specs.declared.side.Side.{Side}
 use Rattle.fdr_twin.specs.declared.side.Side.TheVariants.{First, Second}
-use Rattle.fdr_twin.specs.Pair.{Pair, PairMoment, disk_on, image_on, faults_on, seen}
+use Rattle.fdr_twin.specs.Pair.{Pair, PairMoment, disk_on, image_on, seen}
 use Rattle.fdr_twin.specs.Same.{IsSameDisk}
 use Rattle.fdr_twin.specs.Rest.{PairElapses, StaysOn, LeavesSide}
 use Rattle.fdr_twin.specs.RestSound.{LeavesSide-here, IsSameDisk-then, PairElapses-then}
@@ -188,7 +188,8 @@ module _ (tells : Tells) (h : Header) (lead : Side) (other start_first start_sec
         (moment_before tells h Second start_second old mid m sound_mid one_work.time one_left (two_work.moments stops m since))
 
     pub both_attached : PairWork tells (AreAttachMoments h lead other old) old new
-    both_attached = work_then tells (AreAttachMoments h lead other old) (AreAttachMoments h lead other old) (AreAttachMoments h lead other old) old mid new sound_mid
+    both_attached = work_then tells (AreAttachMoments h lead other old) (AreAttachMoments h lead other old) (AreAttachMoments h lead other old) old mid new
+        sound_mid
         (with_moments tells (AttachMoment h First start_first old) (AreAttachMoments h lead other old) old mid one_work one_moments)
         (with_moments tells (AttachMoment h Second start_second mid) (AreAttachMoments h lead other old) mid new two_work two_moments)
         (λ stops m at. at) (λ stops m at. at)

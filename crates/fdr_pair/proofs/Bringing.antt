@@ -176,9 +176,12 @@ module _ (tells : Tells) (lead : Side) (r : Ring) (blocks : List Block) (p mid q
         served.other.disk.held is.follower;
   }
 
-  pub looks_then_brings : IsSoundPair tells mid → CountsBoth p mid → PairWork tells (IsBringing r.header lead blocks mid) mid q → PairWork tells (IsBringing r.header lead blocks p) p q
-  looks_then_brings sound_mid counts work = work_then tells (IsBringing r.header lead blocks p) (IsBringing r.header lead blocks mid) (IsBringing r.header lead blocks p)
-      p mid q sound_mid (brings_looked tells r.header lead blocks p mid sound settled served counts) work (λ stops m is. is) (λ stops m is. looked_bringing m is)
+  pub looks_then_brings : IsSoundPair tells mid → CountsBoth p mid → PairWork tells (IsBringing r.header lead blocks mid) mid q → PairWork tells
+      (IsBringing r.header lead blocks p) p q
+  looks_then_brings sound_mid counts work = work_then tells (IsBringing r.header lead blocks p) (IsBringing r.header lead blocks mid)
+      (IsBringing r.header lead blocks p)
+      p mid q sound_mid (brings_looked tells r.header lead blocks p mid sound settled served counts) work (λ stops m is. is)
+      (λ stops m is. looked_bringing m is)
 
   pub looked_brought : (s : Ring) → (disk_on lead mid).faults ≡ (disk_on lead p).faults → HasBrought tells lead r s blocks mid q
       → HasBrought tells lead r s blocks p q

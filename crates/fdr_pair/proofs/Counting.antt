@@ -118,7 +118,8 @@ counts_told tells next None None p q sound tell = record {
 }
 
 -- a block on both sides, and its announcement
-pub counts_block : (tells : Tells) (next session : ℕ) (bytes : List ℕ) (o o' u u' : Option Ring) (p0 p1 p2 p3 : Pair) → IsSoundPair tells p1 → IsSoundPair tells p2
+pub counts_block : (tells : Tells) (next session : ℕ) (bytes : List ℕ) (o o' u u' : Option Ring) (p0 p1 p2 p3 : Pair) → IsSoundPair tells p1 → IsSoundPair
+    tells p2
     → PutsUnlessFailed tells First o o' session bytes p0 p1 → PutsUnlessFailed tells Second u u' session bytes p1 p2
     → AnnouncesLiving tells o' u' (next + 1) p2 p3 → CountsOn tells next 1 p0 p3
 counts_block tells next session bytes o o' u u' p0 p1 p2 p3 sound_one sound one two tell =

@@ -91,7 +91,8 @@ module _ (tells : Tells) (h : Header) (lead side : Side) (p mid : Pair) (is_side
 
   module _ (sound : IsSoundPair tells p) (near : IsTrue tells.bytes → IsFarBehind h (disk_on lead p).held (disk_on (other_side lead) p).held → ⊥) where
     pub joins_attached : CountsBoth p mid → PairWork tells (IsJoining h lead p) p mid
-    joins_attached counts = work_of tells (other_side lead) (OfSettled (seen (other_side lead) p) (IsAttaching h)) (IsJoining h lead p) p mid sound served counts
+    joins_attached counts = work_of tells (other_side lead) (OfSettled (seen (other_side lead) p) (IsAttaching h)) (IsJoining h lead p) p mid sound served
+        counts
         (λ stops m own other. record {
           lead_image = subst (λ (s : Side). (disk_on s p).may_leave (image_on s m)) (other_twice lead) other;
           follower = λ settled. keeps_run h (disk_on (other_side lead) p).held (image_on (other_side lead) m)
@@ -127,7 +128,8 @@ module _ (tells : Tells) (h : Header) (lead side : Side) (p mid : Pair) (is_side
       pub joins_brought : (q : Pair) → IsSoundPair tells mid → CountsBoth p mid → PairWork tells (IsBringing r.header lead
           (missing_blocks r.header (disk_on lead mid).held (disk_on (other_side lead) mid).held) mid) mid q → PairWork tells (IsJoining h lead p) p q
       joins_brought q sound_mid counts work = work_then tells (IsJoining h lead p) (IsBringing r.header lead
-          (missing_blocks r.header (disk_on lead mid).held (disk_on (other_side lead) mid).held) mid) (IsJoining h lead p) p mid q sound_mid (joins_attached counts) work
+          (missing_blocks r.header (disk_on lead mid).held (disk_on (other_side lead) mid).held) mid) (IsJoining h lead p) p mid q sound_mid
+          (joins_attached counts) work
           (λ stops m is. is)
           (λ stops m is. bringing m ((sound.sides First).stops_need_bytes stops) is)
 

@@ -1,7 +1,6 @@
 -- What the image of a side keeps over calls, whether the side has failed by then or not.
-use Rattle.std.proofs.Common.{◌≡◌, ⊎_elim, ℕ, ◌+◌, ◌≤◌, List, [], ◌∷◌, ◌++◌, refl, sym, subst, arith, Option, Some, None}
+use Rattle.std.proofs.Common.{◌≡◌, ℕ, ◌+◌, List, [], ◌∷◌, ◌++◌, refl, sym, subst, arith, Option, Some, None}
 use Rattle.std.specs.Prelude.{IsTrue}
-use Rattle.fdr_deck.specs.Disk.{IsSettled}
 use Rattle.fdr_deck.specs.State.{Moment, Tells}
 use Rattle.fdr_slot.specs.declared.image.Header.{Header}
 use Rattle.fdr_recover.specs.Blocks.{Block}
@@ -9,9 +8,9 @@ use Rattle.fdr_recover.specs.Images.{recovered_run}
 use Rattle.fdr_ring.specs.declared.ring.Ring.{Ring}
 use Rattle.fdr_twin.specs.declared.side.Side.{Side}
 use Rattle.fdr_twin.specs.declared.side.Side.TheVariants.{First, Second}
-use Rattle.fdr_twin.specs.Pair.{Pair, PairMoment, disk_on, image_on, seen}
+use Rattle.fdr_twin.specs.Pair.{Pair, PairMoment, disk_on, image_on}
 use Rattle.fdr_twin.specs.Same.{IsSameDisk}
-use Rattle.fdr_twin.specs.Rest.{LeavesSide, PairElapses}
+use Rattle.fdr_twin.specs.Rest.{PairElapses}
 use Rattle.fdr_twin.specs.RestSound.{LeavesSide-here, PairElapses-then}
 use Rattle.fdr_twin.specs.Sound.{IsSoundPair}
 use Rattle.fdr_twin.specs.Serving.{EachPairMoment}
@@ -40,7 +39,8 @@ of_now tells side P p m sound stops holds leaves =
     let now = moment_of_image tells side p m sound stops leaves in subst P now.2 (holds now.0 now.1)
 
 -- a moment now has an image that a stop now may leave
-pub now_left_image : (tells : Tells) (side : Side) (p : Pair) → IsSoundPair tells p → EachPairMoment tells p p (λ m. (disk_on side p).may_leave (image_on side m))
+pub now_left_image : (tells : Tells) (side : Side) (p : Pair) → IsSoundPair tells p → EachPairMoment tells p p
+    (λ m. (disk_on side p).may_leave (image_on side m))
 now_left_image tells side p sound stops m since = other_left tells side p p sound (LeavesSide-here side p) stops m since
 
 -- what is kept is kept in an image that is the same

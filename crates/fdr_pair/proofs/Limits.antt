@@ -1,34 +1,18 @@
 -- The limits of an image without a fault, and what it has from its next number on.
-use Rattle.std.proofs.Common.{◌≡◌, ⊎_elim, ℕ, ◌+◌, ◌-◌, Bool, true, false, List, [], ◌∷◌, ◌++◌, length, take, Some, None, refl, sym, ◌∙◌, ap, subst, arith}
-use Rattle.std.proofs.Common.{length-append}
+use Rattle.std.proofs.Common.{◌≡◌, ⊎_elim, ℕ, Bool, true, false, List, [], ◌∷◌, length, take, Some, None, refl, arith}
 use Rattle.std.specs.Prelude.{if◌then◌else◌, nat_lt, not}
 use Rattle.std.proofs.lemmas.Bool.{cases_Bool}
-use Rattle.std.proofs.lemmas.List.{append_assoc, append-nil}
-use Rattle.fdr_deck.specs.State.{Tells}
 use Rattle.fdr_slot.specs.Headers.{has_magic, has_open_gate}
 use Rattle.fdr_slot.specs.Limits.{IsInLimits, in_limits}
 use Rattle.fdr_slot.specs.Places.{image_size}
-use Rattle.fdr_slot.specs.declared.image.Header.{Header}
 use Rattle.fdr_slot.specs.declared.image.ImageFault.TheVariants as fault
 use Rattle.fdr_slot.proofs.HeaderLemmas.{in_limits-is}
 use Rattle.fdr_slot.specs.Headers.{image_fault}
-use Rattle.fdr_recover.specs.Blocks.{Block}
-use Rattle.fdr_recover.specs.Images.{next_of, recovered_run}
 use Rattle.fdr_recover.specs.ImageHeader.{image_fault_of, header_in}
 use Rattle.fdr_recover.specs.Payloads.{run_in}
-use Rattle.fdr_ring.specs.Runs.{last_blocks}
-use Rattle.fdr_recorder.specs.NewBlocks.{AddsToRun, new_blocks, next_in}
-use Rattle.fdr_bus.specs.declared.BusRecord.{BusRecord}
-use Rattle.fdr_table.specs.Rows.{TableRows}
-use Rattle.fdr_pair.specs.PairMoments.{KeepsBroughtRun, KeepsOwnRun}
-use Rattle.fdr_pair.specs.SideKeeping.{HasFailedOrKeeps}
-use Rattle.fdr_twin.specs.declared.side.Side.{Side}
-use Rattle.fdr_twin.specs.Pair.{Pair, PairMoment, disk_on, seen}
-use Rattle.fdr_pair.specs.Alike.{AreAlike, follower_on, lead_image, follower_image}
+use Rattle.fdr_recorder.specs.NewBlocks.{next_in}
 use Rattle.fdr_pair.specs.Brought.{blocks_not_below}
-use Rattle.fdr_pair.specs.PairEnds.{FollowerHoldsBrought, HoldsAfter}
 use Rattle.fdr_pair.proofs.BroughtRuns.{missing_count}
-use Rattle.fdr_pair.proofs.Leading.{brought_next, one_header}
 
 -- ---- limits
 

@@ -1,8 +1,6 @@
 -- What was given: what came of the input, and which side failed.
-use Rattle.std.proofs.Common.{◌≡◌, ◌⊎◌, ⊎_elim, inl, inr, ℕ, ◌-◌, ◌^◌, ◌<◌, Bool, true, false, List, [], ◌++◌, Option, Some, None, IsTrue, refl, sym, ◌∙◌}
+use Rattle.std.proofs.Common.{◌≡◌, ◌⊎◌, ⊎_elim, inl, inr, ℕ, Bool, true, false, List, [], ◌++◌, Option, Some, IsTrue, refl, sym}
 use Rattle.std.proofs.Common.{subst, arith}
-use Rattle.std.specs.Prelude.{nat_lt}
-use Rattle.std.proofs.lemmas.Bool.Decides.{nat_tests}
 use Rattle.std.proofs.lemmas.List.{append-nil}
 use Rattle.fdr_io.specs.Faults.{Rose}
 use Rattle.fdr_deck.specs.State.{Tells}
@@ -12,7 +10,6 @@ use Rattle.fdr_twin.specs.Pair.{Pair, disk_on}
 use Rattle.fdr_twin.specs.Serving.{EachPairMoment}
 use Rattle.fdr_pair.specs.PairMoments.{HasFailedBeforePull}
 use Rattle.fdr_pair.specs.Bringing.{HasNoFault}
-use Rattle.fdr_pair.specs.PairEnds.{HasFailedSince}
 use Rattle.fdr_pair.specs.PairRun.{PairRun}
 use Rattle.fdr_pair.specs.PairWork.{IsLineMoment, LeavesLine}
 use Rattle.fdr_pair.specs.declared.outcome.PairOutcome.TheVariants as outcome

@@ -410,15 +410,18 @@ module _ (t : TableRows) (tells : Tells) (p0 p : Pair) (why : PairOutcome) (refu
       let open_end : EndsPairTrace why → ⊥ = λ ends. subst (λ x. EndsPairTrace x) is ends in
       let no_end : why ≡ outcome.SeqEnd → ⊥ = λ ends. let no : outcome.DiskFault ≡ outcome.SeqEnd = sym is ∙ ends in cc in
       record {
-        follower = inr (record {
-          now = rose_on is (follower_on p0);
-          moments = λ stops m since some. let none = (refused.keeps.unpulled stops m since).taken in absurd (omega (arith, some, none));
-        }, record {
-          recorded = λ all. absurd (open_end all);
-          within = λ all. absurd (open_end all);
-          seq_end = λ ends. absurd (no_end ends);
-          beyond = λ ends. absurd (no_end ends);
-        });
+        follower = inr (
+          record {
+            now = rose_on is (follower_on p0);
+            moments = λ stops m since some. let none = (refused.keeps.unpulled stops m since).taken in absurd (omega (arith, some, none));
+          },
+          record {
+            recorded = λ all. absurd (open_end all);
+            within = λ all. absurd (open_end all);
+            seq_end = λ ends. absurd (no_end ends);
+            beyond = λ ends. absurd (no_end ends);
+          },
+        );
         read = λ late. absurd (⊎_elim (λ all. open_end all) (λ ends. no_end ends) late);
         kept = λ side read may stops m since some. let none = (refused.keeps.unpulled stops m since).taken in absurd (omega (arith, some, none));
         in_time = λ may stops m since.

@@ -1,17 +1,10 @@
 -- How the runs of both sides have grown, by what the contract says of the lead and of the other side.
-use Rattle.std.proofs.Common.{◌≡◌, ⊎_elim, ℕ, ◌+◌, ◌-◌, Bool, true, false, List, [], ◌∷◌, ◌++◌, length, take, Some, None, refl, sym, ◌∙◌, ap, subst, arith}
+use Rattle.std.proofs.Common.{◌≡◌, ℕ, ◌+◌, ◌-◌, List, ◌++◌, length, None, sym, ◌∙◌, ap, subst, arith}
 use Rattle.std.proofs.Common.{length-append}
-use Rattle.std.specs.Prelude.{if◌then◌else◌, nat_lt, not}
-use Rattle.std.proofs.lemmas.Bool.{cases_Bool}
 use Rattle.std.proofs.lemmas.List.{append_assoc, append-nil}
 use Rattle.fdr_deck.specs.State.{Tells}
-use Rattle.fdr_slot.specs.Headers.{has_magic, has_open_gate}
-use Rattle.fdr_slot.specs.Limits.{IsInLimits, in_limits}
-use Rattle.fdr_slot.specs.Places.{image_size}
+use Rattle.fdr_slot.specs.Limits.{IsInLimits}
 use Rattle.fdr_slot.specs.declared.image.Header.{Header}
-use Rattle.fdr_slot.specs.declared.image.ImageFault.TheVariants as fault
-use Rattle.fdr_slot.proofs.HeaderLemmas.{in_limits-is}
-use Rattle.fdr_slot.specs.Headers.{image_fault}
 use Rattle.fdr_recover.specs.Blocks.{Block}
 use Rattle.fdr_recover.specs.Images.{next_of, recovered_run}
 use Rattle.fdr_recover.specs.ImageHeader.{image_fault_of, header_in}
@@ -27,7 +20,6 @@ use Rattle.fdr_twin.specs.Pair.{Pair, PairMoment, disk_on, seen}
 use Rattle.fdr_pair.specs.Alike.{AreAlike, follower_on, lead_image, follower_image}
 use Rattle.fdr_pair.specs.Brought.{blocks_not_below}
 use Rattle.fdr_pair.specs.PairEnds.{FollowerHoldsBrought, HoldsAfter}
-use Rattle.fdr_pair.proofs.BroughtRuns.{missing_count}
 use Rattle.fdr_pair.proofs.Leading.{brought_next, one_header}
 use Rattle.fdr_pair.proofs.Limits.{brought_nothing, limits_in}
 

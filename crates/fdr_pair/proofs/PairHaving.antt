@@ -21,7 +21,7 @@ use Rattle.fdr_recorder.specs.declared.source.SourceEnd.{SourceEnd}
 use Rattle.fdr_pair.specs.Brought.{blocks_not_below, brought_run, missing_blocks}
 use Rattle.fdr_pair.specs.Alike.{AreAlike, lead_on, follower_on, lead_image, follower_image}
 use Rattle.fdr_pair.specs.Living.{HasLiving}
-use Rattle.fdr_pair.specs.PairMoments.{HasPulledBytes, KeepsRunUntilPull, KeepsRunWith, MayRecordPair, blocks_to_get}
+use Rattle.fdr_pair.specs.PairMoments.{HasPulledBytes, KeepsRunWith, MayRecordPair, blocks_to_get}
 use Rattle.fdr_pair.specs.SideKeeping.{KeepsRecording}
 use Rattle.fdr_pair.specs.Traces.{PairRecordsTrace}
 use Rattle.fdr_pair.specs.PairStarting.{IsPairStarted, StartsOnRun, StartsWithLead, StartsWithoutLead, ring_on}

@@ -13,7 +13,6 @@ use Rattle.fdr_pair.specs.Opening.{frame_refusal, header_or_fault, header_read, 
 use Rattle.fdr_pair.specs.Opening as pair
 use Rattle.fdr_pair.specs.declared.open.LivingSides.TheVariants as living
 use Rattle.fdr_pair.specs.declared.open.Opened.{Opened}
-use Rattle.fdr_pair.specs.declared.open.SideHeader.{SideHeader}
 use Rattle.fdr_pair.specs.declared.open.SideHeader.TheVariants as header
 use Rattle.fdr_pair.specs.declared.outcome.PairOutcome.{PairOutcome}
 use Rattle.fdr_pair.specs.declared.outcome.PairOutcome.TheVariants as outcome

@@ -1,14 +1,12 @@
 -- What both images keep while a recording on two disks goes on, from before its start on.
-use Rattle.std.proofs.Common.{◌≡◌, ◌⊎◌, inl, inr, ⊎_elim, ℕ, ◌+◌, ◌-◌, ◌<◌, ◌≤◌, List, [], ◌++◌, length, take, refl, sym, ◌∙◌, ap, subst, arith}
+use Rattle.std.proofs.Common.{◌≡◌, ◌⊎◌, inl, inr, ⊎_elim, ℕ, ◌-◌, ◌<◌, ◌≤◌, List, [], ◌++◌, length, take, refl, sym, ◌∙◌, ap, subst, arith}
 use Rattle.std.proofs.Common.{length-drop, Option, Some, None, Result}
-use Rattle.std.proofs.lemmas.List.{append-nil, take_all}
 use Rattle.std.specs.Prelude.{IsTrue}
 use Rattle.std.specs.Option.{ForSome}
 use Rattle.fdr_io.specs.Faults.{Rose}
 use Rattle.fdr_bus.specs.Records.{good_prefix}
 use Rattle.fdr_deck.specs.State.{Tells}
 use Rattle.fdr_deck.specs.Disk.{IsSettled}
-use Rattle.fdr_slot.specs.Limits.{IsInLimits}
 use Rattle.fdr_slot.specs.declared.image.Header.{Header}
 use Rattle.fdr_slot.specs.declared.image.ImageFault.{ImageFault}
 use Rattle.fdr_recover.specs.Blocks.{Block}
@@ -21,13 +19,12 @@ use Rattle.fdr_table.specs.Rows.{TableRows}
 use Rattle.fdr_twin.specs.declared.side.Side.{Side}
 use Rattle.fdr_twin.specs.declared.side.Side.TheVariants.{First, Second}
 use Rattle.fdr_twin.specs.Pair.{Pair, PairMoment, disk_on, image_on, seen}
-use Rattle.fdr_twin.specs.Rest.{StaysOn}
 use Rattle.fdr_twin.specs.Sound.{IsSoundPair}
 use Rattle.fdr_twin.specs.Serving.{EachPairMoment}
 use Rattle.fdr_recorder.specs.NewBlocks.{new_blocks, next_in}
 use Rattle.fdr_recorder.specs.Past.{all_blocks, past_at_start, session_of}
 use Rattle.fdr_recorder.specs.declared.source.SourceEnd.{SourceEnd}
-use Rattle.fdr_pair.specs.Brought.{brought_run, missing_blocks}
+use Rattle.fdr_pair.specs.Brought.{missing_blocks}
 use Rattle.fdr_pair.specs.Alike.{AreAlike, lead_on, follower_on, lead_image, follower_image}
 use Rattle.fdr_pair.specs.Living.{Follows, SideKept, SideMoment}
 use Rattle.fdr_pair.specs.PairRecording.{IsSettledSide}
@@ -41,7 +38,6 @@ use Rattle.fdr_pair.specs.declared.start.PairStart.{PairStart}
 use Rattle.fdr_pair.proofs.Going.{on, known}
 use Rattle.fdr_pair.proofs.Keeps.{keeps_since, kept_since}
 use Rattle.fdr_pair.proofs.KeptSides.{of_now}
-use Rattle.fdr_pair.proofs.Leading.{brought_next, one_header}
 
 -- ---- lists of blocks
 
@@ -276,7 +272,8 @@ module _ (t : TableRows) (tells : Tells) (s : PairStart) (p0 p5 p6 : Pair) (end 
   pub recording_from : (side : Side) (run : Header → List Block) (image held : List ℕ) → rings.header ≡ header_in image
       → rings.next ≡ next_in image → s.session.session ≡ session_of (run_in image)
       → KeepsRecording rings.header (disk_on side p0).held (run rings.header) rings.next blocks 0 held
-      → KeepsRecording (header_in image) (disk_on side p0).held (run (header_in image)) (next_in image) (new_blocks t image (good_prefix recorded.pulled)) 0 held
+      → KeepsRecording (header_in image) (disk_on side p0).held (run (header_in image)) (next_in image) (new_blocks t image (good_prefix recorded.pulled))
+      0 held
   recording_from side run image held header number after is =
       subst (λ (l : List Block). KeepsRecording (header_in image) (disk_on side p0).held (run (header_in image)) (next_in image) l 0 held)
       (blocks_same t rings.header rings.next s.session.session image recorded.pulled header number after)

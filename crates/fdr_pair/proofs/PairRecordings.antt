@@ -1,7 +1,7 @@
 -- What a recording on two disks means where it records.
-use Rattle.std.proofs.Common.{◌≡◌, ◌≢◌, ◌⊎◌, ⊎_elim, inl, inr, ℕ, ◌+◌, ◌-◌, ◌<◌, ◌≤◌, Bool, true, false, List, [], ◌∷◌, ◌++◌, length, take, Option, Some}
-use Rattle.std.proofs.Common.{None, Result, Ok, Err, IsTrue, refl, sym, ap, ◌∙◌, subst, arith}
-use Rattle.std.specs.Prelude.{nat_lt, nat_eq}
+use Rattle.std.proofs.Common.{◌≡◌, ◌⊎◌, ⊎_elim, inl, inr, ℕ, ◌+◌, ◌-◌, ◌<◌, ◌≤◌, true, false, List, [], ◌∷◌, ◌++◌, length, take, Option, Some}
+use Rattle.std.proofs.Common.{None, IsTrue, refl, sym, ap, ◌∙◌, subst, arith}
+use Rattle.std.specs.Prelude.{nat_lt}
 use Rattle.std.specs.Option.{option_map}
 use Rattle.std.proofs.lemmas.Bool.Decides.{nat_tests}
 use Rattle.fdr_io.specs.declared.Input.TheVariants as input
@@ -9,8 +9,6 @@ use Rattle.fdr_bus.specs.declared.BusRecord.{BusRecord}
 use Rattle.fdr_bus.specs.Records.{good_prefix}
 use Rattle.fdr_bus.specs.declared.TraceFault.{TraceFault}
 use Rattle.fdr_slot.specs.Limits.{sequence_end}
-use Rattle.fdr_slot.specs.declared.image.Header.{Header}
-use Rattle.fdr_slot.specs.declared.image.ImageFault.{ImageFault}
 use Rattle.fdr_recover.specs.Blocks.{Block}
 use Rattle.fdr_recover.specs.ImageHeader.{image_fault_of, header_in}
 use Rattle.fdr_recover.specs.Payloads.{run_in}
@@ -23,19 +21,16 @@ use Rattle.fdr_twin.specs.Pair.{PairMoment, disk_on, other_side}
 use Rattle.fdr_pair.specs.Alike.{AreAlike, lead_on, follower_on, lead_image, follower_image}
 use Rattle.fdr_pair.specs.Brought.{blocks_not_below}
 use Rattle.fdr_pair.specs.Opening.{IsRightImage, frame_refusal}
-use Rattle.fdr_pair.specs.PairEnds.{FollowerHoldsBrought, GoesOnWithLead, GoesOnWithoutLead, HasFailedSince, HaveEnded, HoldWithLead, HoldWithoutLead, LeadHolds}
+use Rattle.fdr_pair.specs.PairEnds.{FollowerHoldsBrought, GoesOnWithLead, GoesOnWithoutLead, HasFailedSince, HaveEnded, HoldWithLead, HoldWithoutLead}
+use Rattle.fdr_pair.specs.PairEnds.{LeadHolds}
 use Rattle.fdr_pair.specs.PairMoments.{HasFailedBeforePull, HasPulledBytes, KeepsBroughtRun, KeepsRunWith, KeepsUpBy, MayRecordPair, blocks_to_get}
 use Rattle.fdr_pair.specs.SideKeeping.{HasFailedOrKeeps}
 use Rattle.fdr_twin.specs.Serving.{EachPairMoment}
 use Rattle.fdr_pair.specs.PairRun.{PairRun, RecordsPair}
 use Rattle.fdr_pair.specs.PairStages.{EndsPairTrace, IsPastPairTable, LeavesPairLine}
-use Rattle.fdr_pair.specs.declared.open.Opened.{Opened}
-use Rattle.fdr_pair.specs.declared.open.SideHeader.{SideHeader}
-use Rattle.fdr_pair.specs.declared.open.SideHeader.TheVariants as header
 use Rattle.fdr_pair.specs.declared.outcome.PairOutcome.{PairOutcome}
 use Rattle.fdr_pair.specs.declared.outcome.PairOutcome.TheVariants as outcome
 use Rattle.fdr_pair.proofs.Alikes.{no_fault_of_side}
-use Rattle.fdr_pair.proofs.StartCounts.{IsOfHeaders, of_headers}
 use Rattle.fdr_pair.specs.PairMeaning.{PairEffect, to_work, grow, left_or, of_both, pair_meaning, records_on_both, refused_blocks, refused_far}
 use Rattle.fdr_pair.specs.PairMeaning.{refused_images, trace_end}
 use Rattle.fdr_pair.specs.PairDoing.{GavePairInput, DoesAllOnBoth, Grows, HasGrown, IsPairTold, KeepsOn, DoesPairAsMeant}
@@ -48,7 +43,6 @@ use Rattle.fdr_pair.proofs.Limits.{limits_in}
 use Rattle.fdr_pair.proofs.PairHeaders.{first_after, header_list}
 use Rattle.fdr_pair.proofs.PairRefusals.{alike_passes, frame_fits, meant_recorded, none_first, step_meant, step_recorded}
 use Rattle.fdr_pair.proofs.PairTraces.{IsSameTrace, done_ends, done_same, failed_ends, refused_ends, refused_same}
-use Rattle.fdr_pair.specs.Opening.{IsHeaderAnswer}
 
 -- ---- sides
 

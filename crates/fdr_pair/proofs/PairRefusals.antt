@@ -1,5 +1,5 @@
 -- What a recording on two disks means where it doesn't record.
-use Rattle.std.proofs.Common.{◌≡◌, ◌≢◌, ⊎_elim, inl, inr, ℕ, ◌+◌, ◌-◌, ◌<◌, Bool, true, false, List, [], ◌∷◌, length, Option, Some, None, Err, refl, sym, ap}
+use Rattle.std.proofs.Common.{◌≡◌, ◌≢◌, ⊎_elim, inl, inr, ℕ, ◌+◌, ◌-◌, ◌<◌, Bool, true, false, List, [], ◌∷◌, length, Option, Some, None, refl, sym, ap}
 use Rattle.std.proofs.Common.{◌∙◌, subst, arith}
 use Rattle.std.specs.Prelude.{nat_lt, nat_eq, if◌then◌else◌}
 use Rattle.std.specs.Option.{option_map}
@@ -29,12 +29,10 @@ use Rattle.fdr_twin.specs.Serving.{EachPairMoment}
 use Rattle.fdr_pair.specs.Bringing.{HasNoFault}
 use Rattle.fdr_pair.specs.PairWork.{IsLineMoment}
 use Rattle.fdr_pair.specs.PairStages.{LeavesPairLine, WritesOnNeither}
-use Rattle.fdr_pair.specs.declared.open.SideHeader.TheVariants as header
 use Rattle.fdr_pair.specs.declared.outcome.PairOutcome.{PairOutcome}
 use Rattle.fdr_pair.specs.declared.outcome.PairOutcome.TheVariants as outcome
 use Rattle.fdr_pair.proofs.Alikes.{header_of_side}
 use Rattle.fdr_pair.proofs.Leading.{one_header}
-use Rattle.fdr_pair.proofs.StartCounts.{of_headers}
 use Rattle.fdr_pair.specs.PairMeaning.{PairEffect, PairGiven, PairStep, pair_answers, to_images, to_table, to_work, base, by_pair_table, of_both}
 use Rattle.fdr_pair.specs.PairMeaning.{pair_meaning, records_on_both, refused_blocks, refused_far, refused_header, refused_headers, refused_images, trace_end}
 use Rattle.fdr_pair.specs.PairMeaning.{pair_unless}

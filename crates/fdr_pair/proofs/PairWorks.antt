@@ -156,7 +156,8 @@ looked_here tells p sound = work_here tells (IsLookedAt p) p sound (λ stops m f
 pub looked_then : (tells : Tells) (old mid new : Pair) → IsSoundPair tells mid → IsSameContent old.first mid.first → IsSameContent old.second mid.second
     → PairWork tells (IsLookedAt old) old mid → PairWork tells (IsLookedAt mid) mid new → PairWork tells (IsLookedAt old) old new
 looked_then tells old mid new sound first second one two =
-    work_then tells (IsLookedAt old) (IsLookedAt mid) (IsLookedAt old) old mid new sound one two (λ stops m is. is) (λ stops m is. looked_before old mid first second
+    work_then tells (IsLookedAt old) (IsLookedAt mid) (IsLookedAt old) old mid new sound one two (λ stops m is. is)
+    (λ stops m is. looked_before old mid first second
     m is)
 
 pub looked_first : (tells : Tells) (old new : Pair) → IsSoundPair tells old → Serves tells First old.first.may_leave old new

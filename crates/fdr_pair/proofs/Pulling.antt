@@ -15,7 +15,7 @@ use Rattle.fdr_ring.specs.declared.ring.Ring.{Ring}
 use Rattle.fdr_trace.specs.Moments.{IsTraceMoment, PullsForRecord}
 use Rattle.fdr_trace.specs.Pulls.{PullsUntilDecided}
 use Rattle.fdr_twin.specs.declared.side.Side.{Side}
-use Rattle.fdr_twin.specs.declared.side.Side.TheVariants.{First, Second}
+use Rattle.fdr_twin.specs.declared.side.Side.TheVariants.{First}
 use Rattle.fdr_twin.specs.Pair.{Pair, PairMoment, other_side, disk_on, image_on, seen}
 use Rattle.fdr_twin.specs.Same.{IsSameDisk, IsSameState}
 use Rattle.fdr_twin.specs.Rest.{HasSameRest, LeavesSide, StaysOn}

@@ -1,8 +1,8 @@
 -- The counts of faults of both sides, over calls.
-use Rattle.std.proofs.Common.{◌⊎◌, inl, inr, ⊎_elim, ◌≤◌, arith}
+use Rattle.std.proofs.Common.{◌⊎◌, inl, inr, ⊎_elim, arith}
 use Rattle.fdr_deck.specs.State.{Tells}
 use Rattle.fdr_twin.specs.declared.side.Side.{Side}
-use Rattle.fdr_twin.specs.Pair.{Pair, PairMoment, disk_on, other_side}
+use Rattle.fdr_twin.specs.Pair.{Pair, PairMoment, other_side}
 use Rattle.fdr_twin.specs.Rest.{CountsSide, HasSameRest, IsCounted, LeavesSide, PairElapses}
 use Rattle.fdr_twin.specs.Same.{Turns}
 use Rattle.fdr_twin.specs.Sound.{IsSoundPair}

@@ -1,10 +1,8 @@
 -- What is said of a side, while calls serve the other or the same.
-use Rattle.std.proofs.Common.{◌≡◌, inl, inr, ⊎_elim, ℕ, List, sym, ◌∙◌, ap, subst, arith}
-use Rattle.std.specs.Prelude.{IsTrue}
+use Rattle.std.proofs.Common.{◌≡◌, ℕ, List, sym, ◌∙◌, ap, subst, arith}
 use Rattle.fdr_deck.specs.State.{State, Tells}
 use Rattle.fdr_deck.specs.Disk.{IsSettled}
 use Rattle.fdr_slot.specs.declared.image.Header.{Header}
-use Rattle.fdr_recover.specs.Blocks.{Block}
 use Rattle.fdr_recover.specs.Images.{next_of}
 use Rattle.fdr_ring.specs.Gates.{IsClosed}
 use Rattle.fdr_ring.specs.Rings.{IsRing, IsSureRing, OfSettled}
@@ -13,15 +11,13 @@ use Rattle.fdr_twin.specs.declared.side.Side.TheVariants.{First, Second}
 use Rattle.fdr_twin.specs.Pair.{Pair, disk_on, other_side, seen}
 use Rattle.fdr_twin.specs.Same.{IsSameState, IsSameDisk, Turns}
 use Rattle.fdr_twin.specs.Sound.{IsSoundPair}
-use Rattle.fdr_twin.specs.Serving.{EachPairMoment, Serves}
-use Rattle.fdr_pair.specs.Putting.{HasPut, MayPut, IsPutting}
+use Rattle.fdr_twin.specs.Serving.{Serves}
 use Rattle.fdr_twin.proofs.Same.{IsSettled-same, IsSame-sym, IsSame-then}
 use Rattle.fdr_twin.proofs.Turns.{Turns-seen}
 use Rattle.fdr_twin.proofs.Serves.{serves, serves_turned}
 use Rattle.fdr_io.specs.Faults.{Rose}
 use Rattle.fdr_deck.specs.Calls.{IsDiskWork, Succeeds}
 use Rattle.fdr_twin.specs.Rest.{HasSameRest}
-use Rattle.fdr_recorder.proofs.Steps.{same_run}
 
 -- a ring's fact under another name, or of a disk that is as it was
 pub IsRing-same : (tells : Tells) (h : Header) (number : ℕ) (a b : State) → b.extent ≡ a.extent → b.held ≡ a.held → IsRing tells h number a
@@ -92,32 +88,6 @@ looks_side tells side s t old mid new sound sound_mid turns same_mid same_new re
 module _ (old new : Pair) (side : Side) (same : IsSameDisk (disk_on side old) (disk_on side new)) where
   pub settled_on : IsSettled (seen side old) → IsSettled (seen side new)
   settled_on settled image leaves = settled image (same.no_more image leaves) ∙ sym same.held
-
--- a block is put on the first side and then on the second
-module _ (tells : Tells) (h k : Header) (b c : Block) (old mid new : Pair)
-    (first_settled : IsTrue tells.stops → IsSettled (seen First old)) (second_settled : IsTrue tells.stops → IsSettled (seen Second old))
-    (one : Serves tells First (OfSettled (seen First old) (MayPut h b)) old mid) where
-  second_held : mid.second.held ≡ old.second.held
-  second_held = one.other.disk.held
-
-  -- while the first is served
-  pub first_served : EachPairMoment tells old mid (IsPutting h k b c old)
-  first_served stops m since = let at = one.moments stops m since in record {
-    first = at.image (first_settled stops);
-    second = subst (λ (l : List ℕ). MayPut k c old.second.held l) (sym (second_settled stops m.second at.other)) (inl (same_run k old.second.held));
-  }
-
-  -- while the second is served
-  pub both_served : (IsTrue tells.stops → HasPut h b old.first.held mid.first.held) → (IsTrue tells.stops → IsSettled (seen First mid))
-      → Serves tells Second (OfSettled (seen Second mid) (MayPut k c)) mid new → EachPairMoment tells old new (IsPutting h k b c old)
-  both_served has settled two stops m since = ⊎_elim
-      (λ was. first_served stops m was)
-      (λ is. let at = two.moments stops m is in record {
-        first = subst (λ (l : List ℕ). MayPut h b old.first.held l) (sym (settled stops m.first at.other)) (inr (has stops));
-        second = subst (λ (l : List ℕ). MayPut k c l m.second) second_held
-            (at.image (settled_on old mid Second one.other.disk (second_settled stops)));
-      })
-      (two.time.no_more old.clock m one.time.later since)
 
 -- what holds of a side and of the other one holds of each
 pub either_side : (P : Side → Type 0) (side turned : Side) → P turned → P (other_side turned) → P side

@@ -19,7 +19,7 @@ use Rattle.fdr_ring.specs.Gates.{KeepsHeader}
 use Rattle.fdr_ring.specs.Runs.{IsTail, KeepsRun, last_blocks}
 use Rattle.fdr_twin.specs.declared.side.Side.{Side}
 use Rattle.fdr_twin.specs.declared.side.Side.TheVariants.{First, Second}
-use Rattle.fdr_twin.specs.Pair.{Pair, PairMoment, other_side, disk_on, image_on, faults_on, seen}
+use Rattle.fdr_twin.specs.Pair.{Pair, PairMoment, other_side, disk_on, image_on, seen}
 use Rattle.fdr_twin.specs.Sound.{IsSoundPair}
 use Rattle.fdr_twin.specs.Serving.{EachPairMoment}
 use Rattle.fdr_recorder.specs.Keeping.{RecoversPrefix}

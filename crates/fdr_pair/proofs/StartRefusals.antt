@@ -46,7 +46,8 @@ use Rattle.fdr_pair.specs.Opening.{IsRefusedByHeaders}
 pub any_work : (tells : Tells) (P : PairMoment → Type 0) (old new : Pair) → PairWork tells P old new → PairWork tells (λ m. ⊤) old new
 any_work tells P old new work = work_weaken tells P (λ m. ⊤) old new work (λ stops m is. tt)
 
-pub any_then : (tells : Tells) (old mid new : Pair) → IsSoundPair tells mid → PairWork tells (λ m. ⊤) old mid → PairWork tells (λ m. ⊤) mid new → PairWork tells (λ m. ⊤) old new
+pub any_then : (tells : Tells) (old mid new : Pair) → IsSoundPair tells mid → PairWork tells (λ m. ⊤) old mid → PairWork tells (λ m. ⊤) mid new → PairWork
+    tells (λ m. ⊤) old new
 any_then tells old mid new sound one two =
     work_then tells (λ m. ⊤) (λ m. ⊤) (λ m. ⊤) old mid new sound one two (λ stops m is. tt) (λ stops m is. tt)
 

@@ -48,7 +48,8 @@ use Rattle.fdr_pair.specs.declared.session.PairSession.{PairSession}
 use Rattle.fdr_pair.proofs.BothSides.{BothFailed-then, PairRecordsAll-then}
 use Rattle.fdr_pair.proofs.Idling.{IsIdleUntilPull}
 use Rattle.fdr_pair.proofs.Onward.{moment_more}
-use Rattle.fdr_pair.proofs.Tracing.{first_after, in_time_after, pulls_after, second_after, time_after, counts_after, first_kept_after, second_kept_after, idle_after}
+use Rattle.fdr_pair.proofs.Tracing.{first_after, in_time_after, pulls_after, second_after, time_after, counts_after, first_kept_after, second_kept_after}
+use Rattle.fdr_pair.proofs.Tracing.{idle_after}
 use Rattle.fdr_pair.proofs.KeptSides.{kept_more}
 
 -- ---- how the trace ended

@@ -73,8 +73,8 @@ AttachedNow tells h side (follower.Brought r) None old new = ⊥
 AttachedNow tells h side (follower.Brought r) (Some s) old new = HasRingStill tells side r s old new
 
 -- A moment of a side while both are attached and the next number is announced. One that had failed is left. The
--- image of one that is attached, whether it has failed or not, is what `attach` may leave of a settled disk. One that has its ring
--- already is left.
+-- image of one that is attached, whether it has failed or not, is what `attach` may leave of a settled disk. One that has its
+-- ring already is left.
 abbrev pub AttachMoment : Header → Side → Follower → Pair → PairMoment → Type 0
 AttachMoment h side follower.Failed old m = old.since old.clock m ⊎ StaysOn side old m
 AttachMoment h side follower.Level old m = OfSettled (seen side old) (IsAttaching h) (image_on side m)

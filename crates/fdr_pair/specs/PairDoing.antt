@@ -7,7 +7,6 @@
 use Rattle.std.specs.Prelude.{◌≡◌, ◌≢◌, ◌⊎◌, ◌<◌, ℕ, true, false, List, ◌++◌, Some, None, IsTrue, IsSome}
 use Rattle.fdr_io.specs.Faults.{Rose}
 use Rattle.fdr_io.specs.Told.{preceded_by}
-use Rattle.fdr_io.specs.declared.Input.TheVariants as input
 use Rattle.fdr_deck.specs.Pull.{TakesInput}
 use Rattle.fdr_bus.specs.Records.{good_prefix}
 use Rattle.fdr_recover.specs.Blocks.{Block}
@@ -30,7 +29,7 @@ use Rattle.fdr_pair.specs.SideKeeping.{HasFailedOrKeeps}
 use Rattle.fdr_pair.specs.PairWork.{LeavesLine}
 use Rattle.fdr_pair.specs.declared.outcome.PairOutcome.TheVariants as outcome
 use Rattle.fdr_load.specs.Supplies.{Supplied}
-use Rattle.fdr_pair.specs.PairMeaning.{PairGiven, PairChange, PairEffect, pair_unless, lead, base, brought, grown, pair_meaning, to_table, to_work, stay}
+use Rattle.fdr_pair.specs.PairMeaning.{PairGiven, PairChange, PairEffect, lead, base, brought, pair_meaning, to_table, to_work, stay}
 use Rattle.fdr_pair.specs.PairMeaning.{grow}
 
 -- ---- what a run was given

@@ -5,7 +5,6 @@ use Rattle.fdr_recover.specs.Blocks.{Block}
 use Rattle.fdr_recover.specs.Images.{recovered_run, next_of}
 use Rattle.fdr_ring.specs.Gates.{KeepsHeader}
 use Rattle.fdr_ring.specs.Runs.{IsTail, KeepsRun, last_blocks}
-use Rattle.fdr_twin.specs.Pair.{Pair, PairMoment}
 
 -- The block b is after the run, of which at least the last N - 2 blocks are kept, b among them.
 pub record HasPut (h : Header) (b : Block) (old new : List ℕ) : Type 0 where
@@ -21,9 +20,3 @@ AddsExactly h new old now =
 -- The block b is after the run, or there is no such block; at least the last N - 2 blocks are kept.
 abbrev pub MayPut : Header → Block → List ℕ → List ℕ → Type 0
 MayPut h b old new = KeepsRun h (h.slots - 2) old new ⊎ HasPut h b old new
-
--- A moment while the block b is put on the first side, whose header is h, and then c on the second, whose header is k: each side
--- has its block or hasn't.
-pub record IsPutting (h k : Header) (b c : Block) (old : Pair) (m : PairMoment) : Type 0 where
-  pub first : MayPut h b old.first.held m.first
-  pub second : MayPut k c old.second.held m.second

@@ -5,7 +5,6 @@
 
 mod announce;
 mod attach;
-mod both_sides;
 mod bring;
 mod compare;
 mod fault;
@@ -28,7 +27,6 @@ mod words;
 
 pub use announce::{announce_living, announce_on};
 pub use attach::go_on;
-pub use both_sides::put_both;
 pub use bring::{BringFault, bring_up};
 pub use compare::compare_sides;
 pub use fault::PairFault;

@@ -6,7 +6,8 @@ use Rattle.fdr_pair.specs.declared.open.SideHeader.{SideHeader}
 use Rattle.fdr_pair.specs.declared.outcome.PairOutcome.{PairOutcome}
 use Rattle.fdr_pair.specs.Opening.{ReadsHeader, AreLiving, OnLiving, IsHeaderOn, IsHeaderAnswer, IsOpeningRefusal, IsRefusedByHeaders, header_after}
 use Rattle.fdr_pair.specs.Opening.{common_header, opening}
-use Rattle.fdr_pair.proofs.Opening.{reads_then, then_reads, both_looked, header_shown, living_sides, living_header, second_version, not_opened, opened_by, refused_as_read}
+use Rattle.fdr_pair.proofs.Opening.{reads_then, then_reads, both_looked, header_shown, living_sides, living_header, second_version, not_opened, opened_by}
+use Rattle.fdr_pair.proofs.Opening.{refused_as_read}
 use Rattle.fdr_pair.proofs.Opening.{IsOpenedBy, if_ok, if_err}
 use Rattle.fdr_pair.proofs.open.open_sides.Given.{Over}
 use Rattle.fdr_pair.proofs.open.open_sides.Goals.{After-opening}

@@ -48,7 +48,8 @@ returns-clause-second_now g c =
 
 pub returns-clause-numbers : goal.returns-clause-numbers
 returns-clause-numbers g c =
-    counts_block _ _ _ _ _ _ _ _ _ _ _ _ (g.met.T.Twin.sound_pair c.put_unless_failed-first.new.twin) (g.met.T.Twin.sound_pair c.put_unless_failed-second.new.twin) c.put_unless_failed-first.ensures
+    counts_block _ _ _ _ _ _ _ _ _ _ _ _ (g.met.T.Twin.sound_pair c.put_unless_failed-first.new.twin)
+    (g.met.T.Twin.sound_pair c.put_unless_failed-second.new.twin) c.put_unless_failed-first.ensures
     c.put_unless_failed-second.ensures c.announce_living.ensures
 
 pub returns-clause-announced : goal.returns-clause-announced
