@@ -1,5 +1,5 @@
 -- What is kept of a pair at entry is kept of any pair with the same images, counts and numbers.
-use Rattle.std.proofs.Common.{◌≡◌, inl, inr, ⊎_elim, ℕ, List, [], None, ap, sym, ◌∙◌, subst, length, ◌+◌, arith}
+use Rattle.std.proofs.Common.{◌≡◌, inl, inr, ⊎_elim, ℕ, List, [], ◌++◌, None, ap, sym, ◌∙◌, subst, length, ◌+◌, arith}
 use Rattle.fdr_bus.specs.declared.BusRecord.{BusRecord}
 use Rattle.fdr_deck.specs.State.{Tells}
 use Rattle.fdr_recover.specs.Blocks.{Block}
@@ -12,12 +12,12 @@ use Rattle.fdr_twin.specs.declared.side.Side.{Side}
 use Rattle.fdr_twin.specs.declared.side.Side.TheVariants.{First, Second}
 use Rattle.fdr_twin.specs.Pair.{Pair, PairMoment, disk_on, image_on, other_side}
 use Rattle.fdr_pair.specs.Differ.{DifferAt}
-use Rattle.fdr_pair.specs.Brought.{brought_run, missing_blocks, leader, IsFarBehind}
+use Rattle.fdr_pair.specs.Brought.{blocks_not_below, brought_run, missing_blocks, leader, IsFarBehind}
 use Rattle.fdr_pair.specs.Alike.{AreAlike, lead_on, follower_on, lead_image, follower_image}
 use Rattle.fdr_pair.specs.SideKeeping.{KeepsRecording}
 use Rattle.fdr_pair.specs.Traces.{IsPairLagMoment}
 use Rattle.fdr_pair.specs.PairMoments.{HasFailedBy, HasPulledBytes, HasFailedBeforePull, KeepsOwnRun, KeepsBroughtRun}
-use Rattle.fdr_pair.specs.PairMoments.{KeepsRunWith, KeepsRunUntilPull}
+use Rattle.fdr_pair.specs.PairMoments.{KeepsRunWith, KeepsRunUntilPull, StaysAsAtEntry, blocks_to_get}
 use Rattle.fdr_pair.specs.PairEnds.{FollowerHoldsBrought, FollowerHoldsOwn, HasFailedSince, HoldWithLead, HoldWithoutLead, HoldsAfter, LeadHolds}
 
 -- Two pairs hold the same images, have the same counts of faults, and are at the same time with the same numbers of bytes pulled.
@@ -100,11 +100,33 @@ module _ (a b : Pair) (same : IsSameEntry a b) where
         (subst (λ (i : List ℕ). IsFarBehind (header_in (lead_image b)) (lead_image b) i) follower_image_same far));
   }
 
-  -- the other side keeps the run that it had, with some blocks
-  run_with_same : (added : List Block) (m : PairMoment) → KeepsRunWith added a m → KeepsRunWith added b m
-  run_with_same added m is = at_follower (λ (s : Side). KeepsRecording (header_in (follower_image b)) (follower_image b) (run_in (follower_image b))
-      (next_in (follower_image b)) added 0 (image_on s m))
-      (subst (λ (i : List ℕ). KeepsRecording (header_in i) i (run_in i) (next_in i) added 0 (image_on (follower_on a) m)) (sym follower_image_same) is)
+  -- a side keeps the run that it had, with some blocks
+  pub run_with_same : (s : Side) (added : List Block) (m : PairMoment) → KeepsRunWith s added a m → KeepsRunWith s added b m
+  run_with_same s added m is =
+      subst (λ (i : List ℕ). KeepsRecording (header_in i) i (run_in i) (next_in i) added 0 (image_on s m)) (sym (held_same s)) is
+
+  -- what a side is to get
+  get_same : (base s : Side) (t : TableRows) (records : List BusRecord) → blocks_to_get base s t records b ≡ blocks_to_get base s t records a
+  get_same base s t records =
+      ap (λ (i : List ℕ). blocks_not_below (next_in i) (run_in (disk_on base b).held) ++ new_blocks t (disk_on base b).held records) (held_same s)
+      ∙ ap (λ (i : List ℕ). blocks_not_below (next_in (disk_on s a).held) (run_in i) ++ new_blocks t i records) (held_same base)
+
+  pub first_same : (base s : Side) (t : TableRows) (records : List BusRecord) (m : PairMoment)
+      → KeepsRunWith s (blocks_to_get base s t records a) a m → KeepsRunWith s (blocks_to_get base s t records b) b m
+  first_same base s t records m is = subst (λ (l : List Block). KeepsRunWith s l b m) (sym (get_same base s t records))
+      (run_with_same s (blocks_to_get base s t records a) m is)
+
+  -- a side that stays as it was
+  pub stays_same : (s : Side) (m : PairMoment) → StaysAsAtEntry s a m → StaysAsAtEntry s b m
+  stays_same s m is = is ∙ sym (held_same s)
+
+  -- an image with a fault
+  pub fault_same : (s : Side) → (image_fault_of (disk_on s b).held ≡ None → ⊥) → image_fault_of (disk_on s a).held ≡ None → ⊥
+  fault_same s some none = some (subst (λ (i : List ℕ). image_fault_of i ≡ None) (sym (held_same s)) none)
+
+  -- an image without a fault
+  pub no_fault_same : (s : Side) → image_fault_of (disk_on s b).held ≡ None → image_fault_of (disk_on s a).held ≡ None
+  no_fault_same s none = subst (λ (i : List ℕ). image_fault_of i ≡ None) (held_same s) none
 
   -- the blocks that the other side's brought run adds
   missing_same : missing_blocks (header_in (lead_image b)) (lead_image b) (follower_image b)
@@ -114,13 +136,14 @@ module _ (a b : Pair) (same : IsSameEntry a b) where
 
   -- the other side keeps its run until bytes are pulled
   pub until_same : (words : ℕ) (m : PairMoment) → KeepsRunUntilPull words a m → KeepsRunUntilPull words b m
-  until_same words m is = ⊎_elim (λ rose. inl (at_follower (λ (s : Side). HasFailedBy s b m) (failed_same (follower_on a) m rose)))
-      (λ keeps. inr (⊎_elim (λ none. inl (run_with_same [] m none))
+  until_same words m is = ⊎_elim
+      (λ none. inl (at_follower (λ (s : Side). KeepsRunWith s [] b m) (run_with_same (follower_on a) [] m none)))
       (λ brought. inr (
         alike_same words brought.0,
-        subst (λ (l : List Block). KeepsRunWith l b m) (sym missing_same) (run_with_same
-            (missing_blocks (header_in (lead_image a)) (lead_image a) (follower_image a)) m brought.1),
-      )) keeps)) is
+        subst (λ (l : List Block). KeepsRunWith (follower_on b) l b m) (sym missing_same)
+            (at_follower (λ (s : Side). KeepsRunWith s (missing_blocks (header_in (lead_image a)) (lead_image a) (follower_image a)) b m)
+            (run_with_same (follower_on a) (missing_blocks (header_in (lead_image a)) (lead_image a) (follower_image a)) m brought.1)),
+      )) is
 
   -- the other side keeps its brought run
   pub brought_same : (t : TableRows) (records : List BusRecord) (m : PairMoment) → KeepsBroughtRun t records a m → KeepsBroughtRun t records b m
@@ -140,27 +163,41 @@ module _ (a b : Pair) (same : IsSameEntry a b) where
         (λ late. inr (subst (λ (n : ℕ). IsInTime owed n pulled m.announced m.pulled_before m.taken) (sym same.taken) late)) is.pulled;
   }
 
+  -- a side holds the blocks, by the count of faults that it had
+  holds_same : (tells : Tells) (s : Side) (h : _) (run : List Block) (next : ℕ) (blocks : List Block) (new : Pair)
+      → HoldsAfter tells s h run next blocks a new → HoldsAfter tells s h run next blocks b new
+  holds_same tells s h run next blocks new is = record {
+    faults = is.faults ∙ sym (faults_same s);
+    header = is.header;
+    last = is.last;
+    number = is.number;
+    settled = is.settled;
+  }
+
   -- the lead's side holds the blocks
-  lead_holds_same : (tells : Tells) (blocks : List Block) (new : Pair) → LeadHolds tells blocks a new → LeadHolds tells blocks b new
+  pub lead_holds_same : (tells : Tells) (blocks : List Block) (new : Pair) → LeadHolds tells blocks a new → LeadHolds tells blocks b new
   lead_holds_same tells blocks new is =
-      at_lead (λ (s : Side). HoldsAfter tells s (header_in (lead_image b)) (run_in (lead_image b)) (next_in (lead_image b)) blocks new)
-      (subst (λ (i : List ℕ). HoldsAfter tells (lead_on a) (header_in i) (run_in i) (next_in i) blocks new) (sym lead_image_same) is)
+      at_lead (λ (s : Side). HoldsAfter tells s (header_in (lead_image b)) (run_in (lead_image b)) (next_in (lead_image b)) blocks b new)
+      (subst (λ (i : List ℕ). HoldsAfter tells (lead_on a) (header_in i) (run_in i) (next_in i) blocks b new) (sym lead_image_same)
+      (holds_same tells (lead_on a) (header_in (lead_image a)) (run_in (lead_image a)) (next_in (lead_image a)) blocks new is))
 
   -- the other side holds its brought run and the blocks
   brought_holds_same : (tells : Tells) (blocks : List Block) (new : Pair)
       → FollowerHoldsBrought tells blocks a new → FollowerHoldsBrought tells blocks b new
   brought_holds_same tells blocks new is = at_follower (λ (s : Side). HoldsAfter tells s (header_in (lead_image b))
-      (brought_run (header_in (lead_image b)) (lead_image b) (follower_image b)) (next_in (lead_image b)) blocks new)
+      (brought_run (header_in (lead_image b)) (lead_image b) (follower_image b)) (next_in (lead_image b)) blocks b new)
       (subst (λ (f : List ℕ). HoldsAfter tells (follower_on a) (header_in (lead_image b)) (brought_run (header_in (lead_image b)) (lead_image b) f)
-      (next_in (lead_image b)) blocks new) (sym follower_image_same)
-      (subst (λ (l : List ℕ). HoldsAfter tells (follower_on a) (header_in l) (brought_run (header_in l) l (follower_image a)) (next_in l) blocks new)
-      (sym lead_image_same) is))
+      (next_in (lead_image b)) blocks b new) (sym follower_image_same)
+      (subst (λ (l : List ℕ). HoldsAfter tells (follower_on a) (header_in l) (brought_run (header_in l) l (follower_image a)) (next_in l) blocks b new)
+      (sym lead_image_same) (holds_same tells (follower_on a) (header_in (lead_image a))
+      (brought_run (header_in (lead_image a)) (lead_image a) (follower_image a)) (next_in (lead_image a)) blocks new is)))
 
   -- the other side holds its own run and the blocks
   own_holds_same : (tells : Tells) (blocks : List Block) (new : Pair) → FollowerHoldsOwn tells blocks a new → FollowerHoldsOwn tells blocks b new
   own_holds_same tells blocks new is = at_follower (λ (s : Side). HoldsAfter tells s (header_in (follower_image b)) (run_in (follower_image b))
-      (next_in (follower_image b)) blocks new)
-      (subst (λ (i : List ℕ). HoldsAfter tells (follower_on a) (header_in i) (run_in i) (next_in i) blocks new) (sym follower_image_same) is)
+      (next_in (follower_image b)) blocks b new)
+      (subst (λ (i : List ℕ). HoldsAfter tells (follower_on a) (header_in i) (run_in i) (next_in i) blocks b new) (sym follower_image_same)
+      (holds_same tells (follower_on a) (header_in (follower_image a)) (run_in (follower_image a)) (next_in (follower_image a)) blocks new is))
 
   -- a side that has failed
   failed_since_same : (s : Side) (new : Pair) → HasFailedSince s a new → HasFailedSince s b new
