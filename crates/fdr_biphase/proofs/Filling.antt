@@ -44,7 +44,8 @@ pub put_at_front : (room part laid : List ℕ) (i n : ℕ) → length part ≡ n
 put_at_front room part laid i n long within is =
     let all : length (take i room ++ part) ≡ i + n = omega (arith, length-append (take i room) part, length-take i room) in
     sym (ap (λ (ys : List ℕ). take (i + n) (take i room ++ (ys ++ post_of i (length room - i) room))) is
-    ∙ ap (take (i + n)) (ap (λ (ys : List ℕ). take i room ++ ys) (append_assoc part (drop n (take (length room - i) (drop i room))) (post_of i (length room - i) room))
+    ∙ ap (take (i + n)) (ap (λ (ys : List ℕ). take i room ++ ys)
+    (append_assoc part (drop n (take (length room - i) (drop i room))) (post_of i (length room - i) room))
     ∙ sym (append_assoc (take i room) part _))
     ∙ ap (λ (k : ℕ). take k ((take i room ++ part) ++ (drop n (take (length room - i) (drop i room)) ++ post_of i (length room - i) room))) (sym all)
     ∙ take-append_seam (take i room ++ part) _)

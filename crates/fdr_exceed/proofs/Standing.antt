@@ -76,7 +76,8 @@ pub record TakesInput (w next : WatchKept) (steps : List WatchStep) (taken : ℕ
 
 takes_by : (w next : WatchKept) (steps : List WatchStep) (taken : ℕ) (due : List Exceedance) → RepresentsWatch w steps taken → w.due ≡ due
     → next.rules ≡ w.rules
-    → next.hits ≡ w.hits → next.windows ≡ w.windows → next.sources ≡ w.sources → next.due ≡ drop 1 due → TakesInput w next steps taken (option_map (line_due w.rules) (slice_get due 0))
+    → next.hits ≡ w.hits → next.windows ≡ w.windows → next.sources ≡ w.sources → next.due ≡ drop 1 due
+    → TakesInput w next steps taken (option_map (line_due w.rules) (slice_get due 0))
 takes_by w next steps taken [] stands due_is rules hits windows sources left =
     let lines = exceedances w.rules steps in
     let nothing : drop taken lines ≡ [] = sym stands.due ∙ ap (map (line_due w.rules)) due_is in

@@ -262,7 +262,8 @@ row-ends rule r old ended rows same ends at =
     ends at ∙ sym (cond-true _ (ended_before rule rows r) None (own_param r.param rule.param same))
 
 -- the rows of a rule with one of its parameter
-pub rows-own : (rule : Rule) (steps : List WatchStep) (r : Row) → rule.param ≡ r.param → rows_since rule (steps ++ RowStep r ∷ []) ≡ rows_since rule steps ++ r ∷ []
+pub rows-own : (rule : Rule) (steps : List WatchStep) (r : Row) → rule.param ≡ r.param
+    → rows_since rule (steps ++ RowStep r ∷ []) ≡ rows_since rule steps ++ r ∷ []
 rows-own rule steps r same =
     rows_since-push rule steps (RowStep r) ∙ cond-true _ (rows_since rule steps ++ r ∷ []) (rows_since rule steps) (own_param r.param rule.param same)
 

@@ -60,13 +60,13 @@ loop-i-preserved c =
       here = λ more. next.here more ∙ own;
       given = λ steps windows are.
           let rows = rows_since (rule_at rules i) steps in
-          let compares = compared-own rules c.args.sources.now c.args.windows.now steps r i c.compared-x.result window first _ windows within own first_is window_is
-          value c.compared-x.ensures in
+          let compares = compared-own rules c.args.sources.now c.args.windows.now steps r i c.compared-x.result window first _ windows within own
+          first_is window_is value c.compared-x.ensures in
           let at_rule : c.compared-x.result ≡ compared rule.kind rule.count (values_of (rows ++ r ∷ [])) =
           compares ∙ ap (λ (q : Rule). compared q.kind q.count (values_of (rows ++ r ∷ []))) (sym rule_is) in
           others-given rules steps r (i + 1) m (set hits i new) c.add.new.due.items (rule_at rules i).param
-          (given-on rules steps (RowStep r) i hits c.loop-i.due.items c.add.new.due.items rule old new c.row-ended.result (inv.given steps windows are) within count
-          rule_is refl (row-goes rule r old new rows same (c.row-ended.ensures.hits rows at_rule))
+          (given-on rules steps (RowStep r) i hits c.loop-i.due.items c.add.new.due.items rule old new c.row-ended.result (inv.given steps windows are) within
+          count rule_is refl (row-goes rule r old new rows same (c.row-ended.ensures.hits rows at_rule))
           (row-ends rule r old c.row-ended.result rows same (c.row-ended.ensures.ended rows at_rule))
           c.add.ensures.items)
           next own;

@@ -15,7 +15,8 @@ loop-i-preserved c =
           (λ before. get_or-set_other now i j w None (omega arith) ∙ c.loop-i.invariant.done j before)
           (λ here. let same : j ≡ i = omega arith in
           ap (window_at (set now i w)) same ∙ get_or-set_same now i w None (omega (arith, within, c.loop-i.auto.windows)) ∙ c.clear_window.ensures
-          ∙ ap cleared (sym c.index-windows-i.is ∙ read-at now i c.index-windows-i.result None (omega (arith, within, c.loop-i.auto.windows)) c.index-windows-i.is
+          ∙ ap cleared (sym c.index-windows-i.is
+          ∙ read-at now i c.index-windows-i.result None (omega (arith, within, c.loop-i.auto.windows)) c.index-windows-i.is
           ∙ c.loop-i.invariant.rest i (omega arith)) ∙ ap (λ k. cleared (window_at c.args.windows.now k)) (sym same))
           (cases_lt j i);
       rest = λ j low. get_or-set_other now i j w None (omega arith) ∙ c.loop-i.invariant.rest j (omega arith);

@@ -16,7 +16,11 @@ word-requires c =
     let came = c.requires.reads.0 in
     let reads = c.requires.reads.2 in
     let some = c.in-Some.ensures.cases in
-    record { limit = omega (arith, reads.decodes.count, length-bits came, c.requires.reads.3, some.2, length-drop c.args.at c.args.levels.now, length-take (length c.args.levels.now - c.args.at) (drop c.args.at c.args.levels.now)) }
+    let rest = drop c.args.at c.args.levels.now in
+    let long = length-take (length c.args.levels.now - c.args.at) rest in
+    record {
+      limit = omega (arith, reads.decodes.count, length-bits came, c.requires.reads.3, some.2, length-drop c.args.at c.args.levels.now, long);
+    }
 
 pub returns-clause-stands : goal.returns-clause-stands
 returns-clause-stands c = λ came bytes st _.

@@ -22,7 +22,8 @@ pub returns-in_err-exceedance-clause-line : goal.returns-in_err-exceedance-claus
 returns-in_err-exceedance-clause-line c steps taken stands =
     let kept = watch_kept c.self.inside in
     let before = subst (λ (w : WatchKept). RepresentsWatch w steps taken) (sym c.self.view_is) stands in
-    let next : WatchKept = record { rules = kept.rules; hits = kept.hits; windows = kept.windows; sources = kept.sources; due = c.pop_front.new.self.items; rows = kept.rows } in
+    let due = c.pop_front.new.self.items in
+    let next : WatchKept = record { rules = kept.rules; hits = kept.hits; windows = kept.windows; sources = kept.sources; due = due; rows = kept.rows } in
     let takes = stands-take kept next steps taken before refl refl refl refl (ap (λ (b : Buffer Exceedance). b.items) c.pop_front.ensures.items) in
     let none : slice_get kept.due 0 ≡ None = sym c.pop_front.ensures.value ∙ c.in_err-exceedance.was in
     c.from_residual.ensures ∙ sym (ap (option_map (line_due kept.rules)) none) ∙ takes.here
@@ -32,7 +33,8 @@ pub returns-in_err-exceedance-clause-stands : goal.returns-in_err-exceedance-cla
 returns-in_err-exceedance-clause-stands c steps taken stands =
     let kept = watch_kept c.self.inside in
     let before = subst (λ (w : WatchKept). RepresentsWatch w steps taken) (sym c.self.view_is) stands in
-    let next : WatchKept = record { rules = kept.rules; hits = kept.hits; windows = kept.windows; sources = kept.sources; due = c.pop_front.new.self.items; rows = kept.rows } in
+    let due = c.pop_front.new.self.items in
+    let next : WatchKept = record { rules = kept.rules; hits = kept.hits; windows = kept.windows; sources = kept.sources; due = due; rows = kept.rows } in
     let takes = stands-take kept next steps taken before refl refl refl refl (ap (λ (b : Buffer Exceedance). b.items) c.pop_front.ensures.items) in
     let none : slice_get kept.due 0 ≡ None = sym c.pop_front.ensures.value ∙ c.in_err-exceedance.was in
     subst (λ (o : Option (List ℕ)). RepresentsWatch next steps (taken + length (option_to_list o)))
@@ -83,7 +85,8 @@ pub returns-clause-line : goal.returns-clause-line
 returns-clause-line c steps taken stands =
     let kept = watch_kept c.self.inside in
     let before = subst (λ (w : WatchKept). RepresentsWatch w steps taken) (sym c.self.view_is) stands in
-    let next : WatchKept = record { rules = kept.rules; hits = kept.hits; windows = kept.windows; sources = kept.sources; due = c.pop_front.new.self.items; rows = kept.rows } in
+    let due = c.pop_front.new.self.items in
+    let next : WatchKept = record { rules = kept.rules; hits = kept.hits; windows = kept.windows; sources = kept.sources; due = due; rows = kept.rows } in
     let takes = stands-take kept next steps taken before refl refl refl refl (ap (λ (b : Buffer Exceedance). b.items) c.pop_front.ensures.items) in
     let e = c.in_ok-exceedance.exceedance in
     let first : slice_get kept.due 0 ≡ Some e = sym c.pop_front.ensures.value ∙ c.in_ok-exceedance.was in
@@ -96,7 +99,8 @@ pub returns-clause-stands : goal.returns-clause-stands
 returns-clause-stands c steps taken stands =
     let kept = watch_kept c.self.inside in
     let before = subst (λ (w : WatchKept). RepresentsWatch w steps taken) (sym c.self.view_is) stands in
-    let next : WatchKept = record { rules = kept.rules; hits = kept.hits; windows = kept.windows; sources = kept.sources; due = c.pop_front.new.self.items; rows = kept.rows } in
+    let due = c.pop_front.new.self.items in
+    let next : WatchKept = record { rules = kept.rules; hits = kept.hits; windows = kept.windows; sources = kept.sources; due = due; rows = kept.rows } in
     let takes = stands-take kept next steps taken before refl refl refl refl (ap (λ (b : Buffer Exceedance). b.items) c.pop_front.ensures.items) in
     let e = c.in_ok-exceedance.exceedance in
     let first : slice_get kept.due 0 ≡ Some e = sym c.pop_front.ensures.value ∙ c.in_ok-exceedance.was in
