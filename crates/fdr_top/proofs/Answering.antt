@@ -30,10 +30,8 @@ use Rattle.fdr_io.specs.Limits.{piece_bytes}
 use Rattle.fdr_pieces.specs.Pieces.{LeavesStops}
 use Rattle.fdr_pieces.specs.Limits.{most_input_bytes}
 use Rattle.fdr_top.specs.InputTexts.{WritesOfInput}
-use Rattle.fdr_top.specs.Recover.{Recovers, RecoversImage}
 use Rattle.fdr_top.specs.Stream.{Streams, StreamsTrace, WritesStreamPart}
 use Rattle.fdr_top.proofs.Commands.{last_pulled, own_begun, rules_pulled, rules_read, rules_unrecorded}
-use Rattle.fdr_top.proofs.Images.{refusal_answered, small_answered}
 use Rattle.fdr_top.proofs.TableAnswers.{past_not_memory}
 use Rattle.fdr_top.proofs.TraceAnswers.{fault_answered, told_fault, told_stream}
 
@@ -100,25 +98,6 @@ streams_line path t tells old new before now answer range sound streams of part 
   exchanged = λ others x. stream_of-exchanged t (good_prefix old.input) others x;
   refused = λ index why e told. told_fault t tells old new before now answer index why streams e told;
   refused_always = λ index why told first. fault_answered path t tells old new before now answer index why streams of told first;
-}
-
-pub recovers_image : (path : List ℕ) (tells : Tells) (old new : State) (before now : Option (List ℕ)) (answer : Outcome)
-    → Recovers tells old new before now answer → (answer ≡ outcome.NoMemory) ⊎ IsOwn (recover_image path) answer → RecoversImage tells old new before now answer
-recovers_image path tells old new before now answer recovers of = record {
-  looks = recovers.looks;
-  all = recovers.all;
-  part = recovers.part;
-  begun = recovers.begun;
-  good = λ done told. recovers.good
-      (λ e. let c : outcome.Done ≡ outcome.DiskFault = sym done ∙ e in cc)
-      (λ why e. let c : outcome.Done ≡ outcome.ImageRefused why = sym done ∙ e in cc) told;
-  header = record {
-    refused = recovers.refused;
-    small = recovers.small;
-    small_always = λ past short. small_answered path tells old new before now answer of recovers (past_not_memory answer past) short;
-    refused_always = λ why past told first.
-        refusal_answered path tells old new before now answer why of recovers (past_not_memory answer past) told first;
-  };
 }
 
 -- where a command that was begun writes nothing, memory ended before anything was written
@@ -259,24 +238,6 @@ making_done path image slots payload h tells old new answer of makes told none q
     (λ (failed : answer ≡ outcome.DiskFault). absurd (quiet (makes.cause failed)))
     rest)
     (making_cases path image slots payload answer of)
-
--- what the disk holds is an image, and nothing fails: its run is written, or memory ended
-pub recovery_done : (path : List ℕ) (tells : Tells) (old new : State) (before now : Option (List ℕ)) (answer : Outcome)
-    → (answer ≡ outcome.NoMemory) ⊎ IsOwn (recover_image path) answer
-    → RecoversImage tells old new before now answer → IsTrue tells.bytes → image_fault_of old.held ≡ None
-    → (answer ≡ outcome.DiskFault → ⊥) → (answer ≡ outcome.WriteFault → ⊥)
-    → (answer ≡ outcome.Done) ⊎ (answer ≡ outcome.NoMemory)
-recovery_done path tells old new before now outcome.Done of recovers told none disk sink = inl refl
-recovery_done path tells old new before now (outcome.ImageRefused why) of recovers told none disk sink =
-    absurd (let c : ◌≡◌ {A = Option ImageFault} None (Some why) = sym none ∙ recovers.header.refused why refl told in cc)
-recovery_done path tells old new before now outcome.WriteFault of recovers told none disk sink = absurd (sink refl)
-recovery_done path tells old new before now outcome.DiskFault of recovers told none disk sink = absurd (disk refl)
-recovery_done path tells old new before now outcome.NoMemory of recovers told none disk sink = inr refl
-recovery_done path tells old new before now (outcome.ReadFault input.Table) of recovers told none disk sink =
-    ⊎_elim (λ memory. absurd (cc)) (λ own. absurd own) of
-recovery_done path tells old new before now (outcome.ReadFault input.Line) of recovers told none disk sink =
-    ⊎_elim (λ memory. absurd (cc)) (λ own. absurd own) of
-recovery_done path tells old new before now answer of recovers told none disk sink = ⊎_elim (λ memory. inr memory) (λ own. absurd own) of
 
 -- the faults of a command that it may answer were counted
 pub has_cause : (form : Form) (r : WorkRun) → (r.answer ≡ outcome.NoMemory) ⊎ IsOwn form r.answer

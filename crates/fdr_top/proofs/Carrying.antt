@@ -30,7 +30,8 @@ use Rattle.fdr_top.specs.Check.{Reports}
 use Rattle.fdr_top.proofs.Answering.{has_cause, report_done}
 use Rattle.fdr_top.proofs.Commands.{memory_may, memory_past, own_begun, own_not_table, table_may}
 use Rattle.fdr_top.proofs.Drilled.{drills_nothing}
-use Rattle.fdr_top.proofs.Images.{recovers_nothing}
+use Rattle.fdr_top.proofs.Images.{OnlyLooks-here}
+use Rattle.fdr_top.proofs.RecoveredImages.{recovers_nothing}
 use Rattle.fdr_top.proofs.ItsTable.{accepted_left, by_table, read_accepted}
 use Rattle.fdr_top.proofs.ListedImages.{lists_nothing}
 use Rattle.fdr_top.proofs.Making.{makes_nothing, table_or, table_told}
@@ -266,7 +267,7 @@ table_refused form r tells d written s answer same sound reads of table bounded 
 -- where memory ends before a command begins, nothing is done
 nothing_carried : (form : Form) (r : CommandRun) (tells : Tells) (d : State) (written : Option (List ℕ)) (s : ℕ)
     → r.work ≡ idle tells d written s outcome.NoMemory → IsSoundDeck tells d → CarriesOut form r
-nothing_carried (recover_image image) r tells d written s same sound = rw same (λ t. recovers_nothing tells d written sound)
+nothing_carried (recover_image image) r tells d written s same sound = rw same (λ t. recovers_nothing image _ refl refl (OnlyLooks-here tells d sound))
 nothing_carried (upgrade_image image) r tells d written s same sound = rw same (λ t. upgrades_nothing tells d sound)
 nothing_carried encode_bytes r tells d written s same sound = rw same (λ t past. absurd past)
 nothing_carried decode_levels r tells d written s same sound = rw same (λ t past. absurd past)

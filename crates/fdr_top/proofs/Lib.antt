@@ -15,6 +15,10 @@ pub mod Answering
 pub mod RecordingEnds
 pub mod RecordLines
 pub mod Upgrades
+pub mod MeaningWords
+pub mod MeaningLeft
+pub mod MeaningImages
+pub mod RecoveredImages
 pub mod OneRun
 pub mod Readable
 pub mod InputTexts
@@ -35,11 +39,8 @@ pub mod WatchLines
 pub mod Exceeds
 pub mod ExceededImages
 pub mod Carrying
-pub mod MeaningWords
-pub mod MeaningLeft
 pub mod MeaningInputs
 pub mod MeaningByTable
-pub mod MeaningImages
 pub mod MeaningBits
 pub mod MeaningTraces
 pub mod MeaningRecordings

@@ -1,5 +1,5 @@
 -- What commands mean by their image.
-use Rattle.std.proofs.Common.{◌≡◌, ◌≢◌, ◌⊎◌, ⊎_elim, inl, inr, ℕ, List, [], Option, Some, None, refl, sym, ap, ◌∙◌, subst, eq-eqb, ne_eqb}
+use Rattle.std.proofs.Common.{◌≡◌, ◌≢◌, ◌⊎◌, ⊎_elim, inl, inr, ℕ, List, [], Option, Some, None, refl, sym, ap, ◌∙◌, subst, eq-eqb, ne_eqb, IsTrue}
 use Rattle.std.proofs.lemmas.Bool.{cases_eq}
 use Rattle.fdr_io.specs.Faults.{Rose}
 use Rattle.fdr_io.specs.Told.{followed_by}
@@ -9,7 +9,10 @@ use Rattle.fdr_table.specs.Rows.{TableRows}
 use Rattle.fdr_words.specs.Forms.{Form}
 use Rattle.fdr_top.specs.Answers.{HasImage, WritesText}
 use Rattle.fdr_top.specs.InputTexts.{WritesFront}
-use Rattle.fdr_top.specs.Runs.{CommandRun}
+use Rattle.fdr_top.specs.Complete.{IsFaultlessWork}
+use Rattle.fdr_top.specs.Recover.{OnlyLooks}
+use Rattle.fdr_top.specs.Runs.{CommandRun, WorkRun}
+use Rattle.fdr_deck.specs.State.{State, Tells}
 use Rattle.fdr_top.specs.Stages.{WritesNothing}
 use Rattle.fdr_top.specs.declared.outcome.Outcome.{Outcome}
 use Rattle.fdr_top.specs.declared.outcome.Outcome.TheVariants as outcome
@@ -71,6 +74,18 @@ image_or t image work = ⊎_elim
     (cases_eq (header_in image).words t.frame.words))
     (λ some. inr (record { why = outcome.ImageRefused some.0; is = image_refuses t image work some.0 some.1; nothing = tt }))
     (none_or (image_fault_of image))
+
+-- what only looked at the disk leaves the image
+pub looked : (tells : Tells) (old new : State) → IsTrue tells.bytes → OnlyLooks tells old new → Becomes stays tells old new
+looked tells old new told looks = (looks.disk, looks.learns.bytes told, looks.disk_work.passes.announced.announced)
+
+-- what is meant to be answered is, unless something failed, or memory ended
+pub done_or_memory : (form : Form) (e : Effect) (r : WorkRun) → Refines form e r → IsFaultlessWork form r
+    → (r.answer ≡ e.answer) ⊎ (r.answer ≡ outcome.NoMemory)
+done_or_memory form e r (inl all) quiet = inl all.answer
+done_or_memory form e r (inr (inl cut)) quiet = absurd (quiet.sink cut.0 cut.1.cause)
+done_or_memory form e r (inr (inr (inl cut))) quiet = absurd (quiet.disk cut.0 cut.1.cause)
+done_or_memory form e r (inr (inr (inr none))) quiet = inr none.answer
 
 -- ---- a command that lists an image
 

@@ -10,80 +10,32 @@ use Rattle.fdr_words.specs.Forms.{recover_image, list_image, upgrade_image}
 use Rattle.fdr_top.specs.Answers.{IsOwn, MayAnswer}
 use Rattle.fdr_top.specs.Commands.{DoesWork, RunsCommand}
 use Rattle.fdr_top.specs.List.{ListsImage, listing_in}
-use Rattle.fdr_top.specs.Recover.{OnlyLooks, RecoversImage}
 use Rattle.fdr_top.specs.Runs.{CommandRun}
 use Rattle.fdr_top.specs.Stages.{IsPastTable}
 use Rattle.fdr_top.specs.Upgrade.{UpgradesImage}
 use Rattle.fdr_top.specs.declared.outcome.Outcome.{Outcome}
 use Rattle.fdr_top.specs.declared.outcome.Outcome.TheVariants as outcome
+use Rattle.fdr_top.specs.Meaning.{Given, with_all}
 use Rattle.fdr_top.specs.Meaning.{Effect, answers, at_start, changes, raised, stays, writes}
 use Rattle.fdr_top.specs.Doing.{Becomes, IsTold, Refines}
 use Rattle.fdr_top.proofs.MeaningWords.{Core, by_header, by_image}
 use Rattle.fdr_top.proofs.MeaningLeft.{no_memory, refused, wrote_nothing, front_nothing}
 use Rattle.fdr_top.proofs.MeaningByTable.{means_unpulled, nothing}
 use Rattle.fdr_top.proofs.MeaningImages.{IsImageRefusal, header_or, header_reads, none_left, header_refuses, image_or, image_reads, image_refuses}
-use Rattle.fdr_top.proofs.MeaningImages.{words_refuse, read_all, read_cut, read_failed}
-
--- what only looked at the disk leaves the image
-pub looked : (tells : Tells) (old new : State) → IsTrue tells.bytes → OnlyLooks tells old new → Becomes stays tells old new
-looked tells old new told looks = (looks.disk, looks.learns.bytes told, looks.disk_work.passes.announced.announced)
+use Rattle.fdr_top.proofs.MeaningImages.{looked, words_refuse, read_all, read_cut, read_failed}
 
 -- ---- recover
 
-module _ (path : List ℕ) (r : CommandRun) (told : IsTold (recover_image path) r) (runs : RunsCommand (recover_image path) r) where
-  module _ (does : RecoversImage r.work.tells r.work.old r.work.new r.work.written_before r.work.written_now r.work.answer) where
-    -- a header that isn't refused, where the output failed
-    recover_header : r.work.answer ≡ outcome.WriteFault → image_fault_of r.work.old.held ≡ None
-    recover_header e = none_left (image_fault_of r.work.old.held) (λ why is. ⊎_elim
-        (λ f. let c : outcome.WriteFault ≡ outcome.ImageRefused why = sym e ∙ f in cc)
-        (λ f. let c : outcome.WriteFault ≡ outcome.DiskFault = sym e ∙ f in cc)
-        (does.header.refused_always why (subst IsPastTable (sym e) tt) (told.image tt) is))
-
-    recover_refines : (a : Outcome) → r.work.answer ≡ a → IsOwn (recover_image path) a
-        → Refines (recover_image path) (by_header r.work.old.held (writes (payloads_of (run_in r.work.old.held)) outcome.Done)) r.work
-    recover_refines outcome.Done e own = read_all (recover_image path) r
-        (by_header r.work.old.held (writes (payloads_of (run_in r.work.old.held)) outcome.Done))
-        (payloads_of (run_in r.work.old.held)) (looked r.work.tells r.work.old r.work.new (told.image tt) does.looks)
-        (header_reads r.work.old.held (writes (payloads_of (run_in r.work.old.held)) outcome.Done) (does.good e (told.image tt)))
-        e (does.all e (told.image tt))
-    recover_refines outcome.WriteFault e own = read_cut (recover_image path) r
-        (by_header r.work.old.held (writes (payloads_of (run_in r.work.old.held)) outcome.Done))
-        (payloads_of (run_in r.work.old.held)) (looked r.work.tells r.work.old r.work.new (told.image tt) does.looks)
-        tt (header_reads r.work.old.held (writes (payloads_of (run_in r.work.old.held)) outcome.Done) (recover_header e))
-        e (runs.causes.write e) (does.part (told.image tt))
-    recover_refines outcome.DiskFault e own = read_failed (recover_image path) r
-        (by_header r.work.old.held (writes (payloads_of (run_in r.work.old.held)) outcome.Done))
-        (payloads_of (run_in r.work.old.held)) (looked r.work.tells r.work.old r.work.new (told.image tt) does.looks)
-        tt (header_or r.work.old.held (writes (payloads_of (run_in r.work.old.held)) outcome.Done))
-        e (runs.causes.disk e) (does.part (told.image tt))
-        (⊎_elim (λ quiet. inl quiet) (λ good. inr (header_reads r.work.old.held (writes (payloads_of (run_in r.work.old.held)) outcome.Done)
-        (good (told.image tt))))
-        does.begun)
-    recover_refines (outcome.ImageRefused why) e own = refused (recover_image path) r
-        (by_header r.work.old.held (writes (payloads_of (run_in r.work.old.held)) outcome.Done)) (outcome.ImageRefused why) told runs e tt at_start
-        (header_refuses r.work.old.held (writes (payloads_of (run_in r.work.old.held)) outcome.Done) why
-        (does.header.refused why e (told.image tt)))
-    recover_refines (outcome.ReadFault input.Line) e own = absurd own
-    recover_refines a e own = absurd own
-
-  recover_at : (a : Outcome) → r.work.answer ≡ a → MayAnswer (recover_image path) a
-      → Refines (recover_image path) (by_header r.work.old.held (writes (payloads_of (run_in r.work.old.held)) outcome.Done)) r.work
-  recover_at outcome.NoMemory e may = no_memory (recover_image path) r
-      (by_header r.work.old.held (writes (payloads_of (run_in r.work.old.held)) outcome.Done)) runs told e
-  recover_at outcome.Usage e may = absurd may
-  recover_at (outcome.TableRefused row f) e may = absurd (cc)
-  recover_at (outcome.ReadFault input.Table) e may = absurd (cc)
-  recover_at (outcome.ReadFault input.Line) e may = absurd may
-  recover_at a e may = recover_refines (runs.carries_out (table_in [])) a e may
-
-  pub means_recover : Core (recover_image path) r
-  means_recover = record {
-    g = record { table = nothing; input = nothing; image = r.work.old.held };
-    given = record { table = λ no. absurd (cc); input = λ no. absurd no; image = λ yes. refl };
-    pulled = tt;
-    does = recover_at r.work.answer refl runs.answers;
-    all = λ line uncut disk. recover_at r.work.answer refl runs.answers;
-  }
+pub means_recover : (path : List ℕ) (r : CommandRun) → IsTold (recover_image path) r → RunsCommand (recover_image path) r → Core (recover_image path) r
+means_recover path r told runs =
+    let means = (runs.carries_out (table_in [])).means (told.image tt) in
+    let g : Given = record { table = nothing; input = nothing; image = r.work.old.held } in record {
+      g = g;
+      given = record { table = λ no. absurd (cc); input = λ no. absurd no; image = λ yes. refl };
+      pulled = tt;
+      does = means g refl;
+      all = λ line uncut disk. means (with_all r.work.old.input g) refl;
+    }
 
 -- ---- upgrade
 

@@ -21,7 +21,7 @@ use Rattle.fdr_top.proofs.MeaningWords.{Core, by_ring, on_empty}
 use Rattle.fdr_top.proofs.MeaningLeft.{refused, wrote_nothing, front_nothing}
 use Rattle.fdr_top.proofs.MeaningByTable.{means_unpulled}
 use Rattle.fdr_top.proofs.MeaningImages.{IsImageRefusal, image_or, image_reads, image_refuses, none_or, words_refuse, read_all, read_cut, read_failed}
-use Rattle.fdr_top.proofs.MeansImages.{looked}
+use Rattle.fdr_top.proofs.MeaningImages.{looked}
 
 -- ---- how a length decides
 

@@ -23,7 +23,7 @@ use Rattle.fdr_io.specs.Limits.{piece_bytes}
 use Rattle.fdr_top.specs.List.{ListsImage}
 use Rattle.fdr_top.specs.Listbits.{ListsInput}
 use Rattle.fdr_top.specs.Record.{RecordsTrace}
-use Rattle.fdr_top.specs.Recover.{RecoversImage}
+use Rattle.fdr_top.specs.ImageRecovered.{RecoversImage}
 use Rattle.fdr_top.specs.Runs.{CommandRun, WorkRun}
 use Rattle.fdr_top.specs.Salvage.{SalvagesImage}
 use Rattle.fdr_top.specs.Stream.{StreamsTrace}
@@ -43,7 +43,7 @@ DoesWork encode_bytes t r = IsPastTable r.answer → EncodesInput r.tells r.old 
 DoesWork decode_levels t r = IsPastTable r.answer → DecodesLevels r.tells r.old r.new r.written_before r.written_now r.answer
 DoesWork (format_image path image slots payload) t r = Makes (new_header slots payload t.frame.words) r.tells r.old r.new r.answer
 DoesWork (record_line path image) t r = RecordsTrace t r.tells r.old r.new r.answer
-DoesWork (recover_image image) t r = RecoversImage r.tells r.old r.new r.written_before r.written_now r.answer
+DoesWork (recover_image image) t r = RecoversImage image r
 DoesWork (list_image path image) t r = ListsImage t r.tells r.old r.new r.written_before r.written_now r.answer
 DoesWork (upgrade_image image) t r = UpgradesImage r.tells r.old r.new r.answer
 DoesWork (salvage_image path image ring) t r = SalvagesImage t ring r.tells r.old r.new r.written_before r.written_now r.answer

@@ -28,6 +28,7 @@ pub mod ExceedSound
 pub mod Coding
 pub mod Leaves
 pub mod Complete
-pub mod Commands
 pub mod Meaning
 pub mod Doing
+pub mod ImageRecovered
+pub mod Commands

@@ -1,19 +1,14 @@
--- What `recover` promises: the payloads of the recovered run of what the disk holds.
-use Rattle.std.specs.Prelude.{◌≡◌, ◌⊎◌, ℕ, ◌<◌, ◌≤◌, ◌↔◌, List, Option, Some, None, IsTrue, take}
-use Rattle.fdr_io.specs.Faults.{Rose}
-use Rattle.fdr_io.specs.Told.{followed_by}
+-- The recovered run of an image, and what looking at it leaves.
+use Rattle.std.specs.Prelude.{◌≡◌, ℕ, List}
 use Rattle.fdr_deck.specs.State.{State, Tells}
 use Rattle.fdr_deck.specs.Calls.{IsDiskWork}
 use Rattle.fdr_deck.specs.Disk.{KeepsDisk, LearnsExtent}
-use Rattle.fdr_slot.specs.declared.image.ImageFault.{ImageFault}
-use Rattle.fdr_slot.specs.declared.image.ImageFault.TheVariants as fault
 use Rattle.fdr_recover.specs.Blocks.{Block}
 use Rattle.fdr_recover.specs.Images.{IsRecovered}
 use Rattle.fdr_recover.specs.declared.error.RingFault.{RingFault}
 use Rattle.fdr_recover.specs.declared.error.RingFault.TheVariants as ring
-use Rattle.fdr_recover.specs.ImageHeader.{image_fault_of, header_in}
-use Rattle.fdr_recover.specs.Payloads.{payloads_of, run_in}
-use Rattle.fdr_top.specs.Refusals.{RefusesHeader}
+use Rattle.fdr_recover.specs.ImageHeader.{header_in}
+use Rattle.fdr_recover.specs.Payloads.{run_in}
 use Rattle.fdr_top.specs.declared.outcome.Outcome.{Outcome}
 use Rattle.fdr_top.specs.declared.outcome.Outcome.TheVariants as outcome
 
@@ -36,28 +31,3 @@ pub record OnlyLooks (tells : Tells) (old new : State) : Type 0 where
   pub learns : LearnsExtent tells old new
   pub disk : KeepsDisk old new
   pub disk_work : IsDiskWork tells old.may_leave old new
-
--- How much of the recovered run was written: the bytes of all its blocks, or a front part of them and the answer says why.
-pub record Recovers (tells : Tells) (old new : State) (written_before written_now : Option (List ℕ)) (answer : Outcome) : Type 0 where
-  pub looks : OnlyLooks tells old new
-  pub good : (answer ≡ outcome.DiskFault → ⊥) → ((why : ImageFault) → answer ≡ outcome.ImageRefused why → ⊥) → IsTrue tells.bytes
-      → image_fault_of old.held ≡ None
-  pub all : answer ≡ outcome.Done → IsTrue tells.bytes → written_now ≡ followed_by written_before (payloads_of (run_in old.held))
-  pub part : IsTrue tells.bytes → (k : ℕ) × (written_now ≡ followed_by written_before (take k (payloads_of (run_in old.held))))
-  -- Nothing was written, or the image has no fault.
-  pub begun : (written_now ≡ written_before) ⊎ (IsTrue tells.bytes → image_fault_of old.held ≡ None)
-  pub refused : (why : ImageFault) → answer ≡ outcome.ImageRefused why → IsTrue tells.bytes → image_fault_of old.held ≡ Some why
-  pub small : (why : ImageFault) → answer ≡ outcome.ImageRefused why → (why ≡ fault.Small) ↔ (new.extent < 64)
-  pub long : (answer ≡ outcome.DiskFault → ⊥) → ((why : ImageFault) → answer ≡ outcome.ImageRefused why → ⊥) → 64 ≤ new.extent
-  pub cause : answer ≡ outcome.DiskFault → Rose old.disk_faults new.disk_faults
-
--- What `recover` promises: the bytes of the blocks of the image's recovered run were written, or a front part of them; the disk
--- was only looked at; and which refusal is answered.
-pub record RecoversImage (tells : Tells) (old new : State) (written_before written_now : Option (List ℕ)) (answer : Outcome) : Type 0 where
-  pub looks : OnlyLooks tells old new
-  pub all : answer ≡ outcome.Done → IsTrue tells.bytes → written_now ≡ followed_by written_before (payloads_of (run_in old.held))
-  pub part : IsTrue tells.bytes → (k : ℕ) × (written_now ≡ followed_by written_before (take k (payloads_of (run_in old.held))))
-  pub good : answer ≡ outcome.Done → IsTrue tells.bytes → image_fault_of old.held ≡ None
-  -- Nothing was written, or the image has no fault.
-  pub begun : (written_now ≡ written_before) ⊎ (IsTrue tells.bytes → image_fault_of old.held ≡ None)
-  pub header : RefusesHeader tells old new answer

@@ -1,30 +1,37 @@
-use Rattle.std.proofs.Common.{ap}
-use Rattle.fdr_words.specs.Forms.{recover_image}
-use Rattle.fdr_pieces.proofs.Pulling.{LeavesStops-look}
-use Rattle.fdr_top.proofs.Answering.{has_cause, image_unused, left_all, passes_keeps, recovers_image, recovery_done, writes_other}
+use Rattle.std.proofs.Common.{Err, ap, arith, refl, sym, ◌∙◌}
+use Rattle.fdr_top.proofs.Images.{OnlyLooks-looked, header_not_memory}
+use Rattle.fdr_top.proofs.RecoveredImages.{none_recovered, run_recovered, run_remembered, unrecovered}
+use Rattle.fdr_top.proofs.Results.{err_same, ok_not_err}
 use Rattle.fdr_top.proofs.recovering.recover.Goals as goal
 
-pub returns-clause-works : goal.returns-clause-works
-returns-clause-works g c = λ image t.
-    let answer = c.recover_image.ensures.answer image in
-    let looks = c.recover_image.ensures.recovers.looks in
-    let recovers = recovers_image image _ _ _ _ _ _ c.recover_image.ensures.recovers answer in
+pub returns-in-Err : goal.returns-in-Err
+returns-in-Err g c =
+    let head = c.read_image_header.ensures in
+    let e = c.in-Err.ensures in
     record {
-      answer = answer;
-      refusal = λ nothing. let same = c.recover_image.ensures.unwritten (writes_other _ _ nothing tt) (writes_other _ _ nothing tt)
-          (writes_other _ _ nothing tt) in
-          left_all _ (ap g.O.Sink.written same) (ap g.O.Sink.faults same) looks.disk looks.learns looks.disk_work.passes.announced.announced
-          (passes_keeps _ _ _ looks.disk_work.passes);
-      stops = λ has nothing. LeavesStops-look _ _ _ looks.disk_work;
-      unused = image_unused (recover_image image) _ (λ no. absurd (no tt)) tt (λ none. none) (λ none. none) looks.disk_work.passes;
-      causes = has_cause (recover_image image) _ answer (λ pulls. absurd pulls) (λ text. c.recover_image.ensures.write_fault)
-          (λ image. c.recover_image.ensures.recovers.cause);
-      no_fault_passed_over = record {
-        input = λ read covers. looks.disk_work.passes.input_faults;
-        write = λ other covers. c.recover_image.ensures.no_write_fault other;
-        disk = λ other. c.recover_image.ensures.no_disk_fault other;
-      };
-      does = recovers;
-      complete = λ whole faultless. recovery_done image _ _ _ _ _ _ answer recovers whole.0 whole.1
-          (λ e. faultless.disk tt (c.recover_image.ensures.recovers.cause e)) (λ e. faultless.sink tt (c.recover_image.ensures.write_fault e));
+      works = λ image t. unrecovered image t _ c.in-Err.fault c.refusal.ensures (OnlyLooks-looked _ _ _ head.learns head.disk head.disk_work)
+          (λ x. e.only.0 (ap Err x)) (λ x. e.only.1 (ap Err x)) (λ told why x. e.first_fault told why (ap Err x)) (λ why x. e.small why (ap Err x))
+          (λ x. e.cause (ap Err x)) (λ other. (e.succeeds (λ x. other (err_same _ _ x))).disk_faults) refl refl;
+      memory = λ none. absurd (header_not_memory c.in-Err.fault (sym c.refusal.ensures ∙ none));
+    }
+
+pub returns-in_default : goal.returns-in_default
+returns-in_default g c =
+    let head = c.read_image_header.ensures in
+    record {
+      works = λ image t. none_recovered image t _ refl (OnlyLooks-looked _ _ _ head.learns head.disk head.disk_work)
+          (c.in-Ok.ensures.succeeds (ok_not_err _ _)).disk_faults refl refl;
+      memory = λ none. record { long = omega (arith, c.in-Ok.ensures.whole); good = c.in-Ok.ensures.good };
+    }
+
+pub returns : goal.returns
+returns g c =
+    let head = c.read_image_header.ensures in
+    let wrote = c.write_run.ensures in
+    record {
+      works = λ image t. run_recovered image t _ _ c.in-Ok.header (g.met.D.Deck.sound c.args.deck.now)
+          (OnlyLooks-looked _ _ _ head.learns head.disk head.disk_work) wrote.looks c.in-Ok.ensures.read c.in-Ok.ensures.good c.in-Ok.ensures.whole
+          (c.in-Ok.ensures.succeeds (ok_not_err _ _)).disk_faults wrote.answer wrote.all wrote.part wrote.disk_fault wrote.write_fault wrote.disk_unfailed
+          wrote.sink_unfailed;
+      memory = λ none. absurd (run_remembered _ wrote.answer none);
     }
