@@ -1,5 +1,5 @@
 -- From what a command's work gives to what the command promises.
-use Rattle.std.proofs.Common.{◌≡◌, ◌⊎◌, inl, inr, ⊎_elim, ℕ, ◌+◌, ◌≤◌, List, length, Option, Some, None, sym, refl}
+use Rattle.std.proofs.Common.{◌≡◌, ◌⊎◌, inl, inr, ⊎_elim, ℕ, ◌+◌, ◌≤◌, List, length, Option, sym, refl}
 use Rattle.std.proofs.Common.{◌∙◌, arith, length-append, ap, subst}
 use Rattle.std.specs.Prelude.{IsTrue}
 use Rattle.fdr_io.specs.Faults.{Rose}
@@ -9,12 +9,10 @@ use Rattle.fdr_deck.specs.Calls.{LeavesDisk, Passes}
 use Rattle.fdr_deck.specs.Disk.{KeepsDisk, LearnsExtent}
 use Rattle.fdr_bus.specs.Records.{good_prefix}
 use Rattle.fdr_check.specs.Soundness.{IsSound}
-use Rattle.fdr_recover.specs.ImageHeader.{image_fault_of}
 use Rattle.fdr_slot.specs.declared.image.Header.{Header}
-use Rattle.fdr_slot.specs.declared.image.ImageFault.{ImageFault}
 use Rattle.fdr_table.specs.Ranges.{IsInRange}
 use Rattle.fdr_table.specs.Rows.{TableRows}
-use Rattle.fdr_words.specs.Forms.{Form, check_table, stream_line, format_image, recover_image}
+use Rattle.fdr_words.specs.Forms.{Form, check_table, stream_line, format_image}
 use Rattle.fdr_sampler.proofs.Exchange.{stream_of-exchanged}
 use Rattle.fdr_readout.proofs.ReadsBack.{stream_lists_back}
 use Rattle.fdr_top.specs.declared.outcome.Outcome.{Outcome}
@@ -32,7 +30,6 @@ use Rattle.fdr_pieces.specs.Limits.{most_input_bytes}
 use Rattle.fdr_top.specs.InputTexts.{WritesOfInput}
 use Rattle.fdr_top.specs.Stream.{Streams, StreamsTrace, WritesStreamPart}
 use Rattle.fdr_top.proofs.Commands.{last_pulled, own_begun, rules_pulled, rules_read, rules_unrecorded}
-use Rattle.fdr_top.proofs.TableAnswers.{past_not_memory}
 use Rattle.fdr_top.proofs.TraceAnswers.{fault_answered, told_fault, told_stream}
 
 -- an answer that is no want of memory is one that the command may give

@@ -1,28 +1,19 @@
 -- What looking at an image leaves.
-use Rattle.std.proofs.Common.{◌≡◌, ◌≢◌, ◌⊎◌, ⊎_elim, inl, inr, ℕ, ◌<◌, ◌≤◌, arith, List, Option, Some, None, ap, sym, refl, ◌∙◌, subst}
-use Rattle.std.specs.Prelude.{IsTrue, ◌↔◌, take}
-use Rattle.fdr_io.specs.Faults.{Rose}
-use Rattle.fdr_io.specs.Told.{followed_by}
-use Rattle.fdr_io.specs.declared.Input.TheVariants as input
-use Rattle.fdr_io.proofs.Telling.{followed_by-nil}
+use Rattle.std.proofs.Common.{◌≡◌, ap, refl, ◌∙◌}
+use Rattle.std.specs.Prelude.{IsTrue}
 use Rattle.fdr_deck.specs.State.{State, Tells}
 use Rattle.fdr_deck.specs.Moments.{IsSoundDeck}
-use Rattle.fdr_slot.specs.Places.{image_size}
 use Rattle.fdr_slot.specs.declared.image.Header.{Header}
 use Rattle.fdr_slot.specs.declared.image.ImageFault.{ImageFault}
-use Rattle.fdr_slot.specs.declared.image.ImageFault.TheVariants as fault
 use Rattle.fdr_recover.specs.Images.{recovered_run}
 use Rattle.fdr_recover.specs.Looks.{Looks}
-use Rattle.fdr_recover.specs.ImageHeader.{image_fault_of, header_in}
+use Rattle.fdr_recover.specs.ImageHeader.{header_in}
 use Rattle.fdr_recover.specs.declared.error.RingFault.{RingFault}
 use Rattle.fdr_recover.specs.declared.error.RingFault.TheVariants as ring
 use Rattle.fdr_deck.proofs.Moments.{IsDiskWork-here}
 use Rattle.fdr_deck.proofs.Quiet.{IsDiskWork-then}
-use Rattle.fdr_top.specs.declared.outcome.Outcome.{Outcome}
 use Rattle.fdr_top.specs.declared.outcome.Outcome.TheVariants as outcome
-use Rattle.fdr_words.specs.Forms.{recover_image}
-use Rattle.fdr_top.specs.Answers.{IsOwn}
-use Rattle.fdr_recover.specs.Payloads.{payloads_of, run_in}
+use Rattle.fdr_recover.specs.Payloads.{run_in}
 use Rattle.fdr_deck.specs.Calls.{IsDiskWork}
 use Rattle.fdr_deck.specs.Disk.{KeepsDisk, LearnsExtent}
 use Rattle.fdr_top.specs.Recover.{OnlyLooks, header_refusal}

@@ -1,5 +1,5 @@
 -- What commands mean by their table.
-use Rattle.std.proofs.Common.{◌≡◌, ◌≢◌, ◌⊎◌, inl, inr, ℕ, ◌≤◌, true, false, List, [], length, Option, Some, None, IfSome, IsSome, refl, sym, ◌∙◌, subst, ap}
+use Rattle.std.proofs.Common.{◌≡◌, ◌≢◌, ◌⊎◌, inl, inr, ℕ, ◌≤◌, true, false, List, [], length, Option, Some, None, IfSome, refl, sym, ◌∙◌, subst, ap}
 use Rattle.std.proofs.Common.{le-leb, IsTrue}
 use Rattle.fdr_io.specs.Told.{preceded_by}
 use Rattle.fdr_io.specs.declared.Input.TheVariants as input

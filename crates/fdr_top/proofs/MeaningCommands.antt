@@ -1,9 +1,7 @@
 -- What every command means.
-use Rattle.std.proofs.Common.{◌≡◌, List, ℕ, Option, None, Some, IfSome, ap}
 use Rattle.fdr_deck.specs.Moments.{IsSoundDeck}
 use Rattle.fdr_words.specs.Forms.{Form, check_table, stream_line, list_bits, encode_bytes, decode_levels}
 use Rattle.fdr_words.specs.Forms.{format_image, record_line, recover_image, list_image, upgrade_image, salvage_image, exceed_image, drill_image}
-use Rattle.fdr_top.specs.Answers.{ReadsTable, UsesDeck, WritesText}
 use Rattle.fdr_top.specs.Commands.{RunsCommand}
 use Rattle.fdr_top.specs.Runs.{CommandRun}
 use Rattle.fdr_top.specs.Doing.{DoesAsMeant, IsTold}

@@ -11,12 +11,13 @@ use Rattle.fdr_top.specs.Answers.{HasImage, WritesText}
 use Rattle.fdr_top.specs.InputTexts.{WritesFront}
 use Rattle.fdr_top.specs.Complete.{IsFaultlessWork}
 use Rattle.fdr_top.specs.Recover.{OnlyLooks}
+use Rattle.fdr_top.specs.Refusals.{RefusesImage}
 use Rattle.fdr_top.specs.Runs.{CommandRun, WorkRun}
 use Rattle.fdr_deck.specs.State.{State, Tells}
 use Rattle.fdr_top.specs.Stages.{WritesNothing}
 use Rattle.fdr_top.specs.declared.outcome.Outcome.{Outcome}
 use Rattle.fdr_top.specs.declared.outcome.Outcome.TheVariants as outcome
-use Rattle.fdr_top.specs.Meaning.{Effect, answers, at_start, at_work, stays, writes}
+use Rattle.fdr_top.specs.Meaning.{Effect, answers, at_start, at_table, at_work, stays, writes}
 use Rattle.fdr_top.proofs.MeaningLeft.{front_nothing}
 use Rattle.fdr_top.specs.Doing.{Becomes, Refines}
 use Rattle.fdr_top.proofs.MeaningWords.{by_header, by_image}
@@ -86,6 +87,25 @@ done_or_memory form e r (inl all) quiet = inl all.answer
 done_or_memory form e r (inr (inl cut)) quiet = absurd (quiet.sink cut.0 cut.1.cause)
 done_or_memory form e r (inr (inr (inl cut))) quiet = absurd (quiet.disk cut.0 cut.1.cause)
 done_or_memory form e r (inr (inr (inr none))) quiet = inr none.answer
+
+-- the disk failed, and nothing was written
+pub failed_silent : (form : Form) (e work : Effect) (r : WorkRun) → HasImage form → (e ≡ work) ⊎ IsImageRefusal e → work.step ≡ at_work
+    → r.answer ≡ outcome.DiskFault → Rose r.old.disk_faults r.new.disk_faults → r.written_now ≡ r.written_before → Refines form e r
+failed_silent form e work r has either works is cause same =
+    inr (inr (inl (has, record { answer = is; step = past either; cause = cause; text = front_nothing e.text r.written_before r.written_now same })))
+  where
+    past : (e ≡ work) ⊎ IsImageRefusal e → e.step ≢ at_table
+    past (inl meant) early = let c : at_work ≡ at_table = sym works ∙ sym (ap (λ (x : Effect). x.step) meant) ∙ early in cc
+    past (inr refusal) early = let c : at_start ≡ at_table = sym (ap (λ (x : Effect). x.step) refusal.is) ∙ early in cc
+
+-- words that differ are refused so
+pub words_told : (t : TableRows) (tells : Tells) (old new : State) (answer : Outcome) (words table : ℕ) → RefusesImage t tells old new answer
+    → IsTrue tells.bytes → answer ≡ outcome.WordsDiffer words table → (work : Effect)
+    → by_image t old.held work ≡ answers at_start (outcome.WordsDiffer words table)
+words_told t tells old new answer words table refuses told e work =
+    let differ = refuses.words words table e in
+    words_refuse t old.held work words (differ.2 told) (λ same. differ.1 (same ∙ sym differ.0))
+    ∙ ap (λ (x : ℕ). answers at_start (outcome.WordsDiffer words x)) (sym differ.0)
 
 -- ---- a command that lists an image
 

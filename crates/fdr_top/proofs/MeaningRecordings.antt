@@ -13,18 +13,17 @@ use Rattle.fdr_table.specs.Rows.{TableRows}
 use Rattle.fdr_words.specs.Forms.{Form}
 use Rattle.fdr_top.specs.Answers.{HasImage}
 use Rattle.fdr_top.specs.Commands.{RunsCommand}
-use Rattle.fdr_top.specs.InputTexts.{WritesFront}
 use Rattle.fdr_top.specs.Record.{RecordsStream}
 use Rattle.fdr_top.specs.Refusals.{RefusesImage, RefusesOldImage}
 use Rattle.fdr_top.specs.Runs.{CommandRun}
 use Rattle.fdr_top.specs.Stages.{EndsRecording}
 use Rattle.fdr_top.specs.declared.outcome.Outcome.{Outcome}
 use Rattle.fdr_top.specs.declared.outcome.Outcome.TheVariants as outcome
-use Rattle.fdr_top.specs.Meaning.{Effect, answers, at_start, at_table, at_work, gets, old_version, or_answers, records}
+use Rattle.fdr_top.specs.Meaning.{Effect, answers, at_start, at_work, gets, old_version, or_answers, records}
 use Rattle.fdr_top.specs.Doing.{IsTold, Refines}
 use Rattle.fdr_top.proofs.MeaningWords.{in_image}
-use Rattle.fdr_top.proofs.MeaningLeft.{front_nothing, refused, wrote_nothing}
-use Rattle.fdr_top.proofs.MeaningImages.{IsImageRefusal, image_or, image_reads, image_refuses, words_refuse}
+use Rattle.fdr_top.proofs.MeaningLeft.{refused, wrote_nothing}
+use Rattle.fdr_top.proofs.MeaningImages.{IsImageRefusal, image_or, failed_silent, image_reads, image_refuses, words_told}
 
 -- ---- how an image to be recorded in decides
 
@@ -86,9 +85,6 @@ records_works image blocks text answer = either_works (nat_lt sequence_end (next
     (record { step = at_work; answer = outcome.SeqEnd; text = []; image = gets (take (sequence_end - next_in image) blocks) })
     (record { step = at_work; answer = answer; text = text; image = gets blocks }) refl refl
 
-not_table : at_work ≡ at_table → ⊥
-not_table e = cc
-
 -- ---- a command that records
 
 module _ (form : Form) (r : CommandRun) (told : IsTold form r) (runs : RunsCommand form r) (has : HasImage form) (t : TableRows)
@@ -103,11 +99,9 @@ module _ (form : Form) (r : CommandRun) (told : IsTold form r) (runs : RunsComma
   pub record_differs : (work : Effect) (words table : ℕ) → r.work.answer ≡ outcome.WordsDiffer words table
       → Refines form (in_image t r.work.old.held work) r.work
   record_differs work words table e =
-      let differ = image.words words table e in
       refused form r (in_image t r.work.old.held work) (outcome.WordsDiffer words table) told runs e tt at_start
-      (words_refuse t r.work.old.held (or_answers at_start (old_version r.work.old.held) work) words (differ.2 (told.image has))
-      (λ same. differ.1 (same ∙ sym differ.0))
-      ∙ ap (λ (x : ℕ). answers at_start (outcome.WordsDiffer words x)) (sym differ.0))
+      (words_told t r.work.tells r.work.old r.work.new r.work.answer words table image (told.image has) e
+      (or_answers at_start (old_version r.work.old.held) work))
 
   pub record_old : (work : Effect) → r.work.answer ≡ outcome.OldVersion → Refines form (in_image t r.work.old.held work) r.work
   record_old work e =
@@ -117,29 +111,8 @@ module _ (form : Form) (r : CommandRun) (told : IsTold form r) (runs : RunsComma
   -- the disk failed
   pub record_failed : (work : Effect) → work.step ≡ at_work → r.work.answer ≡ outcome.DiskFault
       → r.work.written_now ≡ r.work.written_before → Refines form (in_image t r.work.old.held work) r.work
-  record_failed work works e quiet = ⊎_elim
-      (λ (meant : in_image t r.work.old.held work ≡ work). subst (λ (x : Effect). Refines form x r.work) (sym meant)
-      (inr (inr (inl (
-        has,
-        record {
-          answer = e;
-          step = λ same. not_table
-              (sym works ∙ same);
-          cause = runs.causes.disk e;
-          text = front_nothing work.text r.work.written_before r.work.written_now quiet;
-        },
-      )))))
-      (λ (refusal : IsImageRefusal (in_image t r.work.old.held work)). subst (λ (x : Effect). Refines form x r.work) (sym refusal.is)
-      (inr (inr (inl (
-        has,
-        record {
-          answer = e;
-          step = λ same. cc;
-          cause = runs.causes.disk e;
-          text = front_nothing [] r.work.written_before r.work.written_now quiet;
-        },
-      )))))
-      (in_or t r.work.old.held work)
+  record_failed work works e quiet = failed_silent form (in_image t r.work.old.held work) work r.work has (in_or t r.work.old.held work) works e
+      (runs.causes.disk e) quiet
 
   module _ (recs : List BusRecord) (b : RecordsStream t r.work.tells recs r.work.old r.work.new r.work.answer) where
     abbrev blocks : List Block

@@ -13,7 +13,7 @@ use Rattle.fdr_table.specs.Rows.{TableRows}
 use Rattle.fdr_words.specs.Forms.{encode_bytes, decode_levels, list_bits}
 use Rattle.fdr_load.specs.Supplies.{Supplied}
 use Rattle.fdr_top.specs.Answers.{IsOwn, MayAnswer}
-use Rattle.fdr_top.specs.Commands.{DoesWork, RunsCommand}
+use Rattle.fdr_top.specs.Commands.{RunsCommand}
 use Rattle.fdr_top.specs.Decode.{DecodesLevels}
 use Rattle.fdr_top.specs.Encode.{levels_text}
 use Rattle.fdr_top.specs.InputTexts.{WritesOfInput}

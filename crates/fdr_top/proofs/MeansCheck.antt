@@ -2,12 +2,11 @@
 use Rattle.std.proofs.Common.{◌≡◌, inl, inr, ℕ, List, [], refl}
 use Rattle.fdr_check.specs.Report.{report_of}
 use Rattle.fdr_io.specs.declared.Input.TheVariants as input
-use Rattle.fdr_load.specs.Tables.{table_in}
 use Rattle.fdr_table.specs.Rows.{TableRows}
 use Rattle.fdr_words.specs.Forms.{check_table}
 use Rattle.fdr_top.specs.Answers.{IsOwn}
 use Rattle.fdr_top.specs.Check.{Reports}
-use Rattle.fdr_top.specs.Commands.{DoesWork, RunsCommand}
+use Rattle.fdr_top.specs.Commands.{RunsCommand}
 use Rattle.fdr_top.specs.Runs.{CommandRun}
 use Rattle.fdr_top.specs.declared.outcome.Outcome.{Outcome}
 use Rattle.fdr_top.specs.declared.outcome.Outcome.TheVariants as outcome

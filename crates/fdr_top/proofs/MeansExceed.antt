@@ -7,12 +7,11 @@ use Rattle.fdr_exceed.specs.RuleFaults.{rules_fault}
 use Rattle.fdr_exceed.specs.Rules.{most_rule_bytes}
 use Rattle.fdr_exceed.specs.declared.fault.RuleFault.{RuleFault}
 use Rattle.fdr_recover.specs.ImageHeader.{IsFor, header_in, image_fault_of}
-use Rattle.fdr_load.specs.Tables.{table_in}
 use Rattle.fdr_table.specs.Rows.{TableRows}
 use Rattle.fdr_words.specs.Forms.{exceed_image}
 use Rattle.fdr_load.specs.Supplies.{Supplied}
 use Rattle.fdr_top.specs.Answers.{IsOwn}
-use Rattle.fdr_top.specs.Commands.{DoesWork, RunsCommand}
+use Rattle.fdr_top.specs.Commands.{RunsCommand}
 use Rattle.fdr_top.specs.Exceed.{ExceedsImage, exceedances_in}
 use Rattle.fdr_top.specs.Runs.{CommandRun}
 use Rattle.fdr_top.specs.Stages.{IsPastTable}
@@ -23,7 +22,7 @@ use Rattle.fdr_top.specs.Doing.{Becomes, IsTold, Refines}
 use Rattle.fdr_top.proofs.MeaningWords.{Core, by_image, by_rules}
 use Rattle.fdr_top.proofs.MeaningLeft.{refused, wrote_nothing}
 use Rattle.fdr_top.proofs.MeaningByTable.{means_by_table}
-use Rattle.fdr_top.proofs.MeaningImages.{image_or, image_reads, image_refuses, none_left, words_refuse, read_all, read_cut, read_failed}
+use Rattle.fdr_top.proofs.MeaningImages.{image_or, image_reads, image_refuses, none_left, words_told, read_all, read_cut, read_failed}
 use Rattle.fdr_top.proofs.MeaningInputs.{MeansInput, by_any, came_all, came_cut, came_part, gave_cut, gave_part}
 
 -- ---- how rules decide
@@ -122,13 +121,9 @@ module _ (table path : List ℕ) (r : CommandRun) (told : IsTold (exceed_image t
     exceed_at (outcome.ImageRefused why) e own = by_any (exceed_image table path) (exceeds t) r.work does.pulled does.pieces.takes (λ came.
         refused (exceed_image table path) r (exceeds t came) (outcome.ImageRefused why) told runs e tt at_start
         (image_refuses t r.work.old.held (by_rules t came (exceeded t came)) why (does.image.header.refused why e (told.image tt))))
-    exceed_at (outcome.WordsDiffer image words) e own =
-        let differ = does.image.words image words e in
-        by_any (exceed_image table path) (exceeds t) r.work does.pulled does.pieces.takes (λ came.
+    exceed_at (outcome.WordsDiffer image words) e own = by_any (exceed_image table path) (exceeds t) r.work does.pulled does.pieces.takes (λ came.
         refused (exceed_image table path) r (exceeds t came) (outcome.WordsDiffer image words) told runs e tt at_start
-        (words_refuse t r.work.old.held (by_rules t came (exceeded t came)) image
-        (differ.2 (told.image tt)) (λ same. differ.1 (same ∙ sym differ.0))
-        ∙ ap (λ (x : ℕ). answers at_start (outcome.WordsDiffer image x)) (sym differ.0)))
+        (words_told t r.work.tells r.work.old r.work.new r.work.answer image words does.image (told.image tt) e (by_rules t came (exceeded t came))))
     exceed_at (outcome.RuleRefused row f) e own = record {
       came = came_part does.pulled;
       given = gave_part r.work does.pulled does.pieces.takes;

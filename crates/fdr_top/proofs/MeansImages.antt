@@ -1,28 +1,24 @@
 -- What `recover`, `upgrade`, `list`, `salvage` and `format` mean.
-use Rattle.std.proofs.Common.{◌≡◌, ◌⊎◌, ⊎_elim, inl, inr, ℕ, List, [], None, IsTrue, refl, sym, ap, ◌∙◌, subst}
+use Rattle.std.proofs.Common.{◌≡◌, ⊎_elim, inl, inr, ℕ, List, [], refl, sym, subst}
 use Rattle.fdr_io.specs.declared.Input.TheVariants as input
-use Rattle.fdr_deck.specs.State.{State, Tells}
-use Rattle.fdr_recover.specs.ImageHeader.{image_fault_of}
-use Rattle.fdr_recover.specs.Payloads.{payloads_of, run_in}
 use Rattle.fdr_load.specs.Tables.{table_in}
 use Rattle.fdr_table.specs.Rows.{TableRows}
 use Rattle.fdr_words.specs.Forms.{recover_image, list_image, upgrade_image}
 use Rattle.fdr_top.specs.Answers.{IsOwn, MayAnswer}
-use Rattle.fdr_top.specs.Commands.{DoesWork, RunsCommand}
+use Rattle.fdr_top.specs.Commands.{RunsCommand}
 use Rattle.fdr_top.specs.List.{ListsImage, listing_in}
 use Rattle.fdr_top.specs.Runs.{CommandRun}
-use Rattle.fdr_top.specs.Stages.{IsPastTable}
 use Rattle.fdr_top.specs.Upgrade.{UpgradesImage}
 use Rattle.fdr_top.specs.declared.outcome.Outcome.{Outcome}
 use Rattle.fdr_top.specs.declared.outcome.Outcome.TheVariants as outcome
 use Rattle.fdr_top.specs.Meaning.{Given, with_all}
-use Rattle.fdr_top.specs.Meaning.{Effect, answers, at_start, changes, raised, stays, writes}
+use Rattle.fdr_top.specs.Meaning.{Effect, at_start, changes, raised, stays, writes}
 use Rattle.fdr_top.specs.Doing.{Becomes, IsTold, Refines}
 use Rattle.fdr_top.proofs.MeaningWords.{Core, by_header, by_image}
-use Rattle.fdr_top.proofs.MeaningLeft.{no_memory, refused, wrote_nothing, front_nothing}
+use Rattle.fdr_top.proofs.MeaningLeft.{no_memory, refused, wrote_nothing}
 use Rattle.fdr_top.proofs.MeaningByTable.{means_unpulled, nothing}
-use Rattle.fdr_top.proofs.MeaningImages.{IsImageRefusal, header_or, header_reads, none_left, header_refuses, image_or, image_reads, image_refuses}
-use Rattle.fdr_top.proofs.MeaningImages.{looked, words_refuse, read_all, read_cut, read_failed}
+use Rattle.fdr_top.proofs.MeaningImages.{header_or, header_reads, header_refuses, image_or, image_reads, image_refuses}
+use Rattle.fdr_top.proofs.MeaningImages.{failed_silent, looked, words_told, read_all, read_cut, read_failed}
 
 -- ---- recover
 
@@ -44,27 +40,6 @@ module _ (path : List ℕ) (r : CommandRun) (told : IsTold (upgrade_image path) 
   upgrades = by_header r.work.old.held (changes raised)
 
   module _ (does : UpgradesImage r.work.tells r.work.old r.work.new r.work.answer) where
-    upgrade_failed : (upgrades ≡ changes raised) ⊎ IsImageRefusal upgrades → r.work.answer ≡ outcome.DiskFault
-        → Refines (upgrade_image path) upgrades r.work
-    upgrade_failed (inl meant) e = subst (λ (x : Effect). Refines (upgrade_image path) x r.work) (sym meant) (inr (inr (inl (
-      tt,
-      record {
-        answer = e;
-        step = λ e. cc;
-        cause = runs.causes.disk e;
-        text = front_nothing [] r.work.written_before r.work.written_now (runs.unused.text (λ no. no)).0;
-      },
-    ))))
-    upgrade_failed (inr refusal) e = subst (λ (x : Effect). Refines (upgrade_image path) x r.work) (sym refusal.is) (inr (inr (inl (
-      tt,
-      record {
-        answer = e;
-        step = λ e. cc;
-        cause = runs.causes.disk e;
-        text = front_nothing [] r.work.written_before r.work.written_now (runs.unused.text (λ no. no)).0;
-      },
-    ))))
-
     upgrade_at : (a : Outcome) → r.work.answer ≡ a → MayAnswer (upgrade_image path) a → Refines (upgrade_image path) upgrades r.work
     upgrade_at outcome.Done e may =
         subst (λ (x : Effect). Refines (upgrade_image path) x r.work) (sym (header_reads r.work.old.held (changes raised) (does.good e (told.image tt))))
@@ -73,7 +48,8 @@ module _ (path : List ℕ) (r : CommandRun) (told : IsTold (upgrade_image path) 
           text = wrote_nothing r.work.written_before r.work.written_now (runs.unused.text (λ no. no)).0;
           image = (does.held e (told.image tt), does.settled e);
         }))
-    upgrade_at outcome.DiskFault e may = upgrade_failed (header_or r.work.old.held (changes raised)) e
+    upgrade_at outcome.DiskFault e may = failed_silent (upgrade_image path) upgrades (changes raised) r.work tt
+        (header_or r.work.old.held (changes raised)) refl e (runs.causes.disk e) (runs.unused.text (λ no. no)).0
     upgrade_at (outcome.ImageRefused why) e may = refused (upgrade_image path) r upgrades (outcome.ImageRefused why) told runs e tt at_start
         (header_refuses r.work.old.held (changes raised) why (does.header.refused why e (told.image tt)))
     upgrade_at outcome.NoMemory e may = no_memory (upgrade_image path) r upgrades runs told e
@@ -117,10 +93,8 @@ module _ (table path : List ℕ) (r : CommandRun) (told : IsTold (list_image tab
     list_at (outcome.ImageRefused why) e own = refused (list_image table path) r (lists t) (outcome.ImageRefused why) told runs e tt at_start
         (image_refuses t r.work.old.held (listed t) why (does.image.header.refused why e (told.image tt)))
     list_at (outcome.WordsDiffer image words) e own =
-        let differ = does.image.words image words e in
         refused (list_image table path) r (lists t) (outcome.WordsDiffer image words) told runs e tt at_start
-        (words_refuse t r.work.old.held (listed t) image (differ.2 (told.image tt)) (λ same. differ.1 (same ∙ sym differ.0))
-        ∙ ap (λ (x : ℕ). answers at_start (outcome.WordsDiffer image x)) (sym differ.0))
+        (words_told t r.work.tells r.work.old r.work.new r.work.answer image words does.image (told.image tt) e (listed t))
     list_at (outcome.ReadFault input.Line) e own = absurd own
     list_at a e own = absurd own
 

@@ -11,13 +11,12 @@ use Rattle.fdr_recover.specs.Payloads.{run_in}
 use Rattle.fdr_recover.specs.Images.{recovered_run}
 use Rattle.fdr_ring.specs.Runs.{last_blocks}
 use Rattle.fdr_gen.specs.Trace.{generated_trace}
-use Rattle.fdr_load.specs.Tables.{table_in}
 use Rattle.fdr_recorder.specs.NewBlocks.{new_blocks, next_in}
 use Rattle.fdr_table.specs.Rows.{TableRows}
 use Rattle.fdr_words.specs.Forms.{record_line, drill_image}
 use Rattle.fdr_load.specs.Supplies.{Supplied}
 use Rattle.fdr_top.specs.Answers.{IsOwn}
-use Rattle.fdr_top.specs.Commands.{DoesWork, RunsCommand}
+use Rattle.fdr_top.specs.Commands.{RunsCommand}
 use Rattle.fdr_top.specs.Drill.{DrillsImage, drill_line, drill_text}
 use Rattle.fdr_top.specs.InputTexts.{WritesFront}
 use Rattle.fdr_top.specs.Record.{RecordsTrace}

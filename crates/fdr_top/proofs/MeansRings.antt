@@ -1,14 +1,13 @@
 -- What `salvage` and `format` mean.
-use Rattle.std.proofs.Common.{◌≡◌, ◌≢◌, ◌⊎◌, ⊎_elim, inl, inr, ℕ, List, [], length, Option, None, Some, refl, sym, ap, ◌∙◌, subst, arith, eq-eqb, ne_eqb}
+use Rattle.std.proofs.Common.{◌≡◌, ◌≢◌, ◌⊎◌, ⊎_elim, inl, inr, ℕ, List, length, Option, None, Some, refl, sym, ap, ◌∙◌, subst, arith, eq-eqb, ne_eqb}
 use Rattle.std.proofs.lemmas.Bool.{cases_eq}
 use Rattle.fdr_io.specs.declared.Input.TheVariants as input
 use Rattle.fdr_deck.specs.Moments.{IsSoundDeck}
 use Rattle.fdr_slot.specs.declared.image.ImageFault.{ImageFault}
-use Rattle.fdr_load.specs.Tables.{table_in}
 use Rattle.fdr_table.specs.Rows.{TableRows}
 use Rattle.fdr_words.specs.Forms.{salvage_image, format_image}
 use Rattle.fdr_top.specs.Answers.{IsOwn}
-use Rattle.fdr_top.specs.Commands.{DoesWork, RunsCommand}
+use Rattle.fdr_top.specs.Commands.{RunsCommand}
 use Rattle.fdr_top.specs.Format.{Makes, new_header}
 use Rattle.fdr_top.specs.Refusals.{ring_fault}
 use Rattle.fdr_top.specs.Runs.{CommandRun}
@@ -18,9 +17,10 @@ use Rattle.fdr_top.specs.declared.outcome.Outcome.TheVariants as outcome
 use Rattle.fdr_top.specs.Meaning.{Effect, answers, at_start, changes, made, or_answers, short_ring, stays, writes}
 use Rattle.fdr_top.specs.Doing.{Becomes, IsTold, Refines}
 use Rattle.fdr_top.proofs.MeaningWords.{Core, by_ring, on_empty}
-use Rattle.fdr_top.proofs.MeaningLeft.{refused, wrote_nothing, front_nothing}
+use Rattle.fdr_top.proofs.MeaningLeft.{refused, wrote_nothing}
 use Rattle.fdr_top.proofs.MeaningByTable.{means_unpulled}
-use Rattle.fdr_top.proofs.MeaningImages.{IsImageRefusal, image_or, image_reads, image_refuses, none_or, words_refuse, read_all, read_cut, read_failed}
+use Rattle.fdr_top.proofs.MeaningImages.{IsImageRefusal, image_or, image_reads, image_refuses, none_or, failed_silent}
+use Rattle.fdr_top.proofs.MeaningImages.{words_told, read_all, read_cut, read_failed}
 use Rattle.fdr_top.proofs.MeaningImages.{looked}
 
 -- ---- how a length decides
@@ -102,9 +102,7 @@ means_salvage table path None r told sound runs = means_salvaged table path None
     (⊎_elim (λ quiet. inl quiet) (λ for. inr (image_reads t r.work.old.held work (for (told.image tt)))) does.begun)
     (image_or t r.work.old.held work)
     (λ why e. image_refuses t r.work.old.held work why (does.image.header.refused why e (told.image tt)))
-    (λ image words e. let differ = does.image.words image words e in
-    words_refuse t r.work.old.held work image (differ.2 (told.image tt)) (λ same. differ.1 (same ∙ sym differ.0))
-    ∙ ap (λ (x : ℕ). answers at_start (outcome.WordsDiffer image x)) (sym differ.0))
+    (λ image words e. words_told t r.work.tells r.work.old r.work.new r.work.answer image words does.image (told.image tt) e work)
     r.work.answer refl own)
 means_salvage table path (Some ring) r told sound runs = means_salvaged table path (Some ring) r told runs (λ t does own.
     let work = salvaged table path (Some ring) r told runs t in
@@ -131,28 +129,6 @@ module _ (table path : List ℕ) (slots payload : ℕ) (r : CommandRun) (told : 
     size : length r.work.old.held ≡ r.work.old.extent
     size = sound.size (told.image tt)
 
-    format_failed : (makes t ≡ new_image t) ⊎ IsImageRefusal (makes t) → r.work.answer ≡ outcome.DiskFault
-        → Refines (format_image table path slots payload) (makes t) r.work
-    format_failed (inl meant) e = subst (λ (x : Effect). Refines (format_image table path slots payload) x r.work) (sym meant) (inr (inr (inl (
-      tt,
-      record {
-        answer = e;
-        step = λ e. cc;
-        cause = runs.causes.disk e;
-        text = front_nothing [] r.work.written_before r.work.written_now (runs.unused.text (λ no. no)).0;
-      },
-    ))))
-    format_failed (inr refusal) e = subst (λ (x : Effect). Refines (format_image table path slots payload) x r.work) (sym refusal.is)
-        (inr (inr (inl (
-          tt,
-          record {
-            answer = e;
-            step = λ e. cc;
-            cause = runs.causes.disk e;
-            text = front_nothing [] r.work.written_before r.work.written_now (runs.unused.text (λ no. no)).0;
-          },
-        ))))
-
     format_at : (a : Outcome) → r.work.answer ≡ a → IsOwn (format_image table path slots payload) a
         → Refines (format_image table path slots payload) (makes t) r.work
     format_at outcome.Done e own =
@@ -168,7 +144,8 @@ module _ (table path : List ℕ) (slots payload : ℕ) (r : CommandRun) (told : 
         let same = (does.learns e).bytes (told.image tt) in
         refused (format_image table path slots payload) r (makes t) outcome.NotEmpty told runs e tt at_start
         (not_empty r.work.old.held (new_image t) (λ none. let z : r.work.new.extent ≡ 0 = same ∙ sym size ∙ none in omega (arith, more, z)))
-    format_at outcome.DiskFault e own = format_failed (empty_or r.work.old.held (new_image t)) e
+    format_at outcome.DiskFault e own = failed_silent (format_image table path slots payload) (makes t) (new_image t) r.work tt
+        (empty_or r.work.old.held (new_image t)) refl e (runs.causes.disk e) (runs.unused.text (λ no. no)).0
     format_at (outcome.ReadFault input.Line) e own = absurd own
     format_at a e own = absurd own
 

@@ -5,13 +5,12 @@ use Rattle.fdr_io.specs.Told.{followed_by}
 use Rattle.fdr_io.specs.declared.Input.TheVariants as input
 use Rattle.fdr_bus.specs.declared.BusRecord.{BusRecord}
 use Rattle.fdr_bus.specs.Records.{good_prefix}
-use Rattle.fdr_load.specs.Tables.{table_in}
 use Rattle.fdr_sampler.specs.Stream.{stream_of}
 use Rattle.fdr_table.specs.Rows.{TableRows}
 use Rattle.fdr_words.specs.Forms.{stream_line}
 use Rattle.fdr_load.specs.Supplies.{Supplied}
 use Rattle.fdr_top.specs.Answers.{IsOwn}
-use Rattle.fdr_top.specs.Commands.{DoesWork, RunsCommand}
+use Rattle.fdr_top.specs.Commands.{RunsCommand}
 use Rattle.fdr_top.specs.Runs.{CommandRun}
 use Rattle.fdr_top.specs.Stream.{StreamsTrace}
 use Rattle.fdr_top.specs.declared.outcome.Outcome.{Outcome}

@@ -1,5 +1,5 @@
 -- What `recover` means, by its answer.
-use Rattle.std.proofs.Common.{◌≡◌, ◌≢◌, ◌⊎◌, ⊎_elim, inl, inr, ℕ, ◌<◌, ◌≤◌, List, [], Option, Some, None, IsTrue, arith, refl, sym, ap, ◌∙◌, subst}
+use Rattle.std.proofs.Common.{◌≡◌, ◌≢◌, ◌⊎◌, ⊎_elim, inl, inr, ℕ, ◌<◌, ◌≤◌, List, Some, None, IsTrue, arith, refl, sym, ap, ◌∙◌, subst}
 use Rattle.std.specs.Prelude.{◌↔◌}
 use Rattle.fdr_io.specs.Faults.{Rose}
 use Rattle.fdr_io.specs.Told.{followed_by}
@@ -32,12 +32,12 @@ use Rattle.fdr_top.specs.declared.outcome.Outcome.{Outcome}
 use Rattle.fdr_top.specs.declared.outcome.Outcome.TheVariants as outcome
 use Rattle.fdr_top.proofs.Answering.{has_cause, image_unused, left_all, passes_keeps, writes_other}
 use Rattle.fdr_top.proofs.Images.{OnlyLooks-then, run_same}
-use Rattle.fdr_top.proofs.MeaningImages.{IsImageRefusal, done_or_memory, header_or, header_reads, header_refuses, looked}
-use Rattle.fdr_top.proofs.MeaningLeft.{front_nothing, wrote_nothing}
+use Rattle.fdr_top.proofs.MeaningImages.{done_or_memory, failed_silent, header_or, header_reads, header_refuses, looked}
+use Rattle.fdr_top.proofs.MeaningLeft.{wrote_nothing}
 use Rattle.fdr_top.proofs.MeaningWords.{by_header}
-use Rattle.fdr_top.proofs.RecordLines.{header_failed, header_faulty, refuses_nothing, takes_header}
-use Rattle.fdr_top.proofs.Results.{disk_not_done, disk_not_memory, disk_not_write, done_not_disk, done_not_memory, done_not_write, memory_not_disk}
-use Rattle.fdr_top.proofs.Results.{memory_not_write, write_not_disk, write_not_done, write_not_memory}
+use Rattle.fdr_top.proofs.RecordLines.{header_failed, header_faulty, takes_header}
+use Rattle.fdr_top.proofs.Results.{disk_not_memory, done_not_memory, memory_not_disk}
+use Rattle.fdr_top.proofs.Results.{memory_not_write, write_not_memory}
 
 -- the payloads of the run of these bytes are written
 abbrev payloads : List ℕ → Effect
@@ -125,26 +125,11 @@ unrecovered path t r (ring.Image why) e looks not_empty not_end first small caus
 unrecovered path t r ring.DiskFault e looks not_empty not_end first small cause quiet same sink =
     recovers path t r looks (inr (subst (IsOwn (recover_image path)) (sym e) tt))
     (subst (RefusesHeader r.tells r.old r.new) (sym e) (header_failed r.tells r.old r.new))
-    (λ told. failed (header_or r.old.held (payloads r.old.held)))
+    (λ told. failed_silent (recover_image path) (recovering r.old.held) (payloads r.old.held) r tt
+    (header_or r.old.held (payloads r.old.held)) refl e (cause refl) same)
     (λ nothing. same) (λ d. cause refl)
     (λ w. let c : outcome.DiskFault ≡ outcome.WriteFault = sym e ∙ w in absurd (cc))
     (λ other. absurd (other e)) (λ other. sink)
-  where
-    failed : (recovering r.old.held ≡ payloads r.old.held) ⊎ IsImageRefusal (recovering r.old.held)
-        → Refines (recover_image path) (recovering r.old.held) r
-    failed (inl is) = subst (λ (x : Effect). Refines (recover_image path) x r) (sym is) (inr (inr (inl (
-      tt,
-      record {
-        answer = e;
-        step = λ at. cc;
-        cause = cause refl;
-        text = front_nothing (payloads_of (run_in r.old.held)) r.written_before r.written_now same;
-      },
-    ))))
-    failed (inr refusal) = subst (λ (x : Effect). Refines (recover_image path) x r) (sym refusal.is) (inr (inr (inl (
-      tt,
-      record { answer = e; step = λ at. cc; cause = cause refl; text = front_nothing [] r.written_before r.written_now same },
-    ))))
 unrecovered path t r ring.NotEmpty e looks not_empty not_end first small cause quiet same sink = absurd (not_empty refl)
 unrecovered path t r ring.SeqEnd e looks not_empty not_end first small cause quiet same sink = absurd (not_end refl)
 

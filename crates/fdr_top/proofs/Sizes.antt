@@ -1,5 +1,5 @@
 -- What the length of a disk decides.
-use Rattle.std.proofs.Common.{◌≡◌, ◌⊎◌, ⊎_elim, inl, inr, ℕ, ◌<◌, Bool, true, false, cond, List, [], Option, Some, None, arith, refl, sym, ap, subst}
+use Rattle.std.proofs.Common.{◌≡◌, ◌⊎◌, ⊎_elim, ℕ, ◌<◌, Bool, true, false, cond, [], Option, Some, None, arith, refl, ap, subst}
 use Rattle.std.specs.Prelude.{nat_lt, ◌==◌}
 use Rattle.std.specs.Option.{option_map}
 use Rattle.std.proofs.lemmas.Bool.Decides.{nat_tests}
@@ -9,16 +9,14 @@ use Rattle.fdr_load.specs.Tables.{table_in}
 use Rattle.fdr_words.specs.Forms.{Form, check_table, stream_line, list_bits, encode_bytes, decode_levels}
 use Rattle.fdr_words.specs.Forms.{format_image, record_line, recover_image, list_image, upgrade_image, salvage_image, exceed_image, drill_image}
 use Rattle.fdr_words.specs.Forms.{ImageUse, command_uses, has_no_image, makes_image, reads_image, records_in_image, upgrades_image}
-use Rattle.fdr_top.specs.Answers.{IsImageThere, MayAnswer}
+use Rattle.fdr_top.specs.Answers.{IsImageThere}
 use Rattle.fdr_top.specs.Commands.{RunsCommand}
-use Rattle.fdr_top.specs.Doing.{SizeDecides, bad_size}
-use Rattle.fdr_top.specs.Format.{Makes}
+use Rattle.fdr_top.specs.Doing.{SizeDecides}
 use Rattle.fdr_top.specs.Refusals.{RefusesHeader, RefusesLength, ring_fault}
 use Rattle.fdr_top.specs.Runs.{CommandRun, WorkRun}
 use Rattle.fdr_top.specs.Stages.{IsPastTable}
 use Rattle.fdr_top.specs.declared.outcome.Outcome.{Outcome}
 use Rattle.fdr_top.specs.declared.outcome.Outcome.TheVariants as outcome
-use Rattle.std.proofs.lemmas.Bool.{cases_lt}
 
 abbrev small : Option Outcome
 small = Some (outcome.ImageRefused fault.Small)

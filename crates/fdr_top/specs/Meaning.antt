@@ -1,7 +1,7 @@
 -- What `fdr` means: an equation for each command, of what it answers, writes and makes of its image, by what it is given. A read
 -- of a table or of an input that fails is among what is given. What a failing output, a failing disk, want of memory and a stop
 -- make of it is in Doing.antt, where the statement is that `run` promises.
-use Rattle.std.specs.Prelude.{◌+◌, ◌-◌, ◌==◌, ◌&&◌, ℕ, nat_le, nat_lt, if◌then◌else◌, Bool, true, false, List, [], ◌∷◌, ◌++◌, length, take, Option, Some}
+use Rattle.std.specs.Prelude.{◌+◌, ◌-◌, ◌==◌, ℕ, nat_lt, if◌then◌else◌, Bool, true, false, List, [], ◌∷◌, ◌++◌, length, take, Option, Some}
 use Rattle.std.specs.Prelude.{None}
 use Rattle.std.specs.Option.{option_map}
 use Rattle.fdr_io.specs.declared.Input.TheVariants as input
