@@ -137,15 +137,6 @@ records_stops old blocks text answer m keeps = either (nat_lt sequence_end (next
 at_moments : (form : Form) (r : CommandRun) → RunsCommand form r → IsTold form r → (g : Given) → WasGiven form g r
     → IsPulled form g.input.bytes r → IsTrue (writes_image form)
     → (meaning form g).step ≡ at_work → EachMoment r.work.tells r.work.old r.work.new (MayLeave (meaning form g).image r.work.old)
-at_moments (check_table path) r runs told g given line writes at = absurd (cc)
-at_moments (stream_line path) r runs told g given line writes at = absurd (cc)
-at_moments (list_bits path) r runs told g given line writes at = absurd (cc)
-at_moments encode_bytes r runs told g given line writes at = absurd (cc)
-at_moments decode_levels r runs told g given line writes at = absurd (cc)
-at_moments (recover_image image) r runs told g given line writes at = absurd (cc)
-at_moments (list_image path image) r runs told g given line writes at = absurd (cc)
-at_moments (salvage_image path image ring) r runs told g given line writes at = absurd (cc)
-at_moments (exceed_image path image) r runs told g given line writes at = absurd (cc)
 at_moments (upgrade_image image) r runs told g given line writes at = λ tells m since.
     subst (λ (e : Effect). MayLeave e.image r.work.old m) (sym (unless_works (bad_header g.image ∷ []) (changes raised) at))
     ((runs.carries_out (table_in [])).disk_work.moments tells m since).image
@@ -189,6 +180,7 @@ at_moments (drill_image path image seed frames) r runs told g given line writes 
     (drilled t r.work.old.held (new_blocks t r.work.old.held (generated_trace t seed frames))) outcome.Done m (λ may.
     subst (λ (u : TableRows). KeepsBlocks (new_blocks u r.work.old.held (generated_trace u seed frames)) r.work.old m) same
     (let b = d.blocks.moments may tells m since in record { keeps = b.keeps; close = b.close })))
+at_moments form r runs told g given line writes at = absurd (cc)
 
 -- ---- what becomes of an image where a command doesn't come to its work
 
@@ -260,11 +252,6 @@ writing form writes r runs told g given line has when = ⊎_elim
 pub stops : (form : Form) (r : CommandRun) → RunsCommand form r → IsTold form r → (g : Given) → WasGiven form g r
     → IsPulled form g.input.bytes r → HasImage form → ((meaning form g).step ≡ at_work) ⊎ WritesNothing r.work.answer
     → EachMoment r.work.tells r.work.old r.work.new (MayLeave (meaning form g).image r.work.old)
-stops (check_table path) r runs told g given line has when = absurd has
-stops (stream_line path) r runs told g given line has when = absurd has
-stops (list_bits path) r runs told g given line has when = absurd has
-stops encode_bytes r runs told g given line has when = absurd has
-stops decode_levels r runs told g given line has when = absurd has
 stops (recover_image image) r runs told g given line has when = λ tells m since.
     subst (λ (c : Change). MayLeave c r.work.old m)
     (sym (refusals_or Stays (λ step why. refl) (bad_header g.image ∷ []) (writes (payloads_of (run_in g.image)) outcome.Done) refl))
@@ -294,3 +281,4 @@ stops (record_line path image) r runs told g given line has when = writing (reco
 stops (upgrade_image image) r runs told g given line has when = writing (upgrade_image image) refl r runs told g given line has when
 stops (drill_image path image seed frames) r runs told g given line has when = writing
     (drill_image path image seed frames) refl r runs told g given line has when
+stops form r runs told g given line has when = absurd has
