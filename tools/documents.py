@@ -23,6 +23,7 @@ The check wants:
 - the crates' edges in docs/ARCHITECTURE.md to be those of crates.txt, and the files in its last table to be there;
 - the forms, statuses and texts of docs/fdr.1 and docs/COMMANDS.md to be those of the source, with a section there and a row in
   README.md for each command;
+- what the programs write in front of their usage to have these forms, and the version;
 - README.md, CHANGELOG.md, CITATION.cff and docs/fdr.1 to name the version of VERSION, the last three with one date; README.md
   and docs/GUARANTEES.md to name the logic of the kit that is here;
 - each crate that a page or a source names to be there;
@@ -407,6 +408,17 @@ def check_manual() -> Iterator[str]:
         yield "docs/fdr.1: its forms aren't those of docs/COMMANDS.md"
 
 
+def check_usage() -> Iterator[str]:
+    """What the programs write in front of their usage has the forms of COMMANDS.md and the version."""
+    version = (TOP / "VERSION").read_text().strip()
+    text = {name: (CRATES / name / "src" / "usage.rt").read_text() for name in ("fdr_prog", "fdr_pair_prog")}
+    if re.findall(r'text: "(fdr .*)"', text["fdr_prog"]) != [form for _, form in sections()]:
+        yield "crates/fdr_prog/src/usage.rt: its forms aren't those of docs/COMMANDS.md"
+    for name, line in {"fdr_prog": f'VERSION: &str = "{version}"', "fdr_pair_prog": f'"fdrpair {version}\\n'}.items():
+        if line not in text[name]:
+            yield f"crates/{name}/src/usage.rt doesn't name the version {version}"
+
+
 def check_session() -> Iterator[str]:
     """Where README.md shows a run of a case of examples/cases, it prints what the case has."""
     cases = {}
@@ -608,7 +620,7 @@ def check() -> int:
     """Prints the faults and the notes, and answers the status to end with."""
     checks = (
         *(check_readme, check_session, check_clauses, check_contracts, check_model, check_recursive, check_guarantees, check_layers),
-        *(check_edges, check_places, check_commands, check_manual, check_version, check_kit, check_links, check_paths),
+        *(check_edges, check_places, check_commands, check_manual, check_usage, check_version, check_kit, check_links, check_paths),
         *(check_paragraphs, check_lengths, check_names, check_columns, check_crates),
     )
     faults = [fault for one in checks for fault in one()]

@@ -1,13 +1,16 @@
 //! The program `fdrpair`: a recorder on two disks, over files and standard streams.
 #![tactic(auto)]
 
+mod usage;
+
 use fdr_adapters::FileTwin;
 use fdr_files::{FileSource, ImageFile};
 use fdr_pair::{PairOutcome, PairWordsFault, read_pair_words, run_pair};
 use std::env::Env;
-use std::io::Write;
+use std::io::{IsTerminal, Write};
 use std::process::ExitCode;
 use std::{env, io};
+use usage::explain;
 
 /// The words after the program's name. A word that isn't text is none of the command's.
 fn command_words(rt: &(impl Env + AllocGlobal)) -> Result<Vec<String>, PairOutcome> {
@@ -39,6 +42,21 @@ fn record_on_files(rt: &HostRuntime, words: &[String]) -> PairOutcome {
     run_pair(rt.alloc(), words, &mut table, &mut twin)
 }
 
+fn record_with_help(rt: &HostRuntime, words: &[String]) -> PairOutcome {
+    let outcome = record_on_files(rt, words);
+    if matches!(&outcome, PairOutcome::Usage) {
+        help(rt, words);
+    }
+    outcome
+}
+
+/// Writes what helps with the words, where a person reads: to a pipe the answer's text goes alone.
+fn help(rt: &HostRuntime, words: &[String]) {
+    if rt.stderr().is_terminal() {
+        let _ = explain(&mut rt.stderr(), words);
+    }
+}
+
 /// Tells the outcome on standard error. That it can't be told changes nothing of it.
 fn tell(rt: &HostRuntime, outcome: &PairOutcome) {
     let text = outcome.text();
@@ -50,7 +68,7 @@ fn tell(rt: &HostRuntime, outcome: &PairOutcome) {
 
 fn main(rt: HostRuntime) -> ExitCode {
     let outcome = match command_words(&rt) {
-        Ok(words) => record_on_files(&rt, &words),
+        Ok(words) => record_with_help(&rt, &words),
         Err(outcome) => outcome,
     };
     tell(&rt, &outcome);

@@ -1,15 +1,18 @@
 //! The program `fdr`: the recorder's commands over files and standard streams.
 #![tactic(auto)]
 
+mod usage;
+
 use fdr_adapters::{FileDeck, OutSink};
 use fdr_files::{AHEAD, FileSource, ImageFile, LineReader, Window};
 use fdr_top::{Outcome, run};
 use fdr_words::{Request, WordsFault, read_words};
 use std::alloc::Global;
 use std::env::Env;
-use std::io::{BufReader, Stdin, Write};
+use std::io::{BufReader, IsTerminal, Stdin, Write};
 use std::process::ExitCode;
 use std::{env, io};
+use usage::explain;
 
 /// The words after the program's name. A word that isn't text is none of the command's.
 fn command_words(rt: &(impl Env + AllocGlobal)) -> Result<Vec<String>, Outcome> {
@@ -62,6 +65,21 @@ fn run_on_files(rt: &HostRuntime, words: &[String]) -> Outcome {
     outcome
 }
 
+fn run_with_help(rt: &HostRuntime, words: &[String]) -> Outcome {
+    let outcome = run_on_files(rt, words);
+    if matches!(&outcome, Outcome::Usage) {
+        help(rt, words);
+    }
+    outcome
+}
+
+/// Writes what helps with the words, where a person reads: to a pipe the answer's text goes alone.
+fn help(rt: &HostRuntime, words: &[String]) {
+    if rt.stderr().is_terminal() {
+        let _ = explain(&mut rt.stderr(), words);
+    }
+}
+
 /// Tells the outcome on standard error. That it can't be told changes nothing of it.
 fn tell(rt: &HostRuntime, outcome: &Outcome) {
     let text = outcome.text();
@@ -73,7 +91,7 @@ fn tell(rt: &HostRuntime, outcome: &Outcome) {
 
 fn main(rt: HostRuntime) -> ExitCode {
     let outcome = match command_words(&rt) {
-        Ok(words) => run_on_files(&rt, &words),
+        Ok(words) => run_with_help(&rt, &words),
         Err(outcome) => outcome,
     };
     tell(&rt, &outcome);
