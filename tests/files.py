@@ -19,6 +19,7 @@ import contextlib
 import os
 import pathlib
 import signal
+import subprocess
 import sys
 import time
 from collections.abc import Callable, Iterator
@@ -29,10 +30,10 @@ sys.dont_write_bytecode = True
 import places
 from formats import HEADER, VERSION_1, bits_of, bytes_of_bits, empty_image, end_at, frame, levels_of, recorded, shape_of, slot_at, upgraded
 from inputs import BITS, FIVES, T1, TRACE, largest_table, t1_frame, table_of_every_word, word_at
-from places import CLOSED, FOLDER, FULL, GONE, NOBODY, NOTHING, PAGE, PIPE, READ_ONLY, WRITE_ONLY, ZEROS, Front, InLittleMemory, Mismatch, To
-from places import Answer, Doer, How, Maker, Place, Run, Stream, Tried
+from places import CLOSED, FOLDER, FULL, GONE, NOBODY, NOTHING, PAGE, PIPE, READ_ONLY, WRITE_ONLY, ZEROS, Front, InLittleMemory, Mismatch, Skipped, To
+from places import Answer, AtATerminal, Doer, How, Maker, Place, Run, Stream, Tried
 from places import acks, all_of, begin_apart, block_device, bound_socket, closed_subfolder, empty_pipe, few_files, file, filled, full_pipe
-from places import held_pipe, is_interrupted, link, made_read_only, mode, mounted, named_pipe, size_limit, sparse_image, subfolder, text_of, try_all, zeros_of
+from places import PIPE_SIZE, held_in, held_pipe, is_interrupted, link, made_read_only, mode, mounted, named_pipe, size_limit, sparse_image, subfolder, text_of, try_all, zeros_of
 
 # What each run finds in its folder, and what becomes of it.
 LISTING = b"row,0,1,10,ALT,5\nrow,1,1,10,ALT,7\n"
@@ -60,6 +61,11 @@ BIG_LISTING = SESSION + "".join(
     for subframe in range(1, 5)
     for word in range(3, 65)
 ).encode()
+
+TOP = pathlib.Path(__file__).resolve().parent.parent
+# The forms, as the man page has them.
+FORMS = [line.removeprefix(".B ").replace("\\-", "-") for line in (TOP / "docs" / "fdr.1").read_text().splitlines() if line.startswith(".B fdr ")]
+BAD_VALUE = "a word is empty, or an option's value is missing, given twice or out of its range"
 
 CHECK = ["check", "t1.csv"]
 STREAM = ["stream", "t1.csv"]
@@ -469,6 +475,77 @@ def word_cases() -> Iterator[Case]:
     yield Case("an option of 130,000 digits", [*FORMAT[:3], "--slots", "1" * 130_000, "--payload=64"], USAGE)
 
 
+def unread_cases() -> Iterator[Case]:
+    """A recording whose acknowledgements nobody reads waits once their pipe is full, with all of them durable, and goes on."""
+    image, trace = empty_image(1024, 64), word_at(0, 5) + end_at(400_000_000)
+
+    def is_read_late(place: Place, run: Run) -> None:
+        while held_in(run.child.stderr) < PIPE_SIZE - len("ack 1000\n"):
+            if run.child.poll() is not None:
+                raise Mismatch("ended before its acknowledgements filled their pipe")
+            time.sleep(0.001)
+        run.waits()
+        time.sleep(0.2)
+        if run.child.poll() is not None:
+            raise Mismatch("ended though nobody read its acknowledgements")
+
+    frames = [t1_frame(counter, 5) for counter in range(100)]
+    whole = recorded(image, b"".join(frames))
+    yield Case("record, nobody reads its acknowledgements", RECORD, DONE, makes=file("a.img", image), changes={"a.img": whole}, given=trace, lines=acks(0, 600), does=is_read_late)
+
+
+LET_GO = ["oflag=nocache", "conv=notrunc,nocreat,fdatasync", "count=0", "status=none"]
+
+
+class LetsGo:
+    """The line that is given after a fault of the disk: the system holds no page of the image after it, and makes no file."""
+
+    name = "dd has the system let go of an image, and makes none"
+
+    def tried(self, place: Place) -> None:
+        image, missing = place.room / "a.img", place.room / "b.img"
+        image.write_bytes(BIG_IMAGE)
+        if not self.held(image):
+            raise Skipped("this file system keeps no pages that it could let go of")
+        subprocess.run(["dd", f"of={image}", *LET_GO], check=True)
+        if self.held(image):
+            raise Mismatch(f"the system still holds {self.held(image)} pages")
+        if image.read_bytes() != BIG_IMAGE:
+            raise Mismatch("the image has changed")
+        if subprocess.run(["dd", f"of={missing}", *LET_GO], capture_output=True).returncode == 0 or missing.exists():
+            raise Mismatch("it made a file where there was none")
+
+    def held(self, path: pathlib.Path) -> int:
+        try:
+            told = subprocess.run(["fincore", "--noheadings", "--output", "PAGES", path], capture_output=True, check=True, text=True)
+        except (OSError, subprocess.CalledProcessError):
+            raise Skipped("fincore is of Debian's util-linux-extra") from None
+        return int(told.stdout or 0)
+
+
+def terminal_cases() -> Iterator[AtATerminal]:
+    """What a person reads in front of `fdr: usage`; a pipe gets that line alone, as the other cases show."""
+    version = f"fdr {(TOP / 'VERSION').read_text().strip()}"
+    forms = [f"       {form}" for form in FORMS]
+    forms[0] = f"usage: {FORMS[0]}"
+    of_no_command: list[list[str]] = [[], ["--help"], ["--version"], ["lists", "t1.csv", "a.img"]]
+    for words in of_no_command:
+        yield AtATerminal(f"the words {' '.join(words) or 'none'}", words, 1, [version, *forms, "fdr: usage"])
+    wrong = [
+        (["list", "a.img"], "list: too few words"),
+        (["list", "t1.csv", "a.img", "b.img"], "list: too many words"),
+        (["record", "t1.csv", "a.img", "--slots=16"], "record: it has no option --slots"),
+        (["--slots", "16", "format", "t1.csv", "new.img"], "format: it needs --payload"),
+        (["salvage", "t1.csv", "a.img", "--payload", "64"], "salvage: it needs --slots"),
+        (["drill", "t1.csv", "a.img", "--seed", "7", "--frames", "0"], f"drill: {BAD_VALUE}"),
+        (["check", ""], f"check: {BAD_VALUE}"),
+    ]
+    for words, line in wrong:
+        form = next(form for form in FORMS if form.split()[1] == line.split(":")[0])
+        yield AtATerminal(line, words, 1, [version, f"usage: {form}", line, "fdr: usage"])
+    yield AtATerminal("a refused table", ["check", "/dev/null"], 2, ["fdr: table row 0: no frame row"])
+
+
 def mount_cases() -> Iterator[Case]:
     """Cases on a file system in memory with room for 65,536 bytes, or on one that may only be read."""
     small = mounted(65536)
@@ -511,7 +588,7 @@ def main() -> int:
     given = words.parse_args()
     begin_apart()
     cases: list[Tried] = [*word_cases(), *stream_cases(), *table_cases(), *image_cases(), *meanwhile_cases()]
-    cases += [*limit_cases(), *map(InLittleMemory, memory_cases()), *mount_cases()]
+    cases += [*terminal_cases(), *unread_cases(), LetsGo(), *limit_cases(), *map(InLittleMemory, memory_cases()), *mount_cases()]
     return try_all([case for case in cases if given.only in case.name], {"fdr": given.program}, given.seconds)
 
 

@@ -25,6 +25,7 @@ EMPTY = empty_image(16, 64)
 IMAGE = recorded(EMPTY, BITS)
 AGAIN = recorded(IMAGE, BITS)
 SIXTH = BITS[:384]  # the first frame, which is six blocks
+NINES = b"".join(t1_frame(counter, 9) for counter in range(2, 8))  # six frames with another value
 NEXT, AFTER = 12, 24  # the next number of the images, and that after the trace
 
 RECORD = ["record", "t1.csv", "a.img", "b.img"]
@@ -329,6 +330,10 @@ def refusal_cases() -> Iterator[Case]:
     yield Case("a block differs in its length", differs(NEXT), makes=images(longer(IMAGE, 2), recorded(IMAGE, BITS[:32])))
     yield Case("blocks 3 and 9 differ", differs(3), makes=images(IMAGE, altered(altered(IMAGE, slot_at(shape, 9) + HEAD.size), slot_at(shape, 3) + HEAD.size)))
     yield Case("each was recorded in alone", differs(NEXT), makes=images(longer(IMAGE, 3), recorded(IMAGE, t1_frame(1, 5))))
+    # Rings that went round: no block that both still have shows that each side went on alone.
+    six, round_once, round_twice = (recorded(IMAGE, bits) for bits in (t1_frame(2, 5), NINES[: 21 * 64], NINES[: 30 * 64]))
+    yield goes_on("each was recorded in alone, and the one block that both still have is equal", six, round_once)
+    yield Case("each was recorded in alone, and they have no number in common", far_behind("first"), makes=images(six, round_twice))
     yield Case("one was upgraded and the other made anew", differs(0), makes=images(upgraded(old), IMAGE))
     far = altered(longer(IMAGE, 15), slot_at(shape, NEXT) + HEAD.size)
     yield Case("they differ in the last block of one", differs(NEXT), makes=images(far, longer(IMAGE, 1)))

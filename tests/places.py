@@ -15,6 +15,7 @@ import enum
 import fcntl
 import os
 import pathlib
+import pty
 import resource
 import shutil
 import signal
@@ -511,6 +512,29 @@ class Case:
     def may_take(self, said: bytes) -> bool:
         """Whether a run that said this may have taken some of its input."""
         return True
+
+
+class AtATerminal:
+    """A run whose standard error is a terminal, and what a person reads there."""
+
+    def __init__(self, name: str, words: Words, status: int, lines: Sequence[str]) -> None:
+        self.name, self.words, self.status, self.lines = f"{name}, at a terminal", words, status, lines
+
+    def tried(self, place: Place) -> None:
+        reader, terminal = pty.openpty()
+        place.undo.callback(os.close, reader)
+        run = place.run(self.words, err=lambda: os.dup(terminal))
+        status, shown, _ = run.ended()
+        os.close(terminal)
+        said = b"".join(read_until_closed(reader)).replace(b"\r\n", b"\n")
+        want_none(differences_in_answer((status, shown, said), (self.status, ""), b"", self.lines))
+
+
+def read_until_closed(reader: int) -> Iterator[bytes]:
+    """What a terminal was given, after its last writer has closed it: the system then answers with an error."""
+    with contextlib.suppress(OSError):
+        while data := os.read(reader, PIPE_SIZE):
+            yield data
 
 
 class Tried(Protocol):

@@ -1,5 +1,5 @@
 #!/usr/bin/env python3
-"""Goes the walk of examples/ with the built programs, and compares what they print with what its three pages show.
+"""Goes the walk of examples/ with the built programs, and compares what they print with what its four pages show.
 
 tests/walk.py FDR FDRPAIR
 
@@ -17,8 +17,8 @@ import tempfile
 from collections.abc import Iterator
 
 EXAMPLES = pathlib.Path(__file__).resolve().parent.parent / "examples"
-PAGES = ("README.md", "IMAGES.md", "EXCEEDANCES.md")
-COMMAND = re.compile(r"(fdr|fdrpair|put|cp|head|cat|printf) |\(")
+PAGES = ("README.md", "IMAGES.md", "EXCEEDANCES.md", "MISHAPS.md")
+COMMAND = re.compile(r"(fdr|fdrpair|put|cp|head|cat|printf|mkdir|dd) |\(")
 ANNOUNCEMENT = re.compile(r"ack \d+")
 Block = tuple[int, list[str]]  # the number of its first line, and its lines
 Step = tuple[str, list[str], list[str] | None]  # where it is, its commands, and what the page says they print
