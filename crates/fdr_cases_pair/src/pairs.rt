@@ -233,10 +233,19 @@ pub fn with_byte(rt: &(impl Abort + AllocGlobal), image: &[u8], at: usize, byte:
     image
 }
 
-/// The first image has six blocks, and the second lacks the last of them.
+// An image whose slot 5 has only zeros, the image of a disk that never had its block.
+fn without_slot_5(rt: &(impl Abort + AllocGlobal), image: &[u8]) -> Vec<u8> {
+    let mut image = copied(rt, image);
+    for byte in image.iter_mut().skip(GATE_OF_SLOT_5).take(80) {
+        *byte = 0;
+    }
+    image
+}
+
+/// The first image has six blocks, and the second lacks the last of them: its slot has only zeros.
 pub fn one_behind(rt: &(impl Abort + AllocGlobal)) -> Images {
     let first = recorded_image(rt);
-    let second = with_byte(rt, &first, GATE_OF_SLOT_5, 0);
+    let second = without_slot_5(rt, &first);
     Images { first, second }
 }
 

@@ -1,8 +1,8 @@
 //! Recordings on two disks, of which either may fail.
 
 use crate::pairs::{
-    ALIVE, Dead, GATE_OF_SLOT_5, Given, Images, NO_WORDS, ONE_FRAME, calls_of, empty_image, ended,
-    one_behind, record, recorded_image, recorded_over, recovered, run_of, stops, with_byte,
+    ALIVE, Dead, GATE_OF_SLOT_5, Given, Images, Left, NO_WORDS, ONE_FRAME, calls_of, empty_image,
+    ended, one_behind, record, recorded_image, recorded_over, recovered, run_of, stops, with_byte,
 };
 use fdr_deck::Tear;
 use fdr_pair::PairOutcome;
@@ -157,28 +157,52 @@ fn a_stop_leaves_the_announced_blocks_on_each(rt: HostRuntime) {
     }
 }
 
+// How a recording ends where the lead dies: the other side goes on alone, it isn't brought up to the lead yet, or both have all.
+#[derive(Clone, Copy, PartialEq, Eq)]
+enum End {
+    Alone,
+    LeadFault,
+    Both,
+}
+
+// How a recording ended in which the first of these images died, which leads.
+fn end_of(rt: &(impl Abort + AllocGlobal), images: &Images, left: &Left) -> End {
+    let next = run_of(rt, &left.second).1;
+    if left.outcome == PairOutcome::LeadFault(Side::First) {
+        assert!(rt; left.first == images.first && left.told == 0 && next == 5);
+        return End::LeadFault;
+    }
+    assert!(rt; left.outcome == PairOutcome::Done && left.told == next && (next == 5 || next == 6));
+    if next == 5 { End::Alone } else { End::Both }
+}
+
+// The calls up to the last one on the lead while both are compared: two for each header, one for each of 16 slots and for each
+// block of a run of six and of one of five, and two on each side for each of five blocks, but for the last two on the other.
+const CALLS_BEFORE_BRINGING: u64 = 4 + (16 + 6) + (16 + 5) + 5 * 4 - 2;
+
+// And up to the one that gives the block that the other side hasn't: the last two while both are compared, those on the other side,
+// which is opened by the same calls as its run was found, a look at a gate and a sync, and two for the block.
+const CALLS_BEFORE_BROUGHT: u64 = CALLS_BEFORE_BRINGING + 2 + (16 + 5) + 2 + 2;
+
 #[test]
 fn the_first_dies_at_each_call(rt: HostRuntime) {
     let images = one_behind(&rt);
     let given = images.with(&NO_WORDS);
-    let (mut alone, mut lead, mut both) = (false, false, false);
-    for call in 0..calls_of(&rt, given) {
+    let calls = calls_of(&rt, given);
+    assert!(rt; CALLS_BEFORE_BROUGHT < calls);
+    for call in 0..calls {
         let dead = Dead {
             first: Some(call),
             ..ALIVE
         };
         let left = record(&rt, Given { dead, ..given });
-        let next = run_of(&rt, &left.second).1;
-        if left.outcome == PairOutcome::LeadFault(Side::First) {
-            assert!(rt; left.first == images.first && left.told == 0 && next == 5);
-            lead = true;
+        let end = if call < CALLS_BEFORE_BRINGING {
+            End::Alone
+        } else if call < CALLS_BEFORE_BROUGHT {
+            End::LeadFault
         } else {
-            assert!(rt;
-                left.outcome == PairOutcome::Done && left.told == next && (next == 5 || next == 6)
-            );
-            alone = alone || next == 5;
-            both = both || next == 6;
-        }
+            End::Both
+        };
+        assert!(rt; end_of(&rt, &images, &left) == end, "{call}");
     }
-    assert!(rt; alone && lead && both);
 }
