@@ -52,12 +52,19 @@ def test_without_a_description(flight: Tool, write: Write) -> None:
     assert lines[2].split() == "RIGHT 12 U 0.0 511.8 0.125 511.8 rounded down to 0.1".split()
 
 
-@pytest.mark.parametrize("row", ["unit,A,kt", "units,A,kt,", "state,A,1,B,C"])
-def test_a_wrong_description(flight: Tool, write: Write, row: str) -> None:
+@pytest.mark.parametrize(
+    "row, said",
+    [
+        ("unit,A,kt", "field 1: the table has no parameter 'A'"),
+        ("units,A,kt,", "field 0: 'units': unit, state, points, derived and clock are the kinds of rows"),
+        ("state,A,1,B,C", "field 4: the row is state,NAME,VALUE,WORD"),
+    ],
+)
+def test_a_wrong_description(flight: Tool, write: Write, row: str, said: str) -> None:
     table = write("t.csv", TABLE)
     write("t.describe.csv", f"unit,WRONG,kt,\n{row}\n")
     answer = flight("values", table)
-    assert answer == (1, b"", "flight: t.describe.csv line 2: neither unit,NAME,UNIT,TITLE nor state,NAME,VALUE,WORD\n")
+    assert answer == (1, b"", f"flight: t.describe.csv row 1, {said}\n")
 
 
 @pytest.mark.parametrize("field", [(6, "33"), (7, "X"), (8, "1.5"), (9, "0"), (10, "--1"), (11, "10")])

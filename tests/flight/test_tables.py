@@ -92,7 +92,7 @@ def test_pieces_of_any_size_give_the_same(words: tuple[str, ...], wanted: str, s
         writer = tables.GridTable(out, names, tables.Columns(times.sessions), 1_500_000)
     else:
         columns = tables.Columns(times.sessions)
-        writer = tables.WideTable(out, names, columns) if words else tables.LongTable(out, columns)
+        writer = tables.WideTable(out, names, columns) if words else tables.LongTable(out, columns, names)
     lines = LISTING.encode().splitlines(keepends=True)
     for at in range(0, len(lines), size):
         writer.write(times.times(listing.piece_of(b"".join(lines[at : at + size]), 1, names), len(names)))

@@ -15,7 +15,7 @@ recording that the row is of.
 import dataclasses
 import enum
 from dataclasses import dataclass
-from typing import TYPE_CHECKING
+from typing import TYPE_CHECKING, Mapping
 
 import numpy as np
 
@@ -26,11 +26,13 @@ from .parameters import SUPERFRAME, Table
 
 if TYPE_CHECKING:
     from .beside import Placed
+    from .deriving import Worked
 
 SECOND = 1024  # ticks
 FRAME = SUBFRAMES * SECOND
 LATE = SUPERFRAME - 1  # frames from a sample's first part to its last, at the most
 WORD_BITS = 12
+SLACK = 2.0  # seconds that missing time by a recorded clock may be away from what the counter allows
 PLACES = SUBFRAMES * MOST_WORDS  # of a frame, on the clock's line; as many as ticks
 NONE = -1
 MOST_NAMES = 1 << 16  # whose numbers two bytes hold
@@ -78,6 +80,8 @@ class Event(enum.Enum):
     WRAP = "wrap"
     EXCEED = "exceed"
     DOUBTFUL = "doubtful"
+    CLOCK = "clock"
+    EVENT = "event"
 
     @property
     def begins_recording(self) -> bool:
@@ -126,7 +130,8 @@ class Frames:
 class Timed:
     """A piece with its times: for each row the recording and the stretch it is of, and when its sample began. `sessions` has
     the session of each recording so far, where a line told it; `bit` where each row's first word begins, where it is wanted, and
-    `dump_bit` the same with the bits of all sessions before; `doubtful` which rows are, where a file of parts says it."""
+    `dump_bit` the same with the bits of all sessions before; `doubtful` which rows are, where a file of parts says it; `worked` what
+    was worked out of expressions, where there are some."""
 
     piece: Piece
     recording: Array
@@ -138,6 +143,7 @@ class Timed:
     bit: Array | None = None
     dump_bit: Array | None = None
     doubtful: Array | None = None
+    worked: "list[Worked] | None" = None
 
 
 @dataclass
@@ -159,11 +165,13 @@ class Clock:
 
     It counts frames on a line: the number of a row's frame there has the row's counter as its remainder by 4,096, and no
     frame of a stretch is as early there as one of a stretch before. A stretch's own shift makes it the number in its
-    recording. `wrap` is where a memory is known to wrap, in a listing that is read as it was recorded."""
+    recording. `wrap` is where a memory is known to wrap, in a listing that is read as it was recorded; `recorded` how many seconds
+    are missing by a clock that was recorded, by the byte of the row after them, where bits and counter don't say it."""
 
-    def __init__(self, shape: Shape, wrap: Place | None = None) -> None:
+    def __init__(self, shape: Shape, wrap: Place | None = None, recorded: "Mapping[int, float] | None" = None) -> None:
         self.shape = shape
         self.known_wrap = wrap
+        self.recorded = recorded or {}
         self.recording = -1
         self.sessions: list[int | None] = []
         self.stretch = 0
@@ -375,6 +383,8 @@ class Clock:
             return self._anew(gaps, row, line, Event.WRAP, WRAPS)
         if self._agree(missing, bits) and (bits > 0 or missing == 0):
             return self._went_on(gaps, row, line, missing)
+        if self.recorded and piece.byte_of(row) in self.recorded:
+            return self._by_recorded(gaps, row, line, self.recorded[piece.byte_of(row)])
         anew = missing >= ROUND // 2 or line % ROUND == 0
         (self.backs if anew else self.unknown).add(piece, row)
         if anew:
@@ -390,6 +400,22 @@ class Clock:
         by_bits, by_counter = about(bits * FRAME / self.shape.bits), about(missing * FRAME)
         text = f"bits of {by_bits} s, by the counter {by_counter} s: lost bits or another recording"
         return [self._gap(gap, row, begin, end, False, text) for gap in gaps]
+
+    def _by_recorded(self, gaps: list[Mark], row: int, line: int, seconds_missing: float) -> list[Between]:
+        """A stretch begins after so many seconds by a recorded clock: later in the same recording, where the counter allows it."""
+        before = self.newest + self.shift
+        missing = (line - before - 1) % ROUND
+        missing += ROUND * max(0, round((seconds_missing / SUBFRAMES - missing) / ROUND))
+        by_clock = f"by the clock {seconds_missing:.1f} s"
+        if abs(SUBFRAMES * missing - seconds_missing) > SLACK:
+            text = f"the counter goes from {before % ROUND} to {line % ROUND}, {by_clock} later"
+            return self._anew(gaps, row, line, Event.BACK, text)
+        begin, end = (before + 1) * FRAME, (before + 1 + missing) * FRAME
+        self.shift = before + 1 + missing - line
+        if not gaps:
+            text = f"the counter goes from {before % ROUND} to {line % ROUND}: {seconds(missing * FRAME)} s, {by_clock}"
+            return [Between(Event.BREAK, row, self.recording, begin, end, True, text)]
+        return [self._gap(gap, row, begin, end, True, f"{seconds(missing * FRAME)} s, {by_clock}") for gap in gaps]
 
     def _went_on(self, gaps: list[Mark], row: int, line: int, missing: int) -> list[Between]:
         """Time goes on after gaps of a known length."""

@@ -233,6 +233,22 @@ def _add_listing(parser: argparse.ArgumentParser) -> None:
         help="the date of time 0 of the first recording, as 2026-05-04T10:00:00Z; 2=DATE for the second",
     )
     parser.add_argument("--as-recorded", action="store_true", help="the order of the dump where its memory wraps")
+    described = parser.add_argument_group("what values mean", "docs/DESCRIPTIONS.md has the rows of a description.")
+    add_description(described)
+    described.add_argument(
+        "--date",
+        metavar="DATE",
+        action="append",
+        default=[],
+        help="the date of the first recording, as 2026-05-04, where its clock has none; 2=DATE for the second",
+    )
+
+
+def add_description(parser: "argparse.ArgumentParser | argparse._ArgumentGroup") -> None:
+    """The words for a description."""
+    one = parser.add_mutually_exclusive_group()
+    one.add_argument("--describe", metavar="FILE", help="units, states, scales, derived values and a clock; if not given, the .describe.csv beside the table")
+    one.add_argument("--no-describe", dest="describe", action="store_const", const="", help="no description, where there is one beside the table")
 
 
 def _reading(given: argparse.Namespace, with_bits: bool = False) -> tuple[reading.Reading, dates.Dates | None]:
@@ -242,7 +258,7 @@ def _reading(given: argparse.Namespace, with_bits: bool = False) -> tuple[readin
     starts = dates.dates_of(given.start)
     begin, end = (None if text is None else dates.ticks_of(text, starts) for text in (given.begin, given.end))
     wanted = window.Window(given.recording, begin, end, given.zero)
-    how = reading.reading_of(given.table, given.words)
+    how = reading.reading_of(given.table, given.words, given.describe, given.date)
     how.window, how.as_recorded, how.with_bits = wanted, given.as_recorded, with_bits
     if given.parts:
         how.beside = _beside(given.parts, how.table)
@@ -365,7 +381,8 @@ def _columns(given: argparse.Namespace, one: reading.Pass, starts: dates.Dates |
     if (given.bits or given.raw) and not one.shape.every_frame:
         raise Fault("--bits and --raw: by this table frames may be without rows, so it isn't known where they are")
     words = raw.RawWords(given.raw, one.reading.table) if given.raw and one.reading.table else None
-    return tables.Columns(one.sessions, starts, given.bits, words, given.parts is not None, one.reading.window)
+    asked = (starts, given.bits, words, given.parts is not None)
+    return tables.Columns(one.sessions, *asked, one.reading.window, one.reading.utc, one.reading.description)
 
 
 def _table_writer(
@@ -381,7 +398,7 @@ def _table_writer(
         return tables.GridTable(out, names, columns, durations.microseconds(given.every))
     if given.wide:
         return tables.WideTable(out, names, columns)
-    return tables.LongTable(out, columns)
+    return tables.LongTable(out, columns, names)
 
 
 def _add_frame(commands: "argparse._SubParsersAction[argparse.ArgumentParser]") -> None:
@@ -525,19 +542,20 @@ def _saver(path: pathlib.Path) -> Callable[[curves.Flight, pathlib.Path, str], N
 
 def _flight(given: argparse.Namespace, points: int, exceedances: list[listing.Exceedance]) -> curves.Flight:
     """What is drawn of a listing."""
-    from . import curves
+    from . import curves, told
 
     how, _ = _reading(given)
     only = set(given.only.split(",")) if given.only else None
     with opened_again(given.listing) as source:
         for one in how.passes(source):
-            collector = curves.Collector(how.names, only, points, exceedances, _circles(given.angle))
+            collector = curves.Collector(how.names, only, points, exceedances, _circles(given.angle), how.description)
             for timed in one:
                 collector.add(timed)
             flight = collector.end(one.rest)
         _say_passed_over(one.passed_over)
+    flight.utc = how.utc
     flight.put_together([names.split(",") for names in given.together])
-    drawn = {name for name in flight.curves}
+    drawn = {name for curve in flight.curves for name in (curve, curve.removesuffix(told.DERIVED))}
     missing = sorted(((only or set()) | {name for names in flight.together for name in names}) - drawn)
     if missing:
         raise Fault(f"the listing has no parameter {', '.join(missing)}")

@@ -10,8 +10,11 @@ import numpy as np
 
 from .arrays import Array
 from .clock import FRAME, SECOND, Between, Event, Timed
+from .description import SCALED, Described, Description
 from .exceedings import Finder
 from .listing import Exceedance, Names
+from .told import DERIVED
+from .utc import Utc
 
 LEAST = 256  # points of a curve that are kept in any case
 ROOMS = 50  # the room between recordings is this part of the axis,
@@ -20,6 +23,7 @@ FULL_CIRCLE = 360
 ANGLES = ((0, FULL_CIRCLE), (-FULL_CIRCLE // 2, FULL_CIRCLE // 2))  # what angles in degrees are between
 MOST_OF_CIRCLE = 300  # degrees that values spread over, for them to be taken for an angle's
 PART, DOUBTFUL = " (part)", " (doubtful)"  # after the name of a curve of what was read out of gaps, or is doubtful
+MOST_DECIMALS = 6  # that are shown of what was worked out
 CUT = 4  # points that a stretch of time is thinned to, at the most: the first, the least, the greatest and the last
 
 
@@ -68,6 +72,11 @@ def broken_at_wraps(points: Points, circle: float) -> Points:
     return Points(points.time, points.value, np.cumsum(wraps | breaks))
 
 
+def _decimals(values: Array) -> int:
+    """How many decimals show values that were worked out."""
+    return next((count for count in range(MOST_DECIMALS) if np.allclose(np.round(values, count), values, rtol=0, atol=1e-9)), MOST_DECIMALS)
+
+
 def own_name(name: str) -> str:
     """The parameter of a curve."""
     return name.removesuffix(PART).removesuffix(DOUBTFUL)
@@ -82,6 +91,7 @@ class Curve:
         self.count = 0  # points that came
         self.width = 0  # ticks that it is thinned by
         self.decimals = 0
+        self.lacking: list[Array] = []  # times from which on there is no value, where samples have some and some have none
 
     def add(self, points: Points, decimals: int) -> None:
         """Takes points, which are later than those before."""
@@ -89,6 +99,19 @@ class Curve:
         self.held += len(points)
         self.count += len(points)
         self.decimals = max(self.decimals, decimals)
+
+    def lack(self, time: Array, there: Array) -> None:
+        """Takes which samples have a value."""
+        begins = ~there & np.insert(there[:-1], 0, True) if len(there) else there
+        self.lacking.append(time[begins])
+
+    def broken(self, points: Points) -> Points:
+        """Points, broken where samples have no value: each part is as a stretch of its own."""
+        if not any(len(part) for part in self.lacking):
+            return points
+        before = np.searchsorted(np.concatenate(self.lacking), points.time)
+        breaks = (np.diff(before, prepend=before[:1]) != 0) | (np.diff(points.stretch, prepend=points.stretch[:1]) != 0)
+        return Points(points.time, points.value, np.cumsum(breaks))
 
     def points(self, most: int) -> Points:
         """Its points, thinned to at most so many, which alone are held then. All are thinned alike, whenever they came."""
@@ -160,6 +183,22 @@ class Flight:
     exceedings: list[Exceeding]
     recordings: list[Recording]
     together: list[list[str]] = field(default_factory=list)
+    described: dict[str, Described] = field(default_factory=dict)
+    utc: Utc | None = None
+
+    def of(self, name: str) -> Described:
+        """What is said of a curve."""
+        return self.described.get(name, Described())
+
+    def place_of(self, place: int) -> tuple[int, int]:
+        """The recording, counted from 0, that a place of the axis is of, and the time of it there."""
+        number = max((at for at, one in enumerate(self.recordings) if one.put <= place), default=0)
+        one = self.recordings[number]
+        return number, place - one.put + one.first
+
+    def utc_text(self, place: int) -> str:
+        """The time of day at a place of the axis, or nothing."""
+        return self.utc.text(*self.place_of(place)) if self.utc and self.recordings else ""
 
     def groups(self) -> list[list[str]]:
         """The names of the curves of each axis: those that are together, at the place of the first of them, and the others."""
@@ -194,12 +233,14 @@ class Collector:
         total: int,
         exceedances: list[Exceedance],
         circles: Mapping[str, float] | None = None,
+        description: Description | None = None,
     ) -> None:
         self.names = names
+        self.description = description or Description()
         self.circles = circles or {}
         self.only = only
         self.total = total
-        self.curves: dict[int, Curve] = {}
+        self.curves: dict[tuple[int, str], Curve] = {}  # by the parameter's number, or one after these, and the curve's name
         self.recordings: list[Recording] = []
         self.recording_of = [0]  # by stretch
         self.between: list[Between] = []
@@ -222,10 +263,36 @@ class Collector:
             name = int(timed.piece.name[rows[0]])
             if self.only is None or self.names.names[name] in self.only:
                 points = Points(time[rows], timed.piece.value[rows], timed.stretch[rows])
-                curve = self.curves.setdefault(name, Curve())
+                curve = self.curves.setdefault((name, self.names.names[name]), Curve())
                 curve.add(points, int(timed.piece.decimals[rows].max()))
                 self._take_doubtful(timed, rows, time)
+                self._take_scaled(name, points)
+        self._take_derived(timed, time)
         self._thin()
+
+    def _take_scaled(self, number: int, points: Points) -> None:
+        """Takes what points are by a scale of points, if the parameter has one."""
+        scale = self.description.of(self.names.names[number]).points
+        if scale is not None:
+            values = scale.of(points.value)
+            worked = Points(points.time, values, points.stretch)
+            self._take_worked((number, self.names.names[number] + SCALED), worked, np.isfinite(values))
+
+    def _take_derived(self, timed: Timed, time: Array) -> None:
+        """Takes the derived values of a piece."""
+        for number, name in enumerate(self.description.derived):
+            if timed.worked is not None and (self.only is None or name in self.only):
+                rows, values = timed.worked[number].rows, timed.worked[number].values[0]
+                worked = Points(time[rows], values.numbers.astype(np.float64), timed.stretch[rows])
+                self._take_worked((len(self.names) + number, name + DERIVED), worked, values.there)
+
+    def _take_worked(self, key: tuple[int, str], points: Points, there: Array) -> None:
+        """Takes points that were worked out, as far as they have values."""
+        curve = self.curves.setdefault(key, Curve())
+        curve.lack(points.time, there)
+        has = np.flatnonzero(there)
+        if len(has):
+            curve.add(points.only(has), _decimals(points.value[has]))
 
     def _take_doubtful(self, timed: Timed, rows: Array, time: Array) -> None:
         """Takes the doubtful samples among these, of one parameter, once more."""
@@ -273,10 +340,11 @@ class Collector:
         room_of = np.array(self.recording_of, dtype=np.int64) * room
         most = share([curve.held for curve in self.curves.values()], self.total)
         flight = Flight({}, {}, {}, self._spans(room), self._exceedings(), self.recordings)
-        for number in sorted(self.curves):
-            name, curve = self.names.names[number], self.curves[number]
+        for number, name in sorted(key for key, curve in self.curves.items() if curve.parts):
+            curve = self.curves[number, name]
             points = curve.points(most)
-            points.time += room_of[points.stretch]
+            room_before, points = room_of[points.stretch], curve.broken(points)
+            points.time = points.time + room_before
             circle = self.circles.get(name, circle_of(points))
             points = broken_at_wraps(points, circle) if circle else points
             flight.curves[name], flight.decimals[name], flight.counts[name] = points, curve.decimals, curve.count
@@ -284,9 +352,19 @@ class Collector:
             curve = self.apart[own]
             points = self._in_pieces(curve.points(most), room)
             flight.curves[own], flight.decimals[own], flight.counts[own] = points, curve.decimals, curve.count
+        for name in flight.curves:
+            own = own_name(name)
+            flight.described[name] = self._described(own.removesuffix(DERIVED) if own.endswith(DERIVED) else own)
         beside = {name: [name + kind for kind in (PART, DOUBTFUL) if name + kind in self.apart] for name in self.names.names}
         flight.together = [[name] * (name in flight.curves) + own for name, own in beside.items() if own]
         return flight
+
+    def _described(self, name: str) -> Described:
+        """What is said of a curve by its name. A scale of points takes values to the unit, and states are of the values before."""
+        one = self.description.of(name.removesuffix(SCALED))
+        if name.endswith(SCALED):
+            return Described(one.unit, one.title)
+        return Described("", one.title, one.states) if one.points else one
 
     def _take_parts(self, one: Between) -> None:
         """Takes what was read out of a gap."""

@@ -12,7 +12,6 @@ import numpy as np
 
 from .arrays import Array
 from .clock import SECOND, Between, Timed
-from .joining import time_text
 from .listing import MOST_WORDS, SUBFRAMES, Exceedance, Names
 from .tables import Columns, row_text
 
@@ -181,8 +180,7 @@ class ExceedanceTable:
         for recording, begin in found.begins():
             here = [place for place in found.places if (place.recording, place.begin) == (recording, begin)]
             parameter = " ".join(Found(one, tuple(here)).parameters(self.names))
-            head = [*self.columns.label(recording).split(","), time_text(begin)]
-            head += [self.columns.dates.text(recording, begin)] if self.columns.dates else []
+            head = self.columns.head(recording, begin)
             lengths = sorted({(place.last - begin) / SECOND for place in here})
             seconds = " or ".join(f"{length:.6f}" for length in lengths)
             notes = ["(doubtful): a sample of it is in a doubtful frame"] * any(place.doubtful for place in here)

@@ -16,6 +16,17 @@ def is_discrete(points: Points) -> bool:
     return bool(np.isin(points.value, (0, 1)).all())
 
 
+def states_of(flight: Flight, name: str) -> dict[float, str]:
+    """The words for the values of a curve, where each of its values has one or is drawn as one without."""
+    return {float(value): word for value, word in flight.of(name).states.items()}
+
+
+def label_of(flight: Flight, name: str) -> str:
+    """A curve's name with its unit."""
+    unit = flight.of(name).unit
+    return f"{name} [{unit}]" if unit else name
+
+
 @dataclass(frozen=True)
 class Shade:
     """One span or several that are seen as one: from one tick to another, a short name, and what there is to say."""
@@ -54,6 +65,8 @@ def span_name(span: Span) -> str:
         return re.split("[,:]", span.text)[0]
     if span.event is Event.DOUBTFUL:
         return f"({span.event.value})"
+    if span.event in (Event.CLOCK, Event.EVENT):
+        return span.event.value
     if span.event in (Event.RUN, Event.HOLE):
         return span.text.split(": ")[-1]
     if not span.known:
@@ -115,9 +128,10 @@ def _exceeding_text(one: Exceeding) -> str:
 
 def own_clock(flight: Flight, place: int) -> str:
     """A place of the axis as the time of its recording."""
-    number = max((at for at, one in enumerate(flight.recordings) if one.put <= place), default=0)
     if not flight.recordings:
         return clock_text(place / SECOND)
-    one = flight.recordings[number]
-    text = clock_text(max(0, round((place - one.put + one.first) / SECOND, 3)))
+    number, time = flight.place_of(place)
+    text = clock_text(max(0, round(time / SECOND, 3)))
+    utc = flight.utc_text(place)
+    text = f"{text} ({utc})" if utc else text
     return text if len(flight.recordings) == 1 else f"recording {number + 1}, {text}"

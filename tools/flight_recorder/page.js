@@ -11,7 +11,11 @@ const CURVE_COLOURS = ["#1f4e79", "#c0504d", "#4f8a3c", "#7a5195", "#d98c21", "#
 const RED = "217,83,79";
 const GREY = "108,117,125";
 const VIOLET = "142,68,173";
-const COLOURS = { doubtful: VIOLET, gap: RED, break: RED, hole: RED, session: GREY, run: GREY, back: GREY, wrap: GREY };
+const STATE_COLOURS = ["#c9d6e4", "#1f4e79", "#e0b184", "#9cc5a1", "#b39cc5", "#c58f8f", "#8fb8c5", "#c5bf8f"];
+const NO_WORD = "#eeeeee"; // of a value without a word
+const DAY = 86400;
+const SAMPLED_THROUGH = ["doubtful", "clock", "event"]; // what is on the axis and takes no samples away
+const COLOURS = { clock: "42,157,143", event: "217,140,33", doubtful: VIOLET, gap: RED, break: RED, hole: RED, session: GREY, run: GREY, back: GREY, wrap: GREY };
 const EXCEED_COLOUR = "#b8860b";
 const APART = { "(part)": "#e67e22", "(doubtful)": `rgb(${VIOLET})` }; // by what a curve's name ends with
 const FRAME = 4; // seconds
@@ -36,6 +40,8 @@ class Curve {
     this.number = number;
     this.time = null;
     this.apart = APART[this.name.split(" ")[1]];
+    this.words = new Map(this.states);
+    this.label = this.unit ? `${this.name} [${this.unit}]` : this.name;
   }
 
   // Reads the points.
@@ -107,12 +113,14 @@ class Curve {
     return chosen;
   }
 
-  // The value that was sampled last at a time, as text; nothing between stretches.
+  // The value that was sampled last at a time, as text, with its word or its unit; nothing between stretches.
   at(time) {
     const after = this.firstFrom(time + 1);
     const isThere = this.apart ? after > 0 && time - this.time[after - 1] < FRAME * flight.second : after > 0 && !isBetween(time);
     if (!isThere) return "\u2013";
-    return this.value[after - 1].toFixed(this.decimals);
+    const value = this.value[after - 1];
+    const more = this.words.get(value) || this.unit;
+    return value.toFixed(this.decimals) + (more ? ` ${more}` : "");
   }
 }
 
@@ -121,7 +129,10 @@ class Group {
   constructor(curves) {
     this.curves = curves;
     this.name = curves.map((curve) => curve.name).join(", ");
-    this.isBand = curves.length === 1 && curves[0].steps;
+    this.hasStates = curves.length === 1 && curves[0].states.length > 0;
+    this.isBand = this.hasStates || (curves.length === 1 && curves[0].steps);
+    this.label = curves.map((curve) => curve.label).join(", ");
+    this.title = [...new Set(curves.map((curve) => curve.title).filter((title) => title))].join("; ");
   }
 
   isLoaded() {
@@ -153,7 +164,7 @@ class Group {
 }
 
 function isBetween(time) {
-  return flight.spans.some((span) => span.event !== "doubtful" && span.begin < time && time < span.end);
+  return flight.spans.some((span) => !SAMPLED_THROUGH.includes(span.event) && span.begin < time && time < span.end);
 }
 
 // A place of the axis: which recording's it is, and the recording's own time there.
@@ -167,7 +178,17 @@ function clock(seconds) {
     else high = middle;
   }
   const [put, first] = flight.recordings[low];
-  return { number: low + 1, text: text(seconds - (put - first) / flight.second) };
+  const own = seconds - (put - first) / flight.second;
+  return { number: low + 1, text: text(own), utc: utc(low, own) };
+}
+
+// The time of day at a recording's own time, as far as it is known.
+function utc(recording, own) {
+  const fit = flight.utc && flight.utc.fits[recording];
+  if (!fit) return "";
+  const thousandths = Math.floor((fit[0] + own * fit[1]) * 1000 + 1e-3);
+  const since = flight.utc.dates ? thousandths : ((thousandths % (DAY * 1000)) + DAY * 1000) % (DAY * 1000);
+  return new Date(since).toISOString().slice(flight.utc.dates ? 0 : 11);
 }
 
 // Seconds as hours, minutes and seconds.
@@ -195,10 +216,13 @@ function ticker(begin, end, pixels) {
     if (from > to) return;
     while (ticks.length && ticks[ticks.length - 1].v > from - wanted / 2) ticks.pop();
     for (let one = Math.ceil((from - shift) / step - 1e-9); one * step + shift <= to; one++) {
-      ticks.push({ v: one * step + shift, own: one * step });
+      ticks.push({ v: one * step + shift, own: one * step, at });
     }
   });
-  return ticks.map(({ v, own }) => ({ v, label: text(own) }));
+  return ticks.map(({ v, own, at }) => {
+    const day = utc(at, own).slice(-13, step < 1 ? undefined : -5);
+    return { v, label: text(own) + (day ? `<br>${day}` : "") };
+  });
 }
 
 class Page {
@@ -230,9 +254,9 @@ class Page {
       const label = document.createElement("label");
       const box = Object.assign(document.createElement("input"), { type: "checkbox", checked: at < SHOWN_AT_FIRST });
       box.addEventListener("change", () => (box.checked ? this.show(group) : this.hide(group)));
-      label.title = group.curves.map(({ count, kept }) =>
+      label.title = (group.title ? `${group.title}: ` : "") + group.curves.map(({ count, kept }) =>
         `${count} samples` + (kept < count ? `, thinned to ${kept} with their extremes` : "")).join("; ");
-      label.append(box, " ", group.name);
+      label.append(box, " ", group.label);
       nav.append(label);
       this.boxes.set(group.name, box);
     });
@@ -279,7 +303,8 @@ class Page {
     const chart = Object.assign(document.createElement("div"), { className: group.isBand ? "chart band" : "chart" });
     const [plot, name, pointer] = ["plot", "name", "pointer"].map((kind) =>
       chart.appendChild(Object.assign(document.createElement("div"), { className: kind })));
-    name.textContent = group.name;
+    name.textContent = group.label;
+    if (group.title) chart.appendChild(Object.assign(document.createElement("div"), { className: "title", textContent: group.title }));
     const later = this.groups.slice(this.groups.indexOf(group) + 1).find((other) => this.charts.has(other.name));
     section.insertBefore(chart, later ? this.charts.get(later.name).chart : null);
     const graph = new Dygraph(plot, this.rowsOf(group), this.options(group));
@@ -296,21 +321,22 @@ class Page {
   }
 
   options(group) {
-    const band = { fillGraph: true, fillAlpha: 0.85, valueRange: [0, 1] };
+    const band = group.hasStates ? { strokeWidth: 0, valueRange: [0, 1] } : { strokeWidth: 1, fillGraph: true, fillAlpha: 0.85, valueRange: [0, 1] };
+    const x = { ticker, axisLabelFormatter: String, axisLabelFontSize: 11, drawAxis: !group.isBand };
     const y = { axisLabelWidth: LABEL_WIDTH - 8, axisLabelFontSize: 11, pixelsPerLabel: 24 };
     return {
       labels: ["time", ...group.curves.map((curve) => curve.name)],
       colors: group.curves.map((curve, at) => curve.apart || CURVE_COLOURS[at % CURVE_COLOURS.length]),
       connectSeparatedPoints: group.curves.length > 1,
-      ...(group.isBand ? band : { yRangePad: 6 }),
+      ...(group.isBand ? band : { strokeWidth: 1, yRangePad: 6 }),
+      ...(flight.utc && !group.isBand ? { xAxisHeight: 34 } : {}),
       legend: "never",
       dateWindow: this.window,
       stepPlot: group.isBand,
-      strokeWidth: 1,
-      highlightCircleSize: 3,
+      highlightCircleSize: group.hasStates ? 0 : 3,
       gridLineColor: "#dde",
       axes: {
-        x: { ticker, axisLabelFormatter: String, axisLabelFontSize: 11, drawAxis: !group.isBand },
+        x,
         y: group.isBand ? { ...y, ticker: () => [] } : y,
       },
       interactionModel: { ...Dygraph.defaultInteractionModel, dblclick: () => this.setWindow(this.whole) },
@@ -343,7 +369,7 @@ class Page {
   point(time) {
     const where = document.getElementById("where");
     for (const { graph, name, pointer, group } of this.charts.values()) {
-      name.textContent = time === null ? group.name : group.at(Math.round(time * flight.second));
+      name.textContent = time === null ? group.label : group.at(Math.round(time * flight.second));
       pointer.style.display = time === null ? "none" : "block";
       if (time !== null) pointer.style.left = `${graph.toDomXCoord(time)}px`;
     }
@@ -351,9 +377,9 @@ class Page {
       where.textContent = "";
       return;
     }
-    const { number, text } = clock(time);
+    const { number, text, utc } = clock(time);
     const span = flight.spans.find((one) => one.begin <= time * flight.second && time * flight.second <= one.end);
-    where.textContent = (flight.recordings.length > 1 ? `recording ${number}, ` : "") + text + (span ? `: ${span.text}` : "");
+    where.textContent = (flight.recordings.length > 1 ? `recording ${number}, ` : "") + text + (utc ? `, ${utc}` : "") + (span ? `: ${span.text}` : "");
   }
 
   // How many points the charts draw.
@@ -377,6 +403,7 @@ function shade(canvas, area, graph, group) {
   canvas.rect(area.x, area.y, area.w, area.h);
   canvas.clip();
   canvas.font = "10px sans-serif";
+  if (group.hasStates) fill(canvas, area, graph, group.curves[0]);
   for (const span of flight.spans) {
     const begin = graph.toDomXCoord(span.begin / flight.second);
     const end = graph.toDomXCoord(span.end / flight.second);
@@ -386,6 +413,28 @@ function shade(canvas, area, graph, group) {
   }
   mark(canvas, area, graph, group);
   canvas.restore();
+}
+
+// Fills a band by the states of its curve, with their words where they have room.
+function fill(canvas, area, graph, curve) {
+  const [begin, end] = graph.xAxisRange().map((one) => one * flight.second);
+  const rows = curve.rows(begin, end, area.w);
+  const colours = new Map(curve.states.map(([value], at) => [value, STATE_COLOURS[at % STATE_COLOURS.length]]));
+  for (let at = 0, next = 1; at < rows.length; at = next, next = at + 1) {
+    const [time, value] = rows[at];
+    if (value === null) continue;
+    while (next < rows.length && rows[next][1] === value) next++;
+    const until = next < rows.length && rows[next][1] !== null ? rows[next][0] : rows[next - 1][0];
+    const left = Math.max(area.x, graph.toDomXCoord(time));
+    const right = Math.min(area.x + area.w, graph.toDomXCoord(until));
+    canvas.fillStyle = colours.get(value) || NO_WORD;
+    canvas.fillRect(left, area.y, Math.max(1, right - left), area.h);
+    const word = curve.words.get(value);
+    if (word && canvas.measureText(word).width + 8 < right - left) {
+      canvas.fillStyle = canvas.fillStyle === STATE_COLOURS[1] ? "#ffffff" : "#222222";
+      canvas.fillText(word, (left + right - canvas.measureText(word).width) / 2, area.y + area.h / 2 + 3);
+    }
+  }
 }
 
 // Numbers what is in the list, and draws lines where exceedances began, which are behind the curve.

@@ -14,7 +14,7 @@ from .arrays import Array
 from .clock import SECOND
 from .curves import Flight, Points
 from .faults import MissingPackage
-from .naming import happenings, is_discrete, own_clock, seen
+from .naming import happenings, is_discrete, own_clock, seen, states_of
 
 LIBRARY = pathlib.Path("/usr/share/javascript/dygraphs")  # where Debian puts it
 HERE = pathlib.Path(__file__).parent
@@ -89,6 +89,7 @@ def data_of(flight: Flight) -> dict[str, Any]:
         "second": SECOND >> shift,
         "end": flight.end >> shift,
         "recordings": [[one.put >> shift, one.first >> shift] for one in flight.recordings],
+        "utc": _utc(flight),
         "spans": [
             {
                 "event": span.event.value,
@@ -117,6 +118,14 @@ def data_of(flight: Flight) -> dict[str, Any]:
     }
 
 
+def _utc(flight: Flight) -> dict[str, Any] | None:
+    """The time of day: whether dates are known, and for each recording the seconds at its time 0 and how fast they go, or nothing."""
+    if flight.utc is None:
+        return None
+    of = [flight.utc.fits.get(number) for number in range(len(flight.recordings))]
+    return {"dates": flight.utc.has_dates, "fits": [None if one is None else [one.offset, 1 + one.rate] for one in of]}
+
+
 def _shift(flight: Flight) -> int:
     """The bits that a time of the page lacks."""
     return max(0, flight.end.bit_length() - MOST_BITS)
@@ -131,6 +140,9 @@ def _curve(flight: Flight, name: str, points: Points) -> dict[str, Any]:
         "kept": len(points),
         "steps": is_discrete(points),
         "isWhole": _whole(points, flight.decimals[name]) is not None,
+        "unit": flight.of(name).unit,
+        "title": flight.of(name).title,
+        "states": [[value, word] for value, word in states_of(flight, name).items()],
     }
 
 

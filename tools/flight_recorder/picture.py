@@ -14,7 +14,7 @@ from .arrays import Array
 from .clock import SECOND, Event
 from .curves import PART, Flight, Points, own_name
 from .faults import Fault
-from .naming import Happening, clock_text, happenings, is_discrete, own_clock, seen
+from .naming import Happening, clock_text, happenings, is_discrete, label_of, own_clock, seen, states_of
 
 WIDTH = 11.0  # inches
 ROW = 1.15  # inches of a curve
@@ -26,18 +26,22 @@ MOST_SIGNS = 150  # of a line
 CLOSE = 1 / 90  # of the axis, between numbers that are written one above the other
 LEVELS = 3
 MOST_CURVES = 100
+DATE, DAY_TIME, MILLI = len("2026-05-04"), len("10:00:00.000Z"), len(".000Z")
 TICKS = 8  # on the axis of time, about
 STEPS = (1, 2, 5, 10, 15, 30, 60, 120, 300, 600, 900, 1800, 3600, 7200, 14400, 28800, 86400)  # seconds between them
 NARROWEST = 1 / 600  # of the axis, for a span to be seen
 RED, GREY, VIOLET = "#d9534f", "#6c757d", "#8e44ad"
 COLOURS = {Event.GAP: RED, Event.BREAK: RED, Event.HOLE: RED} | dict.fromkeys(
     (Event.SESSION, Event.RUN, Event.BACK, Event.WRAP), GREY
-) | {Event.DOUBTFUL: VIOLET}
+) | {Event.DOUBTFUL: VIOLET, Event.CLOCK: "#2a9d8f", Event.EVENT: "#d98c21"}
 PART_COLOUR = "#e67e22"
 EXCEED_COLOUR = "#b8860b"
 CURVE_COLOUR = "#1f4e79"
 TOGETHER_COLOURS = (CURVE_COLOUR, "#c0504d", "#4f8a3c", "#7a5195", "#d98c21", "#2a9d8f")
 BAND_COLOUR = "#c9d6e4"  # of a discrete that is 0
+STATE_COLOURS = (BAND_COLOUR, CURVE_COLOUR, "#e0b184", "#9cc5a1", "#b39cc5", "#c58f8f", "#8fb8c5", "#c5bf8f")
+NO_WORD = "#eeeeee"  # of a value without a word
+SIGN = 1 / 130  # of the axis, that a sign of a word takes
 
 
 def save(flight: Flight, path: pathlib.Path, title: str) -> None:
@@ -55,26 +59,31 @@ def figure_of(flight: Flight, title: str = "") -> Figure:
     if count > MOST_CURVES:
         raise Fault(f"{count} parameters are too many for a picture, which has up to {MOST_CURVES}: choose with --only")
     groups = flight.groups() or [[]]
-    bands = [len(group) == 1 and is_discrete(flight.curves[group[0]]) for group in groups]
+    with_states = [len(group) == 1 and bool(states_of(flight, group[0])) for group in groups]
+    bands = [states or len(group) == 1 and is_discrete(flight.curves[group[0]]) for states, group in zip(with_states, groups)]
     events = happenings(flight, flight.end * NARROWEST)
     lines = listed(flight, events)
-    below = 0.42 + LINE * (len(lines) + 1 if lines else 0)
+    axis = 0.42 if flight.utc is None else 0.57
+    below = axis + LINE * (len(lines) + 1 if lines else 0)
     inches = [BAND if band else ROW for band in bands]
     height = 0.5 + below + sum(inches)
     figure = Figure(figsize=(WIDTH, height), dpi=100)
     figure.subplots_adjust(left=0.09, right=0.98, top=1 - 0.5 / height, bottom=below / height, hspace=0.12)
     ratios = {"height_ratios": inches}
     all_axes = figure.subplots(len(groups), 1, sharex=True, squeeze=False, gridspec_kw=ratios)[:, 0]
-    for axes, group, is_band in zip(all_axes, groups, bands):
-        if is_band:
+    for axes, group, is_band, has_states in zip(all_axes, groups, bands, with_states):
+        if has_states:
+            _draw_states(axes, group[0], flight)
+        elif is_band:
             _draw_band(axes, group[0], flight.curves[group[0]])
         else:
             _draw_group(axes, {name: flight.curves[name] for name in group})
+        _name(axes, group, flight, is_band)
         _shade(axes, flight)
     _mark(list(all_axes), groups, events, flight)
     _time_axis(all_axes[-1], flight)
     for at, line in enumerate(lines):
-        place = (below - 0.42 - LINE * (at + 0.5)) / height
+        place = (below - axis - LINE * (at + 0.5)) / height
         figure.text(0.05, place, line, fontsize=7, va="top", family="monospace")
     if title:
         figure.suptitle(title, x=0.09, y=1 - 0.04 / height, ha="left", va="top", fontsize=11)
@@ -106,8 +115,7 @@ def _draw_group(axes: Axes, curves: dict[str, Points]) -> None:
     for name, points in curves.items():
         if name not in own:
             _draw(axes, name, points, PART_COLOUR if name.endswith(PART) else VIOLET)
-    names = list(dict.fromkeys(own_name(name) for name in curves))
-    axes.set_ylabel("\n".join(names), rotation=0, ha="right", va="center", fontsize=9)
+    names = {own_name(name) for name in curves}
     if len(curves) > 1:
         lines = [line for line in axes.get_lines() if line.get_label() in curves]
         axes.legend(handles=lines, fontsize=7, loc="upper right" if len(names) == len(curves) else "upper left", framealpha=0.6)
@@ -151,10 +159,62 @@ def _draw_band(axes: Axes, name: str, points: Points) -> None:
     whole, ones = bars(points)
     axes.broken_barh(whole, (0, 1), facecolors=BAND_COLOUR, edgecolors=BAND_COLOUR, linewidth=0.6, label=name)
     axes.broken_barh(ones, (0, 1), facecolors=CURVE_COLOUR, edgecolors=CURVE_COLOUR, linewidth=0.6, label=f"{name} is 1")
-    axes.set_ylabel(name, rotation=0, ha="right", va="center", fontsize=9)
+    _as_band(axes)
+
+
+def _as_band(axes: Axes) -> None:
     axes.set_ylim(0, 1)
     axes.set_yticks([])
     axes.tick_params(labelsize=7)
+
+
+def _name(axes: Axes, group: list[str], flight: Flight, is_band: bool) -> None:
+    """Names the curves of an axis, with their units, and their titles within."""
+    of = list(dict.fromkeys(label_of(flight, own_name(name)) for name in group))
+    label = "\n".join(of) if is_band or len(of) != 1 else of[0].replace(" [", "\n[").replace(" (", "\n(")
+    axes.set_ylabel(label, rotation=0, ha="right", va="center", fontsize=9)
+    titles = list(dict.fromkeys(title for name in group if (title := flight.of(name).title)))
+    if titles and not is_band:
+        axes.text(0.004, 0.96, "; ".join(titles), transform=axes.transAxes, fontsize=7, color=GREY, va="top", label="title")
+
+
+def runs(points: Points) -> tuple[Array, Array, Array]:
+    """The runs of one value: where each begins, how long it is until the next one or the last sample of its stretch, in seconds, and
+    its value."""
+    ends = np.append(np.diff(points.stretch) != 0, True)
+    change = ends | np.append(np.diff(points.value) != 0, True)
+    until = np.where(ends, points.time, np.append(points.time[1:], points.time[-1:]))
+    last = np.flatnonzero(change)
+    first = np.insert(last + 1, 0, 0)[: len(last)]
+    return points.time[first] / SECOND, (until[last] - points.time[first]) / SECOND, points.value[first]
+
+
+def _draw_states(axes: Axes, name: str, flight: Flight) -> None:
+    """Draws a band in which each state has its colour, with its word where it has room, or in a legend."""
+    words = states_of(flight, name)
+    begin, length, value = runs(flight.curves[name])
+    unsaid = []
+    for state, colour in zip(words, itertools.cycle(STATE_COLOURS)):
+        its = np.flatnonzero(value == state)
+        is_said = _draw_state(axes, begin[its], length[its], colour, words[state], flight.end / SECOND)
+        unsaid += [] if is_said or not len(its) else [axes.collections[-1]]
+    if unsaid:
+        axes.legend(handles=unsaid, fontsize=6, loc="center right", ncol=len(unsaid), framealpha=0.85, handlelength=0.7, borderpad=0.2)
+    others = np.flatnonzero(~np.isin(value, list(words)))
+    if len(others):
+        _draw_state(axes, begin[others], length[others], NO_WORD, "", flight.end / SECOND)
+    _as_band(axes)
+
+
+def _draw_state(axes: Axes, begin: Array, length: Array, colour: str, word: str, end: float) -> bool:
+    """Draws the bars of a state, and answers whether its word stands in one of them."""
+    bars_of = _pairs(np.stack((begin, length), axis=1))
+    axes.broken_barh(bars_of, (0, 1), facecolors=colour, edgecolors=colour, linewidth=0.6, label=word)
+    wide = [(first, size) for first, size in bars_of if word and size > end * SIGN * (len(word) + 2)]
+    for first, size in wide:
+        ink = "white" if colour == CURVE_COLOUR else "black"
+        axes.text(first + size / 2, 0.5, word, ha="center", va="center", fontsize=7, color=ink)
+    return bool(wide)
 
 
 def _shade(axes: Axes, flight: Flight) -> None:
@@ -203,10 +263,23 @@ def _time_axis(axes: Axes, flight: Flight) -> None:
     step = next((step for step in STEPS if step >= wanted), STEPS[-1] * int(wanted // STEPS[-1] + 1))
     ticks = time_ticks(flight, wanted, step)
     axes.xaxis.set_major_locator(FixedLocator([place for place, _ in ticks]))
-    labels = dict(ticks)
+    labels = {place: _with_utc(flight, place, text) for place, text in ticks}
     axes.xaxis.set_major_formatter(FuncFormatter(lambda place, _: labels.get(place, "")))
     several = " of each recording" if len(flight.recordings) > 1 else ""
-    axes.set_xlabel(f"time{several}, h:mm:ss", fontsize=8)
+    below = "" if flight.utc is None else "; below it the time of day, UTC"
+    axes.set_xlabel(f"time{several}, h:mm:ss{below}{_date(flight)}", fontsize=8)
+
+
+def _with_utc(flight: Flight, place: float, text: str) -> str:
+    """The label of a tick, with the time of day below it where that is known."""
+    utc = flight.utc_text(round(place * SECOND))
+    return f"{text}\n{utc[-DAY_TIME:-MILLI]}" if utc else text
+
+
+def _date(flight: Flight) -> str:
+    """The date at the beginning, if it is known."""
+    utc = flight.utc_text(0)
+    return f", from {utc[:DATE]}" if len(utc) > DAY_TIME else ""
 
 
 def time_ticks(flight: Flight, wanted: float, step: int) -> list[tuple[float, str]]:

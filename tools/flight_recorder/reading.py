@@ -1,17 +1,24 @@
 """A listing with its times, as the commands take it: checked against its table, and read again where its memory wraps."""
 
+import datetime
+import pathlib
 from dataclasses import dataclass, field, replace
-from typing import Iterator
+from typing import Iterator, Sequence
 
 import numpy as np
 
 from .arrays import Array
-from . import places
+from . import description, places
+from . import utc as time_of_day
 from .addresses import Addresses
 from .beside import Beside, Placing, doubtful_between
 from .clock import Between, Clock, Timed, shape_of
+from .deriving import Deriving, Request
+from .description import SCALED, Description, RecordedClock
+from .faults import Fault
 from .listed_doubts import beside_of
 from .listing import Kind, Mark, Names, Piece, Place, empty_piece, read_listing
+from .noting import Noting
 from .parameters import Table, read_table
 from .streams import Again
 from .window import Window, Zero
@@ -41,7 +48,7 @@ class PassedOver:
 
 @dataclass
 class Reading:
-    """How a listing is read."""
+    """How a listing is read. Of a description with a clock `utc` and `notes` are there once `passes` has read the listing for it."""
 
     table: Table | None
     words: int | None
@@ -51,10 +58,25 @@ class Reading:
     with_bits: bool = False
     beside: Beside | None = None
     names: Names = field(default_factory=Names)
+    description: Description = field(default_factory=Description)
+    dates: dict[int, datetime.date] = field(default_factory=dict)  # of a clock without one
+    more: list[Request] = field(default_factory=list)  # what is worked out beside the derived values
+    notes: list[Between] = field(default_factory=list)  # to be put between rows
+    utc: time_of_day.Utc | None = None
+    missing: dict[int, float] = field(default_factory=dict)  # seconds by the clock, where they were guessed
+
+    @property
+    def requests(self) -> list[Request]:
+        """What is worked out: the derived values in their order, and more."""
+        return [*(Request((one.expression,)) for one in self.description.derived.values()), *self.more]
 
     def passes(self, source: Again) -> Iterator["Pass"]:
         """The listing, from its beginning to its end. Where it turns out then that frames are doubtful or that the memory wraps, once
-        more, and the last one is the one that counts."""
+        more, and the last one is the one that counts. A listing with a clock is read for it first."""
+        if self.description.clock is not None and self.utc is None:
+            wrap = self._read_clock(source, self.description.clock)
+            yield Pass(self, source, wrap)
+            return
         first = Pass(self, source, None)
         yield first
         if self.beside is None and self.table is not None and first.clock.is_odd:
@@ -67,10 +89,44 @@ class Reading:
             yield Pass(self, source, wrap)
 
 
-def reading_of(table: str | None, words: int | None) -> Reading:
-    """How a listing is read by the table of this path, or by the number of words alone."""
+    def _read_clock(self, source: Again, clock: RecordedClock) -> "Wrap | None":
+        """Reads a listing for what its clock says, and answers where its memory wraps. What the clock says decides how long gaps are
+        and where recordings begin, as far as that was guessed; where it does, the listing is read for it once more."""
+        request = time_of_day.request_of(clock, self.description.expressions())
+        aside = replace(self, more=[*self.more, request], window=Window(from_zero=self.window.from_zero), cuts=False, with_bits=False)
+        aside.description = replace(self.description, clock=None)
+        wrap: Wrap | None = None
+        for one in aside.passes(source):
+            collected, wrap = self._collected(clock, one), one.given_wrap
+        self.beside = aside.beside
+        self.missing = aside.missing = collected.missing()
+        if self.missing:
+            collected = self._collected(clock, Pass(aside, source, wrap))
+        assert self.table is not None
+        found = time_of_day.found(collected, self.dates, self.table, [name.removesuffix(SCALED) for name in request.names])
+        self.utc, self.notes = found.utc, [*found.notes, *self.notes]
+        return wrap
+
+    def _collected(self, clock: RecordedClock, one: "Pass") -> time_of_day.Collected:
+        collected = time_of_day.Collected(clock, len(self.requests))
+        for timed in one:
+            collected.add(timed)
+        return collected
+
+
+def reading_of(table: str | None, words: int | None, describe: str | None = None, dates: Sequence[str] = ()) -> Reading:
+    """How a listing is read by the table of this path, or by the number of words alone. `describe` is the path of a description, or
+    None for the one beside the table, or empty for none."""
     known = read_table(table) if table else None
-    return Reading(known, words, names=Names(list(known.parameters) if known else None))
+    made = Reading(known, words, names=Names(list(known.parameters) if known else None))
+    if known is None and describe:
+        raise Fault("--describe needs --table, whose parameters it describes")
+    if known is not None and table is not None and describe != "":
+        made.description = description.read(pathlib.Path(describe), known) if describe else description.read_beside(pathlib.Path(table), known)
+    made.dates = time_of_day.dates_of(dates)
+    if made.dates and made.description.clock is None:
+        raise Fault("--date is for a description with a clock")
+    return made
 
 
 class Pass:
@@ -82,24 +138,37 @@ class Pass:
         self.given_wrap = wrap
         self.shape = shape_of(reading.table, reading.words)
         in_order = reading.as_recorded
-        self.clock = Clock(self.shape, wrap.place if wrap and in_order else None)
+        self.clock = Clock(self.shape, wrap.place if wrap and in_order else None, reading.missing)
         is_exact = reading.table is not None and self.shape.every_frame
         self.addresses = Addresses(self.shape, is_exact, wrap.bit if wrap and not in_order else 0)
         self.starts = places.starts_of(reading.table) if reading.table else None
         self.placing = Placing(reading.beside, self.shape.bits) if reading.beside else None
         self.zero = Zero() if reading.window.from_zero else None
+        self.deriving: Deriving | None = None
+        if reading.requests and reading.table is not None:
+            self.deriving = Deriving(reading.requests, reading.names, reading.table, reading.description)
+        self.noting = Noting(reading.notes) if reading.notes else None
         self.sessions = self.clock.sessions
         self.rest: list[Between] = []
         self.passed_over = PassedOver()
         self.found: Wrap | None = None
 
     def __iter__(self) -> Iterator[Timed]:
-        for piece in self._pieces():
-            yield self._timed(piece)
+        for timed in self._worked():
+            timed = self.noting.add(timed) if self.noting else timed
+            yield self.reading.window.cut(timed) if self.reading.cuts else timed
         self.rest = self.clock.end()
         self.rest = self.placing.end(self.rest) if self.placing else self.rest
         self.rest = self.zero.betweens(self.rest) if self.zero else self.rest
+        self.rest = self.noting.rest(self.rest) if self.noting else self.rest
         self.rest = self.reading.window.betweens(self.rest) if self.reading.cuts else self.rest
+
+    def _worked(self) -> Iterator[Timed]:
+        """The pieces with their times, and with what is worked out."""
+        for piece in self._pieces():
+            timed = self._timed(piece)
+            yield from self.deriving.add(timed) if self.deriving else [timed]
+        yield from self.deriving.rest() if self.deriving else []
 
     def wrap(self) -> Wrap | None:
         """Where the memory wraps, once the listing was read."""
@@ -132,8 +201,7 @@ class Pass:
             bit = self._bits(timed, bits)
             origins = np.repeat(self.addresses.origins, np.diff(timed.frames.first, append=len(piece)))
             timed = replace(timed, bit=bit, dump_bit=np.where(bit >= 0, bit + origins, -1))
-        timed = self.zero.shift(timed) if self.zero else timed
-        return self.reading.window.cut(timed) if self.reading.cuts else timed
+        return self.zero.shift(timed) if self.zero else timed
 
     def _on_the_clock(self, piece: Piece) -> Timed:
         """The times of a piece, which go on over doubtful frames by the counters that fit."""

@@ -71,7 +71,7 @@ class Report:
     runs: list[Ran] = field(default_factory=list)
     refusals: list[Ran] = field(default_factory=list)
     dates: dates.Dates | None = None
-    described: dict[str, description.Described] = field(default_factory=dict)
+    description: description.Description = field(default_factory=description.Description)
     words: int = 0
     facts: facts.Facts | None = None
     survey: Survey | None = None
@@ -150,8 +150,6 @@ def _begin(settings: Settings, inputs: Inputs, program: Program, begun: str) -> 
         raise Fault("--slots and --payload are of an image")
     report = Report(settings, inputs, program, is_image, header, likely, holder_of(source), begun)
     report.dates = dates.dates_of(list(settings.start))
-    if "description" in inputs.seen:
-        report.described = description.read(pathlib.Path(inputs.path("description")))
     return report
 
 
@@ -180,6 +178,8 @@ def _fill(report: Report, maker: Maker) -> None:
         return
     table = read_table(table_path)
     report.words = table.words
+    if "description" in report.inputs.seen:
+        report.description = description.read(pathlib.Path(report.inputs.path("description")), table)
     is_read = _run_image(report, maker, table_path, source) if report.is_image else _run_bits(maker, table_path, source)
     if not is_read:
         return
@@ -297,7 +297,7 @@ def _read(report: Report, folder: pathlib.Path, table: Table, exceedances: list[
             survey = Survey(how.names, ranges, {rule.parameter for rule in rules})
             collector = curves.Collector(how.names, None, POINTS, exceedances)
             with open(folder / "values.csv", "wb") as out, hdf.Store(folder / "values.h5", columns) as store:
-                writers: list[tables.TableWriter] = [tables.LongTable(out, columns), hdf.LongStore(store, how.names)]
+                writers: list[tables.TableWriter] = [tables.LongTable(out, columns, how.names), hdf.LongStore(store, how.names)]
                 for timed in one:
                     for writer in writers:
                         writer.write(timed)

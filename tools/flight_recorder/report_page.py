@@ -281,14 +281,14 @@ def _parameters(report: Report) -> str:
         if values is None:
             rows.append([_title_of(report, name), 0, None, None, None, "no value"])
         else:
-            unit = report.described[name].unit if name in report.described else ""
+            unit = report.description.of(name).unit
             ends = [values.least, values.greatest, unit]
             rows.append([_title_of(report, name), values.count, *ends, "; ".join(_remarks(report, name, values))])
     return _table(["parameter", "values", "least", "greatest", "unit", "remarks"], rows, "values.csv")
 
 
 def _title_of(report: Report, name: str) -> str:
-    title = report.described[name].title if name in report.described else ""
+    title = report.description.of(name).title
     return f"{name}: {title}" if title else name
 
 

@@ -8,23 +8,27 @@ import csv
 import io
 from dataclasses import dataclass, field
 from itertools import groupby
-from typing import BinaryIO, Iterator, Protocol
+from typing import BinaryIO, Callable, Iterator, Protocol
 
 import numpy as np
+import pandas
 
 from .arrays import Array
-from .clock import FRAME, LATE, SECOND, Between, Timed
+from .clock import FRAME, LATE, SECOND, Between, Event, Timed
 from .dates import Dates
+from .description import SCALED, Description
 from .joining import Field, Places, Text, field_in, fractions_of, joined, numbers_after, rows_of, time_text
 from .listing import Names
 from .raw import RawWords
+from .told import STATE, Column, Told, derived_values, texts_of
+from .utc import Utc
 from .window import Window
 
 MICRO = 1_000_000
 SECOND_BITS = SECOND.bit_length() - 1
 MOST_CELLS = 1 << 18  # of a grid that are written at once
 DOUBTFUL = b"(doubtful)"
-OWN = ("recording", "session", "time", "date", "note")  # columns that are no parameter's
+AT_THEIR_TIMES = (Event.CLOCK, Event.EVENT)  # between rows of one stretch, at their times
 
 
 def row_text(cells: list[str]) -> bytes:
@@ -36,7 +40,8 @@ def row_text(cells: list[str]) -> bytes:
 
 @dataclass
 class Columns:
-    """What rows have beside their samples: the session of each recording, and the dates, bits and words that are asked for."""
+    """What rows have beside their samples: the session of each recording, the dates, bits and words that are asked for, and what a
+    description says of them."""
 
     sessions: list[int | None]
     dates: Dates | None = None
@@ -44,10 +49,18 @@ class Columns:
     raw: RawWords | None = None
     with_marks: bool = False
     window: Window = field(default_factory=Window)
+    utc: Utc | None = None
+    description: Description = field(default_factory=Description)
 
     def first(self) -> list[str]:
         """The names of the first columns."""
-        return ["recording", "session", "time", *(["date"] if self.dates else [])]
+        return ["recording", "session", "time", *(["date"] if self.dates else []), *(["utc"] if self.utc else [])]
+
+    def head(self, recording: int, ticks: int | None) -> list[str]:
+        """The first fields of a row at a time, as far as that is known."""
+        date = [self.dates.text(recording, ticks)] if self.dates else []
+        utc = [self.utc.text(recording, ticks)] if self.utc else []
+        return [*self.label(recording).split(","), time_text(ticks), *date, *utc]
 
     def after_value(self) -> list[str]:
         """The names of the columns after the value of a long table."""
@@ -61,9 +74,7 @@ class Columns:
 
     def between(self, one: Between) -> list[str]:
         """The first fields of something between rows."""
-        recording, _, session = self.label(one.recording).partition(",")
-        date = [self.dates.text(one.recording, one.begin)] if self.dates else []
-        return [recording, session, time_text(one.begin), *date]
+        return self.head(one.recording, one.begin)
 
     def fields(self, recording: Array, ticks: Array) -> list[Field]:
         """The first fields of rows, without a comma at their end."""
@@ -73,7 +84,9 @@ class Columns:
         codes = np.repeat(np.arange(len(first)), np.diff(first, append=len(ticks)))
         labels = [(self.label(number) + ",").encode() for number in range(int(recording.max(initial=-1)) + 1)]
         fields = [numbers_after(labels, recording[first], seconds[first], codes), fractions_of(ticks)]
-        return fields if self.dates is None else [*fields, texts_field(self.dates.texts(recording, ticks))]
+        for more in (self.dates, self.utc):
+            fields += [] if more is None else [texts_field(more.texts(recording, ticks))]
+        return fields
 
 
 def texts_field(texts: Array) -> Field:
@@ -96,10 +109,12 @@ class TableWriter(Protocol):
 class LongTable:
     """A row for each sample, in the order of the listing."""
 
-    def __init__(self, out: BinaryIO, columns: Columns) -> None:
+    def __init__(self, out: BinaryIO, columns: Columns, names: Names) -> None:
         self.out = out
         self.columns = columns
-        header = [*columns.first(), "counter", "subframe", "word", "name", "value", *columns.after_value(), "note"]
+        self.told = Told(columns.description, names)
+        self.fields = described_fields(self.told)
+        header = [*columns.first(), "counter", "subframe", "word", "name", "value", *self.fields, *columns.after_value(), "note"]
         out.write(row_text(header))
 
     def write(self, timed: Timed) -> None:
@@ -124,7 +139,7 @@ class LongTable:
         """What comes after the time: the listing's own text, the columns after it, and an empty note."""
         piece = timed.piece
         own = field_in(piece.text, piece.rest_start, piece.end - 1 - piece.rest_start, more=2)
-        fields = [own]
+        fields = [own, *self._described(timed)]
         if self.columns.with_marks and timed.doubtful is not None:
             fields.append(texts_field(np.where(timed.doubtful, DOUBTFUL, b"")))
         if self.columns.with_bits and timed.bit is not None:
@@ -141,6 +156,36 @@ class LongTable:
         last.length = last.length + 2
         return fields
 
+    def _described(self, timed: Timed) -> Iterator[Field]:
+        """What the description says of the rows of a piece: a field of each of its columns."""
+        told, piece = self.told, timed.piece
+        if told.has_units:
+            units = [b"," + one.described.unit.encode() if not one.described.points else b"," for one in told.columns]
+            yield _chosen_field(units, piece.name)
+        for kind in (STATE, SCALED):
+            if _named(kind) in self.fields:
+                yield self._beside(timed, kind)
+        for number, one in enumerate(told.derived):
+            rows, values = derived_values(timed, number)
+            codes, uniques = pandas.factorize(values.numbers)
+            each = np.zeros(len(piece), dtype=np.int64)
+            each[rows] = codes + 1
+            yield _chosen_field([b",", *(b"," + text for text in texts_of(uniques))], each)
+            for texts in one.beside(uniques):
+                yield _chosen_field([b",", *(b"," + quoted(text) for text in texts)], each)
+
+    def _beside(self, timed: Timed, kind: str) -> Field:
+        """The fields of one kind beside the values of a piece."""
+        texts, each = [b","], np.zeros(len(timed.piece), dtype=np.int64)
+        for number in self.told.with_fields:
+            one = self.told.columns[number]
+            if number < self.told.parameters and kind in one.kinds:
+                rows = np.flatnonzero(timed.piece.name == number)
+                codes, uniques = pandas.factorize(timed.piece.value[rows])
+                each[rows] = codes + len(texts)
+                texts += [b"," + quoted(text) for text in one.beside(uniques)[one.kinds.index(kind)]]
+        return _chosen_field(texts, each)
+
     def _between(self, one: Between) -> bytes:
         return self._note(one) + b"".join(self._parts(one))
 
@@ -150,19 +195,49 @@ class LongTable:
             return
         parts, after = one.placed.parts, len(self.columns.after_value()) - 1
         for number, recording, time in one.placed:
-            head = [*self.columns.label(recording).split(","), time_text(time if time >= 0 else None)]
-            head += [self.columns.dates.text(recording, time)] if self.columns.dates else []
+            head = self.columns.head(recording, time if time >= 0 else None)
             place = [str(column[number]) for column in (parts.counter, parts.subframe, parts.word)]
             mark = f"part {parts.syncs[number]}"
-            yield row_text([*head, *place, parts.name[number], parts.value[number], mark, *[""] * after, ""])
+            told = self._told_of(parts.name[number], parts.value[number])
+            yield row_text([*head, *place, parts.name[number], parts.value[number], *told, mark, *[""] * after, ""])
+
+    def _told_of(self, name: str, value: str) -> list[str]:
+        """What the description says of one value; a derived value has none in a gap."""
+        one = self.columns.description.of(name)
+        known = {"unit": "" if one.points else one.unit, _named(STATE): one.word(value), _named(SCALED): one.scaled(value)}
+        return [known.get(name, "") for name in self.fields]
 
     def _note(self, one: Between) -> bytes:
         """The row that says what is between rows."""
         place = ["", "", ""]
         if one.exceedance:
             place = [str(number) for number in (one.exceedance.counter, one.exceedance.subframe, one.exceedance.word)]
-        empty = [""] * (1 + len(self.columns.after_value()))
+        empty = [""] * (1 + len(self.fields) + len(self.columns.after_value()))
         return row_text([*self.columns.between(one), *place, f"({one.event.value})", *empty, one.text])
+
+
+def _named(kind: str) -> str:
+    """The name of a column of a long table, which has it in no brackets."""
+    return kind.strip(" ()")
+
+
+def described_fields(told: Told) -> list[str]:
+    """The columns of a long table by a description: the unit, the word for a value, its value by a scale, and those derived."""
+    kinds = {"unit": told.has_units, _named(STATE): told.has_states, _named(SCALED): told.has_scales}
+    return [*(kind for kind, is_there in kinds.items() if is_there), *(head for one in told.derived for head in one.heads)]
+
+
+def quoted(text: str) -> bytes:
+    """A field as comma-separated values have it."""
+    return row_text([text, ""])[:-2]
+
+
+def _chosen_field(texts: list[bytes], codes: Array) -> Field:
+    """A field that has one of these texts in each row."""
+    table = np.array(texts)
+    width = table.dtype.itemsize
+    lengths = np.char.str_len(table).astype(np.int64)
+    return Field(np.frombuffer(table.tobytes(), dtype=np.uint8).reshape(-1, width)[codes], lengths[codes])
 
 
 @dataclass
@@ -194,19 +269,18 @@ class Samples:
         places = (self.recording, self.stretch, self.time, self.name, start, self.length)
         return Samples(text, *places, self.value, self.doubtful)
 
-    def followed_by(self, timed: Timed) -> "Samples":
-        """These, and after them those of a piece."""
-        piece, shift = timed.piece, len(self.text)
+    def followed_by(self, other: "Samples") -> "Samples":
+        """These, and others after them."""
         return Samples(
-            np.concatenate((self.text, piece.text)),
-            np.concatenate((self.recording, timed.recording)),
-            np.concatenate((self.stretch, timed.stretch)),
-            np.concatenate((self.time, timed.time)),
-            np.concatenate((self.name, piece.name)),
-            np.concatenate((self.start, piece.value_start + shift)),
-            np.concatenate((self.length, piece.end - 1 - piece.value_start)),
-            np.concatenate((self.value, piece.value)),
-            np.concatenate((self.doubtful, np.zeros(len(piece), dtype=bool) if timed.doubtful is None else timed.doubtful)),
+            np.concatenate((self.text, other.text)),
+            np.concatenate((self.recording, other.recording)),
+            np.concatenate((self.stretch, other.stretch)),
+            np.concatenate((self.time, other.time)),
+            np.concatenate((self.name, other.name)),
+            np.concatenate((self.start, other.start + len(self.text))),
+            np.concatenate((self.length, other.length)),
+            np.concatenate((self.value, other.value)),
+            np.concatenate((self.doubtful, other.doubtful)),
         )
 
 
@@ -214,6 +288,53 @@ def no_samples() -> Samples:
     nothing = np.zeros(0, dtype=np.int64)
     text = np.zeros(0, dtype=np.uint8)
     return Samples(text, nothing, nothing, nothing, nothing, nothing, nothing, np.zeros(0), np.zeros(0, dtype=bool))
+
+
+def samples_of(timed: Timed, told: Told) -> Samples:
+    """The samples of a piece, and after them its derived values. The text of one has the fields beside its value too."""
+    piece = timed.piece
+    doubtful = np.zeros(len(piece), dtype=bool) if timed.doubtful is None else timed.doubtful
+    places = (piece.name, piece.value_start, piece.end - 1 - piece.value_start)
+    samples = Samples(piece.text, timed.recording, timed.stretch, timed.time, *places, piece.value, doubtful)
+    if not told.with_fields and not told.derived:
+        return samples
+    text = Text(piece.text)
+    start, length = samples.start.copy(), samples.length.copy()
+    for number in told.with_fields:
+        if number < told.parameters:
+            rows = np.flatnonzero(piece.name == number)
+            codes, uniques = pandas.factorize(piece.value[rows])
+            if len(uniques):
+                first = np.empty(len(uniques), dtype=np.int64)
+                first[codes[::-1]] = rows[::-1]
+                own = [piece.text[begin : begin + size].tobytes() for begin, size in zip(start[first].tolist(), length[first].tolist())]
+                each = text.add_each(_cells(own, told.columns[number], uniques))
+                start[rows], length[rows] = each.start[codes], each.length[codes]
+    samples.start, samples.length = start, length
+    derived = [_derived_samples(timed, told, number, text) for number in range(len(told.derived))]
+    samples.text = text.whole()
+    for one in derived:
+        one.start = one.start - len(samples.text)  # they are in the same text
+        samples = samples.followed_by(one)
+    return samples
+
+
+def _cells(own: list[bytes], column: Column, values: Array) -> list[bytes]:
+    """The fields of these values, with those beside each."""
+    beside = column.beside(values)
+    return [b",".join([text, *(quoted(fields[at]) for fields in beside)]) for at, text in enumerate(own)]
+
+
+def _derived_samples(timed: Timed, told: Told, number: int, text: Text) -> Samples:
+    """The samples of a derived value, whose texts are added to a text."""
+    rows, values = derived_values(timed, number)
+    codes, uniques = pandas.factorize(values.numbers)
+    cells = texts_of(uniques)
+    column = told.derived[number]
+    each = text.add_each(_cells(cells, column, uniques) if column.kinds else cells)
+    name = np.full(len(rows), told.parameters + number, dtype=np.int64)
+    places = (timed.recording[rows], timed.stretch[rows], timed.time[rows], name, each.start[codes], each.length[codes])
+    return Samples(np.zeros(0, dtype=np.uint8), *places, values.numbers.astype(np.float64), np.zeros(len(rows), dtype=bool))
 
 
 class InTime:
@@ -225,9 +346,9 @@ class InTime:
         self.held = no_samples()
         self.newest = 0  # the newest frame of the open stretch
 
-    def sorted(self, timed: Timed) -> Samples:
+    def sorted(self, samples: Samples) -> Samples:
         """The samples that no later row can be before."""
-        samples = self.held.followed_by(timed)
+        samples = self.held.followed_by(samples)
         if not len(samples):
             return samples
         frames = samples.time // FRAME
@@ -260,8 +381,16 @@ class Waiting:
 
     def before(self, stretch: int) -> list[tuple[int, Between]]:
         """What is before a stretch or an earlier one, each with the stretch that it is before."""
-        ready = [(before, one) for before, one in self.held if before <= stretch]
-        self.held = self.held[len(ready) :]
+        return self._taken(lambda before, one: before < stretch or before == stretch and one.event not in AT_THEIR_TIMES)
+
+    def within(self, stretch: int, time: int) -> list[tuple[int, Between]]:
+        """What is in a stretch up to a time, each with the stretch."""
+        return self._taken(lambda before, one: before == stretch and (one.begin or 0) <= time)
+
+    def _taken(self, is_ready: Callable[[int, Between], bool]) -> list[tuple[int, Between]]:
+        ready = [pair for pair in self.held if is_ready(*pair)]
+        if ready:
+            self.held = [pair for pair in self.held if not is_ready(*pair)]
         return ready
 
     def rest(self, between: list[Between]) -> list[Between]:
@@ -269,22 +398,18 @@ class Waiting:
         return [one for _, one in self.held] + between
 
 
-def column_names(names: Names) -> list[str]:
-    """The names of the parameters' columns: one that is a column of its own anyway is in brackets, as no other can be."""
-    return [f"({name})" if name in OWN else name for name in names.names]
-
-
 class ByParameter:
     """What the tables with a column for each parameter share: their first row, and the rows between their samples."""
 
     def __init__(self, out: BinaryIO, names: Names, columns: Columns) -> None:
         self.out = out
-        self.count = len(names)
+        self.told = Told(columns.description, names)
+        self.count = self.told.count
         self.columns = columns
         self.in_time = InTime()
         self.waiting = Waiting()
         self.names = names
-        out.write(row_text([*columns.first(), *column_names(names), *["mark"] * columns.with_marks, "note"]))
+        out.write(row_text([*columns.first(), *self.told.heads, *["mark"] * columns.with_marks, "note"]))
 
     def between(self, one: Between) -> bytes:
         """The row of something between samples, and those of what was read out of it."""
@@ -299,9 +424,11 @@ class ByParameter:
         for (recording, time), together in groupby(each, key=lambda row: row[1:]):
             cells, numbers = [""] * self.count, [number for number, _, _ in together]
             for number in numbers:
-                cells[self.names.numbers[parts.name[number].encode()]] = parts.value[number]
-            head = [*self.columns.label(recording).split(","), time_text(time if time >= 0 else None)]
-            head += [self.columns.dates.text(recording, time)] if self.columns.dates else []
+                column = self.names.numbers[parts.name[number].encode()]
+                first, told = int(self.told.first[column]), self.told.columns[column].described
+                beside = [told.word(parts.value[number])] * bool(told.states) + [told.scaled(parts.value[number])] * (told.points is not None)
+                cells[first : first + 1 + len(beside)] = [parts.value[number], *beside]
+            head = self.columns.head(recording, time if time >= 0 else None)
             yield row_text([*head, *cells, f"part {min(parts.syncs[number] for number in numbers)}", ""])
 
 
@@ -311,7 +438,7 @@ class WideTable(ByParameter):
     def write(self, timed: Timed) -> None:
         """Writes the rows of a piece that no later row can be before."""
         self.waiting.add(timed)
-        self._write(self.in_time.sorted(timed))
+        self._write(self.in_time.sorted(samples_of(timed, self.told)))
 
     def end(self, between: list[Between]) -> None:
         """Writes the rest."""
@@ -332,21 +459,35 @@ class WideTable(ByParameter):
         start, length = np.zeros(len(samples), dtype=np.int64), np.zeros(len(samples), dtype=np.int64)
         start[first], length[first] = head_start, np.diff(head_ends, prepend=0)
         ends = np.append(begins[1:], True)
-        before = np.where(begins, -1, np.roll(samples.name, 1))
-        left = self.count - 1 - samples.name
+        column, after = self.told.first[samples.name], (self.told.first + self.told.width)[samples.name]
+        before = np.where(begins, -1, np.roll(after, 1) - 1)
+        left = self.count - after
         everywhere = np.full(len(samples), commas)
         starts = [start, everywhere, samples.start, everywhere + self.count - left]
-        lengths = [length, samples.name - before, samples.length, (left + 2 - self.columns.with_marks) * ends]
+        lengths = [length, column - before, samples.length, (left + 2 - self.columns.with_marks) * ends]
         if self.columns.with_marks:
             marked = np.logical_or.reduceat(samples.doubtful, first)[np.cumsum(begins) - 1]
             starts.append(everywhere + self.count + 2 + len(DOUBTFUL) * ~marked)
             lengths.append((len(DOUBTFUL) * marked + 2) * ends)
-        ready = self.waiting.before(int(samples.stretch[-1]))
-        others = text.add_each([self.between(one) for _, one in ready])
-        at = np.searchsorted(samples.stretch, [stretch for stretch, _ in ready]).astype(np.int64) * len(starts)
+        newest = int(samples.stretch[-1])
+        ready = self.waiting.before(newest) + self.waiting.within(newest, int(samples.time[-1]))
+        at = np.array([self._place(samples, stretch, one) for stretch, one in ready], dtype=np.int64)
+        order = np.argsort(at, kind="stable").tolist()
+        others = text.add_each([self.between(ready[number][1]) for number in order])
+        at = at[order] * len(starts)
         all_starts = np.insert(np.stack(starts, axis=1).ravel(), at, others.start)
         all_lengths = np.insert(np.stack(lengths, axis=1).ravel(), at, others.length)
         self.out.write(joined(text.whole(), Places(all_starts, all_lengths)))
+
+
+    @staticmethod
+    def _place(samples: Samples, stretch: int, one: Between) -> int:
+        """The sample that something is before."""
+        first, end = np.searchsorted(samples.stretch, (stretch, stretch + 1)).tolist()
+        if one.event not in AT_THEIR_TIMES:
+            return int(first)
+        first += int(np.searchsorted(samples.time[first:end], one.begin or 0))
+        return int(first)
 
 
 class GridTable(ByParameter):
@@ -365,7 +506,7 @@ class GridTable(ByParameter):
     def write(self, timed: Timed) -> None:
         """Writes the rows that a piece decides."""
         self.waiting.add(timed)
-        self._write(self.in_time.sorted(timed))
+        self._write(self.in_time.sorted(samples_of(timed, self.told)))
 
     def end(self, between: list[Between]) -> None:
         """Writes the rest."""
@@ -387,6 +528,9 @@ class GridTable(ByParameter):
                 self._rows(no_samples(), self.ends)
                 self._enter(part)
             self.ends = (int(part.time[-1]) // FRAME + 1) * FRAME
+            for _, one in self.waiting.within(self.stretch, int(part.time[-1])):
+                self._rows(part, one.begin or 0)
+                self._betweens([one])
             self._rows(part, int(part.time[-1]))
             last = dict(zip(part.name.tolist(), zip(part.start.tolist(), part.length.tolist())))
             for name, (start, length) in last.items():
@@ -397,7 +541,11 @@ class GridTable(ByParameter):
         self.stretch, self.recording = int(samples.stretch[0]), int(samples.recording[0])
         self._betweens([one for _, one in self.waiting.before(self.stretch)])
         self.next = self._first_not_before(int(samples.time[0]))
-        self.values = [b""] * self.count
+        self.values = self._none()
+
+    def _none(self) -> list[bytes]:
+        """The fields of parameters and derived values without a value."""
+        return [b"," * (width - 1) for width in self.told.width.tolist()]
 
     def _first_not_before(self, ticks: int) -> int:
         """The first multiple of the step that isn't before a time."""
@@ -433,7 +581,7 @@ class GridTable(ByParameter):
                 length[there, column] = samples.length[rows[last[there]]]
         heads = text.add_each(self._heads(multiples))
         signs = text.add(b",\n")
-        pieces = np.empty((2, len(multiples), 3 + 2 * self.count), dtype=np.int64)
+        pieces = np.empty((2, len(multiples), 3 + 2 * len(self.values)), dtype=np.int64)
         pieces[:, :, 0] = heads.start, heads.length
         pieces[:, :, 1:-2:2] = np.array([signs, 1])[:, np.newaxis, np.newaxis]
         pieces[:, :, 2:-2:2] = start, length
@@ -444,9 +592,10 @@ class GridTable(ByParameter):
     def _heads(self, multiples: Array) -> list[bytes]:
         """The first fields of rows at these multiples of the step."""
         label = self.columns.label(self.recording).encode()
-        times = [b"%b,%d.%06d" % (label, *divmod(one, MICRO)) for one in (multiples * self.step).tolist()]
-        if self.columns.dates is None:
-            return times
+        heads = [b"%b,%d.%06d" % (label, *divmod(one, MICRO)) for one in (multiples * self.step).tolist()]
         recording = np.full(len(multiples), self.recording)
-        dates = self.columns.dates.texts(recording, multiples * (self.step * SECOND / MICRO))
-        return [time + b"," + date for time, date in zip(times, dates.tolist())]
+        for more in (self.columns.dates, self.columns.utc):
+            if more is not None:
+                texts = more.texts(recording, multiples * (self.step * SECOND / MICRO))
+                heads = [head + b"," + text for head, text in zip(heads, texts.tolist())]
+        return heads

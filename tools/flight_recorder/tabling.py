@@ -86,7 +86,7 @@ def _run_map(given: argparse.Namespace) -> None:
     ending = pathlib.Path(given.output or "").suffix
     if ending == ".html":
         path = pathlib.Path(given.table)
-        text = grid_page.page_of(table, made, description.read_beside(path), given.title or path.name)
+        text = grid_page.page_of(table, made, description.read_beside(path, table).parameters, given.title or path.name)
     else:
         text = grid.csv_of(made) if ending == ".csv" else grid.text_of(made)
     with output(given.output) as out:
@@ -112,7 +112,8 @@ def _add_table(parser: argparse.ArgumentParser) -> None:
 def _run_values(given: argparse.Namespace) -> None:
     from . import description, parameters, reach
 
-    rows = reach.rows_of(parameters.read_table(given.table), description.read_beside(pathlib.Path(given.table)))
+    table = parameters.read_table(given.table)
+    rows = reach.rows_of(table, description.read_beside(pathlib.Path(given.table), table).parameters)
     is_csv = given.output is not None and given.output.endswith(".csv")
     with output(given.output) as out:
         out.write((reach.csv_of(rows) if is_csv else reach.text_of(rows)).encode())

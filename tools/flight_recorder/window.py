@@ -68,6 +68,7 @@ class Window:
             bit=None if timed.bit is None else timed.bit[which],
             dump_bit=None if timed.dump_bit is None else timed.dump_bit[which],
             doubtful=None if timed.doubtful is None else timed.doubtful[which],
+            worked=None if timed.worked is None else [one.cut(wanted, before) for one in timed.worked],
         )
 
 
