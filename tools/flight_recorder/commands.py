@@ -7,7 +7,7 @@ import pathlib
 import sys
 from typing import TYPE_CHECKING, BinaryIO, Callable
 
-from . import readout, report_command, tabling
+from . import event_commands, readout, report_command, tabling
 from .faults import Fault, MissingPackage
 from .streams import Again, drop_output, emptied, opened, opened_again, output, standard_output, whole_file
 
@@ -50,6 +50,7 @@ def _parser() -> argparse.ArgumentParser:
     readout.add_commands(commands, _command)
     tabling.add_commands(commands, _command)
     report_command.add_commands(commands, _command)
+    event_commands.add_commands(commands, _command)
     return parser
 
 
@@ -197,16 +198,18 @@ def _add_watch(commands: "argparse._SubParsersAction[argparse.ArgumentParser]") 
     )
     parser.add_argument("--table", metavar="TABLE", required=True, help="the recording's table")
     parser.add_argument("--once", metavar="TIME", help="write one table after so long, as 10s, or at the end of the trace")
+    add_description(parser)
 
 
 def _run_watch(given: argparse.Namespace) -> int:
-    from . import durations, parameters, watch
+    from . import description, durations, parameters, watch
 
     if sys.stdin is None:
         raise Fault("standard input is closed")
     once = None if given.once is None else durations.microseconds(given.once) / 1_000_000
     try:
-        is_silent = watch.watch(parameters.read_table(given.table), once)
+        table = parameters.read_table(given.table)
+        is_silent = watch.watch(table, once, description.described_by(given.describe, given.table, table))
     except BrokenPipeError:
         drop_output()  # who reads has enough
         return DONE
@@ -235,7 +238,13 @@ def _add_listing(parser: argparse.ArgumentParser) -> None:
     parser.add_argument("--as-recorded", action="store_true", help="the order of the dump where its memory wraps")
     described = parser.add_argument_group("what values mean", "docs/DESCRIPTIONS.md has the rows of a description.")
     add_description(described)
-    described.add_argument(
+    add_dates(described)
+    event_commands.add_choice(parser)
+
+
+def add_dates(parser: "argparse.ArgumentParser | argparse._ArgumentGroup") -> None:
+    """The words for the dates of a clock."""
+    parser.add_argument(
         "--date",
         metavar="DATE",
         action="append",
@@ -308,6 +317,7 @@ def _run_table(given: argparse.Namespace) -> None:
     how, starts = _reading(given, given.bits or given.raw is not None)
     how.cuts = given.every is None and not given.exceed
     with opened_again(given.listing) as source:
+        event_commands.choose(given, how, source)
         if how.table is None and (given.wide or given.every is not None or _is_hdf(given.output)):
             for _ in listing.read_listing(source.input(), how.names):
                 pass
@@ -412,6 +422,7 @@ def _add_frame(commands: "argparse._SubParsersAction[argparse.ArgumentParser]") 
     parser.add_argument("dump", metavar="DUMP", help="packed bits, as fdr listbits reads them; - for standard input")
     parser.add_argument("--at", metavar="COUNTER|TIME", required=True, help="a counter as 150, or a time as 600s or 0:10:00")
     parser.add_argument("--table", metavar="TABLE", required=True, help="the recording's table")
+    add_description(parser)
 
 
 def _run_frame(given: argparse.Namespace) -> None:
@@ -419,16 +430,17 @@ def _run_frame(given: argparse.Namespace) -> None:
 
     import numpy
 
-    from . import dates, frames, parameters
+    from . import dates, description, frames, parameters
 
     table = parameters.read_table(given.table)
+    described = description.described_by(given.describe, given.table, table)
     ticks = None if given.at.isdecimal() else dates.ticks_of(given.at, None)
     with opened(given.dump) as source, standard_output() as out:
         bits = numpy.frombuffer(source.read(), dtype=numpy.uint8)
         found = frames.frames_of(bits, table)
         text = io.StringIO()
         for number in frames.chosen(found, given.at, ticks).tolist():
-            frames.write_frame(text, bits, table, found, number)
+            frames.write_frame(text, bits, table, found, number, described)
             text.write("\n")
         out.write(text.getvalue().encode())
 
@@ -547,6 +559,7 @@ def _flight(given: argparse.Namespace, points: int, exceedances: list[listing.Ex
     how, _ = _reading(given)
     only = set(given.only.split(",")) if given.only else None
     with opened_again(given.listing) as source:
+        event_commands.choose(given, how, source)
         for one in how.passes(source):
             collector = curves.Collector(how.names, only, points, exceedances, _circles(given.angle), how.description)
             for timed in one:

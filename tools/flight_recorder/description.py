@@ -118,6 +118,13 @@ def read_beside(path: pathlib.Path, table: Table) -> Description:
     return read(beside, table) if beside.is_file() else Description()
 
 
+def described_by(describe: str | None, path: str, table: Table) -> Description:
+    """The description by the word of a command: a path, or None for the one beside the table's file, or empty for none."""
+    if describe == "":
+        return Description()
+    return read(pathlib.Path(describe), table) if describe else read_beside(pathlib.Path(path), table)
+
+
 def known_names(table: Table, points: Iterable[str] = ()) -> dict[str, bool]:
     """The names that an expression may have, and whether each has whole numbers."""
     names = {name: one.scale.decimals == 0 for name, one in table.parameters.items()}

@@ -9,6 +9,7 @@ from typing import Any
 
 from .advice import advice
 from .clock import SECOND
+from .conditions import Run
 from .facts import Facts
 from .report import Report
 from .survey import Absence
@@ -30,9 +31,22 @@ def write(report: Report, folder: pathlib.Path) -> None:
         found["missing"] = [_absence(one) for one in survey.absences]
         found["parameters"] = {name: asdict(survey.values[name]) if name in survey.values else None for name in survey.ranges}
         found["watched"] = [asdict(one) for one in report.watched]
+        found["clock"] = [{"recording": one.recording + 1, "time": (one.begin or 0) / SECOND, "said": one.text} for one in report.clock]
+        if report.flights is not None:
+            found["flights"] = [{"flight": one.number, **_run(one.run), "missing": one.seconds_missing, "said": one.note} for one in report.flights.flights]
+        if report.events is not None:
+            found["events"] = [
+                {"rule": one.rule.name, "severity": one.severity, **_run(one.run), "peak": one.run.peak, "notes": one.notes(report.description)}
+                for one in report.events.events
+            ]
+            found["events_watched"] = [{"rule": rule.name, "seconds": seconds} for rule, seconds, _ in report.events.watched]
         found["exceedances_untold"] = report.untold
         found["exceedances"] = [_exceedance(report, number) for number in range(len(report.found))]
     (folder / FINDINGS).write_text(json.dumps(found, indent=1) + "\n")
+
+
+def _run(run: Run) -> dict[str, Any]:
+    return {"recording": run.recording + 1, "begin": run.begin / SECOND, "end": run.end / SECOND}
 
 
 def _of(facts: Facts) -> dict[str, Any]:

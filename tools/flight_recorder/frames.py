@@ -9,9 +9,10 @@ from .arrays import Array
 from .clock import FRAME, SECOND, WORD_BITS, Clock, Shape
 from .faults import Fault
 from .joining import time_text
+from .description import Description
 from .listing import ROUND, SUBFRAMES, Kind, Mark, Piece
-from .parameters import SUPERFRAME, Table
-from .places import samples_of
+from .parameters import SUPERFRAME, Parameter, Table
+from .places import Bits, samples_of
 from .raw import words_at
 
 SYNCS = (0o1107, 0o2670, 0o5107, 0o6670)
@@ -90,6 +91,7 @@ class Held:
     parts: int
     lsb: int
     width: int
+    whole: tuple[Bits, ...] = ()  # all parts, of the last one of a sample that is in one frame
 
     def text(self, word: int) -> str:
         """What it is, and its bits in octal."""
@@ -103,14 +105,36 @@ def holdings(table: Table) -> dict[int, list[Held]]:
     found: dict[int, list[Held]] = {}
     for parameter in table.parameters.values():
         for sample in samples_of(parameter, table.words):
+            last = max(part.slot for part in sample)
+            is_in_one = len({part.slot // (SUBFRAMES * table.words) for part in sample}) == 1
             for number, part in enumerate(sample, 1):
-                held = Held(parameter.name, number, len(sample), part.lsb, part.width)
+                whole = tuple(sample) if is_in_one and part.slot == last else ()
+                held = Held(parameter.name, number, len(sample), part.lsb, part.width, whole)
                 found.setdefault(part.slot, []).append(held)
     return found
 
 
-def write_frame(out: TextIO, bits: Array, table: Table, frames: Frames, number: int) -> None:
-    """Writes a frame: its place, and each subframe in octal, with the words that hold something."""
+def meaning(held: Held, parameter: Parameter, description: Description, words: list[int]) -> str:
+    """What the description says of a sample whose parts are in these words: its value, its unit, its word or what it is by a scale of
+    points; nothing where it says nothing."""
+    one = description.of(held.name)
+    if not held.whole or not (one.unit or one.states or one.points):
+        return ""
+    raw, shift = 0, 0
+    for part in held.whole:
+        raw |= (words[part.slot % len(words)] >> (part.lsb - 1) & ((1 << part.width) - 1)) << shift
+        shift += part.width
+    value = parameter.text(raw)
+    unit = one.unit if not one.points else ""
+    scaled = f"{one.scaled(value)} {one.unit}".strip() if one.scaled(value) else ""
+    return f" = {' '.join(text for text in (value, unit, one.word(value)) if text)}" + (f" = {scaled}" if scaled else "")
+
+
+def write_frame(
+    out: TextIO, bits: Array, table: Table, frames: Frames, number: int, description: Description | None = None
+) -> None:
+    """Writes a frame: its place, and each subframe in octal, with the words that hold something, and what a description says of it."""
+    description = description or Description()
     begin, counter = int(frames.bit[number]), int(frames.counter[number])
     length = SUBFRAMES * table.words
     words = words_at(bits, begin + WORD_BITS * np.arange(length)).tolist()
@@ -126,7 +150,8 @@ def write_frame(out: TextIO, bits: Array, table: Table, frames: Frames, number: 
         out.write(f"{'bit':>10} {'byte':>9} {'word':>5}  octal  holds\n")
         for slot in slots:
             texts = ["sync"] * (slot % table.words == 0) + ["counter"] * (slot == _counter_slot(table))
-            texts += [one.text(words[slot]) for one in held.get(counter % SUPERFRAME * length + slot, [])]
+            for one in held.get(counter % SUPERFRAME * length + slot, []):
+                texts.append(one.text(words[slot]) + meaning(one, table.parameters[one.name], description, words))
             if texts:
                 word = f"{slot % table.words + 1:>5}  {words[slot]:04o}"
                 out.write(f"{_address(begin, slot)} {word}   {'; '.join(texts)}\n")

@@ -40,13 +40,13 @@ class Shade:
 
 
 def seen(spans: list[Span], narrowest: float) -> list[Shade]:
-    """Spans, made wide enough to be seen; those of one kind that then touch are one."""
+    """Spans, made wide enough to be seen; those of one kind that then touch are one, but for events, of which each counts."""
     answer: list[Shade] = []
     last: dict[Event, int] = {}
     for span in sorted(spans, key=lambda one: one.begin):
         end = max(span.end, span.begin + int(narrowest))
         at = last.get(span.event)
-        if at is not None and span.begin < answer[at].end:
+        if at is not None and span.begin < answer[at].end and span.event is not Event.EVENT:
             whole = answer[at]
             text = whole.text if whole.text.endswith(OTHERS) else whole.text + OTHERS
             name = f"{span.event.value}s"

@@ -41,6 +41,7 @@ TOGETHER_COLOURS = (CURVE_COLOUR, "#c0504d", "#4f8a3c", "#7a5195", "#d98c21", "#
 BAND_COLOUR = "#c9d6e4"  # of a discrete that is 0
 STATE_COLOURS = (BAND_COLOUR, CURVE_COLOUR, "#e0b184", "#9cc5a1", "#b39cc5", "#c58f8f", "#8fb8c5", "#c5bf8f")
 NO_WORD = "#eeeeee"  # of a value without a word
+SHORT = 11  # signs of a band's name
 SIGN = 1 / 130  # of the axis, that a sign of a word takes
 
 
@@ -172,7 +173,7 @@ def _name(axes: Axes, group: list[str], flight: Flight, is_band: bool) -> None:
     """Names the curves of an axis, with their units, and their titles within."""
     of = list(dict.fromkeys(label_of(flight, own_name(name)) for name in group))
     label = "\n".join(of) if is_band or len(of) != 1 else of[0].replace(" [", "\n[").replace(" (", "\n(")
-    axes.set_ylabel(label, rotation=0, ha="right", va="center", fontsize=9)
+    axes.set_ylabel(label, rotation=0, ha="right", va="center", fontsize=9 if len(label) <= SHORT or not is_band else 7)
     titles = list(dict.fromkeys(title for name in group if (title := flight.of(name).title)))
     if titles and not is_band:
         axes.text(0.004, 0.96, "; ".join(titles), transform=axes.transAxes, fontsize=7, color=GREY, va="top", label="title")

@@ -1,7 +1,6 @@
 """A listing with its times, as the commands take it: checked against its table, and read again where its memory wraps."""
 
 import datetime
-import pathlib
 from dataclasses import dataclass, field, replace
 from typing import Iterator, Sequence
 
@@ -121,8 +120,8 @@ def reading_of(table: str | None, words: int | None, describe: str | None = None
     made = Reading(known, words, names=Names(list(known.parameters) if known else None))
     if known is None and describe:
         raise Fault("--describe needs --table, whose parameters it describes")
-    if known is not None and table is not None and describe != "":
-        made.description = description.read(pathlib.Path(describe), known) if describe else description.read_beside(pathlib.Path(table), known)
+    if known is not None and table is not None:
+        made.description = description.described_by(describe, table, known)
     made.dates = time_of_day.dates_of(dates)
     if made.dates and made.description.clock is None:
         raise Fault("--date is for a description with a clock")

@@ -13,8 +13,10 @@ from dataclasses import dataclass, field
 
 import numpy as np
 
-from . import curves, dates, description, exceedings, facts, hdf, images, manifest, outline, parts, reading, tables, watching
-from .clock import shape_of
+from . import curves, dates, description, event_commands, events, exceedings, facts, flights, hdf, images, manifest, outline, parts, reading
+from . import tables, watching
+from . import utc as time_of_day
+from .clock import Between, Event, shape_of
 from .evidence import Inputs, holder_of, sum_of
 from .faults import Fault
 from .listing import Exceedance, Names, read_exceedances
@@ -22,14 +24,16 @@ from .parameters import Table, read_table
 from .ranges import ranges_of
 from .running import Program, Ran, Runner, program_at
 from .slots import Header, Slots, header_of, likely_shape
-from .streams import opened, opened_again, whole_folder
+from .streams import Again, opened, opened_again, whole_folder
 from .survey import Survey
+from .window import Window
 
 POINTS = 2_000_000  # of the curves of the page
 MOST_EXCEEDANCES = 10_000  # whose times are told
 SYNCS_OF_PARTS = 2  # that have to stand, as of `flight parts`
 PAGE, COMMANDS = "report.html", "commands.json"
-COPIES = {"table": "table.csv", "rules": "rules.csv", "acks": "acks.txt", "description": "table.describe.csv"}
+COPIES = {"table": "table.csv", "rules": "rules.csv", "acks": "acks.txt", "description": "table.describe.csv", "events": "event-rules.csv"}
+FLIGHTS, EVENTS = "flights.csv", "events.csv"
 
 
 @dataclass(frozen=True)
@@ -46,14 +50,18 @@ class Settings:
     kind: str | None = None  # image or bits
     shape: tuple[int, int] | None = None  # slots and payload, where the header isn't to be looked at
     title: str = ""
-    describe: str | None = None
+    describe: str | None = None  # empty for none
+    dates: tuple[str, ...] = ()  # of a clock without one
+    wanted: flights.Wanted | None = None  # what a flight is
+    flight: int | None = None  # the one whose curves are shown
+    events: str | None = None
 
     def paths(self) -> dict[str, str | None]:
         """The inputs. A description beside the table is one."""
         beside = description.path_beside(pathlib.Path(self.table))
-        described = self.describe or (str(beside) if beside.is_file() else None)
+        described = self.describe or (str(beside) if beside.is_file() and self.describe is None else None)
         given = {"source": self.source, "table": self.table, "rules": self.rules, "acks": self.acks}
-        return {**given, "description": described}
+        return {**given, "description": described, "events": self.events}
 
 
 @dataclass
@@ -82,6 +90,9 @@ class Report:
     parts: "collections.Counter[str]" = field(default_factory=collections.Counter)  # lines of parts.txt by their kinds
     doubtful: list[list[str]] = field(default_factory=list)  # the fields of its lines on frames, which docs/PARTS.md names
     untold: int = 0  # exceedances beyond those whose times are told
+    clock: list[Between] = field(default_factory=list)  # what there is to say of the recorded clock
+    flights: flights.Found | None = None
+    events: events.Found | None = None
     made_image: str = ""  # the image that was made for fdr exceed
     listing: str = ""  # the file that the table is made of
 
@@ -286,29 +297,52 @@ def _write_image(path: pathlib.Path, parts: list[str], words: int) -> None:
 
 def _read(report: Report, folder: pathlib.Path, table: Table, exceedances: list[Exceedance]) -> None:
     """Reads the listing once, for the table as text and as HDF5, the curves, and what is missing."""
-    how = reading.reading_of(report.inputs.path("table"), None)
+    how = reading.reading_of(report.inputs.path("table"), None, "")
     how.with_bits = shape_of(table, None).every_frame
+    how.description, how.dates = report.description, time_of_day.dates_of(report.settings.dates)
+    if how.dates and how.description.clock is None:
+        raise Fault("--date is for a description with a clock")
     path = folder / report.listing
     rules = watching.rules_of(report.inputs.path("rules")) if report.settings.rules else []
     ranges = ranges_of(table)
     with opened_again(str(path)) as source:
+        window = _find_events(report, folder, how, source)
         for one in how.passes(source):
-            columns = tables.Columns(one.sessions, report.dates, how.with_bits)
+            columns = tables.Columns(one.sessions, report.dates, how.with_bits, utc=how.utc, description=how.description)
             survey = Survey(how.names, ranges, {rule.parameter for rule in rules})
-            collector = curves.Collector(how.names, None, POINTS, exceedances)
+            collector = curves.Collector(how.names, None, POINTS, exceedances, description=how.description)
             with open(folder / "values.csv", "wb") as out, hdf.Store(folder / "values.h5", columns) as store:
                 writers: list[tables.TableWriter] = [tables.LongTable(out, columns, how.names), hdf.LongStore(store, how.names)]
                 for timed in one:
                     for writer in writers:
                         writer.write(timed)
                     survey.add(timed)
-                    collector.add(timed)
+                    collector.add(window.cut(timed))
                 for writer in writers:
                     writer.end(one.rest)
                 survey.end(one.rest)
                 sums = (report.listing, sum_of(str(path)), COPIES["table"])
                 store.end(hdf.about(*sums, table.words, manifest.version()))
-    report.survey, report.flight = survey, collector.end(one.rest)
+    report.survey, report.flight = survey, collector.end(window.betweens(one.rest))
+    report.flight.utc = how.utc
+    report.clock = [each for each in how.notes if each.event is Event.CLOCK]
     report.found = collector.finder.found()
     is_refused = any(ran.words[1] == "exceed" for ran in report.refusals)
     report.watched = [] if is_refused else watching.watched(rules, survey.stretches.values(), how.names)
+
+
+def _find_events(report: Report, folder: pathlib.Path, how: reading.Reading, source: Again) -> Window:
+    """Finds the flights and the events that are asked for, writes their tables, and answers the window of the curves."""
+    settings = report.settings
+    if settings.events and how.table is not None:
+        rules = events.read_rules(report.inputs.path("events"), how.table, how.description)
+        report.events = events.find(how, source, rules, settings.wanted)
+        report.flights = report.events.flights
+        (folder / EVENTS).write_text(event_commands.text_of(events.frame_of(report.events)), encoding="utf-8")
+    elif settings.wanted is not None:
+        report.flights = flights.find(how, source, settings.wanted)
+    if report.flights is not None:
+        frame = flights.frame_of(report.flights, flights.extremes(report.flights, source))
+        (folder / FLIGHTS).write_text(event_commands.text_of(frame), encoding="utf-8")
+    how.notes += report.events.notes if report.events else []
+    return Window() if settings.flight is None or report.flights is None else report.flights.window(settings.flight)

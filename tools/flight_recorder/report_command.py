@@ -6,6 +6,7 @@ import argparse
 import sys
 from typing import TYPE_CHECKING
 
+from . import event_commands
 from .faults import Fault
 from .readout import Add, Commands
 
@@ -17,6 +18,8 @@ REFUSED = 2
 
 def add_commands(commands: Commands, command: Add) -> None:
     """Adds it."""
+    from .commands import add_dates, add_description
+
     parser = command(
         commands,
         "report",
@@ -28,7 +31,9 @@ def add_commands(commands: Commands, command: Add) -> None:
     parser.add_argument("--table", metavar="TABLE", required=True, help="the recording's table")
     parser.add_argument("-o", "--output", metavar="FOLDER", required=True, help="the folder, which isn't there yet")
     parser.add_argument("--rules", metavar="RULES", help="rules of fdr exceed")
-    parser.add_argument("--describe", metavar="FILE", help="units, titles and states; if not given, the .describe.csv beside the table")
+    add_description(parser)
+    add_dates(parser)
+    event_commands.add_choice(parser)
     parser.add_argument("--acks", metavar="FILE", help="the recorder's standard error, with its announcements")
     parser.add_argument("--fdr", metavar="PROGRAM", help="the program; if not given, what FDR names, fdr on the path, or the one that is built here")
     parser.add_argument(
@@ -45,6 +50,7 @@ def add_commands(commands: Commands, command: Add) -> None:
 
 
 def _settings(given: argparse.Namespace) -> Settings:
+    from . import flights
     from .report import Settings
 
     if (given.slots is None) is not (given.payload is None):
@@ -52,8 +58,12 @@ def _settings(given: argparse.Namespace) -> Settings:
     shape = None if given.slots is None else (given.slots, given.payload)
     if shape and not (4 <= shape[0] <= 65_536 and 64 <= shape[1] <= 4096):
         raise Fault("--slots is 4 to 65536, and --payload 64 to 4096")
+    if given.when is None and (given.flight is not None or given.at_least or given.apart):
+        raise Fault("--flight, --for and --apart are of --when")
+    wanted = None if given.when is None else flights.wanted_of(given.when, given.at_least, given.apart)
     words = (given.source, given.table, given.output, given.rules, given.acks, given.fdr)
-    return Settings(*words, tuple(given.start), given.kind, shape, given.title, given.describe)
+    more = (tuple(given.date), wanted, given.flight, given.events)
+    return Settings(*words, tuple(given.start), given.kind, shape, given.title, given.describe, *more)
 
 
 def _run_report(given: argparse.Namespace) -> int:

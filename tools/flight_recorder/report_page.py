@@ -6,13 +6,13 @@ import html
 import pathlib
 import shlex
 
-from . import page, rests
+from . import events, page, rests
 from .advice import advice
 from .clock import SECOND
 from .facts import Facts, RunFact, SessionFact
 from .manifest import MANIFEST, SUMS
 from .naming import clock_text
-from .report import COMMANDS, COPIES, PAGE, Report
+from .report import COMMANDS, COPIES, EVENTS, FLIGHTS, PAGE, Report
 from .survey import Absence, Values
 
 DOUBTFUL = ["counter of the frame", "doubtful subframes", "counter that fits", "first line in the listing", "rows", "why"]
@@ -32,7 +32,10 @@ FILES = {
     "check.txt": "what fdr check wrote",
     "table.csv": "the table",
     "rules.csv": "the rules",
-    "table.describe.csv": "units, titles and states of the table's parameters",
+    "table.describe.csv": "what the values of the table's parameters mean",
+    "event-rules.csv": "the rules of events",
+    FLIGHTS: "the flights, each with its extremes",
+    EVENTS: "the events by rules of one's own, and how long each rule was watched",
     "acks.txt": "the recorder's standard error",
     COMMANDS: "each command with its answer",
     "findings.json": "the numbers of this page for programs",
@@ -139,7 +142,16 @@ def _found(report: Report) -> str:
         parts += _blocks(report, facts)
     parts.append(_sessions(report, facts))
     parts += _ending(report, facts)
+    parts.append(_clock(report))
     return _section(2, "What was found", *parts)
+
+
+def _clock(report: Report) -> str:
+    """What the recorded clock says."""
+    if not report.clock:
+        return ""
+    rows: list[list[object]] = [[one.recording + 1, _when(report, one.recording + 1, one.begin), one.text] for one in report.clock]
+    return "<h3>The recorded clock</h3>" + _table(["recording", "at", "said"], rows, "values.csv")
 
 
 def _sum(report: Report, facts: Facts) -> str:
@@ -281,7 +293,7 @@ def _parameters(report: Report) -> str:
         if values is None:
             rows.append([_title_of(report, name), 0, None, None, None, "no value"])
         else:
-            unit = report.description.of(name).unit
+            unit = "" if report.description.of(name).points else report.description.of(name).unit
             ends = [values.least, values.greatest, unit]
             rows.append([_title_of(report, name), values.count, *ends, "; ".join(_remarks(report, name, values))])
     return _table(["parameter", "values", "least", "greatest", "unit", "remarks"], rows, "values.csv")
@@ -300,14 +312,50 @@ def _remarks(report: Report, name: str, values: Values) -> list[str]:
         for count, end, kind in ((values.at_least, range.least, "least"), (values.at_greatest, range.greatest, "greatest")):
             if count:
                 remarks.append(f"{_count(count, 'value')} at the {kind} of its range, {end:.12g}")
+    one = report.description.of(name)
+    for kind, end in (("least", values.least), ("greatest", values.greatest)):
+        text = f"{end:.9f}"
+        said = one.word(text) or (f"{one.scaled(text)} {one.unit}".strip() if one.scaled(text) else "")
+        remarks += [f"the {kind} is {said}"] * bool(said)
     return remarks
 
 
+def _flights(report: Report) -> str:
+    """The flights and the events that were asked for."""
+    parts = ""
+    if report.flights is not None:
+        utc = report.flights.how.utc
+        rows: list[list[object]] = []
+        for one in report.flights.flights:
+            number, run = one.run.recording + 1, one.run
+            ends = [f"{_when(report, number, at)}{f', {utc.text(run.recording, at)}' if utc else ''}" for at in (run.begin, run.end)]
+            rows.append([one.number, number, *ends, clock_text(run.ticks // SECOND), one.seconds_missing, one.note])
+        header = ["flight", "recording", "from", "to", "length", "seconds missing", "missing"]
+        parts += "<h3>Flights</h3>" + (_table(header, rows, FLIGHTS) if rows else _said("No flight.", FLIGHTS))
+    if report.events is not None:
+        parts += "<h3>Events</h3>" + _said(f"{events.NOT_PROVED[0].upper()}{events.NOT_PROVED[1:]}.", EVENTS)
+        rows = []
+        for event in report.events.events:
+            number, run = event.run.recording + 1, event.run
+            said = [event.peak, event.notes(report.description)]
+            rows.append([event.rule.name, event.severity, number, _when(report, number, run.begin), run.ticks / SECOND, *said])
+        header = ["rule", "severity", "recording", "begins", "seconds", "peak", "notes"]
+        parts += _table(header, rows, EVENTS) if rows else _said("No event.", EVENTS)
+        watched: list[list[object]] = [[rule.name, clock_text(seconds), stretches] for rule, seconds, stretches in report.events.watched]
+        parts += _table(["rule", "watched", "stretches"], watched, EVENTS)
+    return parts
+
+
 def _exceedances(report: Report) -> str:
+    """What left the limits of rules, and the flights and events that were asked for."""
+    return _section(4, "Exceedances", _proved_exceedances(report), _flights(report))
+
+
+def _proved_exceedances(report: Report) -> str:
     if not report.settings.rules:
-        return _section(4, "Exceedances", _said("No rules were given, so none were looked for."))
+        return _said("No rules were given, so none were looked for.")
     if not report.exceed_source or any(ran.words[1] == "exceed" for ran in report.refusals):
-        return _section(4, "Exceedances", _said("None could be looked for: see above.", COMMANDS, True))
+        return _said("None could be looked for: see above.", COMMANDS, True)
     parts = [_said(text, name) for text, name in _exceed_notes(report)]
     rows: list[list[object]] = []
     for one in report.found:
@@ -320,7 +368,7 @@ def _exceedances(report: Report) -> str:
     if report.untold:
         text = f"There are {report.untold} more, whose times flight table --exceed finds; these are the first {len(rows)}."
         parts.append(_said(text, report.exceed_source, True))
-    return _section(4, "Exceedances", *parts, _watched(report))
+    return "".join(parts) + _watched(report)
 
 
 def _exceed_notes(report: Report) -> list[tuple[str, str]]:

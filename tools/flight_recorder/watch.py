@@ -15,11 +15,14 @@ import numpy as np
 
 from . import bus, trace
 from .aligned import aligned
+from .description import SCALED, Derived, Described, Description
+from .expression import Values, decimal_values, whole_values
 from .arrays import Array
 from .capture import MILLION
 from .faults import Fault
 from .live import MISSED, MOST_MISSED
 from .parameters import Table
+from .told import DERIVED, number_text
 from .silence import Source, names_of, source_of
 
 GATHER = 0.02  # seconds in which records gather
@@ -64,8 +67,9 @@ class Heard:
 class Watch:
     """What came of the parameters of a table, and of all else."""
 
-    def __init__(self, table: Table) -> None:
+    def __init__(self, table: Table, description: Description | None = None) -> None:
         self.table = table
+        self.description = description or Description()
         self.asked = {source_of(one): Heard() for one in table.parameters.values()}
         self.by_label: dict[tuple[int, int], list[Source]] = {}
         for one in self.asked:
@@ -122,7 +126,7 @@ class Watch:
         span, self.told = now - self.told, now
         stalled = now - self.came if now - self.came > STALLED else 0.0
         at = self.newest + round(stalled * MILLION)
-        rows = [("parameter", "bus", "label", "sdi", "value", "a second", "silence", "")]
+        rows = [("parameter", "bus", "label", "sdi", "value", *self._heads(), "a second", "silence", "")]
         is_silent = False
         for parameter in self.table.parameters.values():
             source = source_of(parameter)
@@ -131,15 +135,46 @@ class Watch:
             is_silent |= bool(note)
             value = "" if heard.time is None else parameter.text_of(heard.last)
             silence = "" if heard.time is None else f"{(at - heard.time) / MILLION:.2f} s"
-            rows.append((parameter.name, *names_of(source), value, _rate(heard, span), silence, note))
+            told = self._told(self.description.of(parameter.name), value)
+            rows.append((parameter.name, *names_of(source), value, *told, _rate(heard, span), silence, note))
+        for derived in self.description.derived.values():
+            value = self._derived(derived)
+            rows.append((derived.name + DERIVED, "", "", "", value, *self._told(derived.described, value), "", "", ""))
         for source, heard in sorted(self.others.items()):
-            rows.append(("-", *names_of(source), "", _rate(heard, span), "", "no parameter asks for it"))
+            rows.append(("-", *names_of(source), "", *self._told(Described(), ""), _rate(heard, span), "", "no parameter asks for it"))
         for heard in (*self.asked.values(), *self.others.values()):
             heard.before = heard.words
         head = f"{self.newest / MILLION:.1f} s, {(self.records - self.before) / max(span, 1e-9):.0f} records a second"
         self.before = self.records
         stall = f", NOTHING COMES for {stalled:.0f} s" if stalled else ""
         return [f"{head}, {self.dropped} words dropped by the source{stall}", *aligned(rows).splitlines()], is_silent
+
+
+    def _heads(self) -> tuple[str, ...]:
+        """The columns of the description, where there is one."""
+        return ("unit", "means", "title") if self.description.parameters or self.description.derived else ()
+
+    def _told(self, one: Described, value: str) -> tuple[str, ...]:
+        """What the description says of a value: its unit, its word or what it is by a scale of points, and its title."""
+        means = one.word(value) or one.scaled(value) if value else ""
+        return (one.unit, means, one.title) if self._heads() else ()
+
+    def _derived(self, derived: Derived) -> str:
+        """A derived value of the last words, once there is one of each of its parameters."""
+        values: dict[str, Values] = {}
+        for name in derived.expression.names:
+            parameter = self.table.parameters[name.removesuffix(SCALED)]
+            heard = self.asked[source_of(parameter)]
+            if heard.time is None:
+                return ""
+            number = np.array([float(parameter.text_of(heard.last))])
+            points = self.description.of(parameter.name).points if name != parameter.name else None
+            is_whole = parameter.scale.decimals == 0 and points is None
+            values[name] = whole_values(number) if is_whole else decimal_values(points.of(number) if points else number)
+        worked = derived.expression.worked(values)
+        if not worked.there[0]:
+            return ""
+        return str(int(worked.numbers[0])) if worked.are_whole else number_text(float(worked.numbers[0]))
 
 
 def _rate(heard: Heard, span: float) -> str:
@@ -188,9 +223,9 @@ class Reading:
         return lines
 
 
-def watch(table: Table, once: float | None) -> bool:
+def watch(table: Table, once: float | None, description: Description | None = None) -> bool:
     """Writes a table each second until the trace ends, or one alone after so many seconds. Answers whether a parameter is silent."""
-    reading = Reading(Watch(table), sys.stdin.fileno())
+    reading = Reading(Watch(table, description), sys.stdin.fileno())
     if once is not None:
         reading.ended.wait(once)
         lines, is_silent = reading.lines()
