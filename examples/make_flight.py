@@ -1,13 +1,14 @@
 #!/usr/bin/env python3
-"""Makes the capture of a flight of an hour, by the parameters of ordinary.csv: taxi, climb, cruise, descent, landing.
+"""Makes the capture of two flights in an hour, by the parameters of hour.csv, which has those of ordinary.csv and a clock: taxi,
+climb, cruise, descent, landing, and from the next airfield the same again.
 
     examples/make_flight.py > flight.csv
     examples/make_flight.py --from 1931 > after.csv      the words from a time on, with times counted from there
     examples/make_flight.py --to 1873.4 > before.csv     the words before a time
     examples/make_flight.py --trace > flight.trace       the same as a trace, which `fdr record` reads
 
-The flight is made up, by a generator with a fixed seed, so it is the same each time. What `tools/flight trace` reads of it
-is said in docs/FLIGHT_TOOLS.md.
+The flights are made up, by a generator with a fixed seed, so they are the same each time. What `tools/flight trace` reads of
+them is said in docs/FLIGHT_TOOLS.md.
 """
 
 import argparse
@@ -21,7 +22,7 @@ NORMAL, DISCRETE = 3, 0  # SSM of numbers and of discretes
 
 
 class Moment(NamedTuple):
-    """A moment of the flight, between which it goes evenly: seconds, feet, knots, degrees of pitch and of heading."""
+    """A moment of the hour, between which it goes evenly: seconds, feet, knots, degrees of pitch and of heading."""
 
     time: float
     altitude: float
@@ -39,11 +40,29 @@ PLAN = [
     Moment(312, 600, 128, 9.0, 271),
     Moment(420, 2900, 160, 8.0, 271),
     Moment(480, 3900, 165, 7.0, 318),
-    Moment(1080, 13600, 165, 5.5, 322),
-    Moment(1230, 15000, 180, 2.0, 322),
-    Moment(1300, 15000, 194, 1.0, 322),
-    Moment(2280, 15000, 196, 1.0, 322),
-    Moment(2340, 14700, 197, -1.5, 309),
+    Moment(760, 9000, 168, 5.5, 322),
+    Moment(860, 10000, 182, 2.0, 322),
+    Moment(920, 10000, 194, 1.0, 322),
+    Moment(1150, 10000, 196, 1.0, 322),
+    Moment(1210, 9600, 197, -1.5, 309),
+    Moment(1480, 4200, 186, -2.5, 300),
+    Moment(1570, 2700, 150, 2.0, 275),
+    Moment(1620, 2000, 128, -1.0, 271),
+    Moment(1745, 440, 112, -0.5, 271),
+    Moment(1752, 420, 105, 4.5, 271),
+    Moment(1760, 420, 84, 0.5, 271),
+    Moment(1800, 420, 14, 0.0, 240),
+    Moment(1850, 420, 0, 0.0, 180),
+    Moment(1960, 420, 0, 0.0, 180),
+    Moment(2040, 420, 12, 0.0, 95),
+    Moment(2080, 420, 0, 0.0, 91),
+    Moment(2110, 420, 115, 1.0, 91),
+    Moment(2122, 600, 128, 9.0, 91),
+    Moment(2230, 2900, 160, 8.0, 91),
+    Moment(2290, 3900, 165, 7.0, 30),
+    Moment(2560, 8600, 166, 5.5, 10),
+    Moment(2640, 9500, 188, 1.0, 350),
+    Moment(2720, 9500, 196, 0.5, 320),
     Moment(2940, 5000, 199, -2.5, 305),
     Moment(3030, 4000, 178, 1.0, 271),
     Moment(3120, 3000, 150, 2.0, 270),
@@ -54,9 +73,11 @@ PLAN = [
     Moment(3400, 420, 22, 0.0, 270),
     Moment(3600, 420, 8, 0.0, 180),
 ]
-TAKEOFF, TOUCHDOWN = 306, 3350
-GEAR_UP, GEAR_DOWN = 322, 3105
-BUMPS = [(700, 90, 0.13), (1640, 160, 0.22), (2700, 120, 0.16)]  # air that isn't smooth: from, how long, how much
+FLIGHTS = [(306, 1750), (2116, 3350)]  # from the take-off to the touchdown
+GEAR_IS_UP = [(322, 1540), (2132, 3105)]
+BUMPS = [(700, 90, 0.13), (1240, 160, 0.22), (2700, 120, 0.16)]  # air that isn't smooth: from, how long, how much
+DEPARTURE = 8 * 3600 + 15 * 60 + 0.3  # seconds of the day at the beginning
+CLOCK_RATE = 1 + 40e-6  # of the aircraft's clock beside the recorder's
 
 
 class Sender(NamedTuple):
@@ -80,7 +101,7 @@ def planned(time: float) -> Moment:
 
 
 def in_air(time: float) -> bool:
-    return TAKEOFF <= time < TOUCHDOWN
+    return any(takeoff <= time < touchdown for takeoff, touchdown in FLIGHTS)
 
 
 def altitude(time: float, chance: random.Random) -> int:
@@ -99,8 +120,10 @@ def acceleration(time: float, chance: random.Random) -> int:
     roughness = 0.004 + 0.012 * in_air(time)
     for begin, length, more in BUMPS:
         roughness += more * math.sin(math.pi * (time - begin) / length) ** 2 * (begin < time < begin + length) / 2
-    level = 1 + chance.gauss(0, roughness) + 0.12 * math.exp(-(((time - 314) / 5) ** 2))
-    level += 0.42 * math.exp(-(((time - TOUCHDOWN) / 0.35) ** 2))
+    level = 1 + chance.gauss(0, roughness)
+    for takeoff, touchdown in FLIGHTS:
+        level += 0.12 * math.exp(-(((time - takeoff - 8) / 5) ** 2))
+        level += 0.42 * math.exp(-(((time - touchdown) / 0.35) ** 2))
     return (round(1000 * level) & 0xFFF) << 6
 
 
@@ -117,12 +140,18 @@ def pitch(time: float, chance: random.Random) -> int:
 
 def gear(time: float, _: random.Random) -> int:
     """Bit 11: the gear is down."""
-    return int(not GEAR_UP <= time < GEAR_DOWN)
+    return int(not any(up <= time < down for up, down in GEAR_IS_UP))
 
 
 def flight_number(_: float, __: random.Random) -> int:
     """The flight's number, from bit 11 on."""
     return 717
+
+
+def time_of_day(time: float, _: random.Random) -> int:
+    """Hours in bits 24 to 28, minutes in bits 18 to 23, seconds in bits 12 to 17."""
+    seconds = int(DEPARTURE + time * CLOCK_RATE)
+    return seconds // 3600 % 24 << 13 | seconds // 60 % 60 << 7 | seconds % 60 << 1
 
 
 SENDERS = [
@@ -133,11 +162,12 @@ SENDERS = [
     Sender(8, 1, "324", 0, NORMAL, pitch),
     Sender(1, 2, "260", 0, DISCRETE, flight_number),
     Sender(2, 3, "270", 0, DISCRETE, gear),
+    Sender(4, 2, "150", 0, NORMAL, time_of_day),
 ]
 
 
 def words() -> Iterator[tuple[float, str]]:
-    """The words of the flight, in the order of their times: the time, and the rest of the row."""
+    """The words of the hour, in the order of their times: the time, and the rest of the row."""
     rows = []
     for number, sender in enumerate(SENDERS):
         chance = random.Random(number)
@@ -161,7 +191,7 @@ def word_record(time: float, row: str) -> bytes:
 
 
 def main() -> None:
-    parser = argparse.ArgumentParser(description="Makes the capture of a flight of an hour.")
+    parser = argparse.ArgumentParser(description="Makes the capture of two flights in an hour.")
     parser.add_argument("--from", dest="begin", type=float, default=0.0, metavar="SECONDS", help="words from here on")
     parser.add_argument(
         "--to", dest="end", type=float, default=float(LENGTH), metavar="SECONDS", help="words before here"
