@@ -107,6 +107,11 @@ def test_the_figure() -> None:
     assert figure._suptitle.get_text() == "A flight"
 
 
+def test_times_after_a_gap_alone(flight: Tool, write: Write, tmp_path: pathlib.Path) -> None:
+    path = tmp_path / "f.svg"
+    assert flight("plot", write("l", SPREAD), "--words", 64, "--recording", 1, "--from", "150s", "-o", path) == (0, b"", "")
+
+
 def test_discretes_are_thin_bands() -> None:
     figure = picture.figure_of(flight_of(SPREAD))
     heights = [axes.get_position().height * figure.get_figheight() for axes in figure.axes]

@@ -325,7 +325,8 @@ class Collector:
             recording.end = max(recording.end, (int(own.max()) // FRAME + 1) * FRAME)
             put[rows] = own - recording.first + recording.put
         new = np.flatnonzero(np.diff(timed.stretch, prepend=len(self.recording_of) - 1))
-        self.recording_of += timed.recording[new].tolist()
+        for stretch, recording_number in zip(timed.stretch[new].tolist(), timed.recording[new].tolist()):
+            self.recording_of += [recording_number] * (stretch + 1 - len(self.recording_of))  # those before may be cut away
         return put
 
     def end(self, between: list[Between]) -> Flight:

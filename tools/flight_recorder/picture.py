@@ -210,7 +210,7 @@ def _draw_states(axes: Axes, name: str, flight: Flight) -> None:
 def _draw_state(axes: Axes, begin: Array, length: Array, colour: str, word: str, end: float) -> bool:
     """Draws the bars of a state, and answers whether its word stands in one of them."""
     bars_of = _pairs(np.stack((begin, length), axis=1))
-    axes.broken_barh(bars_of, (0, 1), facecolors=colour, edgecolors=colour, linewidth=0.6, label=word)
+    axes.broken_barh(bars_of, (0, 1), facecolors=colour, edgecolors=colour, linewidth=0.6, label=word or "no word")
     wide = [(first, size) for first, size in bars_of if word and size > end * SIGN * (len(word) + 2)]
     for first, size in wide:
         ink = "white" if colour == CURVE_COLOUR else "black"

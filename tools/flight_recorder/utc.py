@@ -367,7 +367,7 @@ def _notes(utc: Utc, about: _About) -> Iterator[Between]:
         why = "its date isn't known" if len(about.changes.time) else "the clock never changes"
         yield note(about.begin, about.begin, f"no utc: {why}")
         return
-    rate = f"rate {fit.rate * 1e6:+.1f} ppm, by {fit.agreeing} of {fit.changes} changes of the clock"
+    rate = f"rate {round(fit.rate * 1e6, 1) + 0.0:+.1f} ppm, by {fit.agreeing} of {fit.changes} changes of the clock"
     yield note(about.begin, about.begin, f"utc is {utc.text(about.number, about.begin)} here, {rate}")
     told = sorted(itertools.chain(_bad(about.readings), _still(about.readings, about.changes), _away(about, fit)))
     for first, last, text in told[:MOST_TOLD]:
@@ -407,18 +407,21 @@ def _still(readings: Readings, changes: Readings) -> Iterator[tuple[int, int, st
     usual = float(np.median(apart[apart > 0])) if apart.any() else SECOND
     for at in np.flatnonzero(apart > max(2 * usual, usual + 1.5 * SECOND)).tolist():
         begin, end = int(time[at]), int(time[at + 1])
-        yield begin, end, f"the clock stands still for {(end - begin) / SECOND:.0f} s"
+        between = (readings.stretch == stretch[at]) & (readings.time > begin) & (readings.time < end)
+        if np.isfinite(readings.seconds[between]).all():  # else it is told as bad values
+            yield begin, end, f"the clock stands still for {(end - begin) / SECOND:.0f} s"
 
 
 def _away(about: _About, fit: Fit) -> Iterator[tuple[int, int, str]]:
     """Where the clock is more than a second away from the line. A reading whose minutes or hours were sampled before its seconds
-    came round, or after, is no disagreement."""
+    came round, or after, is no disagreement, unless those beside it are some."""
     changes = about.changes
     line = fit.at(changes.time / SECOND)
     away = changes.seconds - line if about.has_dates else around_day(changes.seconds - line)
     minutes = np.rint(away / MINUTE)
     of_minute = np.minimum(line % MINUTE, MINUTE - line % MINUTE)
     is_torn = (minutes != 0) & (np.abs(away - minutes * MINUTE) <= NEAR) & (of_minute < about.period + NEAR)
+    is_torn &= ~_all_away_beside(np.abs(away) > NEAR, is_torn)
     keep = np.flatnonzero(~is_torn)
     for first, last in _groups(np.abs(away[keep]) > NEAR):
         here = away[keep][first : last + 1]
@@ -426,3 +429,13 @@ def _away(about: _About, fit: Fit) -> Iterator[tuple[int, int, str]]:
         alike = "is" if float(np.ptp(here)) <= 2 * NEAR else "isn't steady, and is about"
         text = f"the clock {alike} {abs(middle):.1f} s {'ahead' if middle > 0 else 'behind'}, at {count} change{'s' * (count > 1)}"
         yield int(changes.time[keep[first]]), int(changes.time[keep[last]]), text
+
+
+def _all_away_beside(is_away: Array, is_torn: Array) -> Array:
+    """Whether the next readings that aren't torn, before and after each, are away from the line."""
+    whole = np.flatnonzero(~is_torn)
+    if not len(whole):
+        return np.ones(len(is_torn), dtype=bool)
+    after = np.searchsorted(whole, np.arange(len(is_torn)))
+    before = np.maximum(after - 1, 0)
+    return is_away[whole[before]] & is_away[whole[np.minimum(after, len(whole) - 1)]]
