@@ -105,6 +105,13 @@ def test_a_state_without_room_is_in_the_legend(drawn: curves.Flight) -> None:
     assert [text.get_text() for text in band.get_legend().get_texts()] == ["a state with a name that no bar has room for"]
 
 
+def test_texts_of_strangers_are_texts(drawn: curves.Flight, tmp_path: pathlib.Path) -> None:
+    drawn.described["MODE"].states.update({"0": "$\\frac{a state without room, in a legend$", "1": "$x"})
+    drawn.described["N1"].title = drawn.described["HALF (derived)"].unit = "$\\frac{$"
+    picture.save(drawn, tmp_path / "f.svg", "")
+    assert (tmp_path / "f.svg").stat().st_size > 10_000
+
+
 @pytest.fixture(scope="module")
 def chromium() -> Iterator[browser.Browser]:
     """A browser for all tests."""

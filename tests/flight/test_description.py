@@ -147,6 +147,16 @@ def test_pieces_of_any_size_derive_the_same(flight: Tool, described: pathlib.Pat
         assert flight("table", described.parent / "l", "--table", described, "--every", "1s").out == whole
 
 
+def test_the_text_of_a_value_stays(flight: Tool, write: Write) -> None:
+    """A foreign listing may write a value in several ways: each stays as it is beside its word."""
+    write("t.describe.csv", "state,T,0,none\n")
+    text = "".join(rows(at, 2, (14, "T", value)) for at, value in enumerate(["0.0", "-0.0", "0", "0.00", "1.0"]))
+    answer = flight("table", write("l", text), "--table", write("t.csv", TABLE), "--wide")
+    assert [(row["T"], row["T (state)"]) for row in read(answer.out)] == [
+        ("0.0", "none"), ("-0.0", "none"), ("0", "none"), ("0.00", "none"), ("1.0", ""),
+    ]  # fmt: skip
+
+
 def test_no_description_leaves_a_table_as_it_was(flight: Tool, described: pathlib.Path, write: Write) -> None:
     plain = write("plain.csv", TABLE)
     for words in ((), ("--wide",), ("--every", "1s")):

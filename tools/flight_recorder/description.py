@@ -25,7 +25,7 @@ ENDING = ".describe.csv"
 SCALED = " (scaled)"
 NAME = re.compile("[A-Za-z0-9_.-]{1,16}")
 NUMBER = re.compile(r"-?[0-9]{1,15}(?:\.[0-9]{1,9})?")
-MOST_BYTES = 1 << 20
+MOST_BYTES, MOST_DERIVED = 1 << 20, 500
 MOST_TEXT = 100  # signs of a unit, a title or a word
 CLOCK_FIELDS = {1: "a count of seconds of the day", 3: "hours, minutes, seconds", 4: "and a day, a month, a year", 6: "all of these"}
 KINDS = "unit, state, points, derived and clock are the kinds of rows"
@@ -245,6 +245,8 @@ class _Reader:
         name = row[1]
         if not NAME.fullmatch(name) or name in self.table.parameters or name in self.made.derived:
             raise self._fault(1, f"{name[:40]!r}: a name of its own, of up to 16 letters, digits, _, - and points")
+        if len(self.made.derived) == MOST_DERIVED:
+            raise self._fault(0, f"there are {MOST_DERIVED} derived values above, and no more than that may be")
         with_points = [of for of, one in self.made.parameters.items() if one.points]
         try:
             read = expression.read(row[2], known_names(self.table, with_points), self.made.expressions())

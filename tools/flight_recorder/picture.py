@@ -85,7 +85,7 @@ def figure_of(flight: Flight, title: str = "") -> Figure:
     _time_axis(all_axes[-1], flight)
     for at, line in enumerate(lines):
         place = (below - axis - LINE * (at + 0.5)) / height
-        figure.text(0.05, place, line, fontsize=7, va="top", family="monospace")
+        figure.text(0.05, place, line, fontsize=7, va="top", family="monospace", parse_math=False)
     if title:
         figure.suptitle(title, x=0.09, y=1 - 0.04 / height, ha="left", va="top", fontsize=11)
     return figure
@@ -173,10 +173,10 @@ def _name(axes: Axes, group: list[str], flight: Flight, is_band: bool) -> None:
     """Names the curves of an axis, with their units, and their titles within."""
     of = list(dict.fromkeys(label_of(flight, own_name(name)) for name in group))
     label = "\n".join(of) if is_band or len(of) != 1 else of[0].replace(" [", "\n[").replace(" (", "\n(")
-    axes.set_ylabel(label, rotation=0, ha="right", va="center", fontsize=9 if len(label) <= SHORT or not is_band else 7)
+    axes.set_ylabel(label, rotation=0, ha="right", va="center", fontsize=9 if len(label) <= SHORT or not is_band else 7, parse_math=False)
     titles = list(dict.fromkeys(title for name in group if (title := flight.of(name).title)))
     if titles and not is_band:
-        axes.text(0.004, 0.96, "; ".join(titles), transform=axes.transAxes, fontsize=7, color=GREY, va="top", label="title")
+        axes.text(0.004, 0.96, "; ".join(titles), transform=axes.transAxes, fontsize=7, color=GREY, va="top", label="title", parse_math=False)
 
 
 def runs(points: Points) -> tuple[Array, Array, Array]:
@@ -200,7 +200,9 @@ def _draw_states(axes: Axes, name: str, flight: Flight) -> None:
         is_said = _draw_state(axes, begin[its], length[its], colour, words[state], flight.end / SECOND)
         unsaid += [] if is_said or not len(its) else [axes.collections[-1]]
     if unsaid:
-        axes.legend(handles=unsaid, fontsize=6, loc="center right", ncol=len(unsaid), framealpha=0.85, handlelength=0.7, borderpad=0.2)
+        legend = axes.legend(handles=unsaid, fontsize=6, loc="center right", ncol=len(unsaid), framealpha=0.85, handlelength=0.7, borderpad=0.2)
+        for text in legend.get_texts():
+            text.set_parse_math(False)
     others = np.flatnonzero(~np.isin(value, list(words)))
     if len(others):
         _draw_state(axes, begin[others], length[others], NO_WORD, "", flight.end / SECOND)
@@ -214,7 +216,7 @@ def _draw_state(axes: Axes, begin: Array, length: Array, colour: str, word: str,
     wide = [(first, size) for first, size in bars_of if word and size > end * SIGN * (len(word) + 2)]
     for first, size in wide:
         ink = "white" if colour == CURVE_COLOUR else "black"
-        axes.text(first + size / 2, 0.5, word, ha="center", va="center", fontsize=7, color=ink)
+        axes.text(first + size / 2, 0.5, word, ha="center", va="center", fontsize=7, color=ink, parse_math=False)
     return bool(wide)
 
 

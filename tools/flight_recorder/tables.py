@@ -20,7 +20,7 @@ from .description import SCALED, Description
 from .joining import Field, Places, Text, field_in, fractions_of, joined, numbers_after, rows_of, time_text
 from .listing import Names
 from .raw import RawWords
-from .told import STATE, Column, Told, derived_values, texts_of
+from .told import STATE, Column, Told, derived_values, distinct, texts_of
 from .utc import Utc
 from .window import Window
 
@@ -171,8 +171,8 @@ class LongTable:
             each = np.zeros(len(piece), dtype=np.int64)
             each[rows] = codes + 1
             yield _chosen_field([b",", *(b"," + text for text in texts_of(uniques))], each)
-            for texts in one.beside(uniques):
-                yield _chosen_field([b",", *(b"," + quoted(text) for text in texts)], each)
+            for fields in one.fields(uniques):
+                yield _chosen_field([b",", *(b"," + field for field in fields)], each)
 
     def _beside(self, timed: Timed, kind: str) -> Field:
         """The fields of one kind beside the values of a piece."""
@@ -183,7 +183,7 @@ class LongTable:
                 rows = np.flatnonzero(timed.piece.name == number)
                 codes, uniques = pandas.factorize(timed.piece.value[rows])
                 each[rows] = codes + len(texts)
-                texts += [b"," + quoted(text) for text in one.beside(uniques)[one.kinds.index(kind)]]
+                texts += [b"," + text for text in one.fields(uniques)[one.kinds.index(kind)]]
         return _chosen_field(texts, each)
 
     def _between(self, one: Between) -> bytes:
@@ -225,11 +225,6 @@ def described_fields(told: Told) -> list[str]:
     """The columns of a long table by a description: the unit, the word for a value, its value by a scale, and those derived."""
     kinds = {"unit": told.has_units, _named(STATE): told.has_states, _named(SCALED): told.has_scales}
     return [*(kind for kind, is_there in kinds.items() if is_there), *(head for one in told.derived for head in one.heads)]
-
-
-def quoted(text: str) -> bytes:
-    """A field as comma-separated values have it."""
-    return row_text([text, ""])[:-2]
 
 
 def _chosen_field(texts: list[bytes], codes: Array) -> Field:
@@ -298,18 +293,15 @@ def samples_of(timed: Timed, told: Told) -> Samples:
     samples = Samples(piece.text, timed.recording, timed.stretch, timed.time, *places, piece.value, doubtful)
     if not told.with_fields and not told.derived:
         return samples
-    text = Text(piece.text)
+    text, data = Text(piece.text), piece.text.tobytes()
     start, length = samples.start.copy(), samples.length.copy()
     for number in told.with_fields:
         if number < told.parameters:
             rows = np.flatnonzero(piece.name == number)
-            codes, uniques = pandas.factorize(piece.value[rows])
-            if len(uniques):
-                first = np.empty(len(uniques), dtype=np.int64)
-                first[codes[::-1]] = rows[::-1]
-                own = [piece.text[begin : begin + size].tobytes() for begin, size in zip(start[first].tolist(), length[first].tolist())]
-                each = text.add_each(_cells(own, told.columns[number], uniques))
-                start[rows], length[rows] = each.start[codes], each.length[codes]
+            codes, first = distinct(piece, rows)
+            own = [data[begin : begin + size] for begin, size in zip(start[first].tolist(), length[first].tolist())]
+            each = text.add_each(_cells(own, told.columns[number], piece.value[first]))
+            start[rows], length[rows] = each.start[codes], each.length[codes]
     samples.start, samples.length = start, length
     derived = [_derived_samples(timed, told, number, text) for number in range(len(told.derived))]
     samples.text = text.whole()
@@ -321,8 +313,7 @@ def samples_of(timed: Timed, told: Told) -> Samples:
 
 def _cells(own: list[bytes], column: Column, values: Array) -> list[bytes]:
     """The fields of these values, with those beside each."""
-    beside = column.beside(values)
-    return [b",".join([text, *(quoted(fields[at]) for fields in beside)]) for at, text in enumerate(own)]
+    return [b",".join(fields) for fields in zip(own, *column.fields(values))]
 
 
 def _derived_samples(timed: Timed, told: Told, number: int, text: Text) -> Samples:

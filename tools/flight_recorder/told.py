@@ -6,15 +6,18 @@ own, which say so in their heads.
 
 from __future__ import annotations
 
+import csv
+import io
 from dataclasses import dataclass
 
 import numpy as np
+import pandas
 
 from .arrays import Array
 from .clock import Timed
 from .description import SCALED, Described, Description
 from .expression import Values
-from .listing import Names
+from .listing import Names, Piece
 
 STATE, DERIVED = " (state)", " (derived)"
 OWN = ("recording", "session", "time", "date", "utc", "note")  # columns that are no parameter's
@@ -30,6 +33,25 @@ def texts_of(values: Array) -> list[bytes]:
     if values.dtype.kind == "i":
         return [b"%d" % value for value in values.tolist()]
     return [b"" if value != value else number_text(value).encode() for value in values.tolist()]
+
+
+def quoted(text: str) -> bytes:
+    """A field as comma-separated values have it."""
+    out = io.StringIO()
+    csv.writer(out, lineterminator="").writerow([text, ""])
+    return out.getvalue()[:-1].encode()
+
+
+def distinct(piece: Piece, rows: Array) -> tuple[Array, Array]:
+    """Of some rows of one parameter which have the same value written alike: the number of each, and the first row of each number."""
+    bits = np.ascontiguousarray(piece.value[rows]).view(np.int64)  # which tell -0 from 0
+    decimals = piece.decimals[rows]
+    if len(rows) and (decimals != decimals[0]).any():
+        bits = np.unique(np.stack((bits, decimals.astype(np.int64))), axis=1, return_inverse=True)[1].astype(np.int64)
+    codes, found = pandas.factorize(bits)
+    first = np.empty(len(found), dtype=np.int64)
+    first[codes[::-1]] = rows[::-1]
+    return codes, first
 
 
 def head_of(name: str, kind: str = "", unit: str = "", title: str = "") -> str:
@@ -61,13 +83,20 @@ class Column:
         return [STATE] * bool(self.described.states) + [SCALED] * (self.described.points is not None)
 
     def beside(self, values: Array) -> list[list[str]]:
-        """The fields beside these values, a list of each kind."""
+        """What is beside these values, a list of each kind."""
         one = self.described
         states = {float(value): word for value, word in one.states.items()}
-        fields = [[states.get(value, "") for value in values.tolist()]] * bool(states)
+        texts = [[states.get(value, "") for value in values.tolist()]] * bool(states)
         if one.points is not None:
-            fields.append(["" if value != value else number_text(value) for value in one.points.of(values).tolist()])
-        return fields
+            texts.append(["" if value != value else number_text(value) for value in one.points.of(values).tolist()])
+        return texts
+
+    def fields(self, values: Array) -> list[list[bytes]]:
+        """The same as fields of comma-separated values."""
+        one = self.described
+        states = {float(value): quoted(word) for value, word in one.states.items()}
+        fields = [[states.get(value, b"") for value in values.tolist()]] * bool(states)
+        return fields + ([texts_of(one.points.of(values))] if one.points is not None else [])
 
 
 class Told:
