@@ -103,11 +103,11 @@ def test_wide_tables_and_grids_carry_nothing_over_a_gap(flight: Tool, described:
         "SUM (derived) [kg] Mass, gross", "RATIO (derived)", "RATIO (state)", "note",
     ]  # fmt: skip
     table = read(wide.out)
-    assert all(len(row) == len(head) and None not in row for row in table)
+    grid = read(flight("table", described.parent / "l", "--table", described, "--every", "1s").out)
+    assert all(None not in row and None not in row.values() for row in [*table, *grid])  # each row has all fields
     sums = {row["time"]: row["SUM (derived) [kg] Mass, gross"] for row in table if row["SUM (derived) [kg] Mass, gross"]}
     assert list(sums.items())[0] == ("0.140625", "17")
     assert {row["TENS"] for row in table if row["SUM (derived) [kg] Mass, gross"] and float(row["time"]) < 8} == {"1", "2"}
-    grid = read(flight("table", described.parent / "l", "--table", described, "--every", "1s").out)
     by_time = {float(row["time"]): row for row in grid if not row["note"]}
     assert [by_time[at]["SUM (derived) [kg] Mass, gross"] for at in (1.0, 2.0, 7.0, 17.0, 19.0)] == ["17", "18", "23", "90", "92"]
     assert not any(8.0 < at < 17.0 for at in by_time)
