@@ -74,6 +74,15 @@ def test_without_a_time_between_the_gap_cuts_a_flight(flight: Tool, table: pathl
     assert read(flight("flights", table.with_name("l"), "--table", table, "--when", "IAS > 200").out) == []
 
 
+def test_a_gap_cuts_no_flight_that_goes_on_behind_it(flight: Tool, write: Write) -> None:
+    """20 s on each side of a gap are a flight of 30 s at least, but not where it had ended before the gap or begins later."""
+    for before, after, count in (([90] * 20, [90] * 20, 1), ([90] * 20 + [10] * 4, [90] * 20, 0), ([90] * 20, [10] * 4 + [90] * 20, 0)):
+        frames = len(before) // 4
+        text = rows(0, before) + f"gap,{frames * BITS},{2 * BITS}\n" + rows(frames + 2, [*after, 10, 10, 10, 10])
+        answer = flight("flights", write("l", text), "--table", write("t.csv", TABLE), "--when", "IAS > 60", "--apart", "60s")
+        assert [row["seconds"] for row in read(answer.out)] == ["47.000000"] * count
+
+
 def test_a_flight_ends_with_its_recording(flight: Tool, write: Write) -> None:
     listing = write("l", "session,1,0\n" + rows(0, [90] * 80) + "session,2,9\n" + rows(0, [90] * 40))
     answer = flight("flights", listing, "--table", write("t.csv", TABLE), "--when", "IAS > 60")
@@ -96,17 +105,20 @@ def test_an_event_has_its_length_peak_severity_and_notes(flight: Tool, write: Wr
     write("t.describe.csv", "unit,ALT,ft\nstate,IAS,75,quick\n")
     rules = write(
         "e.csv",
-        HEADER + "FAST,IAS > 60,,2s,max IAS,low:60;mid:75; high:80,ALT;IAS\nLONG,IAS > 60,2s,,min ALT,far:150; near:101,\nNONE,IAS > 999,,,,,\n",
+        HEADER + "FAST,IAS > 60,,2s,max IAS,low:60;mid:75; high:80,ALT;IAS\nLONG,IAS > 60,2s,,min ALT,far:150; near:101,\nLEAST,IAS > 60,,2s,min IAS,,\nNONE,IAS > 999,,,,,\n",
     )
     answer = flight("events", write("l", rows(0, speeds)), "--table", write("t.csv", TABLE), "--rules", rules)
     assert answer.error == "flight: these events are by rules that are tested and not proved; fdr exceed is what is proved\n"
     found = read(answer.out)
     assert [[row[name] for name in ("what", "rule", "severity", "time", "seconds", "samples", "peak", "peak_time", "notes")] for row in found] == [
         ["event", "FAST", "mid", "1.140625", "4.000000", "4", "75", "2.140625", "ALT 102 ft; IAS 75 quick"],
+        ["event", "LEAST", "", "1.140625", "4.000000", "4", "70", "1.140625", ""],
         ["event", "LONG", "near", "1.140625", "2.000000", "3", "101", "1.140625", ""],
         ["event", "FAST", "high", "11.140625", "0.000000", "1", "80", "11.140625", "ALT 111 ft; IAS 80"],
+        ["event", "LEAST", "", "11.140625", "0.000000", "1", "80", "11.140625", ""],
         ["watched", "FAST", "", "", "16.000000", "", "", "", "in 1 stretch"],
         ["watched", "LONG", "", "", "16.000000", "", "", "", "in 1 stretch"],
+        ["watched", "LEAST", "", "", "16.000000", "", "", "", "in 1 stretch"],
         ["watched", "NONE", "", "", "16.000000", "", "", "", "in 1 stretch"],
     ]
 
@@ -212,11 +224,11 @@ def test_a_flight_alone_and_its_events_in_a_table(flight: Tool, table: pathlib.P
 
 
 def test_a_flight_alone_and_its_events_in_a_picture(flight: Tool, table: pathlib.Path, write: Write, tmp_path: pathlib.Path) -> None:
-    rules = write("e.csv", HEADER + "FAST,IAS > 98,,,max IAS,,\nSLOW,IAS < 20,,,,,\n")
+    rules = write("e.csv", HEADER + "FAST,IAS > 98,,,max IAS,,\nSLOW,IAS < 20,,,,,\nHIGH,ALT > 400,,,,,\n")
     path = tmp_path / "f.html"
     assert flight("plot", table.with_name("l"), "--table", table, "-o", path, "--events", rules, "--flight", 2, "--when", "IAS > 60").status == 0
     data = json.loads(re.findall(r'(?s)<script type="application/json" id="flight">(.*?)</script>', path.read_text())[0])
-    assert [(span["event"], span["text"]) for span in data["spans"]] == [("event", "FAST: 99 s, peak 99")]
+    assert [(span["event"], span["text"]) for span in data["spans"]] == [("event", "FAST: 99 s, peak 99"), ("event", "HIGH: 98 s")]
     assert [curve["count"] for curve in data["curves"]] == [100, 99, 99]
 
 
