@@ -146,10 +146,14 @@ def test_values_that_are_held_are_no_readings(table: Table) -> None:
 
 
 def test_a_clock_that_is_set_anew(table: Table) -> None:
-    found = table(rows(range(300), lambda time: math.floor(36_000.3 + time + 3600 * (time > 917))))
+    listing = rows(range(300), lambda time: math.floor(36_000.3 + time + 3600 * (time > 917)))
+    found = table(listing)
     assert all(abs(seconds_of(row["utc"]) - 36_000.3 - float(row["time"])) < 0.51 for row in found)
     assert [text for _, text in notes(found)][1:] == ["the clock is 3600.0 s ahead, at 283 changes"]
     assert notes(found)[1][0] == pytest.approx(917, abs=1)
+    for words in ((), ("--wide",), ("--every", "1s")):  # what is said stands at its time
+        times = [float(row["time"]) for row in table(listing, *words)]
+        assert times == sorted(times)
 
 
 def test_a_clock_that_stands_still_and_one_with_bad_values(table: Table) -> None:
