@@ -6,16 +6,18 @@
 The cases are those of examples/cases, and recordings in two images. First the built programs are run: each case once to count
 its calls, and then once for each call that fails, and for each read or write of several bytes that moves one. The calls
 are counted by fail.c, which `cc` compiles and which is loaded before the C library. Then the trial build of the kit is run,
-which looks for wrong accesses and sums too: `rt try` with --fail-io, --short-io and --fail-alloc, where the kit has them.
+which looks for wrong accesses and sums too: `rt try` with --fail-io, --short-io and --fail-alloc for each call in turn, where
+the kit has them. Where it takes one number alone after --fail-alloc, some allocations are refused, each in all cases of one build.
 
 An answer has to be that of a fault (the table, the input, the output or the disk), or the usual one with the same output and
-files. Where one byte was moved it has to be the usual one. A recording in two images goes on with one, and says so; what they
-hold then is looked at by tests/pair_faults.py.
+files. Where one byte was moved it has to be the usual one. A refused allocation has to be answered by status 12 without output,
+or as usual. A recording in two images goes on with one, and says so; what they hold then is looked at by tests/pair_faults.py.
 
 It prints a table of counts, and a line for each answer that is neither, and ends with 0 where there is none.
 """
 
 import argparse
+import contextlib
 import os
 import pathlib
 import re
@@ -36,7 +38,13 @@ from memory import LIMIT, Answer, Files, Programs, Work, pair_works, stored_work
 SOURCE = TOP / "tests" / "fail.c"
 NUMBERS = struct.Struct("=QQQQ")  # calls, those of several bytes, the one that fails, the one that moves one byte
 OF_FAULTS = {"fdr": (8, 9, 10), "fdrpair": (8, 10, 18)}
-KINDS = ("--fail-io", "--short-io", "--fail-alloc")
+ALLOC = "--fail-alloc"
+KINDS = ("--fail-io", "--short-io", ALLOC)
+ALLOCATIONS = (1, 4, 16, 64, 256)  # that are refused where the kit takes one number
+NO_MEMORY = 12
+OLDER = "this kit is older"
+CASE = re.compile(r"^case=(?P<name>\S+) run=(?P<run>\S+)(?: status=(?P<status>\d+))? .*$", re.M)
+NO_OUTPUT = ', found ""\n'
 MOST_TRIED = 400  # calls of a work
 
 
@@ -80,15 +88,17 @@ def numbers_of(count: int) -> Iterable[int]:
     return sorted({1 + at * (count - 1) // max(1, min(count, MOST_TRIED) - 1) for at in range(min(count, MOST_TRIED))})
 
 
-def tried(programs: Programs, works: list[Work]) -> tuple[int, int]:
-    """Tries the works on the built programs, and answers how many runs there were, and how many gave another answer."""
-    count = wrong = 0
+def tried(programs: Programs, works: list[Work]) -> tuple[int, int, dict[str, int]]:
+    """Tries the works on the built programs, and answers how many runs there were, how many gave another answer, and the status
+    that each work ends with, by its name as a case."""
+    count, wrong, statuses = 0, 0, {}
     print("| work | status | calls | one fails: fault | as usual | one byte moved: as usual |\n|---|---:|---:|---:|---:|---:|")
     with tempfile.TemporaryDirectory(prefix="fdr_fail_io_") as top, futures.ThreadPoolExecutor(os.cpu_count()) as pool:
         library = pathlib.Path(top) / "fail.so"
         subprocess.run(["cc", "-shared", "-fPIC", "-O1", "-o", library, SOURCE], check=True)
         for work in works:
             usual = run(programs, library, work)
+            statuses[work.name.replace(" ", "_")] = usual.answer[0]
             failing = [(f"call {number} fails", pool.submit(run, programs, library, work, number, 0)) for number in numbers_of(usual.calls)]
             short = [(f"call {number} moves one byte", pool.submit(run, programs, library, work, 0, number)) for number in numbers_of(usual.long_calls)]
             kinds = [(what, kind_of(one.result(), usual, work), one.result()) for what, one in failing]
@@ -101,31 +111,110 @@ def tried(programs: Programs, works: list[Work]) -> tuple[int, int]:
             told = [sum(kind == wanted for _, kind, _ in kinds) for wanted in ("fault", "as usual")]
             told.append(sum(kind == "as usual" for _, kind, _ in of_short))
             print(f"| {work.name} | {usual.answer[0]} | {usual.calls} | {' | '.join(map(str, told))} |", flush=True)
-    return count, wrong
+    return count, wrong, statuses
 
 
-def by_kit(works: list[Work]) -> Iterator[str]:
+@dataclass
+class Found:
+    """What was found with the trial build: how many runs there were, what is wrong, and what the kit lacks."""
+
+    runs: int = 0
+    wrong: int = 0
+    lacking: tuple[str, ...] = ()
+
+    def tell(self, fault: str) -> None:
+        """Prints what is wrong."""
+        self.wrong += 1
+        print(fault, flush=True)
+
+
+@contextlib.contextmanager
+def laid(works: list[Work]) -> Iterator[tuple[pathlib.Path, list[str]]]:
+    """A folder with works as cases of the kit, and the words that name the files which they find, which are the same for all."""
+    with tempfile.TemporaryDirectory(prefix="fdr_fail_io_") as top:
+        cases, files = (pathlib.Path(top) / name for name in ("cases", "files"))
+        cases.mkdir()
+        files.mkdir()
+        for work in works:
+            case = cases / work.name.replace(" ", "_")
+            case.write_bytes(work.given)
+            case.with_suffix(".args").write_text("".join(f"{word}\n" for word in work.words))
+            case.with_suffix(".stdout").write_bytes(work.output or b"")
+        for name, held in works[0].files.items():
+            (files / name).write_bytes(held)
+        yield cases, [word for name in works[0].files for word in ("--data", f"{name}={files / name}")]
+
+
+def rt_try(words: list[str], given: bytes = b"") -> subprocess.CompletedProcess[bytes]:
+    """Runs the trial build of the program."""
+    return subprocess.run(["rt", "try", *words], cwd=TOP / "crates" / "fdr_prog", input=given, capture_output=True)
+
+
+def each_in_turn(works: list[Work], found: Found) -> None:
+    """Has each call and allocation of the works fail in turn, where the kit does so."""
+    with laid(works) as (_, data):
+        for kind in KINDS:
+            for work in works:
+                ended = rt_try([kind, "1..", *data, "--", *work.words], work.given)
+                said = ended.stderr.decode("utf-8", "replace")
+                if OLDER in said:
+                    found.lacking += (kind,)
+                    break
+                calls = re.search(r"^calls=(\d+) ", said, re.M)
+                found.runs += int(calls.group(1)) if calls else 0
+                lines = re.findall(r"^call=.*$", said, re.M)
+                if not lines and ended.returncode:
+                    lines = [f"rt try ended with {ended.returncode}: {said[-200:]!r}"]
+                for line in lines:
+                    found.tell(f"{work.name}, {kind}: {line}")
+
+
+def one_allocation(works: list[Work], usual: dict[str, int], found: Found) -> None:
+    """Refuses some allocations, each in all works; `usual` is the status that each work ends with."""
+    print("| allocation that is refused | status 12, no output | as usual |\n|---|---:|---:|")
+    with laid(works) as (cases, data):
+        for number in ALLOCATIONS:
+            said = rt_try([ALLOC, str(number), "--cases", str(cases), *data]).stderr.decode("utf-8", "replace")
+            if OLDER in said:
+                print("skipped: `rt try` of this kit refuses no allocation of several cases")
+                return
+            counts, end = {"no memory": 0, "as usual": 0}, 0
+            for case in CASE.finditer(said):
+                told, end = said[end : case.end()], case.end()
+                kind = kind_of_case(case, told, usual[case["name"]])
+                found.runs += 1
+                if kind in counts:
+                    counts[kind] += 1
+                else:
+                    found.tell(f"{case['name']}, {ALLOC} {number}: {told[-400:]!r}")
+            looked_at = len(CASE.findall(said))
+            if looked_at < len(works):
+                found.tell(f"{ALLOC} {number}: rt try looked at {looked_at} of {len(works)} works: {said[-200:]!r}")
+            print(f"| {number} | {' | '.join(map(str, counts.values()))} |", flush=True)
+
+
+def kind_of_case(case: re.Match[str], told: str, usual: int) -> str:
+    """What a case answered of which an allocation was refused."""
+    is_expected = " output=expected " in case[0]
+    if case["run"] == "ended" and int(case["status"]) == NO_MEMORY and (is_expected or NO_OUTPUT in told):
+        return "no memory"
+    return "as usual" if case["run"] == "ended" and int(case["status"]) == usual and is_expected else "another"
+
+
+def by_kit(works: list[Work], usual: dict[str, int]) -> Found:
     """Tries the cases of examples/ with the trial build of the kit, and tells what it finds, and what it lacks."""
+    found = Found()
+    if not works:
+        return found
     if not shutil.which("rt"):
-        yield "skipped: there is no rt"
-        return
-    crate = TOP / "crates" / "fdr_prog"
-    for work in works:
-        with tempfile.TemporaryDirectory(prefix="fdr_fail_io_") as top:
-            data = []
-            for name, held in work.files.items():
-                (pathlib.Path(top) / name).write_bytes(held)
-                data += ["--data", f"{name}={top}/{name}"]
-            for kind in KINDS:
-                ended = subprocess.run(["rt", "try", kind, "1..", *data, "--", *work.words], cwd=crate, input=work.given, capture_output=True)
-                said = ended.stderr.decode()
-                if "this kit is older" in said:
-                    yield f"skipped: `rt try` of this kit has no {' and no '.join(KINDS)} for each call in turn"
-                    return
-                found = re.findall(r"^call=.*$", said, re.M)
-                yield from (f"{work.name}, {kind}: {line}" for line in found)
-                if not found and ended.returncode:
-                    yield f"{work.name}, {kind}: rt try ended with {ended.returncode}: {said[-200:]!r}"
+        print("skipped: there is no rt")
+        return found
+    each_in_turn(works, found)
+    if found.lacking:
+        print(f"skipped: `rt try` of this kit has no {' and no '.join(found.lacking)} for each call in turn")
+    if ALLOC in found.lacking:
+        one_allocation(works, usual, found)
+    return found
 
 
 def main() -> int:
@@ -139,12 +228,10 @@ def main() -> int:
         return 0
     programs = {"fdr": given.fdr.resolve(), "fdrpair": given.fdrpair.resolve()}
     stored = [work for work in stored_works() if given.only in work.name]
-    count, wrong = tried(programs, stored + [work for work in pair_works() if given.only in work.name])
-    for line in by_kit(stored):
-        print(line, flush=True)
-        wrong += not line.startswith("skipped: ")
-    print(f"{count:,} runs, {wrong} answers that are another")
-    return 1 if wrong else 0
+    count, wrong, usual = tried(programs, stored + [work for work in pair_works() if given.only in work.name])
+    found = by_kit(stored, usual)
+    print(f"{count:,} runs and {found.runs:,} of the trial build, {wrong + found.wrong} answers that are another")
+    return 1 if wrong + found.wrong else 0
 
 
 if __name__ == "__main__":

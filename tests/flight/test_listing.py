@@ -3,10 +3,12 @@
 import io
 import random
 
+import numpy as np
 import pytest
 
+from flight_recorder import listing
 from flight_recorder.faults import Fault
-from flight_recorder.listing import Kind, Names, is_line, piece_of, read_listing
+from flight_recorder.listing import Kind, Names, Piece, is_line, piece_of, read_listing
 from flight_recorder.streams import Input
 
 GOOD = [
@@ -129,3 +131,111 @@ def test_a_listing_that_was_cut() -> None:
 def test_no_lines_at_all() -> None:
     with pytest.raises(Fault, match="^listing line 1: "):
         list(read_listing(Input(io.BytesIO(bytes(3 << 20)), None), Names()))
+
+
+def frames(first: int, count: int, seed: int) -> bytes:
+    """The rows of frames of which each has six, and one of sixteen has another."""
+    chance = random.Random(seed)
+    lines = []
+    for counter in (number % 4096 for number in range(first, first + count)):
+        for subframe, word, name in ((1, 8, "V"), (1, 8, "V2"), (1, 104, "LONGER-NAME_1234"), (3, 20, "ALT"), (3, 1024, "W.1"), (4, 7, "Z")):
+            whole, signed = chance.choice((0, 1, 12, 345)), "-" * (chance.random() < 0.3)
+            value = f"{signed}{whole}" + (f".{chance.randrange(1000):03}" if name.startswith("V") else "")
+            lines.append(f"row,{counter},{subframe},{word},{name},{value}\n")
+        if counter % 16 == 5:
+            lines.append(f"row,{counter},4,9,FLT,{chance.randrange(4096)}\n")
+    return "".join(lines).encode()
+
+
+class Learned:
+    """Names that have read frames, and so expect others."""
+
+    def __init__(self) -> None:
+        self.names = Names()
+        piece_of(frames(16, 48, 1), 1, self.names)
+        self.pattern = self.names.pattern
+        assert self.pattern is not None and self.pattern.next == 0
+
+    def again(self) -> Names:
+        """The names as they were then."""
+        assert self.pattern is not None
+        self.names.pattern, self.pattern.next = self.pattern, 0
+        return self.names
+
+
+def columns(piece: Piece, names: Names) -> list[object]:
+    """All that a piece says of its rows."""
+    named = [names.names[number] for number in piece.name.tolist()]
+    places = (piece.counter, piece.subframe, piece.word, piece.value_start, piece.rest_start, piece.end, piece.value, piece.decimals)
+    kinds = piece.kinds
+    assert kinds is not None and piece.kind is not None
+    assert [kinds.word[piece.kind].tolist(), kinds.name[piece.kind].tolist()] == [piece.word.tolist(), piece.name.tolist()]
+    return [named, *(column.tolist() for column in places), piece.marks]
+
+
+@pytest.mark.parametrize("first", [0, 70, 980, 4050])
+def test_frames_that_come_again_are_read_as_those_before_were(first: int) -> None:
+    names = Names()
+    assert len(piece_of(frames(first, 48, 1), 1, names)) == 48 * 6 + 3
+    learned = names.pattern
+    assert learned is not None
+    for number, count in enumerate((16, 3, 40, 1, 200), 1):
+        first += 48 if number == 1 else 0
+        text, anew = frames(first, count, first), Names()
+        assert columns(piece_of(text, 1, names), names) == columns(piece_of(text, 1, anew), anew)
+        assert names.pattern is learned
+        first += count
+
+
+def test_changed_frames_are_read_alike_by_what_came_before_and_without() -> None:
+    chance = random.Random(9)
+    text, learned = frames(64, 4, 2), Learned()
+    counts = {True: 0, False: 0}
+    for _ in range(600):
+        names, anew, changed = learned.again(), Names(), bytearray(text)
+        at = chance.randrange(len(text))
+        changed[at : at + chance.randrange(2)] = bytes([chance.choice(b"0123456789,.-rowALTV\xff \x00\n")]) * chance.randrange(2)
+        if not changed.endswith(b"\n"):
+            continue
+        try:
+            expected: object = columns(piece_of(bytes(changed), 7, anew), anew)
+        except Fault as fault:
+            expected = str(fault)
+        try:
+            found: object = columns(piece_of(bytes(changed), 7, names), names)
+        except Fault as fault:
+            found = str(fault)
+        assert found == expected, bytes(changed)
+        counts[isinstance(expected, str)] += 1
+    assert min(counts.values()) > 120
+
+
+def test_any_byte_in_a_value_where_frames_come_again() -> None:
+    line, learned = b"row,64,1,8,V,-12.345\n", Learned()
+    for place in range(line.index(b"-"), len(line) - 1):
+        for byte in set(range(256)) - {ord("\n")}:
+            changed = line[:place] + bytes([byte]) + line[place + 1 :]
+            if is_line(changed[:-1]):
+                assert piece_of(changed, 1, learned.again()).value.tolist() == [float(changed.split(b",")[-1])]
+            else:
+                with pytest.raises(Fault, match="^listing line 1: "):
+                    piece_of(changed, 1, learned.again())
+
+
+def test_values_of_more_signs_or_other_decimals_where_frames_come_again() -> None:
+    names = Learned().again()
+    lines = frames(64, 16, 3).splitlines()
+    for at, value in enumerate((b"123456.789012345", b"-9223372036854775807", b"7", b"0.5", b"-0", b"12345678")):
+        lines[5 * at] = lines[5 * at].rsplit(b",", 1)[0] + b"," + value
+    text, anew = b"\n".join(lines) + b"\n", Names()
+    assert columns(piece_of(text, 1, names), names) == columns(piece_of(text, 1, anew), anew)
+
+
+def test_kinds_of_rows_that_are_mixed_to_the_same_number(monkeypatch: pytest.MonkeyPatch) -> None:
+    text, names, alike = frames(0, 20, 1), Names(), Names()
+    expected = columns(piece_of(text, 1, names), names)
+    monkeypatch.setattr(listing, "MIXERS", [np.uint64(0)] * 4)
+    for _ in range(2):
+        alike.pattern = None
+        assert columns(piece_of(text, 1, alike), alike) == expected
+        assert len(alike.known.numbers) == len(names.known.numbers) == 7

@@ -48,7 +48,11 @@ def test_a_missing_file_and_a_folder(piped: Tool, tmp_path: pathlib.Path) -> Non
 
 @pytest.mark.parametrize(
     "package, words",
-    [("pandas", ("table", "-", "--words", "64")), ("matplotlib", ("plot", "-", "--words", "64", "-o", "f.png"))],
+    [
+        ("numpy", ("table", "-", "--words", "64")),
+        ("pandas", ("table", "-", "--words", "64", "-o", "f.h5")),
+        ("matplotlib", ("plot", "-", "--words", "64", "-o", "f.png")),
+    ],
 )
 def test_a_missing_package(piped: Tool, tmp_path: pathlib.Path, package: str, words: tuple[str, ...]) -> None:
     (tmp_path / f"{package}.py").write_text(f"raise ModuleNotFoundError(name='{package}')\n")

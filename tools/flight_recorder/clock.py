@@ -21,7 +21,7 @@ import numpy as np
 
 from .arrays import Array
 from .faults import Fault
-from .listing import MOST_WORDS, ROUND, SUBFRAMES, Exceedance, Kind, Mark, Piece, Place
+from .listing import MOST_WORDS, ROUND, SUBFRAMES, Exceedance, Kind, Kinds, Mark, Piece, Place
 from .parameters import SUPERFRAME, Table
 
 if TYPE_CHECKING:
@@ -196,9 +196,7 @@ class Clock:
         others = (Kind.EXCEED, Kind.OTHER)
         edges = self.waiting + [mark for mark in piece.marks if mark.kind not in others]
         before = (self.newest + self.shift if self.has_rows else -1, max(self.recording, 0))
-        within = _within(piece.subframe, piece.word)
-        if piece.kind is not None and piece.kinds is not None:
-            within = _within(piece.kinds.subframe, piece.kinds.word)[piece.kind]
+        within, after = self._in_frame(piece)
         first, line, starts, place = self._line(piece, within, edges)
         newest = np.maximum.accumulate(np.maximum(line, self.newest))
         at = np.searchsorted(first, starts)
@@ -210,7 +208,7 @@ class Clock:
             between += self._exceedances(piece.marks, frames, first)
             between.sort(key=lambda one: one.row)
         counts = np.diff(first, append=len(piece))
-        time = place + (piece.word - 1) * (SECOND // self.shape.words - 1)
+        time = place + after
         if shift.any():
             time += np.repeat(shift * FRAME, counts)
         self._keep(piece, line, newest, place, len(at))
@@ -237,6 +235,13 @@ class Clock:
         bits = self.leading + sum(mark.second for mark in self.waiting)
         missing = (self.first_counter - self.newest - self.shift - 1) % ROUND
         return odd.place if self._agree(missing, bits) else None
+
+    def _in_frame(self, piece: Piece) -> tuple[Array, Array]:
+        """The place of each row's word in its frame on the line, and how many ticks its sample begins after that many."""
+        of: Kinds | Piece = piece if piece.kinds is None else piece.kinds
+        within = (of.subframe.astype(np.int64) - 1) * MOST_WORDS + of.word - 1
+        after = (of.word.astype(np.int64) - 1) * (SECOND // self.shape.words - 1)
+        return (within, after) if piece.kind is None else (within[piece.kind], after[piece.kind])
 
     def _line(
         self, piece: Piece, within: Array, edges: list[Mark]
@@ -272,7 +277,9 @@ class Clock:
     def _backs(self, piece: Piece, place: Array) -> Array:
         """Rows at which a parameter has gone back, as few as there must be. None has over the beginning of a stretch."""
         if len(self.last) <= MOST_NAMES and len(place) and place[0] > self.furthest:
-            each = place * MOST_NAMES + piece.name
+            each = place
+            if not (each[1:] > each[:-1]).all():
+                each = place * MOST_NAMES + piece.name
             if (each[1:] > each[:-1]).all():
                 return np.zeros(0, dtype=np.int64)
         known = np.flatnonzero(self.last != NONE)
@@ -496,11 +503,6 @@ def about(ticks: float) -> str:
     """Ticks as seconds, to a tenth, or to two digits where that is less."""
     length = ticks / SECOND
     return f"{length:.1f}".removesuffix(".0") if length >= 0.1 else f"{length:.2g}"
-
-
-def _within(subframe: Array, word: Array) -> Array:
-    """The place of a word in its frame."""
-    return (subframe.astype(np.int64) - 1) * MOST_WORDS + word - 1
 
 
 def _repeated(column: Array, counts: Array, length: int) -> Array:

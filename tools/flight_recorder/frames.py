@@ -40,7 +40,7 @@ def frames_of(bits: Array, table: Table) -> Frames:
     marks = [Mark(Kind.GAP, int(at), int(ends[at]), int(begins[at] - ends[at])) for at in np.flatnonzero(begins > ends)]
     ones, nothing = np.ones(len(begins), dtype=np.int64), np.zeros(len(begins), dtype=np.int64)
     text = np.zeros(0, dtype=np.uint8)
-    piece = Piece(text, counter, ones, ones, nothing, nothing, nothing, nothing, nothing, nothing, marks)
+    piece = Piece(text, counter, ones, ones, nothing, nothing, nothing, nothing, marks)
     timed = Clock(shape).times(piece, 1)
     return Frames(begins, counter, timed.recording, timed.time)
 

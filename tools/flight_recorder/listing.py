@@ -8,10 +8,10 @@ that begins with another word is passed over, as later versions may have more ki
 import enum
 import re
 from dataclasses import dataclass
+from functools import cached_property
 from typing import Iterator
 
 import numpy as np
-import pandas
 
 from .arrays import Array
 from .faults import Fault
@@ -29,13 +29,16 @@ MOST_DECIMALS = 9
 ROW_WORD = 3  # bytes of `row`
 POWERS = 10.0 ** np.arange(MOST_DECIMALS + 1)
 ROUND = 4096  # frames until the counter comes round
+FRAMES = 16  # of a superframe
+MOST_SEEN = 1 << 13  # rows that are looked at for a pattern, where it isn't longer
 SUBFRAMES = 4
 MOST_WORDS = 1024
 NEWLINE, COMMA, POINT, MINUS, ZERO = (ord(sign) for sign in "\n,.-0")
 ROW = np.frombuffer(b"row,", dtype="<u4")[0]
 KNOWN = (b"row", b"gap", b"session", b"run", b"exceed")
-LEAST_KIND, MOST_KIND = 5, 7 + MOST_NAME  # bytes of a row from its subframe to its name
-KEEP = np.array([(1 << 8 * min(max(length, 0), 8)) - 1 for length in range(-8, MOST_KIND + 1)], dtype=np.uint64)
+LEAST_KIND, MOST_KIND = 7, 9 + MOST_NAME  # bytes of a row from the comma before its subframe to the one after its name
+EIGHTS = -(-MOST_KIND // 8)  # numbers of eight bytes that hold them
+KEEP = np.array([(1 << 8 * min(max(length, 0), 8)) - 1 for length in range(-8 * EIGHTS, MOST_KIND + 1)], dtype=np.uint64)
 NUMBER = rb"(0|[1-9][0-9]{0,18})"
 NAME = rb"([A-Za-z0-9_.-]{1,16})"
 VALUE = rb"(-?(?:0|[1-9][0-9]{0,18})(?:\.[0-9]{1,9})?)"
@@ -100,8 +103,6 @@ class Piece:
     subframe: Array
     word: Array
     name: Array
-    value: Array
-    decimals: Array
     value_start: Array
     rest_start: Array
     end: Array
@@ -113,6 +114,21 @@ class Piece:
 
     def __len__(self) -> int:
         return len(self.counter)
+
+    @cached_property
+    def numbers(self) -> tuple[Array, Array]:
+        """The values as numbers, and how many digits each has after its point."""
+        return _values(self.text, self.value_start, self.end - 1)
+
+    @property
+    def value(self) -> Array:
+        """The value of each row."""
+        return self.numbers[0]
+
+    @property
+    def decimals(self) -> Array:
+        """How many digits each value has after its point."""
+        return self.numbers[1]
 
     def line_of(self, row: int) -> int:
         """The number of a row's line in the listing."""
@@ -130,8 +146,6 @@ class Piece:
             self.subframe[which],
             self.word[which],
             self.name[which],
-            self.value[which],
-            self.decimals[which],
             self.value_start[which],
             self.rest_start[which],
             self.end[which],
@@ -142,15 +156,17 @@ class Piece:
 def empty_piece(mark: Mark) -> Piece:
     """A piece that has no rows, and this mark."""
     none = np.zeros(0, dtype=np.int64)
-    return Piece(np.zeros(PADDING, dtype=np.uint8), none, none, none, none, none, none, none, none, none, [mark])
+    return Piece(np.zeros(PADDING, dtype=np.uint8), none, none, none, none, none, none, none, [mark])
 
 
 class Names:
-    """The names of a listing's parameters, numbered in the order in which they come."""
+    """The names of a listing's parameters, numbered in the order in which they come; and what its rows had alike so far."""
 
     def __init__(self, known: "list[str] | None" = None) -> None:
         self.names = list(known or [])
         self.numbers = {name.encode(): number for number, name in enumerate(self.names)}
+        self.known = KnownKinds()
+        self.pattern: Pattern | None = None
 
     def __len__(self) -> int:
         return len(self.names)
@@ -163,23 +179,6 @@ class Names:
             self.numbers[name] = len(self.names)
             self.names.append(name.decode())
         return self.numbers[name]
-
-    def numbers_in(self, text: Array, starts: Array, lengths: Array) -> Array:
-        """The numbers of the names at these places. They are told apart by their bytes, with zeros after them."""
-        _want(text[starts + lengths - 1] != 0)
-        first = _taken(text, starts, "<u8") & KEEP[lengths + 8]
-        codes, firsts = pandas.factorize(first)
-        seconds = np.zeros(len(firsts), dtype=np.uint64)
-        if len(lengths) and lengths.max() > 8:
-            others, found = pandas.factorize(_taken(text, starts + 8, "<u8") & KEEP[lengths])
-            codes, both = pandas.factorize(codes * len(found) + others)
-            firsts, seconds = firsts[both // len(found)], found[both % len(found)]
-        names = (firsts.tobytes(), seconds.tobytes())
-        numbers = [
-            self.number((names[0][at : at + 8] + names[1][at : at + 8]).rstrip(b"\0"))
-            for at in range(0, 8 * len(firsts), 8)
-        ]
-        return np.asarray(np.array(numbers, dtype=np.int64)[codes])
 
 
 def _taken(text: Array, places: Array, kind: str) -> Array:
@@ -223,8 +222,11 @@ def piece_of(data: bytes, first_line: int, names: Names) -> Piece:
     """Whole lines as columns; `first_line` is the number of the first one."""
     text = np.frombuffer(data + bytes(PADDING), dtype=np.uint8)
     try:
-        signs, starts, marks = _rows_in(text[: len(data)], data, first_line)
-        piece = _piece(text, starts, np.ascontiguousarray(signs.reshape(-1, SIGNS).T), marks, names)
+        piece = names.pattern.piece_of(text, len(data)) if names.pattern else None
+        if piece is None:
+            signs, starts, marks = _rows_in(text[: len(data)], data, first_line)
+            piece = _piece(text, starts, np.ascontiguousarray(signs.reshape(-1, SIGNS).T), marks, names)
+            names.pattern = _pattern_of(piece, names.known)
     except _Unsound:
         raise _first_fault(data, first_line) from None
     piece.first_line = first_line
@@ -343,43 +345,200 @@ def _piece(text: Array, starts: Array, signs: Array, marks: list[Mark], names: N
     counter = _whole(text, signs[0] + 1, signs[1])
     if len(counter) and int(counter.max()) >= ROUND:
         raise _Unsound
-    kind, first = _kinds(text, signs[1] + 1, signs[4] - signs[1] - 1)
-    kinds = _kinds_at(text, signs[:, first], names)
-    value, decimals = _values(text, signs[4] + 1, signs[COMMAS])
-    places = (signs[4] + 1, signs[0], signs[COMMAS] + 1)
-    columns = (kinds.subframe[kind], kinds.word[kind], kinds.name[kind], value, decimals)
-    piece = Piece(text, counter, *columns, *places, marks)
-    piece.kind, piece.kinds = kind, kinds
+    kind = names.known.numbers_of(text, signs, names)
+    kinds = names.known.kinds
+    columns = (kinds.subframe[kind], kinds.word[kind], kinds.name[kind])
+    piece = Piece(text, counter, *columns, signs[4] + 1, signs[0], signs[COMMAS] + 1, marks, kind=kind, kinds=kinds)
+    piece.numbers = _values(text, piece.value_start, signs[COMMAS])
     return piece
 
 
-MIXERS = [np.uint64(number) for number in (0x9E3779B97F4A7C15, 0xC2B2AE3D27D4EB4F, 0x165667B19E3779F9)]
+MIXERS = [np.uint64(number) for number in (0x9E3779B97F4A7C15, 0xC2B2AE3D27D4EB4F, 0x165667B19E3779F9, 0x27D4EB2F165667C5)]
 
 
-def _kinds(text: Array, begin: Array, length: Array) -> tuple[Array, Array]:
-    """The kind of each row, by its text from the subframe to the name, and the first row of each kind. Most rows of a listing are
-    of few kinds, so each is read once. They are told apart by one number out of their text, which is compared then."""
-    if len(length) and not LEAST_KIND <= int(length.min()) <= int(length.max()) <= MOST_KIND:
-        raise _Unsound
-    eights = [_taken(text, begin + at, "<u8") & KEEP[length + 8 - at] for at in range(0, int(length.max(initial=1)), 8)]
+class KnownKinds:
+    """The kinds of a listing's rows, by their text from the comma before the subframe to the one after the name, numbered in the
+    order in which they come. Most rows of a listing are of few kinds, so each is read once. They are told apart by one number
+    out of their text, which is compared then."""
+
+    def __init__(self) -> None:
+        nothing = np.zeros(0, dtype=np.int32)
+        self.kinds = Kinds(nothing, nothing, np.zeros(0, dtype=np.int64))
+        self.eights: Array = np.zeros((EIGHTS, 0), dtype=np.uint64)
+        self.length = np.zeros(0, dtype=np.int64)
+        self.used = 1  # numbers of eight bytes that the longest text so far has
+        self.numbers: dict[bytes, int] = {}
+        self.mixed = np.zeros(0, dtype=np.uint64)  # in order
+        self.order = np.zeros(0, dtype=np.int64)  # the kinds of these
+
+    def numbers_of(self, text: Array, signs: Array, names: Names) -> Array:
+        """The numbers of the kinds of rows, by their commas and line feeds."""
+        begin, length = signs[1], signs[4] - signs[1] + 1
+        if len(length) and not LEAST_KIND <= int(length.min()) <= int(length.max()) <= MOST_KIND:
+            raise _Unsound
+        self.used = max(self.used, -(-int(length.max(initial=1)) // 8))
+        eights = self._eights(text, begin, length, self.used)
+        mixed = _mixed(eights)
+        kind, is_known = self._found(eights, mixed)
+        if not is_known.all():
+            new = np.flatnonzero(~is_known)
+            first = np.sort(np.unique(mixed[new], return_index=True)[1])
+            self._add(text, signs[:, new[first]], names)
+            kind, is_known = self._found(eights, mixed)
+            for row in np.flatnonzero(~is_known).tolist():  # of another kind with the same number
+                self._add(text, signs[:, [row]], names)
+                kind[row] = self.numbers[_kind_text(text, signs[:, row])]
+        return kind
+
+    @staticmethod
+    def _eights(text: Array, begin: Array, length: Array, count: int) -> list[Array]:
+        """Texts as numbers of eight bytes each, with zeros after them."""
+        return [_taken(text, begin + 8 * at, "<u8") & KEEP[length + 8 * (EIGHTS - at)] for at in range(count)]
+
+    def _found(self, eights: list[Array], mixed: Array) -> tuple[Array, Array]:
+        """The kinds of these texts, and which of them are known."""
+        if not len(self.mixed):
+            return np.zeros(len(mixed), dtype=np.int64), np.zeros(len(mixed), dtype=bool)
+        kind = self.order[np.minimum(np.searchsorted(self.mixed, mixed), len(self.mixed) - 1)]
+        is_known = np.ones(len(mixed), dtype=bool)
+        for eight, known in zip(eights, self.eights):
+            is_known &= known[kind] == eight
+        return kind, is_known
+
+    def _add(self, text: Array, signs: Array, names: Names) -> None:
+        """Adds the kinds of these rows, as far as they aren't known."""
+        texts = [_kind_text(text, row) for row in signs.T]
+        new = [row for row, one in enumerate(texts) if one not in self.numbers]
+        signs = signs[:, new]
+        subframe, word = (_whole(text, signs[at] + 1, signs[at + 1]) for at in (1, 2))
+        _want((subframe >= 1) & (subframe <= SUBFRAMES) & (word >= 1) & (word <= MOST_WORDS))
+        name = np.array([names.number(texts[row].split(b",")[3]) for row in new], dtype=np.int64)
+        self.numbers.update({texts[row]: len(self.numbers) + at for at, row in enumerate(new)})
+        known = self.kinds
+        self.kinds = Kinds(*(np.concatenate(both) for both in ((known.subframe, subframe), (known.word, word), (known.name, name))))
+        length = signs[4] - signs[1] + 1
+        self.length = np.concatenate((self.length, length))
+        self.eights = np.concatenate((self.eights, np.stack(self._eights(text, signs[1], length, EIGHTS))), axis=1)
+        mixed = _mixed(list(self.eights))
+        self.order = np.argsort(mixed, kind="stable")
+        self.mixed = mixed[self.order]
+
+
+def _kind_text(text: Array, signs: Array) -> bytes:
+    """The text of a row's kind, by its commas and line feed."""
+    return text[signs[1] : signs[4] + 1].tobytes()
+
+
+def _mixed(eights: list[Array]) -> Array:
+    """One number out of several."""
     mixed = eights[0] * MIXERS[0]
     for eight, mixer in zip(eights[1:], MIXERS[1:]):
         mixed += eight * mixer
-    kind, keys = pandas.factorize(mixed)
-    first = np.empty(len(keys), dtype=np.int64)
-    first[kind[::-1]] = np.arange(len(kind) - 1, -1, -1)
-    if all((eight[first][kind] == eight).all() for eight in eights):
-        return kind, first
-    _, first, kind = np.unique(np.stack(eights), axis=1, return_index=True, return_inverse=True)
-    return kind, first
+    return mixed
 
 
-def _kinds_at(text: Array, signs: Array, names: Names) -> Kinds:
-    """The kinds of these rows, by their commas and line feeds."""
-    subframe, word = (_whole(text, signs[at] + 1, signs[at + 1]) for at in (1, 2))
-    _want((subframe >= 1) & (subframe <= SUBFRAMES) & (word >= 1) & (word <= MOST_WORDS))
-    lengths = _short(signs[4] - signs[3] - 1, MOST_NAME)
-    return Kinds(subframe, word, names.numbers_in(text, signs[3] + 1, lengths))
+class Pattern:
+    """The kinds of the rows that come next, if they come as they did before: in a listing without damage each superframe has the
+    rows of the one before. Then a row's bytes are compared with those of the kind that it has to be of, and nothing has to be
+    found out."""
+
+    def __init__(self, known: KnownKinds, kind: Array, decimals: Array) -> None:
+        self.known = known
+        self.period = kind  # of each row until they come again
+        self.decimals = decimals
+        self.next = 0  # the row of the period that comes next
+        self.rows = 0  # for which the columns are enough, whichever row comes first
+
+    def piece_of(self, text: Array, size: int) -> Piece | None:
+        """So many bytes as a piece, or nothing where the rows are others."""
+        ends = np.flatnonzero(text[:size] == NEWLINE)
+        starts = np.empty_like(ends)
+        starts[0], starts[1:] = 0, ends[:-1] + 1
+        counters = _counters(text, starts)
+        if counters is None:
+            return None
+        counter, begin = counters
+        self._expect(len(ends))
+        rows = slice(self.next, self.next + len(ends))
+        for at, (eight, keep) in enumerate(zip(self.eights, self.keep)):
+            found = _taken(text[8 * at :], begin, "<u8")
+            found &= keep[rows]
+            if not np.array_equal(found, eight[rows]):
+                return None
+        value_start = begin + self.length[rows]
+        columns = (counter, self.subframe[rows], self.word[rows], self.name[rows])
+        places = (value_start, starts + ROW_WORD, ends + 1)
+        piece = Piece(text, *columns, *places, [], kind=self.kind[rows], kinds=self.known.kinds)
+        if not self._are_plain(text, value_start, ends, rows):
+            piece.numbers = _values(text, value_start, ends)
+        self.next = (self.next + len(ends)) % len(self.period)
+        return piece
+
+    def _expect(self, rows: int) -> None:
+        """Makes the columns for so many rows."""
+        if rows <= self.rows:
+            return
+        self.rows = rows + rows // 4
+        each = np.arange(self.rows + len(self.period)) % len(self.period)
+        self.kind, decimals = self.period[each], self.decimals[each]
+        known = self.known
+        self.subframe, self.word, self.name = (column[self.kind] for column in (known.kinds.subframe, known.kinds.word, known.kinds.name))
+        self.length = known.length[self.kind].astype(np.int64)
+        count = -(-int(self.length.max()) // 8)
+        self.eights = [eight[self.kind] for eight in known.eights[:count]]
+        self.keep = [KEEP[self.length + 8 * (EIGHTS - at)] for at in range(count)]
+        self.point, self.room = POINT_AT[decimals], ROOM_AT[decimals]
+        self.after = decimals + (decimals > 0).astype(np.int64)  # signs from the point on
+
+    def _are_plain(self, text: Array, starts: Array, ends: Array, rows: slice) -> bool:
+        """Whether all values are numbers of up to eight signs, with their points where their kinds had them."""
+        first = text[starts]
+        negative = np.flatnonzero(first == MINUS)
+        first[negative] = text[starts[negative] + 1]
+        lengths = ends - starts
+        lengths[negative] -= 1
+        whole = lengths - self.after[rows]
+        if not (int(whole.min()) >= 1 and int(lengths.max()) <= 8):
+            return False
+        digits = _taken(text, ends - 8, "<u8")
+        digits ^= _each_byte(ZERO)
+        digits &= LAST_OF_8[lengths]
+        digits ^= self.point[rows]
+        digits |= digits + self.room[rows]
+        if (digits & _each_byte(0xF0)).any():
+            return False
+        return not ((whole > 1) & (first == ZERO)).any()
+
+
+def _counters(text: Array, starts: Array) -> tuple[Array, Array] | None:
+    """The counters of lines and where they end, or nothing where one isn't a row. Neighbours mostly have the same one, so each is
+    read once."""
+    heads = _taken(text, starts, "<u8")
+    first = np.insert(np.flatnonzero(heads[1:] != heads[:-1]) + 1, 0, 0)
+    at = starts[first]
+    is_comma = text[at[:, np.newaxis] + np.arange(ROW_WORD + 2, ROW_WORD + 6)] == COMMA
+    if not ((_taken(text, at, "<u4") == ROW) & is_comma.any(axis=1)).all():
+        return None
+    end = ROW_WORD + 2 + is_comma.argmax(axis=1)
+    counter = _whole(text, at + ROW_WORD + 1, at + end)
+    if int(counter.max()) >= ROUND:
+        raise _Unsound
+    counts = np.diff(first, append=len(starts))
+    is_alike = int(end.min()) == int(end.max())
+    return np.repeat(counter, counts), starts + (int(end[0]) if is_alike else np.repeat(end, counts))
+
+
+def _pattern_of(piece: Piece, known: KnownKinds) -> Pattern | None:
+    """How the rows of a piece come again, if they do."""
+    kind = piece.kind
+    if kind is None or not len(piece) or piece.marks:
+        return None
+    for row in np.flatnonzero(kind[:-1] == kind[-1])[: -FRAMES - 1 : -1].tolist():
+        period = len(kind) - 1 - row
+        seen = min(len(kind) - period, max(period, MOST_SEEN))
+        if np.array_equal(kind[-seen:], kind[-seen - period : -period]):
+            return Pattern(known, kind[-period:], piece.decimals[-period:].astype(np.int64))
+    return None
 
 
 def _want(sound: Array) -> None:
@@ -387,24 +546,25 @@ def _want(sound: Array) -> None:
         raise _Unsound
 
 
-def _short(lengths: Array, most: int) -> Array:
-    """Lengths of fields, from 1 to a number that a byte holds, in bytes, which are compared the fastest."""
-    if len(lengths) and not 1 <= int(lengths.min()) <= int(lengths.max()) <= most:
-        raise _Unsound
-    return lengths.astype(np.int8)
-
-
 def _last_bytes(count: int, kind: type) -> Array:
     """For each length up to `count` what keeps so many of the last bytes of a number, which are its highest."""
     return np.array([((1 << 8 * count) - 1) & -(1 << 8 * (count - length)) for length in range(count + 1)], dtype=kind)
 
 
-LAST_OF_4, LAST_OF_8 = _last_bytes(4, np.uint32), _last_bytes(8, np.uint64)
-LEAST_OF = np.array([0, 0, 10, 100, 1000], dtype=np.int32)  # the least number of so many digits, without leading zeros
-
-
 def _each_byte(byte: int) -> np.uint64:
     return np.uint64(byte * 0x0101010101010101)
+
+
+def _at_point(byte: int) -> Array:
+    """For each number of digits after a point this byte where the point is, in the last eight bytes of a number."""
+    places = [byte << 8 * (7 - after) for after in range(1, 8)]
+    return np.array([0, *places, 0, 0], dtype=np.uint64)
+
+
+POINT_AT = _at_point(POINT ^ ZERO)
+ROOM_AT = _each_byte(0x06) + _at_point(0x09)  # what reaches the upper half of a byte that is more than 9, or isn't the point
+LAST_OF_4, LAST_OF_8 = _last_bytes(4, np.uint32), _last_bytes(8, np.uint64)
+LEAST_OF = np.array([0, 0, 10, 100, 1000], dtype=np.int32)  # the least number of so many digits, without leading zeros
 
 
 def _whole(text: Array, starts: Array, ends: Array) -> Array:

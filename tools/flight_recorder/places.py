@@ -1,13 +1,13 @@
 """Where a table puts the samples of its parameters in a superframe, and the check that a listing has rows only there."""
 
-from dataclasses import dataclass
+from dataclasses import dataclass, field
 from typing import NamedTuple
 
 import numpy as np
 
 from .arrays import Array
 from .faults import Fault
-from .listing import SUBFRAMES, Names, Piece
+from .listing import SUBFRAMES, Kinds, Names, Piece
 from .parameters import SUPERFRAME, Parameter, Table
 
 NOWHERE = -1
@@ -37,15 +37,17 @@ class Starts:
     words: int
     names: Array
     known: int
+    checked: Kinds | None = None
+    has_kinds: Array = field(default_factory=lambda: np.zeros(0, dtype=bool))  # in each frame of a superframe those that were checked
 
     def check(self, piece: Piece, names: Names) -> None:
         """Raises a fault that names the first row that isn't where the table has its parameter."""
-        cycle = piece.counter & (SUPERFRAME - 1)
+        cycle = piece.counter.astype(np.int64) & (SUPERFRAME - 1)
         if piece.kind is not None and piece.kinds is not None:
-            kinds, cycles = piece.kinds, np.arange(SUPERFRAME)[:, np.newaxis]
-            is_there = self._has(cycles, kinds.subframe, kinds.word, kinds.name).ravel()[
-                cycle * len(kinds.name) + piece.kind
-            ]
+            if self.checked is not piece.kinds:
+                self.checked, cycles = piece.kinds, np.arange(SUPERFRAME)[:, np.newaxis]
+                self.has_kinds = self._has(cycles, piece.kinds.subframe, piece.kinds.word, piece.kinds.name).ravel()
+            is_there = self.has_kinds[cycle * len(piece.kinds.name) + piece.kind]
         else:
             is_there = self._has(cycle, piece.subframe, piece.word, piece.name)
         if not is_there.all():

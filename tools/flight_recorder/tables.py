@@ -11,9 +11,8 @@ from itertools import groupby
 from typing import BinaryIO, Callable, Iterator, Protocol
 
 import numpy as np
-import pandas
 
-from .arrays import Array
+from .arrays import Array, different
 from .clock import FRAME, LATE, SECOND, Between, Event, Timed
 from .dates import Dates
 from .description import SCALED, Description
@@ -29,6 +28,7 @@ SECOND_BITS = SECOND.bit_length() - 1
 MOST_CELLS = 1 << 18  # of a grid that are written at once
 DOUBTFUL = b"(doubtful)"
 AT_THEIR_TIMES = (Event.CLOCK, Event.EVENT)  # between rows of one stretch, at their times
+ROW_END = b",\n"  # of a sample's row, which has no note
 
 
 def row_text(cells: list[str]) -> bytes:
@@ -76,22 +76,26 @@ class Columns:
         """The first fields of something between rows."""
         return self.head(one.recording, one.begin)
 
-    def fields(self, recording: Array, ticks: Array) -> list[Field]:
-        """The first fields of rows, without a comma at their end."""
+    def fields(self, recording: Array, ticks: Array, before: bytes = b"", with_comma: bool = False) -> list[Field]:
+        """The first fields of rows, after a text and with a comma at their end or none."""
         seconds = ticks >> SECOND_BITS
-        changes = (seconds[1:] != seconds[:-1]) | (recording[1:] != recording[:-1])
+        changes = seconds[1:] != seconds[:-1]
+        if len(ticks) and recording[0] != recording[-1]:
+            changes |= recording[1:] != recording[:-1]
         first = np.insert(np.flatnonzero(changes) + 1, 0, 0)[: len(ticks)]
-        codes = np.repeat(np.arange(len(first)), np.diff(first, append=len(ticks)))
-        labels = [(self.label(number) + ",").encode() for number in range(int(recording.max(initial=-1)) + 1)]
-        fields = [numbers_after(labels, recording[first], seconds[first], codes), fractions_of(ticks)]
-        for more in (self.dates, self.utc):
-            fields += [] if more is None else [texts_field(more.texts(recording, ticks))]
+        counts = np.diff(first, append=len(ticks))
+        labels = [before + (self.label(number) + ",").encode() for number in range(int(recording.max(initial=-1)) + 1)]
+        fields = [numbers_after(labels, recording[first], seconds[first], counts)]
+        dated = [one for one in (self.dates, self.utc) if one is not None]
+        fields.append(fractions_of(ticks, with_comma and not dated))
+        for number, one in enumerate(dated, 1):
+            fields.append(texts_field(one.texts(recording, ticks), b"," * (with_comma and number == len(dated))))
         return fields
 
 
-def texts_field(texts: Array) -> Field:
-    """A field of these texts, with a comma before each."""
-    texts = np.char.add(b",", texts)
+def texts_field(texts: Array, after: bytes = b"") -> Field:
+    """A field of these texts, with a comma before each and a text after it."""
+    texts = np.char.add(np.char.add(b",", texts), after)
     width = texts.dtype.itemsize or 1
     return Field(np.frombuffer(texts.tobytes(), dtype=np.uint8).reshape(-1, width), np.char.str_len(texts).astype(np.int64))
 
@@ -118,16 +122,16 @@ class LongTable:
         out.write(row_text(header))
 
     def write(self, timed: Timed) -> None:
-        """Writes a piece: each row as it is in the listing, with its recording and its time in front."""
-        text, ends = rows_of([*self.columns.fields(timed.recording, timed.time), *self._rest(timed)])
-        if not timed.between:
-            self.out.write(text)
-            return
-        ends, done = np.insert(ends, 0, 0), 0
+        """Writes a piece: each row as it is in the listing, with its recording and its time in front. What ends a row is laid
+        in front of the next one."""
+        fields = self.columns.fields(timed.recording, timed.time, ROW_END, with_comma=True)
+        laid, ends = rows_of([*fields, *self._rest(timed)], ROW_END)
+        text, done = laid.data[len(ROW_END) :], 0
         for one in timed.between:
-            self.out.write(text[done : ends[one.row]])
+            end = int(ends[one.row - 1]) if one.row else 0
+            self.out.write(text[done:end])
             self.out.write(self._between(one))
-            done = int(ends[one.row])
+            done = end
         self.out.write(text[done:])
 
     def end(self, between: list[Between]) -> None:
@@ -136,10 +140,9 @@ class LongTable:
             self.out.write(self._between(one))
 
     def _rest(self, timed: Timed) -> list[Field]:
-        """What comes after the time: the listing's own text, the columns after it, and an empty note."""
+        """What comes after the time and its comma: the listing's own text, and the columns after it."""
         piece = timed.piece
-        own = field_in(piece.text, piece.rest_start, piece.end - 1 - piece.rest_start, more=2)
-        fields = [own, *self._described(timed)]
+        fields = [field_in(piece.text, piece.rest_start + 1, piece.end - piece.rest_start - 2), *self._described(timed)]
         if self.columns.with_marks and timed.doubtful is not None:
             fields.append(texts_field(np.where(timed.doubtful, DOUBTFUL, b"")))
         if self.columns.with_bits and timed.bit is not None:
@@ -147,13 +150,6 @@ class LongTable:
             fields.append(texts_field(bits))
         if self.columns.raw is not None:
             fields.append(texts_field(self.columns.raw.texts(timed)))
-        last = fields[-1]
-        if last is not own:
-            last.text = np.concatenate((last.text, np.zeros((len(piece), 2), dtype=np.uint8)), axis=1)
-        rows = np.arange(len(piece))
-        last.text[rows, last.length] = ord(",")
-        last.text[rows, last.length + 1] = ord("\n")
-        last.length = last.length + 2
         return fields
 
     def _described(self, timed: Timed) -> Iterator[Field]:
@@ -167,7 +163,7 @@ class LongTable:
                 yield self._beside(timed, kind)
         for number, one in enumerate(told.derived):
             rows, values = derived_values(timed, number)
-            codes, uniques = pandas.factorize(values.numbers)
+            codes, uniques = different(values.numbers)
             each = np.zeros(len(piece), dtype=np.int64)
             each[rows] = codes + 1
             yield _chosen_field([b",", *(b"," + text for text in texts_of(uniques))], each)
@@ -181,7 +177,7 @@ class LongTable:
             one = self.told.columns[number]
             if number < self.told.parameters and kind in one.kinds:
                 rows = np.flatnonzero(timed.piece.name == number)
-                codes, uniques = pandas.factorize(timed.piece.value[rows])
+                codes, uniques = different(timed.piece.value[rows])
                 each[rows] = codes + len(texts)
                 texts += [b"," + text for text in one.fields(uniques)[one.kinds.index(kind)]]
         return _chosen_field(texts, each)
@@ -319,7 +315,7 @@ def _cells(own: list[bytes], column: Column, values: Array) -> list[bytes]:
 def _derived_samples(timed: Timed, told: Told, number: int, text: Text) -> Samples:
     """The samples of a derived value, whose texts are added to a text."""
     rows, values = derived_values(timed, number)
-    codes, uniques = pandas.factorize(values.numbers)
+    codes, uniques = different(values.numbers)
     cells = texts_of(uniques)
     column = told.derived[number]
     each = text.add_each(_cells(cells, column, uniques) if column.kinds else cells)

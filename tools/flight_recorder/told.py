@@ -11,9 +11,8 @@ import io
 from dataclasses import dataclass
 
 import numpy as np
-import pandas
 
-from .arrays import Array
+from .arrays import Array, different
 from .clock import Timed
 from .description import SCALED, Described, Description
 from .expression import Values
@@ -48,7 +47,7 @@ def distinct(piece: Piece, rows: Array) -> tuple[Array, Array]:
     decimals = piece.decimals[rows]
     if len(rows) and (decimals != decimals[0]).any():
         bits = np.unique(np.stack((bits, decimals.astype(np.int64))), axis=1, return_inverse=True)[1].astype(np.int64)
-    codes, found = pandas.factorize(bits)
+    codes, found = different(bits)
     first = np.empty(len(found), dtype=np.int64)
     first[codes[::-1]] = rows[::-1]
     return codes, first
