@@ -33,10 +33,12 @@ from collections.abc import Iterator, Sequence
 sys.dont_write_bytecode = True
 
 from inputs import TOP
+from places import begin_apart
 from power_log import Cut, Entry, Part, Stretch, Surface, drawn_cut, entries_of, stretches_of, sure_cuts
 from power_model import Run, Timeline, stored, timelines_of
 from power_system import FAST, SETUPS, After, Held, Setup, disks_of, lacks, lacks_for
-from power_works import Work, kinds_of_works
+from power_plan import works_on
+from power_works import Work
 
 KEPT = TOP / "out" / "power"
 MOST_KEPT = 3
@@ -207,15 +209,23 @@ def try_one(setup: Setup, work: Work, cuts: int, seed: int, kept: pathlib.Path) 
     return found
 
 
-def say(name: str, found: Found, is_expected: bool, kept: pathlib.Path) -> bool:
+def say(name: str, found: Found, is_expected: bool | None, kept: pathlib.Path) -> bool:
     """Tells what came of a work on a set-up, and whether it is as expected."""
-    is_well = bool(found.violations) == is_expected
+    is_well = is_expected is None or bool(found.violations) == is_expected
     print(f"{'ok' if is_well else 'FAILED':7}{name}: {found.cuts} cuts, {found.images} disks mounted, {found.seconds:.0f} s, {len(found.violations)} violations", flush=True)
     for kind, count in found.kinds.most_common(4):
         print(f"{count:14} {kind}")
     if found.violations:
         print(f"               the first after {found.first:.1f} s; kept: tests/power.py --again {os.path.relpath(kept)}", flush=True)
     return is_well
+
+
+def dropping_library() -> pathlib.Path:
+    """The library of power_drop.c."""
+    KEPT.mkdir(parents=True, exist_ok=True)
+    library = KEPT / "power_drop.so"
+    subprocess.run(["cc", "-shared", "-fPIC", "-O1", "-o", library, TOP / "tests" / "power_drop.c"], check=True)
+    return library
 
 
 def main() -> int:
@@ -231,15 +241,18 @@ def main() -> int:
     if missing := lacks():
         print(f"skipped: not run: {', '.join(missing)} isn't there")
         return 0
+    begin_apart()
     if given.again:
         return again(given.again)
     if not given.fdr or not given.fdrpair:
         words.error("the programs aren't given")
     seed = given.seed if given.seed is not None else random.randrange(1 << 32)
     print(f"seed {seed}")
+    programs = {"fdr": given.fdr.resolve(), "fdrpair": given.fdrpair.resolve()}
+    library = dropping_library()
     is_well = True
     for setup in SETUPS:
-        for work in kinds_of_works(setup, given.fdr.resolve(), given.fdrpair.resolve()):
+        for work in works_on(setup, programs, library, given.cuts):
             name = f"{setup.name}: {work.name}"
             if given.only not in name:
                 continue

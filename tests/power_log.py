@@ -120,15 +120,15 @@ class Surface:
     def settle(self, entries: Iterable[Entry]) -> None:
         """Makes writes durable."""
         for entry in entries:
-            if entry.kind == "z" and entry.size > 1 << 20:
-                self.image[entry.at : entry.at + entry.size] = bytes(entry.size)
             for place, data in list(self.pieces(entry, None)):
                 new = self.sum_of(place, data)
                 self.sum ^= self.sums.pop(place, 0) ^ new
                 if new:
                     self.sums[place] = new
                 begin = place * SECTOR
-                self.base[begin : begin + SECTOR] = self.image[begin : begin + SECTOR] = data
+                self.base[begin : begin + SECTOR] = data
+                if new:
+                    self.image[begin : begin + SECTOR] = data
 
     def over(self, entries: Sequence[Entry], cut: Cut) -> dict[int, bytes]:
         """What a cut leaves that isn't durable, by sectors."""

@@ -128,6 +128,8 @@ def begun(wanted: Wanted, run: Run) -> Wanted:
     if run.kind == "old":
         every = tuple((0, block) for block in old_blocks(run.shape))
         return Wanted("held", run.shape, VERSION_1, every, len(every), len(every))
+    if run.kind == "remove":
+        return Wanted()
     if run.kind == "upgrade":
         return dataclasses.replace(wanted, version=None)
     return wanted

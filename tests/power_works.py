@@ -9,13 +9,13 @@ import random
 import subprocess
 import threading
 import time
-from collections.abc import Callable, Iterator, Mapping, Sequence
+from collections.abc import Callable, Mapping, Sequence
 
 from formats import end_at
-from inputs import T1, TOP, word_at
+from inputs import TOP, word_at
 from places import Mismatch
 from power_model import Run, old_image
-from power_system import LIBC, Disks, Setup
+from power_system import LIBC, Disks
 
 LIMIT = 120.0
 TABLE = TOP / "examples" / "t1.csv"
@@ -81,10 +81,10 @@ class Neighbour:
 class Bench:
     """The disks, and the runs that are made on them."""
 
-    def __init__(self, disks: Disks, programs: Mapping[str, pathlib.Path], chance: random.Random, preload: pathlib.Path | None = None) -> None:
-        self.disks, self.programs, self.chance, self.preload = disks, programs, chance, preload
+    def __init__(self, disks: Disks, programs: Mapping[str, pathlib.Path], chance: random.Random, environ: Mapping[str, str]) -> None:
+        self.disks, self.programs, self.chance = disks, programs, chance
+        self.environ = {**os.environ, **environ}
         self.runs: list[Run] = []
-        self.statuses: list[int] = []
 
     def path(self, image: tuple[int, str]) -> pathlib.Path:
         return self.disks.places[image[0]] / image[1]
@@ -107,15 +107,13 @@ class Bench:
         number = len(self.runs)
         self.runs.append(run)
         self.mark({"run": number, "is": "begin"})
-        environ = {**os.environ, "LD_PRELOAD": str(self.preload)} if self.preload else None
         with open(self.disks.served / "said", "wb", buffering=0) as said:
-            child = subprocess.Popen(self.words(run), stdin=subprocess.PIPE, stdout=subprocess.DEVNULL, stderr=said, env=environ)
+            child = subprocess.Popen(self.words(run), stdin=subprocess.PIPE, stdout=subprocess.DEVNULL, stderr=said, env=self.environ)
         limit = threading.Timer(LIMIT, child.kill)
         limit.start()
         self.feed(child, run.trace)
         status = child.wait()
         limit.cancel()
-        self.statuses.append(status)
         self.mark({"run": number, "is": "end", "status": status})
         return status
 
@@ -144,18 +142,28 @@ class Bench:
 
     def put_old(self, image: tuple[int, str], shape: tuple[int, int]) -> None:
         """Puts an image of version 1 in place, durable."""
-        with open(self.path(image), "wb") as file:
-            file.write(old_image(shape))
-            file.flush()
-            os.fsync(file.fileno())
-        folder = os.open(self.path(image).parent, os.O_RDONLY)
-        os.fsync(folder)
-        os.close(folder)
+        self.path(image).write_bytes(old_image(shape))
+        self.sync_file(self.path(image))
+        self.sync_file(self.path(image).parent)
+        self.note(Run("old", (image,), shape))
+
+    def remove(self, image: tuple[int, str]) -> None:
+        """Removes an image, from which on nothing is asked of it."""
+        self.note(Run("remove", (image,)))
+        self.path(image).unlink(missing_ok=True)
+
+    def note(self, run: Run) -> None:
+        """Puts what was done by hand into the log."""
         number = len(self.runs)
-        self.runs.append(Run("old", (image,), shape))
-        self.statuses.append(0)
+        self.runs.append(run)
         self.mark({"run": number, "is": "begin"})
         self.mark({"run": number, "is": "end", "status": 0})
+
+    def sync_file(self, path: pathlib.Path) -> None:
+        """Makes a file or a folder durable."""
+        file = os.open(path, os.O_RDONLY)
+        os.fsync(file)
+        os.close(file)
 
 
 Does = Callable[[Bench], None]
@@ -163,17 +171,17 @@ Does = Callable[[Bench], None]
 
 @dataclasses.dataclass(frozen=True)
 class Work:
-    """What is done on the disks of a set-up, and whether violations are expected of it."""
+    """What is done on the disks of a set-up, and whether violations are expected of it, or nothing is said of that."""
 
     name: str
     disks: int
     programs: Mapping[str, pathlib.Path]
     does: Does
-    is_broken: bool = False
-    preload: pathlib.Path | None = None
+    is_broken: bool | None = False
+    environ: Mapping[str, str] = dataclasses.field(default_factory=dict)
 
     def do(self, disks: Disks, chance: random.Random) -> list[Run]:
-        bench = Bench(disks, self.programs, chance, self.preload)
+        bench = Bench(disks, self.programs, chance, self.environ)
         self.does(bench)
         return bench.runs
 
@@ -181,31 +189,33 @@ class Work:
 # --- the works
 
 
-def on_one_disk(rings: Sequence[tuple[int, int]]) -> Does:
+def on_one_disk(rings: Sequence[tuple[int, int]], rounds: int = 1) -> Does:
     """Images are made and recorded in three times, round their rings; one of version 1 is upgraded and recorded in."""
 
     def do(bench: Bench) -> None:
-        for number, shape in enumerate(rings):
+        for number, shape in enumerate(list(rings) * rounds):
             image = (0, f"ring{number}.img")
             bench.done(Run("format", (image,), shape))
             bench.done(bench.recording("record", [image], shape, shape[0] + 3))
             with Neighbour(bench.disks, [image], bench.chance):
                 bench.done(bench.recording("record", [image], shape, shape[0] // 2))
                 bench.done(bench.recording("record", [image], shape, shape[0] + 1))
-        old = (0, "old.img")
-        bench.put_old(old, rings[0])
-        with Neighbour(bench.disks, [old], bench.chance):
-            bench.done(Run("upgrade", (old,)))
-            bench.done(bench.recording("record", [old], rings[0], 4))
+            bench.remove(image)
+        for number in range(rounds):
+            old = (0, f"old{number}.img")
+            bench.put_old(old, rings[0])
+            with Neighbour(bench.disks, [old], bench.chance):
+                bench.done(Run("upgrade", (old,)))
+                bench.done(bench.recording("record", [old], rings[0], 4))
 
     return do
 
 
-def on_two_disks(rings: Sequence[tuple[int, int]]) -> Does:
+def on_two_disks(rings: Sequence[tuple[int, int]], rounds: int = 1) -> Does:
     """Two images are recorded in together; then the first one alone, and the second is brought up to it."""
 
     def do(bench: Bench) -> None:
-        for number, shape in enumerate(rings):
+        for number, shape in enumerate(list(rings) * rounds):
             images = [(0, f"ring{number}.img"), (1, f"ring{number}.img")]
             for image in images:
                 bench.done(Run("format", (image,), shape))
@@ -213,14 +223,7 @@ def on_two_disks(rings: Sequence[tuple[int, int]]) -> Does:
                 bench.done(bench.recording("fdrpair", images, shape, shape[0] + 3))
                 bench.done(bench.recording("record", images[:1], shape, 2))
                 bench.done(bench.recording("fdrpair", images, shape, shape[0]))
+            for image in images:
+                bench.remove(image)
 
     return do
-
-
-def kinds_of_works(setup: Setup, fdr: pathlib.Path, fdrpair: pathlib.Path) -> Iterator[Work]:
-    """What is done on a set-up."""
-    programs = {"fdr": fdr, "fdrpair": fdrpair}
-    rings = SMALL_RINGS if setup.small else RINGS
-    yield Work("one disk", 1, programs, on_one_disk(rings), setup.breaks)
-    if not setup.breaks:
-        yield Work("two disks", 2, programs, on_two_disks(rings))
