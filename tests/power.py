@@ -50,6 +50,7 @@ class Found:
 
     cuts: int = 0
     images: int = 0
+    repairs: int = 0
     seconds: float = 0.0
     violations: list[tuple[int, Cut, str]] = dataclasses.field(default_factory=list)
     first: float = 0.0
@@ -71,6 +72,7 @@ class Looking:
         self.seen: dict[int, tuple[int, Held]] = {}
 
     def close(self) -> None:
+        self.found.repairs += self.after.repairs
         self.after.close()
         self.surface.close()
 
@@ -212,7 +214,9 @@ def try_one(setup: Setup, work: Work, cuts: int, seed: int, kept: pathlib.Path) 
 def say(name: str, found: Found, is_expected: bool | None, kept: pathlib.Path) -> bool:
     """Tells what came of a work on a set-up, and whether it is as expected."""
     is_well = is_expected is None or bool(found.violations) == is_expected
-    print(f"{'ok' if is_well else 'FAILED':7}{name}: {found.cuts} cuts, {found.images} disks mounted, {found.seconds:.0f} s, {len(found.violations)} violations", flush=True)
+    repaired = f" ({found.repairs} put in order first)" if found.repairs else ""
+    counts = f"{found.cuts} cuts, {found.images} disks mounted{repaired}, {found.seconds:.0f} s, {len(found.violations)} violations"
+    print(f"{'ok' if is_well else 'FAILED':7}{name}: {counts}", flush=True)
     for kind, count in found.kinds.most_common(4):
         print(f"{count:14} {kind}")
     if found.violations:

@@ -9,10 +9,10 @@
 // The file `control` takes a line in each write:
 //
 //     mark TEXT                    puts a mark into the log
-//     fail DISK KIND AFTER COUNT ERROR [LOST]
-//                                  lets AFTER more calls of this kind (write or flush) succeed, and has the COUNT after
-//                                  them fail with this error number. With LOST, a flush that fails loses what it was to
-//                                  make durable
+//     fail DISK KIND AFTER COUNT ERROR LOST FLUSHES
+//                                  once so many flushes have come, lets AFTER more calls of this kind (write or flush)
+//                                  succeed, and has the COUNT after them fail with this error number. Where LOST isn't 0,
+//                                  a flush that fails loses what it was to make durable
 //     slow DISK MILLISECONDS       each flush takes so long
 //     pace DISK BYTES              reads take a second for so many bytes
 //     hang DISK                    no call on this disk returns, until
@@ -56,7 +56,7 @@ struct old_bytes { // what stood where a write came that isn't durable yet
 };
 
 struct faults { // of one kind of calls
-    long after, count;
+    long flushes, after, count;
     int error, is_lost;
 };
 
@@ -106,7 +106,7 @@ static int is(const char *path, const char *name) { return strcmp(path + 1, name
 
 // Which error a call gives, of those that were asked for. The lock is held.
 static int fault(struct faults *faults) {
-    if (faults->count == 0)
+    if (faults->count == 0 || faults->flushes > 0)
         return 0;
     if (faults->after > 0) {
         faults->after--;
@@ -169,6 +169,8 @@ static int do_fsync(const char *path, int of_data, struct fuse_file_info *file) 
     pthread_mutex_lock(&lock);
     wait_while_it_hangs(disk);
     int error = fault(&disk->of_flush);
+    disk->of_write.flushes--;
+    disk->of_flush.flushes--;
     long slow = disk->slow;
     put(error && disk->of_flush.is_lost ? 'l' : 'f', number, error, 0, 0, NULL, 0);
     if (!error || disk->of_flush.is_lost)
@@ -210,13 +212,13 @@ static int do_fallocate(const char *path, int mode, off_t at, off_t size, struct
 static int control(char *line) {
     char kind[8];
     int disk = -1, error = EIO, is_lost = 0;
-    long first = 0, second = 0;
+    long first = 0, second = 0, flushes = 0;
     pthread_mutex_lock(&lock);
     int is_good = 1;
     if (strncmp(line, "mark ", 5) == 0)
         put('m', 0, 0, 0, 0, line + 5, strlen(line + 5));
-    else if (sscanf(line, "fail %d %7s %ld %ld %d %d", &disk, kind, &first, &second, &error, &is_lost) >= 5 && disk < count_of_disks)
-        *(strcmp(kind, "flush") == 0 ? &disks[disk].of_flush : &disks[disk].of_write) = (struct faults){first, second, error, is_lost};
+    else if (sscanf(line, "fail %d %7s %ld %ld %d %d %ld", &disk, kind, &first, &second, &error, &is_lost, &flushes) == 7 && disk < count_of_disks)
+        *(strcmp(kind, "flush") == 0 ? &disks[disk].of_flush : &disks[disk].of_write) = (struct faults){flushes, first, second, error, is_lost};
     else if (sscanf(line, "slow %d %ld", &disk, &first) == 2 && disk < count_of_disks)
         disks[disk].slow = first;
     else if (sscanf(line, "pace %d %ld", &disk, &first) == 2 && disk < count_of_disks)

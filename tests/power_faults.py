@@ -49,18 +49,17 @@ BETWEEN: dict[str, Between] = {
 # --- the fault
 
 
-def fail(bench: Bench, disk: int, calls: int, is_lost: bool) -> None:
-    """Has a call of a disk fail that comes soon, of so many: once, some times or until it is mended."""
-    kind = "flush" if is_lost else bench.chance.choice(["write", "write", "flush"])
-    after, count = bench.chance.randrange(calls), bench.chance.choice([1, 1, 2, 1_000_000])
-    error = bench.chance.choice([errno.EIO, errno.EIO, errno.ENOSPC])
-    bench.disks.control(f"fail {disk} {kind} {after} {count} {error} {int(is_lost)}")
+def fail(bench: Bench, disk: int, flushes: int, is_lost: bool) -> None:
+    """Has a call of a disk fail that comes soon, within so many flushes: once, some times or until it is mended."""
+    kind = "flush" if is_lost else bench.chance.choice(["write", "write", "write", "flush"])
+    before, after = bench.chance.randrange(flushes), bench.chance.choice([0, 0, 1])
+    count, error = bench.chance.choice([1, 1, 2, 1_000_000]), bench.chance.choice([errno.EIO, errno.EIO, errno.ENOSPC])
+    bench.disks.control(f"fail {disk} {kind} {after} {count} {error} {int(is_lost)} {before}")
 
 
 def mend(bench: Bench) -> None:
     for disk in range(bench.disks.count):
-        for kind in ("write", "flush"):
-            bench.disks.control(f"fail {disk} {kind} 0 0 0")
+        bench.disks.mend(disk)
 
 
 def want(status: int, *among: int) -> int:
@@ -112,7 +111,7 @@ def of_upgrade(bench: Bench, between: Between, image: Image, is_lost: bool) -> N
     """An upgrade meets a fault, and is given again."""
     shape = bench.chance.choice([(8, 64), (5, 4096)])
     bench.put_old(image, shape)
-    fail(bench, 0, 2, is_lost)
+    fail(bench, 0, 1, is_lost)
     status = want(bench.run(Run("upgrade", (image,))), 0, FAULT)
     mend(bench)
     if status:

@@ -8,7 +8,7 @@ from power_system import Setup
 from power_works import RINGS, SMALL_RINGS, Work, on_one_disk, on_two_disks
 
 CUTS_OF_A_ROUND = 1500
-CUTS_OF_A_FAULT = 100
+CUTS_OF_A_FAULT = 40
 WITH_FAULTS = ("ext4", "xfs", "btrfs")
 HIDES = {"nothing done": True, "a sync alone": True, "the line of dd": False, "mounted anew": False}
 
@@ -21,7 +21,7 @@ def works_on(setup: Setup, programs: Mapping[str, pathlib.Path], library: pathli
     if not setup.breaks:
         yield Work("two disks", 2, programs, on_two_disks(rings, rounds))
     if setup.name in WITH_FAULTS:
-        yield from works_with_faults(setup, programs, max(4, cuts // CUTS_OF_A_FAULT))
+        yield from works_with_faults(setup, programs, max(8, cuts // CUTS_OF_A_FAULT))
     if setup.name == "ext4":
         for how, told in (("all", "no sync is made"), ("other", "each other sync is made"), ("early", "a write goes before the sync that it waits for")):
             yield Work(f"unsafe: {told}", 1, programs, on_one_disk(RINGS), True, {"LD_PRELOAD": str(library), "POWER_DROP": how})

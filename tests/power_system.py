@@ -12,6 +12,7 @@ import subprocess
 import tempfile
 import time
 from collections.abc import Iterator
+from typing import Any
 
 from inputs import TOP
 from places import Mismatch
@@ -37,6 +38,7 @@ class Setup:
     block: int = 512
     sector: int = 512
     repair: tuple[str, ...] = ()
+    always: bool = False
     flags: int = MS_RDONLY
     small: bool = False
     breaks: bool = False
@@ -45,20 +47,32 @@ class Setup:
 EXT4 = ("mkfs.ext4", "-q", "-F", "-b", "4096", "-J", "size=4")
 XFS = ("mkfs.xfs", "-q", "-f")
 BTRFS = ("mkfs.btrfs", "-q", "-f")
+E2FSCK, SUPER_RECOVER = ("e2fsck", "-fy"), ("btrfs", "rescue", "super-recover", "-y")
+
+
+def ext4(name: str, options: str = "", make: tuple[str, ...] = EXT4, **more: Any) -> Setup:
+    return Setup(f"ext4, {name}" if name else "ext4", "ext4", make, options, repair=E2FSCK, **more)
+
+
+def btrfs(name: str, options: str = "") -> Setup:
+    return Setup(f"btrfs, {name}" if name else "btrfs", "btrfs", BTRFS, options, 128 * MEBI, repair=SUPER_RECOVER)
+
+
 SETUPS = [
-    Setup("ext4", "ext4", EXT4),
-    Setup("ext4, data=journal", "ext4", EXT4, "data=journal"),
-    Setup("ext4, data=writeback", "ext4", EXT4, "data=writeback"),
-    Setup("ext4, journal_async_commit", "ext4", EXT4, "data=writeback,journal_async_commit"),
-    Setup("ext4, fast_commit", "ext4", (*EXT4[:-1], "size=8", "-O", "fast_commit"), flags=0),
-    Setup("ext4, blocks of 1 KiB", "ext4", ("mkfs.ext4", "-q", "-F", "-b", "1024")),
-    Setup("ext4, sectors of 4,096", "ext4", EXT4, block=4096, sector=4096),
+    ext4(""),
+    ext4("data=journal", "data=journal"),
+    ext4("data=writeback", "data=writeback"),
+    ext4("journal_async_commit", "data=writeback,journal_async_commit"),
+    ext4("fast_commit", make=(*EXT4[:-1], "size=8", "-O", "fast_commit"), flags=0),
+    ext4("blocks of 1 KiB", make=("mkfs.ext4", "-q", "-F", "-b", "1024")),
+    ext4("sectors of 4,096", block=4096, sector=4096),
     Setup("xfs", "xfs", XFS, size=300 * MEBI),
-    Setup("btrfs", "btrfs", BTRFS, size=128 * MEBI),
-    Setup("btrfs, nodatacow", "btrfs", BTRFS, "nodatacow", size=128 * MEBI),
-    Setup("btrfs, compress-force=zstd", "btrfs", BTRFS, "compress-force=zstd", size=128 * MEBI),
-    Setup("ext4, inline_data", "ext4", (*EXT4, "-I", "1024", "-O", "inline_data"), small=True, breaks=True),
-    Setup("ext4 without a journal", "ext4", ("mkfs.ext4", "-q", "-F", "-b", "4096", "-O", "^has_journal"), breaks=True),
+    btrfs(""),
+    btrfs("nodatacow", "nodatacow"),
+    btrfs("compress-force=zstd", "compress-force=zstd"),
+    ext4("inline_data", make=(*EXT4, "-I", "1024", "-O", "inline_data"), small=True, breaks=True),
+    ext4("no journal", make=("mkfs.ext4", "-q", "-F", "-b", "4096", "-O", "^has_journal"), breaks=True),
+    ext4("no journal, e2fsck at each start", make=("mkfs.ext4", "-q", "-F", "-b", "4096", "-O", "^has_journal"), breaks=True, always=True),
 ]
 
 
@@ -202,11 +216,15 @@ class Disks:
         with open(self.served / "control", "wb", buffering=0) as file:
             file.write(line.encode())
 
+    def mend(self, number: int) -> None:
+        """Has a disk work again as a disk should."""
+        for line in ("wake {}", "fail {} write 0 0 0 0 0", "fail {} flush 0 0 0 0 0", "slow {} 0", "pace {} 0"):
+            self.control(line.format(number))
+
     def close(self) -> None:
         for number in range(self.count):
-            for line in (f"wake {number}", f"fail {number} write 0 0 5", f"fail {number} flush 0 0 5", f"slow {number} 0", f"pace {number} 0"):
-                with contextlib.suppress(OSError):
-                    self.control(line)
+            with contextlib.suppress(OSError):
+                self.mend(number)
         for place in self.places:
             unmount(place)
         for loop in self.loops:
@@ -240,15 +258,29 @@ class After:
         self.setup = setup
         self.place = pathlib.Path(tempfile.mkdtemp(prefix="fdr_power_after_"))
         self.loop = Loop(file, setup.block)
+        self.repairs = 0
+
+    def put_in_order(self) -> None:
+        """What a start of a system does where a file system can't be mounted as it is, or isn't made for that."""
+        self.repairs += 1
+        subprocess.run([*self.setup.repair, self.loop.path], stdout=subprocess.DEVNULL, stderr=subprocess.DEVNULL, check=False)
+        self.loop.forget()
+
+    def mount(self) -> int:
+        """The error number of the mount, or 0."""
+        self.loop.forget()
+        flags = self.setup.flags | MS_NOATIME
+        if self.setup.always:
+            self.put_in_order()
+        error = mount(self.loop.path, self.place, self.setup.kind, flags, self.setup.options)
+        if error and self.setup.repair and not self.setup.always:
+            self.put_in_order()
+            error = mount(self.loop.path, self.place, self.setup.kind, flags, self.setup.options)
+        return error
 
     def files(self, names: list[str]) -> tuple[int, Held]:
         """The error of the mount or 0, and what the files of these names hold."""
-        self.loop.forget()
-        if self.setup.repair:
-            subprocess.run([*self.setup.repair, self.loop.path], stdout=subprocess.DEVNULL, stderr=subprocess.DEVNULL, check=False)
-            self.loop.forget()
-        error = mount(self.loop.path, self.place, self.setup.kind, self.setup.flags | MS_NOATIME, self.setup.options)
-        if error:
+        if error := self.mount():
             return error, {}
         held: Held = {}
         try:
