@@ -24,16 +24,19 @@ import json
 import os
 import pathlib
 import random
+import re
 import shutil
+import signal
 import subprocess
 import sys
 import time
-from collections.abc import Iterator, Sequence
+from collections.abc import Iterator, Mapping, Sequence
 
 sys.dont_write_bytecode = True
 
+import power_waits
 from inputs import TOP
-from places import begin_apart
+from places import Mismatch, begin_apart
 from power_log import Cut, Entry, Part, Stretch, Surface, drawn_cut, entries_of, stretches_of, sure_cuts
 from power_model import Run, Timeline, stored, timelines_of
 from power_system import FAST, SETUPS, After, Held, Setup, disks_of, lacks, lacks_for
@@ -224,6 +227,19 @@ def say(name: str, found: Found, is_expected: bool | None, kept: pathlib.Path) -
     return is_well
 
 
+def wait(name: str, programs: Mapping[str, pathlib.Path], pause: float) -> bool:
+    """Tries slow disks and such, and tells what was seen."""
+    log = FAST / f"fdr_power_{os.getpid()}.log"
+    try:
+        print(f"ok     ext4: {name}: {power_waits.try_one(name, programs, pause, log)}", flush=True)
+        return True
+    except Mismatch as fault:
+        print(f"FAILED ext4: {name}: {fault}", flush=True)
+        return False
+    finally:
+        log.unlink(missing_ok=True)
+
+
 def dropping_library() -> pathlib.Path:
     """The library of power_drop.c."""
     KEPT.mkdir(parents=True, exist_ok=True)
@@ -238,7 +254,8 @@ def main() -> int:
     words.add_argument("fdrpair", type=pathlib.Path, nargs="?")
     words.add_argument("--cuts", type=int, default=400, help="of each work on each set-up")
     words.add_argument("--seed", type=int, default=None, help="of the random choices; what the system does differs all the same")
-    words.add_argument("--only", default="", help="what has this in the names of its set-up and work")
+    words.add_argument("--only", default="", help="the works in whose names, SET-UP: WORK, this is found, as a regular expression")
+    words.add_argument("--hang", type=float, default=5, help="the seconds that a disk hangs")
     words.add_argument("--keep", type=pathlib.Path, default=KEPT, help="where violations are kept")
     words.add_argument("--again", type=pathlib.Path, help="a folder of kept violations")
     given = words.parse_args()
@@ -246,6 +263,7 @@ def main() -> int:
         print(f"skipped: not run: {', '.join(missing)} isn't there")
         return 0
     begin_apart()
+    signal.signal(signal.SIGTERM, lambda *_: sys.exit("ended"))  # so that mounts and loop devices are taken away
     if given.again:
         return again(given.again)
     if not given.fdr or not given.fdrpair:
@@ -258,13 +276,16 @@ def main() -> int:
     for setup in SETUPS:
         for work in works_on(setup, programs, library, given.cuts):
             name = f"{setup.name}: {work.name}"
-            if given.only not in name:
+            if not re.search(given.only, name):
                 continue
             if missing := lacks_for(setup):
                 print(f"skipped: {name}: not run: {', '.join(missing)} isn't there")
                 continue
             kept = given.keep / "".join(letter if letter.isalnum() else "_" for letter in name)
             is_well &= say(name, try_one(setup, work, given.cuts, seed, kept), work.is_broken, kept)
+    for name in power_waits.TRIALS:
+        if re.search(given.only, f"ext4: {name}"):
+            is_well &= wait(name, programs, given.hang)
     return 0 if is_well else 1
 
 

@@ -14,7 +14,7 @@ static int is(const char *wanted) {
     return given && strcmp(given, wanted) == 0;
 }
 
-static void pay(void) {
+__attribute__((destructor)) static void pay(void) {
     int file = owed;
     owed = -1;
     if (file >= 0)

@@ -28,23 +28,29 @@ FAST = pathlib.Path("/dev/shm")
 @dataclasses.dataclass(frozen=True)
 class Setup:
     """A file system as it is made and mounted: on disks of so many bytes, cut at sectors of so many. After a cut it is mounted
-    for reading alone, where it can put itself in order so, which ext4 can't with fast_commit."""
+    for reading alone, where it can put itself in order so, which ext4 can't with fast_commit. Where it can't be mounted, or
+    always, a program puts it in order first, as a start of the system does: ext4 has a copy of its superblock for it, which
+    takes a second group of blocks. It breaks what is asked of a file system, or
+    doesn't, or does so seldom."""
 
     name: str
     kind: str
     make: tuple[str, ...]
     options: str = ""
-    size: int = 32 * MEBI
+    size: int = 160 * MEBI
     block: int = 512
     sector: int = 512
     repair: tuple[str, ...] = ()
     always: bool = False
     flags: int = MS_RDONLY
     small: bool = False
-    breaks: bool = False
+    breaks: bool | None = False
 
 
-EXT4 = ("mkfs.ext4", "-q", "-F", "-b", "4096", "-J", "size=4")
+PLAIN = ("mkfs.ext4", "-q", "-F", "-b", "4096")
+EXT4 = (*PLAIN, "-J", "size=4")
+FAST_COMMIT = (*PLAIN, "-J", "size=8", "-O", "fast_commit")
+NO_JOURNAL = (*PLAIN, "-O", "^has_journal")
 XFS = ("mkfs.xfs", "-q", "-f")
 BTRFS = ("mkfs.btrfs", "-q", "-f")
 E2FSCK, SUPER_RECOVER = ("e2fsck", "-fy"), ("btrfs", "rescue", "super-recover", "-y")
@@ -62,17 +68,18 @@ SETUPS = [
     ext4(""),
     ext4("data=journal", "data=journal"),
     ext4("data=writeback", "data=writeback"),
-    ext4("journal_async_commit", "data=writeback,journal_async_commit"),
-    ext4("fast_commit", make=(*EXT4[:-1], "size=8", "-O", "fast_commit"), flags=0),
-    ext4("blocks of 1 KiB", make=("mkfs.ext4", "-q", "-F", "-b", "1024")),
+    ext4("fast_commit, sectors of 4,096", make=FAST_COMMIT, flags=0, block=4096, sector=4096),
+    ext4("blocks of 1 KiB", make=("mkfs.ext4", "-q", "-F", "-b", "1024"), size=32 * MEBI),
     ext4("sectors of 4,096", block=4096, sector=4096),
     Setup("xfs", "xfs", XFS, size=300 * MEBI),
     btrfs(""),
     btrfs("nodatacow", "nodatacow"),
     btrfs("compress-force=zstd", "compress-force=zstd"),
+    ext4("fast_commit", make=FAST_COMMIT, flags=0, breaks=None),
+    ext4("journal_async_commit", "data=writeback,journal_async_commit", breaks=None),
     ext4("inline_data", make=(*EXT4, "-I", "1024", "-O", "inline_data"), small=True, breaks=True),
-    ext4("no journal", make=("mkfs.ext4", "-q", "-F", "-b", "4096", "-O", "^has_journal"), breaks=True),
-    ext4("no journal, e2fsck at each start", make=("mkfs.ext4", "-q", "-F", "-b", "4096", "-O", "^has_journal"), breaks=True, always=True),
+    ext4("no journal", make=NO_JOURNAL, breaks=True),
+    ext4("no journal, e2fsck at each start", make=NO_JOURNAL, breaks=None, always=True),
 ]
 
 
