@@ -38,7 +38,7 @@ import power_waits
 from inputs import TOP
 from places import Mismatch, begin_apart
 from power_log import Cut, Entry, Part, Stretch, Surface, drawn_cut, entries_of, stretches_of, sure_cuts
-from power_model import Run, Timeline, stored, timelines_of
+from power_model import Run, Timeline, fault_of_answers, stored, timelines_of
 from power_system import FAST, SETUPS, After, Held, Setup, disks_of, lacks, lacks_for
 from power_plan import works_on
 from power_works import Work
@@ -119,11 +119,13 @@ def kind_of(fault: str) -> str:
     return "".join("#" if letter.isdigit() else letter for letter in fault)
 
 
-def cuts_of(stretches: int, stretch: Stretch, entries: Sequence[Entry], setup: Setup, cuts: int, chance: random.Random) -> Iterator[Cut]:
-    """The cuts of a stretch, of so many in all."""
-    yield from sure_cuts(stretch)
-    drawn = cuts / stretches - (3 if stretch.pending else 1)
-    for _ in range(int(drawn) + (chance.random() < drawn % 1) if stretch.pending and drawn > 0 else 0):
+def cuts_of(share: float, stretch: Stretch, entries: Sequence[Entry], setup: Setup, chance: random.Random) -> Iterator[Cut]:
+    """The cuts of a stretch, of which there are about so many: those at its ends first, and then drawn ones."""
+    sure = list(sure_cuts(stretch))
+    if chance.random() < share / len(sure):
+        yield from sure
+    drawn = share - len(sure) if stretch.pending else 0
+    for _ in range(int(drawn) + (chance.random() < drawn % 1) if drawn > 0 else 0):
         yield drawn_cut(entries, stretch, setup.sector, chance)
 
 
@@ -139,7 +141,7 @@ def look(folder: pathlib.Path, cuts: int, chance: random.Random) -> Found:
         looking = Looking(setup, entries, runs, disk, found)
         try:
             for stretch in looking.go_to(None, first):
-                for cut in cuts_of(count, stretch, entries, setup, cuts // held["disks"], chance):
+                for cut in cuts_of(cuts / held["disks"] / count, stretch, entries, setup, chance):
                     looking.judge(cut, begin)
         finally:
             looking.close()
@@ -196,6 +198,8 @@ def record_log(setup: Setup, work: Work, folder: pathlib.Path, chance: random.Ra
     folder.mkdir(parents=True)
     with disks_of(setup, folder / "log", work.disks) as disks:
         runs = work.do(disks, chance)
+    if fault := fault_of_answers(entries_of(folder / "log"), runs):
+        raise Mismatch(fault)
     told = {"setup": setup.name, "disks": work.disks, "work": work.name, "runs": [run.to_json() for run in runs]}
     (folder / "work.json").write_text(json.dumps(told) + "\n")
 
@@ -206,7 +210,7 @@ def try_one(setup: Setup, work: Work, cuts: int, seed: int, kept: pathlib.Path) 
     folder = FAST / f"fdr_power_{os.getpid()}"
     try:
         record_log(setup, work, folder, chance)
-        found = look(folder, cuts, chance)
+        found = look(folder, max(cuts, work.least), chance)
         if found.violations:
             keep(folder, found, kept)
     finally:
@@ -218,13 +222,33 @@ def say(name: str, found: Found, is_expected: bool | None, kept: pathlib.Path) -
     """Tells what came of a work on a set-up, and whether it is as expected."""
     is_well = is_expected is None or bool(found.violations) == is_expected
     repaired = f" ({found.repairs} put in order first)" if found.repairs else ""
-    counts = f"{found.cuts} cuts, {found.images} disks mounted{repaired}, {found.seconds:.0f} s, {len(found.violations)} violations"
+    counts = f"{found.cuts:,} cuts, {found.images:,} disks mounted{repaired}, {found.seconds:.0f} s, {len(found.violations):,} violations"
     print(f"{'ok' if is_well else 'FAILED':7}{name}: {counts}", flush=True)
     for kind, count in found.kinds.most_common(4):
-        print(f"{count:14} {kind}")
+        print(f"{count:14,} {kind}")
     if found.violations:
-        print(f"               the first after {found.first:.1f} s; kept: tests/power.py --again {os.path.relpath(kept)}", flush=True)
+        print(f"{'':15}the first after {found.first:.1f} s; kept: tests/power.py --again {os.path.relpath(kept)}", flush=True)
     return is_well
+
+
+@dataclasses.dataclass
+class Total:
+    """What came of all works so far."""
+
+    works: int = 0
+    cuts: int = 0
+    images: int = 0
+    wrong: int = 0
+
+    def add(self, found: Found, is_well: bool) -> None:
+        self.works += 1
+        self.cuts += found.cuts
+        self.images += found.images
+        self.wrong += not is_well
+
+    def __str__(self) -> str:
+        told = "as expected" if not self.wrong else f"{self.wrong} not as expected"
+        return f"{self.works} works: {self.cuts:,} cuts, {self.images:,} disks mounted, {told}"
 
 
 def wait(name: str, programs: Mapping[str, pathlib.Path], pause: float) -> bool:
@@ -252,7 +276,7 @@ def main() -> int:
     words = argparse.ArgumentParser(description=__doc__.splitlines()[0])
     words.add_argument("fdr", type=pathlib.Path, nargs="?")
     words.add_argument("fdrpair", type=pathlib.Path, nargs="?")
-    words.add_argument("--cuts", type=int, default=400, help="of each work on each set-up")
+    words.add_argument("--cuts", type=int, default=200, help="of each work on each set-up, about; 5000 take hours")
     words.add_argument("--seed", type=int, default=None, help="of the random choices; what the system does differs all the same")
     words.add_argument("--only", default="", help="the works in whose names, SET-UP: WORK, this is found, as a regular expression")
     words.add_argument("--hang", type=float, default=5, help="the seconds that a disk hangs")
@@ -271,22 +295,27 @@ def main() -> int:
     seed = given.seed if given.seed is not None else random.randrange(1 << 32)
     print(f"seed {seed}")
     programs = {"fdr": given.fdr.resolve(), "fdrpair": given.fdrpair.resolve()}
-    library = dropping_library()
-    is_well = True
+    total = Total()
     for setup in SETUPS:
-        for work in works_on(setup, programs, library, given.cuts):
+        for work in works_on(setup, programs, dropping_library(), given.cuts):
             name = f"{setup.name}: {work.name}"
             if not re.search(given.only, name):
                 continue
             if missing := lacks_for(setup):
                 print(f"skipped: {name}: not run: {', '.join(missing)} isn't there")
                 continue
-            kept = given.keep / "".join(letter if letter.isalnum() else "_" for letter in name)
-            is_well &= say(name, try_one(setup, work, given.cuts, seed, kept), work.is_broken, kept)
+            kept = given.keep / re.sub(r"\W+", "_", name)
+            try:
+                found = try_one(setup, work, given.cuts, seed, kept)
+                total.add(found, say(name, found, work.is_broken, kept))
+            except Mismatch as fault:
+                print(f"FAILED {name}: {fault}", flush=True)
+                total.add(Found(), False)
     for name in power_waits.TRIALS:
         if re.search(given.only, f"ext4: {name}"):
-            is_well &= wait(name, programs, given.hang)
-    return 0 if is_well else 1
+            total.add(Found(), wait(name, programs, given.hang))
+    print(total)
+    return 1 if total.wrong else 0
 
 
 if __name__ == "__main__":

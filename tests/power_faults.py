@@ -9,10 +9,9 @@ import subprocess
 from collections.abc import Callable, Sequence
 
 from places import Mismatch
-from power_model import Run
+from power_model import FAULT, Run
 from power_works import Bench, Does
 
-FAULT = 10
 LET_GO = "of={} oflag=nocache conv=notrunc,nocreat,fdatasync count=0 status=none"
 SYNC_ALONE = "of={} conv=notrunc,nocreat,fdatasync count=0 status=none"
 Image = tuple[int, str]

@@ -18,6 +18,8 @@ from inputs import T1
 from power_log import Entry
 
 PROMISED_LESS = 2
+FAULT = 10
+LINES_OF_A_FAULT = ("fault first", "fault second")
 Blocks = tuple[tuple[int, bytes], ...]
 
 
@@ -188,13 +190,35 @@ def timelines_of(entries: Sequence[Entry], runs: Sequence[Run]) -> dict[tuple[in
             failed = set() if told["is"] == "begin" else failed
         elif entry.kind == "s" and now:
             lines = entry.data.decode(errors="replace").splitlines()
-            failed |= {("fault first", "fault second").index(line) for line in lines if line in ("fault first", "fault second")}
+            failed |= {disk for disk, line in enumerate(LINES_OF_A_FAULT) if line in lines}
             for number in numbers_in(lines):
                 for image in now.images:
                     if image[0] not in failed:
                         made[image].add(place, announced(made[image].wanted[-1], now, number, is_first))
                 is_first = False
     return made
+
+
+def fault_of_answers(entries: Sequence[Entry], runs: Sequence[Run]) -> str:
+    """What is wrong with the last lines of the runs, or nothing: a disk fault is said where it is answered, and of two disks
+    none is said to fail that didn't."""
+    said, failed = b"", set[int]()
+    for entry in entries:
+        if entry.error:
+            failed.add(entry.disk)
+        if entry.kind == "s":
+            said += entry.data
+        elif entry.kind == "m":
+            told = json.loads(entry.data)
+            lines = said.decode().splitlines()
+            last = lines[-1] if lines else ""
+            if told["is"] == "end" and (told["status"] == FAULT) != last.endswith(": disk fault"):
+                return f"a run of {runs[told['run']].kind} ended with {told['status']} and said {last!r}"
+            wrong = [line for disk, line in enumerate(LINES_OF_A_FAULT) if line in lines and disk not in failed]
+            if wrong:
+                return f"{wrong[0]!r} was said, and that disk didn't fail"
+            said = b""
+    return ""
 
 
 def stored(folder: pathlib.Path) -> tuple[dict[str, Any], list[Run]]:

@@ -10,6 +10,7 @@ from power_works import RINGS, SMALL_RINGS, Work, on_one_disk, on_two_disks
 LARGE_RINGS = [(6, 4096), (8, 512), (5, 4000)]
 CUTS_OF_A_ROUND = 600
 CUTS_OF_A_FAULT = 40
+LEAST_ROUNDS = 6
 WITH_FAULTS = ("ext4", "xfs", "btrfs")
 HIDES = {"nothing done": True, "a sync alone": True, "the line of dd": False, "mounted anew": False}
 
@@ -22,10 +23,10 @@ def works_on(setup: Setup, programs: Mapping[str, pathlib.Path], library: pathli
     if not setup.breaks:
         yield Work("two disks", 2, programs, on_two_disks(rings, rounds), setup.breaks)
     if setup.name in WITH_FAULTS:
-        yield from works_with_faults(setup, programs, max(8, cuts // CUTS_OF_A_FAULT))
+        yield from works_with_faults(setup, programs, max(LEAST_ROUNDS, cuts // CUTS_OF_A_FAULT))
     if setup.name == "ext4":
         for how, told in (("all", "no sync is made"), ("other", "each other sync is made"), ("early", "a write goes before the sync that it waits for")):
-            yield Work(f"unsafe: {told}", 1, programs, on_one_disk(LARGE_RINGS), True, {"LD_PRELOAD": str(library), "POWER_DROP": how})
+            yield Work(f"unsafe: {told}", 1, programs, on_one_disk(LARGE_RINGS), True, {"LD_PRELOAD": str(library), "POWER_DROP": how}, 1000)
 
 
 def works_with_faults(setup: Setup, programs: Mapping[str, pathlib.Path], rounds: int) -> Iterator[Work]:

@@ -171,7 +171,8 @@ Does = Callable[[Bench], None]
 
 @dataclasses.dataclass(frozen=True)
 class Work:
-    """What is done on the disks of a set-up, and whether violations are expected of it, or nothing is said of that."""
+    """What is done on the disks of a set-up, whether violations are expected of it, or nothing is said of that, and how
+    many cuts it has at least."""
 
     name: str
     disks: int
@@ -179,6 +180,7 @@ class Work:
     does: Does
     is_broken: bool | None = False
     environ: Mapping[str, str] = dataclasses.field(default_factory=dict)
+    least: int = 0
 
     def do(self, disks: Disks, chance: random.Random) -> list[Run]:
         bench = Bench(disks, self.programs, chance, self.environ)
