@@ -69,10 +69,10 @@ class Wanted:
     least: int = 0
     most: int = 0
 
-    def fault(self, held: bytes | None) -> str:
-        """What is wrong with what a file holds, or nothing."""
-        if self.stage == "none":
-            return ""
+    def fault(self, held: bytes | str | None) -> str:
+        """What is wrong with what a file holds, or nothing. A text says why it can't be read."""
+        if self.stage == "none" or isinstance(held, str):
+            return "" if self.stage == "none" else str(held)
         empty = empty_image(*self.shape)
         if self.stage == "made":
             is_refused = held is None or len(held) < HEADER.size or held[0] != OPEN

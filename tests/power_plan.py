@@ -5,7 +5,7 @@ from collections.abc import Iterator, Mapping
 
 import power_faults as faults
 from power_system import Setup
-from power_works import RINGS, SMALL_RINGS, Work, on_one_disk, on_two_disks
+from power_works import RINGS, SMALL_RINGS, Work, making, on_one_disk, on_two_disks
 
 LARGE_RINGS = [(6, 4096), (8, 512), (5, 4000)]
 CUTS_OF_A_ROUND = 600
@@ -19,7 +19,9 @@ def works_on(setup: Setup, programs: Mapping[str, pathlib.Path], library: pathli
     """What is done on a set-up, where each work is cut so often."""
     rings = SMALL_RINGS if setup.small else RINGS
     rounds = max(1, cuts // CUTS_OF_A_ROUND)
-    yield Work("one disk", 1, programs, on_one_disk(rings, rounds), setup.breaks)
+    yield Work("one disk", 1, programs, on_one_disk(rings, rounds), None if setup.breaks and not setup.small else setup.breaks)
+    if setup.kind == "ext4" and setup.breaks is not False:
+        yield Work("images made and removed", 1, programs, making(rings, 40), setup.breaks, least=2500)
     if not setup.breaks:
         yield Work("two disks", 2, programs, on_two_disks(rings, rounds), setup.breaks)
     if setup.name in WITH_FAULTS:

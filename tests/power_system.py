@@ -255,7 +255,7 @@ def disks_of(setup: Setup, log: pathlib.Path, count: int) -> Iterator[Disks]:
         disks.close()
 
 
-Held = dict[str, bytes | None]
+Held = dict[str, bytes | str | None]  # what each file holds, why it can't be read, or that it isn't there
 
 
 class After:
@@ -297,7 +297,7 @@ class After:
                 except FileNotFoundError:
                     held[name] = None
                 except OSError as fault:
-                    held[name] = f"can't be read: {fault.strerror}".encode()
+                    held[name] = f"it can't be read: {fault.strerror}"
         finally:
             unmount(self.place)
         return 0, held

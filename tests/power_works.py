@@ -213,6 +213,19 @@ def on_one_disk(rings: Sequence[tuple[int, int]], rounds: int = 1) -> Does:
     return do
 
 
+def making(rings: Sequence[tuple[int, int]], rounds: int) -> Does:
+    """Images are made and removed, so that a new one gets the place of an old one."""
+
+    def do(bench: Bench) -> None:
+        for number in range(rounds):
+            shape, image = rings[number % len(rings)], (0, f"ring{number}.img")
+            bench.done(Run("format", (image,), shape))
+            bench.done(bench.recording("record", [image], shape, 2))
+            bench.remove(image)
+
+    return do
+
+
 def on_two_disks(rings: Sequence[tuple[int, int]], rounds: int = 1) -> Does:
     """Two images are recorded in together; then the first one alone, and the second is brought up to it."""
 
