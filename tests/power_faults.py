@@ -12,6 +12,7 @@ from places import Mismatch
 from power_model import FAULT, Run
 from power_works import Bench, Does
 
+NOT_EMPTY = 5
 LET_GO = "of={} oflag=nocache conv=notrunc,nocreat,fdatasync count=0 status=none"
 SYNC_ALONE = "of={} conv=notrunc,nocreat,fdatasync count=0 status=none"
 Image = tuple[int, str]
@@ -75,6 +76,15 @@ def again(bench: Bench, run: Run) -> None:
         bench.done(run)
 
 
+def make_again(bench: Bench, made: Run) -> None:
+    """Makes an image after `format` met a fault. What it couldn't take away on a file system that gave up is taken away first."""
+    if want(bench.run(made), 0, NOT_EMPTY, FAULT):
+        for image in made.images:
+            bench.disks.mount_anew(image[0])
+            bench.remove(image)
+        bench.done(made)
+
+
 def put_away(bench: Bench, images: Sequence[Image]) -> None:
     """Removes images, whose file systems are then mounted anew, so that the next round begins on a file system without a fault."""
     for image in images:
@@ -95,7 +105,7 @@ def of_record(bench: Bench, between: Between, image: Image, is_lost: bool) -> No
         mend(bench)
         between(bench, image)
         if status:
-            again(bench, made)
+            make_again(bench, made)
     else:
         bench.done(made)
     again(bench, bench.recording("record", [image], shape, shape[0] + 2))
