@@ -65,6 +65,7 @@ def parts(fdr: str, pair: str) -> Iterator[Part]:
     yield Part("`make crash-test`", ["tests/crashes.py", fdr], r"^ *(\d+ killed|\d+ runs)(?:$|,)")
     yield Part("`make crash-test`, two disks", ["tests/pair.py", pair, fdr, "--kills"], r"^ *(\d+ killed|\d+ runs)(?:$|,)")
     yield Part("`make live-test`", ["tests/live_kills.py", fdr, pair], r"^ *(\d+ kills of both|\d+ sessions listed)$", ("cc",))
+    yield Part("`make power-test`", ["tests/power.py", fdr, pair], r"^(\d+ works: .*)$")
     yield Part("`make check-real`", ["tests/files.py", fdr], r"^(\d+ cases, .*|\d+ skipped)$")
     yield Part("`make check-real`, two disks", ["tests/pair.py", pair, fdr, "--cases"], r"^(\d+ cases, .*|\d+ skipped)$", ("strace",))
     yield Part("`make check-memory`", ["tests/memory.py", fdr, pair], r"^([\d,]+ runs, .*)$", ("cc",))
