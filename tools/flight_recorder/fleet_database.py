@@ -1,0 +1,188 @@
+"""The rows of a fleet in a database that SQLAlchemy speaks to: a flight's rows go in together or not at all."""
+
+from __future__ import annotations
+
+import datetime
+from typing import Any, Iterator
+
+import sqlalchemy
+from sqlalchemy import BigInteger, Column, DateTime, Float, ForeignKey, Integer, MetaData, String, Table, Text
+
+from .dates import dates_of
+from .faults import Fault
+from .fleet_files import EXCEEDANCES, Units
+from .fleet_job import Row
+
+Values = dict[str, Any]
+NAME, PATH, SUM = String(64), String(700), String(64)
+KEY = {"primary_key": True, "autoincrement": False}
+SCHEMA = MetaData()
+FLIGHTS = Table(
+    "flights",
+    SCHEMA,
+    Column("flight", Integer, primary_key=True),
+    Column("file", PATH, nullable=False, unique=True),
+    Column("line", SUM, nullable=False, comment="the sum of the line of the fleet's journal that these rows are of"),
+    Column("start", DateTime, comment="UTC, where the date is known"),
+    Column("month", String(7), index=True, comment="of the start, as 2026-05"),
+    Column("status", String(16), nullable=False),
+    Column("exit", Integer),
+    Column("said", Text),
+    Column("seconds", Float, comment="that the reading took"),
+    Column("bytes", BigInteger),
+    Column("sha256", SUM),
+    Column("table", PATH),
+    Column("kind", String(8)),
+    *(Column(name, Integer) for name in ("runs", "blocks", "frames_of_runs", "sessions", "recordings", "frames", "gaps")),
+    Column("gap_bits", BigInteger),
+    *(Column(name, Integer) for name in ("parts", "doubtful", "rows")),
+    Column("duration", Integer, comment="seconds of whole frames"),
+    Column("first", Float, comment="seconds, in the first recording"),
+    Column("last", Float, comment="seconds, in the last recording"),
+)
+
+
+def _of_flight(name: str, **more: Any) -> "Column[Any]":
+    return Column(name, Integer, ForeignKey("flights.flight", ondelete="CASCADE"), **more)
+
+
+EXCEEDING = Table(
+    "exceedances",
+    SCHEMA,
+    _of_flight("flight", **KEY),
+    Column("number", Integer, comment="in the flight, from 1 on", **KEY),
+    Column("rule", NAME, nullable=False, index=True),
+    Column("parameter", String(700)),
+    Column("peak", Float, nullable=False),
+    Column("unit", NAME, comment="of the peak"),
+    Column("samples", Integer, nullable=False),
+    Column("seconds", Float, comment="from the first sample to the last; nothing where several lengths are possible"),
+    Column("recording", Integer),
+    Column("session", BigInteger),
+    Column("time", Float, comment="seconds from the recording's start"),
+    Column("date", DateTime, comment="UTC, where the date is known"),
+    Column("counter", Integer, nullable=False),
+    Column("subframe", Integer, nullable=False),
+    Column("word", Integer, nullable=False),
+    Column("places", Integer, nullable=False, comment="at which it may stand"),
+    Column("note", Text),
+)
+PARAMETERS = Table(
+    "parameters",
+    SCHEMA,
+    _of_flight("flight", **KEY),
+    Column("name", NAME, primary_key=True),
+    Column("unit", NAME),
+    Column("title", Text),
+    Column("samples", Integer, nullable=False),
+    Column("least", Float),
+    Column("greatest", Float),
+)
+EVENTS = Table(
+    "events",
+    SCHEMA,
+    _of_flight("flight", **KEY),
+    Column("number", Integer, comment="in the flight, from 1 on", **KEY),
+    Column("column", NAME, primary_key=True, comment="as flight events calls it"),
+    Column("value", Text),
+)
+OF_FLIGHT = (EXCEEDING, PARAMETERS, EVENTS)
+
+
+class Database:
+    """A database with the tables of a fleet, which are made where they aren't there."""
+
+    def __init__(self, url: str, units: Units) -> None:
+        self.units = units
+        try:
+            self.engine = sqlalchemy.create_engine(url, future=True)
+            SCHEMA.create_all(self.engine)
+            with self.engine.connect() as connection:
+                known = connection.execute(sqlalchemy.select(FLIGHTS.c.file, FLIGHTS.c.line))
+                self.lines = {file: line for file, line in known}
+        except ImportError as error:
+            raise Fault(f"--database: SQLAlchemy speaks to it by the module {error.name}, which isn't installed") from None
+        except sqlalchemy.exc.SQLAlchemyError as error:
+            raise Fault(f"--database: {_first_line(error)}") from None
+
+    def close(self) -> None:
+        """Lets the database go."""
+        self.engine.dispose()
+
+    def has(self, file: str, line: str) -> bool:
+        """Whether the rows of a flight are those of this line of the journal."""
+        return self.lines.get(file) == line
+
+    def put(self, row: Row, line: str) -> None:
+        """Puts a flight's rows in place of those that are there, in one transaction."""
+        try:
+            with self.engine.begin() as connection:
+                self._put(connection, row, line)
+        except sqlalchemy.exc.SQLAlchemyError as error:
+            raise Fault(f"--database: {row['file']}: {_first_line(error)}") from None
+        self.lines[row["file"]] = line
+
+    def _put(self, connection: Any, row: Row, line: str) -> None:
+        values = {**_flight_values(row), "line": line}
+        flight = connection.execute(sqlalchemy.select(FLIGHTS.c.flight).where(FLIGHTS.c.file == row["file"])).scalar()
+        if flight is None:
+            flight = connection.execute(FLIGHTS.insert().values(values)).inserted_primary_key[0]
+        else:
+            for table in OF_FLIGHT:
+                connection.execute(table.delete().where(table.c.flight == flight))
+            connection.execute(FLIGHTS.update().where(FLIGHTS.c.flight == flight).values(values))
+        lists = (_exceedance_values(row, self.units), _parameter_values(row, self.units), _event_values(row))
+        for table, each in zip(OF_FLIGHT, lists):
+            rows = [{"flight": flight, **one} for one in each]
+            if rows:
+                connection.execute(table.insert(), rows)
+
+
+def _first_line(error: Exception) -> str:
+    return str(error).splitlines()[0]
+
+
+def _date(text: str) -> datetime.datetime | None:
+    """A date in UTC."""
+    if not text:
+        return None
+    dates_of([text])
+    moment = datetime.datetime.fromisoformat(text)
+    return moment.astimezone(datetime.timezone.utc).replace(tzinfo=None) if moment.tzinfo else moment
+
+
+def _number(text: str) -> float | None:
+    try:
+        return float(text)
+    except ValueError:
+        return None
+
+
+def _flight_values(row: Row) -> Values:
+    empty = {name: None for name in FLIGHTS.c.keys() if name not in ("flight", "line")}
+    start = _date(row["start"])
+    values = {**empty, **{name: row[name] for name in empty if name in row}, **row["summary"]}
+    times = {name: _number(row["summary"].get(name, "")) for name in ("first", "last")}
+    return {**values, **times, "start": start, "month": f"{start:%Y-%m}" if start else None}
+
+
+def _exceedance_values(row: Row, units: Units) -> Iterator[Values]:
+    whole = ("recording", "session", "samples", "counter", "subframe", "word", "places")
+    for number, cells in enumerate(row["exceedances"], 1):
+        one: Values = dict(zip(EXCEEDANCES[1:], cells))
+        numbers: Values = {name: int(one[name]) if one[name] else None for name in whole}
+        times = {name: _number(one[name]) for name in ("time", "seconds", "peak")}
+        unit = units.of(row["table"], one["parameter"]).unit
+        yield {"number": number, **one, **numbers, **times, "date": _date(one["date"]), "unit": unit}
+
+
+def _parameter_values(row: Row, units: Units) -> Iterator[Values]:
+    for name, samples, least, greatest in row["parameters"]:
+        said = units.of(row["table"], name)
+        yield {"name": name, "unit": said.unit, "title": said.title, "samples": samples, "least": least, "greatest": greatest}
+
+
+def _event_values(row: Row) -> Iterator[Values]:
+    head, *events = row["events"] or [[]]
+    for number, one in enumerate(events, 1):
+        yield from ({"number": number, "column": name, "value": value} for name, value in zip(head, one))
