@@ -25,6 +25,7 @@ GLANCE = 2.0  # seconds between two looks at how many workers there are
 LOOPBACK = "127.0.0.1"
 TOOLS = str(pathlib.Path(__file__).resolve().parents[1])
 SECONDS_TO_CONNECT = 15
+GONE = "the scheduler is gone, or dropped what it was given; what came so far is kept"
 
 
 @dataclass(frozen=True)
@@ -43,13 +44,19 @@ def crew(place: Place) -> Iterator["Crew"]:
     """Workers, for as long as they are needed."""
     with contextlib.ExitStack() as stack:
         address: Any = place.scheduler or stack.enter_context(_cluster(place))
-        logging.getLogger("distributed").setLevel(logging.CRITICAL)  # what goes wrong is told by the rows
+        _hush()
         try:
             client = distributed.Client(address, timeout=SECONDS_TO_CONNECT, set_as_default=False)
         except (OSError, ValueError, TimeoutError) as error:
             raise Fault(f"--scheduler {place.scheduler}: {str(error).splitlines()[0]}") from None
         stack.callback(client.close)
         yield Crew(client, dict(place.resources))
+
+
+def _hush() -> None:
+    """The engine's own log is left out: what goes wrong is told by the rows."""
+    for name in [name for name in logging.root.manager.loggerDict if name.split(".")[0] == "distributed"]:
+        logging.getLogger(name).setLevel(logging.CRITICAL)
 
 
 @contextlib.contextmanager
@@ -122,7 +129,12 @@ class Crew:
 
     def rows(self, jobs: Iterable[Job]) -> Iterator[Row]:
         """The rows of flights, as they come. What isn't done is tried once more, by another worker where there is one."""
-        waiting = iter(jobs)
+        try:
+            yield from self._rows(iter(jobs))
+        except (OSError, CancelledError) as error:
+            raise Fault(f"{GONE} ({str(error) or type(error).__name__})") from None
+
+    def _rows(self, waiting: Iterator[Job]) -> Iterator[Row]:
         coming = distributed.as_completed([], loop=self.client.loop, with_results=True, raise_errors=False)
         self._fill(coming, waiting)
         for future, answer in coming:
@@ -161,7 +173,7 @@ def _row_of(one: Try, status: str, answer: Any) -> Row:
         row: Row = answer
         return row
     if status != "error" or isinstance(answer, CancelledError):
-        raise Fault("the scheduler is gone, or dropped what it was given; what came so far is kept")
+        raise Fault(GONE)
     error = answer[1] if isinstance(answer, tuple) else answer
     if isinstance(error, distributed.scheduler.KilledWorker):
         times = error.allowed_failures + 1

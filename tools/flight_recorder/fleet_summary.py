@@ -10,6 +10,8 @@ from collections import Counter
 from dataclasses import dataclass, field
 from typing import Any, Iterator
 
+import numpy as np
+
 from . import beside, exceedings, hdf, manifest, outline, parts, reading, tables
 from .arrays import Array
 from .clock import Timed
@@ -23,7 +25,8 @@ from .streams import opened, opened_again
 from .survey import Survey
 
 SYNCS_OF_PARTS = 2  # that have to stand, as of `flight parts`
-LINES = re.compile(rb"^(session|run|gap),\d+,(\d+)$", re.M)
+LINE = re.compile(rb"(session|run|gap),\d+,(\d+)\n")
+NEWLINE, ROW = ord("\n"), ord("o")  # a row's second letter, which no other line has
 
 
 @dataclass
@@ -56,11 +59,15 @@ class Lines:
 
 def lines_of(listing: pathlib.Path) -> Lines:
     """Counts the lines of a listing that are no rows."""
-    lines = Lines()
-    for found in LINES.finditer(listing.read_bytes()):
-        kind = found.group(1).decode()
-        lines.count[kind] += 1
-        lines.sum[kind] += int(found.group(2))
+    lines, text = Lines(), listing.read_bytes()
+    signs = np.frombuffer(text, dtype=np.uint8)
+    begins = np.insert(np.flatnonzero(signs == NEWLINE) + 1, 0, 0)[:-1]
+    for begin in begins[signs[begins + 1] != ROW].tolist():
+        found = LINE.match(text, begin)
+        if found:
+            kind = found.group(1).decode()
+            lines.count[kind] += 1
+            lines.sum[kind] += int(found.group(2))
     return lines
 
 
