@@ -26,6 +26,7 @@ sys.path.insert(0, str(TOP / "tests"))
 
 import commands
 import damaged_images
+import inputs
 from runs import print_row
 
 MEMORY = pathlib.Path("/dev/shm")
@@ -61,7 +62,7 @@ def make_images(room: pathlib.Path, count: int) -> list[pathlib.Path]:
     for number in range(count):
         own = room / f"own_{number % DIFFERENT}.img"
         if not own.exists():
-            line, _ = commands.frames(commands.Table(commands.ORDINARY), random.Random(number))
+            line, _ = commands.frames(commands.Table(inputs.ORDINARY), random.Random(number))
             commands.write_full_image(own, line)
         names.append(room / f"flight_{number}.img")
         if not names[-1].exists():

@@ -25,7 +25,7 @@ import pytest
 import damaged_images
 import inputs
 from conftest import FLIGHT, ORDINARY, T1, TOP, Fdr, Tool, Write
-from flight_recorder import fleet_list
+from flight_recorder import commands, fleet_list
 from flight_recorder.faults import Fault
 
 PROGRAM = pathlib.Path(os.environ.get("FDR", TOP / "bin" / "fdr")).resolve()
@@ -299,6 +299,29 @@ def look_at(folder: pathlib.Path) -> int:
     return len(flights)
 
 
+def test_events_are_those_of_the_plain_command(fleet: Tool, flight: Tool, fdr: Fdr, write: Write, tmp_path: pathlib.Path) -> None:
+    flights, events = some_flights(write), write("events.csv", "name,condition,peak\nUP,ALT > 120,max ALT\nNEVER,ALT > 9000,\n")
+    words = (*flights, "--table", T1, "--events", events, "--when", "ALT > 0", "--database", f"sqlite:///{tmp_path}/fleet.sqlite")
+    if not commands.has_command("events"):
+        assert fleet(*words).error == "flight: --events: this flight has no command events\n"
+        pytest.skip("this flight has no command events")
+    assert fleet(*words).status == 0
+    told = rows_of(tmp_path, "events")
+    by_hand = []
+    for path in flights:
+        listing = write("listing", fdr("list", T1, path) if path.suffix == ".img" else fdr("listbits", T1, given=path.read_bytes()))
+        answer = flight("events", listing, "--table", T1, "--rules", events, "--when", "ALT > 0").out.decode()
+        by_hand += [{"file": str(path), **row} for row in csv.DictReader(io.StringIO(answer))]
+    assert [{name: row[name] for name in by_hand[0]} for row in told] == by_hand and {row["what"] for row in told} == {"event", "watched"}
+    counts = [sum(row["file"] == str(path) and row["what"] == "event" for row in told) for path in flights]
+    assert [int(row["events"]) for row in rows_of(tmp_path, "flights")] == counts and sum(counts) >= 2
+    with sqlite3.connect(tmp_path / "fleet.sqlite") as database:
+        query = "select file, what, rule, time, peak, of_flight from events join flights using (flight)"
+        stored = database.execute(f"{query} order by flights.file, number").fetchall()
+    cells = [(one["file"], one["what"], one["rule"], *(float(one[name]) if one[name] else None for name in ("time", "peak", "flight"))) for one in told]
+    assert stored == sorted(cells, key=lambda one: str(one[0]))
+
+
 def test_a_database_that_isnt_there_is_named(fleet: Tool, write: Write, tmp_path: pathlib.Path) -> None:
     image = write("a.img", damaged_images.whole_image())
     for url, said in (("x", "Could not parse"), (f"sqlite:///{tmp_path}/no/x", "unable to open"), ("nodb://x/y", "nodb"), ("mysql://x/y", "MySQLdb")):
@@ -344,6 +367,7 @@ def test_what_goes_wrong_with_its_words(flight: Tool, write: Write, tmp_path: pa
     for words, said in (
         (["--table", T1], "no flights: give their files, or --files with a list of them"),
         ([image, "--table", T1, "--scheduler", "tcp://127.0.0.1:9", "--workers", 2], "--workers and --listen are of a cluster on this machine"),
+        ([image, "--table", T1, "--when", "ALT > 0"], "--when is for the events of --events"),
         ([image, "--table", T1, "--workers", 0], "--workers is 1 to 1024"),
         ([image, "--table", T1, "--listen", "tcp://x"], "--listen tcp://x: an address as 10.0.0.5:8786"),
         ([image, "--table", T1, "--resources", "x"], "--resources 'x': a name and a number, as readout=1"),

@@ -11,11 +11,11 @@ from collections import Counter
 from dataclasses import dataclass, field, replace
 from typing import Any, Iterator
 
-from . import fleet_page
+from . import description, fleet_page
 from .evidence import sum_of
 from .faults import Fault
 from .fleet_engine import Place, crew
-from .fleet_files import Files, Units
+from .fleet_files import Files
 from .fleet_job import MISSING, REFUSED, Job, Row
 from .fleet_journal import Journal
 from .fleet_list import Choice, Listed, choice_of, choices_of, flights_of
@@ -38,6 +38,7 @@ class Settings:
     tables: str | None = None
     rules: str | None = None
     events: str | None = None
+    when: str | None = None
     describe: str | None = None
     date_in: str | None = None
     kind: str | None = None
@@ -93,12 +94,11 @@ def run(settings: Settings) -> "Counter[str]":
     folder = pathlib.Path(os.path.abspath(settings.output))
     folder.mkdir(parents=True, exist_ok=True)
     with contextlib.closing(Journal(folder)) as journal, contextlib.ExitStack() as stack:
-        units = Units(_whole(settings.describe))
-        store = Store(folder, journal, Files(folder, units, settings.events is not None), [one.file for one in flights])
+        store = Store(folder, journal, Files(folder, settings.events is not None), [one.file for one in flights])
         if settings.database:
             from .fleet_database import Database
 
-            store.database = stack.enter_context(contextlib.closing(Database(settings.database, units)))
+            store.database = stack.enter_context(contextlib.closing(Database(settings.database)))
         planned = list(_planned(settings, program, flights, folder, journal))
         with _ends_by_term():
             try:
@@ -176,13 +176,13 @@ def _whole(path: str | None) -> str | None:
 def _planned(settings: Settings, program: Program, flights: list[Listed], folder: pathlib.Path, journal: Journal) -> Iterator["Job | Row"]:
     """What is to be done of each flight, or its row where it has no table that is accepted."""
     tables = Tables(program)
-    rules, events, describe = (_whole(path) for path in (settings.rules, settings.events, settings.describe))
+    rules, events = _whole(settings.rules), _whole(settings.events)
     choices = [Choice("*", os.path.abspath(settings.table), rules)] if settings.table else choices_of(str(settings.tables), rules)
-    common = {"events": tables.sum(events), "describe": tables.sum(describe), "program": program.sha256}
+    common = {"events": tables.sum(events), "program": program.sha256}
     wanted = {"values": settings.with_values, "reports": settings.with_reports}
     for name in (name for name, is_wanted in wanted.items() if is_wanted):
         (folder / name).mkdir(exist_ok=True)
-    job = Job("", "", "", {}, None, events, describe, "", settings.kind, _whole(settings.program))
+    job = Job("", "", "", {}, None, events, settings.when, None, "", settings.kind, _whole(settings.program))
     for flight in flights:
         choice = choice_of(flight.file, choices)
         own = replace(job, file=flight.file, name=flight.name, start=flight.start, known=journal.key(flight.file))
@@ -196,5 +196,12 @@ def _planned(settings: Settings, program: Program, flights: list[Listed], folder
             continue
         values = str(folder / "values" / f"{flight.name}.h5") if settings.with_values else None
         report = str(folder / "reports" / flight.name) if settings.with_reports else None
-        sums = {**common, "table": checked.sum, "rules": tables.sum(choice.rules)}
-        yield replace(own, sums=sums, values=values, report=report)
+        described = _description(settings.describe, choice.table)
+        sums = {**common, "table": checked.sum, "rules": tables.sum(choice.rules), "describe": tables.sum(described)}
+        yield replace(own, sums=sums, describe=described, values=values, report=report)
+
+
+def _description(given: str | None, table: str) -> str | None:
+    """The description that is given, or the one beside a table where it is there."""
+    beside = description.path_beside(pathlib.Path(table))
+    return _whole(given) or (str(beside) if beside.is_file() else None)

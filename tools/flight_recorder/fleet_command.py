@@ -33,6 +33,7 @@ def add_commands(commands: Commands, command: Add) -> None:
     parser.add_argument("-o", "--output", metavar="FOLDER", required=True, help="the fleet's folder; where one is there, what hasn't changed isn't read again")
     parser.add_argument("--rules", metavar="RULES", help="rules of fdr exceed")
     parser.add_argument("--events", metavar="EVENTS", help="rules of flight events")
+    parser.add_argument("--when", metavar="CONDITION", help="where a flight of a recording is, for the events, as of flight events")
     parser.add_argument("--describe", metavar="FILE", help="units and titles; if not given, those of the .describe.csv beside each table")
     parser.add_argument("--date-in", metavar="FORMAT", help="where in a flight's path its date of start is, as %%Y%%m%%dT%%H%%M, in UTC")
     parser.add_argument("--values", action="store_true", help="write each flight's values as HDF5 into values/")
@@ -63,7 +64,7 @@ def _settings(given: argparse.Namespace) -> Settings:
     if given.listen and not re.fullmatch(r"[^:/]+(:[0-9]{1,5})?", given.listen):
         raise Fault(f"--listen {given.listen}: an address as 10.0.0.5:8786")
     place = Place(given.scheduler, given.workers, given.listen, tuple(_resource(text) for text in given.resources))
-    files = (tuple(given.flights), given.output, given.files, given.table, given.tables, given.rules, given.events, given.describe)
+    files = (tuple(given.flights), given.output, given.files, given.table, given.tables, given.rules, given.events, given.when, given.describe)
     how = (given.date_in, given.kind, given.fdr, given.database, given.values, given.reports, given.title, place)
     return Settings(*files, *how)
 
@@ -77,6 +78,8 @@ def _resource(text: str) -> tuple[str, float]:
 
 def _run_fleet(given: argparse.Namespace) -> int:
     settings = _settings(given)
+    if given.when and not given.events:
+        raise Fault("--when is for the events of --events")
     if given.events:
         _check_events()
     from . import fleet

@@ -8,10 +8,10 @@ from typing import Any, Iterator
 import sqlalchemy
 from sqlalchemy import BigInteger, Column, DateTime, Float, ForeignKey, Integer, MetaData, String, Table, Text
 
+from . import fleet_files
 from .dates import dates_of
 from .faults import Fault
-from .fleet_files import EXCEEDANCES, Units
-from .fleet_job import Row
+from .fleet_job import EVENTS, Row
 
 Values = dict[str, Any]
 NAME, PATH, SUM = String(64), String(700), String(64)
@@ -78,22 +78,32 @@ PARAMETERS = Table(
     Column("least", Float),
     Column("greatest", Float),
 )
-EVENTS = Table(
+HAPPENING = Table(
     "events",
     SCHEMA,
     _of_flight("flight", **KEY),
     Column("number", Integer, comment="in the flight, from 1 on", **KEY),
-    Column("column", NAME, primary_key=True, comment="as flight events calls it"),
-    Column("value", Text),
+    Column("what", NAME, nullable=False, comment="event, or watched for how long a rule was"),
+    Column("rule", NAME, nullable=False, index=True),
+    Column("severity", NAME),
+    Column("of_flight", Integer, comment="the flight of the recording, where a condition says where flights are"),
+    Column("recording", Integer),
+    Column("session", BigInteger),
+    Column("time", Float, comment="seconds from the recording's start"),
+    Column("utc", NAME, comment="by the clock that was recorded"),
+    Column("seconds", Float, comment="that it lasts, or that the rule was watched"),
+    Column("samples", Integer),
+    Column("peak", Float),
+    Column("peak_time", Float),
+    Column("notes", Text),
 )
-OF_FLIGHT = (EXCEEDING, PARAMETERS, EVENTS)
+OF_FLIGHT = (EXCEEDING, PARAMETERS, HAPPENING)
 
 
 class Database:
     """A database with the tables of a fleet, which are made where they aren't there."""
 
-    def __init__(self, url: str, units: Units) -> None:
-        self.units = units
+    def __init__(self, url: str) -> None:
         try:
             self.engine = sqlalchemy.create_engine(url, future=True)
             SCHEMA.create_all(self.engine)
@@ -131,7 +141,7 @@ class Database:
             for table in OF_FLIGHT:
                 connection.execute(table.delete().where(table.c.flight == flight))
             connection.execute(FLIGHTS.update().where(FLIGHTS.c.flight == flight).values(values))
-        lists = (_exceedance_values(row, self.units), _parameter_values(row, self.units), _event_values(row))
+        lists = (_exceedance_values(row), _parameter_values(row), _event_values(row))
         for table, each in zip(OF_FLIGHT, lists):
             rows = [{"flight": flight, **one} for one in each]
             if rows:
@@ -166,23 +176,26 @@ def _flight_values(row: Row) -> Values:
     return {**values, **times, "start": start, "month": f"{start:%Y-%m}" if start else None}
 
 
-def _exceedance_values(row: Row, units: Units) -> Iterator[Values]:
-    whole = ("recording", "session", "samples", "counter", "subframe", "word", "places")
+def _exceedance_values(row: Row) -> Iterator[Values]:
     for number, cells in enumerate(row["exceedances"], 1):
-        one: Values = dict(zip(EXCEEDANCES[1:], cells))
-        numbers: Values = {name: int(one[name]) if one[name] else None for name in whole}
-        times = {name: _number(one[name]) for name in ("time", "seconds", "peak")}
-        unit = units.of(row["table"], one["parameter"]).unit
-        yield {"number": number, **one, **numbers, **times, "date": _date(one["date"]), "unit": unit}
+        one: Values = dict(zip(fleet_files.EXCEEDANCES[1:], cells))
+        numbers = _numbers(one, ("recording", "session", "samples", "counter", "subframe", "word", "places"), ("time", "seconds", "peak"))
+        yield {"number": number, **one, **numbers, "date": _date(one["date"])}
 
 
-def _parameter_values(row: Row, units: Units) -> Iterator[Values]:
-    for name, samples, least, greatest in row["parameters"]:
-        said = units.of(row["table"], name)
-        yield {"name": name, "unit": said.unit, "title": said.title, "samples": samples, "least": least, "greatest": greatest}
+def _parameter_values(row: Row) -> Iterator[Values]:
+    return (dict(zip(fleet_files.PARAMETERS[1:], cells)) for cells in row["parameters"])
 
 
 def _event_values(row: Row) -> Iterator[Values]:
-    head, *events = row["events"] or [[]]
-    for number, one in enumerate(events, 1):
-        yield from ({"number": number, "column": name, "value": value} for name, value in zip(head, one))
+    for number, cells in enumerate(row["events"], 1):
+        one: Values = dict(zip(EVENTS, cells))
+        one["of_flight"] = one.pop("flight")
+        del one["event"]  # its number among the events alone
+        numbers = _numbers(one, ("of_flight", "recording", "session", "samples"), ("time", "seconds", "peak", "peak_time"))
+        yield {**one, "number": number, **numbers}
+
+
+def _numbers(cells: Values, whole: tuple[str, ...], others: tuple[str, ...]) -> Values:
+    """The numbers among some cells; an empty one is none."""
+    return {name: int(cells[name]) if cells[name] else None for name in whole} | {name: _number(cells[name]) for name in others}

@@ -22,6 +22,7 @@ from .fleet_job import DONE, FAILED, Job, Row
 
 TRIES = 2
 GLANCE = 2.0  # seconds between two looks at how many workers there are
+PATIENCE = 120.0  # seconds without any worker
 LOOPBACK = "127.0.0.1"
 TOOLS = str(pathlib.Path(__file__).resolve().parents[1])
 SECONDS_TO_CONNECT = 15
@@ -114,14 +115,23 @@ class Crew:
         self.read = _reading(TOOLS)
         self.run = uuid.uuid4().hex[:12]  # keeps this run's keys apart from those of others on the same scheduler
         self.tries: dict[str, Try] = {}
-        self.room, self.looked = 0, 0.0
+        self.room, self.looked, self.manned = 0, 0.0, time.monotonic()
 
     def has_room(self) -> bool:
         """Whether a thread of a worker is free. What waits on a worker that ends counts as what it ended by, so nothing waits there."""
-        if time.monotonic() >= self.looked + GLANCE:
-            self.looked = time.monotonic()
-            self.room = sum(self.client.nthreads().values())
+        self._look()
         return len(self.tries) < max(1, self.room)
+
+    def _look(self) -> None:
+        """Looks now and then at how many threads the workers have. Without any for long the run ends."""
+        now = time.monotonic()
+        if now < self.looked + GLANCE:
+            return
+        self.looked, self.room = now, sum(self.client.nthreads().values())
+        if self.room:
+            self.manned = now
+        elif now > self.manned + PATIENCE:
+            raise Fault(f"there was no worker for {PATIENCE:.0f} seconds; what came so far is kept")
 
     def workers(self) -> list[str]:
         """The addresses of the workers that are there."""
@@ -137,7 +147,13 @@ class Crew:
     def _rows(self, waiting: Iterator[Job]) -> Iterator[Row]:
         coming = distributed.as_completed([], loop=self.client.loop, with_results=True, raise_errors=False)
         self._fill(coming, waiting)
-        for future, answer in coming:
+        while not coming.is_empty():
+            if not coming.has_ready():
+                self._fill(coming, waiting)  # workers may have joined
+                with coming.thread_condition:
+                    coming.thread_condition.wait(timeout=0.1)
+                continue
+            future, answer = next(coming)
             one = self.tries.pop(future.key)
             row = _row_of(one, future.status, answer)
             future.release()

@@ -12,9 +12,16 @@ from . import manifest
 
 DONE, REFUSED, MISSING, FAILED = "done", "refused", "missing", "failed"
 KEPT = (DONE, REFUSED)  # what the bytes alone decide; the others are tried again by the next run
+# The columns of `flight events`, of which a table without a clock lacks one.
+EVENTS = "what,event,rule,severity,flight,recording,session,time,utc,seconds,samples,peak,peak_time,notes".split(",")
 FORM = 1  # of a row; another one makes all rows anew
 
 Row = dict[str, Any]
+
+
+def count_of_events(row: Row) -> int:
+    """How many events a row has, beside the lines that say how long each rule was watched."""
+    return sum(one[0] == "event" for one in row["events"])
 
 
 @dataclass(frozen=True)
@@ -27,6 +34,7 @@ class Job:
     sums: dict[str, str]  # of the table, the rules, the events, the description and the program
     rules: str | None = None
     events: str | None = None
+    when: str | None = None  # where a flight is, for its events
     describe: str | None = None
     start: str = ""  # the date of time 0 of the first recording
     kind: str | None = None  # image or bits; what it looks like if not given
@@ -41,7 +49,7 @@ class Job:
 
     def key(self, sum: str) -> str:
         """What the row of a flight with this sum is made of."""
-        made_of = {"flight": sum, **self.sums, "start": self.start, "kind": self.kind, "form": FORM, "tools": manifest.version()}
+        made_of = {"flight": sum, **self.sums, "start": self.start, "kind": self.kind, "when": self.when, "form": FORM, "tools": manifest.version()}
         return hashlib.sha256(json.dumps(made_of, sort_keys=True).encode()).hexdigest()
 
     def has_files(self) -> bool:

@@ -13,7 +13,7 @@ import matplotlib
 import numpy as np
 from matplotlib.figure import Figure
 
-from .fleet_job import Row
+from .fleet_job import Row, count_of_events
 from .page import PAGE, POLICY
 
 HERE = pathlib.Path(__file__).parent
@@ -49,7 +49,7 @@ class Fleet:
         self.exceedances.update((one[5], month) for one in row["exceedances"])
         report = pathlib.Path("reports", row["name"], "report.html")
         link = report.as_posix() if (self.folder / report).is_file() else ""
-        counts: list[Any] = [len(row["exceedances"]), max(0, len(row["events"]) - 1)] if summary else ["", ""]
+        counts: list[Any] = [len(row["exceedances"]), count_of_events(row)] if summary else ["", ""]
         seen = [round(hours, 3) if summary else None, *(summary.get(name) for name in ("runs", "sessions", "gaps", "doubtful")), *counts]
         times = [float(summary[name]) if summary.get(name) else None for name in ("first", "last")]
         name = pathlib.Path(row["file"]).name

@@ -12,7 +12,7 @@ from typing import Any, Iterator
 
 import numpy as np
 
-from . import beside, exceedings, hdf, manifest, outline, parts, reading, tables
+from . import beside, description, exceedings, hdf, manifest, outline, parts, reading, tables
 from .arrays import Array
 from .clock import Timed
 from .dates import Dates
@@ -95,6 +95,14 @@ class Sampled:
         return time_text(self.first), time_text(self.last)
 
 
+Units = dict[str, tuple[str, str]]  # the unit and the title of a parameter by its name
+
+
+def units_of(path: str | None) -> Units:
+    """What a description says of units and titles."""
+    return {name: (one.unit, one.title) for name, one in description.read(pathlib.Path(path)).items()} if path else {}
+
+
 @dataclass
 class Listed:
     """A listing of a flight, and what it is read by."""
@@ -105,6 +113,7 @@ class Listed:
     table: Table
     starts: Dates | None
     exceedances: list[Exceedance]
+    units: Units
 
     def parts(self) -> "Counter[str]":
         """Writes what `flight parts` does beside the listing, and counts its lines by their kinds."""
@@ -148,8 +157,22 @@ class Listed:
             store.end({**about, "flight": self.flight})
             store.store.close()
         recordings = sum(extent.begin is not None for extent in survey.extents)
-        exceedances = list(_exceedance_rows(out.getvalue(), self.starts is not None))
-        return Sampled(survey.rows, recordings, times.first, times.last, list(_parameters(self.table, survey)), exceedances)
+        exceedances = list(self._exceedance_rows(out.getvalue()))
+        return Sampled(survey.rows, recordings, times.first, times.last, list(self._parameters(survey)), exceedances)
+
+    def _exceedance_rows(self, text: bytes) -> Iterator[list[str]]:
+        """The rows of a table of exceedances, each with a date, which may be empty, and the unit of its peak."""
+        head, *rows = csv.reader(io.StringIO(text.decode()))
+        at = head.index("parameter")
+        for row in rows:
+            unit = self.units.get(row[at], ("", ""))[0]
+            yield [*(row if self.starts else [*row[:3], "", *row[3:]]), unit]
+
+    def _parameters(self, survey: Survey) -> Iterator[list[Any]]:
+        """Each parameter of the table with its unit and title, how many values it has, the least and the greatest."""
+        for name in self.table.parameters:
+            said, values = self.units.get(name, ("", "")), survey.values.get(name)
+            yield [name, *said, values.count, values.least, values.greatest] if values else [name, *said, 0, None, None]
 
 
 class Times:
@@ -172,16 +195,3 @@ class Times:
         last = int(timed.time[timed.recording == newest].max())
         self.last = last if self.last is None or newest > self.newest else max(self.last, last)
         self.newest = newest
-
-
-def _exceedance_rows(text: bytes, have_dates: bool) -> Iterator[list[str]]:
-    """The rows of a table of exceedances, each with a date, which may be empty."""
-    for row in list(csv.reader(io.StringIO(text.decode())))[1:]:
-        yield row if have_dates else [*row[:3], "", *row[3:]]
-
-
-def _parameters(table: Table, survey: Survey) -> Iterator[list[Any]]:
-    """How many values each parameter of the table has, the least and the greatest."""
-    for name in table.parameters:
-        values = survey.values.get(name)
-        yield [name, values.count, values.least, values.greatest] if values else [name, 0, None, None]

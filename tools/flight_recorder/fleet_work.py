@@ -24,8 +24,8 @@ from . import dates, images
 from .clock import WORD_BITS
 from .evidence import sum_of
 from .faults import Fault
-from .fleet_job import DONE, FAILED, MISSING, REFUSED, Job, Row
-from .fleet_summary import Listed, Summary, lines_of, sizes_of_runs
+from .fleet_job import DONE, EVENTS, FAILED, MISSING, REFUSED, Job, Row
+from .fleet_summary import Listed, Summary, lines_of, sizes_of_runs, units_of
 from .listing import SUBFRAMES, Exceedance, read_exceedances
 from .parameters import read_table
 from .running import Ran, Runner, program_at
@@ -160,7 +160,8 @@ class Flight:
     def _sum_up(self, summary: Summary, exceedances: list[Exceedance]) -> None:
         """Reads the listing with its times, beside what stands in its gaps."""
         starts = dates.dates_of([self.job.start] if self.job.start else [])
-        listed = Listed(self.job.file, self.folder / "listing.txt", self.job.table, self.table, starts, exceedances)
+        units = units_of(self.job.describe)
+        listed = Listed(self.job.file, self.folder / "listing.txt", self.job.table, self.table, starts, exceedances, units)
         counts = listed.parts()
         summary.parts, summary.doubtful = counts["part"], counts["doubtful"]
         with contextlib.ExitStack() as stack:
@@ -175,10 +176,11 @@ class Flight:
         self.lists["exceedances"], self.lists["parameters"] = list(sampled.exceedances), sampled.parameters
 
     def _events(self, rules: str) -> list[list[str]]:
-        """The rows of `flight events`, with their heads."""
+        """The rows of `flight events`: events, and how long each rule was watched."""
         words = ["events", str(self.folder / "listing.txt"), "--table", self.job.table, "--rules", rules]
-        words += self._options("describe", "start")
-        return list(csv.reader(io.StringIO(run_tool(words))))
+        words += self._options("describe", "when")
+        head, *rows = csv.reader(io.StringIO(run_tool(words)))
+        return [[dict(zip(head, row)).get(name, "") for name in EVENTS] for row in rows]
 
     def _report(self, folder: str) -> None:
         """A report of the flight, in place of the one that is there."""
