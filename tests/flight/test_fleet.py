@@ -25,7 +25,7 @@ import pytest
 import damaged_images
 import inputs
 from conftest import FLIGHT, ORDINARY, T1, TOP, Fdr, Tool, Write
-from flight_recorder import commands, fleet_list
+from flight_recorder import commands, fleet_engine, fleet_list
 from flight_recorder.faults import Fault
 
 PROGRAM = pathlib.Path(os.environ.get("FDR", TOP / "bin" / "fdr")).resolve()
@@ -43,8 +43,9 @@ def scheduler(tmp_path_factory: pytest.TempPathFactory) -> Iterator[str]:
     how: dict[str, Any] = {"host": own, "dashboard_address": f"{own}:0", "worker_dashboard_address": f"{own}:0", "extensions": {}}
     how |= {"local_directory": str(tmp_path_factory.mktemp("dask")), "silence_logs": logging.CRITICAL}
     with dask.config.set({"distributed.scheduler.allowed-failures": 1}):
-        with distributed.LocalCluster(n_workers=2, threads_per_worker=1, **how) as cluster:  # type: ignore[no-untyped-call]
-            yield cluster.scheduler_address
+        cluster = distributed.LocalCluster(n_workers=2, threads_per_worker=1, **how)  # type: ignore[no-untyped-call]
+        yield cluster.scheduler_address
+        fleet_engine.close(cluster)
 
 
 @pytest.fixture
@@ -188,8 +189,9 @@ def test_it_goes_on_where_it_was(fleet: Tool, write: Write, tmp_path: pathlib.Pa
     journal.write_bytes(kept[: begins[-2] + 100])  # cut within the last line, which is that of 2.img
     assert fleet(*words).status == 0 and len(journal.read_bytes().splitlines()) == 7
     kept = journal.read_bytes()
-    journal.write_bytes(kept[:50] + bytes([kept[50] ^ 1]) + kept[51:])
+    journal.write_bytes(kept.replace(b'"frames":20', b'"frames":28', 1))
     assert fleet(*words).status == 0 and len(journal.read_bytes().splitlines()) == 8
+    assert sorted(row["frames"] for row in rows_of(tmp_path, "flights")) == ["20", "21", "23", "24", "25", "30"]
     assert rows_of(tmp_path, "exceedances") != tables[1]
     write("rules.csv", "HIGH,ALT,above,0,1\n")
     assert fleet(*words).status == 0 and len(journal.read_bytes().splitlines()) == 14

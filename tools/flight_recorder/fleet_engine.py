@@ -25,7 +25,7 @@ GLANCE = 2.0  # seconds between two looks at how many workers there are
 PATIENCE = 120.0  # seconds without any worker
 LOOPBACK = "127.0.0.1"
 TOOLS = str(pathlib.Path(__file__).resolve().parents[1])
-SECONDS_TO_CONNECT = 15
+SECONDS_TO_CONNECT, SECONDS_TO_CLOSE = 15, 20
 GONE = "the scheduler is gone, or dropped what it was given; what came so far is kept"
 
 
@@ -74,10 +74,18 @@ def _cluster(place: Place) -> Iterator[Any]:
                 cluster = distributed.LocalCluster(n_workers=workers, threads_per_worker=1, processes=True, local_directory=room, **how)
             except (OSError, RuntimeError) as error:
                 raise Fault(f"--listen {place.listen or host}: {str(error).splitlines()[0]}") from None
-        with cluster:
+        try:
             if place.listen:
                 print(f"flight: the scheduler is {cluster.scheduler_address}", file=sys.stderr)
             yield cluster
+        finally:
+            close(cluster)
+
+
+def close(cluster: Any) -> None:
+    """Ends a cluster of this machine. One that doesn't end in time ends with this process, on which its workers look."""
+    with contextlib.suppress(TimeoutError):
+        cluster.close(timeout=SECONDS_TO_CLOSE)
 
 
 def _reading(tools: str) -> Callable[[Row], Row]:
