@@ -6,7 +6,7 @@ PROGRAM = crates/fdr_prog
 PAIR_PROGRAM = crates/fdr_pair_prog
 SOURCES = crates.txt $(shell find crates -name out -prune -o -type f \( -name '*.rt' -o -name '*.antt' \) -print)
 
-.PHONY: build demo check walk compare laws streams crash-test live-test power-test check-real check-memory fail-io calls count verify bench tools-test drawn-dumps undamaged test install stage install-tools dist dist-test clean help
+.PHONY: build demo check walk compare laws streams crash-test live-test power-test fleet-test check-real check-memory fail-io calls count verify bench tools-test drawn-dumps undamaged test install stage install-tools dist dist-test clean help
 
 # Proves both programs and everything below them, and puts them at bin/fdr and bin/fdrpair.
 # After `make test` they are there already.
@@ -72,6 +72,10 @@ live-test: build
 # Cuts the power below real file systems while the built programs record, and looks at what the images hold then, as root.
 power-test: build
 	tests/power.py bin/fdr bin/fdrpair
+
+# Reads fleets of many tiny flights by the built program, and kills workers, clients and schedulers: five minutes.
+fleet-test: build
+	tests/fleet.py bin/fdr
 
 # Runs the built programs on real files, devices and streams, and on what goes wrong with them.
 check-real: build

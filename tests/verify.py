@@ -70,6 +70,7 @@ def parts(fdr: str, pair: str) -> Iterator[Part]:
     yield Part("`make check-real`, two disks", ["tests/pair.py", pair, fdr, "--cases"], r"^(\d+ cases, .*|\d+ skipped)$", ("strace",))
     yield Part("`make check-memory`", ["tests/memory.py", fdr, pair], r"^([\d,]+ runs, .*)$", ("cc",))
     yield Part("`make fail-io`", ["tests/fail_io.py", fdr, pair], r"^([\d,]+ runs\b.*)$", ("cc",))
+    yield Part("`make fleet-test`", ["tests/fleet.py", fdr], r"^(\d+ cases of fleets): ")
     yield Part("`make drawn-dumps`", ["tests/drawn_dumps.py"], r"^(\d+ dumps and .* wrong)")
     yield Part("`make undamaged`", ["tests/flight/undamaged.py", "1000000"], r"^(\d+ undamaged frames) in .*marked$")
     yield Part("`make demo`", ["make", "demo"], r"^(cases=\d+ .*no-answer=\d+)", ("rt",))

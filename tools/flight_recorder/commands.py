@@ -7,7 +7,7 @@ import pathlib
 import sys
 from typing import TYPE_CHECKING, BinaryIO, Callable
 
-from . import event_commands, readout, report_command, tabling
+from . import event_commands, fleet_command, readout, report_command, tabling
 from .faults import Fault, MissingPackage
 from .streams import Again, drop_output, emptied, opened, opened_again, output, standard_output, whole_file
 
@@ -51,7 +51,13 @@ def _parser() -> argparse.ArgumentParser:
     tabling.add_commands(commands, _command)
     report_command.add_commands(commands, _command)
     event_commands.add_commands(commands, _command)
+    fleet_command.add_commands(commands, _command)
     return parser
+
+
+def has_command(name: str) -> bool:
+    """Whether there is a command of this name."""
+    return any(isinstance(one.choices, dict) and name in one.choices for one in _parser()._actions)
 
 
 def _command(

@@ -1,0 +1,205 @@
+"""The engine of a fleet, which is dask.distributed: a cluster of this machine or one that is there, and its answers as they come."""
+
+from __future__ import annotations
+
+import contextlib
+import logging
+import os
+import pathlib
+import sys
+import tempfile
+import time
+import uuid
+from concurrent.futures import CancelledError
+from dataclasses import dataclass, replace
+from typing import Any, Callable, Iterable, Iterator
+
+import dask
+import distributed
+
+from .faults import Fault
+from .fleet_job import DONE, FAILED, Job, Row
+
+TRIES = 2
+GLANCE = 2.0  # seconds between two looks at how many workers there are
+PATIENCE = 120.0  # seconds without any worker
+LOOPBACK = "127.0.0.1"
+TOOLS = str(pathlib.Path(__file__).resolve().parents[1])
+SECONDS_TO_CONNECT, SECONDS_TO_CLOSE = 15, 20
+GONE = "the scheduler is gone, or dropped what it was given; what came so far is kept"
+
+
+@dataclass(frozen=True)
+class Place:
+    """Where the flights are read: by a scheduler that is there, or by so many processes of this machine, whose scheduler listens
+    at an address; and what of a worker's resources a flight takes."""
+
+    scheduler: str | None = None
+    workers: int | None = None
+    listen: str | None = None
+    resources: tuple[tuple[str, float], ...] = ()
+
+
+@contextlib.contextmanager
+def crew(place: Place) -> Iterator["Crew"]:
+    """Workers, for as long as they are needed."""
+    with contextlib.ExitStack() as stack:
+        address: Any = place.scheduler or stack.enter_context(_cluster(place))
+        _hush()
+        try:
+            client = distributed.Client(address, timeout=SECONDS_TO_CONNECT, set_as_default=False)
+        except (OSError, ValueError, TimeoutError) as error:
+            raise Fault(f"--scheduler {place.scheduler}: {str(error).splitlines()[0]}") from None
+        stack.callback(client.close)
+        yield Crew(client, dict(place.resources))
+
+
+def _hush() -> None:
+    """The engine's own log is left out: what goes wrong is told by the rows."""
+    for name in [name for name in logging.root.manager.loggerDict if name.split(".")[0] == "distributed"]:
+        logging.getLogger(name).setLevel(logging.CRITICAL)
+
+
+@contextlib.contextmanager
+def _cluster(place: Place) -> Iterator[Any]:
+    """A cluster of this machine. All that it opens, its pages for people too, is on the address."""
+    host, _, port = (place.listen or LOOPBACK).partition(":")
+    how: dict[str, Any] = {"host": host, "scheduler_port": int(port or 0), "extensions": {}}
+    how |= {"dashboard_address": f"{host}:0", "worker_dashboard_address": f"{host}:0", "silence_logs": logging.CRITICAL}
+    workers = place.workers or len(os.sched_getaffinity(0))
+    with tempfile.TemporaryDirectory(prefix="flight-fleet-", ignore_cleanup_errors=True) as room:
+        # A flight whose worker ended is given to another one, and once only.
+        with dask.config.set({"distributed.scheduler.allowed-failures": TRIES - 1}):
+            try:
+                cluster = distributed.LocalCluster(n_workers=workers, threads_per_worker=1, processes=True, local_directory=room, **how)
+            except (OSError, RuntimeError) as error:
+                raise Fault(f"--listen {place.listen or host}: {str(error).splitlines()[0]}") from None
+        try:
+            if place.listen:
+                print(f"flight: the scheduler is {cluster.scheduler_address}", file=sys.stderr)
+            yield cluster
+        finally:
+            close(cluster)
+
+
+def close(cluster: Any) -> None:
+    """Ends a cluster of this machine. One that doesn't end in time ends with this process, on which its workers look."""
+    with contextlib.suppress(TimeoutError):
+        cluster.close(timeout=SECONDS_TO_CLOSE)
+
+
+def _reading(tools: str) -> Callable[[Row], Row]:
+    """What a worker runs. It is a function within another one, so that the engine sends it as it is: a worker that was started
+    elsewhere doesn't know where the tools are before it runs."""
+
+    def read(job: Row) -> Row:
+        import sys
+
+        from distributed import get_worker
+
+        if tools not in sys.path:
+            sys.path.insert(0, tools)
+        from flight_recorder import fleet_work
+
+        worker = get_worker()
+        return {**fleet_work.read(job, worker.local_directory), "worker": worker.address}
+
+    return read
+
+
+@dataclass(frozen=True)
+class Try:
+    """A flight that the engine has, and which time it is."""
+
+    job: Job
+    number: int
+
+
+class Crew:
+    """The workers of a cluster, by its client."""
+
+    def __init__(self, client: Any, resources: dict[str, float]) -> None:
+        self.client, self.resources = client, resources
+        self.read = _reading(TOOLS)
+        self.run = uuid.uuid4().hex[:12]  # keeps this run's keys apart from those of others on the same scheduler
+        self.tries: dict[str, Try] = {}
+        self.room, self.looked, self.manned = 0, 0.0, time.monotonic()
+
+    def has_room(self) -> bool:
+        """Whether a thread of a worker is free. What waits on a worker that ends counts as what it ended by, so nothing waits there."""
+        self._look()
+        return len(self.tries) < max(1, self.room)
+
+    def _look(self) -> None:
+        """Looks now and then at how many threads the workers have. Without any for long the run ends."""
+        now = time.monotonic()
+        if now < self.looked + GLANCE:
+            return
+        self.looked, self.room = now, sum(self.client.nthreads().values())
+        if self.room:
+            self.manned = now
+        elif now > self.manned + PATIENCE:
+            raise Fault(f"there was no worker for {PATIENCE:.0f} seconds; what came so far is kept")
+
+    def workers(self) -> list[str]:
+        """The addresses of the workers that are there."""
+        return list(self.client.scheduler_info()["workers"])
+
+    def rows(self, jobs: Iterable[Job]) -> Iterator[Row]:
+        """The rows of flights, as they come. What isn't done is tried once more, by another worker where there is one."""
+        try:
+            yield from self._rows(iter(jobs))
+        except (OSError, CancelledError) as error:
+            raise Fault(f"{GONE} ({str(error) or type(error).__name__})") from None
+
+    def _rows(self, waiting: Iterator[Job]) -> Iterator[Row]:
+        coming = distributed.as_completed([], loop=self.client.loop, with_results=True, raise_errors=False)
+        self._fill(coming, waiting)
+        while not coming.is_empty():
+            if not coming.has_ready():
+                self._fill(coming, waiting)  # workers may have joined
+                with coming.thread_condition:
+                    coming.thread_condition.wait(timeout=0.1)
+                continue
+            future, answer = next(coming)
+            one = self.tries.pop(future.key)
+            row = _row_of(one, future.status, answer)
+            future.release()
+            again = self._again(one, row)
+            if again is not None:
+                coming.add(again)
+                continue
+            self._fill(coming, waiting)
+            yield {**row, "tries": row.get("is_lost") or one.number}
+
+    def _fill(self, coming: Any, waiting: Iterator[Job]) -> None:
+        """Gives flights to the threads that are free."""
+        while self.has_room() and (job := next(waiting, None)) is not None:
+            coming.add(self._submit(Try(job, 1)))
+
+    def _submit(self, one: Try, workers: list[str] | None = None) -> Any:
+        key = f"flight-{self.run}-{one.job.name}-{one.number}"
+        self.tries[key] = one
+        how = {"workers": workers, "allow_other_workers": bool(workers), "resources": self.resources or None}
+        return self.client.submit(self.read, one.job.as_data(), key=key, pure=False, **how)
+
+    def _again(self, one: Try, row: Row) -> Any:
+        """The second try of a flight that wasn't done; one whose worker ended had it already."""
+        if row["status"] == DONE or row.get("same") or one.number == TRIES or row.get("is_lost"):
+            return None
+        others = [address for address in self.workers() if address != row.get("worker")]
+        return self._submit(replace(one, number=one.number + 1), others or None)
+
+
+def _row_of(one: Try, status: str, answer: Any) -> Row:
+    """The row of a flight, also where its worker didn't answer one."""
+    if status == "finished":
+        row: Row = answer
+        return row
+    if status != "error" or isinstance(answer, CancelledError):
+        raise Fault(GONE)
+    error = answer[1] if isinstance(answer, tuple) else answer
+    if isinstance(error, distributed.scheduler.KilledWorker):
+        times = error.allowed_failures + 1
+        return one.job.row(FAILED, f"its worker ended while it was read, {times} times, on {error.last_worker.address} last", is_lost=times)
+    return one.job.row(FAILED, f"{type(error).__name__}: {error}")
