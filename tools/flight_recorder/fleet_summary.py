@@ -98,9 +98,10 @@ class Sampled:
 Units = dict[str, tuple[str, str]]  # the unit and the title of a parameter by its name
 
 
-def units_of(path: str | None) -> Units:
+def units_of(path: str | None, table: Table) -> Units:
     """What a description says of units and titles."""
-    return {name: (one.unit, one.title) for name, one in description.read(pathlib.Path(path)).items()} if path else {}
+    described = description.read(pathlib.Path(path), table).parameters if path else {}
+    return {name: (one.unit, one.title) for name, one in described.items()}
 
 
 @dataclass

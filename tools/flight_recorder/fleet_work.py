@@ -160,7 +160,7 @@ class Flight:
     def _sum_up(self, summary: Summary, exceedances: list[Exceedance]) -> None:
         """Reads the listing with its times, beside what stands in its gaps."""
         starts = dates.dates_of([self.job.start] if self.job.start else [])
-        units = units_of(self.job.describe)
+        units = units_of(self.job.describe, self.table)
         listed = Listed(self.job.file, self.folder / "listing.txt", self.job.table, self.table, starts, exceedances, units)
         counts = listed.parts()
         summary.parts, summary.doubtful = counts["part"], counts["doubtful"]
