@@ -12,7 +12,6 @@ pub mod Texts
 mod Bounded
 pub mod Tabled
 pub mod Filling
-pub mod Fours
 pub mod Gathered
 pub mod Paired
 pub mod Turns

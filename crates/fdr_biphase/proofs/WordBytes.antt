@@ -35,13 +35,6 @@ pub eight_elements : (xs : List ℕ) → length xs ≡ 8
     → xs ≡ get_or xs 0 0 ∷ get_or xs 1 0 ∷ get_or xs 2 0 ∷ get_or xs 3 0 ∷ get_or xs 4 0 ∷ get_or xs 5 0 ∷ get_or xs 6 0 ∷ get_or xs 7 0 ∷ []
 eight_elements xs eight = sym (take_all 8 xs (omega arith)) ∙ eight_taken xs 0 (omega arith)
 
-pub four_elements : (xs : List ℕ) → length xs ≡ 4 → xs ≡ get_or xs 0 0 ∷ get_or xs 1 0 ∷ get_or xs 2 0 ∷ get_or xs 3 0 ∷ []
-four_elements xs four =
-    sym (take_all 4 xs (omega arith)) ∙ taken_more xs 0 1 3 refl (omega arith)
-    ∙ ap (λ (ys : List ℕ). get_or xs 0 0 ∷ ys) (taken_more xs 1 2 2 refl (omega arith)
-    ∙ ap (λ (ys : List ℕ). get_or xs 1 0 ∷ ys) (taken_more xs 2 3 1 refl (omega arith)
-    ∙ ap (λ (ys : List ℕ). get_or xs 2 0 ∷ ys) (taken_more xs 3 4 0 refl (omega arith))))
-
 packed_byte : (b : ℕ) → b < 256 → packed_bits (byte_bits b) ≡ b
 unfolding word_bits
 packed_byte b small = let e : b % 2 ^ 8 ≡ b = omega arith in packed_word b 8 ∙ e

@@ -1,6 +1,6 @@
 //! The encoder.
 
-ghost use Rattle.std.specs.Prelude.{◌≡◌, ◌≤◌, ◌+◌, ◌*◌, ◌++◌, ◌∷◌, [], ℕ, Bool, List, true, false, length, take, drop};
+ghost use Rattle.std.specs.Prelude.{◌≡◌, ◌≤◌, ◌*◌, ◌++◌, ◌∷◌, [], ℕ, Bool, List, length, take};
 ghost use Rattle.fdr_biphase.specs.Cells.{bits_of_bytes, cells_of};
 ghost use Rattle.fdr_biphase.specs.Packed.{encoded_bytes};
 ghost use Rattle.fdr_biphase.specs.Past.{RepresentsEncoder};
@@ -71,66 +71,10 @@ impl Encoder {
             → RepresentsEncoder self.new first (before ++ bytes.now) }
         ensures length { length room.new ≡ length room.old }
     {
-        let mut at = 0;
-        while at < bytes.len() {
-            if self.four(bytes, at, room) {
-                at += 4;
-                continue;
-            }
-            let cells = self.byte(bytes[at]);
-            room[2 * at] = cells[0];
-            room[2 * at + 1] = cells[1];
-            at += 1;
+        for i in 0..bytes.len() {
+            let cells = self.byte(bytes[i]);
+            room[2 * i] = cells[0];
+            room[2 * i + 1] = cells[1];
         }
-    }
-
-    /// Puts the cells of the four bytes from byte `at` on at their place. Where the bytes are fewer, it puts none and answers
-    /// false.
-    #[inline(always)]
-    fn four(&mut self, bytes: &[u8], at: usize, room: &mut [u8]) -> bool
-        requires within { at ≤ length bytes.now }
-        requires room { 2 * length bytes.now ≤ length room.old }
-        ensures packed { (first : Bool) (before front : List ℕ) → RepresentsEncoder self.old first before
-            → encoded_bytes first before ≡ front ++ take (2 * at) room.old → result ≡ true
-            → encoded_bytes first (before ++ take 4 (drop at bytes.now)) ≡ front ++ take (2 * at + 8) room.new }
-        ensures stands { (first : Bool) (before : List ℕ) → RepresentsEncoder self.old first before → result ≡ true
-            → RepresentsEncoder self.new first (before ++ take 4 (drop at bytes.now)) }
-        ensures within { result ≡ true → at + 4 ≤ length bytes.now }
-        ensures left { result ≡ false → self.new ≡ self.old }
-        ensures kept { result ≡ false → room.new ≡ room.old }
-        ensures length { length room.new ≡ length room.old }
-    {
-        let Some((four, _)) = bytes[at..].split_first_chunk::<4>() else {
-            return false;
-        };
-        let cells = self.cells_of_four(*four);
-        put_eight(&mut room[2 * at..], cells);
-        true
-    }
-
-    /// The cells of four bytes.
-    #[inline(always)]
-    fn cells_of_four(&mut self, four: [u8; 4]) -> [u8; 8]
-        ensures packed { (first : Bool) (before : List ℕ) → RepresentsEncoder self.old first before
-            → encoded_bytes first (before ++ four) ≡ encoded_bytes first before ++ result }
-        ensures stands { (first : Bool) (before : List ℕ) → RepresentsEncoder self.old first before
-            → RepresentsEncoder self.new first (before ++ four) }
-    {
-        let a = self.byte(four[0]);
-        let b = self.byte(four[1]);
-        let c = self.byte(four[2]);
-        let d = self.byte(four[3]);
-        [a[0], a[1], b[0], b[1], c[0], c[1], d[0], d[1]]
-    }
-}
-
-/// Puts eight bytes at the front of a room for them.
-#[inline(always)]
-fn put_eight(room: &mut [u8], eight: [u8; 8])
-    requires { 8 ≤ length room.old }
-    ensures { room.new ≡ eight ++ drop 8 room.old }
-{
-    if let Some(front) = room.first_chunk_mut::<8>() {
-        *front = eight;
     }
 }
