@@ -1,4 +1,4 @@
-use Rattle.std.proofs.Common.{◌≡◌, ◌-◌, ◌/◌, ◌^◌, ℕ, Bool, true, false, get_or, sym, ap, ◌∙◌, refl, subst, eqb}
+use Rattle.std.proofs.Common.{◌≡◌, ◌-◌, ◌/◌, ◌^◌, ℕ, Bool, get_or, sym, ap, ◌∙◌, refl, subst, eqb}
 use Rattle.fdr_biphase.specs.declared.encoder.TheConstants.{CELLS}
 use Rattle.fdr_biphase.proofs.Encoding.{byte_cells, byte_end, cells_of_more, level_after_more}
 use Rattle.fdr_biphase.proofs.Packing.{encoded_more}
