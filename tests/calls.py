@@ -90,6 +90,8 @@ def told(call: str, arguments: list[str], room: str) -> str | None:
     if call in ("write", "pwrite64"):
         text = f" {arguments[1]}" if subject == STREAMS["2"] else ""
         return f"write {subject}: {size_and_place(arguments)}{text}"
+    if call == "ioctl":
+        return f"ask {subject} for {arguments[1]}"  # the third argument is an address, which differs from run to run
     return " ".join([call, subject, *arguments[1:]])
 
 
