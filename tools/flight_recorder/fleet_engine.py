@@ -56,7 +56,8 @@ def crew(place: Place) -> Iterator["Crew"]:
 
 def _hush() -> None:
     """The engine's own log is left out: what goes wrong is told by the rows."""
-    for name in [name for name in logging.root.manager.loggerDict if name.split(".")[0] == "distributed"]:
+    engine = [name for name in logging.root.manager.loggerDict if name.split(".")[0] == "distributed"]
+    for name in (*engine, "asyncio"):  # the engine logs some errors of its tasks in the name of the loop that runs them
         logging.getLogger(name).setLevel(logging.CRITICAL)
 
 
