@@ -69,7 +69,7 @@ crash-test: build
 live-test: build
 	tests/live_kills.py bin/fdr bin/fdrpair
 
-# Cuts the power below real file systems while the built programs record, and looks at what the images hold then, as root.
+# Cuts the power below real file systems while the built programs record, and looks at what the images hold then, as root: three minutes.
 power-test: build
 	tests/power.py bin/fdr bin/fdrpair
 
