@@ -4,7 +4,7 @@ use Rattle.std.proofs.Common.{drop, set, Option, Some, None, arith, length-appen
 use Rattle.std.specs.Prelude.{ℤ, if◌then◌else◌, slice_index, OnOk}
 use Rattle.std.specs.declared.result.Result.{Result}
 use Rattle.std.specs.declared.result.Result.TheVariants.{Ok, Err}
-use Rattle.std.proofs.lemmas.Bool.{cases_lt, cond-true, cond-false}
+use Rattle.std.proofs.lemmas.Bool.{cases_lt}
 use Rattle.std.proofs.lemmas.Bool.Decides.{nat_tests}
 use Rattle.std.proofs.lemmas.List.{drop-append-le, drop-drop, get_or_append_left}
 use Rattle.std.proofs.Math.Seq.{drop-nil, get_or-append_seam}
@@ -14,9 +14,9 @@ use Rattle.fdr_exceed.specs.declared.rule.Rule.{Rule}
 use Rattle.fdr_exceed.specs.declared.rule.RuleKind.{RuleKind}
 use Rattle.fdr_exceed.specs.declared.rule.RuleKind.TheVariants as kind
 use Rattle.fdr_exceed.specs.Exceedances.{WatchStep, RowStep, ResetStep, compared, rows_since, values_of}
-use Rattle.fdr_exceed.specs.Watching.{AreSources, AreWindows, HasWindow, HaveWindows, IsNextOf, cleared, pushed, rule_at, window_at}
+use Rattle.fdr_exceed.specs.Watching.{AreSources, AreWindows, HasWindow, HaveWindows, IsNextOf, cleared, pushed, rule_at, window_at, windows_given}
 use Rattle.fdr_exceed.proofs.HitLists.{values-push}
-use Rattle.fdr_exceed.proofs.Stepping.{rows-own, rows_since-push}
+use Rattle.fdr_exceed.proofs.Stepping.{rows-other, rows-own, rows_since-push}
 
 -- the last values of those that were kept, with one more
 kept_more : (n : ℕ) (xs : List ℤ) (v : ℤ) → keep_last n (keep_last n xs ++ v ∷ []) ≡ keep_last n (xs ++ v ∷ [])
@@ -37,25 +37,14 @@ window_more kind.Change count None values v has = has
 window_more kind.Change count (Some w) values v has =
     (has.0, ap (λ n. keep_last n (w.items ++ v ∷ [])) has.0 ∙ ap (λ (xs : List ℤ). keep_last count (xs ++ v ∷ [])) has.1 ∙ kept_more count values v)
 
-window_goes : (k : RuleKind) (count : ℕ) (b : Bool) (w : Option (Buffer ℤ)) (rows : List Row) (r : Row) → HasWindow k count w (values_of rows)
-    → HasWindow k count (if b then pushed r.value w else w) (values_of (if b then rows ++ r ∷ [] else rows))
-window_goes k count true w rows r has =
-    subst (HasWindow k count (pushed r.value w)) (sym (values-push rows r)) (window_more k count w (values_of rows) r.value has)
-window_goes k count false w rows r has = has
+not_own : (a b : ℕ) → a ≡ b → (a == b) ≡ false → ⊥
+not_own a b same isnt = absurd (grind (arith, nat_tests, same, isnt))
 
--- a row that was given to the windows of its parameter
-pub windows-row : (rules : List Rule) (sources : List ℕ) (steps : List WatchStep) (r : Row) (old new : List (Option (Buffer ℤ))) → AreSources rules sources
-    → ((j : ℕ) → j < length rules → window_at new j ≡ (if r.param == (rule_at rules j).param then pushed r.value (window_at old j) else window_at old j))
-    → AreWindows rules sources steps old → AreWindows rules sources (steps ++ RowStep r ∷ []) new
-windows-row rules sources steps r old new are each had k within =
-    let rule = rule_at rules k in
-    let j = slice_index sources k in
-    let is : window_at new j ≡ (if r.param == rule.param then pushed r.value (window_at old j) else window_at old j) =
-    each j (are.within k within) ∙ ap (λ p. if r.param == p then pushed r.value (window_at old j) else window_at old j) (are.same k within) in
-    subst (λ (o : Option (Buffer ℤ)). HasWindow rule.kind rule.count o (values_of (rows_since rule (steps ++ RowStep r ∷ [])))) (sym is)
-    (subst (λ (rows : List Row). HasWindow rule.kind rule.count (if r.param == rule.param then pushed r.value (window_at old j) else window_at old j)
-    (values_of rows)) (sym (rows_since-push rule steps (RowStep r)))
-    (window_goes rule.kind rule.count (r.param == rule.param) (window_at old j) (rows_since rule steps) r (had k within)))
+above_no_change : kind.Above ≡ kind.Change → ⊥
+above_no_change e = absurd (cc)
+
+below_no_change : kind.Below ≡ kind.Change → ⊥
+below_no_change e = absurd (cc)
 
 window_less : (k : RuleKind) (count : ℕ) (w : Option (Buffer ℤ)) (values : List ℤ) → HasWindow k count w values → HasWindow k count (cleared w) []
 window_less kind.Above count w values has = tt
@@ -70,23 +59,12 @@ pub windows-reset : (rules : List Rule) (sources : List ℕ) (steps : List Watch
 windows-reset rules sources steps old new are count each had k within =
     let rule = rule_at rules k in
     let j = slice_index sources k in
-    let inside : j < length old = omega (arith, are.within k within, count) in
+    let inside : j < length old = omega (arith, within, are.within k within, count) in
     subst (λ (o : Option (Buffer ℤ)). HasWindow rule.kind rule.count o (values_of (rows_since rule (steps ++ ResetStep ∷ [])))) (sym (each j inside))
     (subst (λ (rows : List Row). HasWindow rule.kind rule.count (cleared (window_at old j)) (values_of rows)) (sym (rows_since-push rule steps ResetStep))
     (window_less rule.kind rule.count (window_at old j) (values_of (rows_since rule steps)) (had k within)))
 
--- and where the rules and the windows are behind references
-pub windows-row-at : (rules rs : List Rule) (sources : List ℕ) (steps : List WatchStep) (r : Row) (old olds new : List (Option (Buffer ℤ)))
-    → AreSources rules sources → rs ≡ rules → olds ≡ old
-    → ((j : ℕ) → j < length rs → window_at new j ≡ (if r.param == (rule_at rs j).param then pushed r.value (window_at olds j) else window_at olds j))
-    → AreWindows rules sources steps old → AreWindows rules sources (steps ++ RowStep r ∷ []) new
-windows-row-at rules rs sources steps r old olds new are rs_is olds_is each =
-    windows-row rules sources steps r old new are
-    (subst (λ (q : List Rule). (j : ℕ) → j < length q
-    → window_at new j ≡ (if r.param == (rule_at q j).param then pushed r.value (window_at old j) else window_at old j)) rs_is
-    (subst (λ (ws : List (Option (Buffer ℤ))). (j : ℕ) → j < length rs
-    → window_at new j ≡ (if r.param == (rule_at rs j).param then pushed r.value (window_at ws j) else window_at ws j)) olds_is each))
-
+-- and where the windows are behind a reference
 pub windows-reset-at : (rules : List Rule) (sources : List ℕ) (steps : List WatchStep) (old olds new : List (Option (Buffer ℤ))) → AreSources rules sources
     → length old ≡ length rules → olds ≡ old → ((j : ℕ) → j < length olds → window_at new j ≡ cleared (window_at olds j))
     → AreWindows rules sources steps old → AreWindows rules sources (steps ++ ResetStep ∷ []) new
@@ -101,65 +79,151 @@ windows-behind rules rs sources ss steps windows ws rs_is ss_is ws_is are =
     subst (λ (q : List Rule). AreWindows q ss steps ws) (sym rs_is)
     (subst (λ (q : List ℕ). AreWindows rules q steps ws) (sym ss_is) (subst (AreWindows rules sources steps) (sym ws_is) are))
 
--- what rule i compares at a row of its parameter that its window has
-pub compared-own : (rules : List Rule) (sources : List ℕ) (windows : List (Option (Buffer ℤ))) (steps : List WatchStep) (r : Row) (i : ℕ) (x : Option ℤ)
-    (w : Option (Buffer ℤ)) (q : Rule) (v : ℤ) → AreWindows rules sources (steps ++ RowStep r ∷ []) windows → i < length rules
-    → (rule_at rules i).param ≡ r.param → q ≡ rule_at rules i → w ≡ window_at windows (slice_index sources i) → v ≡ r.value
-    → ((values : List ℤ) → HasWindow q.kind q.count w (values ++ v ∷ []) → x ≡ compared q.kind q.count (values ++ v ∷ []))
-    → x ≡ compared (rule_at rules i).kind (rule_at rules i).count (values_of (rows_since (rule_at rules i) steps ++ r ∷ []))
-compared-own rules sources windows steps r i x w q v are within own q_is w_is v_is gives =
-    let rule = rule_at rules i in
-    let rows = rows_since rule steps in
-    let values : values_of (rows_since rule (steps ++ RowStep r ∷ [])) ≡ values_of rows ++ v ∷ [] =
-    ap values_of (rows-own rule steps r own) ∙ values-push rows r ∙ ap (λ (y : ℤ). values_of rows ++ y ∷ []) (sym v_is) in
-    let has : HasWindow q.kind q.count w (values_of rows ++ v ∷ []) =
-    subst (λ (p : Rule). HasWindow p.kind p.count w (values_of rows ++ v ∷ [])) (sym q_is)
-    (subst (λ (o : Option (Buffer ℤ)). HasWindow rule.kind rule.count o (values_of rows ++ v ∷ [])) (sym w_is)
-    (subst (HasWindow rule.kind rule.count (window_at windows (slice_index sources i))) values (are i within))) in
-    gives (values_of rows) has ∙ ap (λ (p : Rule). compared p.kind p.count (values_of rows ++ v ∷ [])) q_is
-    ∙ ap (λ (y : ℤ). compared rule.kind rule.count (values_of rows ++ y ∷ [])) v_is ∙ ap (compared rule.kind rule.count) (sym (values-push rows r))
+pub windows-ahead : (rules rs : List Rule) (sources ss : List ℕ) (steps : List WatchStep) (windows : List (Option (Buffer ℤ))) → rs ≡ rules → ss ≡ sources
+    → AreWindows rs ss steps windows → AreWindows rules sources steps windows
+windows-ahead rules rs sources ss steps windows rs_is ss_is are =
+    subst (λ (q : List Rule). AreWindows q sources steps windows) rs_is (subst (λ (q : List ℕ). AreWindows rs q steps windows) ss_is are)
 
--- ---- a row given to the windows one after another
+-- ---- a row given to the rules of its parameter one after another
 
--- The windows of the first n rules were given the row, where it is one of theirs.
-pub record ArePushed (rules : List Rule) (r : Row) (n : ℕ) (first now : List (Option (Buffer ℤ))) : Type 0 where
-  pub done : (j : ℕ) → j < n
-      → window_at now j ≡ (if r.param == (rule_at rules j).param then pushed r.value (window_at first j) else window_at first j)
+-- The windows of those of the first n rules that have one of their own took the row, where it is one of theirs.
+pub record ArePushed (rules : List Rule) (sources : List ℕ) (r : Row) (n : ℕ) (first now : List (Option (Buffer ℤ))) : Type 0 where
+  pub done : (j : ℕ) → j < n → (rule_at rules j).kind ≡ kind.Change → slice_index sources j ≡ j → (rule_at rules j).param ≡ r.param
+      → window_at now j ≡ pushed r.value (window_at first j)
+  pub other : (j : ℕ) → (rule_at rules j).param ≢ r.param → window_at now j ≡ window_at first j
   pub rest : (j : ℕ) → n ≤ j → window_at now j ≡ window_at first j
 
-own_param : (a b : ℕ) → a ≡ b → (a == b) ≡ true
-own_param a b same = grind (arith, nat_tests)
+pub none-pushed : (rules : List Rule) (sources : List ℕ) (r : Row) (first : List (Option (Buffer ℤ))) → ArePushed rules sources r 0 first first
+none-pushed rules sources r first = record { done = λ j low k own p. absurd (omega arith); other = λ j p. refl; rest = λ j low. refl }
 
-no_param : (a b : ℕ) → b ≢ a → (a == b) ≡ false
-no_param a b other = grind (arith, nat_tests)
-
-pub none-pushed : (rules : List Rule) (r : Row) (first : List (Option (Buffer ℤ))) → ArePushed rules r 0 first first
-none-pushed rules r first = record { done = λ j low. absurd (omega arith); rest = λ j low. refl }
-
-pub one-pushed : (rules : List Rule) (r : Row) (i : ℕ) (first now : List (Option (Buffer ℤ))) (w : Option (Buffer ℤ)) → ArePushed rules r i first now
-    → i < length now → (rule_at rules i).param ≡ r.param → w ≡ pushed r.value (window_at now i) → ArePushed rules r (i + 1) first (set now i w)
-one-pushed rules r i first now w had within own is = record {
-  done = λ j low. ⊎_elim
-      (λ before. get_or-set_other now i j w None (omega arith) ∙ had.done j before)
+-- the windows stay as they are
+same_pushed : (rules : List Rule) (sources : List ℕ) (r : Row) (i : ℕ) (first now : List (Option (Buffer ℤ))) → ArePushed rules sources r i first now
+    → ((rule_at rules i).kind ≡ kind.Change → slice_index sources i ≡ i → ⊥) → ArePushed rules sources r (i + 1) first now
+same_pushed rules sources r i first now had none = record {
+  done = λ j low k own p. ⊎_elim
+      (λ before. had.done j before k own p)
       (λ here. let same : j ≡ i = omega arith in
-      ap (window_at (set now i w)) same ∙ get_or-set_same now i w None within ∙ is ∙ ap (pushed r.value) (had.rest i (omega arith))
-      ∙ sym (cond-true _ (pushed r.value (window_at first i)) (window_at first i) (own_param r.param (rule_at rules i).param (sym own)))
-      ∙ ap (λ k. if r.param == (rule_at rules k).param then pushed r.value (window_at first k) else window_at first k) (sym same))
+      absurd (none (ap (λ m. (rule_at rules m).kind) (sym same) ∙ k) (ap (slice_index sources) (sym same) ∙ own ∙ same)))
       (cases_lt j i);
-  rest = λ j low. get_or-set_other now i j w None (omega arith) ∙ had.rest j (omega arith);
+  other = had.other;
+  rest = λ j low. had.rest j (omega arith);
 }
 
-pub others-pushed : (rules : List Rule) (r : Row) (n m param : ℕ) (first now : List (Option (Buffer ℤ))) → ArePushed rules r n first now
-    → IsNextOf rules n param m → param ≡ r.param → ArePushed rules r m first now
-others-pushed rules r n m param first now had next same = record {
-  done = λ j low. ⊎_elim
-      (λ before. had.done j before)
-      (λ past. had.rest j past
-      ∙ sym (cond-false _ (pushed r.value (window_at first j)) (window_at first j)
-      (no_param r.param (rule_at rules j).param (λ e. next.none j past low (e ∙ sym same)))))
+-- window i takes the row
+more_pushed : (rules : List Rule) (sources : List ℕ) (r : Row) (i : ℕ) (first now : List (Option (Buffer ℤ))) → ArePushed rules sources r i first now
+    → i < length now → (rule_at rules i).param ≡ r.param
+    → ArePushed rules sources r (i + 1) first (set now i (pushed r.value (window_at now i)))
+more_pushed rules sources r i first now had within own =
+    let w = pushed r.value (window_at now i) in
+    record {
+      done = λ j low k place p. ⊎_elim
+          (λ before. get_or-set_other now i j w None (omega arith) ∙ had.done j before k place p)
+          (λ here. let same : j ≡ i = omega arith in
+          ap (window_at (set now i w)) same ∙ get_or-set_same now i w None within ∙ ap (pushed r.value) (had.rest i (omega arith))
+          ∙ ap (λ m. pushed r.value (window_at first m)) (sym same))
+          (cases_lt j i);
+      other = λ j p. get_or-set_other now i j w None (λ e. p (ap (λ m. (rule_at rules m).param) e ∙ own)) ∙ had.other j p;
+      rest = λ j low. get_or-set_other now i j w None (omega arith) ∙ had.rest j (omega arith);
+    }
+
+by_place : (rules : List Rule) (sources : List ℕ) (r : Row) (i : ℕ) (first now : List (Option (Buffer ℤ))) (b : Bool) → ArePushed rules sources r i first now
+    → i < length now → (rule_at rules i).param ≡ r.param → (slice_index sources i == i) ≡ b
+    → ArePushed rules sources r (i + 1) first (if b then set now i (pushed r.value (window_at now i)) else now)
+by_place rules sources r i first now true had within own is = more_pushed rules sources r i first now had within own
+by_place rules sources r i first now false had within own isnt =
+    same_pushed rules sources r i first now had (λ k place. not_own (slice_index sources i) i place isnt)
+
+by_kind : (rules : List Rule) (sources : List ℕ) (r : Row) (i : ℕ) (first now : List (Option (Buffer ℤ))) (k : RuleKind)
+    → ArePushed rules sources r i first now → i < length now → (rule_at rules i).param ≡ r.param → (rule_at rules i).kind ≡ k
+    → ArePushed rules sources r (i + 1) first (windows_given k sources i r.value now)
+by_kind rules sources r i first now kind.Above had within own is =
+    same_pushed rules sources r i first now had (λ k place. above_no_change (sym is ∙ k))
+by_kind rules sources r i first now kind.Below had within own is =
+    same_pushed rules sources r i first now had (λ k place. below_no_change (sym is ∙ k))
+by_kind rules sources r i first now kind.Change had within own is =
+    by_place rules sources r i first now (slice_index sources i == i) had within own refl
+
+-- rule i is given the row
+pub one-pushed : (rules : List Rule) (sources : List ℕ) (r : Row) (i : ℕ) (first now new : List (Option (Buffer ℤ))) (q : Rule) (v : ℤ)
+    → ArePushed rules sources r i first now → i < length now → (rule_at rules i).param ≡ r.param → q ≡ rule_at rules i → v ≡ r.value
+    → new ≡ windows_given q.kind sources i v now → ArePushed rules sources r (i + 1) first new
+one-pushed rules sources r i first now new q v had within own q_is v_is is =
+    subst (ArePushed rules sources r (i + 1) first)
+    (sym (is ∙ ap (λ (p : Rule). windows_given p.kind sources i v now) q_is ∙ ap (λ (y : ℤ). windows_given (rule_at rules i).kind sources i y now) v_is))
+    (by_kind rules sources r i first now (rule_at rules i).kind had within own refl)
+
+-- rules of other parameters are passed over
+pub others-pushed : (rules : List Rule) (sources : List ℕ) (r : Row) (n m param : ℕ) (first now : List (Option (Buffer ℤ)))
+    → ArePushed rules sources r n first now → IsNextOf rules n param m → param ≡ r.param → ArePushed rules sources r m first now
+others-pushed rules sources r n m param first now had next same = record {
+  done = λ j low k own p. ⊎_elim
+      (λ before. had.done j before k own p)
+      (λ past. absurd (next.none j past low (p ∙ sym same)))
       (cases_lt j n);
+  other = had.other;
   rest = λ j low. had.rest j (omega (arith, low, next.from));
 }
+
+has_more : (k : RuleKind) (count : ℕ) (old new : Option (Buffer ℤ)) (values : List ℤ) (v : ℤ) → HasWindow k count old values
+    → (k ≡ kind.Change → new ≡ pushed v old) → HasWindow k count new (values ++ v ∷ [])
+has_more kind.Above count old new values v has is = tt
+has_more kind.Below count old new values v has is = tt
+has_more kind.Change count old new values v has is =
+    subst (λ (o : Option (Buffer ℤ)). HasWindow kind.Change count o (values ++ v ∷ [])) (sym (is refl)) (window_more kind.Change count old values v has)
+
+-- the window of a rule that was given the row
+has_own : (rules : List Rule) (sources : List ℕ) (steps : List WatchStep) (r : Row) (n k : ℕ) (first now : List (Option (Buffer ℤ)))
+    → AreSources rules sources → ArePushed rules sources r n first now → AreWindows rules sources steps first → k < n → k < length rules
+    → (rule_at rules k).param ≡ r.param → HasWindow (rule_at rules k).kind (rule_at rules k).count (window_at now (slice_index sources k))
+    (values_of (rows_since (rule_at rules k) steps) ++ r.value ∷ [])
+has_own rules sources steps r n k first now are given had low within own =
+    let rule = rule_at rules k in
+    let s = slice_index sources k in
+    has_more rule.kind rule.count (window_at first s) (window_at now s) (values_of (rows_since rule steps)) r.value (had k within)
+    (λ change. given.done s (omega (arith, low, are.within k within)) (are.kind k within ∙ change) (are.own k within) (are.same k within ∙ own))
+
+has_row : (rules : List Rule) (sources : List ℕ) (steps : List WatchStep) (r : Row) (n k : ℕ) (first now : List (Option (Buffer ℤ))) (b : Bool)
+    → AreSources rules sources → ArePushed rules sources r n first now → AreWindows rules sources steps first → k < n → k < length rules
+    → ((rule_at rules k).param == r.param) ≡ b → HasWindow (rule_at rules k).kind (rule_at rules k).count (window_at now (slice_index sources k))
+    (values_of (rows_since (rule_at rules k) (steps ++ RowStep r ∷ [])))
+has_row rules sources steps r n k first now true are given had low within is =
+    let rule = rule_at rules k in
+    let rows = rows_since rule steps in
+    let own : rule.param ≡ r.param = grind (arith, nat_tests, is) in
+    subst (HasWindow rule.kind rule.count (window_at now (slice_index sources k)))
+    (sym (ap values_of (rows-own rule steps r own) ∙ values-push rows r)) (has_own rules sources steps r n k first now are given had low within own)
+has_row rules sources steps r n k first now false are given had low within isnt =
+    let rule = rule_at rules k in
+    let other : rule.param ≢ r.param = λ e. not_own rule.param r.param e isnt in
+    subst (λ (rows : List Row). HasWindow rule.kind rule.count (window_at now (slice_index sources k)) (values_of rows))
+    (sym (rows-other rules steps r k other))
+    (subst (λ (o : Option (Buffer ℤ)). HasWindow rule.kind rule.count o (values_of (rows_since rule steps)))
+    (sym (given.other (slice_index sources k) (λ e. other (sym (are.same k within) ∙ e)))) (had k within))
+
+-- every rule was given the row
+pub windows-row : (rules : List Rule) (sources : List ℕ) (steps : List WatchStep) (r : Row) (n : ℕ) (first now : List (Option (Buffer ℤ)))
+    → AreSources rules sources → ArePushed rules sources r n first now → n ≡ length rules → AreWindows rules sources steps first
+    → AreWindows rules sources (steps ++ RowStep r ∷ []) now
+windows-row rules sources steps r n first now are given all had k within =
+    has_row rules sources steps r n k first now ((rule_at rules k).param == r.param) are given had (omega (arith, within, all)) within refl
+
+-- what rule i compares at a row of its parameter that its window has
+pub compared-own : (rules : List Rule) (sources : List ℕ) (first now : List (Option (Buffer ℤ))) (steps : List WatchStep) (r : Row) (i : ℕ) (x : Option ℤ)
+    (q : Rule) (v : ℤ) → AreSources rules sources → ArePushed rules sources r (i + 1) first now → AreWindows rules sources steps first
+    → i < length rules → (rule_at rules i).param ≡ r.param → q ≡ rule_at rules i → v ≡ r.value
+    → ((values : List ℤ) → HasWindow q.kind q.count (window_at now (slice_index sources i)) (values ++ v ∷ [])
+    → x ≡ compared q.kind q.count (values ++ v ∷ []))
+    → x ≡ compared (rule_at rules i).kind (rule_at rules i).count (values_of (rows_since (rule_at rules i) steps ++ r ∷ []))
+compared-own rules sources first now steps r i x q v are given had within own q_is v_is gives =
+    let rule = rule_at rules i in
+    let rows = rows_since rule steps in
+    let w = window_at now (slice_index sources i) in
+    let has : HasWindow q.kind q.count w (values_of rows ++ v ∷ []) =
+    subst (λ (p : Rule). HasWindow p.kind p.count w (values_of rows ++ v ∷ [])) (sym q_is)
+    (subst (λ (y : ℤ). HasWindow rule.kind rule.count w (values_of rows ++ y ∷ [])) (sym v_is)
+    (has_own rules sources steps r (i + 1) i first now are given had (omega arith) within own)) in
+    gives (values_of rows) has ∙ ap (λ (p : Rule). compared p.kind p.count (values_of rows ++ v ∷ [])) q_is
+    ∙ ap (λ (y : ℤ). compared rule.kind rule.count (values_of rows ++ y ∷ [])) v_is ∙ ap (compared rule.kind rule.count) (sym (values-push rows r))
 
 -- ---- windows before the first row
 
@@ -168,38 +232,53 @@ have-none rules = record {
   count = refl;
   places = refl;
   within = λ k low. absurd (omega arith);
+  own = λ k low. absurd (omega arith);
+  kind = λ k low. absurd (omega arith);
   same = λ k low. absurd (omega arith);
   has = λ k low. absurd (omega arith);
 }
 
 have_more : (rules : List Rule) (n s : ℕ) (windows : List (Option (Buffer ℤ))) (sources : List ℕ) (w : Option (Buffer ℤ)) → HaveWindows rules n windows sources
-    → s < n + 1 → (rule_at rules s).param ≡ (rule_at rules n).param
+    → s ≤ n → slice_index (sources ++ s ∷ []) s ≡ s → (rule_at rules s).kind ≡ (rule_at rules n).kind → (rule_at rules s).param ≡ (rule_at rules n).param
     → HasWindow (rule_at rules n).kind (rule_at rules n).count (window_at (windows ++ w ∷ []) s) []
     → HaveWindows rules (n + 1) (windows ++ w ∷ []) (sources ++ s ∷ [])
-have_more rules n s windows sources w had low param has =
-    let old : (k : ℕ) → k < n → slice_index (sources ++ s ∷ []) k ≡ slice_index sources k =
+have_more rules n s windows sources w had low own same_kind param has =
+    let all = sources ++ s ∷ [] in
+    let old : (k : ℕ) → k < n → slice_index all k ≡ slice_index sources k =
     λ k before. get_or_append_left sources (s ∷ []) 0 k (omega (arith, had.places)) in
-    let new : slice_index (sources ++ s ∷ []) n ≡ s =
-    ap (slice_index (sources ++ s ∷ [])) (sym had.places) ∙ get_or-append_seam sources s [] 0 in
+    let new : slice_index all n ≡ s =
+    ap (slice_index all) (sym had.places) ∙ get_or-append_seam sources s [] 0 in
     record {
       count = omega (arith, length-append windows (w ∷ []), had.count);
       places = omega (arith, length-append sources (s ∷ []), had.places);
       within = λ k inside. ⊎_elim
           (λ before. omega (arith, old k before, had.within k before))
-          (λ here. let same : k ≡ n = omega arith in subst (λ j. slice_index (sources ++ s ∷ []) j < n + 1) (sym same) (omega (arith, new, low)))
+          (λ here. let same : k ≡ n = omega arith in subst (λ j. slice_index all j ≤ j) (sym same) (omega (arith, new, low)))
+          (cases_lt k n);
+      own = λ k inside. ⊎_elim
+          (λ before. ap (slice_index all) (old k before) ∙ old (slice_index sources k) (omega (arith, before, had.within k before)) ∙ had.own k before
+          ∙ sym (old k before))
+          (λ here. let same : k ≡ n = omega arith in
+          subst (λ j. slice_index all (slice_index all j) ≡ slice_index all j) (sym same) (ap (slice_index all) new ∙ own ∙ sym new))
+          (cases_lt k n);
+      kind = λ k inside. ⊎_elim
+          (λ before. ap (λ j. (rule_at rules j).kind) (old k before) ∙ had.kind k before)
+          (λ here. let same : k ≡ n = omega arith in
+          subst (λ j. (rule_at rules (slice_index all j)).kind ≡ (rule_at rules j).kind) (sym same)
+          (ap (λ j. (rule_at rules j).kind) new ∙ same_kind))
           (cases_lt k n);
       same = λ k inside. ⊎_elim
           (λ before. ap (λ j. (rule_at rules j).param) (old k before) ∙ had.same k before)
           (λ here. let same : k ≡ n = omega arith in
-          subst (λ j. (rule_at rules (slice_index (sources ++ s ∷ []) j)).param ≡ (rule_at rules j).param) (sym same)
+          subst (λ j. (rule_at rules (slice_index all j)).param ≡ (rule_at rules j).param) (sym same)
           (ap (λ j. (rule_at rules j).param) new ∙ param))
           (cases_lt k n);
       has = λ k inside. ⊎_elim
           (λ before. subst (λ o. HasWindow (rule_at rules k).kind (rule_at rules k).count o [])
           (sym (ap (window_at (windows ++ w ∷ [])) (old k before)
-          ∙ get_or_append_left windows (w ∷ []) None (slice_index sources k) (omega (arith, had.within k before, had.count)))) (had.has k before))
+          ∙ get_or_append_left windows (w ∷ []) None (slice_index sources k) (omega (arith, before, had.within k before, had.count)))) (had.has k before))
           (λ here. let same : k ≡ n = omega arith in
-          subst (λ j. HasWindow (rule_at rules j).kind (rule_at rules j).count (window_at (windows ++ w ∷ []) (slice_index (sources ++ s ∷ []) j)) [])
+          subst (λ j. HasWindow (rule_at rules j).kind (rule_at rules j).count (window_at (windows ++ w ∷ []) (slice_index all j)) [])
           (sym same)
           (subst (λ j. HasWindow (rule_at rules n).kind (rule_at rules n).count (window_at (windows ++ w ∷ []) j) []) (sym new) has))
           (cases_lt k n);
@@ -209,7 +288,8 @@ have_more rules n s windows sources w had low param has =
 pub have-own : (rules : List Rule) (n : ℕ) (windows : List (Option (Buffer ℤ))) (sources : List ℕ) (w : Option (Buffer ℤ)) → HaveWindows rules n windows sources
     → HasWindow (rule_at rules n).kind (rule_at rules n).count w [] → HaveWindows rules (n + 1) (windows ++ w ∷ []) (sources ++ n ∷ [])
 have-own rules n windows sources w had has =
-    have_more rules n n windows sources w had (omega arith) refl
+    have_more rules n n windows sources w had (omega arith)
+    (ap (slice_index (sources ++ n ∷ [])) (sym had.places) ∙ get_or-append_seam sources n [] 0) refl refl
     (subst (λ o. HasWindow (rule_at rules n).kind (rule_at rules n).count o [])
     (sym (ap (window_at (windows ++ w ∷ [])) (sym had.count) ∙ get_or-append_seam windows w [] None)) has)
 
@@ -219,11 +299,14 @@ pub have-shared : (rules : List Rule) (n j : ℕ) (windows : List (Option (Buffe
     → HaveWindows rules (n + 1) (windows ++ None ∷ []) (sources ++ slice_index sources j ∷ [])
 have-shared rules n j windows sources had low same_kind same_param same_count =
     let s = slice_index sources j in
-    have_more rules n s windows sources None had (omega (arith, had.within j low)) (had.same j low ∙ same_param)
+    let before : s < n = omega (arith, low, had.within j low) in
+    have_more rules n s windows sources None had (omega (arith, before))
+    (get_or_append_left sources (s ∷ []) 0 s (omega (arith, before, had.places)) ∙ had.own j low)
+    (had.kind j low ∙ same_kind) (had.same j low ∙ same_param)
     (subst (λ k. HasWindow k (rule_at rules n).count (window_at (windows ++ None ∷ []) s) []) same_kind
     (subst (λ m. HasWindow (rule_at rules j).kind m (window_at (windows ++ None ∷ []) s) []) same_count
     (subst (λ o. HasWindow (rule_at rules j).kind (rule_at rules j).count o [])
-    (sym (get_or_append_left windows (None ∷ []) None s (omega (arith, had.within j low, had.count)))) (had.has j low))))
+    (sym (get_or_append_left windows (None ∷ []) None s (omega (arith, before, had.count)))) (had.has j low))))
 
 -- what holds of two facts that hold where a call went well
 pub both-on-ok : {T E : Type 0} (r : Result T E) {P Q R : Type 0} → OnOk r P → OnOk r Q → (P → Q → R) → OnOk r R

@@ -174,9 +174,10 @@ other_rows b rows r isnt = cond-false _ _ _ isnt
 no_param : (a b : ℕ) → b ≢ a → (a == b) ≡ false
 no_param a b other = grind (arith, nat_tests)
 
-skip_done : (rules : List Rule) (steps : List WatchStep) (r : Row) (k : ℕ) → (rule_at rules k).param ≢ r.param
+-- the rows of a rule stay where a row is of another parameter
+pub rows-other : (rules : List Rule) (steps : List WatchStep) (r : Row) (k : ℕ) → (rule_at rules k).param ≢ r.param
     → rows_since (rule_at rules k) (steps ++ RowStep r ∷ []) ≡ rows_since (rule_at rules k) steps
-skip_done rules steps r k other =
+rows-other rules steps r k other =
     rows_since-push (rule_at rules k) steps (RowStep r)
     ∙ other_rows (r.param == (rule_at rules k).param) (rows_since (rule_at rules k) steps) r (no_param r.param (rule_at rules k).param other)
 
@@ -205,7 +206,7 @@ others-given rules steps r n m hits due param given next same =
     record {
       done = λ k low inside. ⊎_elim
           (λ before. given.done k before inside)
-          (λ past. subst (λ (rows : List Row). IsHits (rule_at rules k) rows (hits_of_rule hits k)) (sym (skip_done rules steps r k (other k past low)))
+          (λ past. subst (λ (rows : List Row). IsHits (rule_at rules k) rows (hits_of_rule hits k)) (sym (rows-other rules steps r k (other k past low)))
           (given.rest k past inside))
           (cases_lt k n);
       rest = λ k low inside. given.rest k (omega (arith, low, next.from)) inside;

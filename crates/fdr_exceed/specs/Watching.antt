@@ -1,6 +1,6 @@
 -- What a watch keeps, and which steps it represents.
 use Rattle.std.specs.Prelude.{ℕ, ◌≡◌, ◌≢◌, ◌+◌, ◌≤◌, ◌<◌, ℤ, pos, List, [], ◌∷◌, ◌++◌, length, map, drop, filter_map, Option, Some, None, option_map}
-use Rattle.std.specs.Prelude.{slice_index, slice_index_or, All, IfSome}
+use Rattle.std.specs.Prelude.{set, slice_index, slice_index_or, All, IfSome, ◌==◌, if◌then◌else◌}
 use Rattle.std.specs.Int.{int_max, int_min}
 use Rattle.std.specs.List.{cons_option, range_with_len}
 use Rattle.circular_buffer.specs.Buffer.{Buffer, buffer, keep_last}
@@ -51,6 +51,13 @@ abbrev pub pushed : ℤ → Option (Buffer ℤ) → Option (Buffer ℤ)
 pushed v None = None
 pushed v (Some w) = Some (buffer (keep_last w.capacity (w.items ++ v ∷ [])) w.capacity)
 
+-- the windows, where rule i of this kind is given a value: only that of a rule for changes that shares none of a rule before it
+-- takes it
+abbrev pub windows_given : RuleKind → List ℕ → ℕ → ℤ → List (Option (Buffer ℤ)) → List (Option (Buffer ℤ))
+windows_given kind.Above sources i v windows = windows
+windows_given kind.Below sources i v windows = windows
+windows_given kind.Change sources i v windows = if slice_index sources i == i then set windows i (pushed v (window_at windows i)) else windows
+
 -- a window whose values were forgotten
 abbrev pub cleared : Option (Buffer ℤ) → Option (Buffer ℤ)
 cleared None = None
@@ -75,10 +82,13 @@ IsWithinHits n h = IfSome h.list (λ (list : HitList). list.length ≤ n)
 abbrev pub AreHits : List Rule → List WatchStep → List Hits → Type 0
 AreHits rules steps hits = (k : ℕ) → k < length rules → IsHits (rule_at rules k) (rows_since (rule_at rules k) steps) (hits_of_rule hits k)
 
--- The numbers say for each rule at which place its window is. Rules for changes of one parameter within as many rows share one.
+-- The numbers say for each rule at which place its window is: its own, or that of a rule before it. Rules for changes of one
+-- parameter within as many rows share one.
 pub record AreSources (rules : List Rule) (sources : List ℕ) : Type 0 where
   pub count : length sources ≡ length rules
-  pub within : (k : ℕ) → k < length rules → slice_index sources k < length rules
+  pub within : (k : ℕ) → k < length rules → slice_index sources k ≤ k
+  pub own : (k : ℕ) → k < length rules → slice_index sources (slice_index sources k) ≡ slice_index sources k
+  pub kind : (k : ℕ) → k < length rules → (rule_at rules (slice_index sources k)).kind ≡ (rule_at rules k).kind
   pub same : (k : ℕ) → k < length rules → (rule_at rules (slice_index sources k)).param ≡ (rule_at rules k).param
 
 -- The window of each rule is that of the steps.
@@ -90,7 +100,9 @@ AreWindows rules sources steps windows = (k : ℕ) → k < length rules
 pub record HaveWindows (rules : List Rule) (n : ℕ) (windows : List (Option (Buffer ℤ))) (sources : List ℕ) : Type 0 where
   pub count : length windows ≡ n
   pub places : length sources ≡ n
-  pub within : (k : ℕ) → k < n → slice_index sources k < n
+  pub within : (k : ℕ) → k < n → slice_index sources k ≤ k
+  pub own : (k : ℕ) → k < n → slice_index sources (slice_index sources k) ≡ slice_index sources k
+  pub kind : (k : ℕ) → k < n → (rule_at rules (slice_index sources k)).kind ≡ (rule_at rules k).kind
   pub same : (k : ℕ) → k < n → (rule_at rules (slice_index sources k)).param ≡ (rule_at rules k).param
   pub has : (k : ℕ) → k < n → HasWindow (rule_at rules k).kind (rule_at rules k).count (window_at windows (slice_index sources k)) []
 

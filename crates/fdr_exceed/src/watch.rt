@@ -16,7 +16,7 @@ use crate::rule::Rule;
 use crate::rules::Rules;
 use crate::text::exceed_line;
 use crate::window::Window;
-use crate::windows::{Windows, all_windows, clear_windows, compared, push_windows};
+use crate::windows::{Windows, all_windows, clear_windows, compared};
 use circular_buffer::HeapCircularBuffer;
 use fdr_listing::Line;
 use fdr_recon::Row;
@@ -97,14 +97,13 @@ impl Watch {
         ensures rows { self.new.rows ≡ self.old.rows + 1 }
     {
         let start = start_of(&self.rules, &self.first, row.param);
-        push_windows(&self.rules, &self.next, start, row, &mut self.windows);
         step_rules(
             &self.rules,
             &self.next,
             start,
             row,
-            &self.windows,
             &self.sources,
+            &mut self.windows,
             &mut self.hits,
             &mut self.due,
         );
@@ -221,8 +220,8 @@ fn step_rules(
     next: &[usize],
     start: usize,
     row: &Row,
-    windows: &[Option<Window>],
     sources: &[usize],
+    windows: &mut [Option<Window>],
     hits: &mut [Hits],
     due: &mut HeapCircularBuffer<Exceedance>,
 )
@@ -232,20 +231,22 @@ fn step_rules(
     requires nothing_due { due.old.items ≡ [] }
     requires room { due.old.capacity ≡ length rules.now }
     requires sources { AreSources rules.now sources.now }
-    requires windows { length windows.now ≡ length rules.now }
+    requires windows { length windows.old ≡ length rules.now }
     requires watched { IsWatched row.now.value }
     requires few { All (λ (h : Hits). IfSome h.list (λ list. list.length < 2 ^ 63)) hits.old }
-    ensures hits { (steps : List WatchStep) → AreWindows rules.now sources.now (steps ++ RowStep row.now ∷ []) windows.now
-        → AreHits rules.now steps hits.old → AreHits rules.now (steps ++ RowStep row.now ∷ []) hits.new }
-    ensures due { (steps : List WatchStep) → AreWindows rules.now sources.now (steps ++ RowStep row.now ∷ []) windows.now
-        → AreHits rules.now steps hits.old → due.new.items ≡ due_to rules.now steps (RowStep row.now) (length rules.now) }
+    ensures windows { (steps : List WatchStep) → AreWindows rules.now sources.now steps windows.old
+        → AreWindows rules.now sources.now (steps ++ RowStep row.now ∷ []) windows.new }
+    ensures hits { (steps : List WatchStep) → AreWindows rules.now sources.now steps windows.old → AreHits rules.now steps hits.old
+        → AreHits rules.now (steps ++ RowStep row.now ∷ []) hits.new }
+    ensures due { (steps : List WatchStep) → AreWindows rules.now sources.now steps windows.old → AreHits rules.now steps hits.old
+        → due.new.items ≡ due_to rules.now steps (RowStep row.now) (length rules.now) }
     ensures room { due.new.capacity ≡ due.old.capacity }
     ensures longer { (n : ℕ) → All (IsWithinHits n) hits.old → All (IsWithinHits (n + 1)) hits.new }
     ensures within { All (λ (e : Exceedance). e.rule < length rules.now) due.new.items }
 {
     let mut i = start;
     while i < rules.len() {
-        let x = compared(&rules[i], &windows[sources[i]], row.value);
+        let x = compared(&rules[i], i, sources, windows, row.value);
         let ended = hits[i].row(&rules[i], row, x);
         add(due, i, ended);
         i = next[i];

@@ -1,15 +1,14 @@
 //! The windows of the rules for changes. Rules for one parameter and for as many rows share one.
 
-ghost use Rattle.std.specs.Prelude.{◌≡◌, ◌≤◌, ◌<◌, ◌+◌, ◌++◌, ◌∷◌, ◌==◌, ℕ, ℤ, List, [], IfOk, OnOk, IfSome, IsTrue, All, length, slice_index, if◌then◌else◌};
-ghost use Rattle.fdr_recon.specs.declared.Row.{Row};
+ghost use Rattle.std.specs.Prelude.{◌≡◌, ◌≤◌, ◌<◌, ◌+◌, ◌++◌, ◌∷◌, ◌==◌, ℕ, ℤ, List, [], IfOk, OnOk, IfSome, IsTrue, All, length, set, slice_index, if◌then◌else◌};
 ghost use Rattle.fdr_exceed.specs.declared.rule.Rule.{Rule};
 ghost use Rattle.fdr_exceed.specs.Windows.{IsWatched};
 ghost use Rattle.fdr_exceed.specs.Exceedances.{compared as compared_of};
-ghost use Rattle.fdr_exceed.specs.Watching.{AreNexts, AreSources, AreWindows, HasWindow, HaveWindows, IsNextOf, cleared, pushed, rule_at, window_at};
+ghost use Rattle.fdr_exceed.specs.declared.rule.RuleKind.TheVariants as kind;
+ghost use Rattle.fdr_exceed.specs.Watching.{AreSources, AreWindows, HasWindow, HaveWindows, cleared, pushed, rule_at, window_at, windows_given};
 
 use crate::rule::{Rule, RuleKind};
 use crate::window::Window;
-use fdr_recon::Row;
 use fdr_table::NoMemory;
 use std::alloc::Global;
 
@@ -109,25 +108,41 @@ fn new_window(alloc: Global, rule: &Rule) -> Result<Option<Window>, NoMemory>
     }
 }
 
-/// Gives the row's value to the windows of its parameter: those at the places of the rules from rule `start` on.
-pub(crate) fn push_windows(
-    rules: &[Rule],
-    next: &[usize],
-    start: usize,
-    row: &Row,
+/// What rule i compares with its limit at the next value of its parameter. A window of its own takes the value; one that it
+/// shares has taken it.
+pub(crate) fn compared(
+    rule: &Rule,
+    i: usize,
+    sources: &[usize],
     windows: &mut [Option<Window>],
-)
-    requires start { IsNextOf rules.now 0 row.now.param start }
-    requires next { AreNexts rules.now next.now }
-    requires count { length windows.old ≡ length rules.now }
-    requires watched { IsWatched row.now.value }
-    ensures pushed { (j : ℕ) → j < length rules.now → window_at windows.new j
-        ≡ (if row.now.param == (rule_at rules.now j).param then pushed row.now.value (window_at windows.old j) else window_at windows.old j) }
+    value: i64,
+) -> Option<i64>
+    requires within { i < length windows.old }
+    requires place { i < length sources.now }
+    requires source { slice_index sources.now i < length windows.old }
+    requires watched { IsWatched value }
+    ensures windows { windows.new ≡ windows_given rule.now.kind sources.now i value windows.old }
+    ensures value { (values : List ℤ) → HasWindow rule.now.kind rule.now.count (window_at windows.new (slice_index sources.now i)) (values ++ value ∷ [])
+        → result ≡ compared_of rule.now.kind rule.now.count (values ++ value ∷ []) }
 {
-    let mut i = start;
-    while i < rules.len() {
-        push_window(&mut windows[i], row.value);
-        i = next[i];
+    match rule.kind {
+        RuleKind::Above | RuleKind::Below => Some(value),
+        RuleKind::Change => {
+            let source = sources[i];
+            push_own(windows, i, source, value);
+            spread_of(&windows[source])
+        }
+    }
+}
+
+/// Gives the next value to window i, where its rule shares none of a rule before it.
+fn push_own(windows: &mut [Option<Window>], i: usize, source: usize, value: i64)
+    requires within { i < length windows.old }
+    requires watched { IsWatched value }
+    ensures { windows.new ≡ (if source == i then set windows.old i (pushed value (window_at windows.old i)) else windows.old) }
+{
+    if source == i {
+        push_window(&mut windows[i], value);
     }
 }
 
@@ -138,6 +153,16 @@ fn push_window(window: &mut Option<Window>, value: i64)
 {
     if let Some(window) = window {
         window.push(value);
+    }
+}
+
+/// How far apart the values of a window lie, where it is full.
+fn spread_of(window: &Option<Window>) -> Option<i64>
+    ensures { (count : ℕ) (values : List ℤ) → HasWindow kind.Change count window.now values → result ≡ compared_of kind.Change count values }
+{
+    match window {
+        Some(window) => window.spread(),
+        None => None,
     }
 }
 
@@ -156,19 +181,5 @@ fn clear_window(window: &mut Option<Window>)
 {
     if let Some(window) = window {
         window.clear();
-    }
-}
-
-/// What a rule compares with its limit at a value that its window has.
-pub(crate) fn compared(rule: &Rule, window: &Option<Window>, value: i64) -> Option<i64>
-    ensures { (values : List ℤ) → HasWindow rule.now.kind rule.now.count window.now (values ++ value ∷ [])
-        → result ≡ compared_of rule.now.kind rule.now.count (values ++ value ∷ []) }
-{
-    match rule.kind {
-        RuleKind::Above | RuleKind::Below => Some(value),
-        RuleKind::Change => match window {
-            Some(window) => window.spread(),
-            None => None,
-        },
     }
 }

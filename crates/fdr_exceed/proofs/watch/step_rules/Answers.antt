@@ -1,4 +1,4 @@
-use Rattle.std.proofs.Common.{◌≡◌, ◌∙◌, ap, sym, refl, subst, ◌+◌, ◌<◌, ◌++◌, ◌∷◌, [], set, length, None, arith}
+use Rattle.std.proofs.Common.{◌≡◌, ◌∙◌, ap, sym, refl, subst, ◌+◌, ◌<◌, ◌++◌, ◌∷◌, [], set, length, arith}
 use Rattle.std.specs.Prelude.{All, slice_index}
 use Rattle.std.proofs.lemmas.Int.{to_z-of_z}
 use Rattle.std.proofs.lemmas.List.{get_or-set_other}
@@ -6,9 +6,9 @@ use Rattle.std.proofs.lemmas.List.Elements.{All-nil, All-set}
 use Rattle.fdr_exceed.specs.declared.watch.Exceedance.{Exceedance}
 use Rattle.fdr_exceed.specs.declared.rule.Rule.{Rule}
 use Rattle.fdr_exceed.specs.Exceedances.{RowStep, compared, rows_since, values_of}
-use Rattle.fdr_exceed.specs.Watching.{IsWithinHits, hits_of_rule, no_hits, no_rule, rule_at, window_at}
+use Rattle.fdr_exceed.specs.Watching.{IsWithinHits, hits_of_rule, no_hits, no_rule, rule_at}
 use Rattle.fdr_exceed.proofs.Greatests.{watched-fits}
-use Rattle.fdr_exceed.proofs.Sharing.{compared-own}
+use Rattle.fdr_exceed.proofs.Sharing.{compared-own, none-pushed, one-pushed, others-pushed, windows-row}
 use Rattle.fdr_exceed.proofs.Stepping.{IsOfRules, all-given, given-on, none-given, others-given, read-at, row-ends, row-goes, with_ended-few}
 use Rattle.fdr_exceed.proofs.Stepping.{with_ended-inside, within-more}
 use mir.Syntax.{w64}
@@ -24,6 +24,8 @@ loop-i-init c =
       given = λ steps windows are.
           others-given rules steps c.args.row.now 0 c.args.start c.args.hits.now due c.args.row.now.param
           (none-given rules steps (RowStep c.args.row.now) c.args.hits.now due are c.requires.nothing_due) c.requires.start refl;
+      pushed = others-pushed rules c.args.sources.now c.args.row.now 0 c.args.start c.args.row.now.param c.args.windows.now c.args.windows.now
+          (none-pushed rules c.args.sources.now c.args.row.now c.args.windows.now) c.requires.start refl;
       same = λ k low. refl;
       few = omega (arith, ap (length {A = Exceedance}) c.requires.nothing_due);
       room = c.requires.room;
@@ -47,21 +49,20 @@ loop-i-preserved c =
     let count : length hits ≡ length rules = c.loop-i.auto.hits ∙ c.requires.count in
     let rule_is : rule ≡ rule_at rules i = read-at rules i rule no_rule within c.index-rules-i-in-loop-i.is in
     let first_is : first ≡ rule_at rules i = read-at rules i first no_rule within c.index-rules-i.is in
-    let place = slice_index c.args.sources.now i in
-    let inside : place < length c.args.windows.now = omega (arith, c.requires.sources.within i within, c.requires.windows) in
-    let window = c.index-windows-sources.result in
-    let window_is : window ≡ window_at c.args.windows.now place = read-at c.args.windows.now place window None inside c.index-windows-sources.is in
     let value = to_z-of_z w64 r.value (watched-fits r.value c.requires.watched) in
     let next = c.requires.next.each i within in
     let own = inv.here within in
+    let inside : i < length c.loop-i.windows = omega (arith, within, c.loop-i.auto.windows, c.requires.windows) in
+    let pushed = one-pushed rules c.args.sources.now r i c.args.windows.now c.loop-i.windows c.compared-x.new.windows first _ inv.pushed inside own first_is
+    value c.compared-x.ensures.windows in
     let same : rule.param ≡ r.param = ap (λ (q : Rule). q.param) rule_is ∙ own in
     record {
       within = next.within;
       here = λ more. next.here more ∙ own;
       given = λ steps windows are.
           let rows = rows_since (rule_at rules i) steps in
-          let compares = compared-own rules c.args.sources.now c.args.windows.now steps r i c.compared-x.result window first _ windows within own
-          first_is window_is value c.compared-x.ensures in
+          let compares = compared-own rules c.args.sources.now c.args.windows.now c.compared-x.new.windows steps r i c.compared-x.result first _
+          c.requires.sources pushed windows within own first_is value c.compared-x.ensures.value in
           let at_rule : c.compared-x.result ≡ compared rule.kind rule.count (values_of (rows ++ r ∷ [])) =
           compares ∙ ap (λ (q : Rule). compared q.kind q.count (values_of (rows ++ r ∷ []))) (sym rule_is) in
           others-given rules steps r (i + 1) m (set hits i new) c.add.new.due.items (rule_at rules i).param
@@ -70,6 +71,7 @@ loop-i-preserved c =
           (row-ends rule r old c.row-ended.result rows same (c.row-ended.ensures.ended rows at_rule))
           c.add.ensures.items)
           next own;
+      pushed = others-pushed rules c.args.sources.now r (i + 1) m (rule_at rules i).param c.args.windows.now c.compared-x.new.windows pushed next own;
       same = λ k low. get_or-set_other hits i k new no_hits (omega (arith, low, next.from)) ∙ inv.same k (omega (arith, low, next.from));
       few = omega (arith, ap (length {A = Exceedance}) c.add.ensures.items, with_ended-few c.loop-i.due.items i c.row-ended.result i inv.few, next.from);
       room = c.add.ensures.room ∙ inv.room;
@@ -85,3 +87,10 @@ returns-clause-hits c steps windows are =
     let rules = c.args.rules.now in
     let all : c.loop-i.i ≡ length rules = omega (arith, c.loop-i.invariant.within, c.loop-i-test.false) in
     (all-given rules steps (RowStep c.args.row.now) c.loop-i.i c.loop-i.hits c.loop-i.due.items (c.loop-i.invariant.given steps windows are) all).0
+
+pub returns-clause-windows : goal.returns-clause-windows
+returns-clause-windows c steps windows =
+    let rules = c.args.rules.now in
+    let all : c.loop-i.i ≡ length rules = omega (arith, c.loop-i.invariant.within, c.loop-i-test.false) in
+    windows-row rules c.args.sources.now steps c.args.row.now c.loop-i.i c.args.windows.now c.loop-i.windows c.requires.sources c.loop-i.invariant.pushed all
+    windows

@@ -22,7 +22,9 @@ returns c =
       count = omega (arith, had.count, all);
       sources = record {
         count = omega (arith, had.places, all);
-        within = λ k low. omega (arith, all, had.within k (omega (arith, low, all)));
+        within = λ k low. had.within k (omega (arith, low, all));
+        own = λ k low. had.own k (omega (arith, low, all));
+        kind = λ k low. had.kind k (omega (arith, low, all));
         same = λ k low. had.same k (omega (arith, low, all));
       };
       windows = λ k low. subst (λ (rows : List Row). HasWindow (rule_at rules k).kind (rule_at rules k).count
