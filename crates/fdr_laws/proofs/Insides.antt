@@ -143,7 +143,8 @@ ended_behind rule a b r e is few =
 
 -- ---- steps
 
-rows_after : (rule : Rule) (before : List WatchStep) (rows : List Row) → rows_since rule (before ++ map RowStep rows)
+-- a rule's rows of a stretch go on with those of its parameter
+pub rows_after : (rule : Rule) (before : List WatchStep) (rows : List Row) → rows_since rule (before ++ map RowStep rows)
     ≡ rows_since rule before ++ rows_of_rule rule rows
 rows_after rule before [] = ap (rows_since rule) (append-nil before) ∙ sym (append-nil (rows_since rule before))
 rows_after rule before (r ∷ rest) =
@@ -166,7 +167,7 @@ split_at (y ∷ ys) x (suc k, within, is) =
     let rest = split_at ys x (k, omega (arith, within), is) in
     (y ∷ rest.0, rest.1, ap (λ zs. y ∷ zs) rest.2)
 
-kept_contains : {A B : Type 0} (f : A → Option B) (xs : List A) (x : A) (y : B) → Contains xs x → f x ≡ Some y → Contains (filter_map f xs) y
+pub kept_contains : {A B : Type 0} (f : A → Option B) (xs : List A) (x : A) (y : B) → Contains xs x → f x ≡ Some y → Contains (filter_map f xs) y
 kept_contains f xs x y h is =
     let place = split_at xs x h in
     subst (λ zs. Contains (filter_map f zs) y) (sym place.2)
