@@ -101,28 +101,12 @@ module _ (tells : Tells) (h : Header) (next size : ℕ) (d0 d1 : State) (sound :
         }
 
         committing_close : (mark : ℕ) → IsNear next mark d0 → EachMoment tells d1 d2 (IsClose h mark)
-        committing_close mark near stops m since = let q = quiet2.moments stops m since in
+        committing_close mark near stops m since =
+            let q = quiet2.moments stops m since in
+            let low : d0.announced ≤ m.announced = omega (arith, q.least, succeeds.fresh.least, told1) in
             ⊎_elim {C = IsClose h mark m}
-            (λ (same : HasSame h d1.held m.image). omega (
-              arith,
-              same.next,
-              (run1 stops).next,
-              number stops,
-              near.announced,
-              q.least,
-              succeeds.fresh.least,
-              told1,
-            ))
-            (λ (added : HasAdded h b d1.held m.image). omega (
-              arith,
-              added.next,
-              (run1 stops).next,
-              number stops,
-              near.announced,
-              q.least,
-              succeeds.fresh.least,
-              told1,
-            ))
+            (λ (same : HasSame h d1.held m.image). omega (arith, same.next, (run1 stops).next, number stops, near.announced, low))
+            (λ (added : HasAdded h b d1.held m.image). omega (arith, added.next, (run1 stops).next, number stops, near.announced, low))
             ((q.image (settled stops)).run b (waits (sound.stops_need_bytes stops)))
 
         least2 : d0.least ≤ d2.least
@@ -178,19 +162,8 @@ module _ (tells : Tells) (h : Header) (next size : ℕ) (d0 d1 : State) (sound :
                 let now = moments stops m since in
                 let image : m.image ≡ d2.held = settled2 stops m.image (leaves.disk.no_more m.image now.image) in
                 let at : next_of h m.image ≡ next_of h d2.held = ap (λ (l : List ℕ). next_of h l) image in
-                omega (
-                  arith,
-                  at,
-                  (added (sound.stops_need_bytes stops)).next,
-                  (run1 stops).next,
-                  number stops,
-                  now.least,
-                  announces.least,
-                  succeeds2.fresh.least,
-                  told2,
-                  told1,
-                  near.announced,
-                )
+                let low : d0.announced ≤ m.announced = omega (arith, now.least, announces.least, succeeds2.fresh.least, told2, told1, near.announced) in
+                omega (arith, at, (added (sound.stops_need_bytes stops)).next, (run1 stops).next, number stops, low, near.announced)
 
             announced_least : d0.greatest ≤ next → d0.least ≤ d3.least
             announced_least le = omega (arith, announces.least, succeeds2.fresh.least, told2, told1, sound.least, sound.greatest, le)

@@ -1,5 +1,5 @@
 -- What is announced lags behind what was pulled, over one record after another.
-use Rattle.std.proofs.Common.{◌≡◌, inl, inr, ⊎_elim, ℕ, ◌+◌, ◌-◌, ◌<◌, ◌≤◌, List, ◌++◌, length, take, ap, sym, ◌∙◌, subst, length-append, arith}
+use Rattle.std.proofs.Common.{◌≡◌, inl, inr, ⊎_elim, ℕ, ◌+◌, ◌-◌, ◌<◌, ◌≤◌, List, ◌++◌, length, take, ap, sym, ◌∙◌, length-append, arith}
 use Rattle.std.proofs.lemmas.Bool.{cases_lt}
 use Rattle.std.proofs.lemmas.List.{take-append-le}
 use Rattle.std.proofs.Math.Seq.{take-append-add}
@@ -7,8 +7,8 @@ use Rattle.fdr_bus.specs.declared.BusRecord.{BusRecord}
 use Rattle.fdr_bus.specs.Records.{good_prefix}
 use Rattle.fdr_deck.specs.State.{State, Tells, Moment}
 use Rattle.fdr_deck.specs.Calls.{KeepsAnnounced, HasOneAnnounced}
-use Rattle.fdr_deck.specs.Moments.{EachMoment, IsSoundDeck}
-use Rattle.fdr_deck.proofs.Moments.{EachMoment-weaken}
+use Rattle.fdr_deck.specs.Moments.{IsSoundDeck}
+use Rattle.fdr_deck.proofs.Moments.{KeepsAnnounced-least}
 use Rattle.fdr_recorder.specs.Lag.{IsInTime, IsLagMoment, KeepsUp}
 use Rattle.fdr_trace.specs.Moments.{IsNeededPull, IsTraceMoment, PullsForRecord}
 use Rattle.fdr_trace.specs.Pulls.{PullsUntilDecided}
@@ -26,6 +26,15 @@ IsInTime-more owed start bytes more told told' before taken le is =
       within = omega (arith, is.within, length-append bytes more);
       announced = omega (arith, le, is.announced, same);
     }
+
+-- more was announced
+pub IsInTime-up : (owed : List BusRecord → ℕ) (start : ℕ) (bytes : List ℕ) (told told' before taken : ℕ) → told ≤ told'
+    → IsInTime owed start bytes told before taken → IsInTime owed start bytes told' before taken
+IsInTime-up owed start bytes told told' before taken le is = record {
+  pull = is.pull;
+  within = is.within;
+  announced = omega (arith, le, is.announced);
+}
 
 -- a pull made while the next record was read
 pub IsInTime-pull : (owed : List BusRecord → ℕ) (start at : ℕ) (bytes more : List ℕ) (records : List BusRecord)
@@ -57,11 +66,8 @@ module _ (owed : List BusRecord → ℕ) (tells : Tells) (first old new : State)
   at_moment m is = record {
     pulled = ⊎_elim
         (λ here. ⊎_elim
-        (λ some.
-        let now = IsInTime-more owed first.taken bytes more old.least m.announced old.pulled_before old.taken is.least
-        (up.least some) in
-        inr (subst (λ n. IsInTime owed first.taken (bytes ++ more) m.announced n m.taken) (sym here.pulled_before)
-        (subst (λ n. IsInTime owed first.taken (bytes ++ more) m.announced old.pulled_before n) (sym here.taken) now)))
+        (λ some. inr (rw (here.pulled_before, here.taken) (IsInTime-more owed first.taken bytes more old.least m.announced old.pulled_before old.taken
+        is.least (up.least some))))
         (λ none. inl (record {
           taken = omega (arith, here.taken, up.pulls.takes.taken, none);
           pulled_before = here.pulled_before
@@ -73,11 +79,6 @@ module _ (owed : List BusRecord → ℕ) (tells : Tells) (first old new : State)
         is.pulled;
   }
 
-  -- each moment while the next record is read
-  pub moments_up : EachMoment tells old new (IsLagMoment owed first (bytes ++ more))
-  moments_up = EachMoment-weaken tells old new (IsTraceMoment old bytes more records)
-      (IsLagMoment owed first (bytes ++ more)) at_moment reads.moments
-
   -- after the next record, before it is fed
   pub least_up : 0 < length (bytes ++ more) → IsInTime owed first.taken (bytes ++ more) new.least new.pulled_before new.taken
   least_up some = ⊎_elim
@@ -87,11 +88,7 @@ module _ (owed : List BusRecord → ℕ) (tells : Tells) (first old new : State)
       (omega (arith, anew.least, told.announced, up.announced)) (reads.last here))
       (λ none.
       let was = up.least (omega (arith, length-append bytes more, none, some)) in
-      let least : old.least ≤ new.least = ⊎_elim (λ anew. omega (arith, anew.0, told.announced, sound.least))
-      (λ kept. omega (arith, kept.0)) told.numbers in
-      let now = IsInTime-more owed first.taken bytes more old.least new.least old.pulled_before old.taken least was in
-      let taken : old.taken ≡ new.taken = omega (arith, pulls.takes.taken, none) in
-      let before = sym (pulls.none (omega (arith, none))) in
-      subst (λ n. IsInTime owed first.taken (bytes ++ more) new.least n new.taken) before
-      (subst (λ n. IsInTime owed first.taken (bytes ++ more) new.least old.pulled_before n) taken now))
+      let taken : new.taken ≡ old.taken = omega (arith, pulls.takes.taken, none) in
+      rw (pulls.none (omega (arith, none)), taken) (IsInTime-more owed first.taken bytes more old.least new.least old.pulled_before old.taken
+      (KeepsAnnounced-least tells old new sound told) was))
       (cases_lt 0 (length more))

@@ -8,6 +8,7 @@ use Rattle.fdr_bus.specs.declared.BusRecord.{BusRecord}
 use Rattle.fdr_deck.specs.State.{Moment, State, Tells}
 use Rattle.fdr_deck.specs.Pull.{KeepsInput}
 use Rattle.fdr_deck.specs.Moments.{EachMoment, HasSamePulls, IsSoundDeck}
+use Rattle.fdr_deck.proofs.Composing.{same_fault}
 use Rattle.fdr_deck.proofs.Moments.{EachMoment-then, EachMoment-weaken, Elapses-then, HasSamePulls-before, IsDiskWork-here}
 use Rattle.fdr_slot.specs.Headers.{header_of}
 use Rattle.fdr_slot.specs.declared.image.Header.{Header}
@@ -38,7 +39,7 @@ use Rattle.fdr_recorder.specs.declared.error.SessionFault.{SessionFault}
 use Rattle.fdr_recorder.specs.declared.error.SessionFault.TheVariants as session
 use Rattle.fdr_recorder.specs.declared.session.Session.{Session}
 use Rattle.fdr_recorder.proofs.ReadRecords.{PullsUntilDecided-next}
-use Rattle.fdr_recorder.proofs.SessionEnds.{EndsSupply-cut, is_seq_end}
+use Rattle.fdr_recorder.proofs.SessionEnds.{EndsSupply-cut}
 use Rattle.fdr_recorder.proofs.Starting.{Starts-looked}
 use Rattle.fdr_recorder.proofs.Steps.{keeps_behind, keeps_more, keeps_on}
 
@@ -181,7 +182,7 @@ RecordsSupply-unbegun from t tells d0 d1 f starts not_end image version = record
   pulled = [];
   pulls = none_pulled tells d0 d1 starts.input starts.input_faults;
   blocks = RecordsBlocks-unbegun t tells (supplied_records from []) d0 d1 (HasRecordedSource (Err f)) (◌≡◌ {A = RecordingEnd} (Err f) (Err session.SeqEnd))
-      starts (λ all. all) (λ e. not_end (is_seq_end f e));
+      starts (λ all. all) (λ e. not_end (same_fault e));
   image = image;
   version = version;
   in_time = λ ready. starting_lag t tells d0 d1 starts ready;
@@ -209,15 +210,15 @@ some_same a b e = cc
 pub no_first : (image : List ℕ) (why : ImageFault) → image_fault_of image ≡ None → image_fault_of image ≡ Some why → ⊥
 no_first image why none some = let c : ◌≡◌ {A = Option ImageFault} None (Some why) = sym none ∙ some in cc
 
-same_fault : (a b : ImageFault) → ◌≡◌ {A = RecordingEnd} (Err (session.Image a)) (Err (session.Image b)) → a ≡ b
-same_fault a b e = cc
+same_image : (a b : ImageFault) → ◌≡◌ {A = RecordingEnd} (Err (session.Image a)) (Err (session.Image b)) → a ≡ b
+same_image a b e = cc
 
 -- the image's first fault is answered
 image_refused : (t : TableRows) (tells : Tells) (old new : State) (found : ImageFault) → (IsTrue tells.bytes → image_fault_of old.held ≡ Some found)
     → ((found ≡ fault.Small) ↔ (new.extent < 64)) → RefusesSession t tells old new (Err (session.Image found))
 image_refused t tells old new found first small = record {
-  refused = λ why e bytes. first bytes ∙ ap Some (same_fault found why e);
-  small = λ why e. subst (λ (x : ImageFault). (x ≡ fault.Small) ↔ (new.extent < 64)) (same_fault found why e) small;
+  refused = λ why e bytes. first bytes ∙ ap Some (same_image found why e);
+  small = λ why e. subst (λ (x : ImageFault). (x ≡ fault.Small) ↔ (new.extent < 64)) (same_image found why e) small;
   small_always = λ past short. inl (ap (λ (x : ImageFault). Err (session.Image x)) (small.1 short));
   refused_always = λ why past bytes some. inl (ap (λ (x : ImageFault). Err (session.Image x)) (some_same found why (sym (first bytes) ∙ some)));
   words = λ image table e. absurd (cc);

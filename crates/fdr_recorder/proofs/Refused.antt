@@ -61,20 +61,13 @@ pub disk_above : {T U : Type 0} (e : HeaderFault) → ◌≡◌ {A = Result U He
     → ◌≡◌ {A = Result T SessionFault} (Err (session_header_fault e)) (Err fault.DiskFault)
 disk_above e is = ap (λ (f : HeaderFault). Err (session_header_fault f)) (same_fault is)
 
-pub header_not_end : {T : Type 0} (e : HeaderFault) → ◌≡◌ {A = Result T SessionFault} (Err (session_header_fault e)) (Err fault.SeqEnd) → ⊥
-header_not_end (header.Image found) is = cc
-header_not_end (header.WordsDiffer i t) is = cc
-header_not_end header.DiskFault is = cc
-
-pub header_not_memory : {T : Type 0} (e : HeaderFault) → ◌≡◌ {A = Result T SessionFault} (Err (session_header_fault e)) (Err fault.NoMemory) → ⊥
-header_not_memory (header.Image found) is = cc
-header_not_memory (header.WordsDiffer i t) is = cc
-header_not_memory header.DiskFault is = cc
-
-pub header_not_old : {T : Type 0} (e : HeaderFault) → ◌≡◌ {A = Result T SessionFault} (Err (session_header_fault e)) (Err fault.OldVersion) → ⊥
-header_not_old (header.Image found) is = cc
-header_not_old (header.WordsDiffer i t) is = cc
-header_not_old header.DiskFault is = cc
+-- and it is one of these three kinds
+pub header_not : {T : Type 0} (e : HeaderFault) → (◌≡◌ {A = Result T SessionFault} (Err (session_header_fault e)) (Err fault.SeqEnd) → ⊥)
+    × (◌≡◌ {A = Result T SessionFault} (Err (session_header_fault e)) (Err fault.NoMemory) → ⊥)
+    × (◌≡◌ {A = Result T SessionFault} (Err (session_header_fault e)) (Err fault.OldVersion) → ⊥)
+header_not (header.Image found) = (λ is. cc, λ is. cc, λ is. cc)
+header_not (header.WordsDiffer i t) = (λ is. cc, λ is. cc, λ is. cc)
+header_not header.DiskFault = (λ is. cc, λ is. cc, λ is. cc)
 
 -- no header was found of a disk that is too short for one
 pub header_short : {T U : Type 0} (e : HeaderFault) (size : ℕ)

@@ -2,7 +2,7 @@
 use Rattle.std.proofs.Common.{◌≡◌, ◌≢◌, ◌⊎◌, ⊎_elim, inl, inr, Result, Ok, Err, Option, Some, None, true, ℕ, ◌+◌, ◌-◌, ◌^◌, ◌<◌, ◌≤◌}
 use Rattle.std.proofs.Common.{List, [], ◌∷◌, ◌++◌, length, take, ap, sym, refl, ◌∙◌, subst, length-append, arith}
 use Rattle.std.proofs.lemmas.Bool.{cases_lt}
-use Rattle.std.proofs.lemmas.List.{take-append-le}
+use Rattle.std.proofs.lemmas.List.{append-nil, take-append-le}
 use Rattle.std.proofs.Math.Seq.{take-append-add}
 use Rattle.fdr_io.specs.Faults.{Rose}
 use Rattle.fdr_bus.specs.declared.BusRecord.{BusRecord}
@@ -13,6 +13,7 @@ use Rattle.fdr_deck.specs.State.{State, Tells}
 use Rattle.fdr_deck.specs.Calls.{LeavesDisk}
 use Rattle.fdr_deck.specs.Pull.{KeepsInput}
 use Rattle.fdr_deck.specs.Moments.{EachMoment, Elapses, IsSoundDeck}
+use Rattle.fdr_deck.proofs.Composing.{same_fault}
 use Rattle.fdr_deck.proofs.Moments.{EachMoment-weaken, KeepsInput-then}
 use Rattle.fdr_slot.specs.Limits.{IsInLimits}
 use Rattle.fdr_slot.proofs.HeaderLemmas.{in_limits-is}
@@ -268,20 +269,9 @@ HasFedAll-end from tells past s d0 d' bytes records r ring stands has good ends 
 
 -- ---- where a record couldn't be fed
 
-close_same : (f f' : SessionFault) → ◌≡◌ {A = Result ℕ SessionFault} (Err f) (Err f') → f ≡ f'
-close_same f f' e = cc
-
-pub fault_same : (f f' : SessionFault) → ◌≡◌ {A = Result Session SessionFault} (Err f) (Err f') → f ≡ f'
-fault_same f f' e = cc
-
--- the same of the answer of a session that is closed
-pub only_close : (f : SessionFault) → ◌≡◌ {A = Result ℕ SessionFault} (Err f) (Err session.DiskFault)
-    ⊎ ◌≡◌ {A = Result ℕ SessionFault} (Err f) (Err session.SeqEnd) → (f ≡ session.DiskFault) ⊎ (f ≡ session.SeqEnd)
-only_close f only = ⊎_elim (λ e. inl (close_same f session.DiskFault e)) (λ e. inr (close_same f session.SeqEnd e)) only
-
-pub only_two : (f : SessionFault) → ◌≡◌ {A = Result Session SessionFault} (Err f) (Err session.DiskFault)
-    ⊎ ◌≡◌ {A = Result Session SessionFault} (Err f) (Err session.SeqEnd) → (f ≡ session.DiskFault) ⊎ (f ≡ session.SeqEnd)
-only_two f only = ⊎_elim (λ e. inl (fault_same f session.DiskFault e)) (λ e. inr (fault_same f session.SeqEnd e)) only
+pub only_two : {T : Type 0} (f : SessionFault) → ◌≡◌ {A = Result T SessionFault} (Err f) (Err session.DiskFault)
+    ⊎ ◌≡◌ {A = Result T SessionFault} (Err f) (Err session.SeqEnd) → (f ≡ session.DiskFault) ⊎ (f ≡ session.SeqEnd)
+only_two f only = ⊎_elim (λ e. inl (same_fault e)) (λ e. inr (same_fault e)) only
 
 -- where the disk didn't fail, the numbers ended
 pub ended_only : (f : SessionFault) → (f ≡ session.DiskFault) ⊎ (f ≡ session.SeqEnd) → (f ≡ session.DiskFault → ⊥) → f ≡ session.SeqEnd
@@ -294,75 +284,98 @@ two_cut f only = ⊎_elim
     (λ (e : f ≡ session.SeqEnd). rw e tt)
     only
 
-pub is_seq_end : (f : SessionFault) → ◌≡◌ {A = RecordingEnd} (Err f) (Err session.SeqEnd) → f ≡ session.SeqEnd
-is_seq_end f e = cc
-
 -- the first blocks of three stretches, as many as reach into the second
 take_two : (xs ys zs : List Block) (n m : ℕ) → n ≡ length xs + m → m ≤ length ys → take n ((xs ++ ys) ++ zs) ≡ xs ++ take m ys
 take_two xs ys zs n m is within =
     take-append-le n (xs ++ ys) zs (omega (arith, is, within, length-append xs ys))
     ∙ ap (λ k. take k (xs ++ ys)) is ∙ take-append-add xs ys m
 
-module _ (from : RecordSupply) (tells : Tells) (past : RecordingPast) (d0 d d' : State) (bytes : List ℕ) (records later : List BusRecord) (r : BusRecord)
-    (f : SessionFault) (sound0 : IsSoundDeck tells d0) (s : Session) (is : IsBegun tells s past d0)
-    (limits : IsInLimits past.header) (has : HasFed tells (past_fed past records) bytes d0 d) (may : MayFeedRecording (past_fed past records) r)
-    (good : supplied_records from bytes ≡ (records ++ r ∷ []) ++ later) (none : PullsNothing from bytes)
-    (wrote : RecordsFirstOf tells past.header (past.first + length (recorded_of (past_fed past records))) (blocks_due_at (past_fed past records) r) d d')
-    (only : (f ≡ session.DiskFault) ⊎ (f ≡ session.SeqEnd))
+-- blocks were recorded after those of the records so far, and no others, or an error came
+module _ (from : RecordSupply) (tells : Tells) (past : RecordingPast) (d0 d d' : State) (bytes : List ℕ) (records : List BusRecord) (blocks rest : List Block)
+    (sound0 : IsSoundDeck tells d0) (s : Session) (is : IsBegun tells s past d0) (has : HasFed tells (past_fed past records) bytes d0 d)
+    (wrote : RecordsFirstOf tells past.header (past.first + length (recorded_of (past_fed past records))) blocks d d')
+    (parts : all_blocks (past_fed past (supplied_records from bytes)) ≡ (recorded_of (past_fed past records) ++ blocks) ++ rest)
   where
-    rest : List Block
-    rest = (new_blocks-begin past (supplied_records from bytes) (records ++ r ∷ []) later (supplied_records-rises from bytes) good limits).0
-
-    parts : all_blocks (past_fed past (supplied_records from bytes))
-        ≡ (recorded_of (past_fed past records) ++ blocks_due_at (past_fed past records) r) ++ rest
-    unfolding rest
-    parts = (new_blocks-begin past (supplied_records from bytes) (records ++ r ∷ []) later (supplied_records-rises from bytes) good limits).1
-        ∙ ap (λ (l : List Block). l ++ rest) (recorded_of-fed (past_fed past records) r limits may)
-
     moments : d0.greatest ≤ past.first
         → EachMoment tells d0 d' (SupplyMoment past d0 (all_blocks (past_fed past (supplied_records from bytes))) bytes)
-    moments few = subst (λ (l : List Block). EachMoment tells d0 d' (SupplyMoment past d0 l bytes)) (sym parts)
-        (EachMoment-weaken tells d0 d'
-        (SupplyMoment past d0 (recorded_of (past_fed past records) ++ blocks_due_at (past_fed past records) r) bytes)
-        (SupplyMoment past d0 ((recorded_of (past_fed past records) ++ blocks_due_at (past_fed past records) r) ++ rest) bytes)
-        (λ m at. record {
-          keeps = keeps_more past.header d0.held m.image (recovered_run past.header d0.held)
-              (recorded_of (past_fed past records) ++ blocks_due_at (past_fed past records) r) rest m.announced at.keeps;
+    moments few =
+        let before = recorded_of (past_fed past records) ++ blocks in
+        subst (λ (l : List Block). EachMoment tells d0 d' (SupplyMoment past d0 l bytes)) (sym parts)
+        (EachMoment-weaken tells d0 d' (SupplyMoment past d0 before bytes) (SupplyMoment past d0 (before ++ rest) bytes) (λ m at. record {
+          keeps = keeps_more past.header d0.held m.image (recovered_run past.header d0.held) before rest m.announced at.keeps;
           close = at.close;
           least = at.least;
           in_time = at.in_time;
-        })
-        (block_moments tells (past_fed past records) d0 d d' bytes sound0 is.ring is.settled is.announced has
-        (blocks_due_at (past_fed past records) r) wrote few))
+        }) (block_moments tells (past_fed past records) d0 d d' bytes sound0 is.ring is.settled is.announced has blocks wrote few))
 
-    pub Continues-fault : d.input_faults ≡ d0.input_faults → (past.first + length (recorded_of (past_fed past records)) ≤ 2 ^ 48)
-        → (f ≡ session.SeqEnd
-        → HasEnded tells past.header (past.first + length (recorded_of (past_fed past records))) (blocks_due_at (past_fed past records) r) d d')
-        → Continues from tells past d0 d' (Err f)
-    Continues-fault quiet bound ended =
+    pulls : PullsUntilDecided tells d0 d' [] bytes
+    pulls = block_pulls tells (past_fed past records) d0 d d' bytes sound0 is.ring is.settled is.announced has blocks wrote
+
+    time : Elapses tells d0 d'
+    time = block_time tells (past_fed past records) d0 d d' bytes sound0 is.ring is.settled is.announced has blocks wrote
+
+    Continues-cut : (f : SessionFault) → past.first + length (recorded_of (past_fed past records)) ≤ 2 ^ 48
+        → (f ≡ session.SeqEnd → HasEnded tells past.header (past.first + length (recorded_of (past_fed past records))) blocks d d')
+        → EndsSupply from tells d0 d' bytes (Err f) → Continues from tells past d0 d' (Err f)
+    Continues-cut f bound ended ends =
         let a = recorded_of (past_fed past records) in
-        let b = blocks_due_at (past_fed past records) r in
-        let long = ap length parts in
         record {
           pulled = bytes;
-          pulls = block_pulls tells (past_fed past records) d0 d d' bytes sound0 is.ring is.settled is.announced has b wrote;
-          time = block_time tells (past_fed past records) d0 d d' bytes sound0 is.ring is.settled is.announced has b wrote;
+          pulls = pulls;
+          time = time;
           moments = moments;
           recorded = λ whole. absurd whole;
           within = λ whole. absurd whole;
           seq_end = λ e.
-              let end = ended (is_seq_end f e) in
+              let end = ended (same_fault e) in
               let n : 2 ^ 48 - past.first ≡ length a + (2 ^ 48 - (past.first + length a)) = omega (arith, bound) in
-              let cut : 2 ^ 48 - (past.first + length a) ≤ length b = omega (arith, end.beyond) in
+              let cut : 2 ^ 48 - (past.first + length a) ≤ length blocks = omega (arith, end.beyond) in
               subst (λ (l : List Block). RecordsAllOf tells past.header past.first l d0 d')
               (sym (ap (λ (l : List Block). take (2 ^ 48 - past.first) l) parts
-              ∙ take_two a b rest (2 ^ 48 - past.first) (2 ^ 48 - (past.first + length a)) n cut))
-              (RecordsAllOf-then tells past.header past.first a (take (2 ^ 48 - (past.first + length a)) b) d0 d d' has.recorded end.recorded);
+              ∙ take_two a blocks rest (2 ^ 48 - past.first) (2 ^ 48 - (past.first + length a)) n cut))
+              (RecordsAllOf-then tells past.header past.first a (take (2 ^ 48 - (past.first + length a)) blocks) d0 d d' has.recorded end.recorded);
           beyond = λ e.
-              let end = ended (is_seq_end f e) in
-              omega (arith, end.beyond, long, length-append (a ++ b) rest, length-append a b);
-          ends = EndsSupply-cut from tells d0 d' bytes f none (λ line known. wrote.input_faults ∙ quiet);
+              let end = ended (same_fault e) in
+              omega (arith, end.beyond, ap length parts, length-append (a ++ blocks) rest, length-append a blocks);
+          ends = ends;
         }
+
+    Continues-all : (end : SourceEnd) → rest ≡ [] → past.first + length (recorded_of (past_fed past records)) + length blocks ≤ 2 ^ 48
+        → RecordsAllOf tells past.header (past.first + length (recorded_of (past_fed past records))) blocks d d'
+        → EndsSupply from tells d0 d' bytes (Ok end) → Continues from tells past d0 d' (Ok end)
+    Continues-all end none bound recorded ends =
+        let a = recorded_of (past_fed past records) in
+        let whole : all_blocks (past_fed past (supplied_records from bytes)) ≡ a ++ blocks =
+        parts ∙ ap (λ (l : List Block). (a ++ blocks) ++ l) none ∙ append-nil (a ++ blocks) in
+        record {
+          pulled = bytes;
+          pulls = pulls;
+          time = time;
+          moments = moments;
+          recorded = λ all. subst (λ (l : List Block). RecordsAllOf tells past.header past.first l d0 d') (sym whole)
+              (RecordsAllOf-then tells past.header past.first a blocks d0 d d' has.recorded recorded);
+          within = λ all. omega (arith, bound, ap length whole, length-append a blocks);
+          seq_end = λ e. absurd (cc);
+          beyond = λ e. absurd (cc);
+          ends = ends;
+        }
+
+pub Continues-fault : (from : RecordSupply) (tells : Tells) (past : RecordingPast) (d0 d d' : State) (bytes : List ℕ) (records later : List BusRecord)
+    (r : BusRecord) (f : SessionFault) → IsSoundDeck tells d0 → (s : Session) → IsBegun tells s past d0 → IsInLimits past.header
+    → HasFed tells (past_fed past records) bytes d0 d → MayFeedRecording (past_fed past records) r
+    → supplied_records from bytes ≡ (records ++ r ∷ []) ++ later → PullsNothing from bytes
+    → RecordsFirstOf tells past.header (past.first + length (recorded_of (past_fed past records))) (blocks_due_at (past_fed past records) r) d d'
+    → d.input_faults ≡ d0.input_faults → past.first + length (recorded_of (past_fed past records)) ≤ 2 ^ 48
+    → (f ≡ session.SeqEnd
+    → HasEnded tells past.header (past.first + length (recorded_of (past_fed past records))) (blocks_due_at (past_fed past records) r) d d')
+    → Continues from tells past d0 d' (Err f)
+Continues-fault from tells past d0 d d' bytes records later r f sound0 s is limits has may good none wrote quiet bound ended =
+    let more = new_blocks-begin past (supplied_records from bytes) (records ++ r ∷ []) later (supplied_records-rises from bytes) good limits in
+    let parts : all_blocks (past_fed past (supplied_records from bytes))
+    ≡ (recorded_of (past_fed past records) ++ blocks_due_at (past_fed past records) r) ++ more.0 =
+    more.1 ∙ ap (λ (l : List Block). l ++ more.0) (recorded_of-fed (past_fed past records) r limits may) in
+    Continues-cut from tells past d0 d d' bytes records (blocks_due_at (past_fed past records) r) more.0 sound0 s is has wrote parts f bound ended
+    (EndsSupply-cut from tells d0 d' bytes f none (λ line known. wrote.input_faults ∙ quiet))
 
 -- ---- where the session is closed
 
@@ -417,91 +430,41 @@ nothing_pulled : (from : RecordSupply) (tells : Tells) (d0 d : State) (bytes : L
 nothing_pulled line_trace tells d0 d bytes end ends = tt
 nothing_pulled (drawn_trace t seed frames) tells d0 d bytes end ends = ends.0
 
+-- the records of a supply were fed
+abbrev fed : RecordSupply → RecordingPast → List ℕ → RecordingPast
+fed from past bytes = past_fed past (supplied_records from bytes)
+
 module _ (from : RecordSupply) (tells : Tells) (past : RecordingPast) (d0 d d' : State) (s0 s : Session) (end : SourceEnd)
     (sound0 : IsSoundDeck tells d0) (is : IsBegun tells s0 past d0) (whole : HasFedAll from tells past s d0 d end)
   where
     -- the last block is written, or an error comes
-    module _ (parts : all_blocks (past_fed past (supplied_records from whole.pulled))
-        ≡ recorded_of (past_fed past (supplied_records from whole.pulled)) ++ rest_of (past_fed past (supplied_records from whole.pulled)))
-        (wrote : RecordsFirstOf tells s.ring.header s.ring.next (rest_of (past_fed past (supplied_records from whole.pulled))) d d')
+    module _ (parts : all_blocks (fed from past whole.pulled) ≡ recorded_of (fed from past whole.pulled) ++ rest_of (fed from past whole.pulled))
+        (wrote : RecordsFirstOf tells s.ring.header s.ring.next (rest_of (fed from past whole.pulled)) d d')
       where
-        wrote_at : RecordsFirstOf tells past.header (past.first + length (recorded_of (past_fed past (supplied_records from whole.pulled))))
-            (rest_of (past_fed past (supplied_records from whole.pulled))) d d'
-        wrote_at = RecordsFirstOf-at tells (past_fed past (supplied_records from whole.pulled)) s
-            (rest_of (past_fed past (supplied_records from whole.pulled))) d d'
-            whole.stands wrote
-
-        closing_moments : d0.greatest ≤ past.first
-            → EachMoment tells d0 d' (SupplyMoment past d0 (all_blocks (past_fed past (supplied_records from whole.pulled))) whole.pulled)
-        closing_moments few = subst (λ (l : List Block). EachMoment tells d0 d' (SupplyMoment past d0 l whole.pulled)) (sym parts)
-            (block_moments tells (past_fed past (supplied_records from whole.pulled)) d0 d d' whole.pulled sound0 is.ring is.settled is.announced whole.has
-            (rest_of (past_fed past (supplied_records from whole.pulled))) wrote_at few)
-
-        closing_time : Elapses tells d0 d'
-        closing_time = block_time tells (past_fed past (supplied_records from whole.pulled)) d0 d d' whole.pulled sound0 is.ring is.settled is.announced
-            whole.has (rest_of (past_fed past (supplied_records from whole.pulled))) wrote_at
-
-        closing_pulls : PullsUntilDecided tells d0 d' [] whole.pulled
-        closing_pulls = block_pulls tells (past_fed past (supplied_records from whole.pulled)) d0 d d' whole.pulled sound0 is.ring is.settled is.announced
-            whole.has (rest_of (past_fed past (supplied_records from whole.pulled))) wrote_at
-
-        pub Continues-closed : (n : ℕ) → n ≡ s.ring.next + length (rest_of (past_fed past (supplied_records from whole.pulled))) → n ≤ 2 ^ 48
-            → RecordsAllOf tells s.ring.header s.ring.next (rest_of (past_fed past (supplied_records from whole.pulled))) d d'
-            → Continues from tells past d0 d' (Ok end)
+        pub Continues-closed : (n : ℕ) → n ≡ s.ring.next + length (rest_of (fed from past whole.pulled)) → n ≤ 2 ^ 48
+            → RecordsAllOf tells s.ring.header s.ring.next (rest_of (fed from past whole.pulled)) d d' → Continues from tells past d0 d' (Ok end)
         Continues-closed n next bound recorded =
-            let p = past_fed past (supplied_records from whole.pulled) in
-            let a = recorded_of p in
-            let b = rest_of p in
-            record {
-              pulled = whole.pulled;
-              pulls = closing_pulls;
-              time = closing_time;
-              moments = closing_moments;
-              recorded = λ all. subst (λ (l : List Block). RecordsAllOf tells past.header past.first l d0 d') (sym parts)
-                  (RecordsAllOf-then tells past.header past.first a b d0 d d' whole.has.recorded
-                  (RecordsAllOf-at tells p s b d d' whole.stands recorded));
-              within = λ all. omega (arith, bound, next, next_at p s whole.stands, ap length parts, length-append a b);
-              seq_end = λ e. absurd (cc);
-              beyond = λ e. absurd (cc);
-              ends = EndsSupply-kept from tells d0 d d' whole.pulled (Ok end) whole.ends wrote.input.input wrote.input_faults;
-            }
+            let p = fed from past whole.pulled in
+            Continues-all from tells past d0 d d' whole.pulled (supplied_records from whole.pulled) (rest_of p) [] sound0 s0 is whole.has
+            (RecordsFirstOf-at tells p s (rest_of p) d d' whole.stands wrote) (parts ∙ sym (append-nil (recorded_of p ++ rest_of p))) end refl
+            (omega (arith, bound, next, next_at p s whole.stands)) (RecordsAllOf-at tells p s (rest_of p) d d' whole.stands recorded)
+            (EndsSupply-kept from tells d0 d d' whole.pulled (Ok end) whole.ends wrote.input.input wrote.input_faults)
 
         -- its number is announced
-        pub told_closed : (n : ℕ) → n ≡ s.ring.next + length (rest_of (past_fed past (supplied_records from whole.pulled)))
-            → RecordsAllOf tells s.ring.header s.ring.next (rest_of (past_fed past (supplied_records from whole.pulled))) d d' → n ≡ d'.announced
+        pub told_closed : (n : ℕ) → n ≡ s.ring.next + length (rest_of (fed from past whole.pulled))
+            → RecordsAllOf tells s.ring.header s.ring.next (rest_of (fed from past whole.pulled)) d d' → n ≡ d'.announced
         told_closed n next recorded =
-            let p = past_fed past (supplied_records from whole.pulled) in
+            let number = next_at (fed from past whole.pulled) s whole.stands in
             let here = whole.has.recorded.announced is.announced in
-            omega (arith, next, next_at p s whole.stands, here, recorded.announced (omega (arith, here, next_at p s whole.stands)))
+            omega (arith, next, number, here, recorded.announced (omega (arith, here, number)))
 
-        pub Continues-unclosed : (f : SessionFault) → (f ≡ session.DiskFault) ⊎ (f ≡ session.SeqEnd)
-            → (f ≡ session.SeqEnd
-            → HasEnded tells s.ring.header s.ring.next (rest_of (past_fed past (supplied_records from whole.pulled))) d d')
+        pub Continues-unclosed : (f : SessionFault)
+            → (f ≡ session.SeqEnd → HasEnded tells s.ring.header s.ring.next (rest_of (fed from past whole.pulled)) d d')
             → Continues from tells past d0 d' (Err f)
-        Continues-unclosed f only ended =
-            let p = past_fed past (supplied_records from whole.pulled) in
-            let a = recorded_of p in
-            let b = rest_of p in
-            let bound = bound_of p s whole.stands in
-            record {
-              pulled = whole.pulled;
-              pulls = closing_pulls;
-              time = closing_time;
-              moments = closing_moments;
-              recorded = λ all. absurd all;
-              within = λ all. absurd all;
-              seq_end = λ e.
-                  let end = HasEnded-at tells p s b d d' whole.stands (ended (is_seq_end f e)) in
-                  let n : 2 ^ 48 - past.first ≡ length a + (2 ^ 48 - (past.first + length a)) = omega (arith, bound) in
-                  subst (λ (l : List Block). RecordsAllOf tells past.header past.first l d0 d')
-                  (sym (ap (λ (l : List Block). take (2 ^ 48 - past.first) l) parts
-                  ∙ ap (λ m. take m (a ++ b)) n ∙ take-append-add a b (2 ^ 48 - (past.first + length a))))
-                  (RecordsAllOf-then tells past.header past.first a (take (2 ^ 48 - (past.first + length a)) b) d0 d d'
-                  whole.has.recorded end.recorded);
-              beyond = λ e.
-                  let end = HasEnded-at tells p s b d d' whole.stands (ended (is_seq_end f e)) in
-                  omega (arith, end.beyond, ap length parts, length-append a b);
-              ends = EndsSupply-cut from tells d0 d' whole.pulled f
-                  (nothing_pulled from tells d0 d whole.pulled (Ok end) whole.ends)
-                  (decided_quiet from tells d0 d d' whole.pulled (Ok end) whole.ends wrote.input_faults);
-            }
+        Continues-unclosed f ended =
+            let p = fed from past whole.pulled in
+            Continues-cut from tells past d0 d d' whole.pulled (supplied_records from whole.pulled) (rest_of p) [] sound0 s0 is whole.has
+            (RecordsFirstOf-at tells p s (rest_of p) d d' whole.stands wrote) (parts ∙ sym (append-nil (recorded_of p ++ rest_of p))) f
+            (bound_of p s whole.stands) (λ e. HasEnded-at tells p s (rest_of p) d d' whole.stands (ended e))
+            (EndsSupply-cut from tells d0 d' whole.pulled f (nothing_pulled from tells d0 d whole.pulled (Ok end) whole.ends)
+            (decided_quiet from tells d0 d d' whole.pulled (Ok end) whole.ends wrote.input_faults))

@@ -1,16 +1,15 @@
 -- A trace that is recorded in a session, record by record.
-use Rattle.std.proofs.Common.{◌≡◌, inl, inr, ⊎_elim, ℕ, ◌+◌, ◌-◌, ◌<◌, ◌≤◌, List, [], ◌∷◌, ◌++◌, length, take, ap, sym, ◌∙◌, subst}
+use Rattle.std.proofs.Common.{◌≡◌, inl, inr, ⊎_elim, ℕ, ◌+◌, ◌-◌, ◌<◌, ◌≤◌, List, [], ◌∷◌, ◌++◌, length, ap, sym, ◌∙◌, subst}
 use Rattle.std.proofs.Common.{length-append, arith}
 use Rattle.std.specs.Prelude.{IsTrue}
 use Rattle.std.proofs.lemmas.Bool.{cases_lt}
 use Rattle.std.proofs.lemmas.List.{take_all}
 use Rattle.fdr_bus.specs.declared.BusRecord.{BusRecord}
-use Rattle.fdr_bus.specs.Records.{good_prefix}
 use Rattle.fdr_deck.specs.State.{Moment, State, Tells}
 use Rattle.fdr_deck.specs.Calls.{HasOneAnnounced, KeepsAnnounced, LeavesDisk}
 use Rattle.fdr_deck.specs.Disk.{IsSettled}
 use Rattle.fdr_deck.specs.Moments.{Elapses, EachMoment, HasSamePulls, IsSoundDeck}
-use Rattle.fdr_deck.proofs.Moments.{EachMoment-then, EachMoment-weaken, Elapses-here, Elapses-then}
+use Rattle.fdr_deck.proofs.Moments.{EachMoment-then, EachMoment-weaken, Elapses-here, Elapses-then, KeepsAnnounced-least, KeepsAnnounced-greatest}
 use Rattle.fdr_slot.specs.Limits.{IsInLimits}
 use Rattle.fdr_slot.specs.declared.image.Header.{Header}
 use Rattle.fdr_recover.specs.Blocks.{Block}
@@ -29,7 +28,7 @@ use Rattle.fdr_recorder.proofs.Joined.{recorded_of-fed}
 use Rattle.fdr_recorder.proofs.Steps.{keeps_more, keeps_on, keeps_run, same_run}
 use Rattle.fdr_recorder.specs.Lag.{IsLagMoment, KeepsUp}
 use Rattle.fdr_recorder.specs.Supplied.{HasFed, SupplyMoment, owed_number_by}
-use Rattle.fdr_recorder.proofs.Lag.{IsInTime-more, at_moment, least_up}
+use Rattle.fdr_recorder.proofs.Lag.{IsInTime-more, IsInTime-up, at_moment, least_up}
 use Rattle.fdr_recorder.proofs.NewBlocks.{recorded-long}
 use Rattle.fdr_recorder.proofs.ReadRecords.{PullsUntilDecided-next}
 
@@ -48,18 +47,8 @@ pub lag_still : (owed : List BusRecord → ℕ) (tells : Tells) (first now : Sta
     → KeepsUp owed tells first now bytes records → HasSamePulls now m → now.least ≤ m.announced → IsLagMoment owed first bytes m
 lag_still owed tells first now bytes records m up here least = record {
   pulled = ⊎_elim
-      (λ some.
-      let was = up.least some in
-      let same = ap (λ n. owed (good_prefix (take (n - first.taken) bytes))) here.pulled_before in
-      inr (record {
-        pull = record {
-          begins = omega (arith, here.pulled_before, was.pull.begins);
-          gave_bytes = omega (arith, here.pulled_before, here.taken, was.pull.gave_bytes);
-          within_piece = omega (arith, here.pulled_before, here.taken, was.pull.within_piece);
-        };
-        within = omega (arith, here.taken, was.within);
-        announced = omega (arith, same, was.announced, least);
-      }))
+      (λ some. inr (rw (here.pulled_before, here.taken) (IsInTime-up owed first.taken bytes now.least m.announced now.pulled_before now.taken least
+      (up.least some))))
       (λ none. inl (record {
         taken = omega (arith, here.taken, up.pulls.takes.taken, none);
         pulled_before = here.pulled_before ∙ up.pulls.none (omega (arith, none));
@@ -79,13 +68,11 @@ RecordsAllOf-pull tells h next new d0 d d' sound leaves told has = record {
   last = λ bytes whole is. ap (λ (l : List ℕ). recovered_run h l) leaves.disk.held ∙ has.last bytes whole is;
   settled = λ stops is image left. has.settled stops is image (leaves.disk.no_more image left) ∙ sym leaves.disk.held;
   announced = λ is. told.announced ∙ has.announced is;
-  greatest = λ le. let was = has.greatest le in
-      ⊎_elim (λ anew. omega (arith, anew.1, told.announced, sound.greatest, was)) (λ kept. omega (arith, kept.1, was)) told.numbers;
-  least = λ le. let was = has.least le in
-      ⊎_elim (λ anew. omega (arith, anew.0, told.announced, sound.least, was)) (λ kept. omega (arith, kept.0, was)) told.numbers;
+  greatest = λ le. omega (arith, has.greatest le, KeepsAnnounced-greatest tells d d' sound told);
+  least = λ le. omega (arith, has.least le, KeepsAnnounced-least tells d d' sound told);
   near = λ mark near. let was = has.near mark near in record {
     announced = told.announced ∙ was.announced;
-    least = ⊎_elim (λ anew. omega (arith, anew.0, told.announced, sound.least, was.least)) (λ kept. omega (arith, kept.0, was.least)) told.numbers;
+    least = omega (arith, was.least, KeepsAnnounced-least tells d d' sound told);
   };
   disk_faults = leaves.disk_faults ∙ has.disk_faults;
 }
@@ -254,20 +241,8 @@ module _ (tells : Tells) (past : RecordingPast) (d0 d d' : State) (bytes : List 
               (block_moments (blocks_due_at past r) records few);
           up = λ few. record {
             pulls = block_pulls (blocks_due_at past r) records;
-            least = λ some.
-                let was = (has.up few).least some in
-                let low = recorded.least (has.recorded.greatest few) in
-                let line = records.input in
-                let same = ap (λ n. owed_number_by past (good_prefix (take (n - d0.taken) bytes))) line.pulled_before in
-                record {
-                  pull = record {
-                    begins = omega (arith, line.pulled_before, was.pull.begins);
-                    gave_bytes = omega (arith, line.pulled_before, line.taken, was.pull.gave_bytes);
-                    within_piece = omega (arith, line.pulled_before, line.taken, was.pull.within_piece);
-                  };
-                  within = omega (arith, line.taken, was.within);
-                  announced = omega (arith, same, was.announced, low);
-                };
+            least = λ some. rw (records.input.pulled_before, records.input.taken) (IsInTime-up (owed_number_by past) d0.taken bytes d.least d'.least
+                d.pulled_before d.taken (recorded.least (has.recorded.greatest few)) ((has.up few).least some));
             announced = fed_told;
           };
         }

@@ -92,18 +92,10 @@ module _ (g g' : GeneratorKept) (t : TableRows) (seed frames : ℕ) (bytes : Lis
     (is : HasGenerated g t seed frames bytes records) (got : slice_get (generated_trace t seed frames) (length records) ≡ Some r)
     (stands : RepresentsGenerator g' (record { table = t; seed = seed; frames = frames; given = length records + 1 }))
   where
-    n : ℕ
-    n = length records
-
-    all : List BusRecord
-    all = generated_trace t seed frames
-
-    inside : n < length all
-    unfolding n all
+    inside : length records < length (generated_trace t seed frames)
     inside = slice_get_within (generated_trace t seed frames) (length records) r got
 
-    grown : records ++ r ∷ [] ≡ take (n + 1) all
-    unfolding n all
+    grown : records ++ r ∷ [] ≡ take (length records + 1) (generated_trace t seed frames)
     grown =
         let at : get_or (generated_trace t seed frames) (length records) r ≡ r =
         get_or_from_slice_get (generated_trace t seed frames) (length records) r r got in
@@ -112,8 +104,7 @@ module _ (g g' : GeneratorKept) (t : TableRows) (seed frames : ℕ) (bytes : Lis
         ∙ sym (take_more (generated_trace t seed frames) (length records) r inside)
 
     -- the end is the last record
-    whole : is_end r ≡ true → all ≡ records ++ r ∷ []
-    unfolding n all
+    whole : is_end r ≡ true → generated_trace t seed frames ≡ records ++ r ∷ []
     whole ends = ⊎_elim
         (λ (more : length records + 1 < length (generated_trace t seed frames)).
         let next = slice_get-get_or (generated_trace t seed frames) (length records + 1) r more in
@@ -126,15 +117,12 @@ module _ (g g' : GeneratorKept) (t : TableRows) (seed frames : ℕ) (bytes : Lis
         (cases_lt (length records + 1) (length (generated_trace t seed frames)))
 
     -- all that is given begins with these
-    begins : (later : List BusRecord) × (all ≡ (records ++ r ∷ []) ++ later)
-    unfolding n all
-    begins = (
-      drop (n + 1) all,
-      sym (take-append-drop (n + 1) all) ∙ ap (λ (l : List BusRecord). l ++ drop (n + 1) all) (sym grown),
-    )
+    begins : (later : List BusRecord) × (generated_trace t seed frames ≡ (records ++ r ∷ []) ++ later)
+    begins =
+        let left = drop (length records + 1) (generated_trace t seed frames) in
+        (left, sym (take-append-drop (length records + 1) (generated_trace t seed frames)) ∙ ap (λ (l : List BusRecord). l ++ left) (sym grown))
 
     pub next_of_generator : GivesNext (drawn_trace t seed frames) (HasDrawn (drawn_trace t seed frames) g') (bytes ++ []) records r
-    unfolding n all
     next_of_generator =
         let follows = trace_follows t seed frames (length records) r is.within got in
         let none : bytes ++ [] ≡ [] = append-nil bytes ∙ is.unpulled in
@@ -156,7 +144,6 @@ module _ (g g' : GeneratorKept) (t : TableRows) (seed frames : ℕ) (bytes : Lis
         }
 
     pub fewer_left : left_to_draw g' < left_to_draw g
-    unfolding n all
     fewer_left =
         let long = length-trace t seed frames in
         let total : (k : GeneratorKept) (m : ℕ) → RepresentsGenerator k (record { table = t; seed = seed; frames = frames; given = m })

@@ -25,10 +25,6 @@ EndsBelow h image n = (earlier : List (List Block))
     × (stretches goes_on_with (blocks_between h image 0 n) ≡ earlier ++ run_below h.slots (block_in h image) n ∷ [])
 
 -- a block that goes on with no other one
-apart_at : (front : List Block) (c b : Block) → c.number + 1 ≢ b.number
-    → stretches goes_on_with ((front ++ c ∷ []) ++ b ∷ []) ≡ stretches goes_on_with (front ++ c ∷ []) ++ (b ∷ []) ∷ []
-apart_at front c b other = stretches-apart goes_on_with front c b [] (goes_on-false c b (λ same. other (sym same)))
-
 apart_from : (blocks : List Block) (b : Block) → All (λ (c : Block). c.number + 1 ≢ b.number) blocks
     → stretches goes_on_with (blocks ++ b ∷ []) ≡ stretches goes_on_with blocks ++ (b ∷ []) ∷ []
 apart_from [] b others = refl
@@ -37,7 +33,7 @@ apart_from (x ∷ xs) b others =
     let P : Block → Type 0 = λ (c : Block). c.number + 1 ≢ b.number in
     let other = All-contains P (end.0 ++ end.1 ∷ []) end.1 (subst (All P) end.2 others) (Contains-push end.0 end.1) in
     subst (λ blocks. stretches goes_on_with (blocks ++ b ∷ []) ≡ stretches goes_on_with blocks ++ (b ∷ []) ∷ []) (sym end.2)
-    (apart_at end.0 end.1 b other)
+    (stretches-apart goes_on_with end.0 end.1 b [] (goes_on-false end.1 b (λ same. other (sym same))))
 
 -- no block has the number before one whose run below is empty
 none_before : (h : Header) (image : List ℕ) (n : ℕ) → run_below h.slots (block_in h image) n ≡ [] → (c : Block)
@@ -61,32 +57,22 @@ module _ (h : Header) (image : List ℕ) where
   begins n b is none =
       let number = (standing_block-stands h.slots (block_in h image) n b is).0 in
       let others = All-weaker (StandsInSlot h.slots (block_in h image)) (λ (c : Block). c.number + 1 ≢ b.number)
-      (λ c stands same. none_before h image n none c stands (same ∙ number)) (blocks_between h image 0 n) (between-stand h image n) in
-      let run : run_below h.slots (block_in h image) (suc n) ≡ b ∷ [] =
-      run_below-some h.slots (block_in h image) n b is ∙ ap (λ bs. bs ++ b ∷ []) none in (
+      (λ c stands same. none_before h image n none c stands (same ∙ number)) (blocks_between h image 0 n) (between-stand h image n) in (
         stretches goes_on_with (blocks_between h image 0 n),
-        ap (stretches goes_on_with) (blocks_more n b is)
-            ∙ apart_from (blocks_between h image 0 n) b others
-            ∙ ap (λ part. stretches goes_on_with (blocks_between h image 0 n) ++ part ∷ []) (sym run),
+        rw (blocks_more n b is, run_below-some h.slots (block_in h image) n b is, none) (apart_from (blocks_between h image 0 n) b others),
       )
 
   goes_on : (n : ℕ) (c b : Block) → standing_block h.slots (block_in h image) n ≡ Some c → standing_block h.slots (block_in h image) (suc n) ≡ Some b
       → EndsBelow h image (suc n) → EndsBelow h image (suc (suc n))
   unfolding EndsBelow
   goes_on n c b was is ends =
-      let below = run_below h.slots (block_in h image) n in
       let last = (standing_block-stands h.slots (block_in h image) n c was).0 in
       let number = (standing_block-stands h.slots (block_in h image) (suc n) b is).0 in
-      let belong = goes_on-true c b (omega (arith, last, number)) in
-      let run = run_below-some h.slots (block_in h image) n c was in
-      let longer : run_below h.slots (block_in h image) (suc (suc n)) ≡ (below ++ c ∷ []) ++ b ∷ [] =
-      run_below-some h.slots (block_in h image) (suc n) b is ∙ ap (λ bs. bs ++ b ∷ []) run in
-      let open_last : stretches goes_on_with (blocks_between h image 0 (suc n)) ≡ ends.0 ++ (below ++ c ∷ []) ∷ [] =
-      ends.1 ∙ ap (λ part. ends.0 ++ part ∷ []) run in (
+      let run = run_below-some h.slots (block_in h image) n c was in (
         ends.0,
-        ap (stretches goes_on_with) (blocks_more (suc n) b is)
-            ∙ stretches-push_with goes_on_with (blocks_between h image 0 (suc n)) ends.0 below c b open_last belong
-            ∙ ap (λ part. ends.0 ++ part ∷ []) (sym longer),
+        rw (blocks_more (suc n) b is, run_below-some h.slots (block_in h image) (suc n) b is, run)
+            (stretches-push_with goes_on_with (blocks_between h image 0 (suc n)) ends.0 (run_below h.slots (block_in h image) n) c b
+            (ends.1 ∙ ap (λ part. ends.0 ++ part ∷ []) run) (goes_on-true c b (omega (arith, last, number)))),
       )
 
   ends_below : (n : ℕ) (b : Block) → standing_block h.slots (block_in h image) n ≡ Some b → EndsBelow h image (suc n)
@@ -96,27 +82,17 @@ module _ (h : Header) (image : List ℕ) where
       (λ some. goes_on n some.0 b some.1 is (ends_below n some.0 some.1))
       (some_or_none (standing_block h.slots (block_in h image) n))
 
--- no block at all
-no_runs : (h : Header) (image : List ℕ) → next_of h image ≡ 0 → EndsWithRun (runs_of h image) (recovered_run h image)
-unfolding runs_of valid_blocks blocks_below
-no_runs h image none = inl (
-  ap (λ k. stretches goes_on_with (blocks_between h image 0 k)) none,
-  ap (run_below h.slots (block_in h image)) none,
-)
-
-some_run : (h : Header) (image : List ℕ) (n : ℕ) → suc n ≡ next_of h image → EndsBelow h image (suc n)
-    → EndsWithRun (runs_of h image) (recovered_run h image)
-unfolding EndsBelow runs_of valid_blocks blocks_below
-some_run h image n next ends = inr (
-  ends.0,
-  subst (λ k. stretches goes_on_with (blocks_between h image 0 k) ≡ ends.0 ++ run_below h.slots (block_in h image) k ∷ []) next ends.1,
-)
-
 pub runs-last : (h : Header) (image : List ℕ) → IsInLimits h → EndsWithRun (runs_of h image) (recovered_run h image)
+unfolding EndsBelow runs_of valid_blocks blocks_below
 runs-last h image limits = ⊎_elim
     (λ some. let top = (next_of-is_next h image limits).stands some in
     let here = stands-standing_block h.slots (block_in h image) top.0.number top.0 top.1.0 refl in
     let next : suc top.0.number ≡ next_of h image = omega (arith, top.1.1) in
-    some_run h image top.0.number next (ends_below h image top.0.number top.0 here))
-    (λ none. no_runs h image (omega (arith, none)))
+    let ends = ends_below h image top.0.number top.0 here in
+    inr (
+      ends.0,
+      subst (λ k. stretches goes_on_with (blocks_between h image 0 k) ≡ ends.0 ++ run_below h.slots (block_in h image) k ∷ []) next ends.1,
+    ))
+    (λ none. let zero : next_of h image ≡ 0 = omega (arith, none) in
+    inl (ap (λ k. stretches goes_on_with (blocks_between h image 0 k)) zero, ap (run_below h.slots (block_in h image)) zero))
     (cases_lt 0 (next_of h image))

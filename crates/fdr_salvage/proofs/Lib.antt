@@ -1,4 +1,3 @@
-pub mod SlotNumbers
 pub mod Times
 pub mod Numbers
 pub mod Joins

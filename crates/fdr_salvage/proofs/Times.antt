@@ -1,5 +1,5 @@
 -- How often a number is in a list. This alone determines a list in order.
-use Rattle.std.proofs.Common.{◌≡◌, ◌≢◌, ⊎_elim, ℕ, zero, suc, ◌+◌, ◌<◌, ◌≤◌, true, false, cond, List, [], ◌∷◌, Option, refl, ap, ◌∙◌}
+use Rattle.std.proofs.Common.{◌≡◌, ◌≢◌, ⊎_elim, ℕ, zero, suc, ◌+◌, ◌<◌, ◌≤◌, true, false, cond, List, [], ◌∷◌, get_or, Option, refl, ap, ◌∙◌}
 use Rattle.std.proofs.Common.{zero-add}
 use Rattle.std.proofs.Common.{arith}
 use Rattle.std.specs.Prelude.{◌==◌, All, count_by, filter_map}
@@ -7,7 +7,7 @@ use Rattle.std.specs.List.{range_with_len, cons_option}
 use Rattle.std.specs.List.Sorted.{IsNonDecreasing}
 use Rattle.std.proofs.lemmas.Bool.{cases_lt}
 use Rattle.std.proofs.lemmas.Bool.Decides.{nat_tests}
-use Rattle.std.proofs.lemmas.List.Elements.{All-head, All-tail, All-weaker, filter_map-append}
+use Rattle.std.proofs.lemmas.List.Elements.{All-head, All-tail, filter_map-append}
 use Rattle.std.proofs.lemmas.List.Sums.{sum_by-cons, sum_by-append}
 use Rattle.fdr_lists.proofs.Ranges.{range_suc}
 
@@ -33,17 +33,12 @@ times-none x [] none = refl
 times-none x (y ∷ ys) none =
     times-other x y ys (All-head (λ z. z ≢ x) y ys none) ∙ times-none x ys (All-tail (λ z. z ≢ x) y ys none)
 
--- a list in order by its head and its tail
-up-head : (x : ℕ) (xs : List ℕ) → IsNonDecreasing (x ∷ xs) → All (λ y. x ≤ y) xs
-up-head x xs up k d within = up 0 (suc k) d (omega arith) (omega arith)
-
 up-tail : (x : ℕ) (xs : List ℕ) → IsNonDecreasing (x ∷ xs) → IsNonDecreasing xs
 up-tail x xs up i j d order within = up (suc i) (suc j) d (omega arith) (omega arith)
 
 smaller_none : (z x : ℕ) (xs : List ℕ) → IsNonDecreasing (x ∷ xs) → z < x → times z (x ∷ xs) ≡ 0
 smaller_none z x xs up less =
-    times-other z x xs (λ same. omega (arith, same, less))
-    ∙ times-none z xs (All-weaker (λ y. x ≤ y) (λ y. y ≢ z) (λ y above same. omega (arith, above, same, less)) xs (up-head x xs up))
+    times-none z (x ∷ xs) (λ k d within same. let first : x ≤ get_or (x ∷ xs) k d = up 0 k d (omega arith) within in omega (arith, first, same, less))
 
 tails_same : (z x y : ℕ) (xs ys : List ℕ) → x ≡ y → times z (x ∷ xs) ≡ times z (y ∷ ys) → times z xs ≡ times z ys
 tails_same z x y xs ys head same =
@@ -75,32 +70,17 @@ times_more f x n =
     ∙ sum_by-append (λ z. cond (z == x) 1 0) (filter_map f (range_with_len 0 n)) (cons_option (f (0 + n)) [])
     ∙ ap (λ k. times x (filter_map f (range_with_len 0 n)) + times x (cons_option (f k) [])) (zero-add n)
 
-pub times_before : (f : ℕ → Option ℕ) (x place n : ℕ) → ((i : ℕ) → i ≢ place → times x (cons_option (f i) []) ≡ 0) → n ≤ place
-    → times x (filter_map f (range_with_len 0 n)) ≡ 0
-times_before f x place zero only before = refl
-times_before f x place (suc n) only before =
-    omega (
-      arith,
-      times_more f x n,
-      times_before f x place n only (omega (arith, before)),
-      only n (λ same. omega (arith, same, before)),
+pub times_upto : (f : ℕ → Option ℕ) (x place n : ℕ) → ((i : ℕ) → i ≢ place → times x (cons_option (f i) []) ≡ 0)
+    → (n ≤ place → times x (filter_map f (range_with_len 0 n)) ≡ 0)
+    × (place < n → times x (filter_map f (range_with_len 0 n)) ≡ times x (cons_option (f place) []))
+times_upto f x place zero only = (λ before. refl, λ after. absurd (omega (arith, after)))
+times_upto f x place (suc n) only =
+    let more = times_more f x n in
+    let rest = times_upto f x place n only in (
+      λ before. omega (arith, more, rest.0 (omega (arith, before)), only n (λ same. omega (arith, same, before))),
+      λ after. ⊎_elim
+          (λ earlier. omega (arith, more, rest.1 earlier, only n (λ same. omega (arith, same, earlier))))
+          (λ last. let same : n ≡ place = omega (arith, last, after) in
+          omega (arith, more, rest.0 last, ap (λ k. times x (cons_option (f k) [])) same))
+          (cases_lt place n),
     )
-
-pub times_after : (f : ℕ → Option ℕ) (x place n : ℕ) → ((i : ℕ) → i ≢ place → times x (cons_option (f i) []) ≡ 0) → place < n
-    → times x (filter_map f (range_with_len 0 n)) ≡ times x (cons_option (f place) [])
-times_after f x place zero only after = absurd (omega (arith, after))
-times_after f x place (suc n) only after = ⊎_elim
-    (λ earlier. omega (
-      arith,
-      times_more f x n,
-      times_after f x place n only earlier,
-      only n (λ same. omega (arith, same, earlier)),
-    ))
-    (λ last. let same : n ≡ place = omega (arith, last, after) in
-    omega (
-      arith,
-      times_more f x n,
-      times_before f x place n only last,
-      ap (λ k. times x (cons_option (f k) [])) same,
-    ))
-    (cases_lt place n)

@@ -1,5 +1,5 @@
 -- Facts about the rows above a row, and what they say.
-use Rattle.std.proofs.Common.{◌≡◌, ◌∙◌, sym, ap, subst, refl, ℕ, ◌+◌, ◌<◌, All, Bool, true, false, ◌&&◌, ◌||◌, List, [], ◌∷◌, ◌++◌, length, map, filter, Option}
+use Rattle.std.proofs.Common.{◌≡◌, ◌∙◌, sym, ap, subst, refl, ℕ, ◌+◌, ◌<◌, All, Bool, true, false, ◌&&◌, List, [], ◌∷◌, ◌++◌, length, map, filter, Option}
 use Rattle.std.proofs.Common.{Some, None, Result, arith, zero-add}
 use Rattle.std.specs.Prelude.{◌≢◌, IfOk, ok_or, option_map, if◌then◌else◌, is_none, is_some, bytes_eq, filter_map, unwrap_or, position}
 use Rattle.std.specs.List.{cons_option, enumerate_from, list_any}
@@ -100,9 +100,7 @@ names-push above row =
 
 pub has_name-push : (above : List Row) (row : Row) (q : List ℕ) → has_name above q ≡ true → has_name (above ++ row ∷ []) q ≡ true
 has_name-push above row q e =
-    ap (list_any (λ other. bytes_eq other q)) (names-push above row)
-    ∙ list_any-append (λ other. bytes_eq other q) (names_of above) (names_of (row ∷ []))
-    ∙ ap (λ (b : Bool). b || list_any (λ other. bytes_eq other q) (names_of (row ∷ []))) e
+    rw (names-push above row) (list_any-append (λ other. bytes_eq other q) (names_of above) (names_of (row ∷ [])) ∙ rw e refl)
 
 pub param_named-push : (above : List Row) (row : Row) (q : List ℕ) → has_name above q ≡ true → param_named (above ++ row ∷ []) q ≡ param_named above q
 param_named-push above row q e =
@@ -133,17 +131,11 @@ places-same above row s (r ∷ rows) named =
 
 pub params-push : (above : List Row) (row : Row) (d : DraftRows) → IsDraft above d
     → (table_of (above ++ row ∷ [])).params ≡ d.params ++ cons_option (param_row d.rows row) []
-params-push above row d h =
-    numbered-push (λ (e : ℕ × Row). param_row e.0 e.1) above row
-    ∙ ap (λ (ps : List ParamRow). ps ++ cons_option (param_row (length above) row) []) h.params
-    ∙ ap (λ (k : ℕ). d.params ++ cons_option (param_row k row) []) h.rows
+params-push above row d h = numbered-push (λ (e : ℕ × Row). param_row e.0 e.1) above row ∙ rw (h.params, h.rows) refl
 
 pub places-push : (above : List Row) (row : Row) (d : DraftRows) → IsDraft above d
     → (table_of (above ++ row ∷ [])).places ≡ d.places ++ cons_option (place_row (param_named (above ++ row ∷ []) (name_in row)) d.rows row) []
-places-push above row d h =
-    numbered-push (place-at (above ++ row ∷ [])) above row
-    ∙ ap (λ (ls : List PlaceRow). ls ++ cons_option (place-at (above ++ row ∷ []) (length above, row)) []) (places-same above row 0 above h.named ∙ h.places)
-    ∙ ap (λ (k : ℕ). d.places ++ cons_option (place_row (param_named (above ++ row ∷ []) (name_in row)) k row) []) h.rows
+places-push above row d h = numbered-push (place-at (above ++ row ∷ [])) above row ∙ rw (places-same above row 0 above h.named ∙ h.places, h.rows) refl
 
 -- tests of a draft
 abbrev named_as : List ℕ → ParamRow → Bool

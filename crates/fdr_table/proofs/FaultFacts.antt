@@ -35,13 +35,10 @@ first-fault-none (r ∷ rest) lt none =
 no-fault-split : (above : List Row) (row : Row) → ((j : ℕ) → j < length above → fault-in above j ≡ None) → row_fault above row ≡ None
     → (i : ℕ) → (i < length above) ⊎ (length above ≤ i) → i < length above + 1 → fault-in (above ++ row ∷ []) i ≡ None
 no-fault-split above row old here i (inl lt) short =
-    ap (λ (a : List Row). row_fault a (get_or (above ++ row ∷ []) i [])) (take-append-le i above (row ∷ []) (omega arith))
-    ∙ ap (λ (r : Row). row_fault (take i above) r) (get_or_append_left above (row ∷ []) [] i lt) ∙ old i lt
+    rw (take-append-le i above (row ∷ []) (omega arith), get_or_append_left above (row ∷ []) [] i lt) (old i lt)
 no-fault-split above row old here i (inr high) short =
     let e : i ≡ length above = omega arith in
-    ap (λ (k : ℕ). fault-in (above ++ row ∷ []) k) e
-    ∙ ap (λ (a : List Row). row_fault a (get_or (above ++ row ∷ []) (length above) [])) (take-append_seam above (row ∷ []))
-    ∙ ap (λ (r : Row). row_fault above r) (get_or-append_seam above row [] []) ∙ here
+    rw (e, take-append_seam above (row ∷ []), get_or-append_seam above row [] []) here
 
 pub no-fault-push : (above : List Row) (row : Row) → ((j : ℕ) → j < length above → fault-in above j ≡ None) → row_fault above row ≡ None
     → (i : ℕ) → i < length (above ++ row ∷ []) → fault-in (above ++ row ∷ []) i ≡ None
@@ -56,10 +53,8 @@ pub first-fault-after : (above : List Row) (row : Row) (rest : List Row) (f : Ta
 first-fault-after above row rest f none here =
     let lt : length above < length (above ++ row ∷ rest) = omega (arith, length-append above (row ∷ rest)) in
     first-fault-at (above ++ row ∷ rest) (length above) f lt
-    (λ j h. ap (λ (a : List Row). row_fault a (get_or (above ++ row ∷ rest) j [])) (take-append-le j above (row ∷ rest) (omega arith))
-    ∙ ap (λ (r : Row). row_fault (take j above) r) (get_or_append_left above (row ∷ rest) [] j h) ∙ none j h)
-    (ap (λ (a : List Row). row_fault a (get_or (above ++ row ∷ rest) (length above) [])) (take-append_seam above (row ∷ rest))
-    ∙ ap (λ (r : Row). row_fault above r) (get_or-append_seam above row rest []) ∙ here)
+    (λ j h. rw (take-append-le j above (row ∷ rest) (omega arith), get_or_append_left above (row ∷ rest) [] j h) (none j h))
+    (rw (take-append_seam above (row ∷ rest), get_or-append_seam above row rest []) here)
 
 abbrev pub at-row : ℕ → TableFault → Option (ℕ × TableFault)
 at-row i f = Some (i, f)

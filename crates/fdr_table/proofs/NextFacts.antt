@@ -1,10 +1,10 @@
 -- The fault of the next row, and the draft with one more row.
-use Rattle.std.proofs.Common.{◌≡◌, ◌∙◌, sym, ap, refl, ℕ, ◌+◌, ◌<◌, ◌≤◌, All, Bool, true, false, ◌||◌, cond, List, [], ◌∷◌, ◌++◌, length, map, filter, Option}
+use Rattle.std.proofs.Common.{◌≡◌, ◌∙◌, sym, ap, refl, ℕ, ◌+◌, ◌<◌, All, Bool, true, false, ◌||◌, cond, List, [], ◌∷◌, ◌++◌, length, map, filter, Option}
 use Rattle.std.proofs.Common.{Some, None, arith, append-nil, length-append, get_or, subst, zero, suc, rules}
 use Rattle.std.specs.Prelude.{◌≢◌, if◌then◌else◌, IsTrue, bytes_eq, is_some, not, nat_le, unwrap_or}
 use Rattle.std.specs.List.{cons_option, list_any}
 use Rattle.std.specs.Option.{option_map_or}
-use Rattle.std.proofs.lemmas.Bool.{false≢true, le-leb, lt-leb}
+use Rattle.std.proofs.lemmas.Bool.{false≢true, lt-leb}
 use Rattle.std.proofs.lemmas.List.{map-append}
 use Rattle.std.proofs.lemmas.List.Elements.{All-push, All-weaker, filter-append}
 use Rattle.std.proofs.lemmas.List.Folds.{list_any-append}
@@ -15,10 +15,10 @@ use Rattle.fdr_table.specs.Ranges.{HaveOwnNames}
 use Rattle.fdr_table.specs.Rows.{FrameRow, ParamRow, PlaceRow}
 use Rattle.fdr_table.specs.Reading.{Row, field, row_kind, is_frame, is_param, is_place, first_some, frame_misread, param_misread, place_misread, misnamed}
 use Rattle.fdr_table.specs.Reading.{frame_row, param_row, place_row, names_of, param_named, table_of}
-use Rattle.fdr_table.specs.Faults.{has_frame, has_name, kind_fault, param_count, place_count, row_fault, where_true}
+use Rattle.fdr_table.specs.Faults.{has_frame, kind_fault, place_count, row_fault, where_true}
 use Rattle.fdr_table.specs.DraftRows.{DraftRows}
 use Rattle.fdr_table.specs.Bounds.{most_params, most_places}
-use Rattle.fdr_table.specs.Draft.{IsDraft, IsNextDraft, IsNextFault, index_named, with_entry}
+use Rattle.fdr_table.specs.Draft.{IsDraft, IsNextDraft, index_named, with_entry}
 use Rattle.fdr_table.specs.declared.draft.Entry.TheVariants as entry
 use Rattle.fdr_table.specs.declared.row.RowKind.{RowKind}
 use Rattle.fdr_table.specs.declared.row.RowKind.TheVariants as kind
@@ -31,93 +31,45 @@ use Rattle.fdr_table.proofs.DraftFacts.{place_row-right, place_row-other, has_na
 use Rattle.fdr_table.proofs.DraftFacts.{param_named-push, params-push, places-push}
 use Rattle.std.proofs.Math.Bool.{or-false}
 
-second-none : (x y : Option TableFault) → x ≡ None → first_some (x ∷ y ∷ []) ≡ None → y ≡ None
-second-none x None m e = refl
-second-none None (Some f) m e = cc
-second-none (Some g) (Some f) m e = cc
-
 -- a row that reads has a right name
+only-none : (y : Option TableFault) → first_some (y ∷ []) ≡ None → y ≡ None
+only-none None e = refl
+only-none (Some f) e = cc
+
 pub named-right : (row : Row) → param_misread row ≡ None → first_some (param_misread row ∷ misnamed row ∷ []) ≡ None → misnamed row ≡ None
-named-right row m e = second-none (param_misread row) (misnamed row) m e
+named-right row m e = only-none (misnamed row) (rw m at e)
 
 -- a row's fault by its kind
 by-kind : (above : List Row) (row : Row) (k : RowKind) → row_kind row ≡ Some k → row_fault above row ≡ kind_fault above row k
 by-kind above row k e = ap (λ o. option_map_or (kind_fault above row) o (Some fault.Shape)) e
 
 -- the faults of each kind, as tests of the draft
-abbrev frame-faults : Option TableFault → Bool → Option TableFault
-frame-faults misread there = first_some (misread ∷ where_true there fault.TwoFrames ∷ [])
-
-frame-fault : (d : DraftRows) (row : Row) → row_kind row ≡ Some kind.Frame → (above : List Row) → IsDraft above d
-    → row_fault above row ≡ frame-faults (frame_misread row) (is_some d.frame)
-frame-fault d row k above h = by-kind above row kind.Frame k ∙ ap (frame-faults (frame_misread row)) h.frame_there
+pub frame-fault : (d : DraftRows) (row : Row) → row_kind row ≡ Some kind.Frame → (above : List Row) → IsDraft above d
+    → row_fault above row ≡ first_some (frame_misread row ∷ where_true (is_some d.frame) fault.TwoFrames ∷ [])
+frame-fault d row k above h = by-kind above row kind.Frame k ∙ rw h.frame_there refl
 
 abbrev param-faults : Option TableFault → Bool → Option TableFault → Bool → ℕ → Option TableFault
 param-faults misread there named twice count = first_some (
     misread ∷ where_true (not there) fault.NoFrame ∷ named ∷ where_true twice fault.Twice ∷ where_true (nat_le most_params count) fault.Size ∷ [])
 
-param-fault : (d : DraftRows) (row : Row) → row_kind row ≡ Some kind.Param → (above : List Row) → IsDraft above d
+pub param-fault : (d : DraftRows) (row : Row) → row_kind row ≡ Some kind.Param → (above : List Row) → IsDraft above d
     → row_fault above row ≡ param-faults (param_misread row) (is_some d.frame) (misnamed row) (is_some (index_named d.params (name_in row))) (length d.params)
-param-fault d row k above h =
-    by-kind above row kind.Param k
-    ∙ ap (λ there. param-faults (param_misread row) there (misnamed row) (has_name above (name_in row)) (param_count above)) h.frame_there
-    ∙ ap (λ twice. param-faults (param_misread row) (is_some d.frame) (misnamed row) twice (param_count above)) (has_name-is above d (name_in row) h)
-    ∙ ap (λ count. param-faults (param_misread row) (is_some d.frame) (misnamed row) (is_some (index_named d.params (name_in row))) count)
-    (param_count-is above d h)
+param-fault d row k above h = by-kind above row kind.Param k ∙ rw (h.frame_there, has_name-is above d (name_in row) h, param_count-is above d h) refl
 
 abbrev place-faults : Option TableFault → Bool → Bool → ℕ → Option TableFault
 place-faults misread there known count = first_some (
     misread ∷ where_true (not there) fault.NoFrame ∷ where_true (not known) fault.Unknown ∷ where_true (nat_le most_places count) fault.Size ∷ [])
 
-place-fault : (d : DraftRows) (row : Row) → row_kind row ≡ Some kind.Place → (above : List Row) → IsDraft above d
+pub place-fault : (d : DraftRows) (row : Row) → row_kind row ≡ Some kind.Place → (above : List Row) → IsDraft above d
     → row_fault above row ≡ place-faults (place_misread row) (is_some d.frame) (is_some (index_named d.params (name_in row))) (length d.places)
-place-fault d row k above h =
-    by-kind above row kind.Place k
-    ∙ ap (λ there. place-faults (place_misread row) there (has_name above (name_in row)) (place_count above)) h.frame_there
-    ∙ ap (λ known. place-faults (place_misread row) (is_some d.frame) known (place_count above)) (has_name-is above d (name_in row) h)
-    ∙ ap (λ count. place-faults (place_misread row) (is_some d.frame) (is_some (index_named d.params (name_in row))) count) h.count
-
-pub two-frames : (d : DraftRows) (row : Row) → row_kind row ≡ Some kind.Frame → frame_misread row ≡ None → is_some d.frame ≡ true
-    → IsNextFault d row fault.TwoFrames
-two-frames d row k e there above h = frame-fault d row k above h ∙ ap (λ m. frame-faults m (is_some d.frame)) e ∙ ap (frame-faults None) there
-
-pub param-misnamed : (d : DraftRows) (row : Row) → row_kind row ≡ Some kind.Param → param_misread row ≡ None → is_some d.frame ≡ true
-    → misnamed row ≡ Some fault.Name → IsNextFault d row fault.Name
-param-misnamed d row k e there name above h = param-fault d row k above h ∙ rw (e, there, name) refl
-
-pub param-twice : (d : DraftRows) (row : Row) → row_kind row ≡ Some kind.Param → param_misread row ≡ None → is_some d.frame ≡ true → misnamed row ≡ None
-    → is_some (index_named d.params (name_in row)) ≡ true → IsNextFault d row fault.Twice
-param-twice d row k e there name twice above h = param-fault d row k above h ∙ rw (e, there, name, twice) refl
-
-pub too-many-params : (d : DraftRows) (row : Row) → row_kind row ≡ Some kind.Param → param_misread row ≡ None → is_some d.frame ≡ true → misnamed row ≡ None
-    → is_some (index_named d.params (name_in row)) ≡ false → most_params ≤ length d.params → IsNextFault d row fault.Size
-too-many-params d row k e there name twice many above h =
-    let full : nat_le most_params (length d.params) ≡ true = le-leb most_params (length d.params) many in
-    param-fault d row k above h ∙ rw (e, there, name, twice, full) refl
-
-pub place-without-frame : (d : DraftRows) (row : Row) → row_kind row ≡ Some kind.Place → place_misread row ≡ None → is_some d.frame ≡ false
-    → IsNextFault d row fault.NoFrame
-place-without-frame d row k e there above h = place-fault d row k above h ∙ rw (e, there) refl
-
-pub place-unknown : (d : DraftRows) (row : Row) → row_kind row ≡ Some kind.Place → place_misread row ≡ None → is_some d.frame ≡ true
-    → is_some (index_named d.params (name_in row)) ≡ false → IsNextFault d row fault.Unknown
-place-unknown d row k e there known above h = place-fault d row k above h ∙ rw (e, there, known) refl
-
-pub too-many-places : (d : DraftRows) (row : Row) → row_kind row ≡ Some kind.Place → place_misread row ≡ None → is_some d.frame ≡ true
-    → is_some (index_named d.params (name_in row)) ≡ true → most_places ≤ length d.places → IsNextFault d row fault.Size
-too-many-places d row k e there known many above h =
-    let full : nat_le most_places (length d.places) ≡ true = le-leb most_places (length d.places) many in
-    place-fault d row k above h ∙ rw (e, there, known, full) refl
+place-fault d row k above h = by-kind above row kind.Place k ∙ rw (h.frame_there, has_name-is above d (name_in row) h, h.count) refl
 
 frame-kept : (above : List Row) (row : Row) (d : DraftRows) → IsDraft above d → is_frame (row_kind row) ≡ false
     → first_some (map frame_row (above ++ row ∷ [])) ≡ d.frame
-frame-kept above row d h e =
-    ap first_some (map-append frame_row above (row ∷ [])) ∙ ap (λ (o : Option FrameRow). first_some (map frame_row above ++ o ∷ [])) (frame_row-other row e)
-    ∙ first_some-kept (map frame_row above) ∙ h.frame
+frame-kept above row d h e = rw (map-append frame_row above (row ∷ []), frame_row-other row e) (first_some-kept (map frame_row above) ∙ h.frame)
 
 has_frame-is : (above : List Row) (row : Row) (b : Bool) → is_frame (row_kind row) ≡ b → has_frame (above ++ row ∷ []) ≡ (has_frame above || (b || false))
-has_frame-is above row b e =
-    list_any-append (λ (fields : Row). is_frame (row_kind fields)) above (row ∷ []) ∙ ap (λ (b : Bool). has_frame above || (b || false)) e
+has_frame-is above row b e = list_any-append (λ (fields : Row). is_frame (row_kind fields)) above (row ∷ []) ∙ rw e refl
 
 has_frame-kept : (above : List Row) (row : Row) (d : DraftRows) → IsDraft above d → is_frame (row_kind row) ≡ false
     → has_frame (above ++ row ∷ []) ≡ is_some d.frame
@@ -125,21 +77,16 @@ has_frame-kept above row d h e = has_frame-is above row false e ∙ or-false (ha
 
 names-kept : (above : List Row) (row : Row) (d : DraftRows) → IsDraft above d → is_param (row_kind row) ≡ false
     → names_of (above ++ row ∷ []) ≡ map (λ (p : ParamRow). p.name) d.params
-names-kept above row d h e =
-    names-push above row ∙ ap (λ (b : Bool). names_of above ++ map (λ (fields : Row). field fields 1) (cond b (row ∷ []) [])) e
-    ∙ append-nil (names_of above) ∙ h.names
+names-kept above row d h e = names-push above row ∙ rw e (append-nil (names_of above)) ∙ h.names
 
 params-kept : (above : List Row) (row : Row) (d : DraftRows) → IsDraft above d → is_param (row_kind row) ≡ false
     → (table_of (above ++ row ∷ [])).params ≡ d.params
-params-kept above row d h e =
-    params-push above row d h ∙ ap (λ (o : Option ParamRow). d.params ++ cons_option o []) (param_row-other d.rows row e) ∙ append-nil d.params
+params-kept above row d h e = params-push above row d h ∙ rw (param_row-other d.rows row e) (append-nil d.params)
 
 places-kept : (above : List Row) (row : Row) (d : DraftRows) → IsDraft above d → is_place (row_kind row) ≡ false
     → (table_of (above ++ row ∷ [])).places ≡ d.places
 places-kept above row d h e =
-    places-push above row d h
-    ∙ ap (λ (o : Option PlaceRow). d.places ++ cons_option o []) (place_row-other (param_named (above ++ row ∷ []) (name_in row)) d.rows row e)
-    ∙ append-nil d.places
+    places-push above row d h ∙ rw (place_row-other (param_named (above ++ row ∷ []) (name_in row)) d.rows row e) (append-nil d.places)
 
 count-is : (above : List Row) (row : Row) (b : Bool) → is_place (row_kind row) ≡ b
     → place_count (above ++ row ∷ []) ≡ place_count above + length (cond b (row ∷ []) [])
@@ -203,7 +150,7 @@ pub frame-next : (d : DraftRows) (row : Row) (f : FrameRow) → row_kind row ≡
 frame-next d row f k e there above h =
     let no_frame : d.frame ≡ None = none-from d.frame d.frame refl there in
     let none = h.frame ∙ no_frame in
-    let fault = frame-fault d row k above h ∙ ap (λ m. frame-faults m (is_some d.frame)) (frame_row-right row f e) ∙ ap (frame-faults None) there in
+    let fault : row_fault above row ≡ None = frame-fault d row k above h ∙ rw (frame_row-right row f e, there) refl in
     record {
       no_fault = no-fault-push above row h.no_fault fault;
       frame = ap first_some (map-append frame_row above (row ∷ [])) ∙ first_some-next (map frame_row above) (frame_row row) none ∙ e;
@@ -231,10 +178,8 @@ param-next d row p k m e there twice few above h =
       frame = frame-kept above row d h (ap is_frame k);
       frame_there = has_frame-kept above row d h (ap is_frame k);
       params = params-push above row d h ∙ ap (λ (o : Option ParamRow). d.params ++ cons_option o []) e;
-      names = names-push above row ∙ ap (λ (b : Bool). names_of above ++ map (λ (fields : Row). field fields 1) (cond b (row ∷ []) [])) (ap is_param k)
-          ∙ ap (λ (ns : List (List ℕ)). ns ++ name_in row ∷ []) h.names
-          ∙ ap (λ (n : List ℕ). map (λ (q : ParamRow). q.name) d.params ++ n ∷ []) (param_row-name d.rows row p e)
-          ∙ sym (map-append (λ (q : ParamRow). q.name) d.params (p ∷ []));
+      names = names-push above row
+          ∙ rw (k, h.names, param_row-name d.rows row p e) (sym (map-append (λ (q : ParamRow). q.name) d.params (p ∷ [])));
       places = places-kept above row d h (ap is_place k);
       count = count-kept above row d h (ap is_place k);
       named = named-push above row d h (no-place (above ++ row ∷ []) row (ap is_place k));
@@ -262,8 +207,7 @@ place-next d row l k e there known few above h =
       frame_there = has_frame-kept above row d h (ap is_frame k);
       params = params-kept above row d h (ap is_param k);
       names = names-kept above row d h (ap is_param k);
-      places = places-push above row d h ∙ ap (λ (i : ℕ). d.places ++ cons_option (place_row i d.rows row) []) param
-          ∙ ap (λ (o : Option PlaceRow). d.places ++ cons_option o []) e;
+      places = places-push above row d h ∙ rw (param, e) refl;
       count = omega (arith, count-is above row true (ap is_place k), h.count, length-append d.places (l ∷ []));
       named = named-push above row d h (λ place. has_name-push above row (name_in row) name);
       rows = rows-push above row d h;

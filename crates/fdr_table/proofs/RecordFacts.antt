@@ -1,6 +1,6 @@
 -- The records that a reader gives one after the other are all records of its text.
 use Rattle.std.proofs.Common.{◌≡◌, ap, subst, refl, ℕ, zero, suc, ◌+◌, ◌<◌, ◌≤◌, Bool, true, false, List, [], ◌∷◌, ◌++◌, length, Option, Some, None, arith}
-use Rattle.std.proofs.Common.{length-append}
+use Rattle.std.proofs.Common.{◌∙◌, sym, append-nil, length-append}
 use Rattle.std.proofs.lemmas.Bool.{false≢true}
 use Rattle.std.specs.Prelude.{if◌then◌else◌, ◌==◌, ◌||◌}
 use Rattle.csv.specs.Machine.{Read, next_record, step, ends_at_end, is_end, fields_after, field_after}
@@ -76,27 +76,13 @@ takes-byte s (c ∷ rest) q open_end e =
     rest (λ b. (after-end s c b, omega arith)) (shrinks _ _ _ rest q) e in
     omega (arith, h.1)
 
--- the records that a reader reaches, up to a text with none, are all of them
-all-reached : (rows : List (List (List ℕ))) (n : ℕ) (s s2 : State) (xs ys : List ℕ) → ends_at_end s ≡ false
-    → Reached default_config s xs rows s2 ys → next_record default_config s2 [] [] ys ≡ None → length xs < n
-    → rows ≡ records_from default_config n s xs
-unfolding Reached records_from
-all-reached rows zero s s2 xs ys open_end r e lt = absurd (omega arith)
-all-reached [] (suc n) s s2 xs ys open_end r e lt = rw (r.0, r.1, e) refl
-all-reached (row ∷ rows) (suc n) s s2 xs ys open_end r e lt =
-    let p = r.0 in
-    let next = r.1 in
-    let small = takes-byte s xs p open_end next in
-    let more = all-reached rows n p.1 s2 p.2 ys (shrinks s [] [] xs p next).0 r.3 e (omega (arith, small)) in
-    rw (next, r.2) (ap (λ (rest : List (List (List ℕ))). p.0 ∷ rest) more)
-
--- the records that a reader has reached are the first of all records
+-- the records that a reader has reached are the first of all records, and those of what is left come after them
 reached-front : (rows : List (List (List ℕ))) (n : ℕ) (s s2 : State) (xs ys : List ℕ) → ends_at_end s ≡ false
     → Reached default_config s xs rows s2 ys → length xs < n
-    → (rest : List (List (List ℕ))) × (records_from default_config n s xs ≡ rows ++ rest)
+    → (m : ℕ) × (records_from default_config n s xs ≡ rows ++ records_from default_config (suc m) s2 ys)
 unfolding Reached records_from
 reached-front rows zero s s2 xs ys open_end r lt = absurd (omega arith)
-reached-front [] (suc n) s s2 xs ys open_end r lt = (records_from default_config (suc n) s xs, refl)
+reached-front [] (suc n) s s2 xs ys open_end r lt = (n, rw (r.0, r.1) refl)
 reached-front (row ∷ rows) (suc n) s s2 xs ys open_end r lt =
     let p = r.0 in
     let next = r.1 in
@@ -109,10 +95,14 @@ pub records-front : (bytes : List ℕ) (rows : List (List (List ℕ))) (s2 : Sta
     → (rest : List (List (List ℕ))) × (records_of bytes ≡ rows ++ rest)
 unfolding records_of
 records-front bytes rows s2 ys h =
-    reached-front rows (length (strip_bom bytes) + 1) st.StartRecord s2 (strip_bom bytes) ys refl h (omega arith)
+    let front = reached-front rows (length (strip_bom bytes) + 1) st.StartRecord s2 (strip_bom bytes) ys refl h (omega arith) in
+    (records_from default_config (suc front.0) s2 ys, front.1)
 
 pub records-are : (xs : List ℕ) (rows : List (List (List ℕ))) → AreRecords default_config st.StartRecord xs rows → rows ≡ records default_config xs
-records-are xs rows h = all-reached rows (length xs + 1) st.StartRecord h.0 xs h.1 refl h.2 h.3 (omega arith)
+unfolding records_from
+records-are xs rows h =
+    let front = reached-front rows (length xs + 1) st.StartRecord h.0 xs h.1 refl h.2 (omega arith) in
+    sym (front.1 ∙ rw h.3 (append-nil rows))
 
 -- a text has no more records than bytes, and one more
 next-few : (more : State → List ℕ → List (List (List ℕ))) (n : ℕ) (o : Option Read) → ((s : State) (xs : List ℕ) → length (more s xs) ≤ n)

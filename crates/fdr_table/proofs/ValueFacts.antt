@@ -48,7 +48,7 @@ quotient-of-one (pos a) = ap pos (omega arith)
 quotient-of-one (negsuc a) = ap negsuc (omega arith)
 
 -- the bounds of a raw number less the range of its width
-below-zero : (raw width : ℕ) → raw < 2 ^ width → width ≤ 32 → IsWithin 4294967296 (pos raw -ℤ pos (2 ^ width))
+pub below-zero : (raw width : ℕ) → raw < 2 ^ width → width ≤ 32 → IsWithin 4294967296 (pos raw -ℤ pos (2 ^ width))
 below-zero raw width below narrow =
     let most : 2 ^ width ≤ 2 ^ 32 = pow-le-pow_right (omega arith) narrow in
     (omega (arith, ints, below, most), omega (arith, ints, below, most))
@@ -65,13 +65,6 @@ pub turned-fits : (z : ℤ) (raw width : ℕ) → z ≡ pos raw → raw < 2 ^ wi
 turned-fits z raw width is below narrow =
     let within = below-zero raw width below narrow in
     rw (is, turned raw width below narrow) (omega (arith, ints, within.0, within.1))
-
-pub turned-within : (z : ℤ) (raw width : ℕ) → z ≡ pos raw → raw < 2 ^ width → width ≤ 32
-    → IsWithin 4294967296 (to_z w64 (of_z w64 (to_z w64 (of_z w64 z) -ℤ to_z w64 (1 * 2 ^ width % 2 ^ 64))))
-turned-within z raw width is below narrow =
-    let within = below-zero raw width below narrow in
-    let fits : FitsSigned w64 (pos raw -ℤ pos (2 ^ width)) = omega (arith, ints, within.0, within.1) in
-    rw (is, turned raw width below narrow, to_z-of_z w64 (pos raw -ℤ pos (2 ^ width)) fits) within
 
 -- the code computes the number below 0
 pub turned-is : (z : ℤ) (raw width : ℕ) → z ≡ pos raw → raw < 2 ^ width → width ≤ 32

@@ -28,7 +28,7 @@ never_truncated before bytes is = ⊎_elim
 refused_after : (tells : Tells) (now : State) (k k' : TraceKept) (bytes : List ℕ) (records : List BusRecord) (why : TraceStop) → RepresentsTrace k bytes records
     → length records < most_records → (refuses : RefusesRecord k k' why) → IsTraceRefused tells now bytes records k.count refuses.cause
 refused_after tells now k k' bytes records why reads few refuses =
-    let bad = Reads-bad k k' bytes refuses.next records refuses.cause reads few refuses.sixteen refuses.waited refuses.bad refuses.first in
+    let bad = Reads-bad k bytes records reads k' refuses.next refuses.cause few refuses.sixteen refuses.waited refuses.bad refuses.first in
     record {
       good = bad.0;
       first = bad.1;
@@ -39,6 +39,6 @@ pub next_of : (tells : Tells) (old now : State) (k k' : TraceKept) (bytes : List
     → RepresentsTrace k bytes records → length records < most_records → IfOk r (TakesRecord k k') → IfErr r (RefusesRecord k k') →
     MatchResult r (IsNextRecord k' bytes records) (IsTraceStopped tells old now bytes records)
 next_of tells old now k k' bytes records (Ok r) reads few takes refuses =
-    Reads-next k k' bytes takes.next records r reads few takes.sixteen takes.waited takes.good takes.read takes.time takes.count
+    Reads-next k bytes records reads k' takes.next r few takes.sixteen takes.waited takes.good takes.read takes.time takes.count
 next_of tells old now k k' bytes records (Err why) reads few takes refuses =
     rw refuses.refusal (refused_after tells now k k' bytes records why reads few refuses)

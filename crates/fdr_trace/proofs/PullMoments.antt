@@ -1,9 +1,9 @@
 -- What pulls leave of a deck, and their moments.
-use Rattle.std.proofs.Common.{◌≡◌, ◌⊎◌, inl, inr, ⊎_elim, ℕ, ◌+◌, ◌-◌, ◌<◌, ◌≤◌, List, [], ◌++◌, length, take, ap, sym, ◌∙◌, subst, length-append, arith}
+use Rattle.std.proofs.Common.{◌≡◌, ◌⊎◌, inl, inr, ⊎_elim, ℕ, ◌+◌, ◌-◌, ◌<◌, List, [], ◌++◌, length, sym, ◌∙◌, length-append, arith}
 use Rattle.std.proofs.lemmas.Bool.{cases_lt}
-use Rattle.std.proofs.lemmas.List.{append-nil, take-append-le, take_at}
+use Rattle.std.proofs.lemmas.List.{take-append-le, take_at}
 use Rattle.fdr_bus.specs.declared.BusRecord.{BusRecord}
-use Rattle.fdr_bus.specs.Records.{IsDecided, good_prefix, most_records}
+use Rattle.fdr_bus.specs.Records.{most_records}
 use Rattle.fdr_deck.specs.State.{State, Tells, Moment}
 use Rattle.fdr_deck.specs.Calls.{KeepsAnnounced, HasOneAnnounced, LeavesDisk}
 use Rattle.fdr_deck.specs.Moments.{HasSamePulls, IsNow, IsInsideCall, Within, Elapses, EachMoment, IsSoundDeck}
@@ -42,97 +42,51 @@ KeepsDeck-then tells a b c first disk told fresh time = record {
 }
 
 -- a pull that took nothing leaves the numbers fresh
-fresh_kept : (a b c : State) → (a.taken < b.taken → HasOneAnnounced b) → KeepsInput b c → KeepsAnnounced b c → a.taken < c.taken
-    → HasOneAnnounced c
-fresh_kept a b c fresh line told more = ⊎_elim
-    (λ anew. record { least = anew.0; greatest = anew.1 })
-    (λ kept. let was = fresh (omega (arith, line.taken, more)) in
-    record { least = kept.0 ∙ was.least ∙ sym told.announced; greatest = kept.1 ∙ was.greatest ∙ sym told.announced })
-    told.numbers
-
 pub KeepsDeck-kept : (tells : Tells) (a b c : State) → KeepsDeck tells a b → LeavesDisk b c → KeepsAnnounced b c
     → KeepsInput b c → Elapses tells b c → KeepsDeck tells a c
-KeepsDeck-kept tells a b c first disk told line time = KeepsDeck-then tells a b c first disk told
-    (fresh_kept a b c first.fresh line told) time
+KeepsDeck-kept tells a b c first disk told line time = KeepsDeck-then tells a b c first disk told (λ more. ⊎_elim
+    (λ anew. record { least = anew.0; greatest = anew.1 })
+    (λ kept. let was = first.fresh (omega (arith, line.taken, more)) in
+    record { least = kept.0 ∙ was.least ∙ sym told.announced; greatest = kept.1 ∙ was.greatest ∙ sym told.announced })
+    told.numbers) time
 
 -- bytes pulled after the last pull leave it as it is
 pub IsNeededPull-more : (start : ℕ) (bytes more later : List ℕ) (records : List BusRecord) (before taken : ℕ)
     → IsNeededPull start bytes more records before taken → IsNeededPull start bytes (more ++ later) records before taken
 IsNeededPull-more start bytes more later records before taken last =
-    let inside : before - start ≤ length more = omega (arith, last.pull.begins, last.pull.gave_bytes, last.within) in
-    let front = ap (λ (x : List ℕ). bytes ++ x) (take-append-le (before - start) more later inside) in
+    let front = take-append-le (before - start) more later (omega (arith, last.pull.begins, last.pull.gave_bytes, last.within)) in
     record {
       pull = last.pull;
       within = omega (arith, last.within, length-append more later);
-      read = ap good_prefix front ∙ last.read;
-      undecided = λ decided. last.undecided (subst IsDecided front decided);
+      read = rw front last.read;
+      undecided = rw front last.undecided;
     }
 
-pulled_more : (old : State) (bytes more later : List ℕ) (records : List BusRecord) (m : Moment)
-    → HasSamePulls old m ⊎ IsPullMoment old bytes more records m → HasSamePulls old m ⊎ IsPullMoment old bytes (more ++ later) records m
-pulled_more old bytes more later records m pulled = ⊎_elim
-    (λ here. inl here)
-    (λ pulling. inr (record {
-      announced = pulling.announced;
-      last = IsNeededPull-more old.taken bytes more later records
-          m.pulled_before m.taken pulling.last;
-    }))
-    pulled
-
-pub IsTraceMoment-more : (old : State) (bytes more later : List ℕ) (records : List BusRecord) (m : Moment)
-    → IsTraceMoment old bytes more records m → IsTraceMoment old bytes (more ++ later) records m
-IsTraceMoment-more old bytes more later records m is = record {
-  image = is.image;
-  least = is.least;
-  greatest = is.greatest;
-  pulled = pulled_more old bytes more later records m is.pulled;
-}
-
--- a pull that gave bytes, where those before it held no whole record that wasn't read
-pub IsNeededPull-pull : (tells : Tells) (a b c : State) (k : TraceKept) (bytes more piece : List ℕ) (records : List BusRecord)
-    → b.taken ≡ a.taken + length more → RepresentsTrace k (bytes ++ more) records → length k.waiting < 16
-    → length records < most_records → PullsPiece tells b c piece → 0 < length piece
-    → IsNeededPull a.taken bytes (more ++ piece) records c.pulled_before c.taken
-IsNeededPull-pull tells a b c k bytes more piece records taken reads waits few pull some =
-    let began = pull.began some in
-    let n : length more ≡ c.pulled_before - a.taken = omega (arith, began, taken) in
-    let front : take (c.pulled_before - a.taken) (more ++ piece) ≡ more = take_at more piece (c.pulled_before - a.taken) n in
-    let before = ap (λ (x : List ℕ). bytes ++ x) front in
-    record {
-      pull = record {
-        begins = omega (arith, began, taken);
-        gave_bytes = omega (arith, began, pull.takes.taken, some);
-        within_piece = omega (arith, began, pull.takes.taken, pull.within_piece);
-      };
-      within = omega (arith, taken, pull.takes.taken, length-append more piece);
-      read = ap good_prefix before ∙ Reads-good k (bytes ++ more) records reads waits;
-      undecided = λ decided. Reads-undecided k (bytes ++ more) records reads waits few (subst IsDecided before decided);
-    }
-
--- the last pull after one pull more
+-- the last pull after one pull more, before which no whole record waited
 pub last_pulled : (tells : Tells) (a b c : State) (k : TraceKept) (bytes more piece : List ℕ) (records : List BusRecord)
-    → PullsUntilDecided tells a b bytes more → PullsForRecord tells a b bytes more records → RepresentsTrace k (bytes ++ more) records
+    → b.taken ≡ a.taken + length more → PullsForRecord tells a b bytes more records → RepresentsTrace k (bytes ++ more) records
     → length k.waiting < 16 → length records < most_records
     → PullsPiece tells b c piece → 0 < length (more ++ piece) → IsNeededPull a.taken bytes (more ++ piece) records c.pulled_before
     c.taken
-last_pulled tells a b c k bytes more piece records pulls was reads waits few pull some = ⊎_elim
-    (λ here. IsNeededPull-pull tells a b c k bytes more piece records pulls.takes.taken reads waits few pull here)
+last_pulled tells a b c k bytes more piece records taken was reads waits few pull some = ⊎_elim
+    (λ here.
+    let began = pull.began here in
+    let front = take_at more piece (c.pulled_before - a.taken) (omega (arith, began, taken)) in
+    record {
+      pull = record {
+        begins = omega (arith, began, taken);
+        gave_bytes = omega (arith, began, pull.takes.taken, here);
+        within_piece = omega (arith, began, pull.takes.taken, pull.within_piece);
+      };
+      within = omega (arith, taken, pull.takes.taken, length-append more piece);
+      read = rw front (Reads-good k (bytes ++ more) records reads waits);
+      undecided = rw front (Reads-undecided k (bytes ++ more) records reads waits few);
+    })
     (λ none.
-    let last = was.last (omega (arith, some, length-append more piece, none)) in
-    let taken : b.taken ≡ c.taken = omega (arith, pull.takes.taken, none) in
-    let before = sym (pull.none (omega (arith, none))) in
-    IsNeededPull-more a.taken bytes more piece records c.pulled_before c.taken
-    (subst (λ n. IsNeededPull a.taken bytes more records n c.taken) before
-    (subst (λ n. IsNeededPull a.taken bytes more records b.pulled_before n) taken last)))
+    let same : c.taken ≡ b.taken = omega (arith, pull.takes.taken, none) in
+    rw (pull.none (omega (arith, none)), same) (IsNeededPull-more a.taken bytes more piece records b.pulled_before b.taken
+    (was.last (omega (arith, some, length-append more piece, none)))))
     (cases_lt 0 (length piece))
-
--- the last pull after one that failed
-pub last_kept : (tells : Tells) (a b c : State) (bytes more : List ℕ) (records : List BusRecord)
-    → PullsForRecord tells a b bytes more records → KeepsInput b c → 0 < length more
-    → IsNeededPull a.taken bytes more records c.pulled_before c.taken
-last_kept tells a b c bytes more records was line some =
-    subst (λ n. IsNeededPull a.taken bytes more records n c.taken) (sym line.pulled_before)
-    (subst (λ n. IsNeededPull a.taken bytes more records b.pulled_before n) (sym line.taken) (was.last some))
 
 -- a moment whose numbers of bytes are those of a deck from which so much was pulled
 pulled_since : (tells : Tells) (a s : State) (bytes more : List ℕ) (records : List BusRecord) (m : Moment)
@@ -142,8 +96,7 @@ pulled_since : (tells : Tells) (a s : State) (bytes more : List ℕ) (records : 
 pulled_since tells a s bytes more records m pulls last told here = ⊎_elim
     (λ some. inr (record {
       announced = told some;
-      last = subst (λ n. IsNeededPull a.taken bytes more records n m.taken) (sym here.pulled_before)
-          (subst (λ n. IsNeededPull a.taken bytes more records s.pulled_before n) (sym here.taken) (last some));
+      last = rw (here.pulled_before, here.taken) (last some);
     }))
     (λ none. inl (record {
       taken = omega (arith, here.taken, pulls.takes.taken, none);
@@ -162,46 +115,42 @@ PullsForRecord-none tells d bytes records sound = record {
       record { image = now.image; least = now.least; greatest = now.greatest; pulled = inl now.pulled };
 }
 
--- One pull more, whatever it answered.
-pub PullsForRecord-then : (tells : Tells) (a b c : State) (bytes more piece : List ℕ) (records : List BusRecord)
+-- One pull more, whatever it answered: by what it leaves the last pull is still needed.
+pub PullsForRecord-then : (tells : Tells) (a b c : State) (bytes more later : List ℕ) (records : List BusRecord)
     → IsSoundDeck tells a → KeepsDeck tells a b → PullsUntilDecided tells a b bytes more → PullsForRecord tells a b bytes more records
-    → LeavesDisk b c → Elapses tells b c
-    → EachMoment tells b c (Within b c) → PullsUntilDecided tells a c bytes (more ++ piece)
-    → (0 < length (more ++ piece) → IsNeededPull a.taken bytes (more ++ piece) records c.pulled_before c.taken) → PullsForRecord
-    tells a c bytes (more ++ piece) records
-PullsForRecord-then tells a b c bytes more piece records sound deck pulls was disk time moments pulls_now last = record {
+    → LeavesDisk b c → Elapses tells b c → EachMoment tells b c (Within b c) → PullsUntilDecided tells a c bytes later
+    → ((before taken : ℕ) → IsNeededPull a.taken bytes more records before taken → IsNeededPull a.taken bytes later records before taken)
+    → (0 < length later → IsNeededPull a.taken bytes later records c.pulled_before c.taken) → PullsForRecord tells a c bytes later records
+PullsForRecord-then tells a b c bytes more later records sound deck pulls was disk time moments pulls_now still last = record {
   last = last;
-  moments = EachMoment-then tells a b c (IsTraceMoment a bytes (more ++ piece) records) deck.time time
-      (EachMoment-weaken tells a b (IsTraceMoment a bytes more records)
-      (IsTraceMoment a bytes (more ++ piece) records) (λ m is. IsTraceMoment-more a bytes more piece records m is)
-      was.moments)
-      (λ told m since. ⊎_elim (λ now. at_start m now) (λ inside. amid m inside) (moments told m since));
+  moments = EachMoment-then tells a b c (IsTraceMoment a bytes later records) deck.time time
+      (EachMoment-weaken tells a b (IsTraceMoment a bytes more records) (IsTraceMoment a bytes later records) (λ m is. record {
+        image = is.image;
+        least = is.least;
+        greatest = is.greatest;
+        pulled = widen m is.pulled;
+      }) was.moments)
+      (λ told m since. ⊎_elim (at_start m) (amid m) (moments told m since));
 }
   where
-    least : a.least ≤ b.least
-    least = KeepsAnnounced-least tells a b sound deck.announced
-
-    greatest : b.greatest ≤ a.greatest
-    greatest = KeepsAnnounced-greatest tells a b sound deck.announced
-
-    widen : (m : Moment) → HasSamePulls a m ⊎ IsPullMoment a bytes more records m
-        → HasSamePulls a m ⊎ IsPullMoment a bytes (more ++ piece) records m
-    widen = pulled_more a bytes more piece records
+    widen : (m : Moment) → HasSamePulls a m ⊎ IsPullMoment a bytes more records m → HasSamePulls a m ⊎ IsPullMoment a bytes later records m
+    widen m = ⊎_elim (λ here. inl here)
+        (λ pulling. inr (record { announced = pulling.announced; last = still m.pulled_before m.taken pulling.last }))
 
     told_fresh : (m : Moment) → IsNow b m → 0 < length more → m.announced ≡ a.announced
     told_fresh m now some =
         let fresh = deck.fresh (omega (arith, pulls.takes.taken, some)) in
         omega (arith, now.least, now.greatest, fresh.least, fresh.greatest, deck.announced.announced)
 
-    at_start : (m : Moment) → IsNow b m → IsTraceMoment a bytes (more ++ piece) records m
+    at_start : (m : Moment) → IsNow b m → IsTraceMoment a bytes later records m
     at_start m now = record {
       image = deck.disk.disk.no_more m.image now.image;
-      least = omega (arith, least, now.least);
-      greatest = omega (arith, greatest, now.greatest);
+      least = omega (arith, KeepsAnnounced-least tells a b sound deck.announced, now.least);
+      greatest = omega (arith, KeepsAnnounced-greatest tells a b sound deck.announced, now.greatest);
       pulled = widen m (pulled_since tells a b bytes more records m pulls was.last (told_fresh m now) now.pulled);
     }
 
-    amid : (m : Moment) → IsInsideCall b c m → IsTraceMoment a bytes (more ++ piece) records m
+    amid : (m : Moment) → IsInsideCall b c m → IsTraceMoment a bytes later records m
     amid m inside =
         let told : m.announced ≡ a.announced = inside.announced ∙ deck.announced.announced in
         record {
@@ -211,21 +160,6 @@ PullsForRecord-then tells a b c bytes more piece records sound deck pulls was di
           greatest = omega (arith, told, sound.greatest);
           pulled = ⊎_elim
               (λ here. widen m (pulled_since tells a b bytes more records m pulls was.last (λ some. told) here))
-              (λ there. pulled_since tells a c bytes (more ++ piece) records m pulls_now last (λ some. told) there)
+              (λ there. pulled_since tells a c bytes later records m pulls_now last (λ some. told) there)
               inside.pulled;
         }
-
--- One pull more, which failed.
-pub PullsForRecord-kept : (tells : Tells) (a b c : State) (bytes more : List ℕ) (records : List BusRecord) → IsSoundDeck tells a
-    → KeepsDeck tells a b → PullsUntilDecided tells a b bytes more → PullsForRecord tells a b bytes more records → LeavesDisk b c
-    → Elapses tells b c
-    → EachMoment tells b c (Within b c) → PullsUntilDecided tells a c bytes more → KeepsInput b c → PullsForRecord tells a c bytes
-    more records
-PullsForRecord-kept tells a b c bytes more records sound deck pulls was disk time moments pulls_now line =
-    let nothing : more ++ [] ≡ more = append-nil more in
-    let now : PullsUntilDecided tells a c bytes (more ++ []) = subst (PullsUntilDecided tells a c bytes) (sym nothing) pulls_now in
-    let last : 0 < length (more ++ []) → IsNeededPull a.taken bytes (more ++ []) records c.pulled_before c.taken = λ some.
-    subst (λ (x : List ℕ). IsNeededPull a.taken bytes x records c.pulled_before c.taken) (sym nothing)
-    (last_kept tells a b c bytes more records was line (subst (λ (x : List ℕ). 0 < length x) nothing some)) in
-    subst (λ (x : List ℕ). PullsForRecord tells a c bytes x records) nothing
-    (PullsForRecord-then tells a b c bytes more [] records sound deck pulls was disk time moments now last)

@@ -3,7 +3,7 @@ use Rattle.fdr_deck.proofs.Composing.{refusal}
 use Rattle.fdr_deck.specs.Pull.{KeepsInput}
 use Rattle.fdr_recorder.specs.Supplied.{past_fed}
 use Rattle.fdr_recorder.specs.Supply.{supplied_records}
-use Rattle.fdr_recorder.proofs.SessionEnds.{Continues-closed, Continues-unclosed, keeps_input_then, only_close, ring_of, told_closed, two_cut}
+use Rattle.fdr_recorder.proofs.SessionEnds.{Continues-closed, Continues-unclosed, keeps_input_then, only_two, ring_of, told_closed, two_cut}
 use Rattle.fdr_recorder.proofs.SessionEnds.{ended_only}
 use Rattle.fdr_recorder.proofs.recording.record_all.Given.{Over}
 use Rattle.fdr_recorder.proofs.recording.record_all.Goals.{After-close}
@@ -98,16 +98,16 @@ returns-in-Err g c =
           let whole = fed.fed from past gave is in
           let p = past_fed past (supplied_records from whole.pulled) in
           Continues-unclosed from _ past _ _ _ _ _ _ (g.met.D.Deck.sound c.args.deck.now) is whole (e.all p whole.stands)
-          (e.records p whole.stands) c.in-Err.fault (only_close _ e.only) (λ ends. e.seq_end p whole.stands (ap Err ends));
+          (e.records p whole.stands) c.in-Err.fault (λ ends. e.seq_end p whole.stands (ap Err ends));
       next = tt;
       later = tt;
-      only = two_cut c.in-Err.fault (only_close _ e.only);
+      only = two_cut c.in-Err.fault (only_two _ e.only);
       input_fault = tt;
       disk_fault = λ fails. rw fed.no_disk_fault at (e.cause (ap Err fails));
       no_disk_fault = tt;
       no_fault_if_cut = λ other.
           let whole = fed.fed r.0 r.1 r.2 r.3 in
-          let ends = ended_only c.in-Err.fault (only_close _ e.only) other in
+          let ends = ended_only c.in-Err.fault (only_two _ e.only) other in
           (e.seq_end (past_fed r.1 (supplied_records r.0 whole.pulled)) whole.stands (ap Err ends)).recorded.disk_faults ∙ fed.no_disk_fault;
       unpulled = unpulled g at;
       extent = extent g at;

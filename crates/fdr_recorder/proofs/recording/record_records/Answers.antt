@@ -1,12 +1,11 @@
-use Rattle.std.proofs.Common.{◌≡◌, ◌∙◌, Result, Err, refl, sym, ap, subst, arith, [], ◌∷◌, ◌++◌}
-use Rattle.fdr_bus.specs.declared.BusRecord.{BusRecord}
+use Rattle.std.proofs.Common.{◌≡◌, ◌∙◌, Err, refl, sym, ap, subst, arith, [], ◌∷◌, ◌++◌}
 use Rattle.fdr_deck.specs.State.{State}
 use Rattle.fdr_recorder.specs.Past.{MayFeedRecording, RecordingPast, blocks_due_at, recording_with_record}
 use Rattle.fdr_recorder.specs.Recording.{RecordsFirstOf}
 use Rattle.fdr_deck.specs.Pull.{KeepsInput}
+use Rattle.fdr_deck.proofs.Composing.{same_fault}
 use Rattle.fdr_recorder.specs.Supplied.{HasFed, IsBegun, past_fed}
 use Rattle.fdr_recorder.specs.Supply.{RecordSupply}
-use Rattle.fdr_trace.specs.declared.TraceStop.{TraceStop}
 use Rattle.fdr_recorder.proofs.ReadRecords.{is_end-no, is_end-yes}
 use Rattle.fdr_recorder.proofs.Sessions.{HasFed-pull, HasFed-feed}
 use Rattle.fdr_recorder.proofs.SessionEnds.{Continues-fault, HasEnded-at, HasFedAll-end, HasFedAll-stop}
@@ -16,9 +15,6 @@ use Rattle.fdr_recorder.proofs.Supplies.{may_feed}
 use Rattle.fdr_recorder.proofs.recording.record_records.Given.{Over}
 use Rattle.fdr_recorder.proofs.recording.record_records.Goals.{In-Ok, After-feed, In-Ok-feed}
 use Rattle.fdr_recorder.proofs.recording.record_records.Goals as goal
-
-err_same : (a b : TraceStop) → ◌≡◌ {A = Result BusRecord TraceStop} (Err a) (Err b) → a ≡ b
-err_same a b e = cc
 
 -- the session may be fed the record that came
 may : (g : Over) (c : In-Ok g) (from : RecordSupply) (past : RecordingPast)
@@ -118,7 +114,7 @@ returns-in-Err-clause-fed g c = λ from past gave is.
     let has = HasFed-pull _ (past_fed past at.1) _ _ _ at.0 (s c.args.deck.now) is.ring is.settled is.announced at.4 next.0 (s c.loop-next.deck)
     next.1 next.3 e.disk e.announced e.fresh e.time in
     HasFedAll-stop from _ past _ _ _ _ (at.0 ++ next.0) at.1 c.in-Err.why is.ring at.3 has next.2
-    c.loop-next.invariant.no_fault (λ not. e.no_fault (λ x. not (err_same _ _ x)))
+    c.loop-next.invariant.no_fault (λ not. e.no_fault (λ x. not (same_fault x)))
 
 pub returns-in-Err-clause-input_fault : goal.returns-in-Err-clause-input_fault
 returns-in-Err-clause-input_fault g c = λ fails.
@@ -154,7 +150,6 @@ returns-in-Err-feed-clause-ended g c = λ from past gave is.
     (g.met.D.Deck.sound c.args.deck.now) c.args.session is (limits_of (past_fed past at.1) _ at.3) (pulled g place.In-Ok from past gave is) fits good.1
     next.2.unpulled
     (RecordsFirstOf-at _ (past_fed past at.1) _ _ _ _ at.3 (records g place.After-feed from past gave is))
-    (only_two _ f.only)
     (c.in-Ok.ensures.no_fault (λ x. absurd (cc)) ∙ c.loop-next.invariant.no_fault)
     (bound_of (past_fed past at.1) c.loop-next.session at.3)
     (λ ends. HasEnded-at _ (past_fed past at.1) _ _ _ _ at.3 (f.seq_end (past_fed past at.1) at.3 fits (ap Err ends)))

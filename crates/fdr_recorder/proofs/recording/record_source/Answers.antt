@@ -1,5 +1,5 @@
 use Rattle.std.proofs.Common.{◌≡◌, ◌∙◌, ◌+◌, ◌-◌, ◌≤◌, ℕ, ap, sym, inl, inr, ⊎_elim, refl, subst, Err, arith}
-use Rattle.fdr_deck.proofs.Composing.{refusal, LearnsExtent-then}
+use Rattle.fdr_deck.proofs.Composing.{refusal, same_fault, LearnsExtent-then}
 use Rattle.fdr_slot.specs.declared.image.Header.{Header}
 use Rattle.fdr_recover.specs.Images.{next_of}
 use Rattle.fdr_recorder.specs.NewBlocks.{next_in}
@@ -8,7 +8,7 @@ use Rattle.fdr_recorder.specs.declared.error.SessionFault.{SessionFault}
 use Rattle.fdr_recorder.specs.Past.{past_at_start}
 use Rattle.fdr_recorder.specs.declared.error.SessionFault.TheVariants as session
 use Rattle.fdr_recorder.proofs.Recordings.{RecordsSupply-refused, RecordsSupply-past_at_start}
-use Rattle.fdr_recorder.proofs.SessionEnds.{begun_at, cut_after_start, cut_not_memory, fault_same, keeps_input_then, not_short, recorded_after_start}
+use Rattle.fdr_recorder.proofs.SessionEnds.{begun_at, cut_after_start, cut_not_memory, keeps_input_then, not_short, recorded_after_start}
 use Rattle.fdr_recorder.proofs.Refused.{ok_not_err}
 use Rattle.fdr_recorder.proofs.recording.record_source.Goals as goal
 
@@ -27,15 +27,15 @@ returns-in-Err g c =
       recorded = λ from gives. tt;
       ended = λ from gives. RecordsSupply-refused from c.args.sound.now _ _ _ c.in-Err.fault starts
           (λ ends. e.numbers (ap Err ends)) (λ bytes why is. e.image bytes why (ap Err is)) (λ why is. e.small why (ap Err is))
-          (λ short. ⊎_elim (λ is. inl (fault_same _ _ is)) (λ is. inr (fault_same _ _ is)) (e.small_always short))
+          (λ short. ⊎_elim (λ is. inl (same_fault is)) (λ is. inr (same_fault is)) (e.small_always short))
           (λ image table is. e.words image table (ap Err is)) (λ is. e.old_version (ap Err is));
       blocks = tt;
-      memory = λ is. not_short _ (λ short. ⊎_elim (λ x. let y = sym is ∙ fault_same _ _ x in cc) (λ x. let y = sym is ∙ fault_same _ _ x in cc)
+      memory = λ is. not_short _ (λ short. ⊎_elim (λ x. let y = sym is ∙ same_fault x in cc) (λ x. let y = sym is ∙ same_fault x in cc)
           (e.small_always short));
       memory_good = λ is told. e.no_memory told (ap Err is);
       memory_current = λ is told. e.memory_current told (ap Err is);
-      untouched = λ refused. e.untouched (λ is. refused_not_disk c.in-Err.fault refused (fault_same _ _ is));
-      looked = λ refused. e.looked (λ is. refused_not_disk c.in-Err.fault refused (fault_same _ _ is));
+      untouched = λ refused. e.untouched (λ is. refused_not_disk c.in-Err.fault refused (same_fault is));
+      looked = λ refused. e.looked (λ is. refused_not_disk c.in-Err.fault refused (same_fault is));
       announced = λ refused. e.refused.announced;
       input = λ refused. (starts.input, starts.input_faults);
       unpulled = λ still. (starts.input, starts.input_faults);
@@ -43,7 +43,7 @@ returns-in-Err g c =
       input_fault = tt;
       disk_fault = λ fails. e.cause (ap Err fails);
       no_disk_fault = tt;
-      no_fault_if_cut = λ other. e.no_fault (λ is. other (fault_same _ _ is));
+      no_fault_if_cut = λ other. e.no_fault (λ is. other (same_fault is));
     }
 
 -- the recording was cut short

@@ -1,9 +1,6 @@
 use Rattle.std.proofs.Common.{rules}
-use Rattle.fdr_salvage.proofs.SlotNumbers.{never_falls}
+use Rattle.std.proofs.lemmas.List.Sorted.{IsNonDecreasingBy-from_sort}
 use Rattle.fdr_salvage.proofs.joining.in_order.Goals as goal
 
-pub returns-clause-order : goal.returns-clause-order
-returns-clause-order c = never_falls _ (search rules)
-
-pub returns-clause-permutation : goal.returns-clause-permutation
-returns-clause-permutation c = search rules
+pub returns : goal.returns
+returns c = record { permutation = search rules; order = IsNonDecreasingBy-from_sort (λ x. x) _ (search rules) }

@@ -1,21 +1,20 @@
 use Rattle.std.proofs.Common.{◌++◌, ◌+◌, [], ◌∷◌, sym, ap, ◌∙◌, subst, arith}
 use Rattle.std.proofs.lemmas.Grind.{common_steps}
-use Rattle.std.specs.Prelude.{All, vec_len, option_to_list}
+use Rattle.std.specs.Prelude.{All, vec_len}
 use Rattle.fdr_recover.proofs.Handing.{ok_then}
 use Rattle.fdr_salvage.specs.Runs.{HasBlockNumbers}
-use Rattle.fdr_salvage.proofs.Joins.{run_of, join_with, join_apart, join_first, bounds_with, empty_popped, none_left}
+use Rattle.fdr_salvage.proofs.Joins.{run_of, join_with, join_apart, join_first, bounds_with, none_popped}
 use Rattle.fdr_salvage.proofs.joining.join_number.Goals as goal
 
 pub returns-in_default-clause-joined : goal.returns-in_default-clause-joined
 returns-in_default-clause-joined c = λ blocks b number is.
-    let runs = c.args.runs.now.items in
-    let empty = empty_popped runs (vec_len c.args.runs.now) c.pop.result c.args.runs.now.ok.0 c.pop.ensures.variant.1 c.in_default.is in
-    let left = none_left runs c.pop.new.self.items (option_to_list c.pop.result) empty c.pop.ensures.items in
+    let none = none_popped c.args.runs.now.items c.pop.new.self.items (vec_len c.args.runs.now) c.pop.result c.args.runs.now.ok.0
+    c.pop.ensures.variant.1 c.in_default.is c.pop.ensures.items in
     ok_then _ _ c.begin_run.result
     (λ begun. begun
-    ∙ ap (λ rs. rs ++ run_of c.args.number (c.args.number + 1) ∷ []) left
+    ∙ ap (λ rs. rs ++ run_of c.args.number (c.args.number + 1) ∷ []) none.1
     ∙ ap (λ n. run_of n (n + 1) ∷ []) (sym number)
-    ∙ sym (join_first blocks b (sym is ∙ empty)))
+    ∙ sym (join_first blocks b (sym is ∙ none.0)))
     c.begin_run.ensures.begun
 
 pub returns-then-last-number-clause-joined : goal.returns-then-last-number-clause-joined

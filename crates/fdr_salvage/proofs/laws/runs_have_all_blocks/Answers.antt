@@ -9,28 +9,20 @@ use Rattle.fdr_salvage.proofs.InOne.{in_one_run, runs-numbered}
 use Rattle.fdr_salvage.proofs.LastRun.{runs-last}
 use Rattle.fdr_salvage.proofs.laws.runs_have_all_blocks.Goals as goal
 
-pub returns-clause-held : goal.returns-clause-held
-returns-clause-held c = λ h image b limits. (
-  λ among. (
-    b.number % h.slots,
-    mod-lt b.number (omega (arith, limits.least_slots)),
-    All-contains (StandsInSlot h.slots (block_in h image)) (valid_blocks h image) b (valid-stand h image) among,
-  ),
-  λ held. valid-contains h image b limits (slot-stands h image held.0 b held.2),
-)
-
-pub returns-clause-rising : goal.returns-clause-rising
-returns-clause-rising c = λ h image limits. valid-rising h image
-
-pub returns-clause-maximal : goal.returns-clause-maximal
+pub returns : goal.returns
 unfolding runs_of
-returns-clause-maximal c = λ h image. stretches-are goes_on_with (valid_blocks h image)
-
-pub returns-clause-in_one : goal.returns-clause-in_one
-returns-clause-in_one c = in_one_run
-
-pub returns-clause-numbered : goal.returns-clause-numbered
-returns-clause-numbered c = λ h image limits. runs-numbered h image
-
-pub returns-clause-last : goal.returns-clause-last
-returns-clause-last c = runs-last
+returns c = record {
+  held = λ h image b limits. (
+    λ among. (
+      b.number % h.slots,
+      mod-lt b.number (omega (arith, limits.least_slots)),
+      All-contains (StandsInSlot h.slots (block_in h image)) (valid_blocks h image) b (valid-stand h image) among,
+    ),
+    λ held. valid-contains h image b limits (slot-stands h image held.0 b held.2),
+  );
+  rising = λ h image limits. valid-rising h image;
+  maximal = λ h image. stretches-are goes_on_with (valid_blocks h image);
+  in_one = in_one_run;
+  numbered = λ h image limits. runs-numbered h image;
+  last = runs-last;
+}

@@ -4,7 +4,7 @@ use Rattle.std.proofs.lemmas.List.Elements.{All-nil}
 use Rattle.fdr_slot.specs.Limits.{sequence_end}
 use Rattle.fdr_recover.proofs.Looking.{Looks-here, Looks-then}
 use Rattle.fdr_salvage.specs.Runs.{slot_numbers}
-use Rattle.fdr_salvage.proofs.SlotNumbers.{numbers_more}
+use Rattle.fdr_salvage.proofs.Numbers.{numbers_more}
 use Rattle.fdr_salvage.proofs.reading.read_numbers.Goals as goal
 
 pub loop-slot-init : goal.loop-slot-init

@@ -1,115 +1,88 @@
-use Rattle.std.proofs.Common.{◌≡◌, ◌∙◌, sym, ap, refl, ℕ, Option, Some, None}
+use Rattle.std.proofs.Common.{◌≡◌, ◌∙◌, ap, refl, ◌∷◌, [], Option, Some}
 use Rattle.csv.specs.Records.{fields_of}
 use Rattle.fdr_table.specs.Bounds.{periods}
-use Rattle.fdr_table.specs.Fields.{number_in, number_among, subframes_of}
-use Rattle.fdr_table.specs.Reading.{field, bits_from, last_cycle, place_misread, subframes_in, frame_width_in, period_in, cycle_in}
+use Rattle.fdr_table.specs.Fields.{number_among, subframes_of}
+use Rattle.fdr_table.specs.Reading.{Row, first_some, misread, place_misread, place_row, subframes_in, frame_width_in, period_in, cycle_in}
+use Rattle.fdr_table.specs.declared.fault.TableFault.{TableFault}
 use Rattle.fdr_table.specs.declared.fault.TableFault.TheVariants as fault
-use Rattle.fdr_table.proofs.RowFacts.{read-there, read-none, passed-on, place-says}
+use Rattle.fdr_table.proofs.RowFacts.{refusal, read-there, read-none}
 use Rattle.fdr_table.proofs.row.read_place_row.Goals as goal
+use Rattle.fdr_table.proofs.row.read_place_row.Goals.{In_ok-subs, In_ok-lsb, After-last_cycle}
+
+subs-read : (c : In_ok-subs) → subframes_in (fields_of c.args.row.now) ≡ Some c.in_ok-subs.subs
+subs-read c =
+    read-there _ _ _ (fault.Number 3) _ (c.subframes.ensures.exactly ∙ ap subframes_of c.field_at.ensures) c.ok_or.ensures.value c.in_ok-subs.was
+
+periods-read : (c : After-last_cycle) → c.number_of-periods.result ≡ period_in (fields_of c.args.row.now)
+periods-read c = c.number_of-periods.ensures.exactly ∙ ap (number_among periods) c.field_at-2.ensures
+
+-- the fields from the width on, where those before it read
+abbrev width_misread : Row → Option TableFault
+width_misread fields = first_some (misread 7 (frame_width_in fields) ∷ misread 8 (cycle_in fields) ∷ misread 9 (period_in fields) ∷ [])
+
+to_width : (c : In_ok-lsb) → subframes_in (fields_of c.args.row.now) ≡ Some c.in_ok-subs.subs
+    → place_misread (fields_of c.args.row.now) ≡ width_misread (fields_of c.args.row.now)
+unfolding place_misread
+to_width c subs = rw (c.in_ok-part.ensures.read, subs, c.in_ok-word.ensures.read, c.in_ok-step.ensures.read, c.in_ok-lsb.ensures.read) refl
 
 pub returns-in_err-part-clause-misread : goal.returns-in_err-part-clause-misread
 unfolding place_misread
 returns-in_err-part-clause-misread c =
-    let texts = fields_of c.args.row.now in
-    passed-on (place_misread texts) c.from_residual.result c.in_err-part.field-0.0 (fault.Number 2) c.from_residual.ensures.1
-    c.in_err-part.ensures.misread.1 (rw (c.in_err-part.ensures.misread.0) refl)
+    rw (refusal _ _ c.from_residual.ensures.1, c.in_err-part.ensures.misread.1, c.in_err-part.ensures.misread.0) refl
 
 pub returns-in_err-subs-clause-misread : goal.returns-in_err-subs-clause-misread
 unfolding place_misread
 returns-in_err-subs-clause-misread c =
-    let texts = fields_of c.args.row.now in
-    let wrong = read-none c.subframes.result (subframes_in texts) c.ok_or.result (fault.Number 3) c.in_err-subs.field-0.0
-    (c.subframes.ensures.exactly ∙ ap subframes_of c.field_at.ensures) c.ok_or.ensures.value c.in_err-subs.was in
-    passed-on (place_misread texts) c.from_residual-in_err-subs.result c.in_err-subs.field-0.0 (fault.Number 3) c.from_residual-in_err-subs.ensures.1
-    (sym wrong.1) (rw (c.in_ok-part.ensures.read, wrong.0) refl)
+    let wrong = read-none _ _ _ (fault.Number 3) _ (c.subframes.ensures.exactly ∙ ap subframes_of c.field_at.ensures) c.ok_or.ensures.value c.in_err-subs.was in
+    rw (refusal _ _ c.from_residual-in_err-subs.ensures.1, ← wrong.1, c.in_ok-part.ensures.read, wrong.0) refl
 
 pub returns-in_err-word-clause-misread : goal.returns-in_err-word-clause-misread
 unfolding place_misread
 returns-in_err-word-clause-misread c =
-    let texts = fields_of c.args.row.now in
-    let subs = read-there c.subframes.result (subframes_in texts) c.ok_or.result (fault.Number 3) c.in_ok-subs.subs
-    (c.subframes.ensures.exactly ∙ ap subframes_of c.field_at.ensures) c.ok_or.ensures.value c.in_ok-subs.was in
-    passed-on (place_misread texts) c.from_residual-in_err-word.result c.in_err-word.field-0.0 (fault.Number 4) c.from_residual-in_err-word.ensures.1
-    c.in_err-word.ensures.misread.1 (rw (c.in_ok-part.ensures.read, subs, c.in_err-word.ensures.misread.0) refl)
+    let subs = subs-read (goal.at.returns-in_err-word-clause-misread c).In_ok-subs in
+    let wrong = c.in_err-word.ensures.misread in
+    rw (refusal _ _ c.from_residual-in_err-word.ensures.1, wrong.1, c.in_ok-part.ensures.read, subs, wrong.0) refl
 
 pub returns-in_err-step-clause-misread : goal.returns-in_err-step-clause-misread
 unfolding place_misread
 returns-in_err-step-clause-misread c =
-    let texts = fields_of c.args.row.now in
-    let subs = read-there c.subframes.result (subframes_in texts) c.ok_or.result (fault.Number 3) c.in_ok-subs.subs
-    (c.subframes.ensures.exactly ∙ ap subframes_of c.field_at.ensures) c.ok_or.ensures.value c.in_ok-subs.was in
-    passed-on (place_misread texts) c.from_residual-in_err-step.result c.in_err-step.field-0.0 (fault.Number 5) c.from_residual-in_err-step.ensures.1
-    c.in_err-step.ensures.misread.1 (rw (c.in_ok-part.ensures.read, subs, c.in_ok-word.ensures.read, c.in_err-step.ensures.misread.0) refl)
+    let subs = subs-read (goal.at.returns-in_err-step-clause-misread c).In_ok-subs in
+    let wrong = c.in_err-step.ensures.misread in
+    rw (refusal _ _ c.from_residual-in_err-step.ensures.1, wrong.1, c.in_ok-part.ensures.read, subs, c.in_ok-word.ensures.read, wrong.0) refl
 
 pub returns-in_err-lsb-clause-misread : goal.returns-in_err-lsb-clause-misread
 unfolding place_misread
 returns-in_err-lsb-clause-misread c =
-    let texts = fields_of c.args.row.now in
-    let subs = read-there c.subframes.result (subframes_in texts) c.ok_or.result (fault.Number 3) c.in_ok-subs.subs
-    (c.subframes.ensures.exactly ∙ ap subframes_of c.field_at.ensures) c.ok_or.ensures.value c.in_ok-subs.was in
-    passed-on (place_misread texts) c.from_residual-in_err-lsb.result c.in_err-lsb.field-0.0 (fault.Number 6) c.from_residual-in_err-lsb.ensures.1
-    c.in_err-lsb.ensures.misread.1
-    (rw (c.in_ok-part.ensures.read, subs, c.in_ok-word.ensures.read, c.in_ok-step.ensures.read, c.in_err-lsb.ensures.misread.0) refl)
+    let subs = subs-read (goal.at.returns-in_err-lsb-clause-misread c).In_ok-subs in
+    let wrong = c.in_err-lsb.ensures.misread in
+    rw (refusal _ _ c.from_residual-in_err-lsb.ensures.1, wrong.1, c.in_ok-part.ensures.read, subs, c.in_ok-word.ensures.read)
+    (rw (c.in_ok-step.ensures.read, wrong.0) refl)
 
 pub returns-in_err-width-clause-misread : goal.returns-in_err-width-clause-misread
-unfolding place_misread
 returns-in_err-width-clause-misread c =
-    let texts = fields_of c.args.row.now in
-    let subs = read-there c.subframes.result (subframes_in texts) c.ok_or.result (fault.Number 3) c.in_ok-subs.subs
-    (c.subframes.ensures.exactly ∙ ap subframes_of c.field_at.ensures) c.ok_or.ensures.value c.in_ok-subs.was in
-    let none : frame_width_in texts ≡ None =
-    ap (λ (o : Option ℕ). number_in 1 (bits_from 12 o) (field texts 7)) c.in_ok-lsb.ensures.read ∙ c.in_err-width.ensures.misread.0 in
-    passed-on (place_misread texts) c.from_residual-in_err-width.result c.in_err-width.field-0.0 (fault.Number 7) c.from_residual-in_err-width.ensures.1
-    c.in_err-width.ensures.misread.1
-    (rw (none, c.in_ok-part.ensures.read, subs, c.in_ok-word.ensures.read, c.in_ok-step.ensures.read, c.in_ok-lsb.ensures.read) refl)
+    let at = goal.at.returns-in_err-width-clause-misread c in
+    let wrong = c.in_err-width.ensures.misread in
+    rw (refusal _ _ c.from_residual-in_err-width.ensures.1, wrong.1, to_width at.In_ok-lsb (subs-read at.In_ok-subs), c.in_ok-lsb.ensures.read, wrong.0) refl
 
 pub returns-in_err-cycle-clause-misread : goal.returns-in_err-cycle-clause-misread
-unfolding place_misread
 returns-in_err-cycle-clause-misread c =
-    let texts = fields_of c.args.row.now in
-    let subs = read-there c.subframes.result (subframes_in texts) c.ok_or.result (fault.Number 3) c.in_ok-subs.subs
-    (c.subframes.ensures.exactly ∙ ap subframes_of c.field_at.ensures) c.ok_or.ensures.value c.in_ok-subs.was in
-    let width : frame_width_in texts ≡ Some c.in_ok-width.width =
-    ap (λ (o : Option ℕ). number_in 1 (bits_from 12 o) (field texts 7)) c.in_ok-lsb.ensures.read ∙ c.in_ok-width.ensures.read in
-    let periods : c.number_of-periods.result ≡ period_in texts =
-    c.number_of-periods.ensures.exactly ∙ ap (number_among periods) c.field_at-2.ensures in
-    let none : cycle_in texts ≡ None =
-    ap (λ (n : ℕ). number_in 0 n (field texts 8)) (sym (c.last_cycle.ensures ∙ ap last_cycle periods)) ∙ c.in_err-cycle.ensures.misread.0 in
-    passed-on (place_misread texts) c.from_residual-in_err-cycle.result c.in_err-cycle.field-0.0 (fault.Number 8) c.from_residual-in_err-cycle.ensures.1
-    c.in_err-cycle.ensures.misread.1
-    (rw (none, width, c.in_ok-part.ensures.read, subs, c.in_ok-word.ensures.read, c.in_ok-step.ensures.read, c.in_ok-lsb.ensures.read) refl)
+    let at = goal.at.returns-in_err-cycle-clause-misread c in
+    let wrong = c.in_err-cycle.ensures.misread in
+    rw (refusal _ _ c.from_residual-in_err-cycle.ensures.1, wrong.1, to_width at.In_ok-lsb (subs-read at.In_ok-subs), c.in_ok-lsb.ensures.read)
+    (rw (c.in_ok-width.ensures.read, ← periods-read at.After-last_cycle, ← c.last_cycle.ensures, wrong.0) refl)
 
 pub returns-in_err-period-clause-misread : goal.returns-in_err-period-clause-misread
-unfolding place_misread
 returns-in_err-period-clause-misread c =
-    let texts = fields_of c.args.row.now in
-    let subs = read-there c.subframes.result (subframes_in texts) c.ok_or.result (fault.Number 3) c.in_ok-subs.subs
-    (c.subframes.ensures.exactly ∙ ap subframes_of c.field_at.ensures) c.ok_or.ensures.value c.in_ok-subs.was in
-    let width : frame_width_in texts ≡ Some c.in_ok-width.width =
-    ap (λ (o : Option ℕ). number_in 1 (bits_from 12 o) (field texts 7)) c.in_ok-lsb.ensures.read ∙ c.in_ok-width.ensures.read in
-    let periods : c.number_of-periods.result ≡ period_in texts =
-    c.number_of-periods.ensures.exactly ∙ ap (number_among periods) c.field_at-2.ensures in
-    let cycle : cycle_in texts ≡ Some c.in_ok-cycle.cycle =
-    ap (λ (n : ℕ). number_in 0 n (field texts 8)) (sym (c.last_cycle.ensures ∙ ap last_cycle periods)) ∙ c.in_ok-cycle.ensures.read in
-    let wrong = read-none c.number_of-periods.result (period_in texts) c.ok_or-2.result (fault.Number 9) c.in_err-period.field-0.0
-    periods c.ok_or-2.ensures.value c.in_err-period.was in
-    passed-on (place_misread texts) c.from_residual-in_err-period.result c.in_err-period.field-0.0 (fault.Number 9) c.from_residual-in_err-period.ensures.1
-    (sym wrong.1)
-    (rw (cycle, width, c.in_ok-part.ensures.read, subs, c.in_ok-word.ensures.read, c.in_ok-step.ensures.read, c.in_ok-lsb.ensures.read, wrong.0) refl)
+    let at = goal.at.returns-in_err-period-clause-misread c in
+    let wrong = read-none c.number_of-periods.result _ _ (fault.Number 9) _ refl c.ok_or-2.ensures.value c.in_err-period.was in
+    rw (refusal _ _ c.from_residual-in_err-period.ensures.1, ← wrong.1, to_width at.In_ok-lsb (subs-read at.In_ok-subs), c.in_ok-lsb.ensures.read)
+    (rw (c.in_ok-width.ensures.read, ← periods-read at.After-last_cycle, ← c.last_cycle.ensures, c.in_ok-cycle.ensures.read, wrong.0) refl)
 
 pub returns-clause-read : goal.returns-clause-read
+unfolding place_row
 returns-clause-read c =
-    let texts = fields_of c.args.row.now in
-    let subs = read-there c.subframes.result (subframes_in texts) c.ok_or.result (fault.Number 3) c.in_ok-subs.subs
-    (c.subframes.ensures.exactly ∙ ap subframes_of c.field_at.ensures) c.ok_or.ensures.value c.in_ok-subs.was in
-    let width : frame_width_in texts ≡ Some c.in_ok-width.width =
-    ap (λ (o : Option ℕ). number_in 1 (bits_from 12 o) (field texts 7)) c.in_ok-lsb.ensures.read ∙ c.in_ok-width.ensures.read in
-    let periods : c.number_of-periods.result ≡ period_in texts =
-    c.number_of-periods.ensures.exactly ∙ ap (number_among periods) c.field_at-2.ensures in
-    let cycle : cycle_in texts ≡ Some c.in_ok-cycle.cycle =
-    ap (λ (n : ℕ). number_in 0 n (field texts 8)) (sym (c.last_cycle.ensures ∙ ap last_cycle periods)) ∙ c.in_ok-cycle.ensures.read in
-    let period = read-there c.number_of-periods.result (period_in texts) c.ok_or-2.result (fault.Number 9) c.in_ok-period.period
-    periods c.ok_or-2.ensures.value c.in_ok-period.was in
-    place-says texts c.in_ok-part.part c.in_ok-subs.subs c.in_ok-word.word c.in_ok-step.step c.in_ok-lsb.lsb
-    c.in_ok-width.width c.in_ok-cycle.cycle c.in_ok-period.period c.in_ok-part.ensures.read subs c.in_ok-word.ensures.read
-    c.in_ok-step.ensures.read c.in_ok-lsb.ensures.read width cycle period c.args.param c.args.number c.requires
+    let at = goal.at.returns-clause-read c in
+    let subs = subs-read at.In_ok-subs in
+    let period = read-there c.number_of-periods.result _ _ (fault.Number 9) _ refl c.ok_or-2.ensures.value c.in_ok-period.was in
+    rw (c.requires, to_width at.In_ok-lsb subs, c.in_ok-part.ensures.read, subs, c.in_ok-word.ensures.read, c.in_ok-step.ensures.read, c.in_ok-lsb.ensures.read)
+    (rw (c.in_ok-width.ensures.read, ← periods-read at.After-last_cycle, ← c.last_cycle.ensures, c.in_ok-cycle.ensures.read, period) refl)

@@ -1,10 +1,9 @@
-use Rattle.std.proofs.Common.{◌≡◌, ◌<◌, ◌≤◌, ℕ, List, [], ◌++◌, length, ◌∙◌, refl, arith, rules}
+use Rattle.std.proofs.Common.{◌≡◌, ◌<◌, ℕ, List, [], length, ◌∙◌, refl, arith}
 use Rattle.std.proofs.lemmas.Grind.{common_steps}
 use Rattle.std.proofs.lemmas.List.{append-nil}
-use Rattle.fdr_trace.proofs.Pulling.{PullsUntilDecided-none, PullsUntilDecided-kept}
-use Rattle.fdr_trace.proofs.PullMoments.{KeepsDeck-here, KeepsDeck-then, KeepsDeck-kept}
-use Rattle.fdr_trace.proofs.PullMoments.{PullsForRecord-none, PullsForRecord-then, PullsForRecord-kept, last_pulled}
-use Rattle.fdr_trace.proofs.Filling.{Reads-piece, PullsUntilDecided-piece, IsRefused-end, IsCutOff-failed}
+use Rattle.fdr_trace.proofs.Pulling.{PullsUntilDecided-none}
+use Rattle.fdr_trace.proofs.PullMoments.{KeepsDeck-here, KeepsDeck-then, KeepsDeck-kept, PullsForRecord-none}
+use Rattle.fdr_trace.proofs.Filling.{HasPulled-piece, IsRefused-end, IsCutOff-failed}
 use Rattle.fdr_trace.proofs.TraceLine.fill.Goals as goal
 
 waits_less : (n : ℕ) (xs : List ℕ) → n ≡ length xs → n < 16 → length xs < 16
@@ -18,8 +17,7 @@ loop-self-init g c =
         [],
         PullsUntilDecided-none _ _ bytes,
         rw append-nil reads,
-        PullsForRecord-none _ _ bytes
-            records sound,
+        PullsForRecord-none _ _ bytes records sound,
       );
       no_fault = refl;
       deck = KeepsDeck-here _ _ sound;
@@ -28,111 +26,67 @@ loop-self-init g c =
 
 pub loop-self-preserved : goal.loop-self-preserved
 loop-self-preserved g c =
-    let sound = g.met.D.Deck.sound c.args.deck.now in
+    let inv = c.loop-self.invariant in
+    let pull = c.pull.ensures in
     let pulled = c.in-Ok.ensures.pulled in
+    let waits = waits_less c.waiting.result c.loop-self.self.waiting c.waiting.ensures c.loop-self-test.true in
     record {
       filled = λ bytes records reads few.
-          let inv = c.loop-self.invariant.filled bytes records reads few in
-          let waits = waits_less c.waiting.result c.loop-self.self.waiting c.waiting.ensures c.loop-self-test.true in
-          let pulls = PullsUntilDecided-piece _ _ _ _ c.loop-self.self bytes inv.0 pulled.0 records inv.1 inv.2 waits few
-          pulled.3 c.pull.ensures.monotone in (
-            inv.0 ++ pulled.0,
-            pulls,
-            Reads-piece c.loop-self.self c.pull.new.self bytes inv.0 pulled.0 records inv.2 pulled.2
-                c.pull.ensures.kept_time c.pull.ensures.kept_count,
-            PullsForRecord-then _ _ _ _ bytes inv.0 pulled.0 records sound c.loop-self.invariant.deck inv.1 inv.3
-                c.pull.ensures.disk c.pull.ensures.time c.pull.ensures.moments pulls
-                (last_pulled _ _ _ _ c.loop-self.self bytes inv.0 pulled.0 records inv.1 inv.3 inv.2 waits few
-                pulled.3),
-          );
-      no_fault = pulled.3.faults ∙ c.loop-self.invariant.no_fault;
-      deck = KeepsDeck-then _ _ _ _ c.loop-self.invariant.deck c.pull.ensures.disk c.pull.ensures.announced
-          (λ more. c.in-Ok.ensures.fresh) c.pull.ensures.time;
-      rest = g.met.D.Deck.rest_then _ _ _ c.loop-self.invariant.rest c.pull.ensures.rest;
+          HasPulled-piece _ _ _ _ c.loop-self.self c.pull.new.self bytes pulled.0 records (g.met.D.Deck.sound c.args.deck.now) inv.deck
+          (inv.filled bytes records reads few) waits few pulled.3 pull.disk pull.time pull.moments pulled.2 pull.kept_time pull.kept_count;
+      no_fault = pulled.3.faults ∙ inv.no_fault;
+      deck = KeepsDeck-then _ _ _ _ inv.deck pull.disk pull.announced (λ more. c.in-Ok.ensures.fresh) pull.time;
+      rest = g.met.D.Deck.rest_then _ _ _ inv.rest pull.rest;
     }
 
-pub returns-in-Ok-eq0-clause-filled : goal.returns-in-Ok-eq0-clause-filled
-returns-in-Ok-eq0-clause-filled g c = λ bytes records reads few.
-    let inv = c.loop-self.invariant.filled bytes records reads few in
+pub returns-in-Ok-eq0 : goal.returns-in-Ok-eq0
+returns-in-Ok-eq0 g c =
+    let inv = c.loop-self.invariant in
+    let pull = c.pull.ensures in
     let pulled = c.in-Ok-eq0.ensures.pulled in
+    let nothing : length pulled.0 ≡ 0 = omega (arith, pulled.1, c.in-Ok-eq0.field-0-is) in
     let waits = waits_less c.waiting.result c.loop-self.self.waiting c.waiting.ensures c.loop-self-test.true in
-    let pulls = PullsUntilDecided-piece _ _ _ _ c.loop-self.self bytes inv.0 pulled.0 records inv.1 inv.2 waits few pulled.3
-    c.pull.ensures.monotone in (
-      inv.0 ++ pulled.0,
-      pulls,
-      rw c.refused.ensures (IsRefused-end _ _ _ c.loop-self.self c.pull.new.self bytes inv.0 pulled.0 records inv.2
-          waits few pulled.3 (omega (arith, pulled.1, c.in-Ok-eq0.field-0-is))
-          pulled.2 c.pull.ensures.kept_time c.pull.ensures.kept_count),
-      PullsForRecord-then _ _ _ _ bytes inv.0 pulled.0 records (g.met.D.Deck.sound c.args.deck.now)
-          c.loop-self.invariant.deck inv.1 inv.3 c.pull.ensures.disk c.pull.ensures.time c.pull.ensures.moments pulls
-          (last_pulled _ _ _ _ c.loop-self.self bytes inv.0 pulled.0 records inv.1 inv.3 inv.2 waits few pulled.3),
-    )
+    let deck = KeepsDeck-then _ _ _ _ inv.deck pull.disk pull.announced (λ more. c.in-Ok-eq0.ensures.fresh) pull.time in
+    record {
+      filled = λ bytes records reads few.
+          let now = HasPulled-piece _ _ _ _ c.loop-self.self c.pull.new.self bytes pulled.0 records (g.met.D.Deck.sound c.args.deck.now) inv.deck
+          (inv.filled bytes records reads few) waits few pulled.3 pull.disk pull.time pull.moments pulled.2 pull.kept_time pull.kept_count in (
+            now.0,
+            now.1,
+            rw c.refused.ensures (IsRefused-end _ _ c.loop-self.self c.pull.new.self _ pulled.0 records now.2 waits few pulled.2 nothing
+                (pulled.3.end nothing)),
+            now.3,
+          );
+      no_fault = λ other. pulled.3.faults ∙ inv.no_fault;
+      disk = deck.disk;
+      announced = deck.announced;
+      fresh = deck.fresh;
+      time = deck.time;
+      rest = g.met.D.Deck.rest_then _ _ _ inv.rest pull.rest;
+    }
 
-pub returns-in-Ok-eq0-clause-disk : goal.returns-in-Ok-eq0-clause-disk
-returns-in-Ok-eq0-clause-disk g c = (KeepsDeck-then _ _ _ _ c.loop-self.invariant.deck c.pull.ensures.disk
-    c.pull.ensures.announced (λ more. c.in-Ok-eq0.ensures.fresh) c.pull.ensures.time).disk
-
-pub returns-in-Ok-eq0-clause-announced : goal.returns-in-Ok-eq0-clause-announced
-returns-in-Ok-eq0-clause-announced g c = (KeepsDeck-then _ _ _ _ c.loop-self.invariant.deck c.pull.ensures.disk
-    c.pull.ensures.announced (λ more. c.in-Ok-eq0.ensures.fresh) c.pull.ensures.time).announced
-
-pub returns-in-Ok-eq0-clause-fresh : goal.returns-in-Ok-eq0-clause-fresh
-returns-in-Ok-eq0-clause-fresh g c = λ more. c.in-Ok-eq0.ensures.fresh
-
-pub returns-in-Ok-eq0-clause-time : goal.returns-in-Ok-eq0-clause-time
-returns-in-Ok-eq0-clause-time g c = (KeepsDeck-then _ _ _ _ c.loop-self.invariant.deck c.pull.ensures.disk
-    c.pull.ensures.announced (λ more. c.in-Ok-eq0.ensures.fresh) c.pull.ensures.time).time
-
-pub returns-in-Ok-eq0-clause-rest : goal.returns-in-Ok-eq0-clause-rest
-returns-in-Ok-eq0-clause-rest g c = g.met.D.Deck.rest_then _ _ _ c.loop-self.invariant.rest c.pull.ensures.rest
-
-pub returns-in-Err-clause-filled : goal.returns-in-Err-clause-filled
-returns-in-Err-clause-filled g c = λ bytes records reads few.
-    let inv = c.loop-self.invariant.filled bytes records reads few in
-    let pulls = PullsUntilDecided-kept _ _ _ _ bytes inv.0 inv.1 c.in-Err.ensures.kept c.pull.ensures.monotone in (
-      inv.0,
-      pulls,
-      IsCutOff-failed (g.D.Deck.state c.args.deck.now) (g.D.Deck.state c.loop-self.deck)
-          (g.D.Deck.state c.pull.new.deck) c.loop-self.self bytes inv.0 records inv.2
-          (waits_less c.waiting.result c.loop-self.self.waiting c.waiting.ensures c.loop-self-test.true) few
-          inv.1.faults c.in-Err.ensures.cause,
-      PullsForRecord-kept _ _ _ _ bytes inv.0 records (g.met.D.Deck.sound c.args.deck.now) c.loop-self.invariant.deck inv.1
-          inv.3 c.pull.ensures.disk c.pull.ensures.time c.pull.ensures.moments pulls c.in-Err.ensures.kept,
-    )
-
-pub returns-in-Err-clause-disk : goal.returns-in-Err-clause-disk
-returns-in-Err-clause-disk g c = (KeepsDeck-kept _ _ _ _ c.loop-self.invariant.deck c.pull.ensures.disk
-    c.pull.ensures.announced c.in-Err.ensures.kept c.pull.ensures.time).disk
-
-pub returns-in-Err-clause-announced : goal.returns-in-Err-clause-announced
-returns-in-Err-clause-announced g c = (KeepsDeck-kept _ _ _ _ c.loop-self.invariant.deck c.pull.ensures.disk
-    c.pull.ensures.announced c.in-Err.ensures.kept c.pull.ensures.time).announced
-
-pub returns-in-Err-clause-fresh : goal.returns-in-Err-clause-fresh
-returns-in-Err-clause-fresh g c = (KeepsDeck-kept _ _ _ _ c.loop-self.invariant.deck c.pull.ensures.disk
-    c.pull.ensures.announced c.in-Err.ensures.kept c.pull.ensures.time).fresh
-
-pub returns-in-Err-clause-time : goal.returns-in-Err-clause-time
-returns-in-Err-clause-time g c = (KeepsDeck-kept _ _ _ _ c.loop-self.invariant.deck c.pull.ensures.disk
-    c.pull.ensures.announced c.in-Err.ensures.kept c.pull.ensures.time).time
-
-pub returns-in-Err-clause-rest : goal.returns-in-Err-clause-rest
-returns-in-Err-clause-rest g c = g.met.D.Deck.rest_then _ _ _ c.loop-self.invariant.rest c.pull.ensures.rest
+pub returns-in-Err : goal.returns-in-Err
+returns-in-Err g c =
+    let inv = c.loop-self.invariant in
+    let pull = c.pull.ensures in
+    let deck = KeepsDeck-kept _ _ _ _ inv.deck pull.disk pull.announced c.in-Err.ensures.kept pull.time in
+    record {
+      filled = λ bytes records reads few.
+          IsCutOff-failed _ _ _ _ c.loop-self.self bytes records (g.met.D.Deck.sound c.args.deck.now) inv.deck (inv.filled bytes records reads few)
+          (waits_less c.waiting.result c.loop-self.self.waiting c.waiting.ensures c.loop-self-test.true) few c.in-Err.ensures.kept pull.monotone
+          c.in-Err.ensures.cause pull.disk pull.time pull.moments;
+      no_fault = λ other. absurd (other refl);
+      disk = deck.disk;
+      announced = deck.announced;
+      fresh = deck.fresh;
+      time = deck.time;
+      rest = g.met.D.Deck.rest_then _ _ _ inv.rest pull.rest;
+    }
 
 pub returns-clause-filled : goal.returns-clause-filled
 returns-clause-filled g c = λ bytes records reads few.
-    let inv = c.loop-self.invariant.filled bytes records reads few in (
-      inv.0,
-      inv.1,
-      record {
-        reads = inv.2;
-        waits = omega (arith, c.waiting.ensures, c.loop-self-test.false);
-      },
-      inv.3,
-    )
-
-pub returns-in-Err-clause-no_fault : goal.returns-in-Err-clause-no_fault
-returns-in-Err-clause-no_fault c = search rules
+    let inv = c.loop-self.invariant.filled bytes records reads few in
+    (inv.0, inv.1, record { reads = inv.2; waits = omega (arith, c.waiting.ensures, c.loop-self-test.false) }, inv.3)
 
 pub loop-self-smaller : goal.loop-self-smaller
 loop-self-smaller c = grind (arith, common_steps) steps 2000000

@@ -16,7 +16,7 @@ use Rattle.fdr_table.specs.Rows.{FrameRow, TableRows}
 use Rattle.fdr_stream.specs.Past.{RepresentsStream}
 use Rattle.fdr_recorder.specs.Past.{due_count, past_at_start, session_of, stream_past}
 use Rattle.fdr_recorder.specs.declared.error.SessionFault.TheVariants as fault
-use Rattle.fdr_recorder.proofs.Refused.{apart, header_disk, header_image, header_not_end, header_not_memory, header_not_old, header_short, header_words}
+use Rattle.fdr_recorder.proofs.Refused.{apart, header_disk, header_image, header_not, header_short, header_words}
 use Rattle.fdr_recorder.proofs.Refused.{disk_above, ok_not_err, too_short_for, version_2}
 use Rattle.fdr_recorder.proofs.Adding.{IsSureRing-told}
 use Rattle.fdr_recorder.proofs.Starting.{Starts-looked, Starts-attached, Starts-announced, attaching_announced, looking_announced, starting_announced}
@@ -54,17 +54,17 @@ returns-in_err-header g c =
     let e = c.in_err-header.field-0.0 in
     let a = c.in_err-header.ensures in
     rw (refusal _ _ c.from_residual.ensures.1) (record {
-      numbers = header_not_end e;
+      numbers = (header_not e).0;
       image = λ told why is. a.first_fault told why (header_image e why is);
       small = λ why is. a.small why (header_image e why is);
       small_always = header_short e _ a.small (λ i t is. (a.differ i t is).2);
       words = λ i t is. let d = a.differ i t (header_words e i t is) in
           (d.0 ∙ ap (λ (f : FrameRow). f.words) (c.words.view_is ∙ c.frame.ensures ∙ ap (λ (t : TableRows). t.frame) c.table.ensures), d.1, d.3);
-      no_memory = λ told is. absurd (header_not_memory e is);
-      memory_current = λ told is. absurd (header_not_memory e is);
+      no_memory = λ told is. absurd ((header_not e).1 is);
+      memory_current = λ told is. absurd ((header_not e).1 is);
       good = λ told. tt;
       current = λ told. tt;
-      old_version = λ is. absurd (header_not_old e is);
+      old_version = λ is. absurd ((header_not e).2 is);
       started = tt;
       starts = Starts-looked _ _ _ _ (g.met.D.Deck.sound c.args.deck.now) a.disk_work;
       looked = λ other. a.disk_work;
