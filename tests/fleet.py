@@ -279,8 +279,9 @@ def scheduler(folder: pathlib.Path) -> Iterator[tuple[str, "subprocess.Popen[byt
 
 
 def worker(folder: pathlib.Path, address: str) -> contextlib.AbstractContextManager["subprocess.Popen[bytes]"]:
-    """A worker, started in a folder from which the tools aren't found."""
-    words = ["dask-worker", address, "--host", "127.0.0.1", "--nthreads", "1", "--no-nanny", "--no-dashboard", "--local-directory", str(folder)]
+    """A worker at the scheduler's own address, started in a folder from which the tools aren't found."""
+    host = address.removeprefix("tcp://").partition(":")[0]
+    words = ["dask-worker", address, "--host", host, "--nthreads", "1", "--no-nanny", "--dashboard-address", f"{host}:0", "--local-directory", str(folder)]
     return started(words, cwd=folder, env={name: value for name, value in os.environ.items() if name != "PYTHONPATH"})
 
 
@@ -306,6 +307,26 @@ def real_scheduler(room: Room) -> str:
     return f"a worker and a scheduler killed, {left} flights read after it"
 
 
+def workers_that_join(room: Room) -> str:
+    """A worker that is started by itself joins at an address that was given, reads its share, and nothing listens elsewhere."""
+    telling, log = room.folder / "telling", room.folder / "log"
+    telling.write_text(f'#!/bin/sh\necho "$PPID" >> {log}\nexec {room.program} "$@"\n')
+    telling.chmod(0o755)
+    with started(room.words("joined", "--workers", "1", "--listen", "127.0.0.2", "--fdr", telling)) as client:
+        assert client.stderr is not None
+        found = re.fullmatch(r"flight: the scheduler is (tcp://127\.0\.0\.2:\d+)\n", client.stderr.readline().decode())
+        check(found is not None, "it doesn't say its address")
+        with worker(room.folder, found.group(1) if found else "") as other:
+            wait_until(lambda: room.journal("joined") > room.count // 2 or client.poll() is not None, "half of the flights")
+            addresses = listening([client.pid, *descendants(client.pid), other.pid])
+            end_of(client, 0)
+            read = log.read_text().split().count(str(other.pid))
+    room.check_all("joined")
+    check(addresses == {"0200007F"}, f"it listens at {addresses}")  # 127.0.0.2
+    check(read > 0, "the worker that joined read nothing")
+    return f"{read} of {len(log.read_text().split())} runs of the program by a worker that joined"
+
+
 def no_scheduler(room: Room) -> str:
     """There is no scheduler."""
     said = run(room.words("none", "--scheduler", "tcp://127.0.0.1:9"), 1)
@@ -318,6 +339,7 @@ CASES: list[tuple[str, Callable[[Room], str], int]] = [
     ("killed workers", killed_workers, 8),
     ("killed clients", killed_clients, 8),
     ("a real scheduler", real_scheduler, 8),
+    ("workers that join", workers_that_join, 8),
     ("no scheduler", no_scheduler, 1000),
 ]
 

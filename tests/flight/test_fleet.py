@@ -10,11 +10,15 @@ import logging
 import os
 import pathlib
 import re
+import shutil
 import signal
+import socket
 import sqlite3
 import subprocess
 import sys
 from collections.abc import Iterator
+from dataclasses import dataclass
+from types import SimpleNamespace
 from typing import Any, cast
 
 import dask
@@ -25,8 +29,9 @@ import pytest
 import damaged_images
 import inputs
 from conftest import FLIGHT, ORDINARY, T1, TOP, Fdr, Tool, Write
-from flight_recorder import commands, fleet_engine, fleet_list
+from flight_recorder import commands, fleet_engine, fleet_list, fleet_progress
 from flight_recorder.faults import Fault
+from flight_recorder.fleet_job import DONE, REFUSED, Job
 
 PROGRAM = pathlib.Path(os.environ.get("FDR", TOP / "bin" / "fdr")).resolve()
 RULES = "HIGH,ALT,above,120,3\nSTEP,ALT,change,0,2\n"
@@ -85,23 +90,35 @@ def test_its_numbers_are_those_of_the_plain_commands(fleet: Tool, flight: Tool, 
     assert [row["file"] for row in rows] == [str(one) for one in flights]
     exceeding = rows_of(tmp_path, "exceedances")
     assert len(exceeding) == 5 and {row["rule"] for row in exceeding} == {"HIGH", "STEP"}
+    by_hand = ByHand(flight, fdr, write, rules)
     for path, row in zip(flights, rows):
         own = [one for one in exceeding if one["file"] == str(path)]
         parameters = [one for one in rows_of(tmp_path, "parameters") if one["file"] == str(path)]
-        look_by_hand(path, row, own, parameters, (flight, fdr, write, rules))
+        look_by_hand(path, row, own, parameters, by_hand)
 
 
-def look_by_hand(
-    path: pathlib.Path, row: dict[str, str], exceeding: list[dict[str, str]], parameters: list[dict[str, str]], by: tuple[Tool, Fdr, Write, pathlib.Path]
-) -> None:
+@dataclass
+class ByHand:
+    """The plain commands, the rules, and words for `flight table`: what a description and a date say, and which flight is chosen."""
+
+    flight: Tool
+    fdr: Fdr
+    write: Write
+    rules: pathlib.Path
+    described: tuple[object, ...] = ()
+    chosen: tuple[object, ...] = ()
+
+
+def look_by_hand(path: pathlib.Path, row: dict[str, str], exceeding: list[dict[str, str]], parameters: list[dict[str, str]], by: ByHand) -> None:
     """Compares the rows of a flight with what the plain commands say of it. By the small table each frame has one row."""
-    flight, fdr, write, rules = by
-    is_image = path.suffix == ".img"
+    flight, fdr, write, rules = by.flight, by.fdr, by.write, by.rules
+    is_image, words = path.suffix == ".img", (*by.described, *by.chosen)
     assert (row["status"], row["exit"], row["said"], row["kind"]) == ("done", "0", "", "image" if is_image else "bits")
     assert (row["bytes"], row["sha256"]) == (str(path.stat().st_size), hashlib.sha256(path.read_bytes()).hexdigest())
     text = fdr("list", T1, path) if is_image else fdr("listbits", T1, given=path.read_bytes())
     frames, gaps = len(lines(text, "row")), lines(text, "gap")
-    assert (int(row["frames"]), int(row["rows"]), int(row["duration"])) == (frames, frames, 4 * frames)
+    assert int(row["frames"]) == frames
+    assert by.chosen or (int(row["rows"]), int(row["duration"])) == (frames, 4 * frames)
     assert (int(row["gaps"]), int(row["gap_bits"])) == (len(gaps), sum(int(gap[2]) for gap in gaps))
     assert int(row["sessions"]) == len(lines(text, "session"))
     salvaged = fdr("salvage", T1, path) if is_image else b""
@@ -111,8 +128,9 @@ def look_by_hand(
     listing = write("listing", text)
     parts = write("parts", flight("parts", path, listing, "--table", T1).out)
     assert (int(row["parts"]), int(row["doubtful"])) == tuple(len(lines(parts.read_bytes(), kind)) for kind in ("part", "doubtful"))
-    table = pandas.read_csv(io.BytesIO(flight("table", listing, "--table", T1).out), dtype={"time": str})
-    samples = table[table["note"].isna()]
+    table = pandas.read_csv(io.BytesIO(flight("table", listing, "--table", T1, "--parts", parts, *words).out), dtype={"time": str})
+    samples = table[table["note"].isna() & ~table["mark"].astype(str).str.startswith("part")]
+    assert int(row["rows"]) == len(samples)
     recordings = sorted(set(samples["recording"]))
     assert int(row["recordings"]) == len(recordings)
     times = [list(samples[samples["recording"] == one]["time"]) for one in recordings]
@@ -124,12 +142,12 @@ def look_by_hand(
     if not is_image:
         assert flight("image", path, "-o", source, "--words", 64).status == 0
     exceed = write("exceed", fdr("exceed", T1, source, given=rules.read_bytes()))
-    answer = flight("table", listing, "--table", T1, "--exceed", exceed, "--parts", parts).out.decode()
+    answer = flight("table", listing, "--table", T1, "--exceed", exceed, "--parts", parts, *words).out.decode()
     for_hand = [dict(one) for one in csv.DictReader(io.StringIO(answer.replace(",name,", ",rule,", 1)))]
     assert [{name: one[name] for name in for_hand[0]} for one in exceeding] == for_hand if for_hand else not exceeding
     assert int(row["exceedances"]) == len(for_hand)
     made = write("values.h5", b"")
-    assert flight("table", listing, "--table", T1, "--parts", parts, "-o", made).status == 0
+    assert flight("table", listing, "--table", T1, "--parts", parts, "-o", made, *words).status == 0
     stored = [pandas.HDFStore(str(one), mode="r") for one in (row["values"], made)]
     try:
         assert [one.keys() for one in stored][0] == [one.keys() for one in stored][1]
@@ -137,6 +155,51 @@ def look_by_hand(
     finally:
         for one in stored:
             one.close()
+
+
+def test_descriptions_dates_and_one_flight_are_those_of_the_plain_commands(
+    fleet: Tool, flight: Tool, fdr: Fdr, write: Write, tmp_path: pathlib.Path
+) -> None:
+    bits = damaged_images.bits_of(90)
+    broken = 75 * len(bits) // 90  # the first byte of a frame of the second flight
+    flights = [write("two_20260504.img", damaged_images.whole_image(90, slots=1024)), write("one_20260504.img", damaged_images.whole_image())]
+    flights.append(write("two_20260504.bits", bits[:broken] + b"x" + bits[broken + 1 :]))
+    described = write("d.csv", "unit,ALT,ft,Pressure altitude\nstate,ALT,111,take-off\nderived,SECS,ALT * 4\nclock,utc,SECS\n")
+    rules = write("rules.csv", f"{RULES}TOP,ALT,above,180,2\n")
+    when = ("--when", "(110 < ALT < 130) | (170 < ALT < 185)", "--for", "20s", "--apart", "100s")
+    words = (*flights, "--table", T1, "--rules", rules, "--describe", described, "--date-in", "%Y%m%d", "--values", *when)
+    by_hand = ByHand(flight, fdr, write, rules, ("--describe", described, "--start", "2026-05-04T00:00:00Z"), (*when, "--flight", 2))
+    assert fleet(*words, "--flight", 2).status == 2
+    rows, exceeding = by_name(tmp_path), rows_of(tmp_path, "exceedances")
+    lacking = rows.pop("one_20260504.img")
+    assert (lacking["status"], lacking["exit"], lacking["said"]) == ("refused", "", "--flight 2: there are 1 flights")
+    assert (lacking["frames"], lacking["rows"], lacking["exceedances"]) == ("40", "0", "0")
+    seconds = []
+    for path in (flights[0], flights[2]):
+        row = rows[path.name]
+        own, parameters = ([one for one in rows_of(tmp_path, name) if one["file"] == str(path)] for name in ("exceedances", "parameters"))
+        look_by_hand(path, row, own, parameters, by_hand)
+        assert [(one["unit"], one["title"]) for one in parameters] == [("ft", "Pressure altitude")]
+        text = fdr("list", T1, path) if path.suffix == ".img" else fdr("listbits", T1, given=path.read_bytes())
+        found = flight("flights", write("listing", text), "--table", T1, "--describe", described, *when).out.decode()
+        second = list(csv.DictReader(io.StringIO(found)))[1]
+        assert int(row["duration"]) == round(float(second["seconds"]) - float(second["missing"]))
+        seconds.append(int(row["duration"]))
+    assert seconds == [52, 48]
+    rules_of = {name: {one["rule"] for one in exceeding if one["file"].endswith(name)} for name in (".img", ".bits")}
+    assert rules_of == {".img": {"TOP"}, ".bits": {"HIGH", "STEP", "TOP"}}
+    top = next(one for one in exceeding if one["rule"] == "TOP")
+    assert (top["peak"], top["unit"], top["date"][:19], top["utc"][:5]) == ("189", "ft", "2026-05-04T00:05:24", "00:12")
+    assert fleet(*words, "--flight", 1).status == 0
+    assert {one["rows"] for one in rows_of(tmp_path, "flights")} == {"19"}
+
+
+def test_a_unit_of_a_scaled_value_isnt_that_of_a_peak(fleet: Tool, write: Write, tmp_path: pathlib.Path) -> None:
+    described = write("d.csv", "unit,ALT,%,Fan speed\npoints,ALT,0:0,4095:100\n")
+    words = ("--table", T1, "--describe", described, "--rules", write("rules.csv", RULES))
+    assert fleet(write("a.img", damaged_images.whole_image()), *words).status == 0
+    assert [(one["unit"], one["title"]) for one in rows_of(tmp_path, "parameters")] == [("", "Fan speed")]
+    assert {(one["parameter"], one["unit"]) for one in rows_of(tmp_path, "exceedances")} == {("ALT", "")}
 
 
 def test_what_is_refused_is_named_and_the_others_are_read(fleet: Tool, write: Write, tmp_path: pathlib.Path) -> None:
@@ -198,6 +261,16 @@ def test_it_goes_on_where_it_was(fleet: Tool, write: Write, tmp_path: pathlib.Pa
     assert {row["rule"] for row in rows_of(tmp_path, "exceedances")} == {"HIGH"}
 
 
+def test_what_was_refused_is_there_too(fleet: Tool, write: Write, tmp_path: pathlib.Path) -> None:
+    words = (write("a.img", damaged_images.whole_image()), write("short.img", SHORT), "--table", T1, "--values")
+    for _ in range(2):
+        assert fleet(*words).status == 2
+        assert len((tmp_path / "fleet" / "fleet.journal").read_bytes().splitlines()) == 2
+    pathlib.Path(by_name(tmp_path)["a.img"]["values"]).unlink()
+    assert fleet(*words).status == 2
+    assert len((tmp_path / "fleet" / "fleet.journal").read_bytes().splitlines()) == 3
+
+
 def slow_program(write: Write, what: str) -> pathlib.Path:
     """The program, which first does something to the worker where a flight is called `bad`."""
     path = write("slow", f'#!/bin/sh\ncase "$*" in *bad*) {what};; esac\nexec {PROGRAM} "$@"\n')
@@ -216,6 +289,91 @@ def test_a_worker_that_ends_is_told_and_holds_up_nobody(flight: Tool, write: Wri
     once = f"[ -e {tmp_path}/once ] || {{ touch {tmp_path}/once; kill -9 $PPID; sleep 9; }}"
     assert flight(*words, "--fdr", slow_program(write, once)).status == 0
     assert {row["status"] for row in by_name(tmp_path).values()} == {"done"}
+
+
+def telling_program(write: Write, log: pathlib.Path) -> pathlib.Path:
+    """The program, which first tells who runs it, and with which words."""
+    path = write("telling", f'#!/bin/sh\necho "$PPID $*" >> {log}\nexec {PROGRAM} "$@"\n')
+    path.chmod(0o755)
+    return path
+
+
+def test_a_table_is_checked_once_and_a_second_try_is_anothers(flight: Tool, write: Write, scheduler: str, tmp_path: pathlib.Path) -> None:
+    flights = [write(f"{name}.img", damaged_images.whole_image()) for name in "abc"] + [write("short.img", SHORT)]
+    log = tmp_path / "log"
+    words = ("fleet", *flights, "--table", T1, "-o", tmp_path / "fleet", "--scheduler", scheduler)
+    with distributed.Client(scheduler, set_as_default=False) as client:  # type: ignore[no-untyped-call]
+        client.wait_for_workers(2, timeout=60)  # a test before this one ends workers
+    assert flight(*words, "--fdr", telling_program(write, log)).status == 2
+    told = [line.split() for line in log.read_text().splitlines()]
+    assert [words[0] for process, *words in told].count("check") == 1
+    tried = [process for process, *words in told if words[-1].endswith("short.img")]
+    assert len(tried) == len(set(tried)) == 2
+
+
+def test_a_flight_goes_to_workers_with_the_resource_alone(
+    flight: Tool, write: Write, scheduler: str, tmp_path: pathlib.Path, monkeypatch: pytest.MonkeyPatch
+) -> None:
+    flights, log = [write(f"{number}.img", damaged_images.whole_image()) for number in range(4)], tmp_path / "log"
+    words = ("fleet", *flights, "--table", T1, "-o", tmp_path / "fleet", "--scheduler", scheduler, "--resources", "readout=1")
+    worker = ["dask-worker", scheduler, "--resources", "readout=1", "--nthreads", "2", "--no-nanny", "--dashboard-address", "127.0.0.1:0"]
+    with subprocess.Popen([*worker, "--local-directory", str(tmp_path)], cwd=tmp_path, stderr=subprocess.DEVNULL) as process:
+        try:
+            assert flight(*words, "--fdr", telling_program(write, log)).status == 0
+        finally:
+            process.kill()
+    told = [line.split() for line in log.read_text().splitlines()]
+    assert {reader for reader, *run in told if run[0] != "check"} == {str(process.pid)}
+    monkeypatch.setattr(fleet_engine, "PATIENCE", 1.0)
+    monkeypatch.setattr(fleet_engine, "GLANCE", 0.1)
+    answer = flight(*words, "--fdr", PROGRAM)
+    assert (answer.status, answer.error) == (1, "flight: there was no worker with readout=1 for 1 seconds; what came so far is kept\n")
+
+
+def test_a_worker_has_as_many_flights_as_its_resources_go() -> None:
+    class Client:
+        """Three workers."""
+
+        def nthreads(self) -> dict[str, int]:
+            return {"a": 4, "b": 2, "c": 1}
+
+        def scheduler_info(self) -> dict[str, Any]:
+            resources = {"a": {"readout": 2.0}, "b": {}, "c": {"readout": 5.0, "disk": 1.0}}
+            return {"workers": {name: {"resources": one} for name, one in resources.items()}}
+
+    cases: list[tuple[dict[str, float], dict[str, int]]] = [
+        ({}, {"a": 4, "b": 2, "c": 1}),
+        ({"readout": 1.0}, {"a": 2, "c": 1}),
+        ({"readout": 3.0}, {"c": 1}),
+        ({"readout": 1.0, "disk": 0.5}, {"c": 1}),
+        ({"gpu": 1.0}, {}),
+    ]
+    for resources, rooms in cases:
+        assert fleet_engine.Crew(Client(), resources).rooms() == rooms
+
+
+def test_reports_are_those_of_the_plain_command(fleet: Tool, flight: Tool, write: Write, tmp_path: pathlib.Path) -> None:
+    flights = [write(f"{name}_20260504.img", data) for name, data in (("whole", damaged_images.whole_image()), ("holes", HOLES), ("short", SHORT))]
+    rules, events = write("rules.csv", RULES), write("events.csv", "name,condition,peak\nUP,ALT > 120,max ALT\n")
+    own = ("--table", T1, "--rules", rules, "--events", events, "--when", "ALT > 110", "--for", "20s")
+    words = (*flights, *own, "--date-in", "%Y%m%d", "--reports")
+    assert fleet(*words).status == 2
+    rows, page = by_name(tmp_path), (tmp_path / "fleet" / "fleet.html").read_text()
+    for path in flights:
+        report, by_hand = pathlib.Path(rows[path.name]["report"]), tmp_path / f"{path.stem}.report"
+        assert report == tmp_path / "fleet" / "reports" / rows[path.name]["name"]
+        flight("report", path, *own, "-o", by_hand, "--start", "2026-05-04T00:00:00Z", "--fdr", PROGRAM)
+        told = [json.loads((one / "findings.json").read_text()) for one in (report, by_hand)]
+        assert told[0] == told[1] and bool(told[0].get("events")) is (path is not flights[2])
+        assert subprocess.run(["sha256sum", "--quiet", "-c", "SHA256SUMS"], cwd=report, capture_output=True).returncode == 0
+        assert f"reports/{rows[path.name]['name']}/report.html" in page
+    journal, kept = (tmp_path / "fleet" / "fleet.journal").read_bytes(), rows["holes_20260504.img"]["report"]
+    shutil.rmtree(rows["whole_20260504.img"]["report"])
+    seen = os.stat(f"{kept}/report.html").st_mtime_ns
+    assert fleet(*words).status == 2
+    assert pathlib.Path(rows["whole_20260504.img"]["report"], "report.html").is_file() and os.stat(f"{kept}/report.html").st_mtime_ns == seen
+    added = (tmp_path / "fleet" / "fleet.journal").read_bytes()[len(journal) :]
+    assert [json.loads(line.split(b" ", 1)[1])["file"] for line in added.splitlines()] == [str(flights[0])]
 
 
 def sql_of_page() -> list[str]:
@@ -303,7 +461,8 @@ def look_at(folder: pathlib.Path) -> int:
 
 def test_events_are_those_of_the_plain_command(fleet: Tool, flight: Tool, fdr: Fdr, write: Write, tmp_path: pathlib.Path) -> None:
     flights, events = some_flights(write), write("events.csv", "name,condition,peak\nUP,ALT > 120,max ALT\nNEVER,ALT > 9000,\n")
-    words = (*flights, "--table", T1, "--events", events, "--when", "ALT > 0", "--database", f"sqlite:///{tmp_path}/fleet.sqlite")
+    when = ("--when", "ALT > 0", "--for", "8s", "--apart", "8s")
+    words = (*flights, "--table", T1, "--events", events, *when, "--database", f"sqlite:///{tmp_path}/fleet.sqlite")
     if not commands.has_command("events"):
         assert fleet(*words).error == "flight: --events: this flight has no command events\n"
         pytest.skip("this flight has no command events")
@@ -312,7 +471,7 @@ def test_events_are_those_of_the_plain_command(fleet: Tool, flight: Tool, fdr: F
     by_hand = []
     for path in flights:
         listing = write("listing", fdr("list", T1, path) if path.suffix == ".img" else fdr("listbits", T1, given=path.read_bytes()))
-        answer = flight("events", listing, "--table", T1, "--rules", events, "--when", "ALT > 0").out.decode()
+        answer = flight("events", listing, "--table", T1, "--rules", events, *when).out.decode()
         by_hand += [{"file": str(path), **row} for row in csv.DictReader(io.StringIO(answer))]
     assert [{name: row[name] for name in by_hand[0]} for row in told] == by_hand and {row["what"] for row in told} == {"event", "watched"}
     counts = [sum(row["file"] == str(path) and row["what"] == "event" for row in told) for path in flights]
@@ -342,6 +501,38 @@ def test_it_runs_by_itself(piped: Tool, write: Write, tmp_path: pathlib.Path) ->
     assert "<svg" not in (tmp_path / "fleet" / "fleet.html").read_text()
 
 
+def test_an_address_is_told_and_one_that_is_taken_is_named(piped: Tool, flight: Tool, write: Write, tmp_path: pathlib.Path) -> None:
+    words = ("fleet", write("a.img", damaged_images.whole_image()), "--table", T1, "--fdr", PROGRAM, "--workers", 1)
+    answer = piped(*words, "-o", tmp_path / "fleet", "--listen", "127.0.0.2")
+    assert answer.status == 0 and re.match(r"flight: the scheduler is tcp://127\.0\.0\.2:\d+\nflight: 1 flights: 1 done;", answer.error), answer.error
+    with socket.create_server(("127.0.0.2", 0)) as taken:
+        address = f"127.0.0.2:{taken.getsockname()[1]}"
+        answer = piped(*words, "-o", tmp_path / "other", "--listen", address)
+    assert answer.status == 1 and answer.error.startswith(f"flight: --listen {address}: ") and answer.error.count("\n") == 1, answer.error
+
+
+class Terminal(io.StringIO):
+    """What a terminal is told."""
+
+    def isatty(self) -> bool:
+        return True
+
+
+def test_it_says_how_far_it_is(monkeypatch: pytest.MonkeyPatch) -> None:
+    moments = iter([100.0, 110.0, 110.0, 110.0, 120.0, 120.0, 120.0])
+    monkeypatch.setattr(fleet_progress, "time", SimpleNamespace(monotonic=lambda: next(moments)))
+    monkeypatch.setattr(sys, "stderr", terminal := Terminal())
+    job, progress = Job("/f", "f", "/t", {}), fleet_progress.FleetProgress(80)
+    progress.add(job.row(REFUSED, "fdr: image: geometry"))
+    progress.there, progress.made = 10, 29
+    progress.add(job.row(DONE, ""))
+    progress.end()
+    first, second, last = terminal.getvalue().split("\r\x1b[K")[1:]
+    assert first == f"[{' ' * 20}] 1 of 80 flights, 1 refused, 6 a minute, 13 min left"
+    assert second == f"[{'#' * 10}{' ' * 10}] 40 of 80 flights, 10 were there, 1 refused, 120 a minute, 20 s left"
+    assert last == ""
+
+
 def test_another_run_in_its_folder_is_refused(fleet: Tool, write: Write, tmp_path: pathlib.Path) -> None:
     import fcntl
 
@@ -369,10 +560,15 @@ def test_what_goes_wrong_with_its_words(flight: Tool, write: Write, tmp_path: pa
     for words, said in (
         (["--table", T1], "no flights: give their files, or --files with a list of them"),
         ([image, "--table", T1, "--scheduler", "tcp://127.0.0.1:9", "--workers", 2], "--workers and --listen are of a cluster on this machine"),
-        ([image, "--table", T1, "--when", "ALT > 0"], "--when is for the events of --events"),
+        ([image, "--table", T1, "--when", "ALT > 0"], "--when is for --flight, or for the flights in --events and --reports"),
+        ([image, "--table", T1, "--flight", 1], "--flight, --for and --apart are of --when"),
+        ([image, "--table", T1, "--events", image, "--for", "1s"], "--flight, --for and --apart are of --when"),
+        ([image, "--table", T1, "--when", "ALT > 0", "--flight", 0], "--flight is 1 or more"),
         ([image, "--table", T1, "--workers", 0], "--workers is 1 to 1024"),
         ([image, "--table", T1, "--listen", "tcp://x"], "--listen tcp://x: an address as 10.0.0.5:8786"),
-        ([image, "--table", T1, "--resources", "x"], "--resources 'x': a name and a number, as readout=1"),
+        ([image, "--table", T1, "--scheduler", "tcp://127.0.0.1:9", "--resources", "x"], "--resources 'x': a name and a number above 0, as readout=1"),
+        ([image, "--table", T1, "--scheduler", "tcp://127.0.0.1:9", "--resources", "x=0"], "--resources 'x=0': a name and a number above 0"),
+        ([image, "--table", T1, "--resources", "x=1"], "--resources are of workers that are started elsewhere"),
         ([image, "--table", T1, "--date-in", "%Q"], "--date-in '%Q': a date as %Y%m%d"),
         ([image, "--table", T1, "--rules", tmp_path / "none"], f"{tmp_path}/none: No such file or directory"),
         ([image, "--table-of", write("tables", "a,b,c,d\n")], f"{tmp_path}/tables row 1: neither PATTERN,TABLE"),

@@ -39,6 +39,9 @@ class Settings:
     rules: str | None = None
     events: str | None = None
     when: str | None = None
+    at_least: str | None = None
+    apart: str | None = None
+    flight: int | None = None
     describe: str | None = None
     date_in: str | None = None
     kind: str | None = None
@@ -182,10 +185,12 @@ def _planned(settings: Settings, program: Program, flights: list[Listed], folder
     wanted = {"values": settings.with_values, "reports": settings.with_reports}
     for name in (name for name, is_wanted in wanted.items() if is_wanted):
         (folder / name).mkdir(exist_ok=True)
-    job = Job("", "", "", {}, None, events, settings.when, None, "", settings.kind, _whole(settings.program))
+    job = Job("", "", "", {}, events=events, kind=settings.kind, program=_whole(settings.program))
+    job = replace(job, when=settings.when, at_least=settings.at_least, apart=settings.apart, flight=settings.flight)
     for flight in flights:
         choice = choice_of(flight.file, choices)
-        own = replace(job, file=flight.file, name=flight.name, start=flight.start, known=journal.key(flight.file))
+        known = {"known": journal.key(flight.file), "is_without_values": journal.is_without_values(flight.file)}
+        own = replace(job, file=flight.file, name=flight.name, start=flight.start, **known)
         if choice is None:
             yield own.row(MISSING, NO_TABLE)
             continue

@@ -33,8 +33,11 @@ def add_commands(commands: Commands, command: Add) -> None:
     parser.add_argument("-o", "--output", metavar="FOLDER", required=True, help="the fleet's folder; where one is there, what hasn't changed isn't read again")
     parser.add_argument("--rules", metavar="RULES", help="rules of fdr exceed")
     parser.add_argument("--events", metavar="EVENTS", help="rules of flight events")
-    parser.add_argument("--when", metavar="CONDITION", help="where a flight of a recording is, for the events, as of flight events")
-    parser.add_argument("--describe", metavar="FILE", help="units and titles; if not given, those of the .describe.csv beside each table")
+    parser.add_argument("--when", metavar="CONDITION", help="where a flight of a recording is, as of flight flights")
+    parser.add_argument("--flight", metavar="N", type=int, help="values and exceedances of one flight of each file alone, as flight flights numbers them; with --when")
+    parser.add_argument("--for", dest="at_least", metavar="TIME", help="how long a flight is at least; 30s if it isn't given")
+    parser.add_argument("--apart", metavar="TIME", help="how far flights are apart at least; 120s if it isn't given")
+    parser.add_argument("--describe", metavar="FILE", help="what values mean; if not given, the .describe.csv beside each table")
     parser.add_argument("--date-in", metavar="FORMAT", help="where in a flight's path its date of start is, as %%Y%%m%%dT%%H%%M, in UTC")
     parser.add_argument("--values", action="store_true", help="write each flight's values as HDF5 into values/")
     parser.add_argument("--reports", action="store_true", help="make a report of each flight in reports/")
@@ -63,23 +66,25 @@ def _settings(given: argparse.Namespace) -> Settings:
         raise Fault("--workers is 1 to 1024")
     if given.listen and not re.fullmatch(r"[^:/]+(:[0-9]{1,5})?", given.listen):
         raise Fault(f"--listen {given.listen}: an address as 10.0.0.5:8786")
+    if given.resources and not (given.scheduler or given.listen):
+        raise Fault("--resources are of workers that are started elsewhere: with --scheduler or --listen")
     place = Place(given.scheduler, given.workers, given.listen, tuple(_resource(text) for text in given.resources))
-    files = (tuple(given.flights), given.output, given.files, given.table, given.tables, given.rules, given.events, given.when, given.describe)
+    chosen = (given.when, given.at_least, given.apart, given.flight, given.describe)
+    files = (tuple(given.flights), given.output, given.files, given.table, given.tables, given.rules, given.events, *chosen)
     how = (given.date_in, given.kind, given.fdr, given.database, given.values, given.reports, given.title, place)
     return Settings(*files, *how)
 
 
 def _resource(text: str) -> tuple[str, float]:
     found = re.fullmatch(r"([^=]+)=([0-9]+(?:\.[0-9]+)?)", text)
-    if not found:
-        raise Fault(f"--resources {text!r}: a name and a number, as readout=1")
+    if not found or not float(found.group(2)):
+        raise Fault(f"--resources {text!r}: a name and a number above 0, as readout=1")
     return found.group(1), float(found.group(2))
 
 
 def _run_fleet(given: argparse.Namespace) -> int:
     settings = _settings(given)
-    if given.when and not given.events:
-        raise Fault("--when is for the events of --events")
+    _check_choice(given)
     if given.events:
         _check_events()
     from . import fleet
@@ -88,6 +93,16 @@ def _run_fleet(given: argparse.Namespace) -> int:
     said = ", ".join(f"{counts[name]:,} {name}" for name in sorted(counts))
     print(f"flight: {sum(counts.values()):,} flights: {said}; {given.output}/flights.csv names each", file=sys.stderr)
     return 0 if set(counts) == {"done"} else REFUSED
+
+
+def _check_choice(given: argparse.Namespace) -> None:
+    """Which words for flights of a recording go together."""
+    if given.when is None and (given.flight is not None or given.at_least or given.apart):
+        raise Fault("--flight, --for and --apart are of --when")
+    if given.when and given.flight is None and not (given.events or given.reports):
+        raise Fault("--when is for --flight, or for the flights in --events and --reports")
+    if given.flight is not None and given.flight < 1:
+        raise Fault("--flight is 1 or more")
 
 
 def _check_events() -> None:

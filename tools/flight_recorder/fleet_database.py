@@ -11,7 +11,7 @@ from sqlalchemy import BigInteger, Column, DateTime, Float, ForeignKey, Integer,
 from . import fleet_files
 from .dates import dates_of
 from .faults import Fault
-from .fleet_job import EVENTS, Row
+from .fleet_job import EVENTS, EXCEEDANCES, Row
 
 Values = dict[str, Any]
 NAME, PATH, SUM = String(64), String(700), String(64)
@@ -61,6 +61,7 @@ EXCEEDING = Table(
     Column("session", BigInteger),
     Column("time", Float, comment="seconds from the recording's start"),
     Column("date", DateTime, comment="UTC, where the date is known"),
+    Column("utc", NAME, comment="by the clock that was recorded"),
     Column("counter", Integer, nullable=False),
     Column("subframe", Integer, nullable=False),
     Column("word", Integer, nullable=False),
@@ -178,7 +179,7 @@ def _flight_values(row: Row) -> Values:
 
 def _exceedance_values(row: Row) -> Iterator[Values]:
     for number, cells in enumerate(row["exceedances"], 1):
-        one: Values = dict(zip(fleet_files.EXCEEDANCES[1:], cells))
+        one: Values = dict(zip(EXCEEDANCES, cells))
         numbers = _numbers(one, ("recording", "session", "samples", "counter", "subframe", "word", "places"), ("time", "seconds", "peak"))
         yield {"number": number, **one, **numbers, "date": _date(one["date"])}
 

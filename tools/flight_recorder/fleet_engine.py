@@ -11,7 +11,7 @@ import tempfile
 import time
 import uuid
 from concurrent.futures import CancelledError
-from dataclasses import dataclass, replace
+from dataclasses import dataclass
 from typing import Any, Callable, Iterable, Iterator
 
 import dask
@@ -116,14 +116,23 @@ class Try:
     number: int
 
 
+@dataclass(frozen=True)
+class Again:
+    """A flight that wasn't done, and the worker that had it."""
+
+    job: Job
+    worker: str
+
+
 class Crew:
-    """The workers of a cluster, by its client."""
+    """The workers of a cluster that have the resources that a flight takes, by its client."""
 
     def __init__(self, client: Any, resources: dict[str, float]) -> None:
         self.client, self.resources = client, resources
         self.read = _reading(TOOLS)
         self.run = uuid.uuid4().hex[:12]  # keeps this run's keys apart from those of others on the same scheduler
         self.tries: dict[str, Try] = {}
+        self.again: list[Again] = []
         self.room, self.looked, self.manned = 0, 0.0, time.monotonic()
 
     def has_room(self) -> bool:
@@ -136,15 +145,22 @@ class Crew:
         now = time.monotonic()
         if now < self.looked + GLANCE:
             return
-        self.looked, self.room = now, sum(self.client.nthreads().values())
+        self.looked, self.room = now, sum(self.rooms().values())
         if self.room:
             self.manned = now
         elif now > self.manned + PATIENCE:
-            raise Fault(f"there was no worker for {PATIENCE:.0f} seconds; what came so far is kept")
+            wanted = " with " + ", ".join(f"{name}={amount:g}" for name, amount in self.resources.items()) if self.resources else ""
+            raise Fault(f"there was no worker{wanted} for {PATIENCE:.0f} seconds; what came so far is kept")
 
-    def workers(self) -> list[str]:
-        """The addresses of the workers that are there."""
-        return list(self.client.scheduler_info()["workers"])
+    def rooms(self) -> dict[str, int]:
+        """How many flights at a time each worker reads, by its address: one a thread, as far as the resources go that a flight takes."""
+        threads: dict[str, int] = self.client.nthreads()
+        if not self.resources:
+            return threads
+        workers = self.client.scheduler_info()["workers"]
+        shares = {address: [one["resources"].get(name, 0) // amount for name, amount in self.resources.items()] for address, one in workers.items()}
+        rooms = {address: min(threads.get(address, 0), *map(int, each)) for address, each in shares.items()}
+        return {address: room for address, room in rooms.items() if room}
 
     def rows(self, jobs: Iterable[Job]) -> Iterator[Row]:
         """The rows of flights, as they come. What isn't done is tried once more, by another worker where there is one."""
@@ -156,7 +172,7 @@ class Crew:
     def _rows(self, waiting: Iterator[Job]) -> Iterator[Row]:
         coming = distributed.as_completed([], loop=self.client.loop, with_results=True, raise_errors=False)
         self._fill(coming, waiting)
-        while not coming.is_empty():
+        while self.again or not coming.is_empty():
             if not coming.has_ready():
                 self._fill(coming, waiting)  # workers may have joined
                 with coming.thread_condition:
@@ -166,30 +182,36 @@ class Crew:
             one = self.tries.pop(future.key)
             row = _row_of(one, future.status, answer)
             future.release()
-            again = self._again(one, row)
-            if again is not None:
-                coming.add(again)
-                continue
-            self._fill(coming, waiting)
-            yield {**row, "tries": row.get("is_lost") or one.number}
+            worker = row.get("worker", "")
+            is_last = row["status"] == DONE or row.get("same") or row.get("is_lost") or one.number == TRIES
+            self.again += [] if is_last else [Again(one.job, worker)]
+            self._fill(coming, waiting, worker)
+            if is_last:
+                yield {**row, "tries": row.get("is_lost") or one.number}
 
-    def _fill(self, coming: Any, waiting: Iterator[Job]) -> None:
-        """Gives flights to the threads that are free."""
+    def _fill(self, coming: Any, waiting: Iterator[Job], free: str = "") -> None:
+        """Gives flights to the threads that are free, of which one may be known to be a worker's."""
+        self._try_again(coming, free)
         while self.has_room() and (job := next(waiting, None)) is not None:
             coming.add(self._submit(Try(job, 1)))
+
+    def _try_again(self, coming: Any, free: str) -> None:
+        """Gives a flight for the second time to a worker that is free and didn't have it. What waited at one that is at work would be
+        taken by one that is free, which may be the one that had it. Where nobody is at work, all are free."""
+        one = next((one for one in self.again if free and free != one.worker), None)
+        others = [free]
+        if one is None and self.again and not self.tries:
+            one = self.again[0]
+            others = [address for address in self.rooms() if address != one.worker]
+        if one is not None:
+            self.again.remove(one)
+            coming.add(self._submit(Try(one.job, TRIES), others or None))
 
     def _submit(self, one: Try, workers: list[str] | None = None) -> Any:
         key = f"flight-{self.run}-{one.job.name}-{one.number}"
         self.tries[key] = one
         how = {"workers": workers, "allow_other_workers": bool(workers), "resources": self.resources or None}
         return self.client.submit(self.read, one.job.as_data(), key=key, pure=False, **how)
-
-    def _again(self, one: Try, row: Row) -> Any:
-        """The second try of a flight that wasn't done; one whose worker ended had it already."""
-        if row["status"] == DONE or row.get("same") or one.number == TRIES or row.get("is_lost"):
-            return None
-        others = [address for address in self.workers() if address != row.get("worker")]
-        return self._submit(replace(one, number=one.number + 1), others or None)
 
 
 def _row_of(one: Try, status: str, answer: Any) -> Row:

@@ -8,16 +8,13 @@ import pathlib
 from contextlib import ExitStack
 from typing import Any, BinaryIO, Iterable, Iterator
 
-from .fleet_job import EVENTS, Row, count_of_events
+from .fleet_job import EVENTS, EXCEEDANCES, Row, count_of_events
 from .fleet_summary import Summary
 from .streams import whole_file
 
 SUMMARY = list(Summary.__dataclass_fields__)
 ABOUT = ["file", "name", "start", "status", "exit", "said", "tries", "seconds", "bytes", "sha256", "table", "kind"]
 FLIGHTS = [*ABOUT, *SUMMARY, "exceedances", "events", "values", "report"]
-EXCEEDANCES = (
-    "file,recording,session,time,date,seconds,rule,samples,peak,counter,subframe,word,parameter,places,note,unit".split(",")
-)
 PARAMETERS = ["file", "name", "unit", "title", "samples", "least", "greatest"]
 
 
@@ -49,7 +46,8 @@ class Files:
 
     def __init__(self, folder: pathlib.Path, have_events: bool) -> None:
         self.folder = folder
-        self.heads = {"exceedances": EXCEEDANCES, "parameters": PARAMETERS, **({"events": ["file", *EVENTS]} if have_events else {})}
+        self.heads = {"exceedances": ["file", *EXCEEDANCES], "parameters": PARAMETERS}
+        self.heads |= {"events": ["file", *EVENTS]} if have_events else {}
         self.heads["flights"] = FLIGHTS
 
     def write(self, rows: Iterable[Row]) -> None:

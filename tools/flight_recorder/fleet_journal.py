@@ -15,7 +15,7 @@ from dataclasses import dataclass
 from typing import Iterable, Iterator
 
 from .faults import Fault
-from .fleet_job import KEPT, Row
+from .fleet_job import KEPT, REFUSED, Row
 
 NAME = "fleet.journal"
 SUM = 32  # hexadecimal digits
@@ -23,12 +23,14 @@ SUM = 32  # hexadecimal digits
 
 @dataclass(frozen=True)
 class Entry:
-    """Where a flight's line is, and what it is known by: its sum, and the key of what the row was made of."""
+    """Where a flight's line is, and what it is known by: its sum, and the key of what the row was made of; and whether it was refused
+    before it had values."""
 
     at: int
     length: int
     sum: str
     key: str
+    is_without_values: bool
 
 
 def _sum(text: bytes) -> str:
@@ -70,12 +72,18 @@ class Journal:
         text = line[SUM + 1 : -1]
         if line[:SUM] == _sum(text).encode():
             row = json.loads(text)
-            self.entries[row["file"]] = Entry(self.end, len(line), _sum(text), row["key"] if row["status"] in KEPT else "")
+            is_without = row["status"] == REFUSED and not row["summary"].get("rows")
+            self.entries[row["file"]] = Entry(self.end, len(line), _sum(text), row["key"] if row["status"] in KEPT else "", is_without)
 
     def key(self, file: str) -> str:
         """The key of the row of a flight that needn't be read again where nothing changed, or nothing."""
         entry = self.entries.get(file)
         return entry.key if entry else ""
+
+    def is_without_values(self, file: str) -> bool:
+        """Whether a flight was refused before it had values."""
+        entry = self.entries.get(file)
+        return entry is not None and entry.is_without_values
 
     def sum(self, file: str) -> str:
         """The sum of a flight's line, or nothing."""

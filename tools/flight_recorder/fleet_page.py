@@ -13,13 +13,14 @@ import matplotlib
 import numpy as np
 from matplotlib.figure import Figure
 
-from .fleet_job import Row, count_of_events
+from .fleet_job import EXCEEDANCES, Row, count_of_events
 from .page import PAGE, POLICY
 
 HERE = pathlib.Path(__file__).parent
 MOST_RULES = 40  # of the picture
 MOST_NUMBERS = 600  # cells of the picture that have their number in them
 NO_DATE = "no date"
+RULE = EXCEEDANCES.index("rule")
 COLUMNS = "flight,start,status,said,hours,runs,sessions,gaps,doubtful,exceedances,events,first,last,seconds,file".split(",")
 BODY = """\
 <header><h1>{title}</h1><p id="about">{about}</p>
@@ -46,7 +47,7 @@ class Fleet:
         hours = summary.get("duration", 0) / 3600
         self.statuses[row["status"]] += 1
         self.hours[month] += hours
-        self.exceedances.update((one[5], month) for one in row["exceedances"])
+        self.exceedances.update((one[RULE], month) for one in row["exceedances"])
         report = pathlib.Path("reports", row["name"], "report.html")
         link = report.as_posix() if (self.folder / report).is_file() else ""
         counts: list[Any] = [len(row["exceedances"]), count_of_events(row)] if summary else ["", ""]

@@ -7,22 +7,24 @@ import io
 import pathlib
 import re
 from collections import Counter
-from dataclasses import dataclass, field
+from dataclasses import dataclass, field, replace
 from typing import Any, Iterator
 
 import numpy as np
 
-from . import beside, description, exceedings, hdf, manifest, outline, parts, reading, tables
+from . import beside, exceedings, flights, hdf, manifest, outline, parts, reading, tables
 from .arrays import Array
-from .clock import Timed
+from .clock import SECOND, Timed
 from .dates import Dates
+from .description import Described, Description
 from .evidence import sum_of
+from .faults import Fault
+from .fleet_job import EXCEEDANCES
 from .joining import time_text
 from .listing import Exceedance
 from .parameters import Table
 from .slots import Header, Slots
-from .streams import opened, opened_again
-from .survey import Survey
+from .streams import Again, opened, opened_again
 
 SYNCS_OF_PARTS = 2  # that have to stand, as of `flight parts`
 LINE = re.compile(rb"(session|run|gap),\d+,(\d+)\n")
@@ -44,7 +46,7 @@ class Summary:
     parts: int = 0
     doubtful: int = 0
     rows: int = 0
-    duration: int = 0  # seconds of whole frames
+    duration: int = 0  # seconds of whole frames; of a flight that is read alone its seconds but for what is missing
     first: str = ""  # time, in the first recording that has samples
     last: str = ""  # in the last one
 
@@ -78,10 +80,22 @@ def sizes_of_runs(path: str, header: Header) -> list[int]:
     return [sum(int(lengths[slots.slot_of[number]]) for number in range(run.first, run.last + 1)) for run in slots.runs()]
 
 
+class NoFlight(Fault):
+    """The recordings have fewer flights than the one that is asked for."""
+
+
+@dataclass(frozen=True)
+class Chosen:
+    """The flight of the recordings that is read alone: what a flight is, and its number."""
+
+    wanted: flights.Wanted
+    number: int
+
+
 @dataclass
 class Sampled:
     """What the rows of a listing say: how many there are, of how many recordings, the first and the last time in ticks, the
-    values of each parameter, and the exceedances as rows."""
+    values of each parameter, the exceedances as rows, and the seconds of a flight that is read alone."""
 
     rows: int
     recordings: int
@@ -89,19 +103,11 @@ class Sampled:
     last: int | None
     parameters: list[list[Any]]
     exceedances: list[list[str]]
+    seconds: int | None = None
 
     def times(self) -> tuple[str, str]:
         """The first and the last time, as tables have them."""
         return time_text(self.first), time_text(self.last)
-
-
-Units = dict[str, tuple[str, str]]  # the unit and the title of a parameter by its name
-
-
-def units_of(path: str | None, table: Table) -> Units:
-    """What a description says of units and titles."""
-    described = description.read(pathlib.Path(path), table).parameters if path else {}
-    return {name: (one.unit, one.title) for name, one in described.items()}
 
 
 @dataclass
@@ -114,7 +120,8 @@ class Listed:
     table: Table
     starts: Dates | None
     exceedances: list[Exceedance]
-    units: Units
+    describe: str | None
+    chosen: Chosen | None = None
 
     def parts(self) -> "Counter[str]":
         """Writes what `flight parts` does beside the listing, and counts its lines by their kinds."""
@@ -132,48 +139,93 @@ class Listed:
 
     def sampled(self, values: pathlib.Path | None) -> Sampled:
         """Goes through the listing beside its parts, and writes its values as HDF5 where that is wanted."""
-        how = reading.reading_of(self.table_path, None)
+        how = reading.reading_of(self.table_path, None, self.describe or "")
+        how.cuts = False  # an exceedance is placed by all samples
         with opened(str(self._parts_path())) as source:
             how.beside = beside.read_beside(source, self.table)
         with opened_again(str(self.path)) as again:
+            seconds = self._choose(self.chosen, how, again) if self.chosen else None
             for one in how.passes(again):
                 sampled = self._pass(how, one, values)
-        return sampled
+        return replace(sampled, seconds=seconds)
+
+    def _choose(self, chosen: Chosen, how: reading.Reading, source: Again) -> int:
+        """Has one flight read alone, and answers its seconds but for what is missing."""
+        found = flights.find(how, source, chosen.wanted)
+        try:
+            how.window = found.window(chosen.number)
+        except Fault as fault:
+            raise NoFlight(str(fault)) from None
+        one = found.flights[chosen.number - 1]
+        return round(one.run.ticks / SECOND - one.seconds_missing)
 
     def _pass(self, how: reading.Reading, one: reading.Pass, values: pathlib.Path | None) -> Sampled:
-        columns = tables.Columns(one.sessions, self.starts, with_marks=True)
-        out, survey, times = io.BytesIO(), Survey(how.names, {}, set()), Times()
-        writers: list[tables.TableWriter] = [exceedings.ExceedanceTable(out, how.names, columns, self.exceedances)]
+        columns = tables.Columns(one.sessions, self.starts, with_marks=True, window=how.window, utc=how.utc, description=how.description)
+        out, seen = io.BytesIO(), Seen(len(how.names))
+        placed = exceedings.ExceedanceTable(out, how.names, columns, self.exceedances)
         store = hdf.Store(values, columns) if values else None
-        writers += [hdf.LongStore(store, how.names)] if store else []
+        writer = hdf.LongStore(store, how.names) if store else None
         for timed in one:
-            for writer in writers:
-                writer.write(timed)
-            survey.add(timed)
-            times.add(timed)
-        for writer in writers:
-            writer.end(one.rest)
-        if store is not None:
+            placed.write(timed)
+            cut = how.window.cut(timed)
+            seen.add(cut)
+            if writer is not None:
+                writer.write(cut)
+        placed.end(one.rest)
+        if store is not None and writer is not None:
+            writer.end(how.window.betweens(one.rest))
             about = hdf.about(self.path.name, sum_of(str(self.path)), self.table_path, self.table.words, manifest.version())
             store.end({**about, "flight": self.flight})
             store.store.close()
-        recordings = sum(extent.begin is not None for extent in survey.extents)
-        exceedances = list(self._exceedance_rows(out.getvalue()))
-        return Sampled(survey.rows, recordings, times.first, times.last, list(self._parameters(survey)), exceedances)
+        parameters = list(seen.parameters(self.table, how.description))
+        exceedances = list(_exceedance_rows(out.getvalue(), how.description))
+        return Sampled(seen.rows, len(seen.recordings), seen.times.first, seen.times.last, parameters, exceedances)
 
-    def _exceedance_rows(self, text: bytes) -> Iterator[list[str]]:
-        """The rows of a table of exceedances, each with a date, which may be empty, and the unit of its peak."""
-        head, *rows = csv.reader(io.StringIO(text.decode()))
-        at = head.index("parameter")
-        for row in rows:
-            unit = self.units.get(row[at], ("", ""))[0]
-            yield [*(row if self.starts else [*row[:3], "", *row[3:]]), unit]
 
-    def _parameters(self, survey: Survey) -> Iterator[list[Any]]:
+def _unit(described: Described) -> str:
+    """The unit of a value as it is listed. Where there are points, the unit is that of the scaled value."""
+    return "" if described.points else described.unit
+
+
+def _exceedance_rows(text: bytes, described: Description) -> Iterator[list[str]]:
+    """The rows of a table of exceedances, with the columns that it may lack, and the unit of the peak."""
+    for row in csv.DictReader(io.StringIO(text.decode())):
+        cells = {**row, "rule": row["name"], "unit": _unit(described.of(row["parameter"]))}
+        yield [cells.get(name, "") for name in EXCEEDANCES]
+
+
+class Seen:
+    """What samples there are, piece by piece: how many, of which recordings, how many of each parameter with the least and the
+    greatest, and the first and the last time."""
+
+    def __init__(self, names: int) -> None:
+        self.rows = 0
+        self.recordings: set[int] = set()
+        self.count = np.zeros(names, dtype=np.int64)
+        self.least, self.greatest = np.full(names, np.inf), np.full(names, -np.inf)
+        self.times = Times()
+
+    def add(self, timed: Timed) -> None:
+        """Takes a piece."""
+        if not len(timed.time):
+            return
+        self.times.add(timed)
+        self.rows += len(timed.time)
+        self.recordings.update(np.unique(timed.recording).tolist())
+        order = np.argsort(timed.piece.name, kind="stable")
+        names, values = timed.piece.name[order], timed.piece.value[order]
+        begins = np.flatnonzero(np.diff(names, prepend=-1))
+        own = names[begins]
+        self.count[own] += np.diff(begins, append=len(order))
+        self.least[own] = np.minimum(self.least[own], np.minimum.reduceat(values, begins))
+        self.greatest[own] = np.maximum(self.greatest[own], np.maximum.reduceat(values, begins))
+
+    def parameters(self, table: Table, described: Description) -> Iterator[list[Any]]:
         """Each parameter of the table with its unit and title, how many values it has, the least and the greatest."""
-        for name in self.table.parameters:
-            said, values = self.units.get(name, ("", "")), survey.values.get(name)
-            yield [name, *said, values.count, values.least, values.greatest] if values else [name, *said, 0, None, None]
+        for number, name in enumerate(table.parameters):
+            one, count = described.of(name), int(self.count[number])
+            ends: list[float | None] = [float(self.least[number]), float(self.greatest[number])] if count else [None, None]
+            yield [name, _unit(one), one.title, count, *ends]
 
 
 class Times:

@@ -20,12 +20,12 @@ import time
 from dataclasses import asdict
 from typing import Any
 
-from . import dates, images
+from . import dates, flights, images
 from .clock import WORD_BITS
 from .evidence import sum_of
 from .faults import Fault
 from .fleet_job import DONE, EVENTS, FAILED, MISSING, REFUSED, Job, Row
-from .fleet_summary import Listed, Summary, lines_of, sizes_of_runs, units_of
+from .fleet_summary import Chosen, Listed, NoFlight, Summary, lines_of, sizes_of_runs
 from .listing import SUBFRAMES, Exceedance, read_exceedances
 from .parameters import read_table
 from .running import Ran, Runner, program_at
@@ -75,6 +75,8 @@ def _row(job: Job, room: str | None) -> Row:
     about["error"] = "".join(ran.error for ran in flight.runner.runs)[:MOST_SAID]
     if refused:
         return job.row(REFUSED, said_by(refused), exit=refused.status, **about, **flight.found())
+    if flight.lacking:
+        return job.row(REFUSED, flight.lacking, **about, **flight.found())
     return job.row(DONE, "", exit=0, **about, **flight.found())
 
 
@@ -90,6 +92,7 @@ class Flight:
         self.summary: Summary | None = None
         self.lists: dict[str, list[list[Any]]] = {"exceedances": [], "parameters": [], "events": []}
         self.files = {"values": "", "report": ""}
+        self.lacking = ""  # what is said where the flight that is read alone isn't there
 
     def found(self) -> Row:
         """What the row has of it."""
@@ -99,7 +102,10 @@ class Flight:
         """Runs the program, and sums up what it wrote."""
         summary = self._image() if self.is_image else self._bits()
         if summary is not None:
-            self._sum_up(summary, self._exceedances())
+            try:
+                self._sum_up(summary, self._exceedances())
+            except NoFlight as fault:
+                self.lacking = str(fault)
             self.summary = summary
             if self.job.events:
                 self.lists["events"] = self._events(self.job.events)
@@ -159,26 +165,28 @@ class Flight:
 
     def _sum_up(self, summary: Summary, exceedances: list[Exceedance]) -> None:
         """Reads the listing with its times, beside what stands in its gaps."""
-        starts = dates.dates_of([self.job.start] if self.job.start else [])
-        units = units_of(self.job.describe, self.table)
-        listed = Listed(self.job.file, self.folder / "listing.txt", self.job.table, self.table, starts, exceedances, units)
+        job = self.job
+        starts = dates.dates_of([job.start] if job.start else [])
+        chosen = Chosen(flights.wanted_of(job.when, job.at_least, job.apart), job.flight) if job.when and job.flight else None
+        listed = Listed(job.file, self.folder / "listing.txt", job.table, self.table, starts, exceedances, job.describe, chosen)
         counts = listed.parts()
         summary.parts, summary.doubtful = counts["part"], counts["doubtful"]
         with contextlib.ExitStack() as stack:
             values = None
-            if self.job.values:
+            if job.values:
                 stack.enter_context(VALUES_ONE_BY_ONE)
-                values = stack.enter_context(whole_file(pathlib.Path(self.job.values)))
+                values = stack.enter_context(whole_file(pathlib.Path(job.values)))
             sampled = listed.sampled(values)
-        self.files["values"] = self.job.values or ""
+        self.files["values"] = job.values or ""
         summary.rows, summary.recordings = sampled.rows, sampled.recordings
+        summary.duration = summary.duration if sampled.seconds is None else sampled.seconds
         summary.first, summary.last = sampled.times()
         self.lists["exceedances"], self.lists["parameters"] = list(sampled.exceedances), sampled.parameters
 
     def _events(self, rules: str) -> list[list[str]]:
         """The rows of `flight events`: events, and how long each rule was watched."""
         words = ["events", str(self.folder / "listing.txt"), "--table", self.job.table, "--rules", rules]
-        words += self._options("describe", "when")
+        words += [*self._described(), *self._options(when="when", at_least="for", apart="apart")]
         head, *rows = csv.reader(io.StringIO(run_tool(words)))
         return [[dict(zip(head, row)).get(name, "") for name in EVENTS] for row in rows]
 
@@ -187,13 +195,18 @@ class Flight:
         shutil.rmtree(folder, ignore_errors=True)
         words = ["report", self.job.file, "--table", self.job.table, "-o", folder, "--fdr", self.runner.program.path]
         words += ["--as", self.job.kind] if self.job.kind else []
-        run_tool([*words, *self._options("rules", "describe", "start")], (0, 2))
+        words += [*self._described(), *self._options(rules="rules", start="start", events="events", when="when", at_least="for", apart="apart")]
+        run_tool([*words, *(self._options(flight="flight") if self.summary and not self.lacking else [])], (0, 2))
         self.files["report"] = folder
 
-    def _options(self, *names: str) -> list[str]:
-        """Options of the tools that the job has values for."""
-        given = {name: getattr(self.job, name) for name in names}
-        return [word for name, value in given.items() if value for word in (f"--{name}", value)]
+    def _described(self) -> list[str]:
+        """The option of the tools for the description, or for none."""
+        return ["--describe", self.job.describe] if self.job.describe else ["--no-describe"]
+
+    def _options(self, **names: str) -> list[str]:
+        """Options of the tools, by what the job calls their values, that the job has values for."""
+        given = {option: getattr(self.job, name) for name, option in names.items()}
+        return [word for option, value in given.items() if value for word in (f"--{option}", str(value))]
 
 
 def run_tool(words: list[str], statuses: tuple[int, ...] = (0,)) -> str:
